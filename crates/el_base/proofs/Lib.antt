@@ -1,0 +1,2 @@
+pub mod CompactLemmas
+mod ShownLemmas

@@ -1,0 +1,6 @@
+pub mod Hashing
+pub mod Shown
+pub mod Left
+pub mod Compact
+pub mod CompactReading
+pub mod HexFaults

@@ -1,0 +1,28 @@
+//! Hashes (SHA-256 of FIPS 180-4) and the text that they are shown by, CompactSize of Bitcoin's serialization, a cursor over bytes, what every
+//! layer keeps bytes, text and values in, want of memory, and a counter of rows read.
+#![tactic(auto)]
+
+mod bytes;
+mod compact;
+mod cursor;
+mod hash;
+mod laws;
+mod listed;
+mod memory;
+mod shown;
+mod steps;
+mod text;
+
+pub use bytes::Bytes;
+pub use compact::{CompactFault, read_compact, write_compact};
+pub use cursor::{Cursor, Short};
+pub use hash::{Hash32, sha256, sha256d};
+pub use laws::{compact_is_prefix_free, compact_is_the_spelling};
+pub use listed::Listed;
+pub use memory::OutOfMemory;
+pub use shown::HexFault;
+pub use steps::Steps;
+pub use text::Text;
+
+#[cfg(test)]
+mod tests;

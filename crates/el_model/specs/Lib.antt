@@ -1,0 +1,10 @@
+pub mod Blocks
+pub mod Coins
+pub mod History
+pub mod FirstForm
+pub mod Faults
+pub mod Lines
+pub mod Replies
+pub mod Funded
+pub mod World
+pub mod Run

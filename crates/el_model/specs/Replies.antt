@@ -1,0 +1,65 @@
+-- The reply to a client's line (JSON-RPC 2.0; Electrum Protocol 1.4, blockchain.scripthash.get_history). One spelling of one request is known so far;
+-- to any other line the reply says that it is invalid.
+use Rattle.std.specs.Prelude.{◌≡◌, ℕ, ◌≤◌, List, [], ◌∷◌, ◌++◌, length, codes, slice_index}
+use Rattle.std.specs.List.{AllPass}
+use Rattle.std.specs.Char.{is_ascii_digit}
+use Rattle.std.specs.Fmt.{decimal}
+use Rattle.el_base.specs.Shown.{shown, Shows}
+use Rattle.el_model.specs.declared.entry.Entry.{Entry}
+use Rattle.el_model.specs.Blocks.{Chain}
+use Rattle.el_model.specs.History.{history}
+
+-- what a request begins with, up to its id
+abbrev pub request_head : List ℕ
+request_head = codes "{\"id\":"
+
+-- between its id and the script hash: the method and its parameter
+abbrev pub request_middle : List ℕ
+request_middle = codes ",\"method\":\"blockchain.scripthash.get_history\",\"params\":[\""
+
+-- behind the script hash
+abbrev pub request_tail : List ℕ
+request_tail = codes "\"]}"
+
+-- the line that asks for a history, by an id in decimal and the text of a script hash
+unfoldable pub request_text : List ℕ → List ℕ → List ℕ
+request_text id text = request_head ++ (id ++ (request_middle ++ (text ++ request_tail)))
+
+-- an id: one to ten ASCII digits, and no zero in front of others (48 is '0'), as JSON has it
+pub record IsId (id : List ℕ) : Type 0 where
+  pub some : 1 ≤ length id
+  pub few : length id ≤ 10
+  pub digits : AllPass is_ascii_digit id
+  pub plain : slice_index id 0 ≡ 48 → length id ≡ 1
+
+-- The line asks, under this id, for the history of this script hash, in inner order. The line shows it by 64 hex digits in reverse (Electrum Protocol
+-- 1.4, "Script Hashes"), in upper or lower case.
+pub record Asks (line id script : List ℕ) : Type 0 where
+  pub text : List ℕ
+  pub is_id : IsId id
+  pub shows : Shows text script
+  pub whole : line ≡ request_text id text
+
+-- an entry of a history as JSON: its height in decimal, and its txid as it is shown, by 64 lower-case hex digits in reverse
+unfoldable pub entry_text : Entry → List ℕ
+entry_text e = codes "{\"height\":" ++ decimal e.height ++ codes ",\"tx_hash\":\"" ++ shown e.txid.0 ++ codes "\"}"
+
+-- the entries with commas between (44 is ',')
+abbrev pub entries_text : List Entry → List ℕ
+entries_text [] = []
+entries_text (e ∷ []) = entry_text e
+entries_text (e ∷ f ∷ es) = entry_text e ++ 44 ∷ [] ++ entries_text (f ∷ es)
+
+-- the reply with a history, ended by byte 10
+unfoldable pub history_text : List ℕ → List Entry → List ℕ
+history_text id entries = codes "{\"id\":" ++ id ++ codes ",\"jsonrpc\":\"2.0\",\"result\":[" ++ entries_text entries ++ codes "]}\n"
+
+-- the reply to what is no request (JSON-RPC 2.0, error -32600), ended by byte 10
+abbrev pub invalid_text : List ℕ
+invalid_text = codes "{\"error\":{\"code\":-32600,\"message\":\"invalid request\"},\"id\":null,\"jsonrpc\":\"2.0\"}\n"
+
+-- The text is the reply, over this chain, to the line, which stands without the byte 10 that ended it: the history that it asks for, or that it is
+-- no request.
+pub data IsReply (chain : Chain) (line text : List ℕ) : Type 0 where
+  found : (id script : List ℕ) → Asks line id script → text ≡ history_text id (history chain script) → IsReply chain line text
+  invalid : ((id script : List ℕ) → Asks line id script → ⊥) → text ≡ invalid_text → IsReply chain line text

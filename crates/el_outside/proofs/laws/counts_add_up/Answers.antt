@@ -1,0 +1,5 @@
+use Rattle.el_outside.proofs.Stories.{rose_more}
+use Rattle.el_outside.proofs.laws.counts_add_up.Goals as goal
+
+pub returns : goal.returns
+returns c = rose_more

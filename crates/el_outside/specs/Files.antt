@@ -1,0 +1,10 @@
+-- The bytes of files, which may only gain more behind those that they have.
+use Rattle.std.specs.Prelude.{◌≡◌, ℕ, List, ◌++◌}
+
+-- the new bytes begin with the old ones
+abbrev pub Grows : List ℕ → List ℕ → Type 0
+Grows old new = (more : List ℕ) × (new ≡ old ++ more)
+
+-- so does each file
+abbrev pub AllGrow : (ℕ → List ℕ) → (ℕ → List ℕ) → Type 0
+AllGrow old new = (file : ℕ) → Grows (old file) (new file)

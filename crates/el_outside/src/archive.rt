@@ -1,0 +1,52 @@
+// The node's block files.
+ghost use Rattle.std.specs.Prelude.{◌≡◌, ℕ, ◌-◌, ◌<◌, ◌≤◌, ◌^◌, List, length, take, drop, min, IfOk};
+ghost use Rattle.el_outside.specs.Counts.{HasCause};
+ghost use Rattle.el_outside.specs.Files.{AllGrow};
+
+/// A call of the block files failed.
+#[derive(Clone, Copy, Debug, PartialEq, Eq, thiserror::Error)]
+#[error("block files failed")]
+pub struct ArchiveFailed;
+
+/// Where a block stands in the block files.
+#[derive(Clone, Copy, Debug, PartialEq, Eq)]
+pub struct Place {
+    pub file: u32,
+    /// The place of the record's first magic byte.
+    pub offset: u64,
+    /// The block's size in bytes.
+    pub len: u32,
+}
+
+/// The node's block files. Within one life they keep the bytes that they have and may gain more behind them.
+pub trait Archive {
+    /// Whether the archive tells what its files hold. One in memory does, a real one doesn't.
+    ghost tells: { Type 0 };
+
+    /// The bytes of each file, by its number; a file that isn't there has none.
+    ghost bytes: { Self → ℕ → List ℕ };
+
+    /// How often a call has failed; it stands still at 2^64 - 1.
+    ghost faults: { Self → ℕ };
+
+    /// The number of the highest file plus 1, or 0.
+    fn files(&mut self) -> Result<u32, ArchiveFailed>
+        ensures few { IfOk result (λ n. n ≤ 100000) }
+        ensures keeps { tells → AllGrow (bytes self.old) (bytes self.new) }
+        ensures cause { HasCause (faults self.old) (faults self.new) result };
+
+    /// The size of a file in bytes.
+    fn size(&mut self, file: u32) -> Result<u64, ArchiveFailed>
+        ensures small { IfOk result (λ n. n < 2 ^ 62) }
+        ensures size { tells → IfOk result (λ n. n ≡ length (bytes self.new file)) }
+        ensures keeps { tells → AllGrow (bytes self.old) (bytes self.new) }
+        ensures cause { HasCause (faults self.old) (faults self.new) result };
+
+    /// Fills the front of the buffer with what the file has from the place on, and answers how many bytes that are.
+    fn read(&mut self, file: u32, at: u64, buf: &mut [u8]) -> Result<usize, ArchiveFailed>
+        ensures within { IfOk result (λ n. n ≤ length buf.old) }
+        ensures count { tells → IfOk result (λ n. n ≡ min (length buf.old) (length (bytes self.new file) - at)) }
+        ensures filled { tells → IfOk result (λ n. take n buf.new ≡ take n (drop at (bytes self.new file))) }
+        ensures keeps { tells → AllGrow (bytes self.old) (bytes self.new) }
+        ensures cause { HasCause (faults self.old) (faults self.new) result };
+}

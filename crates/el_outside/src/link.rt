@@ -1,0 +1,98 @@
+// The link to clients and to the node.
+ghost use Rattle.std.specs.Prelude.{◌≡◌, ℕ, ◌<◌, ◌≤◌, IsTrue, [], ◌∷◌, length, IfOk, OnOk, OnErr, IsErrOf, MatchBool};
+ghost use Rattle.el_outside.specs.Counts.{RoseBy, HasCause};
+ghost use Rattle.el_outside.specs.Story.{Story, GoesOn, came, IsNext, is_open, is_new, NamesNoClosed};
+
+/// A peer's number: 0 is the node, clients are 1 and up. No number is used twice.
+pub type Peer = u32;
+
+/// What `next` found.
+#[derive(Clone, Copy, Debug, PartialEq, Eq)]
+pub enum Arrival {
+    /// A new peer.
+    Opened(Peer),
+    /// So many bytes of a peer, from 1 to 65,536.
+    Bytes(Peer, usize),
+    /// A peer that left.
+    Closed(Peer),
+    /// Nothing in this pass over all peers.
+    Quiet,
+    /// Nothing comes any more.
+    Ended,
+}
+
+/// The one cause of a closing.
+#[derive(Clone, Copy, Debug, PartialEq, Eq)]
+pub enum Why {
+    /// A line above the limit.
+    Long,
+    /// The protocol version isn't shared.
+    Version,
+    /// One client too many.
+    Clients,
+    /// A send answered that the client is gone.
+    Gone,
+    /// A fault of the index device while the client was told of changes.
+    Disk,
+    /// Want of memory.
+    Memory,
+}
+
+/// Why a message was not sent.
+#[derive(Clone, Copy, Debug, PartialEq, Eq, thiserror::Error)]
+pub enum SendFault {
+    /// The link failed for this peer.
+    #[error("the peer is gone")]
+    Gone,
+    #[error("out of memory")]
+    Memory,
+}
+
+/// The link failed as a whole.
+#[derive(Clone, Copy, Debug, PartialEq, Eq, thiserror::Error)]
+#[error("link failed")]
+pub struct LinkFailed;
+
+/// The link to clients and to the node.
+pub trait Link {
+    /// Whether the link tells what went over it. One in memory does, a real one doesn't.
+    ghost tells: { Type 0 };
+
+    /// All that went over the link.
+    ghost story: { Self → Story };
+
+    /// No peer with a greater number was opened, left or was closed.
+    ghost last: { Self → ℕ };
+
+    /// How often a call has failed; it stands still at 2^64 - 1.
+    ghost faults: { Self → ℕ };
+
+    /// The next arrival, whose bytes stand first in the buffer. It waits for peers as long as it takes.
+    fn next(&mut self, buf: &mut [u8]) -> Result<Arrival, LinkFailed>
+        requires { length buf.old ≡ 65536 }
+        ensures lawful { IfOk result (λ arrival. IsNext (last self.old) arrival (last self.new)) }
+        ensures took { tells → IfOk result (λ arrival. GoesOn (story self.old) (story self.new) (came arrival buf.new ∷ []) [] []) }
+        ensures silent { tells → IfOk result (λ arrival. NamesNoClosed (story self.old) (came arrival buf.new)) }
+        ensures none_taken { tells → OnErr result (story self.new ≡ story self.old) }
+        ensures same_last { OnErr result (last self.new ≡ last self.old) }
+        ensures cause { HasCause (faults self.old) (faults self.new) result };
+
+    /// Sends one message to a peer. A fault sends nothing of it.
+    fn send(&mut self, p: Peer, bytes: &[u8]) -> Result<(), SendFault>
+        ensures sent { tells → OnOk result (GoesOn (story self.old) (story self.new) [] (record { peer = p; text = bytes.now } ∷ []) []) }
+        ensures not_sent { tells → OnErr result (story self.new ≡ story self.old) }
+        ensures same_last { last self.new ≡ last self.old }
+        ensures never_falls { faults self.old ≤ faults self.new }
+        ensures cause { IsErrOf result SendFault.Gone → RoseBy (faults self.old) (faults self.new) 1 };
+
+    /// Closes a peer; for one that isn't open nothing changes. It can't fail.
+    fn close(&mut self, p: Peer, why: Why)
+        ensures closed { tells → MatchBool (is_open (story self.old) p)
+            (GoesOn (story self.old) (story self.new) [] [] (record { peer = p; why = why } ∷ []))
+            (story self.new ≡ story self.old) }
+        ensures same_last { last self.new ≡ last self.old }
+        ensures never_falls { faults self.old ≤ faults self.new };
+
+    /// A greater number is new.
+    ghost greater_is_new: { (link : Self) (p : ℕ) → tells → last link < p → IsTrue (is_new (story link) p) };
+}

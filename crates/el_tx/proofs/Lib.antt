@@ -1,0 +1,10 @@
+pub mod HeaderLemmas
+pub mod SizeLemmas
+pub mod Loop
+pub mod Passed
+pub mod Fields
+pub mod Many
+pub mod Parts
+pub mod Body
+pub mod Whole
+pub mod Decoded

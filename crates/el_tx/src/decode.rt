@@ -1,0 +1,125 @@
+// Reading a transaction.
+ghost use Rattle.std.specs.Prelude.{◌≡◌, ◌≢◌, ◌⊎◌, ℕ, List, ◌++◌, ◌≤◌, length, take, IfOk, IfErr, Ok, Err};
+ghost use Rattle.el_tx.specs.Spelling.{Spells};
+ghost use Rattle.el_tx.specs.Stops.{Stops};
+ghost use Rattle.el_tx.specs.Reading as spec;
+ghost use Rattle.el_tx.specs.Reading.{Gives, Answers, bytes_at, flag_at, form_at, plain_at, witnessed_at, tx_at};
+ghost use Rattle.el_tx.specs.declared.types.Tx as shape;
+ghost use Rattle.el_tx.specs.declared.fault.TxFault.{TxFault};
+
+use crate::fault::TxFault;
+use crate::reading::{ReadError, bytes_of, u32_of, version_of};
+use crate::reading_parts::{body_of, witnesses_of};
+use crate::types::Tx;
+use el_base::Cursor;
+use std::alloc::Global;
+
+// The flag, which is 1.
+#[tactic(auto, unfolding(crate::specs::Reading::flag_at))]
+fn flag_of(c: &mut Cursor<'_>) -> Result<bool, ReadError>
+    ensures { Gives (λ x. x) result c.new (flag_at c.old) }
+{
+    let place = c.place();
+    let flag = bytes_of(c, 1)?;
+    if flag != [1].as_slice() {
+        return Err(ReadError::Fault(TxFault::BadFlag { place }));
+    }
+    Ok(true)
+}
+
+// Whether the marker stands in front.
+fn is_marked(bytes: &[u8]) -> bool
+    ensures { result ≡ spec.is_marked bytes.now }
+{
+    matches!(bytes, [0, ..])
+}
+
+// Marker and flag, where they stand: whether the form is that with witnesses.
+#[tactic(auto, unfolding(crate::specs::Reading::form_at))]
+fn form_of(c: &mut Cursor<'_>) -> Result<bool, ReadError>
+    ensures { Gives (λ x. x) result c.new (form_at c.old) }
+{
+    if !is_marked(c.rest()) {
+        return Ok(false);
+    }
+    let _marker = bytes_of(c, 1)?;
+    flag_of(c)
+}
+
+// The rest of the form without witnesses.
+#[tactic(auto, unfolding(crate::specs::Reading::plain_at))]
+fn plain_of(alloc: Global, c: &mut Cursor<'_>, version: i32) -> Result<Tx, ReadError>
+    ensures { Gives (λ x. x) result c.new (plain_at version c.old) }
+{
+    let (inputs, outputs) = body_of(alloc, c)?;
+    let lock = u32_of(c)?;
+    Ok(Tx {
+        version,
+        inputs,
+        outputs,
+        lock,
+    })
+}
+
+// The rest of the form with witnesses.
+#[tactic(auto, unfolding(crate::specs::Reading::witnessed_at))]
+fn witnessed_of(alloc: Global, c: &mut Cursor<'_>, version: i32) -> Result<Tx, ReadError>
+    ensures { Gives (λ x. x) result c.new (witnessed_at version c.old) }
+{
+    let (inputs, outputs) = body_of(alloc, c)?;
+    let inputs = witnesses_of(alloc, c, inputs)?;
+    let lock = u32_of(c)?;
+    Ok(Tx {
+        version,
+        inputs,
+        outputs,
+        lock,
+    })
+}
+
+#[tactic(auto, unfolding(crate::specs::Reading::tx_at))]
+fn tx_of(alloc: Global, c: &mut Cursor<'_>) -> Result<Tx, ReadError>
+    ensures { Gives (λ x. x) result c.new (tx_at c.old) }
+{
+    let version = version_of(c)?;
+    if form_of(c)? {
+        witnessed_of(alloc, c, version)
+    } else {
+        plain_of(alloc, c, version)
+    }
+}
+
+// The transaction and how many bytes spell it, as reading gives them.
+fn read_tx(alloc: Global, bytes: &[u8]) -> Result<(Tx, usize), TxFault>
+    ensures { Answers result (tx_at (record { place = 0; rest = bytes.now })) }
+{
+    let mut c = Cursor::new(bytes);
+    match tx_of(alloc, &mut c) {
+        Ok(tx) => Ok((tx, c.place())),
+        Err(ReadError::Memory) => Err(TxFault::Memory),
+        Err(ReadError::Fault(fault)) => Err(fault),
+    }
+}
+
+/// Reads one transaction from the front of the bytes, and answers how many bytes spell it. Other bytes may follow it.
+///
+/// Both forms are read: the plain one, and that of BIP 144 with marker, flag and a witness for each input. Numbers are
+/// little endian, values are in satoshi, and hashes stay in the order in which they stand.
+///
+/// # Errors
+///
+/// The first fault from left to right, whose place counts from the first byte handed in. `TxFault::Memory` comes where
+/// no memory is found, whatever the bytes are.
+pub fn decode_tx(alloc: Global, bytes: &[u8]) -> Result<(Tx, usize), TxFault>
+    // What is read is spelled so.
+    ensures read { IfOk result (λ r. (r.1 ≤ length bytes.now) × Spells (take r.1 bytes.now) r.0) }
+    // What is spelled so is read, whatever follows it.
+    ensures only { result ≢ Err TxFault.Memory → (text rest : List ℕ) (tx : shape.Tx)
+        → Spells text tx → bytes.now ≡ text ++ rest → result ≡ Ok (tx, length text) }
+    // A fault is the first one from left to right.
+    ensures fault { IfErr result (λ e. (e ≡ TxFault.Memory) ⊎ Stops bytes.now e) }
+    // The first fault from left to right is found.
+    ensures stops { result ≢ Err TxFault.Memory → (e : TxFault) → Stops bytes.now e → result ≡ Err e }
+{
+    read_tx(alloc, bytes)
+}

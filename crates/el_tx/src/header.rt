@@ -1,0 +1,103 @@
+// Block headers: their spelling, read and written, and their hash.
+ghost use Rattle.std.specs.Prelude.{◌≡◌, ◌+◌, ◌≤◌, ◌++◌, length, take};
+ghost use Rattle.std.specs.Int.{w32, to_le_bytes, cast_unsigned};
+ghost use Rattle.el_base.specs.Hashing as hashing;
+ghost use Rattle.el_tx.specs.Headers.{header_text, IsHeader};
+ghost use Rattle.el_tx.specs.declared.types.Header as shape;
+
+use crate::types::Header;
+use el_base::{Hash32, sha256d};
+
+// The number that the first four bytes spell, and the bytes behind them.
+fn number(bytes: &[u8]) -> (u32, &[u8])
+    requires { 4 ≤ length bytes.now }
+    ensures { bytes.now ≡ to_le_bytes w32 result.0 ++ result.1.now }
+{
+    match bytes.split_first_chunk::<4>() {
+        Some((front, rest)) => (u32::from_le_bytes(*front), rest),
+        None => unreachable!(),
+    }
+}
+
+// The number with a sign that the first four bytes spell, and the bytes behind them.
+fn signed_number(bytes: &[u8]) -> (i32, &[u8])
+    requires { 4 ≤ length bytes.now }
+    ensures { bytes.now ≡ to_le_bytes w32 (cast_unsigned w32 result.0) ++ result.1.now }
+{
+    match bytes.split_first_chunk::<4>() {
+        Some((front, rest)) => (i32::from_le_bytes(*front), rest),
+        None => unreachable!(),
+    }
+}
+
+// The first 32 bytes, and the bytes behind them.
+fn hash(bytes: &[u8]) -> (Hash32, &[u8])
+    requires { 32 ≤ length bytes.now }
+    ensures { bytes.now ≡ result.0.0 ++ result.1.now }
+{
+    match bytes.split_first_chunk::<32>() {
+        Some((front, rest)) => (Hash32(*front), rest),
+        None => unreachable!(),
+    }
+}
+
+/// Reads a block's header, in Bitcoin's serialization: little endian numbers, hashes in inner order.
+pub fn decode_header(bytes: &[u8; 80]) -> Header
+    // What is read is spelled so.
+    ensures spelled { header_text result ≡ bytes.now }
+    ensures fits { IsHeader result }
+    // What is spelled so is read.
+    ensures only { (h : shape.Header) → IsHeader h → bytes.now ≡ header_text h → result ≡ h }
+{
+    let (version, rest) = signed_number(bytes.as_slice());
+    let (previous, rest) = hash(rest);
+    let (root, rest) = hash(rest);
+    let (time, rest) = number(rest);
+    let (bits, rest) = number(rest);
+    let (nonce, _) = number(rest);
+    Header {
+        version,
+        previous,
+        root,
+        time,
+        bits,
+        nonce,
+    }
+}
+
+// Puts four bytes from the place on.
+fn put_four(text: &mut [u8; 80], place: usize, bytes: [u8; 4])
+    requires { place + 4 ≤ 80 }
+    ensures { take (place + 4) text.new ≡ take place text.old ++ bytes }
+{
+    text[place..place + 4].copy_from_slice(bytes.as_slice());
+}
+
+// Puts a hash from the place on.
+fn put_hash(text: &mut [u8; 80], place: usize, hash: Hash32)
+    requires { place + 32 ≤ 80 }
+    ensures { take (place + 32) text.new ≡ take place text.old ++ hash.0 }
+{
+    text[place..place + 32].copy_from_slice(hash.0.as_slice());
+}
+
+/// The spelling of a block's header, the only one that there is.
+pub fn encode_header(h: &Header) -> [u8; 80]
+    ensures { result ≡ header_text h.now }
+{
+    let mut text = [0u8; 80];
+    put_four(&mut text, 0, h.version.to_le_bytes());
+    put_hash(&mut text, 4, h.previous);
+    put_hash(&mut text, 36, h.root);
+    put_four(&mut text, 68, h.time.to_le_bytes());
+    put_four(&mut text, 72, h.bits.to_le_bytes());
+    put_four(&mut text, 76, h.nonce.to_le_bytes());
+    text
+}
+
+/// The hash of the block with this header: the SHA-256 of the SHA-256 of its 80 bytes, in inner order.
+pub fn block_hash(bytes: &[u8; 80]) -> Hash32
+    ensures { result.0 ≡ hashing.sha256d bytes.now }
+{
+    sha256d(bytes.as_slice())
+}

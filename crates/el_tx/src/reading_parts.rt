@@ -1,0 +1,183 @@
+// The parts of a transaction, read from left to right.
+ghost use Rattle.std.specs.Prelude.{◌≡◌, ◌+◌, ◌≤◌, [], length, IfOk};
+ghost use Rattle.el_tx.specs.Spelling.{max_money};
+ghost use Rattle.el_tx.specs.Reading.{Gives, input_at, inputs_at, value_at, output_at, outputs_at, items_at, stack_at, stacks_at, witnesses_at, some_inputs_at, some_outputs_at, body_at, some_witness};
+
+use crate::fault::TxFault;
+use crate::reading::{ReadError, count_of, outpoint_of, sized_of, u32_of, u64_of};
+use crate::types::{TxIn, TxOut};
+use el_base::{Bytes, Cursor, Listed};
+use std::alloc::Global;
+
+// All the money that there can be, in satoshi.
+const MAX_MONEY: u64 = 2_100_000_000_000_000;
+
+// An input, as yet without its witness.
+#[tactic(auto, unfolding(crate::specs::Reading::input_at))]
+fn input_of(alloc: Global, c: &mut Cursor<'_>) -> Result<TxIn, ReadError>
+    ensures { Gives (λ x. x) result c.new (input_at c.old) }
+{
+    let from = outpoint_of(c)?;
+    let script = sized_of(alloc, c)?;
+    let sequence = u32_of(c)?;
+    Ok(TxIn {
+        from,
+        script,
+        sequence,
+        witness: Listed::new(alloc),
+    })
+}
+
+fn inputs_of(alloc: Global, c: &mut Cursor<'_>, count: u64) -> Result<Listed<TxIn>, ReadError>
+    ensures { Gives (λ x. x) result c.new (inputs_at count c.old) }
+{
+    let mut inputs = Listed::new(alloc);
+    for _ in 0..count {
+        let input = input_of(alloc, c)?;
+        inputs.push(input)?;
+    }
+    Ok(inputs)
+}
+
+#[tactic(auto, unfolding(crate::specs::Reading::some_inputs_at))]
+fn some_inputs_of(alloc: Global, c: &mut Cursor<'_>) -> Result<Listed<TxIn>, ReadError>
+    ensures { Gives (λ x. x) result c.new (some_inputs_at c.old) }
+{
+    let count = count_of(c)?;
+    if count == 0 {
+        return Err(ReadError::Fault(TxFault::NoInputs));
+    }
+    inputs_of(alloc, c, count)
+}
+
+// The value of the output with this index, behind outputs of this sum.
+#[tactic(auto, unfolding(crate::specs::Reading::value_at))]
+fn value_of(c: &mut Cursor<'_>, index: usize, sum: u64) -> Result<u64, ReadError>
+    requires { sum ≤ max_money }
+    ensures value { Gives (λ x. x) result c.new (value_at index sum c.old) }
+    ensures bound { IfOk result (λ value. sum + value ≤ max_money) }
+{
+    let value = u64_of(c)?;
+    if value > MAX_MONEY - sum {
+        return Err(ReadError::Fault(TxFault::Money { output: index }));
+    }
+    Ok(value)
+}
+
+#[tactic(auto, unfolding(crate::specs::Reading::output_at))]
+fn output_of(alloc: Global, c: &mut Cursor<'_>, index: usize, sum: u64) -> Result<TxOut, ReadError>
+    requires { sum ≤ max_money }
+    ensures output { Gives (λ x. x) result c.new (output_at index sum c.old) }
+    ensures bound { IfOk result (λ output. sum + output.value ≤ max_money) }
+{
+    let value = value_of(c, index, sum)?;
+    let script = sized_of(alloc, c)?;
+    Ok(TxOut { value, script })
+}
+
+fn outputs_of(alloc: Global, c: &mut Cursor<'_>, count: u64) -> Result<Listed<TxOut>, ReadError>
+    ensures { Gives (λ x. x) result c.new (outputs_at count c.old) }
+{
+    let mut outputs = Listed::new(alloc);
+    let mut sum = 0;
+    for _ in 0..count {
+        let output = output_of(alloc, c, outputs.len(), sum)?;
+        sum += output.value;
+        outputs.push(output)?;
+    }
+    Ok(outputs)
+}
+
+#[tactic(auto, unfolding(crate::specs::Reading::some_outputs_at))]
+fn some_outputs_of(alloc: Global, c: &mut Cursor<'_>) -> Result<Listed<TxOut>, ReadError>
+    ensures { Gives (λ x. x) result c.new (some_outputs_at c.old) }
+{
+    let count = count_of(c)?;
+    if count == 0 {
+        return Err(ReadError::Fault(TxFault::NoOutputs));
+    }
+    outputs_of(alloc, c, count)
+}
+
+/// The inputs, as yet without their witnesses, and the outputs.
+#[tactic(auto, unfolding(crate::specs::Reading::body_at))]
+pub fn body_of(
+    alloc: Global,
+    c: &mut Cursor<'_>,
+) -> Result<(Listed<TxIn>, Listed<TxOut>), ReadError>
+    ensures { Gives (λ x. x) result c.new (body_at c.old) }
+{
+    let inputs = some_inputs_of(alloc, c)?;
+    let outputs = some_outputs_of(alloc, c)?;
+    Ok((inputs, outputs))
+}
+
+fn items_of(alloc: Global, c: &mut Cursor<'_>, count: u64) -> Result<Listed<Bytes>, ReadError>
+    ensures { Gives (λ x. x) result c.new (items_at count c.old) }
+{
+    let mut items = Listed::new(alloc);
+    for _ in 0..count {
+        let item = sized_of(alloc, c)?;
+        items.push(item)?;
+    }
+    Ok(items)
+}
+
+// The witness of one input.
+#[tactic(auto, unfolding(crate::specs::Reading::stack_at))]
+fn stack_of(alloc: Global, c: &mut Cursor<'_>) -> Result<Listed<Bytes>, ReadError>
+    ensures { Gives (λ x. x) result c.new (stack_at c.old) }
+{
+    let count = count_of(c)?;
+    items_of(alloc, c, count)
+}
+
+// The inputs with their witnesses.
+fn stacks_of(
+    alloc: Global,
+    c: &mut Cursor<'_>,
+    inputs: Listed<TxIn>,
+) -> Result<Listed<TxIn>, ReadError>
+    ensures { Gives (λ x. x) result c.new (stacks_at [] inputs c.old) }
+{
+    let mut full = Listed::new(alloc);
+    for input in inputs.into_vec() {
+        let TxIn {
+            from,
+            script,
+            sequence,
+            witness: _,
+        } = input;
+        let witness = stack_of(alloc, c)?;
+        full.push(TxIn {
+            from,
+            script,
+            sequence,
+            witness,
+        })?;
+    }
+    Ok(full)
+}
+
+// Whether some input has a witness.
+fn has_some(inputs: &[TxIn]) -> bool
+    ensures { result ≡ some_witness inputs.now }
+{
+    inputs.iter().any(|input| !input.witness.is_empty())
+}
+
+/// The inputs with their witnesses, of which some is not empty.
+#[tactic(auto, unfolding(crate::specs::Reading::witnesses_at))]
+pub fn witnesses_of(
+    alloc: Global,
+    c: &mut Cursor<'_>,
+    inputs: Listed<TxIn>,
+) -> Result<Listed<TxIn>, ReadError>
+    ensures { Gives (λ x. x) result c.new (witnesses_at inputs c.old) }
+{
+    let full = stacks_of(alloc, c, inputs)?;
+    if !has_some(full.as_slice()) {
+        return Err(ReadError::Fault(TxFault::EmptyWitness));
+    }
+    Ok(full)
+}

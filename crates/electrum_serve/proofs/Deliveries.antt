@@ -1,0 +1,311 @@
+-- What goes over the link while the events of an arrival are worked off.
+use Rattle.std.proofs.Common.{◌≡◌, ◌⊎◌, inl, inr, ℕ, ◌+◌, ◌≤◌, ◌==◌, Bool, true, false, not, List, [], ◌∷◌, ◌++◌, length, Option, Some, None, refl, ap, sym, ◌∙◌, append-nil, append_assoc, arith, IsTrue, nat_lt, eqb-true}
+use Rattle.std.specs.Prelude.{MatchBool}
+use Rattle.std.specs.List.{AllByRecursion, filter, list_any}
+use Rattle.el_outside.specs.Counts.{RoseBy}
+use Rattle.el_outside.specs.Story.{Story, Message, Closing, GoesOn, is_open}
+use Rattle.el_outside.specs.declared.link.Why.{Why}
+use Rattle.el_outside.specs.declared.link.Why.TheVariants as why
+use Rattle.el_outside.proofs.Stories.{goes_none, goes_more, rose_more, rose_none, sent_stays_open, other_stays_open}
+use Rattle.el_model.specs.Blocks.{Chain}
+use Rattle.el_model.specs.Lines.{LineEvent, line, too_long}
+use Rattle.el_model.specs.World.{World, Session, Event, joins, leaves, says, Outs, nothing, reply_to, Takes, is_peer, is_client, without_client, client_limit}
+use Rattle.el_model.specs.Run.{Turns, none, takes, departs, gone_in, is_gone, IsDeparture}
+use Rattle.el_model.proofs.Cuts.{either}
+use Rattle.electrum_serve.specs.State.{State, Hearing, SessionsAre, AllVoid, IsSaidBy, Stands, Steps, took, departed, IsDone, gone_from, option_kept}
+use Rattle.electrum_serve.specs.Progress.{AreOpen, peer_of, Delivered, sent, lost, Progress, Finished}
+use Rattle.electrum_serve.specs.declared.out.Out.{Out}
+use Rattle.electrum_serve.specs.declared.out.Out.TheVariants as out
+use Rattle.electrum_serve.specs.Turn.{outs_of}
+use Rattle.electrum_serve.proofs.Servers.{left_void}
+
+-- an open peer is closed
+pub closed_open : (s t : Story) (p : ℕ) (reason : Why) → IsTrue (is_open s p)
+    → MatchBool (is_open s p) (GoesOn s t [] [] (record { peer = p; why = reason } ∷ [])) (t ≡ s) → GoesOn s t [] [] (record { peer = p; why = reason } ∷ [])
+closed_open s t p reason open' h = rw open' at h
+
+-- a message that was not sent, and the closing of its client
+pub lost_closed : (tells : Type 0) (s next : State) (p : ℕ) (text : List ℕ) (reason : Why) (before mid after : Story) (low middle high : ℕ) → IsDeparture reason
+    → (tells → IsTrue (is_open before p)) → (tells → mid ≡ before)
+    → (tells → MatchBool (is_open mid p) (GoesOn mid after [] [] (record { peer = p; why = reason } ∷ [])) (after ≡ mid))
+    → next ≡ gone_from s p → RoseBy low high (gone_in (record { peer = p; why = reason } ∷ [])) → Delivered tells (out.Send p text) s before low next after high
+lost_closed tells s next p text reason before mid after low middle high departure open' same closing gone rose =
+    lost p text reason refl departure gone rose (λ t.
+    let e = same t in
+    let c = rw e at (closing t) in
+    closed_open before after p reason (open' t) c)
+
+-- counts of closings
+pub gone_more : (xs ys : List Closing) → gone_in (xs ++ ys) ≡ gone_in xs + gone_in ys
+gone_more [] ys = omega arith
+gone_more (x ∷ xs) ys = let e = gone_more xs ys in rw e (omega arith)
+
+-- one case of a turn
+pub data StepCase (world : World) (left : List Event) (o : Out) (next : World) (rest : List Event) : Type 0 where
+  replied : (p : ℕ) (text : List ℕ) (met : LineEvent) → o ≡ out.Send p text → is_client p world ≡ true → next ≡ world → left ≡ says p met ∷ rest
+      → StepCase world left o next rest
+  closed_client : (p : ℕ) (reason : Why) → o ≡ out.Close p reason → is_gone reason ≡ false → is_client p world ≡ true → next ≡ without_client p world
+      → StepCase world left o next rest
+  closed_other : (p : ℕ) (reason : Why) → o ≡ out.Close p reason → is_gone reason ≡ false → left ≡ joins p ∷ rest → next ≡ world → StepCase world left o next rest
+
+no_message : (m : Message) (ms : List Message) → ◌≡◌ {A = List Message} (m ∷ ms) [] → ⊥
+no_message m ms e = cc
+
+no_closing : (c : Closing) (cs : List Closing) → ◌≡◌ {A = List Closing} (c ∷ cs) [] → ⊥
+no_closing c cs e = cc
+
+sent_nothing : (o : Out) → outs_of o ≡ nothing → ⊥
+sent_nothing (out.Send p text) e = no_message _ _ (ap (λ (x : Outs). x.messages) e)
+sent_nothing (out.Close p reason) e = no_closing _ _ (ap (λ (x : Outs). x.closings) e)
+
+one_message : (a b : Message) → ◌≡◌ {A = List Message} (a ∷ []) (b ∷ []) → a ≡ b
+one_message a b e = cc
+
+one_closing : (a b : Closing) → ◌≡◌ {A = List Closing} (a ∷ []) (b ∷ []) → a ≡ b
+one_closing a b e = cc
+
+is_send : (o : Out) (p : ℕ) (text : List ℕ) → outs_of o ≡ reply_to p text → o ≡ out.Send p text
+is_send (out.Send q other) p text e =
+    let same = one_message _ _ (ap (λ (x : Outs). x.messages) e) in
+    rw (ap (λ (m : Message). m.peer) same, ap (λ (m : Message). m.text) same) refl
+is_send (out.Close q reason) p text e = absurd (no_closing _ _ (ap (λ (x : Outs). x.closings) e))
+
+is_close : (o : Out) (p : ℕ) (reason : Why) → outs_of o ≡ record { messages = []; closings = record { peer = p; why = reason } ∷ [] } → o ≡ out.Close p reason
+is_close (out.Send q other) p reason e = absurd (no_message _ _ (ap (λ (x : Outs). x.messages) e))
+is_close (out.Close q other) p reason e =
+    let same = one_closing _ _ (ap (λ (x : Outs). x.closings) e) in
+    rw (ap (λ (c : Closing). c.peer) same, ap (λ (c : Closing). c.why) same) refl
+
+took_case : (world : World) (left : List Event) (o : Out) (next : World) (rest : List Event) (event : Event) → left ≡ event ∷ rest → Takes world event (outs_of o) next
+    → StepCase world left o next rest
+took_case world left o next rest (joins p) is t = elim (either (nat_lt (length world.sessions) client_limit)) [
+  | inl h ↦ absurd (sent_nothing o (let e = rw h at t in e.0))
+  | inr h ↦ let e = rw h at t in closed_other p why.Clients (is_close o p why.Clients e.0) refl is e.1
+]
+took_case world left o next rest (leaves p) is t = absurd (sent_nothing o t.0)
+took_case world left o next rest (says p (line bytes)) is t = elim (either (is_client p world)) [
+  | inl h ↦ let e = rw h at t in replied p e.0 (line bytes) (is_send o p e.0 e.2) h e.3 is
+  | inr h ↦ absurd (sent_nothing o (let e = rw h at t in e.0))
+]
+took_case world left o next rest (says p too_long) is t = elim (either (is_client p world)) [
+  | inl h ↦ let e = rw h at t in closed_client p why.Long (is_close o p why.Long e.0) refl h e.1
+  | inr h ↦ absurd (sent_nothing o (let e = rw h at t in e.0))
+]
+
+pub step_case : (world : World) (left : List Event) (o : Out) (next : World) (rest : List Event) → Steps world left (outs_of o) next rest → StepCase world left o next rest
+step_case world left o next rest (took event is t) = took_case world left o next rest event is t
+step_case world left o next rest (departed p client outs gone same) = closed_client p why.Memory (is_close o p why.Memory outs) refl client gone
+
+abbrev pub AllOpen : Story → List Session → Type 0
+AllOpen story sessions = AllByRecursion (λ (session : Session). IsTrue (is_open story session.peer)) sessions
+
+abbrev pub some_peer : ℕ → List Session → Bool
+some_peer p sessions = list_any (is_peer p) sessions
+
+-- a client of the world is open
+pub client_open : (story : Story) (sessions : List Session) (p : ℕ) → some_peer p sessions ≡ true → AllOpen story sessions → IsTrue (is_open story p)
+client_open story [] p is all = absurd cc
+client_open story (s ∷ ss) p is all = elim (either (s.peer == p)) [
+  | inl h ↦ rw (← eqb-true s.peer p h) all.0
+  | inr h ↦ client_open story ss p (rw h at is) all.1
+]
+
+-- all stay open while a message is sent
+all_sent : (s t : Story) (sessions : List Session) (ms : List Message) → GoesOn s t [] ms [] → AllOpen s sessions → AllOpen t sessions
+all_sent s t [] ms goes all = tt
+all_sent s t (x ∷ xs) ms goes all = (sent_stays_open s t x.peer ms all.0 goes, all_sent s t xs ms goes all.1)
+
+-- all others stay open while a client is closed
+all_others : (s t : Story) (sessions : List Session) (p : ℕ) (reason : Why) → GoesOn s t [] [] (record { peer = p; why = reason } ∷ []) → AllOpen s sessions
+    → AllOpen t (filter (λ (session : Session). not (is_peer p session)) sessions)
+all_others s t [] p reason goes all = tt
+all_others s t (x ∷ xs) p reason goes all = elim (either (x.peer == p)) [
+  | inl h ↦ rw h (all_others s t xs p reason goes all.1)
+  | inr h ↦ rw h (other_stays_open s t x.peer p reason all.0 h goes, all_others s t xs p reason goes all.1)
+]
+
+all_strangers : (s t : Story) (sessions : List Session) (p : ℕ) (reason : Why) → GoesOn s t [] [] (record { peer = p; why = reason } ∷ []) → AllOpen s sessions
+    → some_peer p sessions ≡ false → AllOpen t sessions
+all_strangers s t [] p reason goes all unnamed = tt
+all_strangers s t (x ∷ xs) p reason goes all unnamed = elim (either (x.peer == p)) [
+  | inl h ↦ absurd (let e = rw h at unnamed in cc)
+  | inr h ↦ (other_stays_open s t x.peer p reason all.0 h goes, all_strangers s t xs p reason goes all.1 (rw h at unnamed))
+]
+
+-- who is waiting to be closed
+surplus_of : (client : Option Hearing) (surplus : Option ℕ) (sessions : List Session) (left rest : List Event) (p : ℕ) → SessionsAre client surplus sessions left
+    → left ≡ joins p ∷ rest → surplus ≡ Some p
+surplus_of None None sessions left rest p are is = absurd (let v = rw is at are.1 in v.0.1)
+surplus_of None (Some q) sessions left rest p are is = absurd are
+surplus_of (Some c) None sessions left rest p are is = absurd (let v = rw is at (left_void c are.0 left are.3) in v.0.1)
+surplus_of (Some c) (Some q) sessions left rest p are is = let e = sym are.3.joins_is ∙ is in let same : q ≡ p = joined q p rest e in ap Some same
+  where
+    joined : (q p : ℕ) (rest : List Event) → ◌≡◌ {A = List Event} (joins q ∷ []) (joins p ∷ rest) → q ≡ p
+    joined q p rest e = cc
+
+-- whom a turn speaks to is open
+pub out_open : (s : State) (world : World) (left : List Event) (o : Out) (next : World) (rest : List Event) (story : Story) → Stands s world left
+    → StepCase world left o next rest → AreOpen s world story → IsTrue (is_open story (peer_of o))
+out_open s world left o next rest story stands (replied p text met is client same first) are = rw is (client_open story world.sessions p client are.sessions)
+out_open s world left o next rest story stands (closed_client p reason is other client gone) are = rw is (client_open story world.sessions p client are.sessions)
+out_open s world left o next rest story stands (closed_other p reason is other first same) are =
+    let waiting = surplus_of s.client s.surplus world.sessions left rest p stands.sessions first in
+    rw is (are.surplus p waiting).0
+
+-- the clients behind a turn are open
+pub still_open : (s s' : State) (world : World) (left : List Event) (o : Out) (next : World) (rest : List Event) (before after : Story) → Stands s world left
+    → StepCase world left o next rest → s'.surplus ≡ None → AreOpen s world before → GoesOn before after [] (outs_of o).messages (outs_of o).closings → AreOpen s' next after
+still_open s s' world left o next rest before after stands (replied p text met is client same first) unused are goes = record {
+  sessions = rw same (all_sent before after world.sessions _ (rw is at goes) are.sessions);
+  surplus = λ q e. absurd (let f = sym unused ∙ e in cc);
+}
+still_open s s' world left o next rest before after stands (closed_client p reason is other client gone) unused are goes = record {
+  sessions = rw gone (all_others before after world.sessions p reason (rw is at goes) are.sessions);
+  surplus = λ q e. absurd (let f = sym unused ∙ e in cc);
+}
+still_open s s' world left o next rest before after stands (closed_other p reason is other first same) unused are goes =
+    let waiting = surplus_of s.client s.surplus world.sessions left rest p stands.sessions first in
+    record {
+      sessions = rw same (all_strangers before after world.sessions p reason (rw is at goes) are.sessions (are.surplus p waiting).1);
+      surplus = λ q e. absurd (let f = sym unused ∙ e in cc);
+    }
+
+-- the events behind a turn
+steps_turns : (first world : World) (done left : List Event) (ms : List Message) (cs : List Closing) (outs : Outs) (next : World) (rest all : List Event)
+    → Turns first done ms cs world → Steps world left outs next rest → all ≡ done ++ left
+    → (done' : List Event) × (all ≡ done' ++ rest) × Turns first done' (ms ++ outs.messages) (cs ++ outs.closings) next
+steps_turns first world done left ms cs outs next rest all turns (took event is t) whole = (
+  done ++ event ∷ [],
+  whole ∙ ap (λ (x : List Event). done ++ x) is ∙ sym (append_assoc done (event ∷ []) rest),
+  takes done ms cs world event outs next turns t,
+)
+steps_turns first world done left ms cs outs next rest all turns (departed p client made gone same) whole =
+    let d = departs done ms cs world p why.Memory turns client (inr refl) in (
+      done,
+      rw same whole,
+      rw (made, gone, append-nil ms) d,
+    )
+
+-- a message that was not sent: its client is gone, and what is left of its lines has no effect
+gone_stands : (chain : Chain) (client : Option Hearing) (surplus : Option ℕ) (world : World) (left rest : List Event) (p : ℕ) (met : LineEvent) → surplus ≡ None → chain ≡ world.chain
+    → SessionsAre client surplus world.sessions rest → is_client p world ≡ true → left ≡ says p met ∷ rest
+    → Stands (record { chain = chain; client = option_kept p client; surplus = surplus }) (without_client p world) left
+gone_stands chain None None world left rest p met unused same are client is = absurd (let e = rw are.0 at client in cc)
+gone_stands chain None (Some q) world left rest p met unused same are client is = absurd are
+gone_stands chain (Some c) (Some q) world left rest p met unused same are client is = absurd (let e = unused in cc)
+gone_stands chain (Some c) None world left rest p met unused same are client is = elim (either (c.peer == p)) [
+  | inl h ↦ rw h (record { chain = same; sessions = (rw (are.1, h) refl, rw is ((p, refl), left_void c are.0 rest are.3)) })
+  | inr h ↦ absurd (let e = rw (are.1, h) at client in cc)
+]
+
+-- a turn closes nobody as gone
+not_gone : (world : World) (left : List Event) (o : Out) (next : World) (rest : List Event) (middle high : ℕ) → StepCase world left o next rest → middle ≤ high
+    → RoseBy middle high (gone_in (outs_of o).closings)
+not_gone world left o next rest middle high (replied p text met is client same first) le = rw is (rose_none middle high le)
+not_gone world left o next rest middle high (closed_client p reason is other client gone) le = rw (is, other) (omega arith)
+not_gone world left o next rest middle high (closed_other p reason is other first same) le = rw (is, other) (omega arith)
+
+-- a message is the reply to a line of a client
+lost_case : (world : World) (left : List Event) (o : Out) (next : World) (rest : List Event) (p : ℕ) (text : List ℕ) → o ≡ out.Send p text → StepCase world left o next rest
+    → (met : LineEvent) × (is_client p world ≡ true) × (next ≡ world) × (left ≡ says p met ∷ rest)
+lost_case world left o next rest p text is (replied q other met was client same first) =
+    let e : q ≡ p = (let f = sym was ∙ is in cc) in
+    (met, rw e at client, same, rw e at first)
+lost_case world left o next rest p text is (closed_client q reason was other client gone) = absurd (let f = sym was ∙ is in cc)
+lost_case world left o next rest p text is (closed_other q reason was other first same) = absurd (let f = sym was ∙ is in cc)
+
+-- one turn and what went over the link
+pub progress_more : (first : World) (all : List Event) (tells : Type 0) (start before after : Story) (low middle high : ℕ) (s mid s' : State) (o : Out)
+    (progress : Progress first all tells start before low middle s) (next : World) (rest : List Event) → Steps progress.world progress.left (outs_of o) next rest → Stands mid next rest
+    → mid.surplus ≡ None → Delivered tells o mid before middle s' after high → Progress first all tells start after low high s'
+progress_more first all tells start before after low middle high s mid s' o progress next rest steps stands unused (sent same le goes) =
+    let t = steps_turns first progress.world progress.done progress.left progress.messages progress.closings (outs_of o) next rest all progress.turns steps progress.whole in
+    record {
+      done = t.0;
+      left = rest;
+      messages = progress.messages ++ (outs_of o).messages;
+      closings = progress.closings ++ (outs_of o).closings;
+      world = next;
+      whole = t.1;
+      turns = t.2;
+      stands = rw same stands;
+      story = λ told. goes_more start before after [] [] progress.messages (outs_of o).messages progress.closings (outs_of o).closings (progress.story told) (goes told);
+      are_open = λ told.
+          still_open s s' progress.world progress.left o next rest before after progress.stands (step_case progress.world progress.left o next rest steps)
+          (ap (λ (x : State). x.surplus) same ∙ unused) (progress.are_open told) (goes told);
+      faults = rw (gone_more progress.closings (outs_of o).closings) (rose_more low middle high (gone_in progress.closings) (gone_in (outs_of o).closings) progress.faults (not_gone progress.world progress.left o next rest middle high (step_case progress.world progress.left o next rest steps) le));
+    }
+progress_more first all tells start before after low middle high s mid s' o progress next rest steps stands unused (lost p text reason is departure gone rose goes) =
+    let was = lost_case progress.world progress.left o next rest p text is (step_case progress.world progress.left o next rest steps) in
+    let stands' = rw was.2 at stands in
+    record {
+      done = progress.done;
+      left = progress.left;
+      messages = progress.messages;
+      closings = progress.closings ++ record { peer = p; why = reason } ∷ [];
+      world = without_client p progress.world;
+      whole = progress.whole;
+      turns = departs progress.done progress.messages progress.closings progress.world p reason progress.turns was.1 departure;
+      stands = rw gone (gone_stands mid.chain mid.client mid.surplus progress.world progress.left rest p was.0 unused stands'.chain stands'.sessions was.1 was.3);
+      story = λ told.
+          let both = goes_more start before after [] [] progress.messages [] progress.closings (record { peer = p; why = reason } ∷ []) (progress.story told) (goes told) in
+          rw (append-nil progress.messages) at both;
+      are_open = λ told. record {
+        sessions = all_others before after progress.world.sessions p reason (goes told) (progress.are_open told).sessions;
+        surplus = λ q e. absurd (let f = sym unused ∙ sym (ap (λ (x : State). x.surplus) gone) ∙ e in cc);
+      };
+      faults = rw (gone_more progress.closings (record { peer = p; why = reason } ∷ []))
+          (rose_more low middle high (gone_in progress.closings) (gone_in (record { peer = p; why = reason } ∷ [])) progress.faults rose);
+    }
+
+-- lines of nobody have no effect
+void_turns : (first world : World) (done left : List Event) (ms : List Message) (cs : List Closing) → world.sessions ≡ [] → AllVoid left → Turns first done ms cs world
+    → Turns first (done ++ left) ms cs world
+void_turns first world done [] ms cs empty void turns = rw (append-nil done) turns
+void_turns first world done (e ∷ es) ms cs empty void turns =
+    let one = takes done ms cs world e nothing world turns (void_event e void.0) in
+    let one' = rw (append-nil ms, append-nil cs) at one in
+    let more = void_turns first world (done ++ e ∷ []) es ms cs empty void.1 one' in
+    rw (append_assoc done (e ∷ []) es) at more
+  where
+    void_event : (e : Event) → (p : ℕ) × IsSaidBy p e → Takes world e nothing world
+    void_event (joins q) v = absurd v.1
+    void_event (leaves q) v = absurd v.1
+    void_event (says q (line bytes)) v = rw empty (refl, refl)
+    void_event (says q too_long) v = rw empty (refl, refl)
+
+-- the work is done
+pub finished : (first : World) (all : List Event) (tells : Type 0) (before after : Story) (low high : ℕ) (s s' : State) (progress : Progress first all tells before after low high s)
+    → IsDone progress.world progress.left s' → s'.surplus ≡ None → Finished first all tells before after low high s'
+finished first all tells before after low high s s' progress done unused = record {
+  messages = progress.messages;
+  closings = progress.closings;
+  world = progress.world;
+  turns = rw progress.whole (all_turns done.void);
+  stands = done.stands;
+  story = progress.story;
+  are_open = λ told. record { sessions = (progress.are_open told).sessions; surplus = λ q e. absurd (let f = sym unused ∙ e in cc) };
+  faults = progress.faults;
+}
+  where
+    all_turns : (progress.left ≡ []) ⊎ ((progress.world.sessions ≡ []) × AllVoid progress.left)
+        → Turns first (progress.done ++ progress.left) progress.messages progress.closings progress.world
+    all_turns (inl empty) = rw (empty, append-nil progress.done) progress.turns
+    all_turns (inr void) = void_turns first progress.world progress.done progress.left progress.messages progress.closings void.0 void.1 progress.turns
+
+-- before the first turn
+pub begins : (first : World) (all : List Event) (tells : Type 0) (story : Story) (count : ℕ) (s : State) → Stands s first all → (tells → AreOpen s first story)
+    → Progress first all tells story story count count s
+begins first all tells story count s stands are = record {
+  done = [];
+  left = all;
+  messages = [];
+  closings = [];
+  world = first;
+  whole = refl;
+  turns = none;
+  stands = stands;
+  story = λ told. goes_none story;
+  are_open = are;
+  faults = rose_none count count (omega arith);
+}

@@ -1,0 +1,10 @@
+mod Five
+mod Requests
+mod Printing
+mod LineLemmas
+mod ClientTurns
+mod Servers
+mod Deliveries
+mod Runs
+mod Endings
+mod FileLemmas

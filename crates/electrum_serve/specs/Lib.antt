@@ -1,0 +1,10 @@
+pub mod Words
+pub mod Commands
+pub mod State
+pub mod Found
+pub mod Turn
+pub mod Progress
+pub mod File
+pub mod Pieces
+pub mod Statuses
+pub mod Ends

@@ -1,0 +1,181 @@
+// The node's block files as an archive.
+ghost use Rattle.std.specs.Prelude.{◌≡◌, [], ◌≤◌, length, IfOk};
+ghost use Rattle.el_outside.specs.Counts.{RoseBy};
+
+use el_base::OutOfMemory;
+use el_outside::{Archive, ArchiveFailed};
+use std::alloc::{AllocError, Global};
+use std::fs::{File, OpenOptions, metadata};
+use std::io;
+use std::io::ErrorKind;
+use std::os::unix::fs::FileExt;
+use std::rt::Files;
+
+/// How many files there can be: `blk00000.dat` to `blk99999.dat`.
+const MOST_FILES: u32 = 100_000;
+
+/// Sizes are below this.
+const SIZE_LIMIT: u64 = 1 << 62;
+
+/// The block files of a folder. It tells no content: what real files hold is beyond any contract.
+#[derive(Drop)]
+pub struct BlockFiles<R: Files<File = File>> {
+    rt: R,
+    folder: String,
+    path: String,
+    faults: u64,
+}
+
+// Fills the front of the buffer from the place on, until it is full or the file ends.
+fn read_at(file: &File, at: u64, buf: &mut [u8]) -> io::Result<usize>
+    ensures { IfOk result (λ n. n ≤ length buf.new) }
+{
+    let mut done = 0usize;
+    for _ in 0..u64::MAX {
+        if done >= buf.len() {
+            return Ok(done);
+        }
+        match file.read_at(&mut buf[done..], at.saturating_add(done as u64)) {
+            Ok(0) => return Ok(done),
+            Ok(n) => done += n,
+            Err(e) if e.kind() == ErrorKind::Interrupted => {}
+            Err(e) => return Err(e),
+        }
+    }
+    Ok(done)
+}
+
+// The last decimal digit.
+fn last_digit(n: u32) -> char {
+    match n % 10 {
+        0 => '0',
+        1 => '1',
+        2 => '2',
+        3 => '3',
+        4 => '4',
+        5 => '5',
+        6 => '6',
+        7 => '7',
+        8 => '8',
+        _ => '9',
+    }
+}
+
+// The file's path in the folder, with five digits.
+fn put_path(path: &mut String, folder: &str, file: u32) -> Result<(), AllocError> {
+    path.clear();
+    path.push_str(folder)?;
+    path.push_str("/blk")?;
+    for place in [10_000, 1_000, 100, 10, 1] {
+        path.push(last_digit(file / place))?;
+    }
+    path.push_str(".dat")
+}
+
+impl<R: Files<File = File> + Drop> BlockFiles<R> {
+    /// The block files of the folder, and room for their paths. The folder is looked for at each call.
+    pub fn new(rt: R, alloc: Global, folder: &str) -> Result<BlockFiles<R>, OutOfMemory>
+        ensures { IfOk result (λ files. files.faults ≡ 0) }
+    {
+        let mut path = String::new(alloc);
+        put_path(&mut path, folder, 0)?;
+        Ok(BlockFiles {
+            rt,
+            folder: String::from_str(alloc, folder)?,
+            path,
+            faults: 0,
+        })
+    }
+
+    // A failure, which is counted.
+    fn fault(&mut self) -> ArchiveFailed
+        ensures counted { RoseBy self.old.faults self.new.faults 1 }
+        ensures rises { self.old.faults ≤ self.new.faults }
+    {
+        self.faults = self.faults.saturating_add(1);
+        ArchiveFailed
+    }
+
+    // The file, if it is there; a failure where the folder isn't.
+    fn open(&mut self, file: u32) -> io::Result<Option<File>>
+        ensures { self.new.faults ≡ self.old.faults }
+    {
+        if !metadata(&self.rt, self.folder.as_str())?.is_dir() {
+            return Err(io::Error::from(ErrorKind::NotFound));
+        }
+        if file >= MOST_FILES {
+            return Ok(None);
+        }
+        put_path(&mut self.path, self.folder.as_str(), file)?;
+        let mut options = OpenOptions::new();
+        options.read(true);
+        match options.open(&self.rt, self.path.as_str()) {
+            Ok(file) => Ok(Some(file)),
+            Err(e) if e.kind() == ErrorKind::NotFound => Ok(None),
+            Err(e) => Err(e),
+        }
+    }
+
+    // The number of the highest file plus 1, or 0.
+    fn count(&mut self) -> io::Result<u32>
+        ensures few { IfOk result (λ n. n ≤ 100000) }
+        ensures same { self.new.faults ≡ self.old.faults }
+    {
+        for file in (0..MOST_FILES).rev() {
+            if self.open(file)?.is_some() {
+                return Ok(file + 1);
+            }
+        }
+        Ok(0)
+    }
+
+    // A file's size; 0 for one that isn't there.
+    fn size_of(&mut self, file: u32) -> io::Result<u64>
+        ensures { self.new.faults ≡ self.old.faults }
+    {
+        match self.open(file)? {
+            None => Ok(0),
+            Some(file) => Ok(file.metadata()?.len()),
+        }
+    }
+
+    // What a file has from the place on.
+    fn read_from(&mut self, file: u32, at: u64, buf: &mut [u8]) -> io::Result<usize>
+        ensures within { IfOk result (λ n. n ≤ length buf.new) }
+        ensures same { self.new.faults ≡ self.old.faults }
+    {
+        match self.open(file)? {
+            None => Ok(0),
+            Some(file) => read_at(&file, at, buf),
+        }
+    }
+}
+
+impl<R: Files<File = File> + Drop> Archive for BlockFiles<R> {
+    ghost tells = { ⊥ };
+
+    ghost bytes = { λ files n. [] };
+
+    ghost faults = { λ files. files.faults };
+
+    fn files(&mut self) -> Result<u32, ArchiveFailed> {
+        match self.count() {
+            Ok(n) => Ok(n),
+            Err(_) => Err(self.fault()),
+        }
+    }
+
+    fn size(&mut self, file: u32) -> Result<u64, ArchiveFailed> {
+        match self.size_of(file) {
+            Ok(n) if n < SIZE_LIMIT => Ok(n),
+            _ => Err(self.fault()),
+        }
+    }
+
+    fn read(&mut self, file: u32, at: u64, buf: &mut [u8]) -> Result<usize, ArchiveFailed> {
+        match self.read_from(file, at, buf) {
+            Ok(n) => Ok(n),
+            Err(_) => Err(self.fault()),
+        }
+    }
+}
