@@ -16,6 +16,16 @@ const GENESIS: [u8; 204] = [
     92, 56, 77, 247, 186, 11, 141, 87, 138, 76, 112, 43, 107, 241, 29, 95, 172, 0, 0, 0, 0,
 ];
 
+// The coinbase of the second block.
+const SECOND: [u8; 134] = [
+    1, 0, 0, 0, 1, 0, 0, 0, 0, 0, 0, 0, 0, 0, 0, 0, 0, 0, 0, 0, 0, 0, 0, 0, 0, 0, 0, 0, 0, 0, 0, 0,
+    0, 0, 0, 0, 0, 255, 255, 255, 255, 7, 4, 255, 255, 0, 29, 1, 4, 255, 255, 255, 255, 1, 0, 242,
+    5, 42, 1, 0, 0, 0, 67, 65, 4, 150, 181, 56, 232, 83, 81, 156, 114, 106, 44, 145, 230, 30, 193,
+    22, 0, 174, 19, 144, 129, 58, 98, 124, 102, 251, 139, 231, 148, 123, 230, 60, 82, 218, 117,
+    137, 55, 149, 21, 212, 224, 166, 4, 248, 20, 23, 129, 230, 34, 148, 114, 17, 102, 191, 98, 30,
+    115, 168, 44, 191, 35, 66, 200, 88, 238, 172, 0, 0, 0, 0,
+];
+
 // One input with one witness item and one output.
 const WTX: [u8; 66] = [
     2, 0, 0, 0, 0, 1, 1, 17, 17, 17, 17, 17, 17, 17, 17, 17, 17, 17, 17, 17, 17, 17, 17, 17, 17,
@@ -58,6 +68,31 @@ fn genesis(rt: HostRuntime) -> Result<(), Fail> {
         assert_eq!(rt; output.value, 5_000_000_000);
         assert_eq!(rt; output.script.len(), 67);
     }
+    Ok(())
+}
+
+#[test]
+fn second_block(rt: HostRuntime) -> Result<(), Fail> {
+    let (tx, len) = decode_tx(rt.alloc(), &SECOND)?;
+    assert_eq!(rt; (tx.version, len, tx.lock), (1, 134, 0));
+    let shown = b"0e3e2357e806b6cdb1f70b54c3a3a17b6714ee1f0e68bebb44a74b1efd512098";
+    assert_eq!(rt; txid(rt.alloc(), &tx)?.shown(), *shown);
+    for input in tx.inputs.as_slice() {
+        assert_eq!(rt; input.from.txid.0.as_slice(), [0; 32].as_slice());
+        assert_eq!(rt;
+            (input.from.index, input.sequence),
+            (4294967295, 4294967295)
+        );
+        assert_eq!(rt;
+            input.script.as_slice(),
+            [4, 255, 255, 0, 29, 1, 4].as_slice()
+        );
+        assert_eq!(rt; input.witness.len(), 0);
+    }
+    for output in tx.outputs.as_slice() {
+        assert_eq!(rt; (output.value, output.script.len()), (5_000_000_000, 67));
+    }
+    assert_eq!(rt; (tx.inputs.len(), tx.outputs.len()), (1, 1));
     Ok(())
 }
 
@@ -128,6 +163,32 @@ fn counts(rt: HostRuntime) -> Result<(), Fail> {
     assert_eq!(rt; long, Some(TxFault::LongSpelling { place: 4 }));
     let bytes = with_outputs(rt.alloc(), &[0])?;
     assert_eq!(rt; fault_of(rt.alloc(), &bytes), Some(TxFault::NoOutputs));
+    Ok(())
+}
+
+// Where the numbers of WTX stand: of inputs, a script, outputs, a script, witness items, an item.
+const NUMBERS: [usize; 6] = [6, 43, 48, 57, 59, 60];
+
+// WTX with the number at the place in three bytes.
+fn with_long_number(alloc: Global, place: usize) -> Result<Vec<u8>, AllocError> {
+    let mut bytes = Vec::new(alloc);
+    for (at, byte) in WTX.iter().enumerate() {
+        if at == place {
+            bytes.extend_from_slice(&[253, *byte, 0])?;
+        } else {
+            bytes.push(*byte)?;
+        }
+    }
+    Ok(bytes)
+}
+
+#[test]
+fn long_numbers(rt: HostRuntime) -> Result<(), Fail> {
+    for place in NUMBERS {
+        let bytes = with_long_number(rt.alloc(), place)?;
+        let found = fault_of(rt.alloc(), &bytes);
+        assert_eq!(rt; found, Some(TxFault::LongSpelling { place }), "at {place}");
+    }
     Ok(())
 }
 
