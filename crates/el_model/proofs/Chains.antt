@@ -7,7 +7,8 @@ use Rattle.el_base.specs.declared.hash.Hash32.{Hash32}
 use Rattle.el_tx.specs.declared.types.Header.{Header}
 use Rattle.el_tx.specs.Headers.{header_text}
 use Rattle.el_model.specs.declared.block.Placed.{Placed}
-use Rattle.el_model.specs.Blocks.{Chain, tip, tip_behind, block_hash, NamesBehind, zero_hash}
+use Rattle.el_model.specs.Blocks.{Chain, tip, tip_behind, block_hash, zero_hash}
+use Rattle.el_model.specs.Faults.{AreNext}
 
 -- the tip is the last block's hash
 pub tip_last : (before : Hash32) (chain : Chain) (b : Placed) → tip_behind before (chain ++ b ∷ []) ≡ block_hash b.block.header
@@ -24,18 +25,6 @@ ends_in xs x some is =
 pub tip_of_last : (chain : Chain) (b : Placed) → 1 ≤ length chain → b ≡ get_or chain (length chain - 1) b → block_hash b.block.header ≡ tip chain
 tip_of_last chain b some is = sym (ap tip (ends_in chain b some is) ∙ tip_last zero_hash (take (length chain - 1) chain) b)
 
--- two blocks, one behind the other
-pub linked_pair : (before : Hash32) (front behind : Chain) (a b : Placed) → NamesBehind before (front ++ a ∷ b ∷ behind)
-    → b.block.header.previous ≡ block_hash a.block.header
-linked_pair before [] behind a b h = h.1.0
-linked_pair before (x ∷ front) behind a b h = linked_pair (block_hash x.block.header) front behind a b h.1
-
--- one block more
-pub linked_more : (before : Hash32) (chain : Chain) (b : Placed) → NamesBehind before chain → b.block.header.previous ≡ tip_behind before chain
-    → NamesBehind before (chain ++ b ∷ [])
-linked_more before [] b h names = (names, tt)
-linked_more before (x ∷ chain) b h names = (h.0, linked_more (block_hash x.block.header) chain b h.1 names)
-
 pub all_more : {X : Type 0} (P : X → Type 0) (xs : List X) (x : X) → AllByRecursion P xs → P x → AllByRecursion P (xs ++ x ∷ [])
 all_more P [] x h p = (p, tt)
 all_more P (y ∷ ys) x h p = (h.0, all_more P ys x h.1 p)
@@ -48,3 +37,8 @@ all_at P (x ∷ xs) (suc i) d h lt = all_at P xs i d h.1 (omega arith)
 -- a hash of the header's 80 bytes is the block's
 pub hash_is : (hash : Hash32) (h : Header) (text : List ℕ) → hash.0 ≡ sha256d text → text ≡ header_text h → hash ≡ block_hash h
 hash_is hash h text is same = ap (λ (bytes : List ℕ). record { 0 = bytes }) (is ∙ ap sha256d same)
+
+-- two blocks, one behind the other
+pub linked_pair : (before front behind : Chain) (a b : Placed) → AreNext before (front ++ a ∷ b ∷ behind) → b.block.header.previous ≡ block_hash a.block.header
+linked_pair before [] behind a b h = h.1.0.names ∙ tip_last zero_hash before a
+linked_pair before (x ∷ front) behind a b h = linked_pair (before ++ x ∷ []) front behind a b h.1

@@ -1,65 +1,173 @@
--- Over coinbases a history lists the transactions that fund the script hash.
-use Rattle.std.proofs.Common.{◌≡◌, ℕ, suc, ◌+◌, ◌<◌, Bool, true, false, cond, ◌||◌, List, [], ◌∷◌, ◌++◌, length, map, drop, get_or, refl, ap, ◌∙◌, arith, eq-eqb}
-use Rattle.std.specs.List.{AllByRecursion, filter}
-use Rattle.std.proofs.lemmas.Slice.Eq.{bytes_eq-Decides}
+-- The history of a script hash by the outpoints of its own coins alone.
+use Rattle.std.proofs.Common.{◌≡◌, inl, inr, ℕ, ◌+◌, ◌<◌, Bool, true, false, cond, ◌&&◌, ◌||◌, List, [], ◌∷◌, ◌++◌, length, map, drop, get_or, filter, refl, ap, sym, ◌∙◌, append_assoc}
+use Rattle.std.proofs.lemmas.Bool.{cases_Bool}
 use Rattle.std.proofs.lemmas.List.{map-append}
 use Rattle.std.proofs.lemmas.List.Elements.{filter-append}
-use Rattle.std.proofs.Math.Seq.{drop-cons}
+use Rattle.std.specs.List.{list_any, AllByRecursion}
+use Rattle.std.specs.Str.{bytes_eq}
+use Rattle.indexmap.specs.IndexSet.{IndexSet, contains}
 use Rattle.el_tx.specs.declared.types.Outpoint.{Outpoint}
 use Rattle.el_tx.specs.declared.types.TxIn.{TxIn}
 use Rattle.el_tx.specs.declared.types.Tx.{Tx}
-use Rattle.el_tx.specs.Hashing.{IsCoinbase, NamesNoOutput, no_outpoint}
+use Rattle.el_model.specs.declared.block.Placed.{Placed}
+use Rattle.el_model.specs.declared.coin.Coin.{Coin}
 use Rattle.el_model.specs.declared.entry.Entry.{Entry}
 use Rattle.el_model.specs.Blocks.{Chain}
-use Rattle.el_model.specs.Coins.{Held, same_outpoint, names_no_output, coins_behind_all}
-use Rattle.el_model.specs.History.{Position, positions_in, positions_from, funds, concerns, entry}
-use Rattle.el_model.specs.FirstForm.{OneCoinbase, IsPlainBlock}
-use Rattle.el_model.specs.Funded.{funded_in, funded_from}
-
-pub outpoint_same : (a b : Outpoint) → a ≡ b → same_outpoint a b ≡ true
-outpoint_same a b e = rw (e, (bytes_eq-Decides b.txid.0 b.txid.0).1 refl, eq-eqb b.index b.index refl) refl
-
-pub coinbase_named : (inputs : List TxIn) → NamesNoOutput inputs → names_no_output inputs ≡ true
-coinbase_named [] h = absurd h
-coinbase_named (i ∷ []) h = outpoint_same i.from no_outpoint h
-coinbase_named (i ∷ j ∷ more) h = absurd h
+use Rattle.el_model.specs.Coins.{same_outpoint, without, put, take_inputs, coins_behind, coins_behind_all}
+use Rattle.el_model.specs.CoinTables.{has_own, AreOwn, HasFitting}
+use Rattle.el_model.specs.History.{Position, funds, takes_coin, concerns, entry, positions_in, positions_from}
+use Rattle.el_model.specs.Listings.{placed_at, listed, entries_of, listed_in, listed_from}
+use Rattle.el_model.proofs.CoinLists.{same_gives, apart_turned}
+use Rattle.el_model.proofs.CoinSteps.{left_at}
 
 or_false : (b : Bool) → (b || false) ≡ b
 or_false true = refl
 or_false false = refl
 
--- a coinbase concerns a script hash where it funds it
-coinbase_concerns : (script : List ℕ) (height : ℕ) (t : Tx) (coins : List Held) → IsCoinbase t
-    → concerns script (record { height = height; tx = t; before = coins }) ≡ funds script t
-coinbase_concerns script height t coins is = rw (coinbase_named t.inputs is) (or_false (funds script t))
+-- the script hash's own coins where one coin is taken
+pub own_without : (script : List ℕ) (p : Outpoint) (coins : List Coin) (o : Outpoint)
+    → has_own script (without p coins) o ≡ cond (same_outpoint p o) false (has_own script coins o)
+own_without script p [] o = elim (cases_Bool (same_outpoint p o)) [
+  | inl h ↦ rw h refl
+  | inr h ↦ rw h refl
+]
+own_without script p (c ∷ cs) o = elim (cases_Bool (same_outpoint c.outpoint p)) [
+  | inl h ↦
+      let is = same_gives c.outpoint p h in
+      rw h (own_without script p cs o ∙ by_p is (same_outpoint p o) refl)
+  | inr h ↦ rw h (by_o h (own_without script p cs o) (same_outpoint c.outpoint o) refl)
+]
+  where
+    by_p : c.outpoint ≡ p → (b : Bool) → same_outpoint p o ≡ b
+        → cond (same_outpoint p o) false (has_own script cs o)
+        ≡ cond (same_outpoint p o) false ((same_outpoint c.outpoint o && bytes_eq c.script.0 script) || has_own script cs o)
+    by_p is true e = rw e refl
+    by_p is false e = rw (e, is, e) refl
 
-one_listed : (b : Bool) (p : Position) → map entry (cond b (p ∷ []) []) ≡ cond b (entry p ∷ []) [] ++ []
-one_listed true p = refl
-one_listed false p = refl
+    by_o : same_outpoint c.outpoint p ≡ false → has_own script (without p cs) o ≡ cond (same_outpoint p o) false (has_own script cs o)
+        → (b : Bool) → same_outpoint c.outpoint o ≡ b
+        → ((same_outpoint c.outpoint o && bytes_eq c.script.0 script) || has_own script (without p cs) o)
+        ≡ cond (same_outpoint p o) false ((same_outpoint c.outpoint o && bytes_eq c.script.0 script) || has_own script cs o)
+    by_o apart rest true e =
+        let is = same_gives c.outpoint o e in
+        let other = rw (← is, apart_turned c.outpoint p apart) at rest in
+        rw (e, ← is, apart_turned c.outpoint p apart, other) refl
+    by_o apart rest false e = rw e rest
 
-block_listed : (height : ℕ) (script : List ℕ) (ts : List Tx) (coins : List Held) → OneCoinbase ts
-    → map entry (filter (concerns script) (positions_in height ts coins)) ≡ funded_in height script ts
-block_listed height script [] coins one = absurd one
-block_listed height script (t ∷ []) coins one =
-    rw (coinbase_concerns script height t coins one.0) (one_listed (funds script t) (record { height = height; tx = t; before = coins }))
-block_listed height script (t ∷ u ∷ ts) coins one = absurd one
+-- where one more stands behind
+pub own_more : (script : List ℕ) (coins : List Coin) (c : Coin) (o : Outpoint)
+    → has_own script (coins ++ c ∷ []) o ≡ (has_own script coins o || (same_outpoint c.outpoint o && bytes_eq c.script.0 script))
+own_more script [] c o = or_false (same_outpoint c.outpoint o && bytes_eq c.script.0 script)
+own_more script (x ∷ xs) c o = elim (cases_Bool (same_outpoint x.outpoint o && bytes_eq x.script.0 script)) [
+  | inl h ↦ rw h refl
+  | inr h ↦ rw h (own_more script xs c o)
+]
 
-pub listed : (height : ℕ) (script : List ℕ) (chain : Chain) (coins : List Held) → AllByRecursion IsPlainBlock chain
-    → map entry (filter (concerns script) (positions_from height chain coins)) ≡ funded_from height script chain
-listed height script [] coins all = refl
-listed height script (b ∷ bs) coins all =
-    ap (map entry) (filter-append (concerns script) (positions_in height b.block.txs coins) (positions_from (height + 1) bs (coins_behind_all height b.block.txs coins)))
-    ∙ map-append entry (filter (concerns script) (positions_in height b.block.txs coins)) (filter (concerns script) (positions_from (height + 1) bs (coins_behind_all height b.block.txs coins)))
-    ∙ ap (λ (es : List Entry). es ++ map entry (filter (concerns script) (positions_from (height + 1) bs (coins_behind_all height b.block.txs coins)))) (block_listed height script b.block.txs coins all.0.1.form)
-    ∙ ap (λ (es : List Entry). funded_in height script b.block.txs ++ es) (listed (height + 1) script bs (coins_behind_all height b.block.txs coins) all.1)
+-- where a coin is put
+pub own_put : (script : List ℕ) (c : Coin) (coins : List Coin) (o : Outpoint)
+    → has_own script (put c coins) o ≡ cond (same_outpoint c.outpoint o) (bytes_eq c.script.0 script) (has_own script coins o)
+own_put script c coins o = own_more script (without c.outpoint coins) c o ∙ rw (own_without script c.outpoint coins o) (by (same_outpoint c.outpoint o) refl)
+  where
+    by : (b : Bool) → same_outpoint c.outpoint o ≡ b
+        → (cond (same_outpoint c.outpoint o) false (has_own script coins o) || (same_outpoint c.outpoint o && bytes_eq c.script.0 script))
+        ≡ cond (same_outpoint c.outpoint o) (bytes_eq c.script.0 script) (has_own script coins o)
+    by true e = rw e refl
+    by false e = rw e (or_false (has_own script coins o))
 
--- what is left begins with the element at the place
-pub left_at : {X : Type 0} (xs : List X) (i : ℕ) (x : X) → i < length xs → x ≡ get_or xs i x → drop i xs ≡ x ∷ drop (i + 1) xs
-left_at xs i x lt is = drop-cons xs i x lt ∙ rw (← is) (ap (λ n. x ∷ drop n xs) (let e : suc i ≡ i + 1 = omega arith in e))
+-- a set of own outpoints, as a coin is taken
+pub own_taken : {S : Type 0} (own new : IndexSet Outpoint S) (script : List ℕ) (coins : List Coin) (p : Outpoint) → AreOwn own script coins
+    → ((o : Outpoint) → contains same_outpoint new o ≡ cond (same_outpoint p o) false (contains same_outpoint own o)) → AreOwn new script (without p coins)
+own_taken own new script coins p h says = λ o. says o ∙ ap (cond (same_outpoint p o) false) (h o) ∙ sym (own_without script p coins o)
 
-pub both_true : (a b : Bool) → a ≡ true → (a || b) ≡ true
-both_true a b e = rw e refl
+-- as a coin is put
+pub own_made : {S : Type 0} (own new : IndexSet Outpoint S) (script : List ℕ) (coins : List Coin) (c : Coin) (is_own : Bool) → AreOwn own script coins
+    → ((o : Outpoint) → contains same_outpoint new o ≡ cond (same_outpoint c.outpoint o) is_own (contains same_outpoint own o))
+    → is_own ≡ bytes_eq c.script.0 script → AreOwn new script (put c coins)
+own_made own new script coins c is_own h says is =
+    λ o. says o ∙ ap (λ (b : Bool). cond (same_outpoint c.outpoint o) is_own b) (h o) ∙ ap (λ (b : Bool). cond (same_outpoint c.outpoint o) b (has_own script coins o)) is
+    ∙ sym (own_put script c coins o)
+
+-- an input that takes none of the script hash's coins
+pub spends_step : (script : List ℕ) (coins : List Coin) (inputs : List TxIn) (n : ℕ) (i : TxIn) → n < length inputs → i ≡ get_or inputs n i
+    → has_own script coins i.from ≡ false → list_any (takes_coin script coins) (drop n inputs) ≡ list_any (takes_coin script coins) (drop (n + 1) inputs)
+spends_step script coins inputs n i lt is none =
+    let left = left_at inputs n i lt is in
+    rw left (passed (drop (n + 1) inputs))
+  where
+    passed : (is : List TxIn) → list_any (takes_coin script coins) (i ∷ is) ≡ list_any (takes_coin script coins) is
+    passed is = ap (λ (b : Bool). b || list_any (takes_coin script coins) is) none
+
+-- an input that takes one
+pub spends_stop : (script : List ℕ) (coins : List Coin) (inputs : List TxIn) (n : ℕ) (i : TxIn) → n < length inputs → i ≡ get_or inputs n i
+    → has_own script coins i.from ≡ true → list_any (takes_coin script coins) (drop n inputs) ≡ true
+spends_stop script coins inputs n i lt is some =
+    let left = left_at inputs n i lt is in
+    rw left (ap (λ (b : Bool). b || list_any (takes_coin script coins) (drop (n + 1) inputs)) some)
+
+-- an input takes its coin, and the others go on
+pub drop_step : (inputs : List TxIn) (n : ℕ) (i : TxIn) (coins : List Coin) → n < length inputs → i ≡ get_or inputs n i
+    → take_inputs (drop n inputs) coins ≡ take_inputs (drop (n + 1) inputs) (without i.from coins)
+drop_step inputs n i coins lt is =
+    let left = left_at inputs n i lt is in
+    rw left refl
+
+-- the entries of positions, of which one stands before the others
+pub entries_before : (script : List ℕ) (p : Position) (ps : List Position)
+    → entries_of script (p ∷ ps) ≡ cond (concerns script p) (entry p ∷ []) [] ++ entries_of script ps
+entries_before script p ps = elim (cases_Bool (concerns script p)) [
+  | inl h ↦ rw h refl
+  | inr h ↦ rw h refl
+]
+
+-- the entries of positions, one part behind the other
+pub entries_joined : (script : List ℕ) (ps qs : List Position) → entries_of script (ps ++ qs) ≡ entries_of script ps ++ entries_of script qs
+entries_joined script ps qs =
+    ap (map entry) (filter-append (concerns script) ps qs) ∙ map-append entry (filter (concerns script) ps) (filter (concerns script) qs)
 
 -- a position that concerns the script hash is listed once
 pub once_listed : (script : List ℕ) (p : Position) → funds script p.tx ≡ true → map entry (filter (concerns script) (p ∷ [])) ≡ entry p ∷ []
 once_listed script p e = rw e refl
+
+-- a transaction's entry was found, and those of the transactions behind it are left
+pub block_step : (script : List ℕ) (height n : ℕ) (ts : List Tx) (t : Tx) (coins : List Coin) (found new whole : List Entry) → n < length ts → t ≡ get_or ts n t
+    → found ++ listed_in script height (drop n ts) coins ≡ whole → new ≡ found ++ listed script height t coins
+    → new ++ listed_in script height (drop (n + 1) ts) (coins_behind height t coins) ≡ whole
+block_step script height n ts t coins found new whole lt is so more =
+    let left = left_at ts n t lt is in
+    ap (λ (es : List Entry). es ++ listed_in script height (drop (n + 1) ts) (coins_behind height t coins)) more
+    ∙ append_assoc found (listed script height t coins) (listed_in script height (drop (n + 1) ts) (coins_behind height t coins))
+    ∙ ap (λ (es : List Entry). found ++ es) (sym (entries_before script (placed_at height t coins) (positions_in height (drop (n + 1) ts) (coins_behind height t coins))))
+    ∙ ap (λ (us : List Tx). found ++ listed_in script height us coins) (sym left) ∙ so
+
+-- the coins go on so too
+pub behind_step : (height n : ℕ) (ts : List Tx) (t : Tx) (coins : List Coin) → n < length ts → t ≡ get_or ts n t
+    → coins_behind_all height (drop n ts) coins ≡ coins_behind_all height (drop (n + 1) ts) (coins_behind height t coins)
+behind_step height n ts t coins lt is =
+    let left = left_at ts n t lt is in
+    rw left refl
+
+-- a block's entries were found, and those of the blocks behind it are left
+pub chain_step : (script : List ℕ) (n : ℕ) (chain : Chain) (b : Placed) (ts : List Tx) (coins : List Coin) (found new whole : List Entry) → n < length chain
+    → b ≡ get_or chain n b → ts ≡ b.block.txs → found ++ listed_from script n (drop n chain) coins ≡ whole → new ≡ found ++ listed_in script n ts coins
+    → new ++ listed_from script (n + 1) (drop (n + 1) chain) (coins_behind_all n ts coins) ≡ whole
+chain_step script n chain b ts coins found new whole lt is txs so more =
+    let left = left_at chain n b lt is in
+    ap (λ (es : List Entry). es ++ listed_from script (n + 1) (drop (n + 1) chain) (coins_behind_all n ts coins)) more
+    ∙ append_assoc found (listed_in script n ts coins) (listed_from script (n + 1) (drop (n + 1) chain) (coins_behind_all n ts coins))
+    ∙ ap (λ (us : List Tx). found ++ (listed_in script n us coins ++ listed_from script (n + 1) (drop (n + 1) chain) (coins_behind_all n us coins))) txs
+    ∙ ap (λ (es : List Entry). found ++ es) (sym (entries_joined script (positions_in n b.block.txs coins) (positions_from (n + 1) (drop (n + 1) chain) (coins_behind_all n b.block.txs coins))))
+    ∙ ap (λ (bs : Chain). found ++ listed_from script n bs coins) (sym left) ∙ so
+
+-- the blocks behind one
+pub fit_here : (chain : Chain) (n : ℕ) (b : Placed) → n < length chain → b ≡ get_or chain n b → AllByRecursion HasFitting (drop n chain) → HasFitting b
+fit_here chain n b lt is all =
+    let left = left_at chain n b lt is in
+    let here = rw left at all in
+    here.0
+
+pub fit_behind : (chain : Chain) (n : ℕ) (b : Placed) → n < length chain → b ≡ get_or chain n b → AllByRecursion HasFitting (drop n chain)
+    → AllByRecursion HasFitting (drop (n + 1) chain)
+fit_behind chain n b lt is all =
+    let left = left_at chain n b lt is in
+    let here = rw left at all in
+    here.1

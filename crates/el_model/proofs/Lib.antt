@@ -1,4 +1,11 @@
 pub mod Chains
 pub mod Cuts
+pub mod BlockLemmas
+pub mod BlockRules
+pub mod CoinLists
+pub mod CoinSteps
 pub mod Histories
-pub mod FirstForms
+pub mod GoodChains
+pub mod SupplyLaws
+pub mod CoinOrigins
+pub mod NoHistories

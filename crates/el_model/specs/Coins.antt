@@ -9,6 +9,7 @@ use Rattle.el_tx.specs.declared.types.TxIn.{TxIn}
 use Rattle.el_tx.specs.declared.types.TxOut.{TxOut}
 use Rattle.el_tx.specs.declared.types.Tx.{Tx}
 use Rattle.el_tx.specs.Hashing.{txid, no_outpoint}
+use Rattle.el_model.specs.declared.coin.Coin.{Coin}
 use Rattle.el_model.specs.Blocks.{Chain}
 
 -- the script hash of an output (Electrum Protocol 1.4, "Script Hashes"): SHA-256, once, over the whole locking script, in inner order; clients
@@ -26,45 +27,55 @@ names_no_output [] = false
 names_no_output (i ∷ []) = same_outpoint i.from no_outpoint
 names_no_output (i ∷ j ∷ more) = false
 
--- an output that no transaction has taken: its outpoint, its value in satoshi, its script hash in inner order, and the height of its transaction
-pub record Held : Type 0 where
-  pub outpoint : Outpoint
-  pub value : ℕ
-  pub script : List ℕ
-  pub height : ℕ
+-- the coin is that of the outpoint
+abbrev pub is_coin_of : Outpoint → Coin → Bool
+is_coin_of o c = same_outpoint c.outpoint o
 
 -- the coins without that outpoint
-abbrev pub without : Outpoint → List Held → List Held
-without o coins = filter (λ (c : Held). not (same_outpoint c.outpoint o)) coins
+abbrev pub without : Outpoint → List Coin → List Coin
+without o coins = filter (λ (c : Coin). not (is_coin_of o c)) coins
 
 -- each input takes the coin that it names out, if it is there
-abbrev pub take_inputs : List TxIn → List Held → List Held
+abbrev pub take_inputs : List TxIn → List Coin → List Coin
 take_inputs [] coins = coins
 take_inputs (i ∷ is) coins = take_inputs is (without i.from coins)
 
--- Each output of a transaction with that txid and height puts its own coin in; the first has that index, and the others count on. A coin that is
--- there under the same outpoint is replaced, as where two coinbases have one txid (before BIP 34).
-abbrev pub put_outputs : Hash32 → ℕ → ℕ → List TxOut → List Held → List Held
-put_outputs id height index [] coins = coins
-put_outputs id height index (o ∷ os) coins =
-    let outpoint : Outpoint = record { txid = id; index = index } in
-    put_outputs id height (index + 1) os (without outpoint coins ++ record { outpoint = outpoint; value = o.value; script = script_hash o; height = height } ∷ [])
+-- the coin of an output with that txid, height and index
+abbrev pub coin_made : Hash32 → ℕ → ℕ → TxOut → Coin
+coin_made id height index o = record { outpoint = record { txid = id; index = index }; value = o.value; script = record { 0 = script_hash o }; height = height }
 
--- the coins behind a transaction at that height: first its inputs take theirs, of which a coinbase takes none, and then its outputs put theirs in
-abbrev pub coins_behind : ℕ → Tx → List Held → List Held
-coins_behind height t coins =
-    put_outputs (txid t) height 0 t.outputs (if names_no_output t.inputs then coins else take_inputs t.inputs coins)
+-- the coin goes behind the others, and replaces one that is there under the same outpoint, as where two coinbases have one txid (before BIP 34)
+abbrev pub put : Coin → List Coin → List Coin
+put c coins = without c.outpoint coins ++ c ∷ []
+
+-- Each output of a transaction with that txid and height puts its own coin in; the first has that index, and the others count on.
+abbrev pub put_outputs : Hash32 → ℕ → ℕ → List TxOut → List Coin → List Coin
+put_outputs id height index [] coins = coins
+put_outputs id height index (o ∷ os) coins = put_outputs id height (index + 1) os (put (coin_made id height index o) coins)
+
+-- the coins that a transaction leaves of those before it: a coinbase takes none
+abbrev pub coins_left : Tx → List Coin → List Coin
+coins_left t coins = if names_no_output t.inputs then coins else take_inputs t.inputs coins
+
+-- the coins behind a transaction at that height: first its inputs take theirs, and then its outputs put theirs in
+abbrev pub coins_behind : ℕ → Tx → List Coin → List Coin
+coins_behind height t coins = put_outputs (txid t) height 0 t.outputs (coins_left t coins)
 
 -- the coins behind the transactions of a block of that height, in their order
-abbrev pub coins_behind_all : ℕ → List Tx → List Held → List Held
+abbrev pub coins_behind_all : ℕ → List Tx → List Coin → List Coin
 coins_behind_all height [] coins = coins
 coins_behind_all height (t ∷ ts) coins = coins_behind_all height ts (coins_behind height t coins)
 
 -- the coins behind blocks, the first of which has that height
-abbrev pub coins_from : ℕ → Chain → List Held → List Held
+abbrev pub coins_from : ℕ → Chain → List Coin → List Coin
 coins_from height [] coins = coins
 coins_from height (b ∷ bs) coins = coins_from (height + 1) bs (coins_behind_all height b.block.txs coins)
 
--- the coins behind all blocks of a chain, whose genesis block has height 0
-abbrev pub coins : Chain → List Held
+-- the coins behind all blocks of a chain, whose genesis block has height 0, in the order in which they were put in
+abbrev pub coins : Chain → List Coin
 coins chain = coins_from 0 chain []
+
+-- all that the coins hold, in satoshi
+abbrev pub supply : List Coin → ℕ
+supply [] = 0
+supply (c ∷ coins) = c.value + supply coins

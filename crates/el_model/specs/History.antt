@@ -9,21 +9,22 @@ use Rattle.el_tx.specs.declared.types.Tx.{Tx}
 use Rattle.el_tx.specs.Hashing.{txid}
 use Rattle.el_model.specs.declared.entry.Entry.{Entry}
 use Rattle.el_model.specs.Blocks.{Chain}
-use Rattle.el_model.specs.Coins.{Held, script_hash, same_outpoint, names_no_output, coins_behind, coins_behind_all}
+use Rattle.el_model.specs.declared.coin.Coin.{Coin}
+use Rattle.el_model.specs.Coins.{script_hash, same_outpoint, names_no_output, coins_behind, coins_behind_all}
 
 -- A position of the chain: a transaction, the height of its block, and the coins before it. The coins say whom its inputs take from.
 pub record Position : Type 0 where
   pub height : ℕ
   pub tx : Tx
-  pub before : List Held
+  pub before : List Coin
 
 -- the positions of the transactions of a block of that height, where these coins stand before the first
-abbrev pub positions_in : ℕ → List Tx → List Held → List Position
+abbrev pub positions_in : ℕ → List Tx → List Coin → List Position
 positions_in height [] coins = []
 positions_in height (t ∷ ts) coins = record { height = height; tx = t; before = coins } ∷ positions_in height ts (coins_behind height t coins)
 
 -- those of blocks, the first of which has that height, where these coins stand before it
-abbrev pub positions_from : ℕ → Chain → List Held → List Position
+abbrev pub positions_from : ℕ → Chain → List Coin → List Position
 positions_from height [] coins = []
 positions_from height (b ∷ bs) coins =
     positions_in height b.block.txs coins ++ positions_from (height + 1) bs (coins_behind_all height b.block.txs coins)
@@ -37,11 +38,11 @@ abbrev pub funds : List ℕ → Tx → Bool
 funds script t = list_any (λ (o : TxOut). bytes_eq (script_hash o) script) t.outputs
 
 -- the input names one of the coins, and that one has the script hash
-abbrev pub takes_coin : List ℕ → List Held → TxIn → Bool
-takes_coin script coins i = list_any (λ (c : Held). same_outpoint c.outpoint i.from && bytes_eq c.script script) coins
+abbrev pub takes_coin : List ℕ → List Coin → TxIn → Bool
+takes_coin script coins i = list_any (λ (c : Coin). same_outpoint c.outpoint i.from && bytes_eq c.script.0 script) coins
 
 -- the transaction, which is no coinbase, takes a coin with that script hash; these coins stand before it
-abbrev pub spends : List ℕ → List Held → Tx → Bool
+abbrev pub spends : List ℕ → List Coin → Tx → Bool
 spends script coins t = not (names_no_output t.inputs) && list_any (takes_coin script coins) t.inputs
 
 -- its transaction funds or spends the script hash

@@ -4,7 +4,7 @@ use el_outside::Place;
 use el_tx::{Header, Tx};
 
 /// A block of Bitcoin's serialization: its header, and its transactions in the order in which they stand. As a value it may have any number of
-/// them, of any form.
+/// them.
 #[derive(Debug, Drop)]
 pub struct Block {
     /// The first 80 bytes of the block.

@@ -1,43 +1,39 @@
 // The plain ledger.
-ghost use Rattle.std.specs.Prelude.{◌≡◌, ◌↔◌, ◌⊎◌, List, ℕ, [], ◌∷◌, ◌++◌, length, None, IfOk, IfErr, OnOk, OnErr, MatchOption, Ok, Err};
-ghost use Rattle.el_model.specs.Blocks.{tip};
-ghost use Rattle.el_model.specs.Faults.{IsFull};
-ghost use Rattle.el_model.specs.FirstForm.{SpellsFirst};
+ghost use Rattle.std.specs.Prelude.{◌≡◌, ◌≢◌, ◌⊎◌, List, ℕ, [], ◌∷◌, ◌++◌, None, Some, IfOk, IfErr, OnOk, OnErr, MatchOption, Ok, Err};
+ghost use Rattle.el_model.specs.Blocks.{tip, IsSpelled};
+ghost use Rattle.el_model.specs.Faults.{fault};
 ghost use Rattle.el_model.specs.History.{history};
 
 use crate::block::{Block, Placed};
+use crate::coins::{CoinTable, add_block};
 use crate::entry::Entry;
 use crate::fault::ConnectFault;
-use crate::history::funding_entries;
+use crate::history::history_of;
 use el_base::{Hash32, OutOfMemory};
 use el_outside::Place;
 use el_tx::{block_hash, encode_header};
+use indexmap::IndexMap;
 use std::alloc::Global;
 use std::marker::Model;
 
-// The number of the table of blocks.
-const BLOCKS: u8 = 1;
-
-// How many blocks there can be, so that a height has 32 bits.
-const ROW_LIMIT: u64 = 4_294_967_295;
-
-/// A chain of blocks of the first form, the genesis block first, which contracts see as the list of its blocks with their places. Each history is
-/// computed anew over all of them. It has at most 4,294,967,295 blocks.
+/// A good chain of blocks, the genesis block first, which contracts see as the list of its blocks with their places. It keeps whole blocks and the
+/// coins behind them. Each history is computed anew over all blocks. It has at most 4,294,967,295 blocks.
 #[derive(Debug, Drop)]
 pub struct PlainLedger {
     blocks: Vec<Placed>,
+    coins: CoinTable,
 }
 
 impl Model for PlainLedger {
     ghost use Rattle.std.specs.Prelude.{List};
     ghost use Rattle.el_model.specs.declared.block.Placed.{Placed};
-    ghost use Rattle.el_model.specs.FirstForm.{IsPlain};
+    ghost use Rattle.el_model.specs.CoinLayers.{IsKept};
 
     ghost Value = { List Placed };
 
     ghost view = { λ l. l.blocks.items };
 
-    ghost invariant = { λ l. IsPlain l.blocks.items };
+    ghost invariant = { λ l. IsKept l.blocks.items l.coins };
 }
 
 impl PlainLedger {
@@ -47,6 +43,10 @@ impl PlainLedger {
     {
         PlainLedger {
             blocks: Vec::new(alloc),
+            coins: CoinTable {
+                map: IndexMap::new(alloc),
+                supply: 0,
+            },
         }
     }
 
@@ -62,30 +62,29 @@ impl PlainLedger {
         }
     }
 
-    /// Adds a block of the first form behind the last, with its place. Its header has to name the tip, or on no blocks the hash of 32 zero bytes.
-    /// Neither its proof of work nor its Merkle root is tested.
+    /// Adds a block behind the last, with its place. Its header has to name the tip, or on no blocks the hash of 32 zero bytes.
     ///
     /// # Errors
     ///
-    /// `ConnectFault::Full` of table 1 exactly where there are 4,294,967,295 blocks already, else `ConnectFault::Memory` for want of memory. A
-    /// refused block changes nothing.
+    /// The first fault of the block's first transaction that has one: `ConnectFault::MissingCoin`, `ConnectFault::Money`, or `ConnectFault::Full` of
+    /// table 1, which comes exactly where there are 4,294,967,295 blocks already and the first transaction has no fault before it. Else
+    /// `ConnectFault::Memory` for want of memory. A refused block changes nothing.
     pub fn extend(&mut self, block: Block, place: Place) -> Result<(), ConnectFault>
-        requires spelled { (bytes : List ℕ) × SpellsFirst bytes block }
+        requires spelled { IsSpelled block }
         requires behind { block.header.previous ≡ tip self.old }
         ensures ok { OnOk result (self.new ≡ self.old ++ record { block = block; place = place } ∷ []) }
         ensures err { OnErr result (self.new ≡ self.old) }
-        // The one fault, exactly where one block more is one too many.
-        ensures full { (result ≡ Err (ConnectFault.Full 1 4294967295)) ↔ IsFull self.old }
-        ensures faults { IfErr result (λ e. (e ≡ ConnectFault.Full 1 4294967295) ⊎ (e ≡ ConnectFault.Memory)) }
+        // A block that is added has no fault.
+        ensures faultless { OnOk result (fault self.old block ≡ None) }
+        // A fault is the first one.
+        ensures fault { IfErr result (λ e. (e ≡ ConnectFault.Memory) ⊎ (fault self.old block ≡ Some e)) }
     {
-        if self.blocks.len() as u64 >= ROW_LIMIT {
-            return Err(ConnectFault::Full {
-                table: BLOCKS,
-                rows: ROW_LIMIT,
-            });
-        }
-        self.blocks.push(Placed { block, place })?;
-        Ok(())
+        add_block(
+            *self.blocks.allocator(),
+            &mut self.blocks,
+            &mut self.coins,
+            Placed { block, place },
+        )
     }
 
     /// The history of a script hash (`blockchain.scripthash.get_history` of Electrum Protocol 1.4, of transactions in blocks): the transactions
@@ -94,6 +93,6 @@ impl PlainLedger {
     pub fn history(&self, script: &Hash32) -> Result<Vec<Entry>, OutOfMemory>
         ensures { IfOk result (λ found. found.items ≡ history self.now script.now.0) }
     {
-        funding_entries(*self.blocks.allocator(), self.blocks.as_slice(), script)
+        history_of(*self.blocks.allocator(), self.blocks.as_slice(), script)
     }
 }

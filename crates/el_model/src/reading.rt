@@ -1,124 +1,135 @@
-// Reading a block of the first form.
-ghost use Rattle.std.specs.Prelude.{◌≡◌, ◌≢◌, ◌↔◌, ◌<◌, ◌+◌, [], ◌∷◌, ◌++◌, ℕ, List, length, IfOk, Ok, Err, MatchOption};
-ghost use Rattle.el_tx.specs.Spelling as spelling;
-ghost use Rattle.el_tx.specs.declared.types.Tx as tx_shape;
-ghost use Rattle.el_model.specs.Blocks.{IsBlockText};
-ghost use Rattle.el_model.specs.FirstForm.{SpellsFirst, SpellsCoinbase, IsFirstForm};
+// Reading a block.
+ghost use Rattle.std.specs.Prelude.{◌≡◌, ◌≢◌, ◌⊎◌, ◌≤◌, ◌<◌, ◌+◌, ◌^◌, ◌++◌, ℕ, List, length, IfOk, IfErr, IfNone, IfSome, OnOk, Ok, Err};
+ghost use Rattle.el_base.specs.Compact.{compact, StopsCompact};
+ghost use Rattle.el_base.specs.declared.compact.CompactFault.{CompactFault};
+ghost use Rattle.el_tx.specs.Headers.{header_text, IsHeader};
+ghost use Rattle.el_tx.specs.Hashing.{full_text};
+ghost use Rattle.el_tx.specs.Stops.{Stops};
+ghost use Rattle.el_tx.specs.declared.fault.TxFault.{TxFault};
+ghost use Rattle.el_model.specs.Blocks.{SpellsBlock, IsBlockText, HasSpelling};
+ghost use Rattle.el_model.specs.BlockStops.{StopsBlock, Breaks};
+ghost use Rattle.el_model.specs.BlockParts.{AreTxs, StopsTxs};
 ghost use Rattle.el_model.specs.declared.block.Block as shape;
+ghost use Rattle.el_model.specs.declared.fault.BlockFault.{BlockFault};
 
 use crate::block::Block;
+use crate::block_rules::keep_rules;
 use crate::fault::BlockFault;
-use el_base::Listed;
-use el_tx::{Tx, TxFault, decode_header, decode_tx, is_coinbase};
+use el_base::{Cursor, Listed, read_compact};
+use el_tx::{Header, Tx, TxFault, decode_header, decode_tx};
 use std::alloc::Global;
 
-// Where the first transaction begins: behind 80 bytes of header and one of count.
-const TX_PLACE: usize = 81;
-
-// Whether some input has a witness.
-fn has_witness(tx: &Tx) -> bool
-    ensures { result ≡ spelling.has_witness tx.now }
+// The header in front of the bytes.
+fn header_of(c: &mut Cursor<'_>) -> Result<Header, BlockFault>
+    ensures fits { IfOk result IsHeader }
+    ensures read { IfOk result (λ h. c.old.rest ≡ header_text h ++ c.new.rest) }
+    ensures place { OnOk result (c.new.place ≡ c.old.place + 80) }
+    ensures short { IfErr result (λ e. (length c.old.rest < 80) × (e ≡ BlockFault.Short)) }
 {
-    tx.inputs
-        .as_slice()
-        .iter()
-        .any(|input| !input.witness.is_empty())
+    let Ok(front) = c.take(80) else {
+        return Err(BlockFault::Short);
+    };
+    let mut text = [0u8; 80];
+    text.copy_from_slice(front);
+    Ok(decode_header(&text))
 }
 
-// A fault of the first transaction as one of its block.
-fn in_block(fault: TxFault) -> BlockFault
+// The number of transactions, of which there is one.
+fn count_of(c: &mut Cursor<'_>) -> Result<u64, BlockFault>
+    ensures some { IfOk result (λ n. (1 ≤ n) × (n < 2 ^ 64)) }
+    ensures read { IfOk result (λ n. c.old.rest ≡ compact n ++ c.new.rest) }
+    ensures fault { IfErr result (λ e.
+        ((found : CompactFault) × StopsCompact c.old.place c.old.rest found × (e ≡ BlockFault.Count found))
+        ⊎ ((rest : List ℕ) × (c.old.rest ≡ compact 0 ++ rest) × (e ≡ BlockFault.NoTransactions))) }
+{
+    match read_compact(c) {
+        Ok(0) => Err(BlockFault::NoTransactions),
+        Ok(n) => Ok(n),
+        Err(fault) => Err(BlockFault::Count(fault)),
+    }
+}
+
+// The fault of the transaction with this index, in its block.
+fn in_block(index: usize, fault: TxFault) -> BlockFault
     ensures memory { fault ≡ TxFault.Memory → result ≡ BlockFault.Memory }
-    ensures header { result ≢ BlockFault.Short }
+    ensures kept { (fault ≡ TxFault.Memory) ⊎ (result ≡ BlockFault.Tx index fault) }
 {
     match fault {
         TxFault::Memory => BlockFault::Memory,
-        _ => BlockFault::Tx { index: 0, fault },
+        _ => BlockFault::Tx { index, fault },
     }
 }
 
-// The 80 bytes of a header, and what stands behind them.
-fn cut_header(bytes: &[u8]) -> Option<(&[u8; 80], &[u8])>
-    ensures { MatchOption result (length bytes.now < 80)
-        (λ parts. (bytes.now ≡ parts.0.now ++ parts.1.now) × (length parts.0.now ≡ 80)) }
+// The transaction in front, which has this index in its block, and what stands behind it.
+fn next_tx(alloc: Global, index: usize, bytes: &[u8]) -> Result<(Tx, &[u8]), BlockFault>
+    ensures spelled { IfOk result (λ r. HasSpelling r.0) }
+    ensures read { IfOk result (λ r. bytes.now ≡ full_text r.0 ++ r.1.now) }
+    ensures fault { IfErr result (λ e. (e ≡ BlockFault.Memory)
+        ⊎ ((found : TxFault) × Stops bytes.now found × (e ≡ BlockFault.Tx index found))) }
 {
-    match bytes.split_first_chunk::<80>() {
-        Some((front, rest)) => Some((front, rest)),
-        None => None,
+    match decode_tx(alloc, bytes) {
+        Ok((tx, size)) => {
+            let (_, rest) = bytes.split_at(size);
+            Ok((tx, rest))
+        }
+        Err(fault) => Err(in_block(index, fault)),
     }
 }
 
-// What stands behind the count 1.
-fn behind_one(bytes: &[u8]) -> Option<&[u8]>
-    ensures { MatchOption result ((text : List ℕ) → bytes.now ≡ 1 ∷ text → ⊥) (λ text. bytes.now ≡ 1 ∷ text.now) }
+// So many transactions, and what stands behind them.
+fn read_txs(alloc: Global, n: u64, bytes: &[u8]) -> Result<(Listed<Tx>, &[u8]), BlockFault>
+    ensures read { IfOk result (λ r. AreTxs bytes.now n r.0 r.1.now) }
+    ensures fault { IfErr result (λ e. (e ≡ BlockFault.Memory) ⊎ StopsTxs n bytes.now e) }
 {
-    match bytes {
-        [1, text @ ..] => Some(text),
-        _ => None,
+    let mut txs = Listed::new(alloc);
+    let mut rest = bytes;
+    for _ in 0..n {
+        let (tx, behind) = next_tx(alloc, txs.len(), rest)?;
+        txs.push(tx)?;
+        rest = behind;
     }
+    Ok((txs, rest))
 }
 
-// The one transaction that all the bytes spell: a coinbase without witness.
-fn only_coinbase(alloc: Global, bytes: &[u8]) -> Result<Tx, BlockFault>
-    ensures read { IfOk result (SpellsCoinbase bytes.now) }
-    ensures only { result ≢ Err BlockFault.Memory → (tx : tx_shape.Tx) → SpellsCoinbase bytes.now tx → result ≡ Ok tx }
-    ensures header { result ≢ Err BlockFault.Short }
-    ensures trailing { result ≢ Err BlockFault.Memory → (text rest : List ℕ) (tx : tx_shape.Tx) → spelling.Spells text tx
-        → rest ≢ [] → bytes.now ≡ text ++ rest → result ≡ Err (BlockFault.Trailing (81 + length text)) }
-    ensures other { result ≢ Err BlockFault.Memory → (tx : tx_shape.Tx) → spelling.Spells bytes.now tx
-        → (SpellsCoinbase bytes.now tx → ⊥) → result ≡ Err BlockFault.OtherForm }
+// The block that all the bytes are, whatever it means.
+fn whole_block(alloc: Global, bytes: &[u8]) -> Result<Block, BlockFault>
+    ensures some { IfOk result (λ b. 1 ≤ length b.txs) }
+    ensures read { IfOk result (IsBlockText bytes.now) }
+    ensures fault { IfErr result (λ e. (e ≡ BlockFault.Memory) ⊎ StopsBlock bytes.now e) }
 {
-    let (tx, size) = match decode_tx(alloc, bytes) {
-        Ok(read) => read,
-        Err(fault) => return Err(in_block(fault)),
-    };
-    if size != bytes.len() {
+    let mut c = Cursor::new(bytes);
+    let header = header_of(&mut c)?;
+    let n = count_of(&mut c)?;
+    let (txs, rest) = read_txs(alloc, n, c.rest())?;
+    if !rest.is_empty() {
         return Err(BlockFault::Trailing {
-            place: TX_PLACE + size,
+            place: bytes.len() - rest.len(),
         });
     }
-    if !is_coinbase(&tx) {
-        return Err(BlockFault::OtherForm);
-    }
-    if has_witness(&tx) {
-        return Err(BlockFault::OtherForm);
-    }
-    Ok(tx)
+    Ok(Block { header, txs })
 }
 
-/// Reads a block of the first form, of all the bytes, in Bitcoin's serialization: a header of 80 bytes, the count 1, a coinbase without witness
-/// (BIP 144), and nothing behind. Neither its proof of work nor its Merkle root is tested.
+/// Reads a block, of all the bytes, in Bitcoin's serialization: a header of 80 bytes, the number of transactions, the transactions in either form
+/// (BIP 144), and nothing behind. One coinbase stands first, no txid stands twice, the header has the Merkle root of the txids, and the weight is
+/// at most 4,000,000 (BIP 141). Neither proof of work nor scripts or amounts are tested. The time grows with the number of bytes, and with
+/// the number of transactions no more than it: each txid is computed once, and looked for once among those before it, in expected constant time.
 ///
 /// # Errors
 ///
-/// `BlockFault::Short` for fewer bytes than a header has; `BlockFault::OtherForm` where the next byte is not the count 1; `BlockFault::Tx` of index
-/// 0 where no transaction follows; `BlockFault::Trailing` for bytes behind that transaction; `BlockFault::OtherForm` where it is no coinbase or has
-/// a witness. The first of these comes. `BlockFault::Memory` comes where no memory is found.
+/// The first fault in this order: the header (`Short`), the number of transactions (`Count`, `NoTransactions`), each transaction (`Tx`), bytes
+/// behind (`Trailing`), `FirstNotCoinbase`, `LaterCoinbase`, `SameTxid`, `BadMerkle`, `Heavy`. `BlockFault::Memory` comes where no memory is found,
+/// and for a block of 2^61 bytes or more, which no memory holds.
 pub fn plain_block(alloc: Global, bytes: &[u8]) -> Result<Block, BlockFault>
     // What is read is spelled so.
-    ensures read { IfOk result (SpellsFirst bytes.now) }
+    ensures read { IfOk result (SpellsBlock bytes.now) }
     // What is spelled so is read.
-    ensures only { result ≢ Err BlockFault.Memory → (block : shape.Block) → SpellsFirst bytes.now block → result ≡ Ok block }
-    // Fewer bytes than a header has, and they alone, are too short.
-    ensures short { (result ≡ Err BlockFault.Short) ↔ (length bytes.now < 80) }
-    // Bytes behind a block of the first form begin at the place.
-    ensures trailing { result ≢ Err BlockFault.Memory → (text rest : List ℕ) (block : shape.Block) → SpellsFirst text block
-        → rest ≢ [] → bytes.now ≡ text ++ rest → result ≡ Err (BlockFault.Trailing (length text)) }
-    // A whole block of another form is refused as one.
-    ensures other { result ≢ Err BlockFault.Memory → (block : shape.Block) → IsBlockText bytes.now block
-        → (IsFirstForm block → ⊥) → result ≡ Err BlockFault.OtherForm }
+    ensures only { result ≢ Err BlockFault.Memory → (block : shape.Block) → SpellsBlock bytes.now block → result ≡ Ok block }
+    // A fault is the first one.
+    ensures fault { IfErr result (λ e. (e ≡ BlockFault.Memory) ⊎ StopsBlock bytes.now e) }
+    // The first fault is found.
+    ensures stops { result ≢ Err BlockFault.Memory → (e : BlockFault) → StopsBlock bytes.now e → result ≡ Err e }
 {
-    let Some((front, rest)) = cut_header(bytes) else {
-        return Err(BlockFault::Short);
-    };
-    let header = decode_header(front);
-    let Some(text) = behind_one(rest) else {
-        return Err(BlockFault::OtherForm);
-    };
-    let tx = match only_coinbase(alloc, text) {
-        Ok(tx) => tx,
-        Err(fault) => return Err(fault),
-    };
-    let mut txs = Listed::new(alloc);
-    txs.push(tx)?;
-    Ok(Block { header, txs })
+    let block = whole_block(alloc, bytes)?;
+    keep_rules(alloc, &block, bytes.len())?;
+    Ok(block)
 }

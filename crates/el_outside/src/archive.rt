@@ -1,5 +1,5 @@
 // The node's block files.
-ghost use Rattle.std.specs.Prelude.{◌≡◌, ℕ, ◌-◌, ◌<◌, ◌≤◌, ◌^◌, List, length, take, drop, min, IfOk};
+ghost use Rattle.std.specs.Prelude.{◌≡◌, ℕ, ◌-◌, ◌<◌, ◌≤◌, ◌^◌, List, [], length, take, drop, min, IfOk};
 ghost use Rattle.el_outside.specs.Counts.{HasCause};
 ghost use Rattle.el_outside.specs.Files.{AllGrow};
 
@@ -32,6 +32,8 @@ pub trait Archive {
     /// The number of the highest file plus 1, or 0.
     fn files(&mut self) -> Result<u32, ArchiveFailed>
         ensures few { IfOk result (λ n. n ≤ 100000) }
+        // No file behind the highest one has bytes.
+        ensures highest { tells → IfOk result (λ n. (file : ℕ) → n ≤ file → bytes self.new file ≡ []) }
         ensures keeps { tells → AllGrow (bytes self.old) (bytes self.new) }
         ensures cause { HasCause (faults self.old) (faults self.new) result };
 

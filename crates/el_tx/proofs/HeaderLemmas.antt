@@ -7,7 +7,7 @@ use Rattle.std.proofs.lemmas.Nat.{le_bytes_4, from_le_bytes-to_le_bytes_4}
 use Rattle.std.proofs.lemmas.List.{take_at, drop_at, take-append-drop, length-take-le}
 use Rattle.std.proofs.Math.Facts.{Fits-of_z, Fits-lt-pow}
 use Rattle.el_base.specs.Left.{AreBytes}
-use Rattle.el_tx.specs.Headers.{header_text, IsHeader}
+use Rattle.el_tx.specs.Headers.{header_text, header_of, number_from, IsHeader}
 use Rattle.el_tx.specs.declared.types.Header.{Header}
 
 front_bytes : (n : ℕ) (rest : List ℕ) → AreBytes rest → AreBytes (take n rest)
@@ -113,3 +113,41 @@ six_puts t0 t1 t2 t3 t4 t5 t6 v p r t b n whole e1 e2 e3 e4 e5 e6 =
     let all : take 80 t6 ≡ t6 = take_all 80 t6 (omega arith) in
     let e : take 80 t6 ≡ ((((v ++ p) ++ r) ++ t) ++ b) ++ n = rw (e6, e5, e4, e3, e2, e1) refl in
     sym all ∙ e ∙ simp append_assoc
+
+-- the field behind as many bytes
+behind : (k : ℕ) (a x bytes : List ℕ) → length a ≡ k → a ++ x ≡ bytes → drop k bytes ≡ x
+behind k a x bytes l e = rw (← e) (drop_at a x k l)
+
+number_behind : (k n : ℕ) (a x bytes : List ℕ) → length a ≡ k → n < 2 ^ 32 → a ++ (to_le_bytes w32 n ++ x) ≡ bytes → n ≡ number_from k bytes
+number_behind k n a x bytes l small e =
+    sym (from_le_bytes-to_le_bytes_4 n small) ∙ ap (λ (t : List ℕ). from_le_bytes w32 (take 4 t)) (sym (behind k a (to_le_bytes w32 n ++ x) bytes l e))
+
+text_behind : (k : ℕ) (a p x bytes : List ℕ) → length a ≡ k → length p ≡ 32 → a ++ (p ++ x) ≡ bytes → p ≡ take 32 (drop k bytes)
+text_behind k a p x bytes l size e =
+    sym (take_at p x 32 size) ∙ ap (λ (t : List ℕ). take 32 t) (sym (behind k a (p ++ x) bytes l e))
+
+-- what a header's text spells is the header
+pub header_again : (h : Header) (bytes : List ℕ) → IsHeader h → header_text h ≡ bytes → h ≡ header_of bytes
+header_again h bytes fits e =
+    let v = to_le_bytes w32 (cast_unsigned w32 h.version) in
+    let t = to_le_bytes w32 h.time in
+    let b = to_le_bytes w32 h.bits in
+    let n = to_le_bytes w32 h.nonce in
+    let fv = fits_version h.version fits.least_version fits.most_version in
+    let two : (v ++ h.previous.0) ++ (h.root.0 ++ (t ++ (b ++ n))) ≡ bytes = append_assoc v h.previous.0 _ ∙ e in
+    let three : ((v ++ h.previous.0) ++ h.root.0) ++ (t ++ (b ++ n)) ≡ bytes = append_assoc (v ++ h.previous.0) h.root.0 _ ∙ two in
+    let four : (((v ++ h.previous.0) ++ h.root.0) ++ t) ++ (b ++ n) ≡ bytes = append_assoc ((v ++ h.previous.0) ++ h.root.0) t _ ∙ three in
+    let five : ((((v ++ h.previous.0) ++ h.root.0) ++ t) ++ b) ++ (n ++ []) ≡ bytes
+    = ap (λ (x : List ℕ). ((((v ++ h.previous.0) ++ h.root.0) ++ t) ++ b) ++ x) (append-nil n) ∙ append_assoc (((v ++ h.previous.0) ++ h.root.0) ++ t) b n ∙ four in
+    let size_2 : length (v ++ h.previous.0) ≡ 36 = let s = fits.previous_size in simp length-append (omega arith) in
+    let size_3 : length ((v ++ h.previous.0) ++ h.root.0) ≡ 68 = let s = fits.root_size in simp length-append (let q = simp length-append at size_2 in omega arith) in
+    let size_4 : length (((v ++ h.previous.0) ++ h.root.0) ++ t) ≡ 72 = length-append ((v ++ h.previous.0) ++ h.root.0) t ∙ (let q = size_3 in omega arith) in
+    let size_5 : length ((((v ++ h.previous.0) ++ h.root.0) ++ t) ++ b) ≡ 76 = length-append (((v ++ h.previous.0) ++ h.root.0) ++ t) b ∙ (let q = size_4 in omega arith) in
+    let version : h.version ≡ cast_signed w32 (number_from 0 bytes)
+    = sym (to_z-of_z w32 h.version fv) ∙ ap (λ (k : ℕ). cast_signed w32 k) (number_behind 0 (cast_unsigned w32 h.version) [] _ bytes refl (unsigned_below h.version fv) e) in
+    same_header h (header_of bytes) version
+    (text_behind 4 v h.previous.0 _ bytes refl fits.previous_size e)
+    (text_behind 36 (v ++ h.previous.0) h.root.0 _ bytes size_2 fits.root_size two)
+    (number_behind 68 h.time ((v ++ h.previous.0) ++ h.root.0) _ bytes size_3 fits.time three)
+    (number_behind 72 h.bits (((v ++ h.previous.0) ++ h.root.0) ++ t) _ bytes size_4 fits.bits four)
+    (number_behind 76 h.nonce ((((v ++ h.previous.0) ++ h.root.0) ++ t) ++ b) [] bytes size_5 fits.nonce five)

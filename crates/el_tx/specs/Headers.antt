@@ -1,6 +1,6 @@
 -- How a block's header is spelled: 80 bytes. Numbers are little endian; hashes stand in inner order.
-use Rattle.std.specs.Prelude.{◌≡◌, ℕ, ◌<◌, ◌^◌, List, ◌++◌, length, pos, negsuc, ◌≤ℤ◌, ◌<ℤ◌}
-use Rattle.std.specs.Int.{w32, to_le_bytes, cast_unsigned}
+use Rattle.std.specs.Prelude.{◌≡◌, ℕ, ◌<◌, ◌^◌, List, ◌++◌, length, take, drop, pos, negsuc, ◌≤ℤ◌, ◌<ℤ◌}
+use Rattle.std.specs.Int.{w32, to_le_bytes, from_le_bytes, cast_unsigned, cast_signed}
 use Rattle.el_base.specs.Left.{AreBytes}
 use Rattle.el_tx.specs.declared.types.Header.{Header}
 
@@ -21,3 +21,18 @@ pub record IsHeader (h : Header) : Type 0 where
   pub time : h.time < 2 ^ 32
   pub bits : h.bits < 2 ^ 32
   pub nonce : h.nonce < 2 ^ 32
+
+-- the number that four bytes spell from the place on
+abbrev pub number_from : ℕ → List ℕ → ℕ
+number_from place bytes = from_le_bytes w32 (take 4 (drop place bytes))
+
+-- the header that the first 80 bytes spell: what `header_text` writes, read back
+abbrev pub header_of : List ℕ → Header
+header_of bytes = record {
+  version = cast_signed w32 (number_from 0 bytes);
+  previous = record { 0 = take 32 (drop 4 bytes) };
+  root = record { 0 = take 32 (drop 36 bytes) };
+  time = number_from 68 bytes;
+  bits = number_from 72 bytes;
+  nonce = number_from 76 bytes;
+}

@@ -2,7 +2,7 @@
 ghost use Rattle.std.specs.Prelude.{◌≡◌, ◌+◌, ◌≤◌, ◌++◌, length, take};
 ghost use Rattle.std.specs.Int.{w32, to_le_bytes, cast_unsigned};
 ghost use Rattle.el_base.specs.Hashing as hashing;
-ghost use Rattle.el_tx.specs.Headers.{header_text, IsHeader};
+ghost use Rattle.el_tx.specs.Headers.{header_text, header_of, IsHeader};
 ghost use Rattle.el_tx.specs.declared.types.Header as shape;
 
 use crate::types::Header;
@@ -48,6 +48,8 @@ pub fn decode_header(bytes: &[u8; 80]) -> Header
     ensures fits { IsHeader result }
     // What is spelled so is read.
     ensures only { (h : shape.Header) → IsHeader h → bytes.now ≡ header_text h → result ≡ h }
+    // It is read field by field.
+    ensures reads { result ≡ header_of bytes.now }
 {
     let (version, rest) = signed_number(bytes.as_slice());
     let (previous, rest) = hash(rest);

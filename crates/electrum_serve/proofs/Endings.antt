@@ -1,26 +1,27 @@
 -- How a call ends.
 use Rattle.std.proofs.Common.{◌≡◌, ℕ, List}
 use Rattle.el_model.specs.Blocks.{Chain}
-use Rattle.el_model.specs.FirstForm.{SpellsChain}
-use Rattle.electrum_serve.specs.File.{IsFile}
+use Rattle.el_model.specs.Faults.{IsGood}
+use Rattle.el_model.specs.Records.{GivesChain}
+use Rattle.el_outside.specs.Files.{IsFile}
 use Rattle.electrum_serve.specs.Words.{IsOnce}
 use Rattle.electrum_serve.specs.Ends.{Call, Traffic, Stops, IsUnserved, Ends}
 use Rattle.electrum_serve.specs.declared.status.Status.{Status}
 use Rattle.electrum_serve.specs.declared.status.Status.TheVariants as status
 
 -- a run that ends so was served
-pub ends_served : (tells : Type 0) (c : Call) (before after file : List ℕ) (t : Traffic) (s : Status) (magic : List ℕ) (chain : Chain) → IsOnce c.words magic
-    → (tells → IsFile before file after) → SpellsChain magic file chain → Stops chain c t s → Ends tells c before after file t s
-ends_served tells c before after file t status.Ended magic chain words is_file spelled stops =
-    record { magic = magic; words = words; is_file = is_file; chain = chain; spelled = spelled; stops = stops }
-ends_served tells c before after file t status.LinkFailed magic chain words is_file spelled stops =
-    record { magic = magic; words = words; is_file = is_file; chain = chain; spelled = spelled; stops = stops }
-ends_served tells c before after file t status.TurnsSpent magic chain words is_file spelled stops =
-    record { magic = magic; words = words; is_file = is_file; chain = chain; spelled = spelled; stops = stops }
-ends_served tells c before after file t status.Usage magic chain words is_file spelled stops = absurd stops
-ends_served tells c before after file t status.ArchiveFailed magic chain words is_file spelled stops = absurd stops
-ends_served tells c before after file t status.OutOfMemory magic chain words is_file spelled stops = absurd stops
-ends_served tells c before after file t status.BadChain magic chain words is_file spelled stops = absurd stops
+pub ends_served : (tells : Type 0) (c : Call) (before after : List ℕ) (t : Traffic) (s : Status) (magic : List ℕ) (chain : Chain) → IsOnce c.words magic → IsGood chain
+    → (tells → (file : List ℕ) × IsFile before file after × GivesChain magic 0 file chain) → Stops chain c t s → Ends tells c before after t s
+ends_served tells c before after t status.Ended magic chain words good of_file stops =
+    record { magic = magic; words = words; chain = chain; good = good; of_file = of_file; stops = stops }
+ends_served tells c before after t status.LinkFailed magic chain words good of_file stops =
+    record { magic = magic; words = words; chain = chain; good = good; of_file = of_file; stops = stops }
+ends_served tells c before after t status.TurnsSpent magic chain words good of_file stops =
+    record { magic = magic; words = words; chain = chain; good = good; of_file = of_file; stops = stops }
+ends_served tells c before after t status.Usage magic chain words good of_file stops = absurd stops
+ends_served tells c before after t status.ArchiveFailed magic chain words good of_file stops = absurd stops
+ends_served tells c before after t status.OutOfMemory magic chain words good of_file stops = absurd stops
+ends_served tells c before after t status.BadChain magic chain words good of_file stops = absurd stops
 
 -- a run ends with no other status
 pub served_only : (chain : Chain) (c : Call) (t : Traffic) (s : Status) → Stops chain c t s → IsUnserved s → ⊥

@@ -2,12 +2,14 @@
 use Rattle.std.specs.Prelude.{◌≡◌, ℕ, ◌+◌, ◌<◌, ◌≤◌, List, [], ◌∷◌, ◌++◌, length, Bool, true, false, ◌==◌}
 use Rattle.std.specs.List.{AllByRecursion}
 use Rattle.el_outside.specs.Counts.{RoseBy}
+use Rattle.el_outside.specs.Files.{IsFile}
 use Rattle.el_outside.specs.Story.{Came, opened, brought, closed, quiet, ended, Message, Closing}
 use Rattle.el_model.specs.Blocks.{Chain}
-use Rattle.el_model.specs.FirstForm.{SpellsChain}
+use Rattle.el_model.specs.Faults.{IsGood}
+use Rattle.el_model.specs.Records.{GivesChain}
 use Rattle.el_model.specs.World.{World, quiet_world}
 use Rattle.el_model.specs.Run.{Run, gone_in}
-use Rattle.electrum_serve.specs.File.{IsFile, SpellsNoChain}
+use Rattle.electrum_serve.specs.File.{GivesNoChain}
 use Rattle.electrum_serve.specs.Words.{IsOnce}
 use Rattle.electrum_serve.specs.declared.status.Status.{Status}
 use Rattle.electrum_serve.specs.declared.status.Status.TheVariants as status
@@ -69,37 +71,36 @@ Stops chain c t status.ArchiveFailed = ⊥
 Stops chain c t status.OutOfMemory = ⊥
 Stops chain c t status.BadChain = ⊥
 
--- the words are those of `once`, file 0 spells a chain, and the run over it ends so
-pub record IsServed (tells : Type 0) (c : Call) (before after file : List ℕ) (t : Traffic) (s : Status) : Type 0 where
+-- The words are those of `once`, the chain is good and, where the archive tells, it is the one that file 0 gives, as it was when its size was told; and the
+-- run over it ends so.
+pub record IsServed (tells : Type 0) (c : Call) (before after : List ℕ) (t : Traffic) (s : Status) : Type 0 where
   pub magic : List ℕ
   pub words : IsOnce c.words magic
-  pub is_file : tells → IsFile before file after
   pub chain : Chain
-  pub spelled : SpellsChain magic file chain
+  pub good : IsGood chain
+  pub of_file : tells → (file : List ℕ) × IsFile before file after × GivesChain magic 0 file chain
   pub stops : Stops chain c t s
 
--- file 0 is no chain
-pub record IsBadFile (tells : Type 0) (c : Call) (before after file : List ℕ) (t : Traffic) : Type 0 where
+-- file 0, as it was when its size was told, gives no chain
+pub record IsBadFile (tells : Type 0) (c : Call) (before after : List ℕ) (t : Traffic) : Type 0 where
   pub magic : List ℕ
   pub words : IsOnce c.words magic
-  pub is_file : tells → IsFile before file after
-  pub none : tells → SpellsNoChain magic file
+  pub of_file : tells → (file : List ℕ) × IsFile before file after × GivesNoChain magic file
   pub silent : t ≡ no_traffic
 
--- Each status has its cause. File 0 has some bytes at the begin of the call and at its end, and `file` is what it had when
--- its size was told, where the archive tells it.
-abbrev pub Ends : Type 0 → Call → List ℕ → List ℕ → List ℕ → Traffic → Status → Type 0
-Ends tells c before after file t status.Ended = IsServed tells c before after file t status.Ended
-Ends tells c before after file t status.LinkFailed = IsServed tells c before after file t status.LinkFailed
-Ends tells c before after file t status.TurnsSpent = IsServed tells c before after file t status.TurnsSpent
+-- Each status has its cause. File 0 has some bytes at the begin of the call and at its end.
+abbrev pub Ends : Type 0 → Call → List ℕ → List ℕ → Traffic → Status → Type 0
+Ends tells c before after t status.Ended = IsServed tells c before after t status.Ended
+Ends tells c before after t status.LinkFailed = IsServed tells c before after t status.LinkFailed
+Ends tells c before after t status.TurnsSpent = IsServed tells c before after t status.TurnsSpent
 -- the words are others
-Ends tells c before after file t status.Usage = ((magic : List ℕ) → IsOnce c.words magic → ⊥) × (t ≡ no_traffic)
+Ends tells c before after t status.Usage = ((magic : List ℕ) → IsOnce c.words magic → ⊥) × (t ≡ no_traffic)
 -- the archive failed
-Ends tells c before after file t status.ArchiveFailed = (magic : List ℕ) × IsOnce c.words magic × RoseBy c.archive_before c.archive_after 1 × (t ≡ no_traffic)
+Ends tells c before after t status.ArchiveFailed = (magic : List ℕ) × IsOnce c.words magic × RoseBy c.archive_before c.archive_after 1 × (t ≡ no_traffic)
 -- no memory was found
-Ends tells c before after file t status.OutOfMemory = (magic : List ℕ) × IsOnce c.words magic × (t ≡ no_traffic)
--- file 0 spells no chain
-Ends tells c before after file t status.BadChain = IsBadFile tells c before after file t
+Ends tells c before after t status.OutOfMemory = (magic : List ℕ) × IsOnce c.words magic × (t ≡ no_traffic)
+-- file 0 gives no chain
+Ends tells c before after t status.BadChain = IsBadFile tells c before after t
 
 -- the statuses of a call that served nobody
 abbrev pub IsUnserved : Status → Type 0

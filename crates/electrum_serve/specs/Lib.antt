@@ -5,6 +5,6 @@ pub mod Found
 pub mod Turn
 pub mod Progress
 pub mod File
-pub mod Pieces
 pub mod Statuses
 pub mod Ends
+pub mod Paths

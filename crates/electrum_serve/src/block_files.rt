@@ -1,10 +1,11 @@
 // The node's block files as an archive.
-ghost use Rattle.std.specs.Prelude.{◌≡◌, [], ◌≤◌, length, IfOk};
+ghost use Rattle.std.specs.Prelude.{◌≡◌, ◌+◌, ◌/◌, ◌%◌, ◌<◌, ◌≤◌, [], ◌∷◌, ◌++◌, length, IfOk, string_bytes, string_len, string_capacity};
+ghost use Rattle.electrum_serve.specs.Paths.{five_digits, file_path};
 ghost use Rattle.el_outside.specs.Counts.{RoseBy};
 
 use el_base::OutOfMemory;
 use el_outside::{Archive, ArchiveFailed};
-use std::alloc::{AllocError, Global};
+use std::alloc::Global;
 use std::fs::{File, OpenOptions, metadata};
 use std::io;
 use std::io::ErrorKind;
@@ -22,8 +23,10 @@ const SIZE_LIMIT: u64 = 1 << 62;
 pub struct BlockFiles<R: Files<File = File>> {
     rt: R,
     folder: String,
+    // The path of the file that was asked for last, in room that fits any file's.
     path: String,
     faults: u64,
+    ghost room: { string_len folder + 13 ≤ string_capacity path },
 }
 
 // Fills the front of the buffer from the place on, until it is full or the file ends.
@@ -45,8 +48,10 @@ fn read_at(file: &File, at: u64, buf: &mut [u8]) -> io::Result<usize>
     Ok(done)
 }
 
-// The last decimal digit.
-fn last_digit(n: u32) -> char {
+// The last decimal digit, in ASCII.
+fn last_digit(n: u32) -> char
+    ensures { result ≡ 48 + n % 10 }
+{
     match n % 10 {
         0 => '0',
         1 => '1',
@@ -61,27 +66,63 @@ fn last_digit(n: u32) -> char {
     }
 }
 
-// The file's path in the folder, with five digits.
-fn put_path(path: &mut String, folder: &str, file: u32) -> Result<(), AllocError> {
+// Puts the last decimal digit behind the path, in room that is there.
+fn put_digit(path: &mut String, n: u32)
+    requires { string_len path.old + 1 ≤ string_capacity path.old }
+    ensures digit { string_bytes path.new ≡ string_bytes path.old ++ (48 + n % 10) ∷ [] }
+    ensures len { string_len path.new ≡ string_len path.old + 1 }
+    ensures room { string_capacity path.old ≤ string_capacity path.new }
+{
+    let _ = path.push(last_digit(n));
+}
+
+// Puts the text behind the path, in room that is there.
+fn put_text(path: &mut String, text: &str)
+    requires { string_len path.old + length text.now ≤ string_capacity path.old }
+    ensures text { string_bytes path.new ≡ string_bytes path.old ++ text.now }
+    ensures len { string_len path.new ≡ string_len path.old + length text.now }
+    ensures room { string_capacity path.old ≤ string_capacity path.new }
+{
+    let _ = path.push_str(text);
+}
+
+// Puts five digits behind the path, in room that is there.
+fn put_digits(path: &mut String, file: u32)
+    requires { string_len path.old + 5 ≤ string_capacity path.old }
+    ensures digits { string_bytes path.new ≡ string_bytes path.old ++ five_digits file }
+    ensures len { string_len path.new ≡ string_len path.old + 5 }
+    ensures room { string_capacity path.old ≤ string_capacity path.new }
+{
+    put_digit(path, file / 10_000);
+    put_digit(path, file / 1_000);
+    put_digit(path, file / 100);
+    put_digit(path, file / 10);
+    put_digit(path, file);
+}
+
+// Makes the path that of the file in the folder. It takes no memory, since the room is there.
+fn put_path(path: &mut String, folder: &str, file: u32)
+    requires { length folder.now + 13 ≤ string_capacity path.old }
+    ensures path { string_bytes path.new ≡ file_path folder.now file }
+    ensures room { string_capacity path.old ≤ string_capacity path.new }
+{
     path.clear();
-    path.push_str(folder)?;
-    path.push_str("/blk")?;
-    for place in [10_000, 1_000, 100, 10, 1] {
-        path.push(last_digit(file / place))?;
-    }
-    path.push_str(".dat")
+    put_text(path, folder);
+    put_text(path, "/blk");
+    put_digits(path, file);
+    put_text(path, ".dat");
 }
 
 impl<R: Files<File = File> + Drop> BlockFiles<R> {
-    /// The block files of the folder, and room for their paths. The folder is looked for at each call.
+    /// The block files of the folder, and room for their paths: no call takes memory of its own. The folder is looked for at each call.
     pub fn new(rt: R, alloc: Global, folder: &str) -> Result<BlockFiles<R>, OutOfMemory>
         ensures { IfOk result (λ files. files.faults ≡ 0) }
     {
-        let mut path = String::new(alloc);
-        put_path(&mut path, folder, 0)?;
+        let path = String::with_capacity(alloc, folder.len() + 13)?;
+        let folder = String::from_str(alloc, folder)?;
         Ok(BlockFiles {
             rt,
-            folder: String::from_str(alloc, folder)?,
+            folder,
             path,
             faults: 0,
         })
@@ -106,7 +147,7 @@ impl<R: Files<File = File> + Drop> BlockFiles<R> {
         if file >= MOST_FILES {
             return Ok(None);
         }
-        put_path(&mut self.path, self.folder.as_str(), file)?;
+        put_path(&mut self.path, self.folder.as_str(), file);
         let mut options = OpenOptions::new();
         options.read(true);
         match options.open(&self.rt, self.path.as_str()) {

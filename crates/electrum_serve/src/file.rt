@@ -1,14 +1,19 @@
-// Reading file 0.
-ghost use Rattle.std.specs.Prelude.{◌≡◌, ◌≤◌, ◌↔◌, ◌++◌, ◌∷◌, [], ℕ, List, IfOk, IsErrOf, IsTrue, OnOk, length};
+// The chain of file 0.
+ghost use Rattle.std.specs.Prelude.{◌≡◌, ◌≤◌, ◌↔◌, ◌++◌, ◌∷◌, [], List, ℕ, IfOk, IsErrOf, IsTrue, OnOk};
+ghost use Rattle.std.specs.List.{AllByRecursion};
 ghost use Rattle.el_outside.specs.Counts.{RoseBy};
-ghost use Rattle.el_outside.specs.Files.{AllGrow};
-ghost use Rattle.el_model.specs.Blocks.{tip};
-ghost use Rattle.el_model.specs.FirstForm.{SpellsChain, SpellsFirst};
-ghost use Rattle.electrum_serve.specs.File.{IsFile, SpellsNoChain};
+ghost use Rattle.el_outside.specs.Files.{AllGrow, IsFile};
+ghost use Rattle.el_model.specs.Blocks.{IsSpelled, SpellsBlock, tip};
+ghost use Rattle.el_model.specs.Faults.{IsGood, IsNext};
+ghost use Rattle.el_model.specs.Records.{GivesChain, IsNode, body_at, records};
+ghost use Rattle.el_model.specs.declared.block.Block as shape;
+ghost use Rattle.el_files.specs.Reading.{IsBlockOf};
+ghost use Rattle.electrum_serve.specs.File.{GivesNoChain};
 
-use crate::records::read_record;
 use el_base::Hash32;
-use el_model::{Block, ConnectFault, PlainLedger};
+use el_block::decode_block;
+use el_files::{ReadFault, ScanFault, read_block, scan_file};
+use el_model::{Block, BlockFault, ConnectFault, Node, PlainLedger};
 use el_outside::{Archive, Place};
 use std::alloc::Global;
 
@@ -19,8 +24,64 @@ pub enum FileFault {
     Memory,
     /// The block files failed.
     Failed,
-    /// The file is not in the first form.
+    /// The records of the file, in order, are no good chain.
     Bad,
+}
+
+// The records of file 0, in order.
+fn scan_first<A: Archive>(
+    alloc: Global,
+    archive: &mut A,
+    magic: [u8; 4],
+) -> Result<Vec<Node>, FileFault>
+    ensures scanned { A.tells → IfOk result (λ found. (file : List ℕ) × IsFile (A.bytes archive.old 0) file (A.bytes archive.new 0)
+        × (found.items ≡ records magic 0 file)) }
+    ensures nodes { IfOk result (λ found. AllByRecursion IsNode found.items) }
+    ensures keeps { A.tells → AllGrow (A.bytes archive.old) (A.bytes archive.new) }
+    ensures never_falls { A.faults archive.old ≤ A.faults archive.new }
+    ensures failed { IsErrOf result FileFault.Failed → RoseBy (A.faults archive.old) (A.faults archive.new) 1 }
+    ensures never_bad { IsErrOf result FileFault.Bad → ⊥ }
+{
+    let mut found = Vec::new(alloc);
+    match scan_file(alloc, archive, magic, 0, &mut found) {
+        Ok(()) => Ok(found),
+        Err(ScanFault::ArchiveFailed) => Err(FileFault::Failed),
+        Err(ScanFault::Memory) => Err(FileFault::Memory),
+    }
+}
+
+// The block that the bytes spell, all of them.
+fn block_of(alloc: Global, bytes: &[u8]) -> Result<Block, FileFault>
+    ensures read { IfOk result (SpellsBlock bytes.now) }
+    ensures bad { IsErrOf result FileFault.Bad → (b : shape.Block) → SpellsBlock bytes.now b → ⊥ }
+    ensures not_failed { IsErrOf result FileFault.Failed → ⊥ }
+{
+    match decode_block(alloc, bytes) {
+        Ok(block) => Ok(block),
+        Err(BlockFault::Memory) => Err(FileFault::Memory),
+        Err(_) => Err(FileFault::Bad),
+    }
+}
+
+// The block of a record that was found in file 0.
+fn read_record<A: Archive>(alloc: Global, archive: &mut A, node: &Node) -> Result<Block, FileFault>
+    requires { IsNode node.now }
+    ensures spelled { IfOk result IsSpelled }
+    ensures read { A.tells → IfOk result (SpellsBlock (body_at node.now.place (A.bytes archive.new node.now.place.file))) }
+    // The bytes there are others than those of the record, or they spell no block.
+    ensures bad { IsErrOf result FileFault.Bad → A.tells → (b : shape.Block)
+        → IsBlockOf node.now (body_at node.now.place (A.bytes archive.new node.now.place.file))
+        → SpellsBlock (body_at node.now.place (A.bytes archive.new node.now.place.file)) b → ⊥ }
+    ensures keeps { A.tells → AllGrow (A.bytes archive.old) (A.bytes archive.new) }
+    ensures never_falls { A.faults archive.old ≤ A.faults archive.new }
+    ensures failed { IsErrOf result FileFault.Failed → RoseBy (A.faults archive.old) (A.faults archive.new) 1 }
+{
+    match read_block(alloc, archive, node) {
+        Ok(bytes) => block_of(alloc, bytes.as_slice()),
+        Err(ReadFault::ArchiveFailed) => Err(FileFault::Failed),
+        Err(ReadFault::Changed { .. }) => Err(FileFault::Bad),
+        Err(ReadFault::Memory) => Err(FileFault::Memory),
+    }
 }
 
 // Whether the block names the last one, or the zero hash where there is none.
@@ -33,14 +94,12 @@ fn names_tip(ledger: &PlainLedger, block: &Block) -> bool
     }
 }
 
-// Adds a block that names the last one.
+// Adds a block, if it may stand behind the last one.
 fn add_block(ledger: &mut PlainLedger, block: Block, place: Place) -> Result<(), FileFault>
-    requires { (bytes : List ℕ) × SpellsFirst bytes block }
-    ensures names { OnOk result (block.header.previous ≡ tip ledger.old) }
+    requires { IsSpelled block }
     ensures added { OnOk result (ledger.new ≡ ledger.old ++ record { block = block; place = place } ∷ []) }
-    ensures few { OnOk result (length ledger.new ≤ 4294967295) }
-    // It is refused where the block names another, or where there are too many.
-    ensures bad { IsErrOf result FileFault.Bad → block.header.previous ≡ tip ledger.old → 4294967295 ≤ length ledger.old }
+    ensures next { OnOk result (IsNext ledger.old block) }
+    ensures bad { IsErrOf result FileFault.Bad → IsNext ledger.old block → ⊥ }
     ensures not_failed { IsErrOf result FileFault.Failed → ⊥ }
 {
     if !names_tip(ledger, &block) {
@@ -48,48 +107,42 @@ fn add_block(ledger: &mut PlainLedger, block: Block, place: Place) -> Result<(),
     }
     match ledger.extend(block, place) {
         Ok(()) => Ok(()),
-        Err(ConnectFault::Full { table: _, rows: _ }) => Err(FileFault::Bad),
         Err(ConnectFault::Memory) => Err(FileFault::Memory),
+        Err(_) => Err(FileFault::Bad),
     }
 }
 
-/// The chain that file 0 spells, read piece by piece.
+/// The chain of the records of file 0, in their order.
 pub fn read_chain<A: Archive>(
     alloc: Global,
     archive: &mut A,
     magic: [u8; 4],
 ) -> Result<PlainLedger, FileFault>
-    // The ledger has the chain that the file spells.
-    ensures read { IfOk result (λ ledger. (file : List ℕ) × SpellsChain magic file ledger
-        × (A.tells → IsFile (A.bytes archive.old 0) file (A.bytes archive.new 0))) }
-    // The file spells none.
-    ensures bad { IsErrOf result FileFault.Bad → (file : List ℕ)
-        × (A.tells → IsFile (A.bytes archive.old 0) file (A.bytes archive.new 0) × SpellsNoChain magic file) }
+    ensures good { IfOk result IsGood }
+    // The file gives the ledger's chain.
+    ensures read { A.tells → IfOk result (λ ledger. (file : List ℕ) × IsFile (A.bytes archive.old 0) file (A.bytes archive.new 0)
+        × GivesChain magic 0 file ledger) }
+    // The file gives none.
+    ensures bad { IsErrOf result FileFault.Bad → A.tells → (file : List ℕ) × IsFile (A.bytes archive.old 0) file (A.bytes archive.new 0)
+        × GivesNoChain magic file }
     ensures keeps { A.tells → AllGrow (A.bytes archive.old) (A.bytes archive.new) }
     ensures never_falls { A.faults archive.old ≤ A.faults archive.new }
     ensures failed { IsErrOf result FileFault.Failed → RoseBy (A.faults archive.old) (A.faults archive.new) 1 }
 {
-    let size = match archive.size(0) {
-        Ok(size) => size,
-        Err(_) => return Err(FileFault::Failed),
+    let found = match scan_first(alloc, archive, magic) {
+        Ok(found) => found,
+        Err(fault) => return Err(fault),
     };
     let mut ledger = PlainLedger::new(alloc);
-    let mut at = 0;
-    while at < size {
-        let (block, len) = match read_record(alloc, archive, magic, at, size) {
-            Ok(found) => found,
+    for node in found.as_slice() {
+        let block = match read_record(alloc, archive, node) {
+            Ok(block) => block,
             Err(fault) => return Err(fault),
         };
-        let place = Place {
-            file: 0,
-            offset: at,
-            len,
-        };
-        match add_block(&mut ledger, block, place) {
+        match add_block(&mut ledger, block, node.place) {
             Ok(()) => {}
             Err(fault) => return Err(fault),
         }
-        at += 8 + len as u64;
     }
     Ok(ledger)
 }

@@ -8,7 +8,6 @@ mod file;
 mod lines;
 mod nobody;
 mod out;
-mod records;
 mod reply;
 mod request;
 mod running;
@@ -29,8 +28,6 @@ use std::process::ExitCode;
 use std::{env, io};
 pub use words::{Command, Network, OnceWords, once_of, read_words};
 
-#[cfg(test)]
-mod fakes;
 #[cfg(test)]
 mod tests;
 

@@ -22,8 +22,8 @@ pub fn serve<A: Archive, K: Link>(
     link: &mut K,
     turns: u64,
 ) -> Status
-    // What was sent and closed is a run over the chain that file 0 spells, and each status has its cause.
-    ensures ends { (file : List ℕ) × (traffic : Traffic)
+    // What was sent and closed is a run over the chain that file 0 gives, and each status has its cause.
+    ensures ends { (traffic : Traffic)
         × (K.tells → GoesOn (K.story link.old) (K.story link.new) traffic.arrivals traffic.messages traffic.closings)
         × Ends A.tells (record {
           words = texts words.now;
@@ -32,7 +32,7 @@ pub fn serve<A: Archive, K: Link>(
           archive_after = A.faults archive.new;
           link_before = K.faults link.old;
           link_after = K.faults link.new;
-        }) (A.bytes archive.old 0) (A.bytes archive.new 0) file traffic result }
+        }) (A.bytes archive.old 0) (A.bytes archive.new 0) traffic result }
     // The status for other words comes exactly for other words, and then no device is called.
     ensures usage { result ≡ Status.Usage → ((magic : List ℕ) → IsOnce (texts words.now) magic → ⊥) × (archive.new ≡ archive.old) }
     ensures lawful { (magic : List ℕ) → IsOnce (texts words.now) magic → result ≡ Status.Usage → ⊥ }

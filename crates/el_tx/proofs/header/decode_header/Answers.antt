@@ -4,7 +4,7 @@ use Rattle.std.proofs.lemmas.Int.{to_z-of_z}
 use Rattle.std.specs.Int.{w32, to_le_bytes, cast_unsigned, cast_signed}
 use Rattle.el_tx.specs.Headers.{IsHeader}
 use Rattle.el_tx.specs.declared.types.Header.{Header}
-use Rattle.el_tx.proofs.HeaderLemmas.{one_header, six_fields}
+use Rattle.el_tx.proofs.HeaderLemmas.{one_header, six_fields, header_again}
 use Rattle.el_tx.proofs.header.decode_header.Goals as goal
 
 pub returns-clause-spelled : goal.returns-clause-spelled
@@ -34,3 +34,16 @@ returns-clause-only c = λ h fits is.
     } in
     let whole : IsHeader read = search rules in
     one_header read h whole fits (returns-clause-spelled c ∙ is)
+
+pub returns-clause-reads : goal.returns-clause-reads
+returns-clause-reads c =
+    let read : Header = record {
+      version = cast_signed w32 (cast_unsigned w32 c.signed_number-version.result.0);
+      previous = c.hash.result.0;
+      root = c.hash-2.result.0;
+      time = c.number-time.result.0;
+      bits = c.number-bits.result.0;
+      nonce = c.number-nonce.result.0;
+    } in
+    let whole : IsHeader read = search rules in
+    header_again read c.args.bytes.now whole (returns-clause-spelled c)

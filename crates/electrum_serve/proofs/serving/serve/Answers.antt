@@ -9,28 +9,24 @@ pub returns-in_default-clause-lawful : goal.returns-in_default-clause-lawful
 returns-in_default-clause-lawful g c = λ magic words e. c.in_default.ensures.none magic words
 
 pub returns-in-Err-Bad-clause-ends : goal.returns-in-Err-Bad-clause-ends
-returns-in-Err-Bad-clause-ends g c =
-    let bad = c.in-Err-Bad.ensures.bad (ap Err c.in-Err-Bad.field-0-is) in (
-      bad.0,
-      no_traffic,
-      λ told. goes_none (g.K.Link.story c.args.link.now),
-      record {
-        magic = c.in-Some.magic;
-        words = c.in-Some.ensures.found;
-        is_file = λ told. (bad.1 told).0;
-        none = λ told. (bad.1 told).1;
-        silent = refl;
-      },
-    )
+returns-in-Err-Bad-clause-ends g c = (
+  no_traffic,
+  λ told. goes_none (g.K.Link.story c.args.link.now),
+  record {
+    magic = c.in-Some.magic;
+    words = c.in-Some.ensures.found;
+    of_file = c.in-Err-Bad.ensures.bad (ap Err c.in-Err-Bad.field-0-is);
+    silent = refl;
+  },
+)
 
 pub returns-clause-ends : goal.returns-clause-ends
 returns-clause-ends g c =
-    let read = c.in-Ok.ensures.read in
     let run = rw c.new.ensures at c.run.ensures in (
-      read.0,
       run.0,
       run.1,
-      ends_served _ _ _ _ _ run.0 c.run.result c.in-Some.magic c.in-Ok.ledger c.in-Some.ensures.found read.2 read.1 (run.2 _ refl refl refl),
+      ends_served _ _ _ _ run.0 c.run.result c.in-Some.magic c.in-Ok.ledger c.in-Some.ensures.found c.in-Ok.ensures.good c.in-Ok.ensures.read
+          (run.2 _ refl refl refl),
     )
 
 pub returns-clause-usage : goal.returns-clause-usage

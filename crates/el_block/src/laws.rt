@@ -1,0 +1,30 @@
+// What holds of blocks and their spelling.
+ghost use Rattle.std.specs.Prelude.{◌≡◌, ◌≢◌, ◌⊎◌, ◌++◌, ℕ, List, Ok, Err};
+ghost use Rattle.el_model.specs.Blocks.{SpellsBlock};
+ghost use Rattle.el_model.specs.declared.block.Block as shape;
+ghost use Rattle.el_model.specs.declared.fault.BlockFault.{BlockFault};
+
+use crate::decode::decode_block;
+use crate::encode::encode_block;
+use el_model::{Block, BlockFault};
+use std::alloc::Global;
+
+/// A block has at most one spelling, and bytes spell at most one block. No block's spelling begins another one.
+pub fn block_has_one_text()
+    ensures bytes { (a b : List ℕ) (block : shape.Block) → SpellsBlock a block → SpellsBlock b block → a ≡ b }
+    ensures block { (bytes : List ℕ) (a b : shape.Block) → SpellsBlock bytes a → SpellsBlock bytes b → a ≡ b }
+    ensures front { (a b x y : List ℕ) (c d : shape.Block) → SpellsBlock a c → SpellsBlock b d → a ++ x ≡ b ++ y → (c ≡ d) × (x ≡ y) }
+{}
+
+/// Writes a block and reads it again, which gives the same block.
+///
+/// # Errors
+///
+/// `BlockFault::Memory` alone, where no memory is found.
+pub fn written_is_read(alloc: Global, b: &Block) -> Result<Block, BlockFault>
+    requires { (bytes : List ℕ) × SpellsBlock bytes b.now }
+    ensures { (result ≡ Err BlockFault.Memory) ⊎ (result ≡ Ok b.now) }
+{
+    let text = encode_block(alloc, b)?;
+    decode_block(alloc, text.as_slice())
+}

@@ -1,0 +1,324 @@
+// What no contract says: Bitcoin's first two blocks, which fault comes, and that each call succeeds where memory is ample.
+ghost use Rattle.std.specs.Prelude.{ℕ, List, IfOk};
+ghost use Rattle.el_model.specs.Blocks.{SpellsBlock};
+
+use crate::{block_has_one_text, decode_block, encode_block, written_is_read};
+use el_base::{CompactFault, Hash32};
+use el_model::{Block, BlockFault};
+use el_tx::TxFault;
+use std::alloc::Global;
+use std::test::Fail;
+
+// The parts of Bitcoin's first block: its header, and the inputs and outputs of its coinbase.
+const HEADER_0: &str =
+    "0100000000000000000000000000000000000000000000000000000000000000000000003ba3edfd7a7b12b27ac72c3e67768f617fc81bc3888a51323a9fb8aa4b1e5e4a29ab5f49ffff001d1dac2b7c";
+
+const INPUTS_0: &str =
+    "010000000000000000000000000000000000000000000000000000000000000000ffffffff4d04ffff001d0104455468652054696d65732030332f4a616e2f32303039204368616e63656c6c6f72206f6e206272696e6b206f66207365636f6e64206261696c6f757420666f722062616e6b73ffffffff";
+
+const OUTPUTS_0: &str =
+    "0100f2052a01000000434104678afdb0fe5548271967f1a67130b7105cd6a828e03909a67962e0ea1f61deb649f6bc3f4cef38c4f35504e51ec112de5c384df7ba0b8d578a4c702b6bf11d5fac";
+
+// Those of the second.
+const HEADER_1: &str =
+    "010000006fe28c0ab6f1b372c1a6a246ae63f74f931e8365e15a089c68d6190000000000982051fd1e4ba744bbbe680e1fee14677ba1a3c3540bf7b1cdb606e857233e0e61bc6649ffff001d01e36299";
+
+const INPUTS_1: &str =
+    "010000000000000000000000000000000000000000000000000000000000000000ffffffff0704ffff001d0104ffffffff";
+
+const OUTPUTS_1: &str =
+    "0100f2052a0100000043410496b538e853519c726a2c91e61ec11600ae1390813a627c66fb8be7947be63c52da7589379515d4e0a604f8141781e62294721166bf621e73a82cbf2342c858eeac";
+
+const HASH_0: &str = "000000000019d6689c085ae165831e934ff763ae46a2a6c172b3f1b60a8ce26f";
+
+const TXID_1: &str = "0e3e2357e806b6cdb1f70b54c3a3a17b6714ee1f0e68bebb44a74b1efd512098";
+
+// The version and the lock time of every transaction here.
+const VERSION: &str = "01000000";
+
+const LOCK: &str = "00000000";
+
+const BLOCK_0: [&str; 6] = [HEADER_0, "01", VERSION, INPUTS_0, OUTPUTS_0, LOCK];
+
+const BLOCK_1: [&str; 6] = [HEADER_1, "01", VERSION, INPUTS_1, OUTPUTS_1, LOCK];
+
+// What stands before the Merkle root in a header, and what stands behind it.
+const BEFORE_ROOT: &str =
+    "010000000000000000000000000000000000000000000000000000000000000000000000";
+
+const BEHIND_ROOT: &str = "29ab5f49ffff001d1dac2b7c";
+
+// Whole transactions, each with one output of 1,000 satoshi: a coinbase, two that spend, and the first of them with a witness.
+const COIN: &str =
+    "01000000010000000000000000000000000000000000000000000000000000000000000000ffffffff0704ffff001d0104ffffffff01e803000000000000015100000000";
+
+const SPEND_A: &str =
+    "010000000111111111111111111111111111111111111111111111111111111111111111110000000000ffffffff01e803000000000000015100000000";
+
+const SPEND_B: &str =
+    "010000000122222222222222222222222222222222222222222222222222222222222222220000000000ffffffff01e803000000000000015100000000";
+
+const SIGNED_A: &str =
+    "0100000000010111111111111111111111111111111111111111111111111111111111111111110000000000ffffffff01e803000000000000015101012a00000000";
+
+// The Merkle root of the coinbase and the first that spends, with or without its witness.
+const ROOT_COIN_A: &str = "c4d80dc078c1bf63254c8cd1d80356e142cdbb38987d97cf5f067613c4a21dad";
+
+// No transactions here have this root.
+const NO_ROOT: &str = "0000000000000000000000000000000000000000000000000000000000000000";
+
+// The bytes that hex texts give, one behind the other.
+fn joined(alloc: Global, parts: &[&str]) -> Result<Vec<u8>, Fail> {
+    let mut bytes = Vec::new(alloc);
+    for part in parts {
+        let more = hex::decode(alloc, *part)?;
+        bytes.extend_from_slice(more.as_slice())?;
+    }
+    Ok(bytes)
+}
+
+fn block_of(alloc: Global, parts: &[&str]) -> Result<Block, Fail>
+    ensures { IfOk result (λ block. (bytes : List ℕ) × SpellsBlock bytes block) }
+{
+    let bytes = joined(alloc, parts)?;
+    let block = decode_block(alloc, bytes.as_slice())?;
+    Ok(block)
+}
+
+// The fault of the block with these parts, or none.
+fn fault_of(alloc: Global, parts: &[&str]) -> Result<Option<BlockFault>, Fail> {
+    let bytes = joined(alloc, parts)?;
+    Ok(decode_block(alloc, bytes.as_slice()).err())
+}
+
+// The fault of a block with this root and what stands behind its header.
+fn fault_behind(alloc: Global, root: &str, parts: [&str; 5]) -> Result<Option<BlockFault>, Fail> {
+    let [count, a, b, c, d] = parts;
+    fault_of(
+        alloc,
+        [BEFORE_ROOT, root, BEHIND_ROOT, count, a, b, c, d].as_slice(),
+    )
+}
+
+#[test]
+fn reads_the_second_block(rt: HostRuntime) -> Result<(), Fail> {
+    let block = block_of(rt.alloc(), BLOCK_1.as_slice())?;
+    assert_eq!(rt; block.header.previous, Hash32::from_shown(HASH_0)?);
+    assert_eq!(rt; block.header.root, Hash32::from_shown(TXID_1)?);
+    assert_eq!(rt; block.header.time, 1_231_469_665);
+    assert_eq!(rt; block.txs.len(), 1);
+    Ok(())
+}
+
+#[test]
+fn writes_what_it_reads(rt: HostRuntime) -> Result<(), Fail> {
+    let signed = [BEFORE_ROOT, ROOT_COIN_A, BEHIND_ROOT, "02", COIN, SIGNED_A];
+    for parts in [BLOCK_0, BLOCK_1, signed] {
+        let bytes = joined(rt.alloc(), parts.as_slice())?;
+        let block = block_of(rt.alloc(), parts.as_slice())?;
+        let text = encode_block(rt.alloc(), &block)?;
+        assert_eq!(rt; text.as_slice(), bytes.as_slice());
+    }
+    Ok(())
+}
+
+#[test]
+fn reads_what_it_writes(rt: HostRuntime) -> Result<(), Fail> {
+    let block = block_of(rt.alloc(), BLOCK_1.as_slice())?;
+    let again = written_is_read(rt.alloc(), &block)?;
+    assert_eq!(rt; again.header, block.header);
+    block_has_one_text();
+    Ok(())
+}
+
+#[test]
+fn reads_a_witness(rt: HostRuntime) -> Result<(), Fail> {
+    let parts = [BEFORE_ROOT, ROOT_COIN_A, BEHIND_ROOT, "02", COIN, SIGNED_A];
+    let block = block_of(rt.alloc(), parts.as_slice())?;
+    for (tx, items) in block.txs.as_slice().iter().zip([0, 1]) {
+        for input in tx.inputs.as_slice() {
+            assert_eq!(rt; input.witness.len(), items);
+        }
+    }
+    Ok(())
+}
+
+#[test]
+fn refuses_rules(rt: HostRuntime) -> Result<(), Fail> {
+    for (name, parts, fault) in [
+        ("none", ["00", "", "", "", ""], BlockFault::NoTransactions),
+        (
+            "none, and a byte",
+            ["00", "00", "", "", ""],
+            BlockFault::NoTransactions,
+        ),
+        (
+            "long count",
+            ["fd0100", COIN, "", "", ""],
+            BlockFault::Count(CompactFault::LongSpelling { place: 80 }),
+        ),
+        (
+            "too few",
+            ["02", COIN, "", "", ""],
+            BlockFault::Tx {
+                index: 1,
+                fault: TxFault::Short { place: 0 },
+            },
+        ),
+        (
+            "a byte behind no coinbase",
+            ["01", SPEND_A, "00", "", ""],
+            BlockFault::Trailing { place: 142 },
+        ),
+        (
+            "no coinbase",
+            ["02", SPEND_A, COIN, "", ""],
+            BlockFault::FirstNotCoinbase,
+        ),
+        (
+            "two coinbases",
+            ["04", COIN, SPEND_A, SPEND_A, COIN],
+            BlockFault::LaterCoinbase { index: 3 },
+        ),
+        (
+            "one txid twice",
+            ["04", COIN, SPEND_A, SPEND_B, SIGNED_A],
+            BlockFault::SameTxid {
+                first: 1,
+                second: 3,
+            },
+        ),
+    ] {
+        assert_eq!(rt;
+            fault_behind(rt.alloc(), NO_ROOT, parts)?,
+            Some(fault),
+            "{name}"
+        );
+    }
+    Ok(())
+}
+
+#[test]
+fn refuses_another_root(rt: HostRuntime) -> Result<(), Fail> {
+    let found = Hash32::from_shown(TXID_1)?;
+    let parts = [
+        BEFORE_ROOT,
+        NO_ROOT,
+        BEHIND_ROOT,
+        "01",
+        VERSION,
+        INPUTS_1,
+        OUTPUTS_1,
+        LOCK,
+    ];
+    let fault = BlockFault::BadMerkle {
+        header: Hash32([0; 32]),
+        found,
+    };
+    assert_eq!(rt; fault_of(rt.alloc(), parts.as_slice())?, Some(fault));
+    Ok(())
+}
+
+#[test]
+fn refuses_too_much_money(rt: HostRuntime) -> Result<(), Fail> {
+    let most = [
+        BEFORE_ROOT,
+        "61c25d9d3e3ac9dcee301551044b45d84032628b1a1cdca7ba46b36d9f4dd82f",
+        BEHIND_ROOT,
+        "01",
+        VERSION,
+        INPUTS_1,
+        "010040075af07507000151",
+        LOCK,
+    ];
+    let mut more = most;
+    more[6] = "010140075af07507000151";
+    let fault = BlockFault::Tx {
+        index: 0,
+        fault: TxFault::Money { output: 0 },
+    };
+    assert_eq!(rt; fault_of(rt.alloc(), most.as_slice())?, None);
+    assert_eq!(rt; fault_of(rt.alloc(), more.as_slice())?, Some(fault));
+    Ok(())
+}
+
+#[test]
+fn refuses_a_byte_behind(rt: HostRuntime) -> Result<(), Fail> {
+    let mut bytes = joined(rt.alloc(), BLOCK_0.as_slice())?;
+    bytes.push(0)?;
+    assert_eq!(rt;
+        decode_block(rt.alloc(), bytes.as_slice()).err(),
+        Some(BlockFault::Trailing { place: 285 })
+    );
+    Ok(())
+}
+
+#[test]
+fn refuses_each_front(rt: HostRuntime) -> Result<(), Fail> {
+    let bytes = joined(rt.alloc(), BLOCK_1.as_slice())?;
+    for size in 0..bytes.len() {
+        let found = decode_block(rt.alloc(), &bytes[..size]).err();
+        assert!(rt; found.is_some(), "of {size} bytes");
+        assert!(rt; found != Some(BlockFault::Memory), "of {size} bytes");
+    }
+    Ok(())
+}
+
+// A block of one coinbase with one output, whose script is so many zero bytes.
+fn long_block(alloc: Global, front: &[&str], zeros: usize, back: &str) -> Result<Vec<u8>, Fail> {
+    let mut bytes = joined(alloc, front)?;
+    let script = vec![in alloc; 0u8; zeros]?;
+    bytes.extend_from_slice(script.as_slice())?;
+    let more = hex::decode(alloc, back)?;
+    bytes.extend_from_slice(more.as_slice())?;
+    Ok(bytes)
+}
+
+#[test]
+fn reads_the_heaviest(rt: HostRuntime) -> Result<(), Fail> {
+    let front = [
+        BEFORE_ROOT,
+        "0d4006624234a811baf737722ea8ebd6f2e223eb19d0f2c00db37bfffefd4bad",
+        BEHIND_ROOT,
+        "01",
+        VERSION,
+        INPUTS_1,
+        "010000000000000000fea8410f00",
+    ];
+    let bytes = long_block(rt.alloc(), front.as_slice(), 999_848, LOCK)?;
+    assert_eq!(rt; decode_block(rt.alloc(), bytes.as_slice()).err(), None);
+    Ok(())
+}
+
+#[test]
+fn refuses_a_heavier(rt: HostRuntime) -> Result<(), Fail> {
+    let front = [
+        BEFORE_ROOT,
+        "7f1da3304a6ad004707d212903fd1944eb10ad936c8624825adca510875ff4b4",
+        BEHIND_ROOT,
+        "01",
+        "010000000001",
+        INPUTS_1,
+        "010000000000000000fea7410f00",
+    ];
+    let bytes = long_block(rt.alloc(), front.as_slice(), 999_847, "01012a00000000")?;
+    assert_eq!(rt;
+        decode_block(rt.alloc(), bytes.as_slice()).err(),
+        Some(BlockFault::Heavy { weight: 4_000_001 })
+    );
+    Ok(())
+}
+
+#[test]
+fn refuses_headers_alone(rt: HostRuntime) {
+    let short = CompactFault::Short { place: 80 };
+    for (size, fault) in [(79, BlockFault::Short), (80, BlockFault::Count(short))] {
+        let bytes = [0u8; 80];
+        let (front, _) = bytes.as_slice().split_at(size);
+        assert_eq!(rt;
+            decode_block(rt.alloc(), front).err(),
+            Some(fault),
+            "of {size} bytes"
+        );
+    }
+}

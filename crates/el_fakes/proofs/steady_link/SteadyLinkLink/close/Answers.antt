@@ -1,0 +1,46 @@
+use Rattle.std.proofs.Common.{◌≡◌, ◌<◌, ◌==◌, ◌++◌, ◌∷◌, [], length, map, true, sym, ◌∙◌, ap, arith}
+use Rattle.std.specs.List.{list_any}
+use Rattle.std.proofs.lemmas.List.{map-append}
+use Rattle.el_fakes.specs.Greatest.{greatest}
+use Rattle.el_fakes.specs.Kept.{message_of, closing_of}
+use Rattle.el_fakes.specs.Links.{story_of}
+use Rattle.el_fakes.proofs.PeerLemmas.{closes, last-closes, shorter-but}
+use Rattle.el_fakes.proofs.steady_link.SteadyLinkLink.close.Goals as goal
+
+-- the peer is one of those that are open
+among : (c : goal.After-put_closed) → list_any (λ q. c.args.p == q) c.self.inside.peers.items ≡ true
+among c = rw (← c.as_slice.ensures.value) (sym c.is_among.ensures ∙ c.if-is_among.true)
+
+-- the closings with one more
+closings_now : (c : goal.After-put_closed) → map closing_of c.put_closed.new.closed.items ≡ map closing_of c.self.inside.closed.items ++ record { peer = c.args.p; why = c.args.why } ∷ []
+closings_now c = rw c.put_closed.ensures.items (map-append closing_of c.self.inside.closed.items _)
+
+-- the greatest number stays
+same_greatest : (c : goal.After-put_closed) → greatest (record {
+  arrivals = c.self.inside.heard.arrivals;
+  messages = map message_of c.self.inside.sent.items;
+  closings = map closing_of c.put_closed.new.closed.items;
+}) ≡ greatest (story_of c.self.inside)
+same_greatest c =
+    rw (closings_now c) (
+    last-closes c.self.inside.heard.arrivals (map message_of c.self.inside.sent.items) (map closing_of c.self.inside.closed.items) c.args.p c.args.why
+    (sym (c.self.invariant.peers c.args.p) ∙ among c))
+
+pub invariant_of-self : goal.invariant_of-self
+invariant_of-self c = record {
+  peers =
+      rw (c.remove.ensures.without, closings_now c) (
+      closes c.self.inside.heard.arrivals (map message_of c.self.inside.sent.items) (map closing_of c.self.inside.closed.items)
+      c.self.inside.peers.items c.args.p c.args.why c.self.invariant.peers);
+  last = c.self.invariant.last ∙ sym (same_greatest c);
+  count =
+      let less : length c.remove.new.peers.items < length c.self.inside.peers.items =
+      rw c.remove.ensures.without (shorter-but c.args.p c.self.inside.peers.items (among c)) in
+      omega arith;
+  place = omega arith;
+  peers_room = omega arith;
+  closed_room = omega arith;
+}
+
+pub returns-then-is_among-clause-same_last : goal.returns-then-is_among-clause-same_last
+returns-then-is_among-clause-same_last c = same_greatest c ∙ ap greatest c.self.view_is

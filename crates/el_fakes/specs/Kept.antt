@@ -1,0 +1,10 @@
+-- What a link in memory keeps of its story.
+use Rattle.el_outside.specs.Story.{Message, Closing}
+use Rattle.el_fakes.specs.declared.kept.Sent.{Sent}
+use Rattle.el_fakes.specs.declared.kept.Closed.{Closed}
+
+abbrev pub message_of : Sent → Message
+message_of s = record { peer = s.peer; text = s.text }
+
+abbrev pub closing_of : Closed → Closing
+closing_of c = record { peer = c.peer; why = c.why }

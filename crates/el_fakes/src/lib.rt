@@ -1,0 +1,23 @@
+//! Block files and a link in memory, which tell all their content. Each comes in two forms: one whose chosen calls fail, and one that never fails.
+#![tactic(auto)]
+
+mod archive;
+mod coming;
+mod fronts;
+mod heard;
+mod kept;
+mod link;
+mod peers;
+mod steady_archive;
+mod steady_link;
+mod taking;
+
+pub use archive::MemArchive;
+pub use coming::Coming;
+pub use kept::{Closed, Sent};
+pub use link::MemLink;
+pub use steady_archive::SteadyArchive;
+pub use steady_link::SteadyLink;
+
+#[cfg(test)]
+mod tests;

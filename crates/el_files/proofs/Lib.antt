@@ -1,0 +1,6 @@
+pub mod Appends
+pub mod Heading
+pub mod Walks
+pub mod Scans
+pub mod ManyFiles
+pub mod Readings

@@ -1,0 +1,50 @@
+use Rattle.std.proofs.Common.{ℕ, List, ◌+◌, arith, refl, sym}
+use Rattle.el_outside.proofs.Stories.{grows_none, grows_more, all_grow_more}
+use Rattle.el_files.specs.Scanning.{IsFoundIn}
+use Rattle.el_files.proofs.Appends.{only_joined, on_err}
+use Rattle.el_files.proofs.Scans.{front_of_file, no_front, walked_to_more, walked_all, walked_front}
+use Rattle.el_files.proofs.scanning.scan_through.Goals as goal
+
+pub returns-in_err-size-clause-front : goal.returns-in_err-size-clause-front
+returns-in_err-size-clause-front g c = λ t.
+    on_err _ _ (front_of_file c.args.magic c.args.file _ (g.A.Archive.bytes c.size.new.self c.args.file) _ c.args.found.now.items c.args.found.now.items
+    (c.in_err-size.ensures.keeps t c.args.file) (grows_none _) (no_front _ _))
+
+pub returns-in_err-at-clause-front : goal.returns-in_err-at-clause-front
+returns-in_err-at-clause-front g c = λ t.
+    let bytes : List ℕ = g.A.Archive.bytes c.size.new.self c.args.file in
+    let w = c.in_err-at.ensures.walked t bytes (sym (c.in_ok-size.ensures.size t)) (c.loop-at.invariant.keeps t c.args.file) in
+    let more = walked_to_more c.args.magic c.args.file c.loop-at.at w.0 (c.loop-at.at + w.0) bytes c.args.found.now.items c.loop-at.found.items c.scan_piece.new.found.items
+    (c.loop-at.invariant.walked t) w.1 refl in
+    on_err _ _ (front_of_file c.args.magic c.args.file _ bytes _ c.args.found.now.items c.scan_piece.new.found.items (c.in_ok-size.ensures.keeps t c.args.file)
+    (grows_more bytes _ _ (c.loop-at.invariant.keeps t c.args.file) (c.in_err-at.ensures.keeps t c.args.file))
+    (walked_front c.args.magic c.args.file (c.loop-at.at + w.0) bytes c.args.found.now.items c.scan_piece.new.found.items more))
+
+pub returns-in_err-at-clause-keeps : goal.returns-in_err-at-clause-keeps
+returns-in_err-at-clause-keeps g c = λ t.
+    all_grow_more _ _ _ (all_grow_more _ _ _ (c.in_ok-size.ensures.keeps t) (c.loop-at.invariant.keeps t)) (c.in_err-at.ensures.keeps t)
+
+pub loop-at-preserved : goal.loop-at-preserved
+loop-at-preserved g c = record {
+  walked = λ t.
+      let bytes : List ℕ = g.A.Archive.bytes c.size.new.self c.args.file in
+      let w = c.in_ok-at.ensures.walked t bytes (sym (c.in_ok-size.ensures.size t)) (c.loop-at.invariant.keeps t c.args.file) in
+      walked_to_more c.args.magic c.args.file c.loop-at.at w.0 c.in_ok-at.at bytes c.args.found.now.items c.loop-at.found.items c.scan_piece.new.found.items
+      (c.loop-at.invariant.walked t) w.1 w.2;
+  nodes = only_joined (IsFoundIn c.args.file) c.args.found.now.items c.loop-at.found.items c.scan_piece.new.found.items c.loop-at.invariant.nodes c.in_ok-at.ensures.nodes;
+  keeps = λ t. all_grow_more _ _ _ (c.loop-at.invariant.keeps t) (c.in_ok-at.ensures.keeps t);
+  later = omega (arith, c.in_ok-at.ensures.never_falls);
+  within = omega (arith, c.in_ok-at.ensures.goes);
+}
+
+pub returns-clause-records : goal.returns-clause-records
+returns-clause-records g c = λ t.
+    let bytes : List ℕ = g.A.Archive.bytes c.size.new.self c.args.file in (
+      bytes,
+      record { grew = c.in_ok-size.ensures.keeps t c.args.file; grows = c.loop-at.invariant.keeps t c.args.file },
+      walked_all c.args.magic c.args.file c.loop-at.at c.in_ok-size.size bytes c.args.found.now.items c.loop-at.found.items (c.loop-at.invariant.walked t)
+          (sym (c.in_ok-size.ensures.size t)) (omega arith),
+    )
+
+pub returns-clause-keeps : goal.returns-clause-keeps
+returns-clause-keeps g c = λ t. all_grow_more _ _ _ (c.in_ok-size.ensures.keeps t) (c.loop-at.invariant.keeps t)

@@ -1,0 +1,19 @@
+use Rattle.std.proofs.Common.{◌-◌, ◌≤◌}
+use Rattle.el_outside.specs.Files.{AllGrow}
+use Rattle.el_files.specs.Appending.{AppendsOnly}
+use Rattle.el_files.specs.Scanning.{IsFoundIn}
+use Rattle.el_files.specs.Walking.{WalkedTo}
+use Rattle.el_files.proofs.scanning.scan_through.Given as goal
+
+abbrev pub invariant-loop-at : goal.invariant-loop-at
+invariant-loop-at g l = record {
+  walked : g.A.Archive.tells
+      → WalkedTo l.magic l.file l.at (g.A.Archive.bytes l.initial.archive l.file) l.initial.found.items l.found.items;
+  nodes : AppendsOnly (IsFoundIn l.file) l.initial.found.items l.found.items;
+  keeps : g.A.Archive.tells → AllGrow (g.A.Archive.bytes l.initial.archive) (g.A.Archive.bytes l.archive);
+  later : g.A.Archive.faults l.initial.archive ≤ g.A.Archive.faults l.archive;
+  within : l.at ≤ l.size;
+}
+
+abbrev pub decreases-loop-at : goal.decreases-loop-at
+decreases-loop-at g l = l.size - l.at

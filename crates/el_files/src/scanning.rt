@@ -1,0 +1,140 @@
+// The scan of block files.
+ghost use Rattle.std.specs.Prelude.{◌≡◌, ◌+◌, ◌<◌, ◌≤◌, ◌^◌, ◌⊎◌, ℕ, List, ◌++◌, length, drop, IfOk, OnOk, OnErr, IsErrOf};
+ghost use Rattle.el_outside.specs.Counts.{RoseBy};
+ghost use Rattle.el_outside.specs.Files.{Grows, AllGrow, IsFile};
+ghost use Rattle.el_model.specs.Records.{records, records_of_files};
+ghost use Rattle.el_files.specs.Appending.{AppendsOnly, AppendsFront};
+ghost use Rattle.el_files.specs.Scanning.{IsFoundIn, IsFoundBelow, AllFiles};
+ghost use Rattle.el_files.specs.Walking.{Walked};
+
+use crate::fault::ScanFault;
+use crate::filling::{fill, zeros};
+use crate::walk::walk;
+use el_model::Node;
+use el_outside::Archive;
+use std::alloc::Global;
+
+/// How many bytes are read in one piece.
+const PIECE: u64 = 65_536;
+
+/// A record has at least so many bytes: magic, size and the smallest block.
+const SMALLEST: u64 = 89;
+
+// Reads the piece at the place of a file of this size, appends the blocks whose heads stand in it, and answers the place to go on from. A file that gives
+// fewer bytes than its size promised ends there.
+fn scan_piece<A: Archive>(
+    archive: &mut A,
+    magic: [u8; 4],
+    file: u32,
+    at: u64,
+    size: u64,
+    buffer: &mut [u8],
+    found: &mut Vec<Node>,
+) -> Result<u64, ScanFault>
+    requires place { at + 89 ≤ size }
+    requires size { size < 2 ^ 62 }
+    requires buffer { length buffer.old ≡ 65536 }
+    // What was appended are the records that were passed.
+    ensures walked { A.tells → (bytes : List ℕ) → length bytes ≡ size → Grows bytes (A.bytes archive.old file)
+        → (passed : ℕ) × Walked magic file at passed (drop at bytes) found.old.items found.new.items × IfOk result (λ next. next ≡ at + passed) }
+    ensures nodes { AppendsOnly (IsFoundIn file) found.old.items found.new.items }
+    ensures goes { IfOk result (λ next. (at < next) × (next ≤ size)) }
+    ensures keeps { A.tells → AllGrow (A.bytes archive.old) (A.bytes archive.new) }
+    ensures never_falls { A.faults archive.old ≤ A.faults archive.new }
+    ensures failed { IsErrOf result ScanFault.ArchiveFailed → RoseBy (A.faults archive.old) (A.faults archive.new) 1 }
+{
+    let left = size - at;
+    let wanted = left.min(PIECE) as usize;
+    if !fill(archive, file, at, &mut buffer[..wanted])? {
+        return Ok(size);
+    }
+    let passed = walk(&buffer[..wanted], magic, file, at, left, found)?;
+    Ok(at + passed)
+}
+
+// Scans one file through the buffer, as `scan_file` does.
+fn scan_through<A: Archive>(
+    archive: &mut A,
+    magic: [u8; 4],
+    file: u32,
+    buffer: &mut [u8],
+    found: &mut Vec<Node>,
+) -> Result<(), ScanFault>
+    requires { length buffer.old ≡ 65536 }
+    ensures records { A.tells → OnOk result ((bytes : List ℕ) × IsFile (A.bytes archive.old file) bytes (A.bytes archive.new file)
+        × (found.new.items ≡ found.old.items ++ records magic file bytes)) }
+    ensures front { A.tells → OnErr result ((bytes : List ℕ) × IsFile (A.bytes archive.old file) bytes (A.bytes archive.new file)
+        × AppendsFront (records magic file bytes) found.old.items found.new.items) }
+    ensures nodes { AppendsOnly (IsFoundIn file) found.old.items found.new.items }
+    ensures keeps { A.tells → AllGrow (A.bytes archive.old) (A.bytes archive.new) }
+    ensures never_falls { A.faults archive.old ≤ A.faults archive.new }
+    ensures failed { IsErrOf result ScanFault.ArchiveFailed → RoseBy (A.faults archive.old) (A.faults archive.new) 1 }
+{
+    let size = archive.size(file)?;
+    let mut at = 0u64;
+    while at + SMALLEST <= size {
+        at = scan_piece(archive, magic, file, at, size, buffer, found)?;
+    }
+    Ok(())
+}
+
+/// Appends the blocks of one file, in the order in which their records stand. A record is the network's magic, the block's size in four bytes, the
+/// lowest first, from 81 to 4,000,000, and so many bytes of block. What stands between records is passed over byte by byte. The file is read in
+/// pieces of 65,536 bytes, up to the size that it has at the first look. No block is read but its header.
+///
+/// # Errors
+///
+/// `ScanFault::ArchiveFailed` where a call of the block files failed, and `ScanFault::Memory` for want of memory. What was found before it was appended.
+pub fn scan_file<A: Archive>(
+    alloc: Global,
+    archive: &mut A,
+    magic: [u8; 4],
+    file: u32,
+    found: &mut Vec<Node>,
+) -> Result<(), ScanFault>
+    // All records of the file were appended, as it was when its size was told.
+    ensures records { A.tells → OnOk result ((bytes : List ℕ) × IsFile (A.bytes archive.old file) bytes (A.bytes archive.new file)
+        × (found.new.items ≡ found.old.items ++ records magic file bytes)) }
+    // On an error a front of them was.
+    ensures front { A.tells → OnErr result ((bytes : List ℕ) × IsFile (A.bytes archive.old file) bytes (A.bytes archive.new file)
+        × AppendsFront (records magic file bytes) found.old.items found.new.items) }
+    // Whatever the file is, what was appended are nodes of it.
+    ensures nodes { AppendsOnly (IsFoundIn file) found.old.items found.new.items }
+    ensures keeps { A.tells → AllGrow (A.bytes archive.old) (A.bytes archive.new) }
+    ensures never_falls { A.faults archive.old ≤ A.faults archive.new }
+    ensures failed { IsErrOf result ScanFault.ArchiveFailed → RoseBy (A.faults archive.old) (A.faults archive.new) 1 }
+{
+    let mut buffer = zeros(alloc, PIECE as usize)?;
+    scan_through(archive, magic, file, buffer.as_mut_slice(), found)
+}
+
+/// Appends the blocks of all files, in the order of the files' numbers and then of the places of their records, as `scan_file` does.
+///
+/// # Errors
+///
+/// `ScanFault::ArchiveFailed` where a call of the block files failed, and `ScanFault::Memory` for want of memory. What was found before it was appended.
+pub fn scan<A: Archive>(
+    alloc: Global,
+    archive: &mut A,
+    magic: [u8; 4],
+    found: &mut Vec<Node>,
+) -> Result<(), ScanFault>
+    // All records of all files were appended, each file as it was when its size was told.
+    ensures records { A.tells → OnOk result ((all : AllFiles (A.bytes archive.old) (A.bytes archive.new))
+        × (found.new.items ≡ found.old.items ++ records_of_files magic all.count all.files)) }
+    // On an error a front of them was, which is empty where the number of files was not told.
+    ensures front { A.tells → OnErr result ((found.new.items ≡ found.old.items) ⊎ ((all : AllFiles (A.bytes archive.old) (A.bytes archive.new))
+        × AppendsFront (records_of_files magic all.count all.files) found.old.items found.new.items)) }
+    // Whatever the files are, what was appended are nodes of files that there can be.
+    ensures nodes { AppendsOnly (IsFoundBelow 100000) found.old.items found.new.items }
+    ensures keeps { A.tells → AllGrow (A.bytes archive.old) (A.bytes archive.new) }
+    ensures never_falls { A.faults archive.old ≤ A.faults archive.new }
+    ensures failed { IsErrOf result ScanFault.ArchiveFailed → RoseBy (A.faults archive.old) (A.faults archive.new) 1 }
+{
+    let mut buffer = zeros(alloc, PIECE as usize)?;
+    let count = archive.files()?;
+    for file in 0..count {
+        scan_through(archive, magic, file, buffer.as_mut_slice(), found)?;
+    }
+    Ok(())
+}

@@ -1,0 +1,304 @@
+// The coins behind a block.
+ghost use Rattle.std.specs.Prelude.{◌≡◌, ◌⊎◌, ◌+◌, ◌<◌, ◌≤◌, ◌^◌, ◌++◌, ◌∷◌, [], ℕ, List, length, sum_by, None, Some, Ok, IfOk, IfErr, IfSome, OnOk, OnErr, MatchResult, if◌then◌else◌};
+ghost use Rattle.std.specs.List.{AllByRecursion};
+ghost use Rattle.el_tx.specs.Spelling.{max_money};
+ghost use Rattle.el_tx.specs.Hashing as hashing;
+ghost use Rattle.el_model.specs.declared.coin.Coin as coin_shape;
+ghost use Rattle.el_tx.specs.declared.types.TxOut as output_shape;
+ghost use Rattle.el_tx.specs.declared.types.Outpoint as outpoint_shape;
+ghost use Rattle.el_model.specs.Blocks.{IsSpelled, tip};
+ghost use Rattle.el_model.specs.Coins as spec;
+ghost use Rattle.el_model.specs.Faults.{has_coin, missing_input, missing_fault, tx_fault, fault_in, fault as block_fault};
+ghost use Rattle.el_model.specs.CoinLayers.{Holds, IsKept, bounds_fault};
+ghost use Rattle.el_model.specs.CoinTables.{coin_by, coin_over, value_in, FitsBlock};
+
+use crate::block::Placed;
+use crate::coin::Coin;
+use crate::fault::ConnectFault;
+use el_base::{Hash32, OutOfMemory, sha256};
+use el_tx::{Outpoint, Tx, TxIn, TxOut, is_coinbase, txid};
+use indexmap::IndexMap;
+use std::alloc::{AllocError, Global};
+
+// How many rows a table can have, so that the number of a row has 32 bits.
+const ROW_LIMIT: u32 = 4_294_967_295;
+
+// The number of the table of blocks.
+const BLOCKS: u8 = 1;
+
+// All the money that there can be, in satoshi.
+const MAX_MONEY: u64 = 2_100_000_000_000_000;
+
+/// Coins by their outpoints, and what all of them hold together, in satoshi. None stands where a coin was taken.
+#[derive(Debug, Drop)]
+pub struct CoinTable {
+    pub map: IndexMap<Outpoint, Option<Coin>>,
+    pub supply: u64,
+}
+
+// The coin of an outpoint, where the changes lie over the base.
+fn coin_at(base: &CoinTable, changes: &CoinTable, outpoint: &Outpoint) -> Option<Coin>
+    ensures { result ≡ coin_over base.now.map changes.now.map outpoint.now }
+{
+    match changes.map.get(outpoint) {
+        Some(coin) => *coin,
+        None => match base.map.get(outpoint) {
+            Some(coin) => *coin,
+            None => None,
+        },
+    }
+}
+
+// What the coin holds, in satoshi.
+fn value_of(coin: &Option<Coin>) -> u64
+    ensures { result ≡ value_in coin.now }
+{
+    match coin {
+        Some(coin) => coin.value,
+        None => 0,
+    }
+}
+
+// Gives the outpoint that coin, or none, in the changes.
+fn set_coin(
+    base: &CoinTable,
+    changes: &mut CoinTable,
+    outpoint: Outpoint,
+    coin: Option<Coin>,
+) -> Result<(), OutOfMemory>
+    requires held { value_in (coin_over base.now.map changes.old.map outpoint) ≤ changes.old.supply }
+    requires fits { IfSome coin (λ c. changes.old.supply + c.value < 2 ^ 64) }
+    ensures set { OnOk result ((o : outpoint_shape.Outpoint) → coin_over base.now.map changes.new.map o ≡ (if spec.same_outpoint outpoint o then coin else coin_over base.now.map changes.old.map o)) }
+    ensures sum { OnOk result (changes.new.supply + value_in (coin_over base.now.map changes.old.map outpoint) ≡ changes.old.supply + value_in coin) }
+{
+    let replaced = coin_at(base, changes, &outpoint);
+    changes.map.insert(outpoint, coin)?;
+    changes.supply = changes.supply - value_of(&replaced) + value_of(&coin);
+    Ok(())
+}
+
+// Takes the coin of the outpoint, if it is there, and says whether it was.
+fn take_coin(
+    base: &CoinTable,
+    changes: &mut CoinTable,
+    outpoint: Outpoint,
+) -> Result<bool, OutOfMemory>
+    requires { (coins : List coin_shape.Coin) × Holds base.now changes.old coins }
+    ensures there { (coins : List coin_shape.Coin) → Holds base.now changes.old coins → IfOk result (λ there. there ≡ has_coin outpoint coins) }
+    ensures taken { (coins : List coin_shape.Coin) → Holds base.now changes.old coins → OnOk result (Holds base.now changes.new (spec.without outpoint coins)) }
+    ensures less { OnOk result (changes.new.supply ≤ changes.old.supply) }
+{
+    if coin_at(base, changes, &outpoint).is_none() {
+        return Ok(false);
+    }
+    set_coin(base, changes, outpoint, None)?;
+    Ok(true)
+}
+
+// Puts the coin in the place of one that is there under its outpoint.
+fn put_coin(base: &CoinTable, changes: &mut CoinTable, coin: Coin) -> Result<(), OutOfMemory>
+    requires stands { (coins : List coin_shape.Coin) × Holds base.now changes.old coins }
+    requires fits { changes.old.supply + coin.value < 2 ^ 64 }
+    ensures put { (coins : List coin_shape.Coin) → Holds base.now changes.old coins → OnOk result (Holds base.now changes.new (spec.put coin coins)) }
+    ensures more { OnOk result (changes.new.supply ≤ changes.old.supply + coin.value) }
+{
+    set_coin(base, changes, coin.outpoint, Some(coin))?;
+    Ok(())
+}
+
+// Takes the coin of each input, up to the first that is not there, whose number it gives.
+fn take_inputs(
+    base: &CoinTable,
+    changes: &mut CoinTable,
+    inputs: &[TxIn],
+) -> Result<Option<usize>, OutOfMemory>
+    requires { (coins : List coin_shape.Coin) × Holds base.now changes.old coins }
+    ensures missing { (coins : List coin_shape.Coin) → Holds base.now changes.old coins → IfOk result (λ number. number ≡ missing_input 0 inputs.now coins) }
+    ensures taken { (coins : List coin_shape.Coin) → Holds base.now changes.old coins → result ≡ Ok None → Holds base.now changes.new (spec.take_inputs inputs.now coins) }
+    ensures less { OnOk result (changes.new.supply ≤ changes.old.supply) }
+{
+    for (number, input) in inputs.iter().enumerate() {
+        if !take_coin(base, changes, input.from)? {
+            return Ok(Some(number));
+        }
+    }
+    Ok(None)
+}
+
+/// Whether these are the inputs of a coinbase: one input, which names no output, by 32 zero bytes and the index 2^32 - 1.
+pub fn names_no_output(tx: &Tx) -> bool
+    ensures { result ≡ spec.names_no_output tx.now.inputs }
+{
+    is_coinbase(tx)
+}
+
+// Takes the coins of a transaction with that index in its block; a coinbase takes none.
+fn take_all(
+    base: &CoinTable,
+    changes: &mut CoinTable,
+    index: usize,
+    tx: &Tx,
+) -> Result<(), ConnectFault>
+    requires { (coins : List coin_shape.Coin) × Holds base.now changes.old coins }
+    ensures fault { (coins : List coin_shape.Coin) → Holds base.now changes.old coins → IfErr result (λ e. (e ≡ ConnectFault.Memory) ⊎ (missing_fault index tx.now coins ≡ Some e)) }
+    ensures none { (coins : List coin_shape.Coin) → Holds base.now changes.old coins → OnOk result (missing_fault index tx.now coins ≡ None) }
+    ensures left { (coins : List coin_shape.Coin) → Holds base.now changes.old coins → OnOk result (Holds base.now changes.new (spec.coins_left tx.now coins)) }
+    ensures less { OnOk result (changes.new.supply ≤ changes.old.supply) }
+{
+    if names_no_output(tx) {
+        return Ok(());
+    }
+    match take_inputs(base, changes, tx.inputs.as_slice())? {
+        None => Ok(()),
+        Some(input) => Err(ConnectFault::MissingCoin { tx: index, input }),
+    }
+}
+
+// Puts the coins of a transaction's outputs, in their order.
+fn put_outputs(
+    base: &CoinTable,
+    changes: &mut CoinTable,
+    height: u32,
+    txid: Hash32,
+    outputs: &[TxOut],
+) -> Result<(), OutOfMemory>
+    requires stands { (coins : List coin_shape.Coin) × Holds base.now changes.old coins }
+    requires few { length outputs.now < 2 ^ 32 }
+    requires fits { changes.old.supply + sum_by (λ (o : output_shape.TxOut). o.value) outputs.now < 2 ^ 64 }
+    ensures { (coins : List coin_shape.Coin) → Holds base.now changes.old coins → OnOk result (Holds base.now changes.new (spec.put_outputs txid height 0 outputs.now coins)) }
+{
+    for (index, output) in outputs.iter().enumerate() {
+        let coin = Coin {
+            outpoint: Outpoint {
+                txid,
+                index: index as u32,
+            },
+            value: output.value,
+            script: sha256(output.script.as_slice()),
+            height,
+        };
+        put_coin(base, changes, coin)?;
+    }
+    Ok(())
+}
+
+// The faults of a transaction that come after its inputs: all coins hold more than there can be, or the table of blocks is full.
+fn check_bounds(supply: u64, height: u32, index: usize) -> Result<(), ConnectFault>
+    ensures { MatchResult result (λ _. bounds_fault supply height index ≡ None) (λ e. bounds_fault supply height index ≡ Some e) }
+{
+    if supply > MAX_MONEY {
+        return Err(ConnectFault::Money {
+            supply: u128::from(supply),
+        });
+    }
+    if index == 0 && height == ROW_LIMIT {
+        return Err(ConnectFault::Full {
+            table: BLOCKS,
+            rows: u64::from(ROW_LIMIT),
+        });
+    }
+    Ok(())
+}
+
+// The coins behind a transaction of a block at that height, where it has that index.
+fn connect_tx(
+    alloc: Global,
+    base: &CoinTable,
+    changes: &mut CoinTable,
+    height: u32,
+    index: usize,
+    tx: &Tx,
+) -> Result<(), ConnectFault>
+    requires stands { (coins : List coin_shape.Coin) × Holds base.now changes.old coins }
+    requires fits { FitsBlock tx.now }
+    requires money { changes.old.supply ≤ max_money }
+    ensures fault { (coins : List coin_shape.Coin) → Holds base.now changes.old coins → IfErr result (λ e. (e ≡ ConnectFault.Memory) ⊎ (tx_fault height index tx.now coins ≡ Some e)) }
+    ensures none { (coins : List coin_shape.Coin) → Holds base.now changes.old coins → OnOk result (tx_fault height index tx.now coins ≡ None) }
+    ensures behind { (coins : List coin_shape.Coin) → Holds base.now changes.old coins → OnOk result (Holds base.now changes.new (spec.coins_behind height tx.now coins)) }
+    ensures bound { OnOk result (changes.new.supply ≤ max_money) }
+{
+    take_all(base, changes, index, tx)?;
+    let id = txid(alloc, tx)?;
+    put_outputs(base, changes, height, id, tx.outputs.as_slice())?;
+    check_bounds(changes.supply, height, index)?;
+    Ok(())
+}
+
+/// The coins behind the transactions of a block at that height, laid over those before it: those that the block changes, and the new supply.
+///
+/// # Errors
+///
+/// The first fault of the first transaction that has one, or `ConnectFault::Memory` for want of memory.
+pub fn connect(
+    alloc: Global,
+    base: &CoinTable,
+    changes: &mut CoinTable,
+    height: u32,
+    txs: &[Tx],
+) -> Result<(), ConnectFault>
+    requires stands { (coins : List coin_shape.Coin) × Holds base.now changes.old coins }
+    requires fit { AllByRecursion FitsBlock txs.now }
+    requires money { changes.old.supply ≤ max_money }
+    ensures fault { (coins : List coin_shape.Coin) → Holds base.now changes.old coins → IfErr result (λ e. (e ≡ ConnectFault.Memory) ⊎ (fault_in height 0 txs.now coins ≡ Some e)) }
+    ensures none { (coins : List coin_shape.Coin) → Holds base.now changes.old coins → OnOk result (fault_in height 0 txs.now coins ≡ None) }
+    ensures behind { (coins : List coin_shape.Coin) → Holds base.now changes.old coins → OnOk result (Holds base.now changes.new (spec.coins_behind_all height txs.now coins)) }
+    ensures bound { OnOk result (changes.new.supply ≤ max_money) }
+{
+    for (index, tx) in txs.iter().enumerate() {
+        connect_tx(alloc, base, changes, height, index, tx)?;
+    }
+    Ok(())
+}
+
+// Lays the changes over the base. It fails only for want of memory, and then nothing has changed.
+fn lay_over(base: &mut CoinTable, mut changes: CoinTable) -> Result<(), AllocError>
+    ensures laid { OnOk result ((o : outpoint_shape.Outpoint) → coin_by base.new.map o ≡ coin_over base.old.map changes.map o) }
+    ensures supply { OnOk result (base.new.supply ≡ changes.supply) }
+    ensures same { OnErr result (base.new.map.entries ≡ base.old.map.entries) }
+    ensures same_supply { OnErr result (base.new.supply ≡ base.old.supply) }
+{
+    // The length says that no outpoint stands twice in the changes.
+    let _len = changes.map.len();
+    base.map.append(&mut changes.map)?;
+    base.supply = changes.supply;
+    Ok(())
+}
+
+/// Adds a block behind the last, with the coins behind it, unless it has a fault. A refused block changes nothing that can be seen.
+///
+/// # Errors
+///
+/// The block's first fault, or `ConnectFault::Memory` for want of memory.
+pub fn add_block(
+    alloc: Global,
+    blocks: &mut Vec<Placed>,
+    coins: &mut CoinTable,
+    placed: Placed,
+) -> Result<(), ConnectFault>
+    requires kept { IsKept blocks.old.items coins.old }
+    requires spelled { IsSpelled placed.block }
+    requires behind { placed.block.header.previous ≡ tip blocks.old.items }
+    ensures kept { IsKept blocks.new.items coins.new }
+    ensures ok { OnOk result (blocks.new.items ≡ blocks.old.items ++ placed ∷ []) }
+    ensures err { OnErr result (blocks.new.items ≡ blocks.old.items) }
+    ensures faultless { OnOk result (block_fault blocks.old.items placed.block ≡ None) }
+    ensures fault { IfErr result (λ e. (e ≡ ConnectFault.Memory) ⊎ (block_fault blocks.old.items placed.block ≡ Some e)) }
+{
+    let mut changes = CoinTable {
+        map: IndexMap::new(alloc),
+        supply: coins.supply,
+    };
+    let height = blocks.len() as u32;
+    connect(
+        alloc,
+        coins,
+        &mut changes,
+        height,
+        placed.block.txs.as_slice(),
+    )?;
+    blocks.reserve(1)?;
+    lay_over(coins, changes)?;
+    // There is room, so the push succeeds.
+    let _pushed = blocks.push(placed);
+    Ok(())
+}
