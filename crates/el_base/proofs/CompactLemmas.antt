@@ -1,23 +1,20 @@
--- A CompactSize is read where it is spelled, and nowhere else.
-use Rattle.std.proofs.Common.{◌≡◌, ◌⊎◌, inl, inr, ℕ, ◌+◌, ◌<◌, ◌≤◌, ◌^◌, Bool, true, false, cond, List, [], ◌∷◌, ◌++◌, length, take, drop, Result, Ok, Err, refl, sym, ap, subst, zero, suc, ◌∙◌, arith, ltb-false, le-ltb, lt-ltb, ltb-true, eqb-true, ◌==◌, length-append, nat_lt}
+-- A CompactSize is read where it is encoded, and nowhere else.
+use Rattle.std.proofs.Common.{◌≡◌, ◌⊎◌, inl, inr, ℕ, ◌+◌, ◌<◌, ◌≤◌, ◌^◌, Bool, true, false, cond, List, [], ◌∷◌, ◌++◌, length, take, drop, Result, Ok, Err, refl, sym, ap, subst, ◌∙◌, arith, ltb-false, le-ltb, lt-ltb, ltb-true, eqb-true, ◌==◌, length-append, nat_lt}
 use Rattle.std.specs.Int.{Width, w16, w32, w64, byte_len, from_le_bytes, to_le_bytes}
-use Rattle.std.proofs.lemmas.Bool.{eqb-false}
+use Rattle.std.proofs.lemmas.Bool.{eqb-false, cases_Bool}
 use Rattle.std.proofs.lemmas.Nat.{le_bytes_2, le_bytes_4, le_bytes_8, from_le_bytes-to_le_bytes_2, from_le_bytes-to_le_bytes_4, from_le_bytes-to_le_bytes_8}
 use Rattle.std.proofs.lemmas.List.{take_at, take-append-drop, length-take-le}
 use Rattle.el_base.specs.Left.{AreBytes}
 use Rattle.el_base.specs.Compact as spec
-use Rattle.el_base.specs.Compact.{SpellsCompact, compact, EndsInCompact, BeginsLong, StopsCompact}
+use Rattle.el_base.specs.Compact.{EncodesCompact, compact, EndsInCompact, BeginsLong, FirstCompactFault}
 use Rattle.el_base.specs.CompactReading.{number_at, wide_at, width_of}
 use Rattle.el_base.specs.declared.compact.CompactFault.{CompactFault}
 use Rattle.el_base.specs.declared.compact.CompactFault.TheVariants.{Short, LongSpelling}
+use Rattle.el_base.proofs.ByteLemmas.{tail_bytes, front_bytes, below_2, below_4, below_8}
 
 chosen : {A : Type 0} (b : Bool) (x y z : A) → cond b x y ≡ z → ((b ≡ true) × (x ≡ z)) ⊎ ((b ≡ false) × (y ≡ z))
 chosen true x y z e = inl (refl, e)
 chosen false x y z e = inr (refl, e)
-
-chosen_test : (b : Bool) → (b ≡ true) ⊎ (b ≡ false)
-chosen_test true = inl refl
-chosen_test false = inr refl
 
 -- a byte that is none of those before
 last_byte : (b : ℕ) → nat_lt b 253 ≡ false → b == 253 ≡ false → b == 254 ≡ false → b < 256 → b ≡ 255
@@ -58,10 +55,10 @@ wide_takes place w least rest n e =
     ]
 
 -- the parts of a fault
-wide_stops : (place : ℕ) (w : Width) (least : ℕ) (rest : List ℕ) (f : CompactFault) → wide_at place w least rest ≡ Err f
+wide_faults : (place : ℕ) (w : Width) (least : ℕ) (rest : List ℕ) (f : CompactFault) → wide_at place w least rest ≡ Err f
     → ((length rest < byte_len w) × (f ≡ Short place))
     ⊎ ((byte_len w ≤ length rest) × (from_le_bytes w (take (byte_len w) rest) < least) × (f ≡ LongSpelling place))
-wide_stops place w least rest f e =
+wide_faults place w least rest f e =
     elim (chosen (nat_lt (length rest) (byte_len w)) _ _ _ e) [
       | inl h ↦ inl (ltb-true (length rest) (byte_len w) h.0, sym (err_is _ _ h.1))
       | inr h ↦ elim (chosen (nat_lt (from_le_bytes w (take (byte_len w) rest)) least) _ _ _ h.1) [
@@ -85,51 +82,32 @@ wide_long place w least text rest n l v below =
 wide_short : (place : ℕ) (w : Width) (least : ℕ) (rest : List ℕ) → length rest < byte_len w → wide_at place w least rest ≡ Err (Short place)
 wide_short place w least rest lt = rw (lt-ltb (length rest) (byte_len w) lt) refl
 
--- the bytes behind the first
-tail_bytes : (b : ℕ) (rest : List ℕ) → AreBytes (b ∷ rest) → AreBytes rest
-tail_bytes b rest all = λ i. all (suc i)
-
-front_bytes : (n : ℕ) (rest : List ℕ) → AreBytes rest → AreBytes (take n rest)
-front_bytes zero rest all i = omega arith
-front_bytes (suc n) [] all i = omega arith
-front_bytes (suc n) (x ∷ xs) all zero = all 0
-front_bytes (suc n) (x ∷ xs) all (suc i) = front_bytes n xs (λ j. all (suc j)) i
-
-below_2 : (bs : List ℕ) → AreBytes bs → from_le_bytes w16 bs < 2 ^ 16
-below_2 bs fits = omega (arith, fits 0, fits 1)
-
-below_4 : (bs : List ℕ) → AreBytes bs → from_le_bytes w32 bs < 2 ^ 32
-below_4 bs fits = omega (arith, fits 0, fits 1, fits 2, fits 3)
-
-below_8 : (bs : List ℕ) → AreBytes bs → from_le_bytes w64 bs < 2 ^ 64
-below_8 bs fits = omega (arith, fits 0, fits 1, fits 2, fits 3, fits 4, fits 5, fits 6, fits 7)
-
--- each number below 2 ^ 64 has a spelling, and no other
-pub spelled : (n : ℕ) → n < 2 ^ 64 → SpellsCompact (compact n) n
+-- each number below 2 ^ 64 has an encoding, and no other
+pub encoded : (n : ℕ) → n < 2 ^ 64 → EncodesCompact (compact n) n
 unfolding compact
-spelled n lt =
-    elim (chosen_test (nat_lt n 253)) [
+encoded n lt =
+    elim (cases_Bool (nat_lt n 253)) [
       | inl h ↦ spec.one (ltb-true n 253 h) (rw h refl)
-      | inr h ↦ elim (chosen_test (nat_lt n (2 ^ 16))) [
+      | inr h ↦ elim (cases_Bool (nat_lt n (2 ^ 16))) [
         | inl k ↦ spec.two (ltb-false n 253 h) (ltb-true n (2 ^ 16) k) (rw (h, k) refl)
-        | inr k ↦ elim (chosen_test (nat_lt n (2 ^ 32))) [
+        | inr k ↦ elim (cases_Bool (nat_lt n (2 ^ 32))) [
           | inl m ↦ spec.four (ltb-false n (2 ^ 16) k) (ltb-true n (2 ^ 32) m) (rw (h, k, m) refl)
           | inr m ↦ spec.eight (ltb-false n (2 ^ 32) m) lt (rw (h, k, m) refl)
         ]
       ]
     ]
 
-pub only_spelling : (bytes : List ℕ) (n : ℕ) → SpellsCompact bytes n → (n < 2 ^ 64) × (bytes ≡ compact n)
+pub only_encoding : (bytes : List ℕ) (n : ℕ) → EncodesCompact bytes n → (n < 2 ^ 64) × (bytes ≡ compact n)
 unfolding compact
-only_spelling bytes n (spec.one lt is) = (omega arith, rw (is, lt-ltb n 253 lt) refl)
-only_spelling bytes n (spec.two le lt is) = (omega arith, rw (is, le-ltb n 253 le, lt-ltb n (2 ^ 16) lt) refl)
-only_spelling bytes n (spec.four le lt is) = (omega arith, rw (is, le-ltb n 253 (omega arith), le-ltb n (2 ^ 16) le, lt-ltb n (2 ^ 32) lt) refl)
-only_spelling bytes n (spec.eight le lt is) =
+only_encoding bytes n (spec.one lt is) = (omega arith, rw (is, lt-ltb n 253 lt) refl)
+only_encoding bytes n (spec.two le lt is) = (omega arith, rw (is, le-ltb n 253 le, lt-ltb n (2 ^ 16) lt) refl)
+only_encoding bytes n (spec.four le lt is) = (omega arith, rw (is, le-ltb n 253 (omega arith), le-ltb n (2 ^ 16) le, lt-ltb n (2 ^ 32) lt) refl)
+only_encoding bytes n (spec.eight le lt is) =
     (lt, rw (is, le-ltb n 253 (omega arith), le-ltb n (2 ^ 16) (omega arith), le-ltb n (2 ^ 32) le) refl)
 
--- what is read is spelled so
+-- what is read is encoded so
 pub takes : (place : ℕ) (bytes : List ℕ) (n : ℕ) → AreBytes bytes → number_at place bytes ≡ Ok n
-    → (text : List ℕ) × SpellsCompact text n × (bytes ≡ text ++ drop (width_of bytes) bytes) × (length text ≡ width_of bytes)
+    → (text : List ℕ) × EncodesCompact text n × (bytes ≡ text ++ drop (width_of bytes) bytes) × (length text ≡ width_of bytes)
 unfolding number_at
 takes place [] n all e = absurd cc
 takes place (b ∷ rest) n all e =
@@ -170,8 +148,8 @@ takes place (b ∷ rest) n all e =
       ]
     ]
 
--- what is spelled so is read
-pub again : (place : ℕ) (text rest : List ℕ) (n : ℕ) → SpellsCompact text n → number_at place (text ++ rest) ≡ Ok n
+-- what is encoded so is read
+pub again : (place : ℕ) (text rest : List ℕ) (n : ℕ) → EncodesCompact text n → number_at place (text ++ rest) ≡ Ok n
 unfolding number_at
 again place text rest n (spec.one lt is) = rw (is, lt-ltb n 253 lt) refl
 again place text rest n (spec.two le lt is) =
@@ -200,14 +178,14 @@ refuses_short place (b ∷ rest) (inr (inl h)) = rw h.0 (wide_short place w32 (2
 refuses_short place (b ∷ rest) (inr (inr h)) = rw h.0 (wide_short place w64 (2 ^ 32) rest h.1)
 
 -- what is refused has that fault
-pub stops : (place : ℕ) (bytes : List ℕ) (f : CompactFault) → AreBytes bytes → number_at place bytes ≡ Err f → StopsCompact place bytes f
+pub first_fault : (place : ℕ) (bytes : List ℕ) (f : CompactFault) → AreBytes bytes → number_at place bytes ≡ Err f → FirstCompactFault place bytes f
 unfolding number_at
-stops place [] f all e = let is : Short place ≡ f = err_is _ _ e in subst (StopsCompact place []) is (tt, refl)
-stops place (b ∷ rest) f all e =
+first_fault place [] f all e = let is : Short place ≡ f = err_is _ _ e in subst (FirstCompactFault place []) is (tt, refl)
+first_fault place (b ∷ rest) f all e =
     elim (chosen (nat_lt b 253) _ _ _ e) [
       | inl h ↦ absurd (let m = h.1 in cc)
       | inr h ↦ elim (chosen (b == 253) _ _ _ h.1) [
-        | inl k ↦ elim (wide_stops place w16 253 rest f k.1) [
+        | inl k ↦ elim (wide_faults place w16 253 rest f k.1) [
           | inl s ↦ rw s.1 (inl (eqb-true b 253 k.0, s.0), refl)
           | inr s ↦
               let fits = front_bytes 2 rest (tail_bytes b rest all) in
@@ -219,7 +197,7 @@ stops place (b ∷ rest) f all e =
               )
         ]
         | inr k ↦ elim (chosen (b == 254) _ _ _ k.1) [
-          | inl m ↦ elim (wide_stops place w32 (2 ^ 16) rest f m.1) [
+          | inl m ↦ elim (wide_faults place w32 (2 ^ 16) rest f m.1) [
             | inl s ↦ rw s.1 (inr (inl (eqb-true b 254 m.0, s.0)), refl)
             | inr s ↦
                 let fits = front_bytes 4 rest (tail_bytes b rest all) in
@@ -230,7 +208,7 @@ stops place (b ∷ rest) f all e =
                   refl,
                 )
           ]
-          | inr m ↦ elim (wide_stops place w64 (2 ^ 32) rest f m.1) [
+          | inr m ↦ elim (wide_faults place w64 (2 ^ 32) rest f m.1) [
             | inl s ↦ rw s.1 (inr (inr (last_byte b h.0 k.0 m.0 (all 0), s.0)), refl)
             | inr s ↦
                 let fits = front_bytes 8 rest (tail_bytes b rest all) in
@@ -245,7 +223,7 @@ stops place (b ∷ rest) f all e =
       ]
     ]
 
--- as many bytes are there as spell it
+-- as many bytes are there as encode it
 pub wide_enough : (place : ℕ) (bytes : List ℕ) (n : ℕ) → AreBytes bytes → number_at place bytes ≡ Ok n → width_of bytes ≤ length bytes
 wide_enough place bytes n all e =
     let t = takes place bytes n all e in
@@ -254,10 +232,10 @@ wide_enough place bytes n all e =
     let joined = length-append t.0 (drop (width_of bytes) bytes) in
     omega arith
 
--- the spelling was passed
+-- the encoding was passed
 pub passed : (place : ℕ) (bytes : List ℕ) (n : ℕ) → AreBytes bytes → number_at place bytes ≡ Ok n
-    → SpellsCompact (compact n) n × (bytes ≡ compact n ++ drop (width_of bytes) bytes) × (place + width_of bytes ≡ place + length (compact n))
+    → EncodesCompact (compact n) n × (bytes ≡ compact n ++ drop (width_of bytes) bytes) × (place + width_of bytes ≡ place + length (compact n))
 passed place bytes n all e =
     let t = takes place bytes n all e in
-    let only = only_spelling t.0 n t.1 in
-    (spelled n only.0, t.2 ∙ ap (λ (text : List ℕ). text ++ drop (width_of bytes) bytes) only.1, ap (λ k. place + k) (sym t.3 ∙ ap length only.1))
+    let only = only_encoding t.0 n t.1 in
+    (encoded n only.0, t.2 ∙ ap (λ (text : List ℕ). text ++ drop (width_of bytes) bytes) only.1, ap (λ k. place + k) (sym t.3 ∙ ap length only.1))

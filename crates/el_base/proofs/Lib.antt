@@ -1,2 +1,4 @@
+pub mod ByteLemmas
 pub mod CompactLemmas
+pub mod Lists
 mod ShownLemmas

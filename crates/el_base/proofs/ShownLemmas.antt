@@ -5,7 +5,7 @@ use Rattle.hex.specs.Hex.{decode_of, decode_sized}
 use Rattle.hex.specs.declared.error.FromHexError.{FromHexError}
 use Rattle.hex.proofs.HexLemmas.{decode_of-err, decode_sized-twice}
 use Rattle.el_base.specs.Shown.{IsFirstBadDigit}
-use Rattle.el_base.specs.HexFaults.{bad_place_of}
+use Rattle.el_base.specs.within.HexFaults.{bad_place_of}
 
 -- a refusal of 64 bytes names a bad digit
 pub refused : (text : List ℕ) (fault : FromHexError) → length text ≡ 64 → decode_of text ≡ Err fault

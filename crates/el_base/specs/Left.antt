@@ -6,9 +6,9 @@ pub record Left : Type 0 where
   pub place : ℕ
   pub rest : List ℕ
 
--- behind the next n bytes
-abbrev pub behind : ℕ → Left → Left
-behind n left = record { place = left.place + n; rest = drop n left.rest }
+-- after the next n bytes
+abbrev pub after : ℕ → Left → Left
+after n left = record { place = left.place + n; rest = drop n left.rest }
 
 -- each is below 256
 abbrev pub AreBytes : List ℕ → Type 0

@@ -3,4 +3,4 @@ pub mod Shown
 pub mod Left
 pub mod Compact
 pub mod CompactReading
-pub mod HexFaults
+pub mod within

@@ -8,8 +8,8 @@ use crate::memory::OutOfMemory;
 use std::alloc::Global;
 use std::marker::Model;
 
-/// Bytes, which contracts see as the list of their values, each from 0 to 255, first to last. It is a `Vec` underneath and gives it back without
-/// taking memory. Two are equal if their lists are.
+/// Bytes, which contracts see as the list of their values, each from 0 to 255, first to last. It is a `Vec`
+/// underneath. Two are equal if their lists are.
 #[derive(Debug, Drop)]
 pub struct Bytes {
     list: Vec<u8>,
@@ -38,7 +38,7 @@ impl Bytes {
         Bytes { list }
     }
 
-    /// A copy of the bytes. It fails only for want of memory.
+    /// A copy of the bytes. Fails only where memory runs out.
     pub fn from_slice(alloc: Global, bytes: &[u8]) -> Result<Bytes, OutOfMemory>
         ensures { IfOk result (λ b. b ≡ bytes.now) }
     {
@@ -74,7 +74,7 @@ impl Bytes {
         self.list.as_slice()
     }
 
-    /// Adds bytes at the end, in their order. It fails only for want of memory, and then nothing has changed.
+    /// Adds bytes at the end, in their order. Fails only where memory runs out.
     pub fn extend(&mut self, bytes: &[u8]) -> Result<(), OutOfMemory>
         ensures ok { OnOk result (self.new ≡ self.old ++ bytes.now) }
         ensures err { OnErr result (self.new ≡ self.old) }

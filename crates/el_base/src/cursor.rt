@@ -1,10 +1,11 @@
 // A cursor over bytes.
 ghost use Rattle.std.specs.Prelude.{◌≡◌, ◌<◌, ◌≤◌, length, take, IfOk, IfErr};
-ghost use Rattle.el_base.specs.Left.{behind};
+ghost use Rattle.el_base.specs.Left.{after};
 
 use std::marker::Model;
 
-/// Fewer bytes are left than were asked for. `place` is that of the next byte, counted from 0 at the first byte that the cursor was made over.
+/// Fewer bytes are left than were asked for. `place` is that of the next byte, counted from 0 at the first
+/// byte that the cursor was made over.
 #[derive(Clone, Copy, Debug, PartialEq, Eq, thiserror::Error)]
 #[error("bytes end too early at {place}")]
 pub struct Short {
@@ -12,7 +13,8 @@ pub struct Short {
     pub place: usize,
 }
 
-/// Reads a slice of bytes from left to right. Contracts see the place of the next byte, counted from 0, and the bytes that are left.
+/// Reads a slice of bytes from left to right. Contracts see the place of the next byte, counted from 0, and
+/// the bytes that are left.
 #[derive(Debug, Drop)]
 pub struct Cursor<'a> {
     rest: &'a [u8],
@@ -41,7 +43,8 @@ impl<'a> Cursor<'a> {
         }
     }
 
-    /// The place of the next byte, counted from 0 at the first byte that the cursor was made over: how many bytes it has passed.
+    /// The place of the next byte, counted from 0 at the first byte that the cursor was made over: how many
+    /// bytes it has passed.
     pub fn place(&self) -> usize
         ensures { result ≡ self.now.place }
     {
@@ -62,12 +65,12 @@ impl<'a> Cursor<'a> {
         self.rest
     }
 
-    /// The next n bytes, behind which the cursor then stands. Where fewer are left, `Short` at its place, and the cursor stays.
+    /// Reads the next n bytes and passes them. The error is that fewer are left, and then the cursor stays.
     pub fn take(&mut self, n: usize) -> Result<&'a [u8], Short>
-        ensures taken { IfOk result (λ front. (n ≤ length self.old.rest) × (front.now ≡ take n self.old.rest)
-            × (self.new ≡ behind n self.old)) }
-        ensures short { IfErr result (λ e. (length self.old.rest < n) × (e ≡ record { place = self.old.place })
-            × (self.new ≡ self.old)) }
+        ensures taken { IfOk result (λ front. (n ≤ length self.old.rest)
+            × (front.now ≡ take n self.old.rest) × (self.new ≡ after n self.old)) }
+        ensures short { IfErr result (λ e. (length self.old.rest < n)
+            × (e ≡ record { place = self.old.place }) × (self.new ≡ self.old)) }
     {
         if self.rest.len() < n {
             return Err(Short { place: self.place });
@@ -79,7 +82,7 @@ impl<'a> Cursor<'a> {
     pub(crate) fn pass(&mut self, n: usize) -> &'a [u8]
         requires { n ≤ length self.old.rest }
         ensures front { result.now ≡ take n self.old.rest }
-        ensures passed { self.new ≡ behind n self.old }
+        ensures passed { self.new ≡ after n self.old }
     {
         let (front, back) = self.rest.split_at(n);
         self.rest = back;

@@ -1,5 +1,6 @@
-//! Hashes (SHA-256 of FIPS 180-4) and the text that they are shown by, CompactSize of Bitcoin's serialization, a cursor over bytes, what every
-//! layer keeps bytes, text and values in, want of memory, and a counter of rows read.
+//! Hashes (SHA-256 of FIPS 180-4) and the text that they are shown by, CompactSize of Bitcoin's
+//! serialization, a cursor over bytes, what every layer keeps bytes, text and values in, the error of an
+//! allocation, and a counter of rows read.
 #![tactic(auto)]
 
 mod bytes;
@@ -14,10 +15,10 @@ mod steps;
 mod text;
 
 pub use bytes::Bytes;
-pub use compact::{CompactFault, read_compact, write_compact};
+pub use compact::{CompactFault, compact_len, read_compact, write_compact};
 pub use cursor::{Cursor, Short};
 pub use hash::{Hash32, sha256, sha256d};
-pub use laws::{compact_is_prefix_free, compact_is_the_spelling};
+pub use laws::{compact_is_prefix_free, compact_is_the_encoding};
 pub use listed::Listed;
 pub use memory::OutOfMemory;
 pub use shown::HexFault;

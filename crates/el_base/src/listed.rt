@@ -5,7 +5,7 @@ use crate::memory::OutOfMemory;
 use std::alloc::Global;
 use std::marker::Model;
 
-/// Values in order, which contracts see as a list, first to last. It is a `Vec` underneath and gives it back without taking memory.
+/// Values in order, which contracts see as a list, first to last. It is a `Vec` underneath.
 #[derive(Debug, Drop)]
 pub struct Listed<T> {
     list: Vec<T>,
@@ -66,7 +66,7 @@ impl<T> Listed<T> {
 }
 
 impl<T: Drop> Listed<T> {
-    /// Adds a value at the end. It fails only for want of memory, and then nothing has changed but that the value is let go.
+    /// Adds a value at the end. Fails only where memory runs out, and then lets the value go.
     pub fn push(&mut self, value: T) -> Result<(), OutOfMemory>
         ensures ok { OnOk result (self.new ≡ self.old ++ value ∷ []) }
         ensures err { OnErr result (self.new ≡ self.old) }

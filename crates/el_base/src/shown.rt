@@ -1,7 +1,7 @@
 // The shown text of a hash.
 ghost use Rattle.std.specs.Prelude.{◌≡◌, ◌≢◌, ℕ, List, IfOk, IfErr, IsOk};
 ghost use Rattle.el_base.specs.Shown.{shown, Shows, ShowsNothing};
-ghost use Rattle.el_base.specs.HexFaults.{bad_place_of};
+ghost use Rattle.el_base.specs.within.HexFaults.{bad_place_of};
 
 use crate::hash::Hash32;
 use hex::FromHexError;
@@ -28,8 +28,8 @@ fn bad_place(fault: FromHexError) -> Option<usize>
 }
 
 impl Hash32 {
-    /// The hash as Bitcoin's programs show it: 64 lower-case hex digits, in ASCII, two for each byte, the higher half first, and the bytes from
-    /// the last of the inner order to the first. It never fails and takes no memory.
+    /// The hash as Bitcoin's programs show it: 64 lower-case hex digits in ASCII, two for each byte, the
+    /// higher half first, and the bytes from the last of the inner order to the first. Takes no memory.
     pub fn shown(&self) -> [u8; 64]
         ensures { result ≡ shown self.now.0 }
     {
@@ -40,12 +40,25 @@ impl Hash32 {
         text
     }
 
-    /// The hash that a text of 64 hex digits shows, in upper case, lower case or both, with no sign, prefix or space. Takes no memory.
+    /// The hash that a text of 64 hex digits shows, in upper case, lower case or both, with no sign, prefix
+    /// or space. Takes no memory.
     pub fn from_shown(text: &str) -> Result<Hash32, HexFault>
         ensures read { IfOk result (λ hash. Shows text.now hash.0) }
         ensures fault { IfErr result (ShowsNothing text.now) }
         // What shows a hash is read.
-        ensures only { (hash : List ℕ) → Shows text.now hash → IfOk result (λ found. found.0 ≡ hash) × IsOk result }
+        ensures only { (hash : List ℕ) → Shows text.now hash
+            → IfOk result (λ found. found.0 ≡ hash) × IsOk result }
+    {
+        Hash32::from_shown_bytes(text.as_bytes())
+    }
+
+    /// The same of bytes, which need not be UTF-8. Takes no memory.
+    pub fn from_shown_bytes(text: &[u8]) -> Result<Hash32, HexFault>
+        ensures read { IfOk result (λ hash. Shows text.now hash.0) }
+        ensures fault { IfErr result (ShowsNothing text.now) }
+        // What shows a hash is read.
+        ensures only { (hash : List ℕ) → Shows text.now hash
+            → IfOk result (λ found. found.0 ≡ hash) × IsOk result }
     {
         if text.len() != 64 {
             return Err(HexFault::BadLength { found: text.len() });

@@ -4,7 +4,8 @@ ghost use Rattle.std.specs.Prelude.{◌≡◌, ℕ, ◌+◌, ◌<◌};
 use std::marker::Model;
 use std::sync::ledger::{Blank, Book, Ledger, Share};
 
-/// Counts the rows that are read. Contracts see the number of its ticks, from 0 on and with no bound; it takes no bytes when the program runs.
+/// Counts the rows that are read. Contracts see the number of its ticks, from 0 on and with no bound; it
+/// takes no bytes when the program runs.
 #[derive(Drop)]
 pub struct Steps<L: Ledger> {
     book: Book<L>,
@@ -20,7 +21,7 @@ impl<L: Ledger> Model for Steps<L> {
 }
 
 impl<L: Ledger> Steps<L> {
-    /// A counter with no ticks, from a ledger of std that nobody has opened yet, named and shared as `L` says.
+    /// A counter with no ticks, from a ledger of std that nobody has opened yet.
     pub fn new(blank: Blank) -> Steps<L>
         requires name { blank.name ≡ L.name }
         requires parts { blank.parts ≡ L.parts }

@@ -9,8 +9,8 @@ use crate::memory::OutOfMemory;
 use std::alloc::Global;
 use std::marker::Model;
 
-/// A text, which contracts see as the list of its bytes in UTF-8 (RFC 3629), first to last. It is a `String` underneath and gives it back without
-/// taking memory. Two are equal if their bytes are: nothing is folded or normalized.
+/// A text, which contracts see as the list of its bytes in UTF-8 (RFC 3629), first to last. It is a `String`
+/// underneath. Two are equal if their bytes are: nothing is folded or normalized.
 #[derive(Debug, Drop)]
 pub struct Text {
     text: String,
@@ -30,7 +30,7 @@ impl Text {
         Text { text }
     }
 
-    /// A copy of the text. It fails only for want of memory.
+    /// A copy of the text. Fails only where memory runs out.
     pub fn from_str(alloc: Global, text: &str) -> Result<Text, OutOfMemory>
         ensures { IfOk result (λ t. t ≡ text.now) }
     {

@@ -1,4 +1,4 @@
-//! Bitcoin's blocks: their spelling, read with every check of a block's own bytes, and written.
+//! Bitcoin's blocks: their encoding, read with every check of a block's own bytes, and written.
 #![tactic(auto)]
 
 mod decode;
@@ -7,7 +7,7 @@ mod laws;
 
 pub use decode::decode_block;
 pub use encode::encode_block;
-pub use laws::{block_has_one_text, written_is_read};
+pub use laws::{block_has_one_serialization, written_is_read};
 
 #[cfg(test)]
 mod tests;

@@ -1,2 +1,3 @@
 pub mod PeerLemmas
-pub mod Walks
+pub mod Growing
+pub mod Arriving

@@ -7,16 +7,17 @@ use Rattle.std.proofs.lemmas.List.Folds.{list_any-append}
 use Rattle.el_outside.specs.declared.link.Arrival.{Arrival}
 use Rattle.el_outside.specs.declared.link.Arrival.TheVariants as arrival
 use Rattle.el_outside.specs.declared.link.Why.{Why}
-use Rattle.el_outside.specs.Story.{Came, opened, closed, quiet, ended, came, IsNext, Message, Closing, Story, is_open, opens, leaves}
-use Rattle.el_fakes.specs.Greatest.{number, greatest_came, greatest_closed, greatest, none_opens, none_leaves, none_closed}
+use Rattle.el_outside.specs.Story.{ArrivalWithBytes, opened, closed, quiet, ended, with_bytes, IsNextArrival, Message, Closing, Story, is_open, opens, leaves}
+use Rattle.el_fakes.specs.Greatest.{number, greatest_arrived, greatest_closed, greatest}
+use Rattle.el_fakes.specs.within.Laws.{none_opens, none_leaves, none_closed}
 use Rattle.el_fakes.specs.declared.kept.Closed.{Closed}
 use Rattle.el_fakes.specs.Kept.{closing_of}
-use Rattle.el_fakes.specs.Peers.{adds, but, peers_after, last_after, closed_in, AreOpen}
+use Rattle.el_fakes.specs.within.Peers.{adds, but, peers_after, last_after, closed_in, AreOpenPeers}
 
 -- the greatest number with one more arrival
-pub greatest_came-push : (xs : List Came) (c : Came) → greatest_came (xs ++ c ∷ []) ≡ max (greatest_came xs) (number c)
-greatest_came-push [] c = omega arith
-greatest_came-push (x ∷ xs) c = omega (arith, greatest_came-push xs c)
+pub greatest_arrived-push : (xs : List ArrivalWithBytes) (c : ArrivalWithBytes) → greatest_arrived (xs ++ c ∷ []) ≡ max (greatest_arrived xs) (number c)
+greatest_arrived-push [] c = omega arith
+greatest_arrived-push (x ∷ xs) c = omega (arith, greatest_arrived-push xs c)
 
 -- the greatest number with one more closing
 pub greatest_closed-push : (cs : List Closing) (c : Closing) → greatest_closed (cs ++ c ∷ []) ≡ max (greatest_closed cs) c.peer
@@ -75,19 +76,19 @@ any-but p q (r ∷ rs) =
     ]
 
 -- who is open with one more arrival
-pub is_open-push : (xs : List Came) (ms : List Message) (cs : List Closing) (c : Came) (q : ℕ)
+pub is_open-push : (xs : List ArrivalWithBytes) (ms : List Message) (cs : List Closing) (c : ArrivalWithBytes) (q : ℕ)
     → is_open (record { arrivals = xs ++ c ∷ []; messages = ms; closings = cs }) q
     ≡ ((list_any (opens q) xs || opens q c) && (not (list_any (leaves q) xs || leaves q c) && not (list_any (λ (d : Closing). q == d.peer) cs)))
 is_open-push xs ms cs c q = simp (list_any-append, or-false)
 
 -- what holds of the tests of an open peer, where it came, left or was closed by now
-came_step : (o l w e : Bool) → (e ≡ true → (l ≡ false) × (w ≡ false))
+arrived_step : (o l w e : Bool) → (e ≡ true → (l ≡ false) × (w ≡ false))
     → ((o && (not l && not w)) || (e || false)) ≡ ((o || e) && (not (l || false) && not w))
-came_step o l w false unused = simp or-false
-came_step o true w true unused = absurd (let no : true ≡ false = (unused refl).0 in cc)
-came_step o false true true unused = absurd (let no : true ≡ false = (unused refl).1 in cc)
-came_step true false false true unused = refl
-came_step false false false true unused = refl
+arrived_step o l w false unused = simp or-false
+arrived_step o true w true unused = absurd (let no : true ≡ false = (unused refl).0 in cc)
+arrived_step o false true true unused = absurd (let no : true ≡ false = (unused refl).1 in cc)
+arrived_step true false false true unused = refl
+arrived_step false false false true unused = refl
 
 left_step : (o l w e : Bool) → ((o && (not l && not w)) && not e) ≡ ((o || false) && (not (l || e) && not w))
 left_step true true w e = refl
@@ -104,7 +105,7 @@ closed_step true false false false = refl
 closed_step false l w e = refl
 
 -- who is open with one more closing
-pub is_open-close : (xs : List Came) (ms : List Message) (cs : List Closing) (p : ℕ) (why : Why) (q : ℕ)
+pub is_open-close : (xs : List ArrivalWithBytes) (ms : List Message) (cs : List Closing) (p : ℕ) (why : Why) (q : ℕ)
     → is_open (record { arrivals = xs; messages = ms; closings = cs ++ record { peer = p; why = why } ∷ [] }) q
     ≡ (is_open (record { arrivals = xs; messages = ms; closings = cs }) q && not (q == p))
 is_open-close xs ms cs p why q =
@@ -112,22 +113,22 @@ is_open-close xs ms cs p why q =
     ∙ closed_step (list_any (opens q) xs) (list_any (leaves q) xs) (list_any (λ (d : Closing). q == d.peer) cs) (q == p)
 
 -- nothing changes where nobody came or left
-still_open : (xs : List Came) (ms : List Message) (cs : List Closing) (c : Came) (q : ℕ) → opens q c ≡ false → leaves q c ≡ false
+still_open : (xs : List ArrivalWithBytes) (ms : List Message) (cs : List Closing) (c : ArrivalWithBytes) (q : ℕ) → opens q c ≡ false → leaves q c ≡ false
     → is_open (record { arrivals = xs; messages = ms; closings = cs }) q ≡ is_open (record { arrivals = xs ++ c ∷ []; messages = ms; closings = cs }) q
 still_open xs ms cs c q not_opened not_left =
     sym (is_open-push xs ms cs c q ∙ simp (not_opened, not_left, or-false))
 
--- the open peers behind an arrival
-pub arrives : (xs : List Came) (ms : List Message) (cs : List Closing) (peers : List ℕ) (a : Arrival) (buf : List ℕ) (now : ℕ)
-    → AreOpen (record { arrivals = xs; messages = ms; closings = cs }) peers
-    → IsNext (greatest (record { arrivals = xs; messages = ms; closings = cs })) a now
-    → AreOpen (record { arrivals = xs ++ came a buf ∷ []; messages = ms; closings = cs }) (peers_after peers a)
+-- the open peers after an arrival
+pub arrives : (xs : List ArrivalWithBytes) (ms : List Message) (cs : List Closing) (peers : List ℕ) (a : Arrival) (buf : List ℕ) (now : ℕ)
+    → AreOpenPeers (record { arrivals = xs; messages = ms; closings = cs }) peers
+    → IsNextArrival (greatest (record { arrivals = xs; messages = ms; closings = cs })) a now
+    → AreOpenPeers (record { arrivals = xs ++ with_bytes a buf ∷ []; messages = ms; closings = cs }) (peers_after peers a)
 arrives xs ms cs peers (arrival.Opened p) buf now are next q =
     list_any-append (λ r. q == r) peers (p ∷ []) ∙ ap (λ b. b || (q == p || false)) (are q)
-    ∙ came_step (list_any (opens q) xs) (list_any (leaves q) xs) (list_any (λ (d : Closing). q == d.peer) cs) (q == p)
+    ∙ arrived_step (list_any (opens q) xs) (list_any (leaves q) xs) (list_any (λ (d : Closing). q == d.peer) cs) (q == p)
     (λ is. let same : q ≡ p = eqb-true q p is in (none_leaves xs q (omega arith), none_closed cs q (omega arith)))
     ∙ sym (is_open-push xs ms cs (opened p) q)
-arrives xs ms cs peers (arrival.Bytes p n) buf now are next q = are q ∙ still_open xs ms cs (came (arrival.Bytes p n) buf) q refl refl
+arrives xs ms cs peers (arrival.Bytes p n) buf now are next q = are q ∙ still_open xs ms cs (with_bytes (arrival.Bytes p n) buf) q refl refl
 arrives xs ms cs peers (arrival.Closed p) buf now are next q =
     any-but p q peers ∙ ap (λ b. b && not (q == p)) (are q)
     ∙ left_step (list_any (opens q) xs) (list_any (leaves q) xs) (list_any (λ (d : Closing). q == d.peer) cs) (q == p)
@@ -135,40 +136,40 @@ arrives xs ms cs peers (arrival.Closed p) buf now are next q =
 arrives xs ms cs peers arrival.Quiet buf now are next q = are q ∙ still_open xs ms cs quiet q refl refl
 arrives xs ms cs peers arrival.Ended buf now are next q = are q ∙ still_open xs ms cs ended q refl refl
 
--- the open peers behind a closing
-pub closes : (xs : List Came) (ms : List Message) (cs : List Closing) (peers : List ℕ) (p : ℕ) (why : Why)
-    → AreOpen (record { arrivals = xs; messages = ms; closings = cs }) peers
-    → AreOpen (record { arrivals = xs; messages = ms; closings = cs ++ record { peer = p; why = why } ∷ [] }) (but p peers)
+-- the open peers after a closing
+pub closes : (xs : List ArrivalWithBytes) (ms : List Message) (cs : List Closing) (peers : List ℕ) (p : ℕ) (why : Why)
+    → AreOpenPeers (record { arrivals = xs; messages = ms; closings = cs }) peers
+    → AreOpenPeers (record { arrivals = xs; messages = ms; closings = cs ++ record { peer = p; why = why } ∷ [] }) (but p peers)
 closes xs ms cs peers p why are q =
     any-but p q peers ∙ ap (λ b. b && not (q == p)) (are q) ∙ sym (is_open-close xs ms cs p why q)
 
--- the greatest number behind an arrival
-pub last-arrives : (xs : List Came) (ms : List Message) (cs : List Closing) (last : ℕ) (a : Arrival) (buf : List ℕ)
+-- the greatest number after an arrival
+pub last-arrives : (xs : List ArrivalWithBytes) (ms : List Message) (cs : List Closing) (last : ℕ) (a : Arrival) (buf : List ℕ)
     → last ≡ greatest (record { arrivals = xs; messages = ms; closings = cs })
-    → last_after last a ≡ greatest (record { arrivals = xs ++ came a buf ∷ []; messages = ms; closings = cs })
-last-arrives xs ms cs last (arrival.Opened p) buf is = omega (arith, greatest_came-push xs (opened p))
-last-arrives xs ms cs last (arrival.Bytes p n) buf is = omega (arith, greatest_came-push xs (came (arrival.Bytes p n) buf))
-last-arrives xs ms cs last (arrival.Closed p) buf is = omega (arith, greatest_came-push xs (closed p))
-last-arrives xs ms cs last arrival.Quiet buf is = omega (arith, greatest_came-push xs quiet)
-last-arrives xs ms cs last arrival.Ended buf is = omega (arith, greatest_came-push xs ended)
+    → last_after last a ≡ greatest (record { arrivals = xs ++ with_bytes a buf ∷ []; messages = ms; closings = cs })
+last-arrives xs ms cs last (arrival.Opened p) buf is = omega (arith, greatest_arrived-push xs (opened p))
+last-arrives xs ms cs last (arrival.Bytes p n) buf is = omega (arith, greatest_arrived-push xs (with_bytes (arrival.Bytes p n) buf))
+last-arrives xs ms cs last (arrival.Closed p) buf is = omega (arith, greatest_arrived-push xs (closed p))
+last-arrives xs ms cs last arrival.Quiet buf is = omega (arith, greatest_arrived-push xs quiet)
+last-arrives xs ms cs last arrival.Ended buf is = omega (arith, greatest_arrived-push xs ended)
 
 -- an open peer's number is not greater than the greatest
 pub open_is_below : (story : Story) (p : ℕ) → is_open story p ≡ true → p ≤ greatest story
 open_is_below story p is =
-    elim (cases_lt (greatest_came story.arrivals) p) [
-      | inl above ↦ absurd (let came : list_any (opens p) story.arrivals ≡ true = (and_parts _ _ is).0 in
+    elim (cases_lt (greatest_arrived story.arrivals) p) [
+      | inl above ↦ absurd (let with_bytes : list_any (opens p) story.arrivals ≡ true = (and_parts _ _ is).0 in
           let none : list_any (opens p) story.arrivals ≡ false = none_opens story.arrivals p above in cc)
       | inr below ↦ omega arith
     ]
 
 -- closing an open peer leaves the greatest number
-pub last-closes : (xs : List Came) (ms : List Message) (cs : List Closing) (p : ℕ) (why : Why)
+pub last-closes : (xs : List ArrivalWithBytes) (ms : List Message) (cs : List Closing) (p : ℕ) (why : Why)
     → is_open (record { arrivals = xs; messages = ms; closings = cs }) p ≡ true
     → greatest (record { arrivals = xs; messages = ms; closings = cs ++ record { peer = p; why = why } ∷ [] }) ≡ greatest (record { arrivals = xs; messages = ms; closings = cs })
 last-closes xs ms cs p why is =
     omega (arith, greatest_closed-push cs (record { peer = p; why = why }), open_is_below (record { arrivals = xs; messages = ms; closings = cs }) p is)
 
 -- the peers that were closed are those of the list that is kept
-pub any-closing_of : (list : List Closed) (p : ℕ) → list_any (λ (d : Closing). p == d.peer) (map closing_of list) ≡ closed_in list p
-any-closing_of [] p = refl
-any-closing_of (c ∷ cs) p = ap (λ b. p == c.peer || b) (any-closing_of cs p)
+pub closed_of : (list : List Closed) (p : ℕ) → list_any (λ (d : Closing). p == d.peer) (map closing_of list) ≡ closed_in list p
+closed_of [] p = refl
+closed_of (c ∷ cs) p = ap (λ b. p == c.peer || b) (closed_of cs p)

@@ -1,7 +1,5 @@
+pub mod Archives
+pub mod Coming
 pub mod Greatest
 pub mod Kept
-pub mod Links
-pub mod Memory
-pub mod Noted
-pub mod Peers
-pub mod Taking
+pub mod within

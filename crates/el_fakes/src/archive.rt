@@ -1,34 +1,73 @@
 // Block files in memory some of whose calls fail.
-ghost use Rattle.std.specs.Prelude.{◌≡◌, ℕ, ◌+◌, ◌-◌, ◌==◌, ◌<◌, ◌≤◌, ◌^◌, ◌||◌, nat_lt, nat_le, List, [], length, vec_len, take, drop, min, is_err, IfOk};
+ghost use Rattle.std.specs.Prelude.{◌≡◌, ℕ, ◌-◌, ◌==◌, ◌<◌, ◌≤◌, ◌||◌, nat_lt, nat_le, [], length, take, drop, min, is_err, IfOk};
 ghost use Rattle.std.specs.List.{list_any};
-ghost use Rattle.el_outside.specs.Counts.{HasCause, RoseBy};
+ghost use Rattle.el_outside.specs.Counts.{HasCause, risen};
 ghost use Rattle.el_outside.specs.Files.{AllGrow};
-ghost use Rattle.el_fakes.specs.Memory.{bytes_at};
+ghost use Rattle.el_fakes.specs.Archives.{bytes_now};
 
-use crate::fronts::{MOST_FILES, SIZE_LIMIT, bytes_of, fill, is_listed};
+use crate::fronts::{bytes_of, fill, is_listed};
+use crate::growth::{Later, size_now};
 use el_base::Bytes;
-use el_outside::{Archive, ArchiveFailed};
+use el_outside::{Archive, ArchiveFailed, MOST_FILES, SIZE_LIMIT};
+use std::marker::Model;
 
-/// Block files in memory, which tell their bytes. The calls whose numbers are listed fail, and so does one that would answer more than 100,000 files or
-/// a size of 2^62 or more; no other does. Calls of all three kinds are counted together, from 1 on, up to 2^64 - 1.
+/// Block files in memory, which tell their bytes. The calls whose numbers are listed fail, and so does one
+/// that would answer more than 100,000 files or a size of 2^62 or more; no other does. Calls of all three
+/// kinds are counted together, from 1 on, up to 2^64 - 1. A file may grow: of the bytes that it ever has,
+/// those that come later are hidden until their call.
 #[derive(Drop)]
 pub struct MemArchive {
     files: Vec<Bytes>,
+    later: Vec<Later>,
     failing: Vec<u64>,
     calls: u64,
     faults: u64,
 }
 
+impl Model for MemArchive {
+    ghost use Rattle.el_fakes.specs.Archives.{ArchiveState};
+
+    ghost Value = { ArchiveState };
+
+    ghost view = { λ a. record {
+      files = a.files.items;
+      later = a.later.items;
+      failing = a.failing.items;
+      calls = a.calls;
+      faults = a.faults;
+    } };
+}
+
 impl MemArchive {
-    /// An archive of these files, file 0 first, and the numbers of the calls that fail. Takes no memory.
+    /// An archive of these files, file 0 first, which don't grow, and the numbers of the calls that fail.
+    /// Takes no memory.
     pub fn new(files: Vec<Bytes>, failing: Vec<u64>) -> MemArchive
-        ensures files { result.files ≡ files }
-        ensures failing { result.failing ≡ failing }
-        ensures calls { result.calls ≡ 0 }
-        ensures faults { result.faults ≡ 0 }
+        ensures { result ≡ record {
+          files = files.items;
+          later = [];
+          failing = failing.items;
+          calls = 0;
+          faults = 0;
+        } }
+    {
+        let later = Vec::new(*files.allocator());
+        MemArchive::growing(files, later, failing)
+    }
+
+    /// An archive of these files, file 0 first, with all bytes that they ever have; which of these come
+    /// later; and the numbers of the calls that fail. Takes no memory.
+    pub fn growing(files: Vec<Bytes>, later: Vec<Later>, failing: Vec<u64>) -> MemArchive
+        ensures { result ≡ record {
+          files = files.items;
+          later = later.items;
+          failing = failing.items;
+          calls = 0;
+          faults = 0;
+        } }
     {
         MemArchive {
             files,
+            later,
             failing,
             calls: 0,
             faults: 0,
@@ -51,8 +90,8 @@ impl MemArchive {
 
     // Counts a call, and says whether it fails.
     fn is_failing(&mut self) -> bool
-        ensures counted { self.new ≡ record self.old { calls = min (self.old.calls + 1) 18446744073709551615 } }
-        ensures listed { result ≡ list_any (λ n. self.new.calls == n) self.old.failing.items }
+        ensures counted { self.new ≡ record self.old { calls = risen self.old.calls 1 } }
+        ensures listed { result ≡ list_any (λ n. self.new.calls == n) self.old.failing }
     {
         self.calls = self.calls.saturating_add(1);
         is_listed(self.failing.as_slice(), self.calls)
@@ -60,48 +99,70 @@ impl MemArchive {
 
     // A failure, which is counted.
     fn fault(&mut self) -> ArchiveFailed
-        ensures same { self.new ≡ record self.old { faults = min (self.old.faults + 1) 18446744073709551615 } }
-        ensures counted { RoseBy self.old.faults self.new.faults 1 }
-        ensures rises { self.old.faults ≤ self.new.faults }
+        ensures { self.new ≡ record self.old { faults = risen self.old.faults 1 } }
     {
         self.faults = self.faults.saturating_add(1);
         ArchiveFailed
     }
+
+    // The bytes of a file after the calls so far.
+    fn shown(&self, file: u32) -> &[u8]
+        ensures { result.now ≡ bytes_now self.now file }
+    {
+        let bytes = bytes_of(self.files.as_slice(), file);
+        let size = size_now(self.later.as_slice(), self.calls, file, bytes.len());
+        &bytes[..size]
+    }
 }
 
 impl Archive for MemArchive {
+    ghost use Rattle.el_fakes.specs.within.Laws.{none_now};
+
     ghost tells = { Unit {0} };
 
-    ghost bytes = { λ archive. bytes_at archive.files.items };
+    ghost bytes = { bytes_now };
+
+    ghost file_count = { λ archive. length archive.files };
+
+    ghost none_after = { λ archive file told after. none_now archive file after };
+
+    ghost gave = { λ file at bytes. Unit {0} };
 
     ghost faults = { λ archive. archive.faults };
 
     fn files(&mut self) -> Result<u32, ArchiveFailed>
-        ensures few { IfOk result (λ n. n ≤ 100000) }
-        ensures highest { IfOk result (λ n. (file : ℕ) → n ≤ file → bytes_at self.new.files.items file ≡ []) }
-        ensures keeps { AllGrow (bytes_at self.old.files.items) (bytes_at self.new.files.items) }
+        ensures few { IfOk result (λ n. n ≤ MOST_FILES) }
+        ensures number { IfOk result (λ n. n ≡ length self.new.files) }
+        ensures keeps { AllGrow (bytes_now self.old) (bytes_now self.new) }
         ensures cause { HasCause self.old.faults self.new.faults result }
-        ensures same { (self.new.files ≡ self.old.files) × (self.new.failing ≡ self.old.failing) }
-        ensures calls { self.new.calls ≡ min (self.old.calls + 1) 18446744073709551615 }
-        ensures fails { is_err result ≡ (list_any (λ n. self.new.calls == n) self.old.failing.items || nat_lt 100000 (vec_len self.old.files)) }
+        ensures same { self.new ≡ record self.old {
+          calls = risen self.old.calls 1;
+          faults = self.new.faults;
+        } }
+        ensures fails { is_err result
+            ≡ (list_any (λ n. self.new.calls == n) self.old.failing
+            || nat_lt MOST_FILES (length self.old.files)) }
     {
-        if self.is_failing() || self.files.len() > MOST_FILES {
+        if self.is_failing() || self.files.len() > MOST_FILES as usize {
             return Err(self.fault());
         }
         Ok(self.files.len() as u32)
     }
 
     fn size(&mut self, file: u32) -> Result<u64, ArchiveFailed>
-        ensures small { IfOk result (λ n. n < 2 ^ 62) }
-        ensures size { IfOk result (λ n. n ≡ length (bytes_at self.new.files.items file)) }
-        ensures keeps { AllGrow (bytes_at self.old.files.items) (bytes_at self.new.files.items) }
+        ensures small { IfOk result (λ n. n < SIZE_LIMIT) }
+        ensures size { IfOk result (λ n. n ≡ length (bytes_now self.new file)) }
+        ensures keeps { AllGrow (bytes_now self.old) (bytes_now self.new) }
         ensures cause { HasCause self.old.faults self.new.faults result }
-        ensures same { (self.new.files ≡ self.old.files) × (self.new.failing ≡ self.old.failing) }
-        ensures calls { self.new.calls ≡ min (self.old.calls + 1) 18446744073709551615 }
-        ensures fails { is_err result ≡ (list_any (λ n. self.new.calls == n) self.old.failing.items || nat_le 4611686018427387904 (length (bytes_at self.old.files.items file))) }
+        ensures same { self.new ≡ record self.old {
+          calls = risen self.old.calls 1;
+          faults = self.new.faults;
+        } }
+        ensures fails { is_err result ≡ (list_any (λ n. self.new.calls == n) self.old.failing
+            || nat_le SIZE_LIMIT (length (bytes_now self.new file))) }
     {
         let is_failing = self.is_failing();
-        let size = bytes_of(self.files.as_slice(), file).len() as u64;
+        let size = self.shown(file).len() as u64;
         if is_failing || size >= SIZE_LIMIT {
             return Err(self.fault());
         }
@@ -110,17 +171,19 @@ impl Archive for MemArchive {
 
     fn read(&mut self, file: u32, at: u64, buf: &mut [u8]) -> Result<usize, ArchiveFailed>
         ensures within { IfOk result (λ n. n ≤ length buf.old) }
-        ensures count { IfOk result (λ n. n ≡ min (length buf.old) (length (bytes_at self.new.files.items file) - at)) }
-        ensures filled { IfOk result (λ n. take n buf.new ≡ take n (drop at (bytes_at self.new.files.items file))) }
-        ensures keeps { AllGrow (bytes_at self.old.files.items) (bytes_at self.new.files.items) }
+        ensures count { IfOk result (λ n. n ≡ min (length buf.old) (length (bytes_now self.new file) - at)) }
+        ensures filled { IfOk result (λ n. take n buf.new ≡ take n (drop at (bytes_now self.new file))) }
+        ensures keeps { AllGrow (bytes_now self.old) (bytes_now self.new) }
         ensures cause { HasCause self.old.faults self.new.faults result }
-        ensures same { (self.new.files ≡ self.old.files) × (self.new.failing ≡ self.old.failing) }
-        ensures calls { self.new.calls ≡ min (self.old.calls + 1) 18446744073709551615 }
-        ensures fails { is_err result ≡ list_any (λ n. self.new.calls == n) self.old.failing.items }
+        ensures same { self.new ≡ record self.old {
+          calls = risen self.old.calls 1;
+          faults = self.new.faults;
+        } }
+        ensures fails { is_err result ≡ list_any (λ n. self.new.calls == n) self.old.failing }
     {
         if self.is_failing() {
             return Err(self.fault());
         }
-        Ok(fill(bytes_of(self.files.as_slice(), file), at, buf))
+        Ok(fill(self.shown(file), at, buf))
     }
 }

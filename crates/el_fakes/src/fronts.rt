@@ -1,17 +1,13 @@
 // What the devices in memory do with slices.
-ghost use Rattle.std.specs.Prelude.{◌≡◌, ℕ, ◌-◌, ◌==◌, ◌^◌, ◌<◌, ◌≤◌, List, [], length, take, drop, min, IsTrue, ◌↔◌};
-ghost use Rattle.std.specs.List.{list_any};
-ghost use Rattle.el_fakes.specs.Memory.{bytes_at, AreShort};
+ghost use Rattle.std.specs.Prelude.{◌≡◌, ℕ, ◌-◌, ◌==◌, ◌≤◌, length, take, drop, min};
+ghost use Rattle.std.specs.List.{list_any, list_all};
+ghost use Rattle.el_fakes.specs.Archives.{file_bytes, is_short, are_fitting};
 
 use el_base::Bytes;
+use el_outside::{MOST_FILES, SIZE_LIMIT};
 
-/// How many files there can be.
-pub(crate) const MOST_FILES: usize = 100_000;
-
-/// Sizes are below this.
-pub(crate) const SIZE_LIMIT: u64 = 1 << 62;
-
-// Fills the front of the buffer with what the bytes have from the place on, and answers how many bytes that are.
+// Fills the front of the buffer with what the bytes have from the place on, and answers how many bytes that
+// are.
 pub(crate) fn fill(bytes: &[u8], at: u64, buf: &mut [u8]) -> usize
     ensures count { result ≡ min (length buf.old) (length bytes.now - at) }
     ensures filled { take result buf.new ≡ take result (drop at bytes.now) }
@@ -27,7 +23,7 @@ pub(crate) fn fill(bytes: &[u8], at: u64, buf: &mut [u8]) -> usize
 
 // The bytes of a file; none for one that isn't there.
 pub(crate) fn bytes_of(files: &[Bytes], file: u32) -> &[u8]
-    ensures { result.now ≡ bytes_at files.now file }
+    ensures { result.now ≡ file_bytes files.now file }
 {
     match files.get(file as usize) {
         Some(bytes) => bytes.as_slice(),
@@ -42,14 +38,16 @@ pub(crate) fn is_listed(numbers: &[u64], n: u64) -> bool
     numbers.iter().any(|m| n == *m)
 }
 
-// Whether each has fewer bytes than 2^62.
-pub(crate) fn are_short(files: &[Bytes]) -> bool
-    ensures { IsTrue result → AreShort files.now }
+// Whether each has fewer bytes than a file may have.
+fn are_short(files: &[Bytes]) -> bool
+    ensures { result ≡ list_all is_short files.now }
 {
-    for bytes in files {
-        if bytes.len() as u64 >= SIZE_LIMIT {
-            return false;
-        }
-    }
-    true
+    files.iter().all(|bytes| (bytes.len() as u64) < SIZE_LIMIT)
+}
+
+// Whether an archive may have these files.
+pub(crate) fn fits(files: &[Bytes]) -> bool
+    ensures { result ≡ are_fitting files.now }
+{
+    files.len() <= MOST_FILES as usize && are_short(files)
 }

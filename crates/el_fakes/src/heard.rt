@@ -1,42 +1,27 @@
-// The arrivals that a link in memory has handed over. They stand in contracts alone, take no bytes, and have no bound.
-ghost use Rattle.std.specs.Prelude.{◌≡◌, List, [], ◌∷◌, ◌++◌};
-ghost use Rattle.std.specs.Borrow.{ftrue};
-ghost use Rattle.el_outside.specs.Story.{Came};
+// The arrivals that a link in memory has handed over. They stand in contracts alone, and have no bound.
+ghost use Rattle.std.specs.Prelude.{◌≡◌, [], ◌∷◌, ◌++◌, length};
+ghost use Rattle.el_outside.specs.Story.{with_bytes};
+ghost use Rattle.el_fakes.specs.within.Heard.{arrivals_of};
 
-use el_outside::Arrival;
-use std::marker::Model;
+use el_outside::{Arrival, BUFFER_SIZE};
+use std::snapshot::Snapshot;
 
-/// The arrivals so far, in order.
+/// The arrivals so far: none, or those before, and one more with the buffer in whose front its bytes stand.
+/// The program keeps the last arrival alone.
+#[cycle(heard)]
 #[derive(Drop)]
-pub(crate) struct Heard {
-    ghost arrivals: { List Came },
+pub(crate) enum Heard {
+    Nothing,
+    After(Snapshot<Heard>, Arrival, Snapshot<[u8; BUFFER_SIZE]>),
 }
 
-impl Model for Heard {
-    ghost also_owns = { λ _. ftrue };
-}
-
-/// An arrival, with the bytes that stand first in the buffer.
-#[derive(Clone, Copy, Drop)]
-pub(crate) struct Note<'a> {
-    pub(crate) arrival: Arrival,
-    pub(crate) buf: &'a [u8],
-}
-
-impl Heard {
-    ghost use Rattle.el_fakes.specs.Noted.{noted};
-
-    // Nothing so far.
-    pub(crate) fn new() -> Heard
-        ensures { result.arrivals ≡ [] }
-    {
-        Heard {}
-    }
-
-    // These arrivals, and one more.
-    pub(crate) fn then(&self, _note: &Note<'_>) -> Heard
-        ensures { result.arrivals ≡ self.now.arrivals ++ noted _note.now ∷ [] }
-    {
-        Heard {}
+// These arrivals, and one more.
+pub(crate) fn then(heard: &Heard, arrival: Arrival, buf: &[u8]) -> Heard
+    requires { length buf.now ≡ BUFFER_SIZE }
+    ensures { arrivals_of result ≡ arrivals_of heard.now ++ with_bytes arrival buf.now ∷ [] }
+{
+    match buf.as_array::<BUFFER_SIZE>() {
+        Some(buffer) => Heard::After(Snapshot::of(heard), arrival, Snapshot::of(buffer)),
+        None => unreachable!(),
     }
 }

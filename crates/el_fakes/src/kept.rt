@@ -9,25 +9,30 @@ use std::alloc::Global;
 /// A message to a peer.
 #[derive(Debug, Drop)]
 pub struct Sent {
+    /// To whom it was sent.
     pub peer: Peer,
+    /// Its bytes.
     pub text: Bytes,
 }
 
 /// A peer that was closed, and why.
 #[derive(Clone, Copy, Debug, PartialEq, Eq)]
 pub struct Closed {
+    /// The peer.
     pub peer: Peer,
+    /// The one cause.
     pub why: Why,
 }
 
-// Adds a message behind the others.
+// Adds a message after the others.
 pub(crate) fn keep(
     alloc: Global,
     sent: &mut Vec<Sent>,
     peer: Peer,
     bytes: &[u8],
 ) -> Result<(), OutOfMemory>
-    ensures ok { OnOk result (map message_of sent.new.items ≡ map message_of sent.old.items ++ record { peer = peer; text = bytes.now } ∷ []) }
+    ensures ok { OnOk result (map message_of sent.new.items
+        ≡ map message_of sent.old.items ++ record { peer = peer; text = bytes.now } ∷ []) }
     ensures err { OnErr result (map message_of sent.new.items ≡ map message_of sent.old.items) }
 {
     let text = Bytes::from_slice(alloc, bytes)?;
@@ -35,7 +40,7 @@ pub(crate) fn keep(
     Ok(())
 }
 
-// Adds a closing behind the others, in room that is there.
+// Adds a closing after the others, in room that is there.
 pub(crate) fn put_closed(closed: &mut Vec<Closed>, peer: Peer, why: Why)
     requires { vec_len closed.old < vec_capacity closed.old }
     ensures items { closed.new.items ≡ closed.old.items ++ record { peer = peer; why = why } ∷ [] }

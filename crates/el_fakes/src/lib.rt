@@ -1,9 +1,11 @@
-//! Block files and a link in memory, which tell all their content. Each comes in two forms: one whose chosen calls fail, and one that never fails.
+//! Block files and a link in memory, which tell all their content. Each comes in two forms: one whose chosen
+//! calls fail, and one that never fails.
 #![tactic(auto)]
 
 mod archive;
 mod coming;
 mod fronts;
+mod growth;
 mod heard;
 mod kept;
 mod link;
@@ -14,6 +16,7 @@ mod taking;
 
 pub use archive::MemArchive;
 pub use coming::Coming;
+pub use growth::Later;
 pub use kept::{Closed, Sent};
 pub use link::MemLink;
 pub use steady_archive::SteadyArchive;

@@ -1,9 +1,10 @@
 // A link in memory some of whose calls fail.
-ghost use Rattle.std.specs.Prelude.{◌≡◌, ℕ, ◌+◌, ◌==◌, ◌≤◌, [], ◌∷◌, true, IfOk, OnOk, OnErr, IsErrOf, ◌↔◌, is_err, length, map, min};
+ghost use Rattle.std.specs.Prelude.{◌≡◌, ◌==◌, [], ◌∷◌, true, IfOk, OnOk, OnErr, IsErrOf, ◌↔◌, is_err, MatchBool, length, map};
 ghost use Rattle.std.specs.List.{list_any};
-ghost use Rattle.el_outside.specs.Counts.{RoseBy, HasCause};
-ghost use Rattle.el_outside.specs.Story.{GoesOn, IsNext, NamesNoClosed, came};
-ghost use Rattle.el_fakes.specs.Greatest.{greatest, greatest_is_last};
+ghost use Rattle.el_outside.specs.Counts.{RoseBy, HasCause, risen};
+ghost use Rattle.el_outside.specs.Story.{GoesOn, IsNextArrival, NamesNoClosed, with_bytes, is_open};
+ghost use Rattle.el_fakes.specs.Coming.{next_after};
+ghost use Rattle.el_fakes.specs.Greatest.{greatest};
 ghost use Rattle.el_fakes.specs.Kept.{message_of, closing_of};
 
 use crate::coming::Coming;
@@ -11,41 +12,64 @@ use crate::fronts::is_listed;
 use crate::kept::{Closed, Sent};
 use crate::steady_link::SteadyLink;
 use el_base::OutOfMemory;
-use el_outside::{Arrival, Link, LinkFailed, Peer, SendFault, Why};
+use el_outside::{Arrival, BUFFER_SIZE, Link, LinkFailed, Peer, SendFault, Why};
 use std::alloc::Global;
+use std::marker::Model;
 
-/// A link in memory, which tells all that went over it. It is a `SteadyLink` but that the listed calls of `next` answer `LinkFailed`, and the listed
-/// calls of `send` answer `Gone`; such a call takes and sends nothing. Calls of either kind are counted from 1 on, up to 2^64 - 1.
+/// A link in memory, which tells all that went over it. It is a `SteadyLink` but that the listed calls of
+/// `next` answer `LinkFailed`, and the listed calls of `send` answer `Gone`; such a call takes and sends
+/// nothing. Calls of either kind are counted from 1 on, up to 2^64 - 1.
 #[derive(Drop)]
 pub struct MemLink {
     link: SteadyLink,
     next_failing: Vec<u64>,
     send_failing: Vec<u64>,
-    nexts: u64,
+    calls: u64,
     sends: u64,
     faults: u64,
 }
 
+impl Model for MemLink {
+    ghost use Rattle.el_fakes.specs.Coming.{LinkState};
+
+    ghost Value = { LinkState };
+
+    ghost view = { λ a. record {
+      story = a.link.story;
+      coming = a.link.coming;
+      next_failing = a.next_failing.items;
+      send_failing = a.send_failing.items;
+      calls = a.calls;
+      sends = a.sends;
+      faults = a.faults;
+    } };
+}
+
 impl MemLink {
-    /// A link that brings these steps, and the numbers of the calls of `next` and of `send` that fail. It fails only for want of memory.
+    /// A link that brings these steps, and the numbers of the calls of `next` and of `send` that fail. It
+    /// fails only where memory runs out.
     pub fn new(
         alloc: Global,
         coming: Vec<Coming>,
         next_failing: Vec<u64>,
         send_failing: Vec<u64>,
     ) -> Result<MemLink, OutOfMemory>
-        ensures story { IfOk result (λ made. made.link ≡ record { arrivals = []; messages = []; closings = [] }) }
-        ensures next_failing { IfOk result (λ made. made.next_failing ≡ next_failing) }
-        ensures send_failing { IfOk result (λ made. made.send_failing ≡ send_failing) }
-        ensures calls { IfOk result (λ made. (made.nexts ≡ 0) × (made.sends ≡ 0)) }
-        ensures faults { IfOk result (λ made. made.faults ≡ 0) }
+        ensures { IfOk result (λ made. made ≡ record {
+          story = record { arrivals = []; messages = []; closings = [] };
+          coming = coming.items;
+          next_failing = next_failing.items;
+          send_failing = send_failing.items;
+          calls = 0;
+          sends = 0;
+          faults = 0;
+        }) }
     {
         let link = SteadyLink::new(alloc, coming)?;
         Ok(MemLink {
             link,
             next_failing,
             send_failing,
-            nexts: 0,
+            calls: 0,
             sends: 0,
             faults: 0,
         })
@@ -53,14 +77,14 @@ impl MemLink {
 
     /// The messages that were sent, in order.
     pub fn sent(&self) -> &[Sent]
-        ensures { map message_of result.now ≡ self.now.link.messages }
+        ensures { map message_of result.now ≡ self.now.story.messages }
     {
         self.link.sent()
     }
 
     /// The peers that were closed, in order.
     pub fn closed(&self) -> &[Closed]
-        ensures { map closing_of result.now ≡ self.now.link.closings }
+        ensures { map closing_of result.now ≡ self.now.story.closings }
     {
         self.link.closed()
     }
@@ -74,17 +98,17 @@ impl MemLink {
 
     // Counts a call of `next`, and says whether it fails.
     fn is_next_failing(&mut self) -> bool
-        ensures counted { self.new ≡ record self.old { nexts = min (self.old.nexts + 1) 18446744073709551615 } }
-        ensures listed { result ≡ list_any (λ n. self.new.nexts == n) self.old.next_failing.items }
+        ensures counted { self.new ≡ record self.old { calls = risen self.old.calls 1 } }
+        ensures listed { result ≡ list_any (λ n. self.new.calls == n) self.old.next_failing }
     {
-        self.nexts = self.nexts.saturating_add(1);
-        is_listed(self.next_failing.as_slice(), self.nexts)
+        self.calls = self.calls.saturating_add(1);
+        is_listed(self.next_failing.as_slice(), self.calls)
     }
 
     // Counts a call of `send`, and says whether it fails.
     fn is_send_failing(&mut self) -> bool
-        ensures counted { self.new ≡ record self.old { sends = min (self.old.sends + 1) 18446744073709551615 } }
-        ensures listed { result ≡ list_any (λ n. self.new.sends == n) self.old.send_failing.items }
+        ensures counted { self.new ≡ record self.old { sends = risen self.old.sends 1 } }
+        ensures listed { result ≡ list_any (λ n. self.new.sends == n) self.old.send_failing }
     {
         self.sends = self.sends.saturating_add(1);
         is_listed(self.send_failing.as_slice(), self.sends)
@@ -92,36 +116,48 @@ impl MemLink {
 
     // Counts a failure.
     fn count_fault(&mut self)
-        ensures same { self.new ≡ record self.old { faults = min (self.old.faults + 1) 18446744073709551615 } }
-        ensures counted { RoseBy self.old.faults self.new.faults 1 }
-        ensures rises { self.old.faults ≤ self.new.faults }
+        ensures { self.new ≡ record self.old { faults = risen self.old.faults 1 } }
     {
         self.faults = self.faults.saturating_add(1);
     }
 }
 
 impl Link for MemLink {
+    ghost use Rattle.el_fakes.specs.within.Laws.{greatest_is_last};
+
     ghost tells = { Unit {0} };
 
-    ghost story = { λ made. made.link };
+    ghost story = { λ made. made.story };
 
-    ghost last = { λ made. greatest made.link };
+    ghost last = { λ made. greatest made.story };
+
+    ghost calls = { λ made. made.calls };
 
     ghost faults = { λ made. made.faults };
 
-    ghost greater_is_new = { λ made p told less. greatest_is_last made.link p less };
+    ghost greater_is_new = { λ made p told less. greatest_is_last made.story p less };
 
     fn next(&mut self, buf: &mut [u8]) -> Result<Arrival, LinkFailed>
-        requires { length buf.old ≡ 65536 }
-        ensures lawful { IfOk result (λ arrival. IsNext (greatest self.old.link) arrival (greatest self.new.link)) }
-        ensures took { IfOk result (λ arrival. GoesOn self.old.link self.new.link (came arrival buf.new ∷ []) [] []) }
-        ensures silent { IfOk result (λ arrival. NamesNoClosed self.old.link (came arrival buf.new)) }
-        ensures none_taken { OnErr result (self.new.link ≡ self.old.link) }
-        ensures same_last { OnErr result (greatest self.new.link ≡ greatest self.old.link) }
+        requires { length buf.old ≡ BUFFER_SIZE }
+        ensures lawful { IfOk result (λ arrival.
+            IsNextArrival (greatest self.old.story) arrival (greatest self.new.story)) }
+        ensures took { IfOk result (λ arrival.
+            GoesOn self.old.story self.new.story (with_bytes arrival buf.new ∷ []) [] []) }
+        ensures silent { IfOk result (λ arrival. NamesNoClosed self.old.story (with_bytes arrival buf.new)) }
+        ensures handed { IfOk result (λ arrival. next_after self.old.story self.old.coming
+            ≡ record { arrival = with_bytes arrival buf.new; coming = self.new.coming }) }
         ensures cause { HasCause self.old.faults self.new.faults result }
-        ensures same { (self.new.next_failing ≡ self.old.next_failing) × (self.new.send_failing ≡ self.old.send_failing) × (self.new.sends ≡ self.old.sends) }
-        ensures calls { self.new.nexts ≡ min (self.old.nexts + 1) 18446744073709551615 }
-        ensures fails { is_err result ≡ list_any (λ n. self.new.nexts == n) self.old.next_failing.items }
+        ensures fails { is_err result ≡ list_any (λ n. self.new.calls == n) self.old.next_failing }
+        ensures same { self.new ≡ record self.old {
+          story = self.new.story;
+          coming = self.new.coming;
+          calls = risen self.old.calls 1;
+          faults = self.new.faults;
+        } }
+        ensures none_taken { OnErr result (self.new ≡ record self.old {
+          calls = risen self.old.calls 1;
+          faults = risen self.old.faults 1;
+        }) }
     {
         if self.is_next_failing() {
             self.count_fault();
@@ -131,14 +167,20 @@ impl Link for MemLink {
     }
 
     fn send(&mut self, p: Peer, bytes: &[u8]) -> Result<(), SendFault>
-        ensures sent { OnOk result (GoesOn self.old.link self.new.link [] (record { peer = p; text = bytes.now } ∷ []) []) }
-        ensures not_sent { OnErr result (self.new.link ≡ self.old.link) }
-        ensures same_last { greatest self.new.link ≡ greatest self.old.link }
-        ensures never_falls { self.old.faults ≤ self.new.faults }
-        ensures cause { IsErrOf result SendFault.Gone → RoseBy self.old.faults self.new.faults 1 }
-        ensures same { (self.new.next_failing ≡ self.old.next_failing) × (self.new.send_failing ≡ self.old.send_failing) × (self.new.nexts ≡ self.old.nexts) }
-        ensures calls { self.new.sends ≡ min (self.old.sends + 1) 18446744073709551615 }
-        ensures fails { IsErrOf result SendFault.Gone ↔ (list_any (λ n. self.new.sends == n) self.old.send_failing.items ≡ true) }
+        ensures sent { OnOk result
+            (GoesOn self.old.story self.new.story [] (record { peer = p; text = bytes.now } ∷ []) []) }
+        ensures not_sent { OnErr result (self.new.story ≡ self.old.story) }
+        ensures same_last { greatest self.new.story ≡ greatest self.old.story }
+        ensures counted { IsErrOf result SendFault.Gone → RoseBy self.old.faults self.new.faults 1 }
+        ensures uncounted { OnOk result (self.new.faults ≡ self.old.faults) }
+        ensures memory_uncounted { IsErrOf result SendFault.Memory → self.new.faults ≡ self.old.faults }
+        ensures fails { IsErrOf result SendFault.Gone
+            ↔ (list_any (λ n. self.new.sends == n) self.old.send_failing ≡ true) }
+        ensures same { self.new ≡ record self.old {
+          story = self.new.story;
+          sends = risen self.old.sends 1;
+          faults = self.new.faults;
+        } }
     {
         if self.is_send_failing() {
             self.count_fault();
@@ -147,7 +189,13 @@ impl Link for MemLink {
         self.link.send(p, bytes)
     }
 
-    fn close(&mut self, p: Peer, why: Why) {
+    fn close(&mut self, p: Peer, why: Why)
+        ensures closed { MatchBool (is_open self.old.story p)
+            (GoesOn self.old.story self.new.story [] [] (record { peer = p; why = why } ∷ []))
+            (self.new.story ≡ self.old.story) }
+        ensures same_last { greatest self.new.story ≡ greatest self.old.story }
+        ensures same { self.new ≡ record self.old { story = self.new.story } }
+    {
         self.link.close(p, why);
     }
 }

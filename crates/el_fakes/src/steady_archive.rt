@@ -1,35 +1,38 @@
 // Block files in memory whose calls never fail.
-ghost use Rattle.std.specs.Prelude.{◌≡◌, IfSome, IfNone, length, ◌≤◌};
-ghost use Rattle.el_fakes.specs.Memory.{AreShort, bytes_at};
+ghost use Rattle.std.specs.Prelude.{◌≡◌, IfSome, is_some, true, length};
+ghost use Rattle.el_fakes.specs.Archives.{are_fitting, file_bytes};
 
-use crate::fronts::{MOST_FILES, are_short, bytes_of, fill};
+use crate::fronts::{bytes_of, fill, fits};
 use el_base::Bytes;
 use el_outside::{Archive, ArchiveFailed};
 use std::marker::Model;
 
-/// Block files in memory, which tell their bytes. No call fails. Contracts see the list of the files' bytes, file 0 first.
+/// Block files in memory, which tell their bytes. No call fails. Contracts see the list of the files' bytes,
+/// file 0 first.
 #[derive(Drop)]
 pub struct SteadyArchive {
     files: Vec<Bytes>,
 }
 
 impl Model for SteadyArchive {
-    ghost use Rattle.std.specs.Prelude.{ℕ, List, length, ◌≤◌};
-    ghost use Rattle.el_fakes.specs.Memory.{AreShort};
+    ghost use Rattle.std.specs.Prelude.{◌≡◌, ℕ, List, true};
+    ghost use Rattle.el_fakes.specs.Archives.{are_fitting};
 
     ghost Value = { List (List ℕ) };
 
     ghost view = { λ a. a.files.items };
 
-    ghost invariant = { λ a. (length a.files.items ≤ 100000) × AreShort a.files.items };
+    ghost invariant = { λ a. are_fitting a.files.items ≡ true };
 }
 
 impl SteadyArchive {
-    /// An archive of these files, file 0 first. None where there are more than 100,000, or one has 2^62 bytes or more. Takes no memory.
+    /// An archive of these files, file 0 first. None where there are more than 100,000, or one has 2^62 bytes
+    /// or more. Takes no memory.
     pub fn new(files: Vec<Bytes>) -> Option<SteadyArchive>
-        ensures { IfSome result (λ archive. archive ≡ files.items) }
+        ensures same { IfSome result (λ archive. archive ≡ files.items) }
+        ensures fits { is_some result ≡ are_fitting files.items }
     {
-        if files.len() > MOST_FILES || !are_short(files.as_slice()) {
+        if !fits(files.as_slice()) {
             return None;
         }
         Some(SteadyArchive { files })
@@ -37,9 +40,17 @@ impl SteadyArchive {
 }
 
 impl Archive for SteadyArchive {
+    ghost use Rattle.el_fakes.specs.within.Laws.{none_at};
+
     ghost tells = { Unit {0} };
 
-    ghost bytes = { bytes_at };
+    ghost bytes = { file_bytes };
+
+    ghost file_count = { length };
+
+    ghost none_after = { λ files file told after. none_at files file after };
+
+    ghost gave = { λ file at bytes. Unit {0} };
 
     ghost faults = { λ files. 0 };
 

@@ -1,20 +1,25 @@
 // A link in memory whose calls never fail.
-ghost use Rattle.std.specs.Prelude.{◌≡◌, [], IfOk, map};
+ghost use Rattle.std.specs.Prelude.{◌≡◌, [], ◌∷◌, IfOk, IsOk, OnOk, OnErr, IsErrOf, MatchBool, length, map};
+ghost use Rattle.el_outside.specs.Counts.{risen};
+ghost use Rattle.el_outside.specs.Story.{GoesOn, IsNextArrival, NamesNoClosed, with_bytes, is_open};
+ghost use Rattle.el_fakes.specs.Coming.{next_after};
+ghost use Rattle.el_fakes.specs.Greatest.{greatest};
 ghost use Rattle.el_fakes.specs.Kept.{message_of, closing_of};
 
 use crate::coming::Coming;
-use crate::heard::{Heard, Note};
+use crate::heard::{Heard, then};
 use crate::kept::{Closed, Sent, keep, put_closed};
 use crate::peers::{is_among, remove, welcome};
 use crate::taking::{Spot, take};
 use el_base::OutOfMemory;
-use el_outside::{Arrival, Link, LinkFailed, Peer, SendFault, Why};
+use el_outside::{Arrival, BUFFER_SIZE, Link, LinkFailed, Peer, SendFault, Why};
 use std::alloc::Global;
 use std::marker::Model;
 
-/// A link in memory, which tells all that went over it. It hands over the steps of a list in order, and then answers `Ended`. A step that no link may
-/// hand over is passed over: a peer whose number isn't greater than all before, no bytes, and bytes or a leaving of a peer that was closed. No call of
-/// `next` fails, and `send` fails only for want of memory. Contracts see the story so far.
+/// A link in memory, which tells all that went over it. It hands over the steps of a list in order, and then
+/// answers `Ended`. A step that no link may hand over is passed over: a peer whose number isn't greater than
+/// all before, no bytes, and bytes or a leaving of a peer that was closed. No call of `next` fails, and
+/// `send` fails only where memory runs out.
 #[derive(Drop)]
 pub struct SteadyLink {
     alloc: Global,
@@ -25,24 +30,30 @@ pub struct SteadyLink {
     heard: Heard,
     sent: Vec<Sent>,
     closed: Vec<Closed>,
+    calls: u64,
 }
 
 impl Model for SteadyLink {
-    ghost use Rattle.el_outside.specs.Story.{Story};
+    ghost use Rattle.el_fakes.specs.Coming.{SteadyState};
 
-    ghost Value = { Story };
+    ghost Value = { SteadyState };
 
-    ghost use Rattle.el_fakes.specs.Links.{story_of, IsKept};
+    ghost use Rattle.el_fakes.specs.within.Links.{state_of, FieldsAgree};
 
-    ghost view = { story_of };
+    ghost view = { state_of };
 
-    ghost invariant = { IsKept };
+    ghost invariant = { FieldsAgree };
 }
 
 impl SteadyLink {
-    /// A link that brings these steps, with the room for each peer that comes to be closed. It fails only for want of memory.
+    /// A link that brings these steps, with the room for each peer that comes to be closed. It fails only
+    /// where memory runs out.
     pub fn new(alloc: Global, coming: Vec<Coming>) -> Result<SteadyLink, OutOfMemory>
-        ensures { IfOk result (λ link. link ≡ record { arrivals = []; messages = []; closings = [] }) }
+        ensures { IfOk result (λ link. link ≡ record {
+          story = record { arrivals = []; messages = []; closings = [] };
+          coming = coming.items;
+          calls = 0;
+        }) }
     {
         let peers = Vec::with_capacity(alloc, coming.len())?;
         let closed = Vec::with_capacity(alloc, coming.len())?;
@@ -52,41 +63,56 @@ impl SteadyLink {
             spot: Spot { place: 0, given: 0 },
             last: 0,
             peers,
-            heard: Heard::new(),
+            heard: Heard::Nothing,
             sent: Vec::new(alloc),
             closed,
+            calls: 0,
         })
     }
 
     /// The messages that were sent, in order.
     pub fn sent(&self) -> &[Sent]
-        ensures { map message_of result.now ≡ self.now.messages }
+        ensures { map message_of result.now ≡ self.now.story.messages }
     {
         self.sent.as_slice()
     }
 
     /// The peers that were closed, in order.
     pub fn closed(&self) -> &[Closed]
-        ensures { map closing_of result.now ≡ self.now.closings }
+        ensures { map closing_of result.now ≡ self.now.story.closings }
     {
         self.closed.as_slice()
     }
 }
 
 impl Link for SteadyLink {
-    ghost use Rattle.el_fakes.specs.Greatest.{greatest, greatest_is_last};
+    ghost use Rattle.el_fakes.specs.within.Laws.{greatest_is_last};
 
     ghost tells = { Unit {0} };
 
-    ghost story = { λ link. link };
+    ghost story = { λ link. link.story };
 
-    ghost last = { greatest };
+    ghost last = { λ link. greatest link.story };
+
+    ghost calls = { λ link. link.calls };
 
     ghost faults = { λ link. 0 };
 
-    ghost greater_is_new = { λ link p told less. greatest_is_last link p less };
+    ghost greater_is_new = { λ link p told less. greatest_is_last link.story p less };
 
-    fn next(&mut self, buf: &mut [u8]) -> Result<Arrival, LinkFailed> {
+    fn next(&mut self, buf: &mut [u8]) -> Result<Arrival, LinkFailed>
+        requires { length buf.old ≡ BUFFER_SIZE }
+        ensures succeeds { IsOk result }
+        ensures lawful { IfOk result (λ arrival.
+            IsNextArrival (greatest self.old.story) arrival (greatest self.new.story)) }
+        ensures took { IfOk result (λ arrival.
+            GoesOn self.old.story self.new.story (with_bytes arrival buf.new ∷ []) [] []) }
+        ensures silent { IfOk result (λ arrival. NamesNoClosed self.old.story (with_bytes arrival buf.new)) }
+        ensures handed { IfOk result (λ arrival. next_after self.old.story self.old.coming
+            ≡ record { arrival = with_bytes arrival buf.new; coming = self.new.coming }) }
+        ensures called { self.new.calls ≡ risen self.old.calls 1 }
+    {
+        self.calls = self.calls.saturating_add(1);
         let taken = take(
             self.coming.as_slice(),
             self.spot,
@@ -96,21 +122,31 @@ impl Link for SteadyLink {
         );
         self.last = welcome(&mut self.peers, self.last, taken.arrival);
         self.spot = taken.spot;
-        self.heard = self.heard.then(&Note {
-            arrival: taken.arrival,
-            buf,
-        });
+        self.heard = then(&self.heard, taken.arrival, buf);
         Ok(taken.arrival)
     }
 
-    fn send(&mut self, p: Peer, bytes: &[u8]) -> Result<(), SendFault> {
+    fn send(&mut self, p: Peer, bytes: &[u8]) -> Result<(), SendFault>
+        ensures sent { OnOk result
+            (GoesOn self.old.story self.new.story [] (record { peer = p; text = bytes.now } ∷ []) []) }
+        ensures not_sent { OnErr result (self.new.story ≡ self.old.story) }
+        ensures same_last { greatest self.new.story ≡ greatest self.old.story }
+        ensures never_gone { IsErrOf result SendFault.Gone → ⊥ }
+        ensures same { self.new ≡ record self.old { story = self.new.story } }
+    {
         match keep(self.alloc, &mut self.sent, p, bytes) {
             Ok(()) => Ok(()),
             Err(OutOfMemory) => Err(SendFault::Memory),
         }
     }
 
-    fn close(&mut self, p: Peer, why: Why) {
+    fn close(&mut self, p: Peer, why: Why)
+        ensures closed { MatchBool (is_open self.old.story p)
+            (GoesOn self.old.story self.new.story [] [] (record { peer = p; why = why } ∷ []))
+            (self.new.story ≡ self.old.story) }
+        ensures same_last { greatest self.new.story ≡ greatest self.old.story }
+        ensures same { self.new ≡ record self.old { story = self.new.story } }
+    {
         if is_among(self.peers.as_slice(), p) {
             remove(&mut self.peers, p);
             put_closed(&mut self.closed, p, why);

@@ -1,16 +1,8 @@
 -- How lists of nodes are appended to.
 use Rattle.std.proofs.Common.{◌≡◌, List, [], ◌∷◌, ◌++◌, sym, ap, ◌∙◌, append_assoc, append-nil, Result, Ok, Err, OnErr}
-use Rattle.std.specs.List.{AllByRecursion}
+use Rattle.el_base.proofs.Lists.{all_append, all_weaker}
 use Rattle.el_model.specs.declared.node.Node.{Node}
 use Rattle.el_files.specs.Appending.{AppendsOnly}
-
-all_joined : (P : Node → Type 0) (xs ys : List Node) → AllByRecursion P xs → AllByRecursion P ys → AllByRecursion P (xs ++ ys)
-all_joined P [] ys a b = b
-all_joined P (x ∷ xs) ys a b = (a.0, all_joined P xs ys a.1 b)
-
-all_weaker : (P Q : Node → Type 0) (xs : List Node) → ((n : Node) → P n → Q n) → AllByRecursion P xs → AllByRecursion Q xs
-all_weaker P Q [] f a = tt
-all_weaker P Q (x ∷ xs) f a = (f x a.0, all_weaker P Q xs f a.1)
 
 -- nothing was appended
 pub only_none : (P : Node → Type 0) (old : List Node) → AppendsOnly P old old
@@ -21,7 +13,7 @@ pub only_joined : (P : Node → Type 0) (old mid new : List Node) → AppendsOnl
 only_joined P old mid new a b = record {
   more = a.more ++ b.more;
   appended = b.appended ∙ ap (λ (t : List Node). t ++ b.more) a.appended ∙ append_assoc old a.more b.more;
-  each = all_joined P a.more b.more a.each b.each;
+  each = all_append P a.more b.more a.each b.each;
 }
 
 -- one more was

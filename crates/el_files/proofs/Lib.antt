@@ -4,3 +4,4 @@ pub mod Walks
 pub mod Scans
 pub mod ManyFiles
 pub mod Readings
+pub mod Standing

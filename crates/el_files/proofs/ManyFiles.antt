@@ -1,17 +1,18 @@
 -- The scan of file after file.
 use Rattle.std.proofs.Common.{◌≡◌, ℕ, zero, suc, ◌+◌, ◌-◌, ◌<◌, ◌≤◌, List, [], ◌++◌, refl, sym, ap, ◌∙◌, arith, Bool, true, false, ◌==◌, if◌then◌else◌, append_assoc, append-nil}
 use Rattle.std.proofs.lemmas.Bool.{eq-eqb, eqb-true}
-use Rattle.el_outside.specs.Files.{AllGrow, IsFile}
+use Rattle.el_outside.specs.Files.{Grows, AllGrow, IsFile}
 use Rattle.el_outside.proofs.Stories.{grows_none, grows_more}
 use Rattle.el_model.specs.Records.{records, records_of_files}
 use Rattle.el_model.specs.declared.node.Node.{Node}
+use Rattle.el_outside.specs.declared.archive.TheConstants.{MOST_FILES}
 use Rattle.el_files.specs.Appending.{AppendsFront}
 use Rattle.el_files.specs.Scanning.{AllFiles, IsFoundIn, IsFoundBelow}
 
--- The scan has appended the records of the first so many files.
-pub record ScannedTo (magic : List ℕ) (before now : ℕ → List ℕ) (count file : ℕ) (old new : List Node) : Type 0 where
-  pub all : AllFiles before now
-  pub counted : all.count ≡ count
+-- The scan has appended the records of the first files, up to this one.
+pub record ScannedTo {A : Type 0} (bytes_of : A → ℕ → List ℕ) (file_count : A → ℕ) (magic : List ℕ) (before now : A) (count file : ℕ) (old new : List Node) : Type 0 where
+  pub all : AllFiles bytes_of file_count before now
+  pub counted : file_count all.told ≡ count
   pub appended : new ≡ old ++ records_of_files magic file all.files
 
 same_files : (magic : List ℕ) (n : ℕ) (f g : ℕ → List ℕ) → ((k : ℕ) → k < n → f k ≡ g k) → records_of_files magic n f ≡ records_of_files magic n g
@@ -41,25 +42,37 @@ below_file file bytes files k less =
     either_file (λ (j : ℕ) (t : List ℕ). files j ≡ t) file bytes files k (λ (e : k ≡ file). absurd (omega arith)) refl
 
 -- the files with one that was scanned
-abbrev files_with : (before now later : ℕ → List ℕ) (file : ℕ) (bytes : List ℕ) (all : AllFiles before now) → file < all.count → AllGrow before now → AllGrow now later
-    → IsFile (now file) bytes (later file) → AllFiles before later
-files_with before now later file bytes all less grew grows is = record {
-  count = all.count;
+abbrev files_with : {A : Type 0} (bytes_of : A → ℕ → List ℕ) (file_count : A → ℕ) (before now later : A) (file : ℕ) (bytes : List ℕ)
+    (all : AllFiles bytes_of file_count before now) → file < file_count all.told → AllGrow (bytes_of now) (bytes_of later)
+    → IsFile (bytes_of now file) bytes (bytes_of later file) → AllFiles bytes_of file_count before later
+files_with bytes_of file_count before now later file bytes all less grows is = record {
+  told = all.told;
+  grew = all.grew;
   files = with_file file bytes all.files;
-  each = λ k. either_file (λ (j : ℕ) (t : List ℕ). IsFile (before j) t (later j)) file bytes all.files k
+  each = λ k. either_file (λ (j : ℕ) (t : List ℕ). IsFile (bytes_of all.told j) t (bytes_of later j)) file bytes all.files k
       (λ (e : k ≡ file). here k e)
-      (record { grew = (all.each k).grew; grows = grows_more (all.files k) (now k) (later k) (all.each k).grows (grows k) });
-  none_behind = λ k more. either_file (λ (j : ℕ) (t : List ℕ). t ≡ []) file bytes all.files k (λ (e : k ≡ file). absurd (omega arith)) (all.none_behind k more);
+      (record { grew = (all.each k).grew; grows = grows_more (all.files k) (bytes_of now k) (bytes_of later k) (all.each k).grows (grows k) });
+  none_after = λ k more. either_file (λ (j : ℕ) (t : List ℕ). t ≡ []) file bytes all.files k (λ (e : k ≡ file). absurd (omega arith)) (all.none_after k more);
 }
   where
-    here : (k : ℕ) → k ≡ file → IsFile (before k) bytes (later k)
-    here k e = rw e (record { grew = grows_more (before file) (now file) bytes (grew file) is.grew; grows = is.grows })
+    so_far : Grows (bytes_of all.told file) (bytes_of now file)
+    so_far = grows_more (bytes_of all.told file) (all.files file) (bytes_of now file) (all.each file).grew (all.each file).grows
 
-pub scanned_to_none : (magic : List ℕ) (before now : ℕ → List ℕ) (count : ℕ) (old : List Node) → AllGrow before now → ((file : ℕ) → count ≤ file → now file ≡ [])
-    → ScannedTo magic before now count 0 old old
-scanned_to_none magic before now count old grew none = record {
-  all = record { count = count; files = now; each = λ k. record { grew = grew k; grows = grows_none (now k) }; none_behind = none };
-  counted = refl;
+    here : (k : ℕ) → k ≡ file → IsFile (bytes_of all.told k) bytes (bytes_of later k)
+    here k e = rw e (record { grew = grows_more (bytes_of all.told file) (bytes_of now file) bytes so_far is.grew; grows = is.grows })
+
+pub scanned_to_none : {A : Type 0} (bytes_of : A → ℕ → List ℕ) (file_count : A → ℕ) (magic : List ℕ) (before now : A) (count : ℕ) (old : List Node)
+    → AllGrow (bytes_of before) (bytes_of now) → count ≡ file_count now → ((file : ℕ) → file_count now ≤ file → bytes_of now file ≡ [])
+    → ScannedTo bytes_of file_count magic before now count 0 old old
+scanned_to_none bytes_of file_count magic before now count old grew counted none = record {
+  all = record {
+    told = now;
+    grew = grew;
+    files = bytes_of now;
+    each = λ k. record { grew = grows_none (bytes_of now k); grows = grows_none (bytes_of now k) };
+    none_after = none;
+  };
+  counted = sym counted;
   appended = sym (append-nil old);
 }
 
@@ -74,13 +87,14 @@ up_to_file magic file bytes files =
     ∙ ap (λ (t : List ℕ). records_of_files magic file files ++ records magic file t) (at_file file bytes files)
 
 -- one file more was scanned
-pub scanned_to_more : (magic : List ℕ) (before now later : ℕ → List ℕ) (count file : ℕ) (old mid new : List Node) (bytes : List ℕ)
-    → ScannedTo magic before now count file old mid → file < count → AllGrow before now → AllGrow now later
-    → IsFile (now file) bytes (later file) → new ≡ mid ++ records magic file bytes → ScannedTo magic before later count (file + 1) old new
-scanned_to_more magic before now later count file old mid new bytes s less grew grows is appended =
-    let small : file < s.all.count = let c = s.counted in omega arith in
+pub scanned_to_more : {A : Type 0} (bytes_of : A → ℕ → List ℕ) (file_count : A → ℕ) (magic : List ℕ) (before now later : A) (count file : ℕ) (old mid new : List Node)
+    (bytes : List ℕ) → ScannedTo bytes_of file_count magic before now count file old mid → file < count → AllGrow (bytes_of now) (bytes_of later)
+    → IsFile (bytes_of now file) bytes (bytes_of later file) → new ≡ mid ++ records magic file bytes
+    → ScannedTo bytes_of file_count magic before later count (file + 1) old new
+scanned_to_more bytes_of file_count magic before now later count file old mid new bytes s less grows is appended =
+    let small : file < file_count s.all.told = let c = s.counted in omega arith in
     record {
-      all = files_with before now later file bytes s.all small grew grows is;
+      all = files_with bytes_of file_count before now later file bytes s.all small grows is;
       counted = s.counted;
       appended = appended ∙ ap (λ (t : List Node). t ++ records magic file bytes) s.appended
           ∙ append_assoc old (records_of_files magic file s.all.files) (records magic file bytes)
@@ -101,15 +115,15 @@ more_files magic n (suc k) files =
     )
 
 -- the scan stopped within a file
-pub scanned_front : (magic : List ℕ) (before now later : ℕ → List ℕ) (count file : ℕ) (old mid new : List Node) (bytes : List ℕ)
-    → ScannedTo magic before now count file old mid → file < count → AllGrow before now → AllGrow now later
-    → IsFile (now file) bytes (later file) → AppendsFront (records magic file bytes) mid new
-    → (all : AllFiles before later) × AppendsFront (records_of_files magic all.count all.files) old new
-scanned_front magic before now later count file old mid new bytes s less grew grows is front =
-    let small : file < s.all.count = let c = s.counted in omega arith in
-    let more = more_files magic (file + 1) (s.all.count - (file + 1)) (with_file file bytes s.all.files) in
-    let whole : file + 1 + (s.all.count - (file + 1)) ≡ s.all.count = omega arith in (
-      files_with before now later file bytes s.all small grew grows is,
+pub scanned_front : {A : Type 0} (bytes_of : A → ℕ → List ℕ) (file_count : A → ℕ) (magic : List ℕ) (before now later : A) (count file : ℕ) (old mid new : List Node)
+    (bytes : List ℕ) → ScannedTo bytes_of file_count magic before now count file old mid → file < count → AllGrow (bytes_of now) (bytes_of later)
+    → IsFile (bytes_of now file) bytes (bytes_of later file) → AppendsFront (records magic file bytes) mid new
+    → (all : AllFiles bytes_of file_count before later) × AppendsFront (records_of_files magic (file_count all.told) all.files) old new
+scanned_front bytes_of file_count magic before now later count file old mid new bytes s less grows is front =
+    let small : file < file_count s.all.told = let c = s.counted in omega arith in
+    let more = more_files magic (file + 1) (file_count s.all.told - (file + 1)) (with_file file bytes s.all.files) in
+    let whole : file + 1 + (file_count s.all.told - (file + 1)) ≡ file_count s.all.told = omega arith in (
+      files_with bytes_of file_count before now later file bytes s.all small grows is,
       record {
         front = records_of_files magic file s.all.files ++ front.front;
         rest = front.rest ++ more.0;
@@ -123,6 +137,10 @@ scanned_front magic before now later count file old mid new bytes s less grew gr
     joined : (a b c d : List Node) → (a ++ (b ++ c)) ++ d ≡ (a ++ b) ++ (c ++ d)
     joined a b c d = simp append_assoc
 
--- a node of one of so many files
-pub found_below : (file count : ℕ) (n : Node) → file < count → count ≤ 100000 → IsFoundIn file n → IsFoundBelow 100000 n
-found_below file count n less few h = record { found = h.found; file = let e = h.file in omega arith }
+-- a node of one of `count` files
+pub found_below : (gave : ℕ → ℕ → List ℕ → Type 0) (magic : List ℕ) (file count : ℕ) (n : Node) → file < count → count ≤ MOST_FILES → IsFoundIn gave magic file n
+    → IsFoundBelow gave magic MOST_FILES n
+found_below gave magic file count n less few h =
+    let same : file ≡ n.place.file = sym h.file in
+    let small : n.place.file < MOST_FILES = let e = h.file in omega arith in
+    record { found = rw same at h; file = small }

@@ -4,13 +4,13 @@ use Rattle.std.specs.Prelude.{Option, None, Some, option_map, option_to_list}
 use Rattle.std.proofs.lemmas.Bool.{le-leb}
 use Rattle.std.proofs.lemmas.List.{take-append-le, drop-append-le, drop-drop, length-take, length-take-le, take_at}
 use Rattle.el_outside.specs.Files.{Grows, IsFile}
-use Rattle.el_model.specs.Records.{record_size, node_of, node_at, records, records_from}
+use Rattle.el_model.specs.Records.{record_size, node_of, records, records_from}
 use Rattle.el_model.specs.declared.node.Node.{Node}
+use Rattle.el_files.specs.declared.limits.TheConstants.{MIN_RECORD_SIZE}
 use Rattle.el_files.specs.Appending.{AppendsFront}
-use Rattle.el_files.specs.Heads.{size_in}
-use Rattle.el_files.specs.Walking.{Walked, WalkedTo}
+use Rattle.el_files.specs.within.Walking.{Walked, WalkedTo}
 use Rattle.el_files.proofs.Heading.{size_bounds}
-use Rattle.el_files.proofs.Walks.{records_step}
+use Rattle.el_files.proofs.Walks.{size_here, node_here, records_step}
 
 -- a buffer that the file fills, as it was before it grew
 pub buffer_filled : (bytes now : List ℕ) (at wanted : ℕ) (full : Bool) (new : List ℕ) → Grows bytes now → at + wanted ≤ length bytes
@@ -24,18 +24,18 @@ buffer_filled bytes now at wanted full new (more, grows) enough is filled =
     ap (λ (t : List ℕ). take wanted (drop at t)) grows ∙ ap (take wanted) (drop-append-le at bytes more near) ∙ take-append-le wanted (drop at bytes) more inner in
     (all, filled all ∙ same)
 
-no_room : (magic bytes : List ℕ) (size : Option ℕ) → length bytes < 89 → size_in magic bytes (length bytes) ≡ size → size ≡ None
+no_room : (magic bytes : List ℕ) (size : Option ℕ) → length bytes < MIN_RECORD_SIZE → record_size magic bytes (length bytes) ≡ size → size ≡ None
 no_room magic bytes None short e = refl
 no_room magic bytes (Some n) short e = let b = size_bounds magic bytes (length bytes) n e in absurd (omega arith)
 
--- fewer than 89 bytes have no room for a record
-pub no_size_there : (magic bytes : List ℕ) → length bytes < 89 → record_size magic bytes ≡ None
-no_size_there magic bytes short = no_room magic bytes (record_size magic bytes) short refl
+-- fewer bytes than the least record has have no room for a record
+pub no_size_there : (magic bytes : List ℕ) → length bytes < MIN_RECORD_SIZE → size_here magic bytes ≡ None
+no_size_there magic bytes short = no_room magic bytes (size_here magic bytes) short refl
 
-pub no_node_there : (magic : List ℕ) (file place : ℕ) (bytes : List ℕ) → length bytes < 89 → None ≡ node_at magic file place bytes
+pub no_node_there : (magic : List ℕ) (file place : ℕ) (bytes : List ℕ) → length bytes < MIN_RECORD_SIZE → None ≡ node_here magic file place bytes
 no_node_there magic file place bytes short = sym (ap (option_map (λ size. node_of file place size (drop 8 bytes))) (no_size_there magic bytes short))
 
-pub no_records_there : (magic : List ℕ) (file place : ℕ) (bytes : List ℕ) → length bytes < 89 → records_from magic file place 0 bytes ≡ []
+pub no_records_there : (magic : List ℕ) (file place : ℕ) (bytes : List ℕ) → length bytes < MIN_RECORD_SIZE → records_from magic file place 0 bytes ≡ []
 no_records_there magic file place [] short = refl
 no_records_there magic file place (b ∷ bytes) short =
     let none = no_size_there magic (b ∷ bytes) short in
@@ -46,7 +46,7 @@ no_records_there magic file place (b ∷ bytes) short =
     ∙ ap (λ (t : List ℕ). records_from magic file (place + (1 + 0)) 0 t) rest
     ∙ no_records_there magic file (place + (1 + 0)) bytes (omega arith)
 
-pub far_node : (magic : List ℕ) (file at size : ℕ) (bytes : List ℕ) → length bytes ≡ size → size < at + 89 → None ≡ node_at magic file at (drop at bytes)
+pub far_node : (magic : List ℕ) (file at size : ℕ) (bytes : List ℕ) → length bytes ≡ size → size < at + MIN_RECORD_SIZE → None ≡ node_here magic file at (drop at bytes)
 far_node magic file at size bytes long far = no_node_there magic file at (drop at bytes) (rw (length-drop at bytes) (omega arith))
 
 pub walked_to_none : (magic : List ℕ) (file : ℕ) (bytes : List ℕ) (old : List Node) → WalkedTo magic file 0 bytes old old
@@ -56,19 +56,19 @@ walked_to_none magic file bytes old = record { nodes = []; appended = sym (appen
 pub walked_to_more : (magic : List ℕ) (file at passed next : ℕ) (bytes : List ℕ) (old mid new : List Node) → WalkedTo magic file at bytes old mid
     → Walked magic file at passed (drop at bytes) mid new → next ≡ at + passed → WalkedTo magic file next bytes old new
 walked_to_more magic file at passed next bytes old mid new a b goes =
-    let behind : drop passed (drop at bytes) ≡ drop next bytes = drop-drop passed at bytes ∙ ap (λ (n : ℕ). drop n bytes) (sym goes) in
+    let after : drop passed (drop at bytes) ≡ drop next bytes = drop-drop passed at bytes ∙ ap (λ (n : ℕ). drop n bytes) (sym goes) in
     record {
       nodes = a.nodes ++ b.nodes;
       appended = b.appended ∙ ap (λ (t : List Node). t ++ b.nodes) a.appended ∙ append_assoc old a.nodes b.nodes;
       rest = a.rest ∙ ap (λ (t : List Node). a.nodes ++ t)
           (b.rest ∙ ap (λ (p : ℕ). b.nodes ++ records_from magic file p 0 (drop passed (drop at bytes))) (sym goes)
-          ∙ ap (λ (t : List ℕ). b.nodes ++ records_from magic file next 0 t) behind)
+          ∙ ap (λ (t : List ℕ). b.nodes ++ records_from magic file next 0 t) after)
           ∙ sym (append_assoc a.nodes b.nodes (records_from magic file next 0 (drop next bytes)));
     }
 
 -- a walk that has come so near to the end has passed all records
 pub walked_all : (magic : List ℕ) (file at size : ℕ) (bytes : List ℕ) (old new : List Node) → WalkedTo magic file at bytes old new → length bytes ≡ size
-    → size < at + 89 → new ≡ old ++ records magic file bytes
+    → size < at + MIN_RECORD_SIZE → new ≡ old ++ records magic file bytes
 walked_all magic file at size bytes old new w long near =
     let none = no_records_there magic file at (drop at bytes) (rw (length-drop at bytes) (omega arith)) in
     let all : records magic file bytes ≡ w.nodes = w.rest ∙ ap (λ (t : List Node). w.nodes ++ t) none ∙ append-nil w.nodes in
@@ -83,6 +83,11 @@ walked_front magic file at bytes old new w = record {
   begins = w.rest;
   appended = w.appended;
 }
+
+-- the part of a buffer that was filled
+pub piece_kept : (buffer new : List ℕ) (wanted : ℕ) → wanted ≤ length buffer → length new ≡ length (take wanted buffer)
+    → take wanted (new ++ drop wanted buffer) ≡ new
+piece_kept buffer new wanted room same = take_at new (drop wanted buffer) wanted (same ∙ length-take-le wanted buffer room)
 
 -- the part of a buffer that the file filled is a piece of the file
 pub piece_filled : (bytes now buffer new : List ℕ) (at wanted size : ℕ) (full : Bool) → Grows bytes now → length bytes ≡ size → at + wanted ≤ size → wanted ≤ length buffer

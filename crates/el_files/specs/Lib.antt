@@ -1,6 +1,4 @@
 pub mod Appending
-pub mod Heads
-pub mod Walking
 pub mod Scanning
-pub mod Passing
 pub mod Reading
+pub mod within

@@ -1,34 +1,63 @@
 -- What a scan of the block files finds.
-use Rattle.std.specs.Prelude.{◌≡◌, ℕ, ◌+◌, ◌<◌, ◌≤◌, ◌^◌, List, []}
-use Rattle.el_outside.specs.Files.{IsFile}
-use Rattle.el_model.specs.Records.{IsNode}
+use Rattle.std.specs.Prelude.{◌≡◌, ℕ, ◌+◌, ◌<◌, ◌≤◌, List, [], length, drop, Some}
+use Rattle.el_outside.specs.Files.{AllGrow, IsFile}
+use Rattle.el_outside.specs.declared.archive.TheConstants.{SIZE_LIMIT}
+use Rattle.el_model.specs.Records.{IsNode, node_at}
+use Rattle.el_model.specs.declared.limits.TheConstants.{MIN_BLOCK_SIZE, MAX_BLOCK_WEIGHT}
 use Rattle.el_model.specs.declared.node.Node.{Node}
+use Rattle.el_files.specs.declared.limits.TheConstants.{PREFIX_SIZE, HEAD_SIZE}
 
--- A block that was found in the block files. Its record ends below 2^62.
+-- A block that was found in the block files. Its record ends where a file can.
 pub record IsFound (n : Node) : Type 0 where
   pub node : IsNode n
-  pub least : 81 ≤ n.place.len
-  pub most : n.place.len ≤ 4000000
-  pub within : n.place.offset + (8 + n.place.len) < 2 ^ 62
+  pub least : MIN_BLOCK_SIZE ≤ n.place.len
+  pub most : n.place.len ≤ MAX_BLOCK_WEIGHT
+  pub within : n.place.offset + (PREFIX_SIZE + n.place.len) < SIZE_LIMIT
+
+-- The head of the node's record, which is magic, size and header, stands in these bytes, which begin at the
+-- place of the file with that number. The file has `left` bytes from the record's place on.
+pub record HasHead (magic : List ℕ) (number place : ℕ) (bytes : List ℕ) (n : Node) : Type 0 where
+  pub from : ℕ
+  pub left : ℕ
+  pub whole : from + HEAD_SIZE ≤ length bytes
+  pub tells : node_at magic number (place + from) (drop from bytes) left ≡ Some n
+
+-- one read of the file with this number gave bytes that have the head of the node's record
+pub record WasRead (gave : ℕ → ℕ → List ℕ → Type 0) (magic : List ℕ) (number : ℕ) (n : Node) : Type 0 where
+  pub place : ℕ
+  pub bytes : List ℕ
+  pub given : gave number place bytes
+  pub head : HasHead magic number place bytes n
 
 -- it was found in this file
-pub record IsFoundIn (number : ℕ) (n : Node) : Type 0 where
+pub record IsFoundIn (gave : ℕ → ℕ → List ℕ → Type 0) (magic : List ℕ) (number : ℕ) (n : Node) : Type 0 where
   pub found : IsFound n
   pub file : n.place.file ≡ number
+  pub read : WasRead gave magic number n
 
 -- its record stands at this place of this file
-pub record IsFoundAt (number at : ℕ) (n : Node) : Type 0 where
-  pub found : IsFoundIn number n
+pub record IsFoundAt (gave : ℕ → ℕ → List ℕ → Type 0) (magic : List ℕ) (number at : ℕ) (n : Node)
+    : Type 0 where
+  pub found : IsFoundIn gave magic number n
   pub offset : n.place.offset ≡ at
 
 -- it was found in one of the files that there can be
-pub record IsFoundBelow (count : ℕ) (n : Node) : Type 0 where
-  pub found : IsFound n
+pub record IsFoundBelow (gave : ℕ → ℕ → List ℕ → Type 0) (magic : List ℕ) (count : ℕ) (n : Node)
+    : Type 0 where
+  pub found : IsFoundIn gave magic n.place.file n
   pub file : n.place.file < count
 
--- The bytes of all files, of each as it was at some moment of a call, which has these files before and now; none from the number `count` on has any.
-pub record AllFiles (before now : ℕ → List ℕ) : Type 0 where
-  pub count : ℕ
+-- The node is that of the record that stands at its place in the file with this number and these bytes.
+pub record IsRecordIn (magic : List ℕ) (number : ℕ) (bytes : List ℕ) (n : Node) : Type 0 where
+  pub stands : node_at magic number n.place.offset (drop n.place.offset bytes)
+      (length (drop n.place.offset bytes)) ≡ Some n
+
+-- The bytes of all files of an archive that was `before` and is `now`: of each file as it was at some
+-- moment between. `told` is the archive as it was when it told the number of its files; none after them has
+-- bytes.
+pub record AllFiles {A : Type 0} (bytes : A → ℕ → List ℕ) (file_count : A → ℕ) (before now : A) : Type 0 where
+  pub told : A
+  pub grew : AllGrow (bytes before) (bytes told)
   pub files : ℕ → List ℕ
-  pub each : (file : ℕ) → IsFile (before file) (files file) (now file)
-  pub none_behind : (file : ℕ) → count ≤ file → files file ≡ []
+  pub each : (file : ℕ) → IsFile (bytes told file) (files file) (bytes now file)
+  pub none_after : (file : ℕ) → file_count told ≤ file → files file ≡ []

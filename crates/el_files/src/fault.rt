@@ -1,6 +1,6 @@
 // Faults of reading the block files.
 ghost use Rattle.std.specs.Prelude.{◌≡◌};
-ghost use Rattle.el_files.specs.Passing.{as_read};
+ghost use Rattle.el_files.specs.within.Passing.{as_read};
 ghost use Rattle.el_files.specs.declared.fault.ScanFault.TheVariants as scan;
 ghost use Rattle.el_files.specs.declared.fault.ReadFault.TheVariants as read;
 
@@ -13,7 +13,7 @@ pub enum ScanFault {
     /// A call of the block files failed.
     #[error("block files failed")]
     ArchiveFailed,
-    /// No memory was found.
+    /// Out of memory.
     #[error("out of memory")]
     Memory,
 }
@@ -24,14 +24,15 @@ pub enum ReadFault {
     /// A call of the block files failed.
     #[error("block files failed")]
     ArchiveFailed,
-    /// Other bytes stand at the place than those that were found there: their hash, in inner order, is another than the one that was wanted. `found`
-    /// is None where the file ends before the last of them, or where they spell nothing that has a hash.
+    /// Other bytes stand at the place than those that were found there. Both hashes are in inner order.
+    /// `found` is None where the file ends before the last of them, or where they encode nothing that has a
+    /// hash.
     #[error("block files changed")]
     Changed {
         wanted: Hash32,
         found: Option<Hash32>,
     },
-    /// No memory was found.
+    /// Out of memory.
     #[error("out of memory")]
     Memory,
 }

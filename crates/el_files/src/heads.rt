@@ -1,12 +1,13 @@
 // The heads of records: magic, size and header.
-ghost use Rattle.std.specs.Prelude.{◌≡◌, ◌+◌, ◌<◌, ◌≤◌, ◌^◌, take, length, IfSome};
+ghost use Rattle.std.specs.Prelude.{◌≡◌, ◌+◌, ◌<◌, ◌≤◌, take, length, IfSome};
 ghost use Rattle.std.specs.Str.{bytes_eq};
 ghost use Rattle.el_model.specs.Records as records;
 ghost use Rattle.el_model.specs.Records.{IsNode};
-ghost use Rattle.el_files.specs.Heads as spec;
-ghost use Rattle.el_files.specs.Scanning.{IsFoundAt};
+ghost use Rattle.el_outside.specs.declared.archive.TheConstants.{SIZE_LIMIT};
+ghost use Rattle.el_files.specs.within.Finding.{IsAt};
 
-use el_model::Node;
+use crate::limits::{HEAD_SIZE, PREFIX_SIZE};
+use el_model::{MAX_BLOCK_WEIGHT, MIN_BLOCK_SIZE, Node};
 use el_outside::Place;
 use el_tx::{block_hash, decode_header};
 
@@ -18,10 +19,10 @@ fn has_magic(bytes: &[u8], magic: [u8; 4]) -> bool
     bytes[0] == magic[0] && bytes[..4] == magic[..]
 }
 
-// The size that is told behind the magic.
-fn told_size(bytes: &[u8]) -> u32
+// The size that stands after the magic.
+fn size_field(bytes: &[u8]) -> u32
     requires { 8 ≤ length bytes.now }
-    ensures { result ≡ records.told_size bytes.now }
+    ensures { result ≡ records.size_field bytes.now }
 {
     match bytes[4..].split_first_chunk::<4>() {
         Some((digits, _)) => u32::from_le_bytes(*digits),
@@ -29,16 +30,20 @@ fn told_size(bytes: &[u8]) -> u32
     }
 }
 
-// The size of the block of the record that the bytes begin with, where the file has so many bytes from its place on.
+// The size of the block of the record that the bytes begin with, in a file that has `left` bytes from its
+// place on.
 fn size_in(bytes: &[u8], magic: [u8; 4], left: u64) -> Option<u32>
     requires { 8 ≤ length bytes.now }
-    ensures { result ≡ spec.size_in magic bytes.now left }
+    ensures { result ≡ records.record_size magic bytes.now left }
 {
     if !has_magic(bytes, magic) {
         return None;
     }
-    let size = told_size(bytes);
-    if 81 <= size && size <= 4_000_000 && 8 + size as u64 <= left {
+    let size = size_field(bytes);
+    if MIN_BLOCK_SIZE <= size
+        && size <= MAX_BLOCK_WEIGHT
+        && PREFIX_SIZE as u64 + size as u64 <= left
+    {
         Some(size)
     } else {
         None
@@ -57,14 +62,14 @@ fn node_of(place: Place, header: &[u8; 80]) -> Node
     }
 }
 
-/// The block of the record that the bytes begin with, at this place of a file that has so many bytes from there on. It takes at least 88 bytes: the
-/// network's magic, the size and the header. None where no record stands.
+/// The block of the record that the bytes begin with, at the place `at` of a file that has `left` bytes
+/// from there on. It takes at least `HEAD_SIZE` bytes. None where no record stands.
 pub fn node_in(bytes: &[u8], magic: [u8; 4], file: u32, at: u64, left: u64) -> Option<Node>
-    requires long { 88 ≤ length bytes.now }
-    requires small { at + left < 2 ^ 62 }
-    ensures is { result ≡ spec.node_in magic file at bytes.now left }
-    ensures node { IfSome result (λ node. IsFoundAt file at node) }
-    ensures within { IfSome result (λ node. 8 + node.place.len ≤ left) }
+    requires long { HEAD_SIZE ≤ length bytes.now }
+    requires small { at + left < SIZE_LIMIT }
+    ensures is { result ≡ records.node_at magic file at bytes.now left }
+    ensures node { IfSome result (λ node. IsAt file at node) }
+    ensures within { IfSome result (λ node. PREFIX_SIZE + node.place.len ≤ left) }
 {
     let len = size_in(bytes, magic, left)?;
     let place = Place {

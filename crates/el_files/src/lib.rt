@@ -1,16 +1,19 @@
-//! The blocks of the node's block files: where they stand, and their bytes and those of their transactions. A read notices that the bytes have changed
-//! since the block or the transaction was found there.
+//! The blocks of the node's block files: where they stand, their bytes and those of their transactions. A
+//! read notices that the bytes have changed since the block or the transaction was found there.
 #![tactic(auto)]
 
 mod fault;
 mod filling;
 mod heads;
+mod laws;
+mod limits;
 mod lookup;
 mod reading;
 mod scanning;
 mod walk;
 
 pub use fault::{ReadFault, ScanFault};
+pub use laws::records_stand;
 pub use lookup::record_at;
 pub use reading::{read_block, read_tx};
 pub use scanning::{scan, scan_file};

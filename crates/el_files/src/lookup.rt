@@ -1,18 +1,20 @@
 // A record of a block file, by its place.
-ghost use Rattle.std.specs.Prelude.{◌≡◌, ℕ, List, drop, IfOk, IfSome};
-ghost use Rattle.el_outside.specs.Counts.{HasCause};
-ghost use Rattle.el_outside.specs.Files.{AllGrow, IsFile};
+ghost use Rattle.std.specs.Prelude.{◌≡◌, ℕ, List, length, drop, IfOk, IfSome};
+ghost use Rattle.el_outside.specs.Counts.{OnlyReads};
+ghost use Rattle.el_outside.specs.Files.{IsFile};
 ghost use Rattle.el_model.specs.Records.{node_at};
 ghost use Rattle.el_files.specs.Scanning.{IsFoundAt};
 
 use crate::filling::fill;
 use crate::heads::node_in;
+use crate::limits::{HEAD_SIZE, MIN_RECORD_SIZE};
 use el_model::Node;
 use el_outside::{Archive, ArchiveFailed};
 
-/// The block whose record stands at the place of a file, counted in bytes from 0: the network's magic, the block's size in four bytes, the lowest first,
-/// from 81 to 4,000,000, and so many bytes of block. None where no record stands there. Any place can be asked for. It takes no memory, and of the
-/// block it reads the header alone.
+/// The block whose record stands at the place of a file, counted in bytes from 0. None where no record
+/// stands there. Any place can be asked for. A record is the network's magic, the block's size in four
+/// bytes, the lowest first, from 81 to 4,000,000, and that many bytes of block. It takes no memory, and of
+/// the block it reads the header alone.
 pub fn record_at<A: Archive>(
     archive: &mut A,
     magic: [u8; 4],
@@ -20,18 +22,19 @@ pub fn record_at<A: Archive>(
     at: u64,
 ) -> Result<Option<Node>, ArchiveFailed>
     // It is the record that stands there, in the file as it was when its size was told.
-    ensures record { A.tells → IfOk result (λ found. (bytes : List ℕ) × IsFile (A.bytes archive.old file) bytes (A.bytes archive.new file)
-        × (found ≡ node_at magic file at (drop at bytes))) }
-    // Whatever the file is, what is found is a node at that place.
-    ensures node { IfOk result (λ found. IfSome found (λ node. IsFoundAt file at node)) }
-    ensures keeps { A.tells → AllGrow (A.bytes archive.old) (A.bytes archive.new) }
-    ensures cause { HasCause (A.faults archive.old) (A.faults archive.new) result }
+    ensures record { A.tells → IfOk result (λ found. (bytes : List ℕ)
+        × IsFile (A.bytes archive.old file) bytes (A.bytes archive.new file)
+        × (found ≡ node_at magic file at (drop at bytes) (length (drop at bytes)))) }
+    // Whatever the file is, what is found is a node at that place, whose head was read.
+    ensures node { IfOk result (λ found. IfSome found (IsFoundAt A.gave magic file at)) }
+    ensures only_reads { OnlyReads A.tells (A.bytes archive.old) (A.bytes archive.new)
+        (A.faults archive.old) (A.faults archive.new) (record {}) result }
 {
     let size = archive.size(file)?;
-    if size < 89 || at > size - 89 {
+    if size < MIN_RECORD_SIZE || at > size - MIN_RECORD_SIZE {
         return Ok(None);
     }
-    let mut head = [0u8; 88];
+    let mut head = [0u8; HEAD_SIZE];
     if !fill(archive, file, at, head.as_mut_slice())? {
         return Ok(None);
     }

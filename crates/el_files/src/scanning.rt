@@ -1,27 +1,24 @@
 // The scan of block files.
-ghost use Rattle.std.specs.Prelude.{◌≡◌, ◌+◌, ◌<◌, ◌≤◌, ◌^◌, ◌⊎◌, ℕ, List, ◌++◌, length, drop, IfOk, OnOk, OnErr, IsErrOf};
-ghost use Rattle.el_outside.specs.Counts.{RoseBy};
-ghost use Rattle.el_outside.specs.Files.{Grows, AllGrow, IsFile};
+ghost use Rattle.std.specs.Prelude.{◌≡◌, ◌+◌, ◌<◌, ◌≤◌, ◌⊎◌, ℕ, List, ◌++◌, length, drop, IfOk, OnOk, OnErr};
+ghost use Rattle.el_outside.specs.Counts.{OnlyReads};
+ghost use Rattle.el_outside.specs.Files.{Grows, IsFile};
 ghost use Rattle.el_model.specs.Records.{records, records_of_files};
+ghost use Rattle.el_outside.specs.declared.archive.TheConstants.{MOST_FILES, SIZE_LIMIT};
 ghost use Rattle.el_files.specs.Appending.{AppendsOnly, AppendsFront};
 ghost use Rattle.el_files.specs.Scanning.{IsFoundIn, IsFoundBelow, AllFiles};
-ghost use Rattle.el_files.specs.Walking.{Walked};
+ghost use Rattle.el_files.specs.within.Walking.{Walked};
 
 use crate::fault::ScanFault;
 use crate::filling::{fill, zeros};
+use crate::limits::{MIN_RECORD_SIZE, PIECE_SIZE};
 use crate::walk::walk;
 use el_model::Node;
 use el_outside::Archive;
 use std::alloc::Global;
 
-/// How many bytes are read in one piece.
-const PIECE: u64 = 65_536;
-
-/// A record has at least so many bytes: magic, size and the smallest block.
-const SMALLEST: u64 = 89;
-
-// Reads the piece at the place of a file of this size, appends the blocks whose heads stand in it, and answers the place to go on from. A file that gives
-// fewer bytes than its size promised ends there.
+// Reads the piece at the place of a file of this size, appends the blocks whose heads stand in it, and
+// answers the place to go on from. A file that gives fewer bytes than its size promised ends there: what
+// the buffer had before is never walked over.
 fn scan_piece<A: Archive>(
     archive: &mut A,
     magic: [u8; 4],
@@ -31,20 +28,20 @@ fn scan_piece<A: Archive>(
     buffer: &mut [u8],
     found: &mut Vec<Node>,
 ) -> Result<u64, ScanFault>
-    requires place { at + 89 ≤ size }
-    requires size { size < 2 ^ 62 }
-    requires buffer { length buffer.old ≡ 65536 }
+    requires place { at + MIN_RECORD_SIZE ≤ size }
+    requires size { size < SIZE_LIMIT }
+    requires buffer { length buffer.old ≡ PIECE_SIZE }
     // What was appended are the records that were passed.
     ensures walked { A.tells → (bytes : List ℕ) → length bytes ≡ size → Grows bytes (A.bytes archive.old file)
-        → (passed : ℕ) × Walked magic file at passed (drop at bytes) found.old.items found.new.items × IfOk result (λ next. next ≡ at + passed) }
-    ensures nodes { AppendsOnly (IsFoundIn file) found.old.items found.new.items }
+        → (passed : ℕ) × Walked magic file at passed (drop at bytes) found.old.items found.new.items
+        × IfOk result (λ next. next ≡ at + passed) }
+    ensures nodes { AppendsOnly (IsFoundIn A.gave magic file) found.old.items found.new.items }
     ensures goes { IfOk result (λ next. (at < next) × (next ≤ size)) }
-    ensures keeps { A.tells → AllGrow (A.bytes archive.old) (A.bytes archive.new) }
-    ensures never_falls { A.faults archive.old ≤ A.faults archive.new }
-    ensures failed { IsErrOf result ScanFault.ArchiveFailed → RoseBy (A.faults archive.old) (A.faults archive.new) 1 }
+    ensures only_reads { OnlyReads A.tells (A.bytes archive.old) (A.bytes archive.new)
+        (A.faults archive.old) (A.faults archive.new) ScanFault.ArchiveFailed result }
 {
     let left = size - at;
-    let wanted = left.min(PIECE) as usize;
+    let wanted = left.min(PIECE_SIZE as u64) as usize;
     if !fill(archive, file, at, &mut buffer[..wanted])? {
         return Ok(size);
     }
@@ -60,31 +57,35 @@ fn scan_through<A: Archive>(
     buffer: &mut [u8],
     found: &mut Vec<Node>,
 ) -> Result<(), ScanFault>
-    requires { length buffer.old ≡ 65536 }
-    ensures records { A.tells → OnOk result ((bytes : List ℕ) × IsFile (A.bytes archive.old file) bytes (A.bytes archive.new file)
+    requires { length buffer.old ≡ PIECE_SIZE }
+    ensures records { A.tells → OnOk result ((bytes : List ℕ)
+        × IsFile (A.bytes archive.old file) bytes (A.bytes archive.new file)
         × (found.new.items ≡ found.old.items ++ records magic file bytes)) }
-    ensures front { A.tells → OnErr result ((bytes : List ℕ) × IsFile (A.bytes archive.old file) bytes (A.bytes archive.new file)
+    ensures front { A.tells → OnErr result ((bytes : List ℕ)
+        × IsFile (A.bytes archive.old file) bytes (A.bytes archive.new file)
         × AppendsFront (records magic file bytes) found.old.items found.new.items) }
-    ensures nodes { AppendsOnly (IsFoundIn file) found.old.items found.new.items }
-    ensures keeps { A.tells → AllGrow (A.bytes archive.old) (A.bytes archive.new) }
-    ensures never_falls { A.faults archive.old ≤ A.faults archive.new }
-    ensures failed { IsErrOf result ScanFault.ArchiveFailed → RoseBy (A.faults archive.old) (A.faults archive.new) 1 }
+    ensures nodes { AppendsOnly (IsFoundIn A.gave magic file) found.old.items found.new.items }
+    ensures only_reads { OnlyReads A.tells (A.bytes archive.old) (A.bytes archive.new)
+        (A.faults archive.old) (A.faults archive.new) ScanFault.ArchiveFailed result }
 {
     let size = archive.size(file)?;
     let mut at = 0u64;
-    while at + SMALLEST <= size {
+    while at + MIN_RECORD_SIZE <= size {
         at = scan_piece(archive, magic, file, at, size, buffer, found)?;
     }
     Ok(())
 }
 
-/// Appends the blocks of one file, in the order in which their records stand. A record is the network's magic, the block's size in four bytes, the
-/// lowest first, from 81 to 4,000,000, and so many bytes of block. What stands between records is passed over byte by byte. The file is read in
-/// pieces of 65,536 bytes, up to the size that it has at the first look. No block is read but its header.
+/// Appends the blocks of one file, in the order in which their records stand. A record is the network's
+/// magic, the block's size in four bytes, the lowest first, from 81 to 4,000,000, and that many bytes of
+/// block. What stands between records is passed over byte by byte. The file is read in pieces of 65,536
+/// bytes, up to the size that it has at the first look; where a read gives fewer bytes than were asked for,
+/// the file ends before them. No block is read but its header.
 ///
 /// # Errors
 ///
-/// `ScanFault::ArchiveFailed` where a call of the block files failed, and `ScanFault::Memory` for want of memory. What was found before it was appended.
+/// `ScanFault::ArchiveFailed` where a call of the block files failed, and `ScanFault::Memory` where memory
+/// runs out. Then a front of the file's blocks was appended.
 pub fn scan_file<A: Archive>(
     alloc: Global,
     archive: &mut A,
@@ -93,26 +94,29 @@ pub fn scan_file<A: Archive>(
     found: &mut Vec<Node>,
 ) -> Result<(), ScanFault>
     // All records of the file were appended, as it was when its size was told.
-    ensures records { A.tells → OnOk result ((bytes : List ℕ) × IsFile (A.bytes archive.old file) bytes (A.bytes archive.new file)
+    ensures records { A.tells → OnOk result ((bytes : List ℕ)
+        × IsFile (A.bytes archive.old file) bytes (A.bytes archive.new file)
         × (found.new.items ≡ found.old.items ++ records magic file bytes)) }
     // On an error a front of them was.
-    ensures front { A.tells → OnErr result ((bytes : List ℕ) × IsFile (A.bytes archive.old file) bytes (A.bytes archive.new file)
+    ensures front { A.tells → OnErr result ((bytes : List ℕ)
+        × IsFile (A.bytes archive.old file) bytes (A.bytes archive.new file)
         × AppendsFront (records magic file bytes) found.old.items found.new.items) }
-    // Whatever the file is, what was appended are nodes of it.
-    ensures nodes { AppendsOnly (IsFoundIn file) found.old.items found.new.items }
-    ensures keeps { A.tells → AllGrow (A.bytes archive.old) (A.bytes archive.new) }
-    ensures never_falls { A.faults archive.old ≤ A.faults archive.new }
-    ensures failed { IsErrOf result ScanFault.ArchiveFailed → RoseBy (A.faults archive.old) (A.faults archive.new) 1 }
+    // Whatever the file is, what was appended are nodes of it, whose heads were read.
+    ensures nodes { AppendsOnly (IsFoundIn A.gave magic file) found.old.items found.new.items }
+    ensures only_reads { OnlyReads A.tells (A.bytes archive.old) (A.bytes archive.new)
+        (A.faults archive.old) (A.faults archive.new) ScanFault.ArchiveFailed result }
 {
-    let mut buffer = zeros(alloc, PIECE as usize)?;
+    let mut buffer = zeros(alloc, PIECE_SIZE)?;
     scan_through(archive, magic, file, buffer.as_mut_slice(), found)
 }
 
-/// Appends the blocks of all files, in the order of the files' numbers and then of the places of their records, as `scan_file` does.
+/// Appends the blocks of all files, in the order of the files' numbers and then of the places of their
+/// records, as `scan_file` does.
 ///
 /// # Errors
 ///
-/// `ScanFault::ArchiveFailed` where a call of the block files failed, and `ScanFault::Memory` for want of memory. What was found before it was appended.
+/// `ScanFault::ArchiveFailed` where a call of the block files failed, and `ScanFault::Memory` where memory
+/// runs out. Then a front of all blocks was appended.
 pub fn scan<A: Archive>(
     alloc: Global,
     archive: &mut A,
@@ -120,18 +124,19 @@ pub fn scan<A: Archive>(
     found: &mut Vec<Node>,
 ) -> Result<(), ScanFault>
     // All records of all files were appended, each file as it was when its size was told.
-    ensures records { A.tells → OnOk result ((all : AllFiles (A.bytes archive.old) (A.bytes archive.new))
-        × (found.new.items ≡ found.old.items ++ records_of_files magic all.count all.files)) }
+    ensures records { A.tells → OnOk result ((all : AllFiles A.bytes A.file_count archive.old archive.new)
+        × (found.new.items ≡ found.old.items ++ records_of_files magic (A.file_count all.told) all.files)) }
     // On an error a front of them was, which is empty where the number of files was not told.
-    ensures front { A.tells → OnErr result ((found.new.items ≡ found.old.items) ⊎ ((all : AllFiles (A.bytes archive.old) (A.bytes archive.new))
-        × AppendsFront (records_of_files magic all.count all.files) found.old.items found.new.items)) }
-    // Whatever the files are, what was appended are nodes of files that there can be.
-    ensures nodes { AppendsOnly (IsFoundBelow 100000) found.old.items found.new.items }
-    ensures keeps { A.tells → AllGrow (A.bytes archive.old) (A.bytes archive.new) }
-    ensures never_falls { A.faults archive.old ≤ A.faults archive.new }
-    ensures failed { IsErrOf result ScanFault.ArchiveFailed → RoseBy (A.faults archive.old) (A.faults archive.new) 1 }
+    ensures front { A.tells → OnErr result ((found.new.items ≡ found.old.items)
+        ⊎ ((all : AllFiles A.bytes A.file_count archive.old archive.new)
+        × AppendsFront (records_of_files magic (A.file_count all.told) all.files)
+        found.old.items found.new.items)) }
+    // Whatever the files are, what was appended are nodes of files that there can be, whose heads were read.
+    ensures nodes { AppendsOnly (IsFoundBelow A.gave magic MOST_FILES) found.old.items found.new.items }
+    ensures only_reads { OnlyReads A.tells (A.bytes archive.old) (A.bytes archive.new)
+        (A.faults archive.old) (A.faults archive.new) ScanFault.ArchiveFailed result }
 {
-    let mut buffer = zeros(alloc, PIECE as usize)?;
+    let mut buffer = zeros(alloc, PIECE_SIZE)?;
     let count = archive.files()?;
     for file in 0..count {
         scan_through(archive, magic, file, buffer.as_mut_slice(), found)?;

@@ -1,15 +1,18 @@
 // The walk over a piece of a file.
-ghost use Rattle.std.specs.Prelude.{◌≡◌, ◌+◌, ◌<◌, ◌≤◌, ◌^◌, ℕ, List, take, length, IfOk};
+ghost use Rattle.std.specs.Prelude.{◌≡◌, ◌+◌, ◌<◌, ◌≤◌, ℕ, List, take, length, IfOk};
+ghost use Rattle.el_outside.specs.declared.archive.TheConstants.{SIZE_LIMIT};
 ghost use Rattle.el_files.specs.Appending.{AppendsOnly};
-ghost use Rattle.el_files.specs.Scanning.{IsFoundIn};
-ghost use Rattle.el_files.specs.Walking.{Walked};
+ghost use Rattle.el_files.specs.within.Finding.{IsIn};
+ghost use Rattle.el_files.specs.within.Walking.{Walked};
 
 use crate::heads::node_in;
+use crate::limits::{HEAD_SIZE, PREFIX_SIZE};
 use el_base::OutOfMemory;
 use el_model::Node;
 
-/// Walks over a piece that stands at the place of a file, which has so many bytes from there on, and appends the blocks whose records' heads stand
-/// in it. It answers how many bytes were passed: all but at most 87 of the piece, or more where a record ends behind it.
+/// Walks over a piece that stands at the place `at` of a file, which has `left` bytes from there on, and
+/// appends the blocks whose records' heads stand in it. It answers how many bytes were passed: all but
+/// those at the end that are too few for a head, or more where a record ends after the piece.
 pub fn walk(
     piece: &[u8],
     magic: [u8; 4],
@@ -19,15 +22,16 @@ pub fn walk(
     found: &mut Vec<Node>,
 ) -> Result<u64, OutOfMemory>
     requires front { length piece.now ≤ left }
-    requires small { at + left < 2 ^ 62 }
-    // What was appended are the records that were passed, whatever stands behind the piece.
+    requires small { at + left < SIZE_LIMIT }
+    // What was appended are the records that were passed, whatever stands after the piece.
     ensures walked { (bytes : List ℕ) → length bytes ≡ left → piece.now ≡ take (length piece.now) bytes
-        → (passed : ℕ) × Walked magic file at passed bytes found.old.items found.new.items × IfOk result (λ n. n ≡ passed) }
-    ensures nodes { AppendsOnly (IsFoundIn file) found.old.items found.new.items }
-    ensures far { IfOk result (λ n. (length piece.now < n + 88) × (n ≤ left)) }
+        → (passed : ℕ) × Walked magic file at passed bytes found.old.items found.new.items
+        × IfOk result (λ n. n ≡ passed) }
+    ensures nodes { AppendsOnly (IsIn magic file at piece.now) found.old.items found.new.items }
+    ensures far { IfOk result (λ n. (length piece.now < n + HEAD_SIZE) × (n ≤ left)) }
 {
     let mut passed = 0usize;
-    while passed + 88 <= piece.len() {
+    while passed + HEAD_SIZE <= piece.len() {
         match node_in(
             &piece[passed..],
             magic,
@@ -37,7 +41,7 @@ pub fn walk(
         ) {
             Some(node) => {
                 found.push(node)?;
-                passed += 8 + node.place.len as usize;
+                passed += (PREFIX_SIZE + node.place.len) as usize;
             }
             None => passed += 1,
         }

@@ -1,16 +1,12 @@
 -- The tree row by row.
-use Rattle.std.proofs.Common.{◌≡◌, ◌⊎◌, inl, inr, ℕ, zero, suc, ◌+◌, ◌-◌, ◌*◌, ◌/◌, ◌%◌, ◌<◌, ◌≤◌, ◌≢◌, Bool, true, false, cond, List, [], ◌∷◌, ◌++◌, length, take, drop, get_or, refl, sym, ap, ◌∙◌, append_assoc, arith, ltb-false, ltb-true, ◌↔◌, ◌^◌, le-ltb, lt-ltb, eqb-true, eq-eqb, ne_eqb, ◌==◌, nat_lt, Some}
+use Rattle.std.proofs.Common.{◌≡◌, inl, inr, ℕ, zero, suc, ◌+◌, ◌-◌, ◌*◌, ◌/◌, ◌%◌, ◌<◌, ◌≤◌, ◌≢◌, false, cond, List, [], ◌∷◌, ◌++◌, length, take, drop, get_or, refl, sym, ap, ◌∙◌, append_assoc, arith, ltb-false, ltb-true, ◌↔◌, ◌^◌, le-ltb, lt-ltb, eqb-true, eq-eqb, ne_eqb, ◌==◌, nat_lt, Some}
 use Rattle.std.specs.List.{slice_get}
-use Rattle.std.proofs.lemmas.Bool.{eqb-false}
+use Rattle.std.proofs.lemmas.Bool.{eqb-false, cases_Bool}
 use Rattle.std.proofs.lemmas.List.{take_more, drop_more, set_at, take_at, get_or_default, get_or-drop, get_or-append_right, length-take-le, length-set, take_all, drop_all}
 use Rattle.std.proofs.Math.ListN.{set}
 use Rattle.std.proofs.Math.Nat.{pow-suc}
 use Rattle.el_base.specs.declared.hash.Hash32.{Hash32}
 use Rattle.el_merkle.specs.Merkle.{joined, pairs, row, half_up, halvings, levels, no_hash, root, neighbour, partner, branch_through, branch_of, climb}
-
-tested : (b : Bool) → (b ≡ true) ⊎ (b ≡ false)
-tested true = inl refl
-tested false = inr refl
 
 pub length-pairs : (list : List Hash32) → length (pairs list) ≡ half_up (length list)
 unfolding pairs
@@ -25,7 +21,7 @@ halvings_same zero zero n la lb = refl
 halvings_same zero (suc b) n la lb = rw (lt-ltb n 2 (omega arith)) refl
 halvings_same (suc a) zero n la lb = rw (lt-ltb n 2 (omega arith)) refl
 halvings_same (suc a) (suc b) n la lb =
-    elim (tested (nat_lt n 2)) [
+    elim (cases_Bool (nat_lt n 2)) [
       | inl low ↦ rw low refl
       | inr high ↦
           let two = ltb-false n 2 high in
@@ -62,7 +58,7 @@ halvings_least : (limit n k : ℕ) → n ≤ suc limit → (halvings limit n ≤
 unfolding halvings
 halvings_least zero n k le = let one = positive k in (λ h. omega arith, λ h. omega arith)
 halvings_least (suc limit) n k le =
-    elim (tested (nat_lt n 2)) [
+    elim (cases_Bool (nat_lt n 2)) [
       | inl low ↦
           let few = ltb-true n 2 low in
           let one = positive k in
@@ -130,7 +126,7 @@ pair_above : (list : List Hash32) (pos : ℕ) → pos < length list
     ≡ get_or (pairs list) (pos / 2) no_hash
 unfolding partner
 pair_above list pos lt =
-    elim (tested (pos % 2 == 0)) [
+    elim (cases_Bool (pos % 2 == 0)) [
       | inl even ↦
           let zero_left = eqb-true (pos % 2) 0 even in
           let whole : 2 * (pos / 2) ≡ pos = omega arith in
@@ -140,9 +136,9 @@ pair_above list pos lt =
       | inr odd ↦
           let one_left = eqb-false (pos % 2) 0 odd in
           let whole : 2 * (pos / 2) ≡ pos - 1 = omega arith in
-          let behind : pos - 1 + 1 ≡ pos = omega arith in
+          let after : pos - 1 + 1 ≡ pos = omega arith in
           let pair = pair_at list (pos / 2) no_hash (omega arith) in
-          let pair' = rw (whole, behind) at pair in
+          let pair' = rw (whole, after) at pair in
           let left = get_or_default list (pos - 1) (get_or list pos no_hash) no_hash (omega arith) in
           let right = get_or_default list pos (get_or list (pos - 1) no_hash) no_hash lt in
           rw odd (cc)
@@ -191,9 +187,9 @@ pub record Paired (list : List Hash32) (i : ℕ) (now : List Hash32) : Type 0 wh
 pub paired_none : (list : List Hash32) → Paired list 0 list
 paired_none list = record { size = refl; parts = refl }
 
--- behind the front stand the row's own hashes
-behind_front : (list now : List Hash32) (i j : ℕ) (d : Hash32) → Paired list i now → i < half_up (length list) → i ≤ j → get_or now j d ≡ get_or list j d
-behind_front list now i j d so_far lt le =
+-- after the front stand the row's own hashes
+after_front : (list now : List Hash32) (i j : ℕ) (d : Hash32) → Paired list i now → i < half_up (length list) → i ≤ j → get_or now j d ≡ get_or list j d
+after_front list now i j d so_far lt le =
     let size = length-pairs list in
     let place : i + (j - i) ≡ j = omega arith in
     ap (λ (t : List Hash32). get_or t j d) so_far.parts
@@ -209,11 +205,11 @@ paired_more list now i left right both so_far lt is_left is_right is_both =
     let inside : 2 * i < length list = omega arith in
     let front = length-take-le i (pairs list) (omega arith) in
     let first : left ≡ get_or list (2 * i) no_hash =
-    is_left ∙ behind_front list now i (2 * i) left so_far lt (omega arith) ∙ get_or_default list (2 * i) left no_hash inside in
+    is_left ∙ after_front list now i (2 * i) left so_far lt (omega arith) ∙ get_or_default list (2 * i) left no_hash inside in
     let second : right ≡ get_or list (2 * i + 1) (get_or list (2 * i) no_hash) =
     is_right ∙ ap (λ (k : ℕ). get_or now k (get_or now (2 * i) no_hash)) (neighbour_even (2 * i) (omega arith))
-    ∙ behind_front list now i (2 * i + 1) (get_or now (2 * i) no_hash) so_far lt (omega arith)
-    ∙ ap (get_or list (2 * i + 1)) (behind_front list now i (2 * i) no_hash so_far lt (omega arith)) in
+    ∙ after_front list now i (2 * i + 1) (get_or now (2 * i) no_hash) so_far lt (omega arith)
+    ∙ ap (get_or list (2 * i + 1)) (after_front list now i (2 * i) no_hash so_far lt (omega arith)) in
     let pair : get_or (pairs list) i no_hash ≡ both =
     pair_at list i no_hash inside
     ∙ sym (is_both ∙ ap (λ (hash : Hash32). joined hash right) first ∙ ap (joined (get_or list (2 * i) no_hash)) second) in

@@ -13,7 +13,7 @@ pairs [] = []
 pairs (odd ∷ []) = joined odd odd ∷ []
 pairs (left ∷ right ∷ rest) = joined left right ∷ pairs rest
 
--- the row that is so many levels above the list
+-- the row that is n levels above the list
 unfoldable pub row : ℕ → List Hash32 → List Hash32
 row zero list = list
 row (suc n) list = row n (pairs list)
@@ -35,7 +35,8 @@ levels n = halvings n n
 unfoldable pub no_hash : Hash32
 no_hash = record { 0 = replicate 32 0 }
 
--- Bitcoin's block format: the hash that is left when the list is joined in pairs, and these again, until one is left.
+-- Bitcoin's block format: the hash that is left when the list is joined in pairs, and these again, until one
+-- is left.
 unfoldable pub root : List Hash32 → Hash32
 root list = slice_index_or (row (levels (length list)) list) 0 no_hash
 
@@ -47,16 +48,18 @@ neighbour pos = if pos % 2 == 0 then pos + 1 else pos - 1
 unfoldable pub partner : List Hash32 → ℕ → Hash32
 partner list pos = slice_index_or list (neighbour pos) (slice_index_or list pos no_hash)
 
--- the partners on the way up from the place, through so many levels
+-- the partners on the way up from the place, through n levels
 unfoldable pub branch_through : ℕ → List Hash32 → ℕ → List Hash32
 branch_through zero list pos = []
 branch_through (suc n) list pos = partner list pos ∷ branch_through n (pairs list) (pos / 2)
 
--- Electrum protocol 1.4, `merkle` of blockchain.transaction.get_merkle: the partners from the leaf up to the root, deepest pairing first.
+-- Electrum protocol 1.4, `merkle` of blockchain.transaction.get_merkle: the partners from the leaf up to the
+-- root, deepest pairing first.
 unfoldable pub branch_of : List Hash32 → ℕ → List Hash32
 branch_of list pos = branch_through (levels (length list)) list pos
 
 -- Electrum protocol 1.4: what a wallet computes. A hash at an even place is the left one of its pair.
 unfoldable pub climb : Hash32 → ℕ → List Hash32 → Hash32
 climb hash pos [] = hash
-climb hash pos (next ∷ rest) = climb (if pos % 2 == 0 then joined hash next else joined next hash) (pos / 2) rest
+climb hash pos (next ∷ rest) =
+    climb (if pos % 2 == 0 then joined hash next else joined next hash) (pos / 2) rest

@@ -24,6 +24,8 @@ const THIRD_TWICE: &str = "66e512a6e02cea83ac65cbdd907a2731e778b96b71839ff7b1983
 
 const ALL_THREE: &str = "6ce668e2ec49dae449c0d55de7b1c973696c7d4a47024dbcb26ee99411244ff6";
 
+const ROOT_40: &str = "80751fa6253b6fba98adce751b6c1538e232b673a2aff5fd45312c77fbcd13ad";
+
 // Hashes of 32 bytes 0, of 32 bytes 1, and so on.
 fn leaves(alloc: Global, count: u8) -> Result<Vec<Hash32>, AllocError>
     ensures { IfOk result (λ list. length list.items ≡ count) }
@@ -31,9 +33,23 @@ fn leaves(alloc: Global, count: u8) -> Result<Vec<Hash32>, AllocError>
     (0..count).map(|byte| Hash32([byte; 32])).collect(alloc)
 }
 
+// The transactions of Bitcoin's block 100,000, and the root in its header.
+const BLOCK_100000: [&str; 4] = [
+    "8c14f0db3df150123e6f3dbbf30f8b955a8249b62ac1d1ff16284aefa3d06d87",
+    "fff2525b8931402dd09222c50775608f75787bd2b87e56995a7bdd30f79702c4",
+    "6359f0868171b1d194cbee1af2f16ea598ae8fad666d9b012c8ed2b79a236ec4",
+    "e9a66845e05d5abc0ad04ec80f774a7e585c6e8db975962d069a522137b80c1d",
+];
+
+const ROOT_100000: &str = "f3e94742aca4b5ef85488dc37c06c3282295ffec960994b2c0d5ac2a25a95766";
+
 #[test]
-fn roots_of_one_two_and_three(rt: HostRuntime) -> Result<(), Fail> {
+fn roots(rt: HostRuntime) -> Result<(), Fail> {
     let [first, second, third] = blocks()?;
+    let mut block = [first; 4];
+    for (at, shown) in BLOCK_100000.iter().enumerate() {
+        block[at] = Hash32::from_shown(*shown)?;
+    }
     assert_eq!(rt; root(rt.alloc(), &[first])?, first);
     assert_eq!(rt;
         root(rt.alloc(), &[first, second])?,
@@ -43,37 +59,17 @@ fn roots_of_one_two_and_three(rt: HostRuntime) -> Result<(), Fail> {
         root(rt.alloc(), &[first, second, third])?,
         Hash32::from_shown(ALL_THREE)?
     );
-    Ok(())
-}
-
-// The transactions of Bitcoin's block 100,000, and the root in its header.
-#[test]
-fn root_of_a_block(rt: HostRuntime) -> Result<(), Fail> {
-    let list = [
-        Hash32::from_shown("8c14f0db3df150123e6f3dbbf30f8b955a8249b62ac1d1ff16284aefa3d06d87")?,
-        Hash32::from_shown("fff2525b8931402dd09222c50775608f75787bd2b87e56995a7bdd30f79702c4")?,
-        Hash32::from_shown("6359f0868171b1d194cbee1af2f16ea598ae8fad666d9b012c8ed2b79a236ec4")?,
-        Hash32::from_shown("e9a66845e05d5abc0ad04ec80f774a7e585c6e8db975962d069a522137b80c1d")?,
-    ];
-    let header = Hash32::from_shown(
-        "f3e94742aca4b5ef85488dc37c06c3282295ffec960994b2c0d5ac2a25a95766",
-    )?;
-    assert_eq!(rt; root(rt.alloc(), &list)?, header);
+    assert_eq!(rt; root(rt.alloc(), &block)?, Hash32::from_shown(ROOT_100000)?);
+    let forty = leaves(rt.alloc(), 40)?;
+    assert_eq!(rt; root(rt.alloc(), &forty)?, Hash32::from_shown(ROOT_40)?);
     Ok(())
 }
 
 #[test]
-fn branch_of_one_is_empty(rt: HostRuntime) -> Result<(), Fail> {
-    let [first, _, _] = blocks()?;
-    let (partners, top) = branch(rt.alloc(), &[first], 0)?;
-    assert_eq!(rt; partners.len(), 0);
-    assert_eq!(rt; top, first);
-    Ok(())
-}
-
-#[test]
-fn branches_of_three(rt: HostRuntime) -> Result<(), Fail> {
+fn branches_of_one_and_three(rt: HostRuntime) -> Result<(), Fail> {
     let [first, second, third] = blocks()?;
+    let (partners, top) = branch(rt.alloc(), &[first], 0)?;
+    assert_eq!(rt; (partners.len(), top), (0, first));
     let first_two = Hash32::from_shown(FIRST_TWO)?;
     let third_twice = Hash32::from_shown(THIRD_TWICE)?;
     let all_three = Hash32::from_shown(ALL_THREE)?;
@@ -86,28 +82,8 @@ fn branches_of_three(rt: HostRuntime) -> Result<(), Fail> {
         let (partners, top) = branch(rt.alloc(), &[first, second, third], pos)?;
         assert_eq!(rt; partners.as_slice(), want.as_slice(), "at {pos}");
         assert_eq!(rt; top, all_three, "at {pos}");
+        let leaf = [first, second, third][pos];
+        assert_eq!(rt; climb(leaf, pos as u64, &partners), all_three, "at {pos}");
     }
-    Ok(())
-}
-
-#[test]
-fn every_place_climbs_to_the_root(rt: HostRuntime) -> Result<(), Fail> {
-    for count in 1..41 {
-        let list = leaves(rt.alloc(), count)?;
-        let top = root(rt.alloc(), &list)?;
-        for (pos, leaf) in list.iter().enumerate() {
-            let (partners, same) = branch(rt.alloc(), &list, pos)?;
-            assert_eq!(rt; same, top, "at {pos} of {count}");
-            assert_eq!(rt;
-                climb(*leaf, pos as u64, &partners),
-                top,
-                "at {pos} of {count}"
-            );
-        }
-    }
-    let forty = Hash32::from_shown(
-        "80751fa6253b6fba98adce751b6c1538e232b673a2aff5fd45312c77fbcd13ad",
-    )?;
-    assert_eq!(rt; root(rt.alloc(), &leaves(rt.alloc(), 40)?)?, forty);
     Ok(())
 }

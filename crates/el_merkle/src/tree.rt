@@ -7,7 +7,7 @@ use el_base::{Hash32, OutOfMemory};
 use std::alloc::Global;
 
 /// The Merkle root of hashes (Bitcoin's block format), in inner order as the hashes are. One hash is its
-/// own root. The only error is want of memory for a row of the list's length.
+/// own root. The only error is out of memory for a row of the list's length.
 pub fn root(alloc: Global, list: &[Hash32]) -> Result<Hash32, OutOfMemory>
     requires { 0 < length list.now }
     ensures { IfOk result (λ hash. hash ≡ spec.root list.now) }
@@ -20,7 +20,7 @@ pub fn root(alloc: Global, list: &[Hash32]) -> Result<Hash32, OutOfMemory>
 }
 
 /// The partners of the hash at the place from the leaf upwards (Electrum protocol 1.4), and the root, all
-/// in inner order. The only error is want of memory.
+/// in inner order. The only error is out of memory.
 pub fn branch(
     alloc: Global,
     list: &[Hash32],

@@ -6,37 +6,28 @@ use Rattle.std.specs.Str.{bytes_eq}
 use Rattle.std.proofs.lemmas.Slice.Eq.{bytes_eq-Decides}
 use Rattle.std.specs.List.{AllByRecursion, flat_map}
 use Rattle.std.specs.Map.{lookup}
-use Rattle.std.proofs.Math.Seq.{drop-cons}
 use Rattle.std.proofs.lemmas.List.{take-append-drop, length-take-le, length-map, length-drop, flat_map_more, take_all}
 use Rattle.std.proofs.lemmas.Grind.{flat_map-append}
-use Rattle.el_base.specs.Compact.{compact, StopsCompact}
+use Rattle.el_base.specs.Compact.{compact, FirstCompactFault}
 use Rattle.el_base.specs.declared.compact.CompactFault.{CompactFault}
+use Rattle.el_base.proofs.Lists.{all_more, cut_at, taken_at}
 use Rattle.el_tx.specs.declared.types.Header.{Header}
-use Rattle.el_tx.specs.Headers.{header_text, IsHeader}
+use Rattle.el_tx.specs.Headers.{header_encoding, IsHeader}
 use Rattle.el_base.specs.declared.hash.Hash32.{Hash32}
 use Rattle.el_tx.specs.declared.types.Tx.{Tx}
 use Rattle.el_tx.specs.declared.fault.TxFault.{TxFault}
 use Rattle.el_tx.specs.declared.fault.TxFault.TheVariants as tx_fault
-use Rattle.el_tx.specs.Spelling.{Spells, plain_text, has_witness}
-use Rattle.el_tx.specs.Hashing.{full_text, txid, IsCoinbase}
-use Rattle.el_tx.specs.Stops.{Stops}
+use Rattle.el_tx.specs.Encoding.{stripped_encoding, has_witness, HasEncoding}
+use Rattle.el_tx.specs.Hashing.{full_encoding, txid, is_coinbase, capped}
+use Rattle.el_tx.specs.FirstFault.{FirstFault}
 use Rattle.el_model.specs.declared.block.Block.{Block}
 use Rattle.el_model.specs.declared.fault.BlockFault.{BlockFault}
 use Rattle.el_model.specs.declared.fault.BlockFault.TheVariants as fault
-use Rattle.el_model.specs.Blocks.{HasSpelling, HasOneCoinbase, AllDiffer, txids, IsBlockText, SpellsBlock, block_text}
-use Rattle.el_model.specs.BlockStops.{Breaks, StopsBlock}
-use Rattle.el_model.specs.BlockStops as stops
-use Rattle.el_model.specs.BlockParts.{AreTxs, StopsTxs, NoCoinbase, FirstCoinbaseAt, FirstTwice}
-use Rattle.el_model.proofs.Chains.{all_more, all_at}
-use Rattle.el_model.proofs.BlockLemmas.{full_spelled, one_block_text, never_both_block, one_block_fault}
-
--- ---- lists
-
--- a list around its element at the place
-pub cut_at : {A : Type 0} (xs : List A) (i : ℕ) (x : A) → i < length xs → x ≡ get_or xs i x → xs ≡ take i xs ++ x ∷ drop (suc i) xs
-cut_at xs i x lt is =
-    let behind : drop i xs ≡ x ∷ drop (suc i) xs = drop-cons xs i x lt ∙ ap (λ y. y ∷ drop (suc i) xs) (sym is) in
-    sym (take-append-drop i xs) ∙ ap (λ l. take i xs ++ l) behind
+use Rattle.el_model.specs.Blocks.{NoCoinbase, HasOneCoinbase, AllDiffer, txids, IsBlockEncoding, EncodesBlock, block_encoding}
+use Rattle.el_model.specs.BlockFaults.{Breaks, FirstBlockFault}
+use Rattle.el_model.specs.BlockFaults as first_fault
+use Rattle.el_model.specs.within.BlockParts.{AreTxs, FaultInTxs, FirstCoinbaseAt, FirstTwice}
+use Rattle.el_model.proofs.BlockLemmas.{one_block_encoding, never_both_block, one_block_fault, same_indexes}
 
 -- what may be one of two things
 pub or_memory : {A : Type 0} (r : Result A BlockFault) (P : BlockFault → Type 0) → IfErr r P → IfErr r (λ e. (e ≡ fault.Memory) ⊎ P e)
@@ -47,40 +38,40 @@ or_memory (Err e) P h = inr h
 
 -- a fault of one transaction, in its block
 pub in_block : (index : ℕ) (bytes : List ℕ) (e : TxFault) (f : BlockFault) → (e ≡ tx_fault.Memory → f ≡ fault.Memory)
-    → (e ≡ tx_fault.Memory) ⊎ (f ≡ fault.Tx index e) → (e ≡ tx_fault.Memory) ⊎ Stops bytes e
-    → (f ≡ fault.Memory) ⊎ ((found : TxFault) × Stops bytes found × (f ≡ fault.Tx index found))
+    → (e ≡ tx_fault.Memory) ⊎ (f ≡ fault.Tx index e) → (e ≡ tx_fault.Memory) ⊎ FirstFault bytes e
+    → (f ≡ fault.Memory) ⊎ ((found : TxFault) × FirstFault bytes found × (f ≡ fault.Tx index found))
 in_block index bytes e f memory kept (inl m) = inl (memory m)
 in_block index bytes e f memory (inl m) (inr s) = inl (memory m)
 in_block index bytes e f memory (inr is) (inr s) = inr (e, s, is)
 
-pub stops_here : (n i : ℕ) (bytes rest : List ℕ) (txs : List Tx) (e : BlockFault) → i < n → AreTxs bytes i txs rest
-    → (e ≡ fault.Memory) ⊎ ((found : TxFault) × Stops rest found × (e ≡ fault.Tx (length txs) found)) → (e ≡ fault.Memory) ⊎ StopsTxs n bytes e
-stops_here n i bytes rest txs e lt are (inl memory) = inl memory
-stops_here n i bytes rest txs e lt are (inr s) =
+pub faults_here : (n i : ℕ) (bytes rest : List ℕ) (txs : List Tx) (e : BlockFault) → i < n → AreTxs bytes i txs rest
+    → (e ≡ fault.Memory) ⊎ ((found : TxFault) × FirstFault rest found × (e ≡ fault.Tx (length txs) found)) → (e ≡ fault.Memory) ⊎ FaultInTxs n bytes e
+faults_here n i bytes rest txs e lt are (inl memory) = inl memory
+faults_here n i bytes rest txs e lt are (inr s) =
     let count = are.count in
     inr (record { before = txs; rest = rest; found = s.0; fewer = omega arith; each = are.each; whole = are.whole; next = s.1; is = s.2 })
 
-pub more_txs : (bytes rest behind : List ℕ) (i : ℕ) (txs : List Tx) (tx : Tx) → AreTxs bytes i txs rest → HasSpelling tx → rest ≡ full_text tx ++ behind
-    → AreTxs bytes (i + 1) (txs ++ tx ∷ []) behind
-more_txs bytes rest behind i txs tx are spelled parts =
+pub more_txs : (bytes rest after : List ℕ) (i : ℕ) (txs : List Tx) (tx : Tx) → AreTxs bytes i txs rest → HasEncoding tx → rest ≡ full_encoding tx ++ after
+    → AreTxs bytes (i + 1) (txs ++ tx ∷ []) after
+more_txs bytes rest after i txs tx are encoded parts =
     let count = are.count in
     let longer : length (txs ++ tx ∷ []) ≡ i + 1 = simp length-append (omega arith) in
-    let text : flat_map full_text txs ++ full_text tx ≡ flat_map full_text (txs ++ tx ∷ []) = flat_map_more full_text [] txs tx in
+    let text : flat_map full_encoding txs ++ full_encoding tx ≡ flat_map full_encoding (txs ++ tx ∷ []) = flat_map_more full_encoding [] txs tx in
     record {
       count = longer;
-      each = all_more HasSpelling txs tx are.each spelled;
-      whole = are.whole ∙ ap (λ (x : List ℕ). flat_map full_text txs ++ x) parts ∙ sym (append_assoc (flat_map full_text txs) (full_text tx) behind)
-          ∙ ap (λ (x : List ℕ). x ++ behind) text;
+      each = all_more HasEncoding txs tx are.each encoded;
+      whole = are.whole ∙ ap (λ (x : List ℕ). flat_map full_encoding txs ++ x) parts ∙ sym (append_assoc (flat_map full_encoding txs) (full_encoding tx) after)
+          ∙ ap (λ (x : List ℕ). x ++ after) text;
     }
 
 -- ---- coinbases
 
-pub coinbase_here : (txs : List Tx) (i : ℕ) (tx : Tx) → i < length txs → tx ≡ get_or txs i tx → NoCoinbase (take i txs) → IsCoinbase tx → FirstCoinbaseAt txs i
+pub coinbase_here : (txs : List Tx) (i : ℕ) (tx : Tx) → i < length txs → tx ≡ get_or txs i tx → NoCoinbase (take i txs) → is_coinbase tx ≡ true → FirstCoinbaseAt txs i
 coinbase_here txs i tx lt is before coinbase =
     record {
       front = take i txs;
       coinbase = tx;
-      rest = drop (suc i) txs;
+      rest = drop (i + 1) txs;
       whole = cut_at txs i tx lt is;
       others = before;
       is = coinbase;
@@ -90,19 +81,19 @@ coinbase_here txs i tx lt is before coinbase =
 pub first_in : (b : Block) (txs : List Tx) (first : Tx) → txs ≡ b.txs → 1 ≤ length txs → first ≡ get_or txs 0 first → b.txs ≡ first ∷ drop 1 txs
 first_in b txs first same some is = sym same ∙ cut_at txs 0 first some is
 
-pub not_first : (b : Block) (txs : List Tx) (first : Tx) → txs ≡ b.txs → 1 ≤ length txs → first ≡ get_or txs 0 first → (IsCoinbase first → ⊥) → Breaks b fault.FirstNotCoinbase
-not_first b txs first same some is other = stops.no_coinbase first (drop 1 txs) (first_in b txs first same some is) other refl
+pub not_first : (b : Block) (txs : List Tx) (first : Tx) → txs ≡ b.txs → 1 ≤ length txs → first ≡ get_or txs 0 first → is_coinbase first ≡ false → Breaks b fault.FirstNotCoinbase
+not_first b txs first same some is other = first_fault.no_coinbase first (drop 1 txs) (first_in b txs first same some is) other refl
 
-pub later_too : (b : Block) (txs rest : List Tx) (first : Tx) (i : ℕ) → txs ≡ b.txs → 1 ≤ length txs → first ≡ get_or txs 0 first → IsCoinbase first → rest ≡ drop 1 txs
+pub later_too : (b : Block) (txs rest : List Tx) (first : Tx) (i : ℕ) → txs ≡ b.txs → 1 ≤ length txs → first ≡ get_or txs 0 first → is_coinbase first ≡ true → rest ≡ drop 1 txs
     → FirstCoinbaseAt rest i → Breaks b (fault.LaterCoinbase (i + 1))
 later_too b txs rest first i same some is coinbase cut at =
     let whole : b.txs ≡ (first ∷ at.front) ++ at.coinbase ∷ at.rest
     = first_in b txs first same some is ∙ ap (λ (l : List Tx). first ∷ l) (sym cut ∙ at.whole) in
     let place = at.place in
     let index : i + 1 ≡ length (first ∷ at.front) = omega arith in
-    stops.later_coinbase (first ∷ at.front) at.coinbase at.rest whole (coinbase, at.others) at.is (ap fault.LaterCoinbase index)
+    first_fault.later_coinbase (first ∷ at.front) at.coinbase at.rest whole (coinbase, at.others) at.is (ap fault.LaterCoinbase index)
 
-pub one_first : (b : Block) (txs rest : List Tx) (first : Tx) → txs ≡ b.txs → 1 ≤ length txs → first ≡ get_or txs 0 first → IsCoinbase first → rest ≡ drop 1 txs
+pub one_first : (b : Block) (txs rest : List Tx) (first : Tx) → txs ≡ b.txs → 1 ≤ length txs → first ≡ get_or txs 0 first → is_coinbase first ≡ true → rest ≡ drop 1 txs
     → NoCoinbase rest → HasOneCoinbase b.txs
 one_first b txs rest first same some is coinbase cut others =
     rw (first_in b txs first same some is) (coinbase, rw cut at others)
@@ -134,11 +125,11 @@ module _ (eq : Hash32 → Hash32 → Bool) (decides : (a b : Hash32) → Decides
     where
       by : (b : Bool) → eq h x ≡ b → cond b (Some i) (lookup (eq h) (numbered (i + 1) hs)) ≡ Some k
           → (lookup (eq h) (numbered (i + 1) hs) ≡ Some k → FoundAt hs h (i + 1) k) → FoundAt (x ∷ hs) h i k
-      by true t f behind =
+      by true t f after =
           let same : i ≡ k = cc in
           record { before = []; between = hs; whole = ap (λ (y : Hash32). y ∷ hs) (sym ((decides h x).0 t)); place = omega arith }
-      by false t f behind =
-          let more = behind f in
+      by false t f after =
+          let more = after f in
           let place = more.place in
           record { before = x ∷ more.before; between = more.between; whole = ap (λ (l : List Hash32). x ∷ l) more.whole; place = omega arith }
 
@@ -148,8 +139,8 @@ module _ (eq : Hash32 → Hash32 → Bool) (decides : (a b : Hash32) → Decides
     where
       by : (b : Bool) → eq h x ≡ b → cond b (Some i) (lookup (eq h) (numbered (i + 1) hs)) ≡ None
           → (lookup (eq h) (numbered (i + 1) hs) ≡ None → AllByRecursion (λ y. y ≢ h) hs) → AllByRecursion (λ y. y ≢ h) (x ∷ hs)
-      by true t f behind = absurd cc
-      by false t f behind = (λ same. (let u = (decides h x).1 (sym same) in cc), behind f)
+      by true t f after = absurd cc
+      by false t f after = (λ same. (let u = (decides h x).1 (sym same) in cc), after f)
 
 pub still_differ : (hs : List Hash32) (h : Hash32) → AllDiffer hs → AllByRecursion (λ y. y ≢ h) hs → AllDiffer (hs ++ h ∷ [])
 still_differ [] h differ others = (tt, tt)
@@ -163,19 +154,12 @@ twice_here hashes i h k lt is differ f =
       before = f.before;
       between = f.between;
       twice = h;
-      rest = drop (suc i) hashes;
-      whole = cut_at hashes i h lt is ∙ ap (λ (l : List Hash32). l ++ h ∷ drop (suc i) hashes) f.whole;
+      rest = drop (i + 1) hashes;
+      whole = cut_at hashes i h lt is ∙ ap (λ (l : List Hash32). l ++ h ∷ drop (i + 1) hashes) f.whole;
       differ = subst AllDiffer f.whole differ;
       first_is = omega arith;
       second_is = sym (length-take-le i hashes (omega arith)) ∙ ap length f.whole;
     }
-
-pub one_longer : {A : Type 0} (xs : List A) (i : ℕ) (x : A) → i < length xs → x ≡ get_or xs i x → take i xs ++ x ∷ [] ≡ take (i + 1) xs
-one_longer [] i x lt is = absurd (omega arith)
-one_longer (y ∷ xs) zero x lt is = ap (λ z. z ∷ []) is
-one_longer (y ∷ xs) (suc i) x lt is =
-    let next : suc i + 1 ≡ suc (i + 1) = omega arith in
-    rw next (ap (λ l. y ∷ l) (one_longer xs i x (omega arith) is))
 
 -- the transactions whose txids are a list in two parts
 pub record TxParts (txs : List Tx) (before : List Hash32) (h : Hash32) : Type 0 where
@@ -198,40 +182,37 @@ tx_parts (t ∷ txs) (x ∷ before) h rest e =
     let p = tx_parts txs before h rest tail in
     record { front = t ∷ p.front; tx = p.tx; rest = p.rest; whole = ap (λ (l : List Tx). t ∷ l) p.whole; front_is = rw (head, p.front_is) refl; tx_is = p.tx_is }
 
-same_pair : (a b c d : ℕ) → a ≡ c → b ≡ d → fault.SameTxid a b ≡ fault.SameTxid c d
-same_pair a b c d p q = cc
-
 pub same_txids : (b : Block) (hashes : List Hash32) (first second : ℕ) → HasOneCoinbase b.txs → hashes ≡ txids b.txs → FirstTwice hashes first second
     → Breaks b (fault.SameTxid first second)
 same_txids b hashes first second one are at =
     let before = at.before ++ at.twice ∷ at.between in
     let p = tx_parts b.txs before at.twice at.rest (sym are ∙ at.whole) in
     let size : second ≡ length p.front = at.second_is ∙ ap length (sym p.front_is) ∙ length-map p.front txid in
-    stops.same_txid one p.front p.tx p.rest p.whole (subst AllDiffer (sym p.front_is) at.differ) at.before at.between
-    (p.front_is ∙ ap (λ (h : Hash32). at.before ++ h ∷ at.between) (sym p.tx_is)) (same_pair _ _ _ _ at.first_is size)
+    first_fault.same_txid one p.front p.tx p.rest p.whole (subst AllDiffer (sym p.front_is) at.differ) at.before at.between
+    (p.front_is ∙ ap (λ (h : Hash32). at.before ++ h ∷ at.between) (sym p.tx_is)) (same_indexes _ _ _ _ at.first_is size)
 
 -- ---- weights
 
-pub not_longer : (t : Tx) → length (plain_text t) ≤ length (full_text t)
+pub not_longer : (t : Tx) → length (stripped_encoding t) ≤ length (full_encoding t)
 not_longer t = by (has_witness t) refl
   where
-    by : (w : Bool) → has_witness t ≡ w → length (plain_text t) ≤ length (full_text t)
+    by : (w : Bool) → has_witness t ≡ w → length (stripped_encoding t) ≤ length (full_encoding t)
     by true e = rw e (simp length-append (omega arith))
     by false e = rw e (omega arith)
 
-pub not_longer_all : (ts : List Tx) → length (flat_map plain_text ts) ≤ length (flat_map full_text ts)
+pub not_longer_all : (ts : List Tx) → length (flat_map stripped_encoding ts) ≤ length (flat_map full_encoding ts)
 not_longer_all [] = omega arith
 not_longer_all (t ∷ ts) =
     let one = not_longer t in
     let more = not_longer_all ts in
-    let p : length (flat_map plain_text (t ∷ ts)) ≡ length (plain_text t) + length (flat_map plain_text ts) = length-append (plain_text t) (flat_map plain_text ts) in
-    let f : length (flat_map full_text (t ∷ ts)) ≡ length (full_text t) + length (flat_map full_text ts) = length-append (full_text t) (flat_map full_text ts) in
+    let p : length (flat_map stripped_encoding (t ∷ ts)) ≡ length (stripped_encoding t) + length (flat_map stripped_encoding ts) = length-append (stripped_encoding t) (flat_map stripped_encoding ts) in
+    let f : length (flat_map full_encoding (t ∷ ts)) ≡ length (full_encoding t) + length (flat_map full_encoding ts) = length-append (full_encoding t) (flat_map full_encoding ts) in
     omega arith
 
 text_at : (text : Tx → List ℕ) (txs : List Tx) (i : ℕ) (tx : Tx) → i < length txs → tx ≡ get_or txs i tx
-    → length (flat_map text (take i txs)) + (length (text tx) + length (flat_map text (drop (suc i) txs))) ≡ length (flat_map text txs)
+    → length (flat_map text (take i txs)) + (length (text tx) + length (flat_map text (drop (i + 1) txs))) ≡ length (flat_map text txs)
 text_at text txs i tx lt is =
-    let rest = drop (suc i) txs in
+    let rest = drop (i + 1) txs in
     let whole : flat_map text txs ≡ flat_map text (take i txs) ++ (text tx ++ flat_map text rest)
     = ap (flat_map text) (cut_at txs i tx lt is) ∙ flat_map-append text (take i txs) (tx ∷ rest) in
     let a = length-append (flat_map text (take i txs)) (text tx ++ flat_map text rest) in
@@ -239,28 +220,44 @@ text_at text txs i tx lt is =
     let c = ap length whole in
     omega arith
 
-pub weighable : (txs : List Tx) (i : ℕ) (tx : Tx) → i < length txs → tx ≡ get_or txs i tx → AllByRecursion HasSpelling txs → length (flat_map full_text txs) < 2 ^ 61
-    → (x : List ℕ) × Spells x tx × (length x < 2 ^ 61)
-weighable txs i tx lt is all small =
-    let spelled : HasSpelling tx = subst HasSpelling (sym is) (all_at HasSpelling txs i tx all lt) in
-    let parts = text_at full_text txs i tx lt is in
-    (full_text tx, full_spelled tx spelled, omega arith)
+-- a size that isn't capped
+uncapped : (n m : ℕ) → n < 2 ^ 64 → m ≡ capped n → m ≡ n
+uncapped n m small is = omega arith
 
-pub room : (txs : List Tx) (i : ℕ) (tx : Tx) (sum more : ℕ) → i < length txs → tx ≡ get_or txs i tx → length (flat_map full_text txs) < 2 ^ 61
-    → sum ≡ 3 * length (flat_map plain_text (take i txs)) + length (flat_map full_text (take i txs)) → more ≡ 3 * length (plain_text tx) + length (full_text tx)
-    → sum + more < 2 ^ 63
+-- the sizes of a transaction
+pub record AreSizes (tx : Tx) (stripped full : ℕ) : Type 0 where
+  pub stripped_is : stripped ≡ length (stripped_encoding tx)
+  pub full_is : full ≡ length (full_encoding tx)
+  pub less : stripped ≤ full
+  pub small : full < 2 ^ 64
+
+pub are_sizes : (tx : Tx) (stripped full : ℕ) → length (full_encoding tx) < 2 ^ 64 → stripped ≡ capped (length (stripped_encoding tx))
+    → full ≡ capped (length (full_encoding tx)) → AreSizes tx stripped full
+are_sizes tx stripped full small s f =
+    let one = not_longer tx in
+    let s_is = uncapped (length (stripped_encoding tx)) stripped (omega arith) s in
+    let f_is = uncapped (length (full_encoding tx)) full small f in
+    record { stripped_is = s_is; full_is = f_is; less = omega arith; small = omega arith }
+
+pub small_at : (txs : List Tx) (i : ℕ) (tx : Tx) → i < length txs → tx ≡ get_or txs i tx → length (flat_map full_encoding txs) < 2 ^ 64
+    → length (full_encoding tx) < 2 ^ 64
+small_at txs i tx lt is small = let whole = text_at full_encoding txs i tx lt is in omega arith
+
+pub room : (txs : List Tx) (i : ℕ) (tx : Tx) (sum more : ℕ) → i < length txs → tx ≡ get_or txs i tx → length (flat_map full_encoding txs) < 2 ^ 64
+    → sum ≡ 3 * length (flat_map stripped_encoding (take i txs)) + length (flat_map full_encoding (take i txs))
+    → more ≡ 3 * length (stripped_encoding tx) + length (full_encoding tx) → sum + more < 2 ^ 66
 room txs i tx sum more lt is small s m =
-    let full = text_at full_text txs i tx lt is in
+    let whole = text_at full_encoding txs i tx lt is in
     let before = not_longer_all (take i txs) in
     let one = not_longer tx in
     omega arith
 
 -- what a sum of weights is below
-pub light_sum : (txs : List Tx) (n sum : ℕ) → length txs ≤ n → length (flat_map full_text txs) < 2 ^ 61
-    → sum ≡ 3 * length (flat_map plain_text (take n txs)) + length (flat_map full_text (take n txs)) → sum < 2 ^ 63
+pub light_sum : (txs : List Tx) (n sum : ℕ) → length txs ≤ n → length (flat_map full_encoding txs) < 2 ^ 64
+    → sum ≡ 3 * length (flat_map stripped_encoding (take n txs)) + length (flat_map full_encoding (take n txs)) → sum < 2 ^ 66
 light_sum txs n sum all small s =
     let whole : take n txs ≡ txs = take_all n txs all in
-    let same : sum ≡ 3 * length (flat_map plain_text txs) + length (flat_map full_text txs) = rw whole at s in
+    let same : sum ≡ 3 * length (flat_map stripped_encoding txs) + length (flat_map full_encoding txs) = rw whole at s in
     let less = not_longer_all txs in
     omega arith
 
@@ -273,22 +270,22 @@ hash_decides a b =
     (λ t. ap (λ (l : List ℕ). record { 0 = l }) (d.0 t), λ e. d.1 (ap (λ (h : Hash32). h.0) e))
 
 -- a fault of the rules is one of the bytes
-pub in_bytes : (bytes : List ℕ) (b : Block) (e : BlockFault) → IsBlockText bytes b → (e ≡ fault.Memory) ⊎ Breaks b e → (e ≡ fault.Memory) ⊎ StopsBlock bytes e
+pub in_bytes : (bytes : List ℕ) (b : Block) (e : BlockFault) → IsBlockEncoding bytes b → (e ≡ fault.Memory) ⊎ Breaks b e → (e ≡ fault.Memory) ⊎ FirstBlockFault bytes e
 in_bytes bytes b e is (inl memory) = inl memory
-in_bytes bytes b e is (inr s) = inr (stops.breaks b is s)
+in_bytes bytes b e is (inr s) = inr (first_fault.breaks b is s)
 
-pub refused_only : (bytes : List ℕ) (r : Result Block BlockFault) (e : BlockFault) → r ≡ Err e → (e ≡ fault.Memory) ⊎ StopsBlock bytes e → r ≢ Err fault.Memory
-    → (b : Block) → SpellsBlock bytes b → r ≡ Ok b
+pub refused_only : (bytes : List ℕ) (r : Result Block BlockFault) (e : BlockFault) → r ≡ Err e → (e ≡ fault.Memory) ⊎ FirstBlockFault bytes e → r ≢ Err fault.Memory
+    → (b : Block) → EncodesBlock bytes b → r ≡ Ok b
 refused_only bytes r e is (inl memory) not_memory b s = absurd (not_memory (is ∙ ap (λ (f : BlockFault). Err f) memory))
 refused_only bytes r e is (inr stop) not_memory b s = absurd (never_both_block bytes b e s stop)
 
-pub refused_stops : (bytes : List ℕ) (r : Result Block BlockFault) (e : BlockFault) → r ≡ Err e → (e ≡ fault.Memory) ⊎ StopsBlock bytes e → r ≢ Err fault.Memory
-    → (f : BlockFault) → StopsBlock bytes f → r ≡ Err f
-refused_stops bytes r e is (inl memory) not_memory f s = absurd (not_memory (is ∙ ap (λ (g : BlockFault). Err g) memory))
-refused_stops bytes r e is (inr stop) not_memory f s = is ∙ ap (λ (g : BlockFault). Err g) (one_block_fault bytes e f stop s)
+pub refused_faults : (bytes : List ℕ) (r : Result Block BlockFault) (e : BlockFault) → r ≡ Err e → (e ≡ fault.Memory) ⊎ FirstBlockFault bytes e → r ≢ Err fault.Memory
+    → (f : BlockFault) → FirstBlockFault bytes f → r ≡ Err f
+refused_faults bytes r e is (inl memory) not_memory f s = absurd (not_memory (is ∙ ap (λ (g : BlockFault). Err g) memory))
+refused_faults bytes r e is (inr stop) not_memory f s = is ∙ ap (λ (g : BlockFault). Err g) (one_block_fault bytes e f stop s)
 
-pub read_only : (bytes : List ℕ) (b c : Block) → SpellsBlock bytes b → SpellsBlock bytes c → ◌≡◌ {A = Result Block BlockFault} (Ok b) (Ok c)
-read_only bytes b c p q = ap (λ (d : Block). Ok d) (one_block_text bytes b c p.text q.text)
+pub read_only : (bytes : List ℕ) (b c : Block) → EncodesBlock bytes b → EncodesBlock bytes c → ◌≡◌ {A = Result Block BlockFault} (Ok b) (Ok c)
+read_only bytes b c p q = ap (λ (d : Block). Ok d) (one_block_encoding bytes b c p.text q.text)
 
 -- what an element is whatever stands where there is none
 pub get_any : {A : Type 0} (xs : List A) (i : ℕ) (d e : A) → i < length xs → get_or xs i d ≡ get_or xs i e
@@ -302,55 +299,55 @@ pub seen_more : (hashes : List Hash32) (i : ℕ) (h : Hash32) (entries new : Lis
 seen_more hashes i h entries new lt is before after =
     let size : i ≡ 0 + length (take i hashes) = (let l = length-take-le i hashes (omega arith) in omega arith) in
     after ∙ ap (λ (l : List (Hash32 × ℕ)). l ++ (h, i) ∷ []) before ∙ ap (λ (n : ℕ). numbered 0 (take i hashes) ++ (h, n) ∷ []) size
-    ∙ numbered_more 0 (take i hashes) h ∙ ap (numbered 0) (one_longer hashes i h lt is)
+    ∙ numbered_more 0 (take i hashes) h ∙ ap (numbered 0) (sym (taken_at hashes i h lt is))
 
 pub differ_more : (hashes : List Hash32) (i : ℕ) (h : Hash32) → i < length hashes → h ≡ get_or hashes i h → AllDiffer (take i hashes)
     → AllByRecursion (λ y. y ≢ h) (take i hashes) → AllDiffer (take (i + 1) hashes)
-differ_more hashes i h lt is differ others = subst AllDiffer (one_longer hashes i h lt is) (still_differ (take i hashes) h differ others)
+differ_more hashes i h lt is differ others = subst AllDiffer (sym (taken_at hashes i h lt is)) (still_differ (take i hashes) h differ others)
 
--- the front of bytes spells a header
+-- the front of bytes encodes a header
 pub header_in_front : (bytes front rest text : List ℕ) → front ≡ take 80 bytes → rest ≡ drop 80 bytes → text ≡ front → bytes ≡ text ++ rest
 header_in_front bytes front rest text f r t = rw (t, f, r) (sym (take-append-drop 80 bytes))
 
 -- all but the first
-pub behind_first : {A : Type 0} (xs : List A) → take (length xs - 1) (drop 1 xs) ≡ drop 1 xs
-behind_first xs = let size = length-drop 1 xs in take_all (length xs - 1) (drop 1 xs) (omega arith)
+pub after_first : {A : Type 0} (xs : List A) → take (length xs - 1) (drop 1 xs) ≡ drop 1 xs
+after_first xs = let size = length-drop 1 xs in take_all (length xs - 1) (drop 1 xs) (omega arith)
 
 -- ---- the stages of reading
 
-pub count_stops : (bytes header rest : List ℕ) (place : ℕ) (e : BlockFault) → length header ≡ 80 → bytes ≡ header ++ rest → place ≡ 80
-    → ((found : CompactFault) × StopsCompact place rest found × (e ≡ fault.Count found))
-    ⊎ ((more : List ℕ) × (rest ≡ compact 0 ++ more) × (e ≡ fault.NoTransactions)) → StopsBlock bytes e
-count_stops bytes header rest place e size whole at (inl s) = stops.in_count header rest s.0 size whole (subst (λ (p : ℕ). StopsCompact p rest s.0) at s.1) s.2
-count_stops bytes header rest place e size whole at (inr s) = stops.none header s.0 size (whole ∙ ap (λ (l : List ℕ). header ++ l) s.1) s.2
+pub count_faults : (bytes header rest : List ℕ) (place : ℕ) (e : BlockFault) → length header ≡ 80 → bytes ≡ header ++ rest → place ≡ 80
+    → ((found : CompactFault) × FirstCompactFault place rest found × (e ≡ fault.Count found))
+    ⊎ ((more : List ℕ) × (rest ≡ compact 0 ++ more) × (e ≡ fault.NoTransactions)) → FirstBlockFault bytes e
+count_faults bytes header rest place e size whole at (inl s) = first_fault.in_count header rest s.0 size whole (subst (λ (p : ℕ). FirstCompactFault p rest s.0) at s.1) s.2
+count_faults bytes header rest place e size whole at (inr s) = first_fault.none header s.0 size (whole ∙ ap (λ (l : List ℕ). header ++ l) s.1) s.2
 
 pub txs_stop : (bytes header rest more : List ℕ) (n : ℕ) (e : BlockFault) → length header ≡ 80 → bytes ≡ header ++ rest → n < 2 ^ 64 → rest ≡ compact n ++ more
-    → (e ≡ fault.Memory) ⊎ StopsTxs n more e → (e ≡ fault.Memory) ⊎ StopsBlock bytes e
+    → (e ≡ fault.Memory) ⊎ FaultInTxs n more e → (e ≡ fault.Memory) ⊎ FirstBlockFault bytes e
 txs_stop bytes header rest more n e size whole few count (inl memory) = inl memory
 txs_stop bytes header rest more n e size whole few count (inr s) =
-    inr (stops.in_tx header s.rest n s.before s.found size few s.fewer s.each
+    inr (first_fault.in_tx header s.rest n s.before s.found size few s.fewer s.each
     (whole ∙ ap (λ (l : List ℕ). header ++ l) (count ∙ ap (λ (l : List ℕ). compact n ++ l) s.whole)) s.next s.is)
 
--- what was read is a block's text, and the rest stands behind it
-pub block_made : (bytes rest more behind : List ℕ) (n : ℕ) (h : Header) (txs : List Tx) → IsHeader h → bytes ≡ header_text h ++ rest → n < 2 ^ 64
-    → rest ≡ compact n ++ more → AreTxs more n txs behind
-    → IsBlockText (block_text (record { header = h; txs = txs })) (record { header = h; txs = txs }) × (bytes ≡ block_text (record { header = h; txs = txs }) ++ behind)
-block_made bytes rest more behind n h txs fits whole few count are =
+-- what was read is a block's text, and the rest stands after it
+pub block_made : (bytes rest more after : List ℕ) (n : ℕ) (h : Header) (txs : List Tx) → IsHeader h → bytes ≡ header_encoding h ++ rest → n < 2 ^ 64
+    → rest ≡ compact n ++ more → AreTxs more n txs after
+    → IsBlockEncoding (block_encoding (record { header = h; txs = txs })) (record { header = h; txs = txs }) × (bytes ≡ block_encoding (record { header = h; txs = txs }) ++ after)
+block_made bytes rest more after n h txs fits whole few count are =
     let size = are.count in
-    let texts = flat_map full_text txs in
-    let parts : rest ≡ (compact (length txs) ++ texts) ++ behind
-    = count ∙ ap (λ (l : List ℕ). compact n ++ l) are.whole ∙ ap (λ (k : ℕ). compact k ++ (texts ++ behind)) (sym size) ∙ sym (append_assoc (compact (length txs)) texts behind) in (
+    let texts = flat_map full_encoding txs in
+    let parts : rest ≡ (compact (length txs) ++ texts) ++ after
+    = count ∙ ap (λ (l : List ℕ). compact n ++ l) are.whole ∙ ap (λ (k : ℕ). compact k ++ (texts ++ after)) (sym size) ∙ sym (append_assoc (compact (length txs)) texts after) in (
       record { header = fits; few = omega arith; each = are.each; whole = refl },
-      whole ∙ ap (λ (l : List ℕ). header_text h ++ l) parts ∙ sym (append_assoc (header_text h) (compact (length txs) ++ texts) behind),
+      whole ∙ ap (λ (l : List ℕ). header_encoding h ++ l) parts ∙ sym (append_assoc (header_encoding h) (compact (length txs) ++ texts) after),
     )
 
-pub trails : (bytes rest more behind : List ℕ) (n : ℕ) (h : Header) (txs : List Tx) → IsHeader h → bytes ≡ header_text h ++ rest → 1 ≤ n → n < 2 ^ 64
-    → rest ≡ compact n ++ more → AreTxs more n txs behind → behind ≢ [] → StopsBlock bytes (fault.Trailing (length bytes - length behind))
-trails bytes rest more behind n h txs fits whole some few count are left =
+pub trails : (bytes rest more after : List ℕ) (n : ℕ) (h : Header) (txs : List Tx) → IsHeader h → bytes ≡ header_encoding h ++ rest → 1 ≤ n → n < 2 ^ 64
+    → rest ≡ compact n ++ more → AreTxs more n txs after → after ≢ [] → FirstBlockFault bytes (fault.Trailing (length bytes - length after))
+trails bytes rest more after n h txs fits whole some few count are left =
     let b : Block = record { header = h; txs = txs } in
-    let made = block_made bytes rest more behind n h txs fits whole few count are in
+    let made = block_made bytes rest more after n h txs fits whole few count are in
     let size = are.count in
     let parts = ap length made.1 in
-    let sum = length-append (block_text b) behind in
-    let place : length bytes - length behind ≡ length (block_text b) = omega arith in
-    stops.trailing (block_text b) behind b made.0 (omega arith) made.1 left (ap fault.Trailing place)
+    let sum = length-append (block_encoding b) after in
+    let place : length bytes - length after ≡ length (block_encoding b) = omega arith in
+    first_fault.trailing (block_encoding b) after b made.0 (omega arith) made.1 left (ap fault.Trailing place)

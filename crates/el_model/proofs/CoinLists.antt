@@ -8,10 +8,11 @@ use Rattle.std.specs.Option.{option_flatten}
 use Rattle.std.proofs.lemmas.Map.Made.{update_all_distinct}
 use Rattle.indexmap.specs.IndexMap.{IndexMap, get, IsUnique, InsertsAll}
 use Rattle.el_tx.specs.declared.types.Outpoint.{Outpoint}
+use Rattle.el_tx.specs.Hashing.{same_outpoint}
 use Rattle.el_model.specs.declared.coin.Coin.{Coin}
-use Rattle.el_model.specs.Coins.{same_outpoint, without, put, supply}
+use Rattle.el_model.specs.Coins.{without, add_coin, supply}
 use Rattle.el_model.specs.Faults.{has_coin}
-use Rattle.el_model.specs.CoinTables.{coin_by, coin_over, coin_in, value_in, AreOnce, StandsFor}
+use Rattle.el_model.specs.within.CoinTables.{coin_by, coin_over, coin_in, value_in, AreOnce, StandsFor}
 
 -- one outpoint is the other exactly where they are equal
 pub same_from : (a b : Outpoint) → a ≡ b → same_outpoint a b ≡ true
@@ -65,7 +66,7 @@ in_without p (c ∷ cs) o = elim (cases_Bool (same_outpoint c.outpoint p)) [
         rw (e, ← is, apart_turned c.outpoint p apart) refl
     by_o apart rest false e = rw e rest
 
--- the coin for an outpoint where one more stands behind
+-- the coin for an outpoint where one more stands after
 pub in_more : (coins : List Coin) (c : Coin) (o : Outpoint)
     → coin_in (coins ++ c ∷ []) o ≡ cond (is_some (coin_in coins o)) (coin_in coins o) (cond (same_outpoint c.outpoint o) (Some c) None)
 in_more [] c o = refl
@@ -78,8 +79,8 @@ none_is : {X : Type 0} (r : Option X) → cond (is_some r) r None ≡ r
 none_is None = refl
 none_is (Some x) = refl
 
--- the coin for an outpoint behind the putting of one
-pub in_put : (c : Coin) (coins : List Coin) (o : Outpoint) → coin_in (put c coins) o ≡ cond (same_outpoint c.outpoint o) (Some c) (coin_in coins o)
+-- the coin for an outpoint after the putting of one
+pub in_put : (c : Coin) (coins : List Coin) (o : Outpoint) → coin_in (add_coin c coins) o ≡ cond (same_outpoint c.outpoint o) (Some c) (coin_in coins o)
 in_put c coins o = in_more (without c.outpoint coins) c o ∙ rw (in_without c.outpoint coins o) (by (same_outpoint c.outpoint o) refl)
   where
     by : (b : Bool) → same_outpoint c.outpoint o ≡ b
@@ -106,7 +107,7 @@ once_more (x ∷ xs) c once none = elim (cases_Bool (same_outpoint x.outpoint c.
     some_none : Some x ≡ None → ⊥
     some_none e = cc
 
-pub once_put : (c : Coin) (coins : List Coin) → AreOnce coins → AreOnce (put c coins)
+pub once_put : (c : Coin) (coins : List Coin) → AreOnce coins → AreOnce (add_coin c coins)
 once_put c coins once =
     once_more (without c.outpoint coins) c (once_without c.outpoint coins once) (in_without c.outpoint coins c.outpoint ∙ rw (same_self c.outpoint) refl)
 
@@ -139,8 +140,8 @@ pub supply_more : (coins : List Coin) (c : Coin) → supply (coins ++ c ∷ []) 
 supply_more [] c = omega arith
 supply_more (x ∷ xs) c = let rest = supply_more xs c in omega arith
 
--- the sum behind the putting of a coin
-pub supply_put : (c : Coin) (coins : List Coin) → AreOnce coins → supply (put c coins) + value_in (coin_in coins c.outpoint) ≡ supply coins + c.value
+-- the sum after the putting of a coin
+pub supply_put : (c : Coin) (coins : List Coin) → AreOnce coins → supply (add_coin c coins) + value_in (coin_in coins c.outpoint) ≡ supply coins + c.value
 supply_put c coins once =
     let out = supply_without c.outpoint coins once in
     let more = supply_more (without c.outpoint coins) c in
@@ -177,7 +178,7 @@ taken look new sum sum_new coins p h says total = record {
 
 pub made : (look new : Outpoint → Option Coin) (sum sum_new : ℕ) (coins : List Coin) (c : Coin) → StandsFor look sum coins
     → ((o : Outpoint) → new o ≡ cond (same_outpoint c.outpoint o) (Some c) (look o)) → sum_new + value_in (look c.outpoint) ≡ sum + c.value
-    → StandsFor new sum_new (put c coins)
+    → StandsFor new sum_new (add_coin c coins)
 made look new sum sum_new coins c h says total = record {
   each = λ o. says o ∙ ap (cond (same_outpoint c.outpoint o) (Some c)) (h.each o) ∙ sym (in_put c coins o);
   total =

@@ -8,10 +8,10 @@ use Rattle.el_tx.specs.declared.types.Outpoint.{Outpoint}
 use Rattle.el_tx.specs.declared.types.TxIn.{TxIn}
 use Rattle.el_tx.specs.declared.types.TxOut.{TxOut}
 use Rattle.el_tx.specs.declared.types.Tx.{Tx}
-use Rattle.el_tx.specs.Hashing.{txid}
+use Rattle.el_tx.specs.Hashing.{txid, is_coinbase, same_outpoint}
 use Rattle.el_model.specs.declared.coin.Coin.{Coin}
 use Rattle.el_model.specs.Blocks.{Chain}
-use Rattle.el_model.specs.Coins.{same_outpoint, is_coin_of, names_no_output, without, put, coin_made, take_inputs, put_outputs, coins_left, coins_behind, coins_behind_all, coins_from, coins}
+use Rattle.el_model.specs.Coins.{is_coin_of, without, add_coin, coin_made, spend_inputs, add_outputs, coins_left, coins_after, coins_after_all, coins_from, coins}
 use Rattle.el_model.specs.History.{Position, positions_in, positions_from, positions}
 use Rattle.el_model.specs.CoinLaws.{IsIn, coins_made, makes, takes, touches, Untouched, IsMadeIn}
 use Rattle.el_model.proofs.CoinLists.{apart_turned}
@@ -56,19 +56,19 @@ snoc_last : (c d : Coin) (xs : List Coin) → c ≡ d → IsIn c (xs ++ d ∷ []
 snoc_last c d [] is = inl is
 snoc_last c d (x ∷ xs) is = inr (snoc_last c d xs is)
 
--- the coins behind the putting of one
-in_put : (c d : Coin) (cs : List Coin) → IsIn c (put d cs) → (c ≡ d) ⊎ (IsIn c cs × (same_outpoint c.outpoint d.outpoint ≡ false))
+-- the coins after the putting of one
+in_put : (c d : Coin) (cs : List Coin) → IsIn c (add_coin d cs) → (c ≡ d) ⊎ (IsIn c cs × (same_outpoint c.outpoint d.outpoint ≡ false))
 in_put c d cs h = by (in_snoc c d (without d.outpoint cs) h)
   where
     by : (c ≡ d) ⊎ IsIn c (without d.outpoint cs) → (c ≡ d) ⊎ (IsIn c cs × (same_outpoint c.outpoint d.outpoint ≡ false))
     by (inl is) = inl is
     by (inr rest) = inr (in_left c d.outpoint cs rest)
 
--- the coins behind outputs
-from_outputs : (c : Coin) (id : Hash32) (height n : ℕ) (os : List TxOut) (cs : List Coin) → IsIn c (put_outputs id height n os cs)
+-- the coins after outputs
+from_outputs : (c : Coin) (id : Hash32) (height n : ℕ) (os : List TxOut) (cs : List Coin) → IsIn c (add_outputs id height n os cs)
     → IsIn c (coins_made id height n os) ⊎ (IsIn c cs × (list_any (is_coin_of c.outpoint) (coins_made id height n os) ≡ false))
 from_outputs c id height n [] cs h = inr (h, refl)
-from_outputs c id height n (o ∷ os) cs h = by (from_outputs c id height (n + 1) os (put (coin_made id height n o) cs) h)
+from_outputs c id height n (o ∷ os) cs h = by (from_outputs c id height (n + 1) os (add_coin (coin_made id height n o) cs) h)
   where
     there : list_any (is_coin_of c.outpoint) (coins_made id height (n + 1) os) ≡ false
         → (c ≡ coin_made id height n o) ⊎ (IsIn c cs × (same_outpoint c.outpoint (coin_made id height n o).outpoint ≡ false))
@@ -82,19 +82,19 @@ from_outputs c id height n (o ∷ os) cs h = by (from_outputs c id height (n + 1
         )
 
     by : IsIn c (coins_made id height (n + 1) os)
-        ⊎ (IsIn c (put (coin_made id height n o) cs) × (list_any (is_coin_of c.outpoint) (coins_made id height (n + 1) os) ≡ false))
+        ⊎ (IsIn c (add_coin (coin_made id height n o) cs) × (list_any (is_coin_of c.outpoint) (coins_made id height (n + 1) os) ≡ false))
         → IsIn c (coins_made id height n (o ∷ os)) ⊎ (IsIn c cs × (list_any (is_coin_of c.outpoint) (coins_made id height n (o ∷ os)) ≡ false))
     by (inl made) = inl (inr made)
     by (inr rest) = there rest.1 (in_put c (coin_made id height n o) cs rest.0)
 
 outputs_keep : (c : Coin) (id : Hash32) (height n : ℕ) (os : List TxOut) (cs : List Coin) → IsIn c cs
-    → list_any (is_coin_of c.outpoint) (coins_made id height n os) ≡ false → IsIn c (put_outputs id height n os cs)
+    → list_any (is_coin_of c.outpoint) (coins_made id height n os) ≡ false → IsIn c (add_outputs id height n os cs)
 outputs_keep c id height n [] cs h none = h
 outputs_keep c id height n (o ∷ os) cs h none =
     let d = coin_made id height n o in
     let parts = or_parts (is_coin_of c.outpoint d) (list_any (is_coin_of c.outpoint) (coins_made id height (n + 1) os)) none in
     let apart = apart_turned d.outpoint c.outpoint parts.0 in
-    outputs_keep c id height (n + 1) os (put d cs) (snoc_first c d (without d.outpoint cs) (in_without_back c d.outpoint cs h apart)) parts.1
+    outputs_keep c id height (n + 1) os (add_coin d cs) (snoc_first c d (without d.outpoint cs) (in_without_back c d.outpoint cs h apart)) parts.1
 
 -- later outputs have greater indexes
 later_apart : (o : Outpoint) (id : Hash32) (height n : ℕ) (os : List TxOut) → o.index < n → list_any (is_coin_of o) (coins_made id height n os) ≡ false
@@ -103,16 +103,16 @@ later_apart o id height n (x ∷ xs) lt =
     or_from (is_coin_of o (coin_made id height n x)) (list_any (is_coin_of o) (coins_made id height (n + 1) xs))
     (and_right (bytes_eq id.0 o.txid.0) (n == o.index) (ne_eqb n o.index (λ e. omega arith))) (later_apart o id height (n + 1) xs (omega arith))
 
-outputs_make : (c : Coin) (id : Hash32) (height n : ℕ) (os : List TxOut) (cs : List Coin) → IsIn c (coins_made id height n os) → IsIn c (put_outputs id height n os cs)
+outputs_make : (c : Coin) (id : Hash32) (height n : ℕ) (os : List TxOut) (cs : List Coin) → IsIn c (coins_made id height n os) → IsIn c (add_outputs id height n os cs)
 outputs_make c id height n [] cs h = absurd h
 outputs_make c id height n (o ∷ os) cs (inl is) =
     let d = coin_made id height n o in
     let index = ap (λ (x : Coin). x.outpoint.index) is in
-    outputs_keep c id height (n + 1) os (put d cs) (snoc_last c d (without d.outpoint cs) is) (later_apart c.outpoint id height (n + 1) os (omega arith))
-outputs_make c id height n (o ∷ os) cs (inr more) = outputs_make c id height (n + 1) os (put (coin_made id height n o) cs) more
+    outputs_keep c id height (n + 1) os (add_coin d cs) (snoc_last c d (without d.outpoint cs) is) (later_apart c.outpoint id height (n + 1) os (omega arith))
+outputs_make c id height n (o ∷ os) cs (inr more) = outputs_make c id height (n + 1) os (add_coin (coin_made id height n o) cs) more
 
 -- the coins that inputs leave
-from_inputs : (c : Coin) (is : List TxIn) (cs : List Coin) → IsIn c (take_inputs is cs)
+from_inputs : (c : Coin) (is : List TxIn) (cs : List Coin) → IsIn c (spend_inputs is cs)
     → IsIn c cs × (list_any (λ (i : TxIn). same_outpoint c.outpoint i.from) is ≡ false)
 from_inputs c [] cs h = (h, refl)
 from_inputs c (i ∷ is) cs h =
@@ -121,26 +121,26 @@ from_inputs c (i ∷ is) cs h =
     (first.0, or_from (same_outpoint c.outpoint i.from) (list_any (λ (x : TxIn). same_outpoint c.outpoint x.from) is) first.1 rest.1)
 
 inputs_keep : (c : Coin) (is : List TxIn) (cs : List Coin) → IsIn c cs → list_any (λ (i : TxIn). same_outpoint c.outpoint i.from) is ≡ false
-    → IsIn c (take_inputs is cs)
+    → IsIn c (spend_inputs is cs)
 inputs_keep c [] cs h none = h
 inputs_keep c (i ∷ is) cs h none =
     let parts = or_parts (same_outpoint c.outpoint i.from) (list_any (λ (x : TxIn). same_outpoint c.outpoint x.from) is) none in
     inputs_keep c is (without i.from cs) (in_without_back c i.from cs h parts.0) parts.1
 
 from_left : (c : Coin) (t : Tx) (cs : List Coin) → IsIn c (coins_left t cs) → IsIn c cs × (takes c.outpoint t ≡ false)
-from_left c t cs h = elim (cases_Bool (names_no_output t.inputs)) [
+from_left c t cs h = elim (cases_Bool (is_coinbase t)) [
   | inl e ↦ let same = rw e at h in (same, rw e refl)
   | inr e ↦ let rest = from_inputs c t.inputs cs (rw e at h) in (rest.0, rw e rest.1)
 ]
 
 left_keep : (c : Coin) (t : Tx) (cs : List Coin) → IsIn c cs → takes c.outpoint t ≡ false → IsIn c (coins_left t cs)
-left_keep c t cs h none = elim (cases_Bool (names_no_output t.inputs)) [
+left_keep c t cs h none = elim (cases_Bool (is_coinbase t)) [
   | inl e ↦ rw e h
   | inr e ↦ let rest = rw e at none in rw e (inputs_keep c t.inputs cs h rest)
 ]
 
--- the coins behind a position's transaction
-from_tx : (c : Coin) (p : Position) (cs : List Coin) → IsIn c (coins_behind p.height p.tx cs)
+-- the coins after a position's transaction
+from_tx : (c : Coin) (p : Position) (cs : List Coin) → IsIn c (coins_after p.height p.tx cs)
     → IsIn c (makes p) ⊎ (IsIn c cs × (touches c.outpoint p ≡ false))
 from_tx c p cs h = by (from_outputs c (txid p.tx) p.height 0 p.tx.outputs (coins_left p.tx cs) h)
   where
@@ -151,56 +151,56 @@ from_tx c p cs h = by (from_outputs c (txid p.tx) p.height 0 p.tx.outputs (coins
         let left = from_left c p.tx cs rest.0 in
         inr (left.0, or_from (takes c.outpoint p.tx) (list_any (is_coin_of c.outpoint) (makes p)) left.1 rest.1)
 
-tx_makes : (c : Coin) (p : Position) (cs : List Coin) → IsIn c (makes p) → IsIn c (coins_behind p.height p.tx cs)
+tx_makes : (c : Coin) (p : Position) (cs : List Coin) → IsIn c (makes p) → IsIn c (coins_after p.height p.tx cs)
 tx_makes c p cs made = outputs_make c (txid p.tx) p.height 0 p.tx.outputs (coins_left p.tx cs) made
 
-tx_keeps : (c : Coin) (p : Position) (cs : List Coin) → IsIn c cs → touches c.outpoint p ≡ false → IsIn c (coins_behind p.height p.tx cs)
+tx_keeps : (c : Coin) (p : Position) (cs : List Coin) → IsIn c cs → touches c.outpoint p ≡ false → IsIn c (coins_after p.height p.tx cs)
 tx_keeps c p cs h none =
     let parts = or_parts (takes c.outpoint p.tx) (list_any (is_coin_of c.outpoint) (makes p)) none in
     outputs_keep c (txid p.tx) p.height 0 p.tx.outputs (coins_left p.tx cs) (left_keep c p.tx cs h parts.0) parts.1
 
--- the coins behind the transactions of positions
+-- the coins after the transactions of positions
 abbrev pub after : List Position → List Coin → List Coin
 after [] cs = cs
-after (p ∷ ps) cs = after ps (coins_behind p.height p.tx cs)
+after (p ∷ ps) cs = after ps (coins_after p.height p.tx cs)
 
 after_joined : (ps qs : List Position) (cs : List Coin) → after (ps ++ qs) cs ≡ after qs (after ps cs)
 after_joined [] qs cs = refl
-after_joined (p ∷ ps) qs cs = after_joined ps qs (coins_behind p.height p.tx cs)
+after_joined (p ∷ ps) qs cs = after_joined ps qs (coins_after p.height p.tx cs)
 
-after_block : (height : ℕ) (ts : List Tx) (cs : List Coin) → after (positions_in height ts cs) cs ≡ coins_behind_all height ts cs
+after_block : (height : ℕ) (ts : List Tx) (cs : List Coin) → after (positions_in height ts cs) cs ≡ coins_after_all height ts cs
 after_block height [] cs = refl
-after_block height (t ∷ ts) cs = after_block height ts (coins_behind height t cs)
+after_block height (t ∷ ts) cs = after_block height ts (coins_after height t cs)
 
 after_chain : (height : ℕ) (chain : Chain) (cs : List Coin) → after (positions_from height chain cs) cs ≡ coins_from height chain cs
 after_chain height [] cs = refl
 after_chain height (b ∷ bs) cs =
-    let mid = coins_behind_all height b.block.txs cs in
+    let mid = coins_after_all height b.block.txs cs in
     after_joined (positions_in height b.block.txs cs) (positions_from (height + 1) bs mid) cs
     ∙ ap (after (positions_from (height + 1) bs mid)) (after_block height b.block.txs cs) ∙ after_chain (height + 1) bs mid
 
 from_after : (c : Coin) (ps : List Position) (cs : List Coin) → IsIn c (after ps cs) → IsMadeIn c ps ⊎ (IsIn c cs × Untouched c.outpoint ps)
 from_after c [] cs h = inr (h, tt)
-from_after c (p ∷ ps) cs h = by (from_after c ps (coins_behind p.height p.tx cs) h)
+from_after c (p ∷ ps) cs h = by (from_after c ps (coins_after p.height p.tx cs) h)
   where
     first : Untouched c.outpoint ps → IsIn c (makes p) ⊎ (IsIn c cs × (touches c.outpoint p ≡ false))
         → IsMadeIn c (p ∷ ps) ⊎ (IsIn c cs × Untouched c.outpoint (p ∷ ps))
-    first kept (inl made) = inl (record { front = []; at = p; behind = ps; places = refl; made = made; kept = kept })
+    first kept (inl made) = inl (record { front = []; at = p; later = ps; places = refl; made = made; kept = kept })
     first kept (inr old) = inr (old.0, (old.1, kept))
 
-    by : IsMadeIn c ps ⊎ (IsIn c (coins_behind p.height p.tx cs) × Untouched c.outpoint ps)
+    by : IsMadeIn c ps ⊎ (IsIn c (coins_after p.height p.tx cs) × Untouched c.outpoint ps)
         → IsMadeIn c (p ∷ ps) ⊎ (IsIn c cs × Untouched c.outpoint (p ∷ ps))
-    by (inl m) = inl (record { front = p ∷ m.front; at = m.at; behind = m.behind; places = ap (λ (l : List Position). p ∷ l) m.places; made = m.made; kept = m.kept })
+    by (inl m) = inl (record { front = p ∷ m.front; at = m.at; later = m.later; places = ap (λ (l : List Position). p ∷ l) m.places; made = m.made; kept = m.kept })
     by (inr rest) = first rest.1 (from_tx c p cs rest.0)
 
 stays : (c : Coin) (ps : List Position) (cs : List Coin) → IsIn c cs → Untouched c.outpoint ps → IsIn c (after ps cs)
 stays c [] cs h kept = h
-stays c (p ∷ ps) cs h kept = stays c ps (coins_behind p.height p.tx cs) (tx_keeps c p cs h kept.0) kept.1
+stays c (p ∷ ps) cs h kept = stays c ps (coins_after p.height p.tx cs) (tx_keeps c p cs h kept.0) kept.1
 
-comes : (c : Coin) (front behind : List Position) (p : Position) (cs : List Coin) → IsIn c (makes p) → Untouched c.outpoint behind
-    → IsIn c (after (front ++ p ∷ behind) cs)
-comes c [] behind p cs made kept = stays c behind (coins_behind p.height p.tx cs) (tx_makes c p cs made) kept
-comes c (x ∷ front) behind p cs made kept = comes c front behind p (coins_behind x.height x.tx cs) made kept
+comes : (c : Coin) (front later : List Position) (p : Position) (cs : List Coin) → IsIn c (makes p) → Untouched c.outpoint later
+    → IsIn c (after (front ++ p ∷ later) cs)
+comes c [] later p cs made kept = stays c later (coins_after p.height p.tx cs) (tx_makes c p cs made) kept
+comes c (x ∷ front) later p cs made kept = comes c front later p (coins_after x.height x.tx cs) made kept
 
 -- a coin is there exactly where it was made, and neither taken nor replaced since
 pub origin : (c : Coin) (chain : Chain) → IsIn c (coins chain) → IsMadeIn c (positions chain)
@@ -212,4 +212,4 @@ origin c chain h = by (from_after c (positions chain) [] (rw (after_chain 0 chai
 
 pub there_from : (c : Coin) (chain : Chain) → IsMadeIn c (positions chain) → IsIn c (coins chain)
 there_from c chain m =
-    subst (IsIn c) (after_chain 0 chain []) (subst (λ (ps : List Position). IsIn c (after ps [])) (sym m.places) (comes c m.front m.behind m.at [] m.made m.kept))
+    subst (IsIn c) (after_chain 0 chain []) (subst (λ (ps : List Position). IsIn c (after ps [])) (sym m.places) (comes c m.front m.later m.at [] m.made m.kept))

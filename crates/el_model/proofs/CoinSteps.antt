@@ -1,29 +1,26 @@
 -- Steps over inputs, outputs and transactions, by what each leaves of the coins.
-use Rattle.std.proofs.Common.{◌≡◌, ◌⊎◌, inl, inr, ℕ, suc, ◌+◌, ◌<◌, true, false, List, ◌∷◌, length, drop, get_or, sum_by, Option, None, Some, Result, Err, refl, ap, ◌∙◌, arith}
-use Rattle.std.proofs.Math.Seq.{drop-cons}
+use Rattle.std.proofs.Common.{◌≡◌, ◌⊎◌, inl, inr, ℕ, ◌+◌, ◌<◌, true, false, List, ◌∷◌, length, drop, get_or, Option, None, Some, Result, Err, refl, ap, ◌∙◌}
 use Rattle.std.proofs.lemmas.List.Sums.{sum_by-cons}
 use Rattle.std.specs.List.{AllByRecursion}
 use Rattle.std.specs.Result.{IfErr}
 use Rattle.std.specs.Option.{option_or}
 use Rattle.el_base.specs.declared.hash.Hash32.{Hash32}
+use Rattle.el_base.proofs.Lists.{left_at}
+use Rattle.el_tx.specs.Encoding.{total_value}
 use Rattle.el_tx.specs.declared.types.TxIn.{TxIn}
 use Rattle.el_tx.specs.declared.types.TxOut.{TxOut}
 use Rattle.el_tx.specs.declared.types.Tx.{Tx}
 use Rattle.el_model.specs.declared.coin.Coin.{Coin}
 use Rattle.el_model.specs.declared.fault.ConnectFault.{ConnectFault}
-use Rattle.el_model.specs.Coins.{without, put, take_inputs, coin_made, put_outputs, coins_behind, coins_behind_all}
+use Rattle.el_model.specs.Coins.{without, add_coin, spend_inputs, coin_made, add_outputs, coins_after, coins_after_all}
 use Rattle.el_model.specs.declared.fault.ConnectFault.TheVariants as refusal
-use Rattle.el_model.specs.CoinTables.{FitsBlock}
+use Rattle.el_model.specs.within.CoinTables.{FitsBlock}
 use Rattle.el_model.specs.Faults.{has_coin, missing_input, tx_fault, fault_in}
 
--- what is left begins with the element at the place
-pub left_at : {X : Type 0} (xs : List X) (i : ℕ) (x : X) → i < length xs → x ≡ get_or xs i x → drop i xs ≡ x ∷ drop (i + 1) xs
-left_at xs i x lt is = drop-cons xs i x lt ∙ rw (← is) (ap (λ n. x ∷ drop n xs) (let e : suc i ≡ i + 1 = omega arith in e))
-
--- an input whose coin is there: the inputs behind it go on without the coin
+-- an input whose coin is there: the inputs after it go on without the coin
 pub input_step : (n : ℕ) (inputs : List TxIn) (i : TxIn) (coins : List Coin) → n < length inputs → i ≡ get_or inputs n i → true ≡ has_coin i.from coins
     → (missing_input n (drop n inputs) coins ≡ missing_input (n + 1) (drop (n + 1) inputs) (without i.from coins))
-    × (take_inputs (drop n inputs) coins ≡ take_inputs (drop (n + 1) inputs) (without i.from coins))
+    × (spend_inputs (drop n inputs) coins ≡ spend_inputs (drop (n + 1) inputs) (without i.from coins))
 input_step n inputs i coins lt is here =
     let left = left_at inputs n i lt is in
     (rw left (found (drop (n + 1) inputs) here), rw left refl)
@@ -43,21 +40,21 @@ input_stop n inputs i coins lt is gone =
 
 -- an output, which puts its coin in
 pub output_step : (id : Hash32) (height n : ℕ) (outputs : List TxOut) (o : TxOut) (coins : List Coin) → n < length outputs → o ≡ get_or outputs n o
-    → put_outputs id height n (drop n outputs) coins ≡ put_outputs id height (n + 1) (drop (n + 1) outputs) (put (coin_made id height n o) coins)
+    → add_outputs id height n (drop n outputs) coins ≡ add_outputs id height (n + 1) (drop (n + 1) outputs) (add_coin (coin_made id height n o) coins)
 output_step id height n outputs o coins lt is =
     let left = left_at outputs n o lt is in
     rw left refl
 
 -- the values of the outputs that are left
 pub values_left : (n : ℕ) (outputs : List TxOut) (o : TxOut) → n < length outputs → o ≡ get_or outputs n o
-    → sum_by (λ (x : TxOut). x.value) (drop n outputs) ≡ o.value + sum_by (λ (x : TxOut). x.value) (drop (n + 1) outputs)
+    → total_value (drop n outputs) ≡ o.value + total_value (drop (n + 1) outputs)
 values_left n outputs o lt is =
     let left = left_at outputs n o lt is in
     rw left (sum_by-cons (λ (x : TxOut). x.value) o (drop (n + 1) outputs))
 
--- the transactions behind one that fits
-pub fits_behind : (ts : List Tx) (n : ℕ) (t : Tx) → n < length ts → t ≡ get_or ts n t → AllByRecursion FitsBlock (drop n ts) → AllByRecursion FitsBlock (drop (n + 1) ts)
-fits_behind ts n t lt is all =
+-- the transactions after one that fits
+pub fits_after : (ts : List Tx) (n : ℕ) (t : Tx) → n < length ts → t ≡ get_or ts n t → AllByRecursion FitsBlock (drop n ts) → AllByRecursion FitsBlock (drop (n + 1) ts)
+fits_after ts n t lt is all =
     let left = left_at ts n t lt is in
     let here = rw left at all in
     here.1
@@ -68,16 +65,16 @@ fits_here ts n t lt is all =
     let here = rw left at all in
     here.0
 
--- a transaction without a fault: those behind it go on with the coins behind it
+-- a transaction without a fault: those after it go on with the coins after it
 pub txs_step : (height n : ℕ) (ts : List Tx) (t : Tx) (coins : List Coin) → n < length ts → t ≡ get_or ts n t → tx_fault height n t coins ≡ None
-    → (fault_in height n (drop n ts) coins ≡ fault_in height (n + 1) (drop (n + 1) ts) (coins_behind height t coins))
-    × (coins_behind_all height (drop n ts) coins ≡ coins_behind_all height (drop (n + 1) ts) (coins_behind height t coins))
+    → (fault_in height n (drop n ts) coins ≡ fault_in height (n + 1) (drop (n + 1) ts) (coins_after height t coins))
+    × (coins_after_all height (drop n ts) coins ≡ coins_after_all height (drop (n + 1) ts) (coins_after height t coins))
 txs_step height n ts t coins lt is none =
     let left = left_at ts n t lt is in
     (rw left (faultless (drop (n + 1) ts)), rw left refl)
   where
-    faultless : (us : List Tx) → fault_in height n (t ∷ us) coins ≡ fault_in height (n + 1) us (coins_behind height t coins)
-    faultless us = ap (λ (r : Option ConnectFault). option_or r (fault_in height (n + 1) us (coins_behind height t coins))) none
+    faultless : (us : List Tx) → fault_in height n (t ∷ us) coins ≡ fault_in height (n + 1) us (coins_after height t coins)
+    faultless us = ap (λ (r : Option ConnectFault). option_or r (fault_in height (n + 1) us (coins_after height t coins))) none
 
 -- a transaction that is refused, of a block of which the transactions that are left go on with these coins
 pub txs_stop : (height n : ℕ) (ts : List Tx) (t : Tx) (first coins : List Coin) → n < length ts → t ≡ get_or ts n t
@@ -86,7 +83,7 @@ pub txs_stop : (height n : ℕ) (ts : List Tx) (t : Tx) (first coins : List Coin
 txs_stop height n ts t first coins lt is so e (inl memory) = inl memory
 txs_stop height n ts t first coins lt is so e (inr fault) =
     let left = left_at ts n t lt is in
-    inr (so ∙ rw left (ap (λ (r : Option ConnectFault). option_or r (fault_in height (n + 1) (drop (n + 1) ts) (coins_behind height t coins))) fault))
+    inr (so ∙ rw left (ap (λ (r : Option ConnectFault). option_or r (fault_in height (n + 1) (drop (n + 1) ts) (coins_after height t coins))) fault))
 
 -- an error that is passed on
 pub err_passed : {T E : Type 0} (r : Result T E) (P : E → Type 0) (x : E) → ((y : E) × (r ≡ Err y) × (y ≡ x)) → P x → IfErr r P

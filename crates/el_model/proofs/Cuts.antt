@@ -1,7 +1,7 @@
 -- Bytes are cut into lines the same way, however they come.
 use Rattle.std.proofs.Common.{◌≡◌, ◌⊎◌, inl, inr, ℕ, Bool, true, false, List, [], ◌∷◌, ◌++◌, length, map, drop, refl, ap, sym, ◌∙◌, append_assoc, append-nil, arith, length-append, ◌==◌, nat_lt, lt-ltb, le-ltb, ltb-true, eqb-true}
 use Rattle.std.proofs.lemmas.List.{drop_at, map-append}
-use Rattle.el_model.specs.Lines.{Cut, cut, cut_before, joined, LineEvent, line, event_of, open_event, lines}
+use Rattle.el_model.specs.Lines.{Cut, cut, cut_before, byte_before, LineEvent, line, event_of, open_event, lines}
 use Rattle.el_model.specs.World.{added_lines}
 
 pub either : (b : Bool) → (b ≡ true) ⊎ (b ≡ false)
@@ -13,16 +13,16 @@ pub cut_line : (bytes : List ℕ) → cut (bytes ++ 10 ∷ []) ≡ record { whol
 cut_line [] = refl
 cut_line (b ∷ bytes) = ap (cut_before b) (cut_line bytes) ∙ before_line b (cut bytes)
   where
-    joined_line : (b : ℕ) (whole : List (List ℕ)) (open_line : List ℕ)
-        → joined b (whole ++ open_line ∷ []) [] ≡ record { whole = (joined b whole open_line).whole ++ (joined b whole open_line).open_line ∷ []; open_line = [] }
-    joined_line b [] open_line = refl
-    joined_line b (l ∷ ls) open_line = refl
+    line_before : (b : ℕ) (whole : List (List ℕ)) (open_line : List ℕ)
+        → byte_before b (whole ++ open_line ∷ []) [] ≡ record { whole = (byte_before b whole open_line).whole ++ (byte_before b whole open_line).open_line ∷ []; open_line = [] }
+    line_before b [] open_line = refl
+    line_before b (l ∷ ls) open_line = refl
 
     before_line : (b : ℕ) (c : Cut) → cut_before b (record { whole = c.whole ++ c.open_line ∷ []; open_line = [] })
         ≡ record { whole = (cut_before b c).whole ++ (cut_before b c).open_line ∷ []; open_line = [] }
     before_line b c = elim (either (b == 10)) [
       | inl h ↦ rw h refl
-      | inr h ↦ rw h (joined_line b c.whole c.open_line)
+      | inr h ↦ rw h (line_before b c.whole c.open_line)
     ]
 
 -- one byte more of the open line
@@ -30,19 +30,19 @@ pub cut_byte : (bytes : List ℕ) (x : ℕ) → x == 10 ≡ false → cut (bytes
 cut_byte [] x other = rw other refl
 cut_byte (b ∷ bytes) x other = ap (cut_before b) (cut_byte bytes x other) ∙ before_byte b (cut bytes)
   where
-    joined_byte : (b : ℕ) (whole : List (List ℕ)) (open_line : List ℕ)
-        → joined b whole (open_line ++ x ∷ []) ≡ record { whole = (joined b whole open_line).whole; open_line = (joined b whole open_line).open_line ++ x ∷ [] }
-    joined_byte b [] open_line = refl
-    joined_byte b (l ∷ ls) open_line = refl
+    more_before : (b : ℕ) (whole : List (List ℕ)) (open_line : List ℕ)
+        → byte_before b whole (open_line ++ x ∷ []) ≡ record { whole = (byte_before b whole open_line).whole; open_line = (byte_before b whole open_line).open_line ++ x ∷ [] }
+    more_before b [] open_line = refl
+    more_before b (l ∷ ls) open_line = refl
 
     before_byte : (b : ℕ) (c : Cut) → cut_before b (record { whole = c.whole; open_line = c.open_line ++ x ∷ [] })
         ≡ record { whole = (cut_before b c).whole; open_line = (cut_before b c).open_line ++ x ∷ [] }
     before_byte b c = elim (either (b == 10)) [
       | inl h ↦ rw h refl
-      | inr h ↦ rw h (joined_byte b c.whole c.open_line)
+      | inr h ↦ rw h (more_before b c.whole c.open_line)
     ]
 
--- An event stands for good once it is met: lines are met one behind the other.
+-- An event stands for good once it is met: lines are met one after the other.
 pub event_more : (limit : ℕ) (bytes : List ℕ) (x : ℕ) → (more : List LineEvent) × (lines limit (bytes ++ x ∷ []) ≡ lines limit bytes ++ more)
 event_more limit bytes x = elim (either (x == 10)) [
   | inl h ↦
@@ -87,5 +87,5 @@ lines_begin limit first (x ∷ rest) =
 pub pieces : (limit : ℕ) (first rest : List ℕ) → lines limit (first ++ rest) ≡ lines limit first ++ added_lines limit first rest
 pieces limit first rest =
     let b = lines_begin limit first rest in
-    let behind : added_lines limit first rest ≡ b.0 = ap (drop (length (lines limit first))) b.1 ∙ drop_at (lines limit first) b.0 (length (lines limit first)) refl in
-    b.1 ∙ ap (λ (t : List LineEvent). lines limit first ++ t) (sym behind)
+    let after : added_lines limit first rest ≡ b.0 = ap (drop (length (lines limit first))) b.1 ∙ drop_at (lines limit first) b.0 (length (lines limit first)) refl in
+    b.1 ∙ ap (λ (t : List LineEvent). lines limit first ++ t) (sym after)

@@ -3,33 +3,35 @@ use Rattle.std.proofs.Common.{◌≡◌, inl, inr, ℕ, suc, ◌+◌, ◌<◌, �
 use Rattle.std.proofs.lemmas.Bool.{cases_Bool, leb-false}
 use Rattle.std.specs.List.{AllByRecursion, flat_map}
 use Rattle.std.specs.Option.{option_or, option_flatten}
-use Rattle.std.specs.Map.{lookup}
+use Rattle.std.specs.Map.{lookup as entry_lookup}
 use Rattle.indexmap.specs.IndexMap.{IndexMap}
 use Rattle.el_tx.specs.declared.types.Outpoint.{Outpoint}
 use Rattle.std.specs.Int.{w32, w64, to_le_bytes}
 use Rattle.el_base.specs.Compact.{compact}
 use Rattle.el_tx.specs.declared.types.TxOut.{TxOut}
 use Rattle.el_tx.specs.declared.types.Tx.{Tx}
-use Rattle.el_tx.specs.Hashing.{full_text}
-use Rattle.el_tx.specs.Headers.{header_text}
-use Rattle.el_tx.specs.Spelling.{max_money, counted, sized, input_text, output_text, stack_text, version_text, body_text, has_witness}
+use Rattle.el_tx.specs.Hashing.{full_encoding, same_outpoint}
+use Rattle.el_tx.specs.Headers.{header_encoding}
+use Rattle.el_tx.specs.Encoding.{max_money, counted, sized, input_encoding, output_encoding, stack_encoding, version_encoding, body_encoding, has_witness, HasEncoding}
 use Rattle.el_model.specs.declared.block.Block.{Block}
 use Rattle.el_model.specs.declared.block.Placed.{Placed}
 use Rattle.el_model.specs.declared.coin.Coin.{Coin}
 use Rattle.el_model.specs.declared.coins.CoinTable.{CoinTable}
 use Rattle.el_model.specs.declared.fault.ConnectFault.TheVariants as refusal
-use Rattle.el_model.specs.Blocks.{Chain, HasSpelling, IsSpelled, SpellsBlock, HasOneCoinbase, max_weight, tip}
-use Rattle.el_model.specs.Coins.{same_outpoint, coins_behind_all, coins_from, coins}
-use Rattle.el_model.specs.Faults.{row_limit, full_fault, missing_fault, fault_in, fault, IsNext, AreNext}
-use Rattle.el_model.specs.CoinTables.{said, coin_by, coin_over, StandsFor, FitsBlock, HasFitting}
-use Rattle.el_model.specs.CoinLayers.{Holds, IsKept}
+use Rattle.el_model.specs.Blocks.{Chain, HasBlockEncoding, EncodesBlock, tip}
+use Rattle.el_model.specs.declared.limits.TheConstants.{MAX_BLOCK_WEIGHT, ROW_LIMIT}
+use Rattle.el_model.specs.Coins.{coins_after_all, coins_from, coins}
+use Rattle.el_model.specs.Faults.{full_fault, missing_fault, fault_in, fault, IsNext, AreNext}
+use Rattle.el_model.specs.within.CoinTables.{lookup, coin_by, coin_over, StandsFor, FitsBlock, HasFitting}
+use Rattle.el_model.specs.within.CoinLayers.{Holds, IsPlainLedger}
+use Rattle.el_model.proofs.BlockLemmas.{one_some}
 
 -- each output has a text of some bytes
-outputs_within : (os : List TxOut) → length os ≤ length (flat_map output_text os)
+outputs_within : (os : List TxOut) → length os ≤ length (flat_map output_encoding os)
 outputs_within [] = omega arith
 outputs_within (o ∷ os) =
     let rest = outputs_within os in
-    let joined = length-append (output_text o) (flat_map output_text os) in
+    let joined = length-append (output_encoding o) (flat_map output_encoding os) in
     let one = length-append (to_le_bytes w64 o.value) (sized o.script) in
     let eight : length (to_le_bytes w64 o.value) ≡ 8 = refl in
     omega arith
@@ -41,49 +43,49 @@ front_of xs ys = let h = length-append xs ys in omega arith
 back_of : (xs ys : List ℕ) → length ys ≤ length (xs ++ ys)
 back_of xs ys = let h = length-append xs ys in omega arith
 
-body_holds : (t : Tx) → length t.outputs ≤ length (body_text t)
+body_holds : (t : Tx) → length t.outputs ≤ length (body_encoding t)
 body_holds t =
     let os = outputs_within t.outputs in
-    let behind = back_of (compact (length t.outputs)) (flat_map output_text t.outputs) in
-    let all = back_of (counted input_text t.inputs) (counted output_text t.outputs) in
+    let after = back_of (compact (length t.outputs)) (flat_map output_encoding t.outputs) in
+    let all = back_of (counted input_encoding t.inputs) (counted output_encoding t.outputs) in
     omega arith
 
--- a transaction's outputs are no more than the bytes of its whole spelling
-pub outputs_in_text : (t : Tx) → length t.outputs ≤ length (full_text t)
-outputs_in_text t = elim (cases_Bool (has_witness t)) [
+-- a transaction's outputs are no more than the bytes of its whole encoding
+pub outputs_in_encoding : (t : Tx) → length t.outputs ≤ length (full_encoding t)
+outputs_in_encoding t = elim (cases_Bool (has_witness t)) [
   | inl h ↦
       let body = body_holds t in
-      let rest = flat_map stack_text t.inputs ++ to_le_bytes w32 t.lock in
-      let front = front_of (body_text t) rest in
-      let behind = back_of (version_text t) (0 ∷ 1 ∷ (body_text t ++ rest)) in
+      let rest = flat_map stack_encoding t.inputs ++ to_le_bytes w32 t.lock in
+      let front = front_of (body_encoding t) rest in
+      let after = back_of (version_encoding t) (0 ∷ 1 ∷ (body_encoding t ++ rest)) in
       rw h (omega arith)
   | inr h ↦
       let body = body_holds t in
-      let front = front_of (body_text t) (to_le_bytes w32 t.lock) in
-      let behind = back_of (version_text t) (body_text t ++ to_le_bytes w32 t.lock) in
+      let front = front_of (body_encoding t) (to_le_bytes w32 t.lock) in
+      let after = back_of (version_encoding t) (body_encoding t ++ to_le_bytes w32 t.lock) in
       rw h (omega arith)
 ]
 
--- transactions whose spellings together weigh no more than a block
-pub all_fit : (ts : List Tx) → AllByRecursion HasSpelling ts → length (flat_map full_text ts) ≤ max_weight → AllByRecursion FitsBlock ts
+-- transactions whose encodings together weigh no more than a block
+pub all_fit : (ts : List Tx) → AllByRecursion HasEncoding ts → length (flat_map full_encoding ts) ≤ MAX_BLOCK_WEIGHT → AllByRecursion FitsBlock ts
 all_fit [] each light = tt
 all_fit (t ∷ ts) each light =
-    let joined = length-append (full_text t) (flat_map full_text ts) in
-    let outputs = outputs_in_text t in
-    (record { spelled = each.0; few = omega arith }, all_fit ts each.1 (omega arith))
+    let joined = length-append (full_encoding t) (flat_map full_encoding ts) in
+    let outputs = outputs_in_encoding t in
+    (record { encoded = each.0; few = omega arith }, all_fit ts each.1 (omega arith))
 
-pub fits_of_spelled : (b : Block) → IsSpelled b → AllByRecursion FitsBlock b.txs
-fits_of_spelled b h =
-    let s : SpellsBlock h.0 b = h.1 in
+pub fits_of_encoded : (b : Block) → HasBlockEncoding b → AllByRecursion FitsBlock b.txs
+fits_of_encoded b h =
+    let s : EncodesBlock h.0 b = h.1 in
     let light = s.light in
-    let txs = back_of (compact (length b.txs)) (flat_map full_text b.txs) in
-    let all = back_of (header_text b.header) (counted full_text b.txs) in
+    let txs = back_of (compact (length b.txs)) (flat_map full_encoding b.txs) in
+    let all = back_of (header_encoding b.header) (counted full_encoding b.txs) in
     all_fit b.txs s.text.each (omega arith)
 
 -- so do the transactions of each block of a good chain
 pub chain_fits : (before chain : Chain) → AreNext before chain → AllByRecursion HasFitting chain
 chain_fits before [] h = tt
-chain_fits before (b ∷ bs) h = (fits_of_spelled b.block h.0.spelled, chain_fits (before ++ b ∷ []) bs h.1)
+chain_fits before (b ∷ bs) h = (fits_of_encoded b.block h.0.encoded, chain_fits (before ++ b ∷ []) bs h.1)
 
 -- one block more
 pub next_more : (before chain : Chain) (b : Placed) → AreNext before chain → IsNext (before ++ chain) b.block → AreNext before (chain ++ b ∷ [])
@@ -91,13 +93,13 @@ next_more before [] b h next = (rw (append-nil before) at next, tt)
 next_more before (x ∷ xs) b h next =
     (h.0, next_more (before ++ x ∷ []) xs b h.1 (rw (append_assoc before (x ∷ []) xs) next))
 
--- the coins behind one block more
+-- the coins after one block more
 pub coins_more : (height : ℕ) (chain : Chain) (b : Placed) (before : List Coin)
-    → coins_from height (chain ++ b ∷ []) before ≡ coins_behind_all (height + length chain) b.block.txs (coins_from height chain before)
-coins_more height [] b before = ap (λ n. coins_behind_all n b.block.txs before) (let e : height ≡ height + 0 = omega arith in e)
+    → coins_from height (chain ++ b ∷ []) before ≡ coins_after_all (height + length chain) b.block.txs (coins_from height chain before)
+coins_more height [] b before = ap (λ n. coins_after_all n b.block.txs before) (let e : height ≡ height + 0 = omega arith in e)
 coins_more height (x ∷ xs) b before =
-    coins_more (height + 1) xs b (coins_behind_all height x.block.txs before)
-    ∙ ap (λ n. coins_behind_all n b.block.txs (coins_from (height + 1) xs (coins_behind_all height x.block.txs before)))
+    coins_more (height + 1) xs b (coins_after_all height x.block.txs before)
+    ∙ ap (λ n. coins_after_all n b.block.txs (coins_from (height + 1) xs (coins_after_all height x.block.txs before)))
     (let e : height + 1 + length xs ≡ height + suc (length xs) = omega arith in e)
 
 -- a fault that is none is none throughout
@@ -113,59 +115,55 @@ second_none (Some x) b h = absurd (some_none h)
     some_none e = cc
 
 -- where a block has no fault, the table of blocks has room for it
-pub has_room : (height : ℕ) (ts : List Tx) (before : List Coin) → fault_in height 0 ts before ≡ None → 1 ≤ length ts → height < row_limit
+pub has_room : (height : ℕ) (ts : List Tx) (before : List Coin) → fault_in height 0 ts before ≡ None → 1 ≤ length ts → height < ROW_LIMIT
 has_room height [] before h some = absurd (omega arith)
 has_room height (t ∷ ts) before h some =
     let one = first_none _ _ h in
     let bounds = second_none (missing_fault 0 t before) _ one in
     let room = second_none _ (full_fault height 0) bounds in
-    by (nat_le row_limit height) refl room
+    by (nat_le ROW_LIMIT height) refl room
   where
-    by : (b : Bool) → nat_le row_limit height ≡ b → full_fault height 0 ≡ None → height < row_limit
+    by : (b : Bool) → nat_le ROW_LIMIT height ≡ b → full_fault height 0 ≡ None → height < ROW_LIMIT
     by true e none = let bad = rw e at none in absurd (some_none bad)
       where
-        some_none : Some (refusal.Full 1 row_limit) ≡ None → ⊥
+        some_none : Some (refusal.Full 1 ROW_LIMIT) ≡ None → ⊥
         some_none f = cc
-    by false e none = leb-false row_limit height e
+    by false e none = leb-false ROW_LIMIT height e
 
 -- what is kept goes on with one block more
-pub kept_more : (chain : Chain) (b : Placed) (kept new : CoinTable) → IsKept chain kept → IsSpelled b.block → b.block.header.previous ≡ tip chain
+pub kept_more : (chain : Chain) (b : Placed) (kept new : CoinTable) → IsPlainLedger chain kept → HasBlockEncoding b.block → b.block.header.previous ≡ tip chain
     → fault chain b.block ≡ None → new.supply ≤ max_money
-    → StandsFor (coin_by new.map) new.supply (coins_behind_all (length chain) b.block.txs (coins chain)) → IsKept (chain ++ b ∷ []) new
-kept_more chain b kept new h spelled names none money stands = record {
-  good = record { each = next_more [] chain b h.good.each (record { spelled = spelled; names = names; faultless = none }) };
+    → StandsFor (coin_by new.map) new.supply (coins_after_all (length chain) b.block.txs (coins chain)) → IsPlainLedger (chain ++ b ∷ []) new
+kept_more chain b kept new h encoded names none money stands = record {
+  good = record { each = next_more [] chain b h.good.each (record { encoded = encoded; names = names; faultless = none }) };
   few =
-      let s : SpellsBlock spelled.0 b.block = spelled.1 in
-      let room = has_room (length chain) b.block.txs (coins chain) none (some_txs b.block.txs s.coinbase) in
+      let s : EncodesBlock encoded.0 b.block = encoded.1 in
+      let room = has_room (length chain) b.block.txs (coins chain) none (one_some b.block.txs s.coinbase) in
       let joined = length-append chain (b ∷ []) in
       omega arith;
   money = money;
   stands = rw (coins_more 0 chain b []) (rw (let e : 0 + length chain ≡ length chain = omega arith in e) stands);
 }
-  where
-    some_txs : (ts : List Tx) → HasOneCoinbase ts → 1 ≤ length ts
-    some_txs [] one = absurd one
-    some_txs (t ∷ ts) one = omega arith
 
 -- an empty table over another one says what that one says
 pub over_empty : {S : Type 0} (base start : IndexMap Outpoint (Option Coin) S) → start.entries ≡ [] → (o : Outpoint) → coin_over base start o ≡ coin_by base o
-over_empty base start none o = ap (λ (es : List (Outpoint × Option Coin)). option_flatten (option_or (lookup (same_outpoint o) es) (said base o))) none
+over_empty base start none o = ap (λ (es : List (Outpoint × Option Coin)). option_flatten (option_or (entry_lookup (same_outpoint o) es) (lookup base o))) none
 
 -- what is kept goes on with one block more, once the changes that it makes are laid over what was kept
-pub kept_connected : (chain : Chain) (b : Placed) (base start changes new : CoinTable) (height : ℕ) (ts : List Tx) → IsKept chain base → IsSpelled b.block
+pub kept_connected : (chain : Chain) (b : Placed) (base start changes new : CoinTable) (height : ℕ) (ts : List Tx) → IsPlainLedger chain base → HasBlockEncoding b.block
     → b.block.header.previous ≡ tip chain → height ≡ length chain → ts ≡ b.block.txs → start.map.entries ≡ [] → start.supply ≡ base.supply
-    → ((cs : List Coin) → Holds base start cs → fault_in height 0 ts cs ≡ None) → ((cs : List Coin) → Holds base start cs → Holds base changes (coins_behind_all height ts cs))
-    → changes.supply ≤ max_money → ((o : Outpoint) → coin_by new.map o ≡ coin_over base.map changes.map o) → new.supply ≡ changes.supply → IsKept (chain ++ b ∷ []) new
-kept_connected chain b base start changes new height ts h spelled names tall txs none same faultless behind money laid total =
+    → ((cs : List Coin) → Holds base start cs → fault_in height 0 ts cs ≡ None) → ((cs : List Coin) → Holds base start cs → Holds base changes (coins_after_all height ts cs))
+    → changes.supply ≤ max_money → ((o : Outpoint) → coin_by new.map o ≡ coin_over base.map changes.map o) → new.supply ≡ changes.supply → IsPlainLedger (chain ++ b ∷ []) new
+kept_connected chain b base start changes new height ts h encoded names tall txs none same faultless after money laid total =
     let begun : Holds base start (coins chain) = record {
       each = λ o. over_empty base.map start.map none o ∙ h.stands.each o;
       total = same ∙ h.stands.total;
       once = h.stands.once;
     } in
     let clean = rw (tall, txs) at faultless (coins chain) begun in
-    let after = rw (tall, txs) at behind (coins chain) begun in
+    let after = rw (tall, txs) at after (coins chain) begun in
     let most = rw (← total) at money in
-    kept_more chain b base new h spelled names clean most (record {
+    kept_more chain b base new h encoded names clean most (record {
       each = λ o. laid o ∙ after.each o;
       total = total ∙ after.total;
       once = after.once;

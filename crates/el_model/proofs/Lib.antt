@@ -6,6 +6,8 @@ pub mod CoinLists
 pub mod CoinSteps
 pub mod Histories
 pub mod GoodChains
+pub mod GivenChains
+pub mod BlockOrFault
 pub mod SupplyLaws
 pub mod CoinOrigins
 pub mod NoHistories

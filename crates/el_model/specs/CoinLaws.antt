@@ -1,35 +1,35 @@
--- The words of the laws on coins: which coins a transaction makes, which it takes or replaces, and what its inputs take.
-use Rattle.std.specs.Prelude.{◌≡◌, ◌⊎◌, ℕ, ◌+◌, ◌≤◌, Bool, false, not, ◌&&◌, ◌||◌, List, [], ◌∷◌, ◌++◌, filter, sum_by, ⊤}
+-- The words of the laws on coins: which coins a transaction makes, which it takes or replaces, and what its
+-- inputs take.
+use Rattle.std.specs.Prelude.{◌≡◌, ◌⊎◌, ℕ, ◌+◌, ◌≤◌, Bool, false, not, ◌&&◌, ◌||◌, List, [], ◌∷◌, ◌++◌, filter, ⊤}
 use Rattle.std.specs.List.{list_any, AllByRecursion}
 use Rattle.el_base.specs.declared.hash.Hash32.{Hash32}
+use Rattle.el_tx.specs.Encoding.{total_value}
 use Rattle.el_tx.specs.declared.types.Outpoint.{Outpoint}
 use Rattle.el_tx.specs.declared.types.TxIn.{TxIn}
 use Rattle.el_tx.specs.declared.types.TxOut.{TxOut}
 use Rattle.el_tx.specs.declared.types.Tx.{Tx}
-use Rattle.el_tx.specs.Hashing.{txid}
+use Rattle.el_tx.specs.Hashing.{txid, same_outpoint, is_coinbase}
 use Rattle.el_model.specs.declared.block.Placed.{Placed}
 use Rattle.el_model.specs.declared.coin.Coin.{Coin}
-use Rattle.el_model.specs.Coins.{same_outpoint, is_coin_of, names_no_output, without, coin_made, coins_behind, supply}
+use Rattle.el_model.specs.Coins.{is_coin_of, without, coin_made, coins_after, supply}
 use Rattle.el_model.specs.History.{Position, funds}
-
--- what all outputs of a transaction hold, in satoshi
-abbrev pub outputs_hold : Tx → ℕ
-outputs_hold t = sum_by (λ (o : TxOut). o.value) t.outputs
 
 -- what the coins hold that inputs take, in satoshi, each input its own
 abbrev pub inputs_take : List TxIn → List Coin → ℕ
 inputs_take [] coins = 0
 inputs_take (i ∷ is) coins = supply (filter (is_coin_of i.from) coins) + inputs_take is (without i.from coins)
 
--- The transaction is no coinbase, and its outputs hold no more than the coins that its inputs take. The coins are those before it.
+-- The transaction is no coinbase, and its outputs hold no more than the coins that its inputs take. The coins
+-- are those before it.
 pub record GivesNoMore (t : Tx) (coins : List Coin) : Type 0 where
-  pub other : names_no_output t.inputs ≡ false
-  pub less : outputs_hold t ≤ inputs_take t.inputs coins
+  pub other : is_coinbase t ≡ false
+  pub less : total_value t.outputs ≤ inputs_take t.inputs coins
 
--- so does each of these transactions, one behind the other
+-- so does each of these transactions, one after the other
 abbrev pub AllGiveNoMore : ℕ → List Tx → List Coin → Type 0
 AllGiveNoMore height [] coins = ⊤
-AllGiveNoMore height (t ∷ ts) coins = GivesNoMore t coins × AllGiveNoMore height ts (coins_behind height t coins)
+AllGiveNoMore height (t ∷ ts) coins =
+    GivesNoMore t coins × AllGiveNoMore height ts (coins_after height t coins)
 
 -- the coin is one of these
 abbrev pub IsIn : Coin → List Coin → Type 0
@@ -47,7 +47,7 @@ makes p = coins_made (txid p.tx) p.height 0 p.tx.outputs
 
 -- the transaction, which is no coinbase, has an input that names the outpoint
 abbrev pub takes : Outpoint → Tx → Bool
-takes o t = not (names_no_output t.inputs) && list_any (λ (i : TxIn). same_outpoint o i.from) t.inputs
+takes o t = not (is_coinbase t) && list_any (λ (i : TxIn). same_outpoint o i.from) t.inputs
 
 -- the position's transaction takes the outpoint's coin, or makes one in its place
 abbrev pub touches : Outpoint → Position → Bool
@@ -57,15 +57,15 @@ touches o p = takes o p.tx || list_any (is_coin_of o) (makes p)
 abbrev pub Untouched : Outpoint → List Position → Type 0
 Untouched o ps = AllByRecursion (λ p. touches o p ≡ false) ps
 
--- one of these positions makes the coin, and none behind it takes or replaces it
+-- one of these positions makes the coin, and none after it takes or replaces it
 pub record IsMadeIn (c : Coin) (ps : List Position) : Type 0 where
   pub front : List Position
   pub at : Position
-  pub behind : List Position
-  pub places : ps ≡ front ++ at ∷ behind
+  pub later : List Position
+  pub places : ps ≡ front ++ at ∷ later
   pub made : IsIn c (makes at)
-  pub kept : Untouched c.outpoint behind
+  pub kept : Untouched c.outpoint later
 
 -- no output of the block has the script hash
 abbrev pub HasNone : List ℕ → Placed → Type 0
-HasNone script b = AllByRecursion (λ t. funds script t ≡ false) b.block.txs
+HasNone script_hash b = AllByRecursion (λ t. funds script_hash t ≡ false) b.block.txs

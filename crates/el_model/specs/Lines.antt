@@ -1,20 +1,24 @@
--- Lines: what a client sends is cut at each byte 10, the newline that ends each message of Electrum Protocol 1.4. Sizes are in bytes.
+-- Lines: what a client sends is cut at each byte 10, the newline that ends each message of Electrum Protocol
+-- 1.4. Sizes are in bytes.
 use Rattle.std.specs.Prelude.{ℕ, ◌==◌, nat_lt, if◌then◌else◌, List, [], ◌∷◌, ◌++◌, length, map}
 
--- whole lines without their byte 10, and the open line behind the last, which no byte 10 has ended yet and which may be empty
+-- whole lines without their byte 10, and the open line after the last, which no byte 10 has ended yet and
+-- which may be empty
 pub record Cut : Type 0 where
   pub whole : List (List ℕ)
   pub open_line : List ℕ
 
 -- the byte becomes the first of the first line, which is the open one where there is no whole one
-abbrev pub joined : ℕ → List (List ℕ) → List ℕ → Cut
-joined byte [] open_line = record { whole = []; open_line = byte ∷ open_line }
-joined byte (line ∷ lines) open_line = record { whole = (byte ∷ line) ∷ lines; open_line = open_line }
+abbrev pub byte_before : ℕ → List (List ℕ) → List ℕ → Cut
+byte_before byte [] open_line = record { whole = []; open_line = byte ∷ open_line }
+byte_before byte (line ∷ lines) open_line = record { whole = (byte ∷ line) ∷ lines; open_line = open_line }
 
--- one byte before what is cut: byte 10 ends a line that has no bytes yet, another one is the first of the first line
+-- one byte before what is cut: byte 10 ends a line that has no bytes yet, another one is the first of the
+-- first line
 abbrev pub cut_before : ℕ → Cut → Cut
 cut_before byte rest =
-    if byte == 10 then record { whole = [] ∷ rest.whole; open_line = rest.open_line } else joined byte rest.whole rest.open_line
+    if byte == 10 then record { whole = [] ∷ rest.whole; open_line = rest.open_line }
+    else byte_before byte rest.whole rest.open_line
 
 -- the lines of bytes
 abbrev pub cut : List ℕ → Cut
@@ -34,6 +38,7 @@ event_of limit bytes = if nat_lt limit (length bytes) then too_long else line by
 abbrev pub open_event : ℕ → List ℕ → List LineEvent
 open_event limit bytes = if nat_lt limit (length bytes) then too_long ∷ [] else []
 
--- All bytes of a peer, cut at each byte 10: its lines in order, and one `too_long` for each that is longer than the limit.
+-- All bytes of a peer, cut at each byte 10: its lines in order, and one `too_long` for each that is longer
+-- than the limit.
 abbrev pub lines : ℕ → List ℕ → List LineEvent
 lines limit bytes = map (event_of limit) (cut bytes).whole ++ open_event limit (cut bytes).open_line

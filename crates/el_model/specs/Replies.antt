@@ -1,11 +1,12 @@
--- The reply to a client's line (JSON-RPC 2.0; Electrum Protocol 1.4, blockchain.scripthash.get_history). One spelling of one request is known so far;
--- to any other line the reply says that it is invalid.
-use Rattle.std.specs.Prelude.{◌≡◌, ℕ, ◌≤◌, List, [], ◌∷◌, ◌++◌, length, codes, slice_index}
+-- The reply to a client's line (JSON-RPC 2.0; Electrum Protocol 1.4, blockchain.scripthash.get_history). One
+-- encoding of one request is known so far; to any other line the reply says that it is invalid.
+use Rattle.std.specs.Prelude.{◌≡◌, ℕ, ◌≤◌, ◌<◌, List, [], ◌∷◌, ◌++◌, length, codes, slice_index}
 use Rattle.std.specs.List.{AllPass}
 use Rattle.std.specs.Char.{is_ascii_digit}
 use Rattle.std.specs.Fmt.{decimal}
 use Rattle.el_base.specs.Shown.{shown, Shows}
 use Rattle.el_model.specs.declared.entry.Entry.{Entry}
+use Rattle.el_model.specs.declared.limits.TheConstants.{ENTRY_LIMIT}
 use Rattle.el_model.specs.Blocks.{Chain}
 use Rattle.el_model.specs.History.{history}
 
@@ -17,7 +18,7 @@ request_head = codes "{\"id\":"
 abbrev pub request_middle : List ℕ
 request_middle = codes ",\"method\":\"blockchain.scripthash.get_history\",\"params\":[\""
 
--- behind the script hash
+-- after the script hash
 abbrev pub request_tail : List ℕ
 request_tail = codes "\"]}"
 
@@ -32,17 +33,19 @@ pub record IsId (id : List ℕ) : Type 0 where
   pub digits : AllPass is_ascii_digit id
   pub plain : slice_index id 0 ≡ 48 → length id ≡ 1
 
--- The line asks, under this id, for the history of this script hash, in inner order. The line shows it by 64 hex digits in reverse (Electrum Protocol
--- 1.4, "Script Hashes"), in upper or lower case.
-pub record Asks (line id script : List ℕ) : Type 0 where
+-- The line asks, under this id, for the history of this script hash, in inner order. The line shows it by 64
+-- hex digits in reverse (Electrum Protocol 1.4, "Script Hashes"), in upper or lower case.
+pub record Asks (line id script_hash : List ℕ) : Type 0 where
   pub text : List ℕ
   pub is_id : IsId id
-  pub shows : Shows text script
+  pub shows : Shows text script_hash
   pub whole : line ≡ request_text id text
 
--- an entry of a history as JSON: its height in decimal, and its txid as it is shown, by 64 lower-case hex digits in reverse
+-- an entry of a history as JSON: its height in decimal, and its txid as it is shown, by 64 lower-case hex
+-- digits in reverse
 unfoldable pub entry_text : Entry → List ℕ
-entry_text e = codes "{\"height\":" ++ decimal e.height ++ codes ",\"tx_hash\":\"" ++ shown e.txid.0 ++ codes "\"}"
+entry_text e =
+    codes "{\"height\":" ++ decimal e.height ++ codes ",\"tx_hash\":\"" ++ shown e.txid.0 ++ codes "\"}"
 
 -- the entries with commas between (44 is ',')
 abbrev pub entries_text : List Entry → List ℕ
@@ -52,14 +55,33 @@ entries_text (e ∷ f ∷ es) = entry_text e ++ 44 ∷ [] ++ entries_text (f ∷
 
 -- the reply with a history, ended by byte 10
 unfoldable pub history_text : List ℕ → List Entry → List ℕ
-history_text id entries = codes "{\"id\":" ++ id ++ codes ",\"jsonrpc\":\"2.0\",\"result\":[" ++ entries_text entries ++ codes "]}\n"
+history_text id entries =
+    codes "{\"id\":" ++ id ++ codes ",\"jsonrpc\":\"2.0\",\"result\":["
+    ++ entries_text entries ++ codes "]}\n"
+
+-- how many entries a reply may list
+abbrev pub entry_limit : ℕ
+entry_limit = ENTRY_LIMIT
+
+-- the reply where the history has more entries than that, ended by byte 10
+unfoldable pub too_large_text : List ℕ → List ℕ
+too_large_text id =
+    codes "{\"error\":{\"code\":1,\"message\":\"history too large\"},\"id\":"
+    ++ id ++ codes ",\"jsonrpc\":\"2.0\"}\n"
 
 -- the reply to what is no request (JSON-RPC 2.0, error -32600), ended by byte 10
 abbrev pub invalid_text : List ℕ
-invalid_text = codes "{\"error\":{\"code\":-32600,\"message\":\"invalid request\"},\"id\":null,\"jsonrpc\":\"2.0\"}\n"
+invalid_text =
+    codes "{\"error\":{\"code\":-32600,\"message\":\"invalid request\"},\"id\":null,\"jsonrpc\":\"2.0\"}\n"
 
--- The text is the reply, over this chain, to the line, which stands without the byte 10 that ended it: the history that it asks for, or that it is
--- no request.
+-- The text is the reply, over this chain, to the line, which stands without the byte 10 that ended it: the
+-- history that it asks for, or that it is too large, or that the line is no request.
 pub data IsReply (chain : Chain) (line text : List ℕ) : Type 0 where
-  found : (id script : List ℕ) → Asks line id script → text ≡ history_text id (history chain script) → IsReply chain line text
-  invalid : ((id script : List ℕ) → Asks line id script → ⊥) → text ≡ invalid_text → IsReply chain line text
+  listed : (id script_hash : List ℕ) → Asks line id script_hash
+      → length (history chain script_hash) ≤ entry_limit
+      → text ≡ history_text id (history chain script_hash) → IsReply chain line text
+  too_large : (id script_hash : List ℕ) → Asks line id script_hash
+      → entry_limit < length (history chain script_hash)
+      → text ≡ too_large_text id → IsReply chain line text
+  invalid : ((id script_hash : List ℕ) → Asks line id script_hash → ⊥)
+      → text ≡ invalid_text → IsReply chain line text

@@ -1,19 +1,20 @@
 -- What the server stands for, and what each event does to it.
 use Rattle.std.specs.Prelude.{◌≡◌, ℕ, ◌==◌, nat_lt, Bool, not, if◌then◌else◌, List, [], ◌∷◌, ◌++◌, length, map, filter, drop, MatchBool}
 use Rattle.std.specs.List.{list_any, flat_map}
-use Rattle.el_outside.specs.Story.{Came, opened, brought, closed, quiet, ended, Message, Closing}
+use Rattle.el_outside.specs.Story.{ArrivalWithBytes, opened, brought, closed, quiet, ended, Message, Closing}
 use Rattle.el_outside.specs.declared.link.Why.TheVariants as why
 use Rattle.el_model.specs.Blocks.{Chain}
+use Rattle.el_model.specs.declared.limits.TheConstants.{LINE_LIMIT, CLIENT_LIMIT}
 use Rattle.el_model.specs.Lines.{LineEvent, line, too_long, lines}
 use Rattle.el_model.specs.Replies.{IsReply}
 
 -- how many bytes a client's line may have, without its byte 10
 abbrev pub line_limit : ℕ
-line_limit = 1000000
+line_limit = LINE_LIMIT
 
 -- how many clients may be connected at once, until many are served
 abbrev pub client_limit : ℕ
-client_limit = 1
+client_limit = CLIENT_LIMIT
 
 -- a connected client: its number, and all bytes that it has sent since it came, in order
 pub record Session : Type 0 where
@@ -39,21 +40,26 @@ is_client p world = list_any (is_peer p) world.sessions
 
 -- one client more, which has sent nothing
 abbrev pub with_client : ℕ → World → World
-with_client p world = record { chain = world.chain; sessions = world.sessions ++ record { peer = p; heard = [] } ∷ [] }
+with_client p world =
+    record { chain = world.chain; sessions = world.sessions ++ record { peer = p; heard = [] } ∷ [] }
 
 -- the same without this client
 abbrev pub without_client : ℕ → World → World
-without_client p world = record { chain = world.chain; sessions = filter (λ (session : Session). not (is_peer p session)) world.sessions }
+without_client p world = record {
+  chain = world.chain;
+  sessions = filter (λ (session : Session). not (is_peer p session)) world.sessions;
+}
 
--- a session behind bytes of this client: it has them too if it is this client's, and is unchanged otherwise
+-- a session after bytes of this client: it has them too if it is this client's, and is unchanged otherwise
 abbrev pub hearing : ℕ → List ℕ → Session → Session
 hearing p bytes session =
     if is_peer p session then record { peer = session.peer; heard = session.heard ++ bytes } else session
 
--- the world behind the bytes of an arrival, before what they ask for
-abbrev pub after_hearing : Came → World → World
+-- the world after the bytes of an arrival, before what they ask for
+abbrev pub after_hearing : ArrivalWithBytes → World → World
 after_hearing (opened p) world = world
-after_hearing (brought p bytes) world = record { chain = world.chain; sessions = map (hearing p bytes) world.sessions }
+after_hearing (brought p bytes) world =
+    record { chain = world.chain; sessions = map (hearing p bytes) world.sessions }
 after_hearing (closed p) world = world
 after_hearing quiet world = world
 after_hearing ended world = world
@@ -69,13 +75,14 @@ abbrev pub added_lines : ℕ → List ℕ → List ℕ → List LineEvent
 added_lines limit heard bytes = drop (length (lines limit heard)) (lines limit (heard ++ bytes))
 
 -- the lines that a client says by bytes, where the session is its own; before the bytes are heard
-abbrev pub said : ℕ → List ℕ → Session → List Event
-said p bytes session = if is_peer p session then map (says p) (added_lines line_limit session.heard bytes) else []
+abbrev pub lines_said : ℕ → List ℕ → Session → List Event
+lines_said p bytes session =
+    if is_peer p session then map (says p) (added_lines line_limit session.heard bytes) else []
 
 -- the events of an arrival; bytes of a peer that is no connected client are none
-abbrev pub events : World → Came → List Event
+abbrev pub events : World → ArrivalWithBytes → List Event
 events world (opened p) = joins p ∷ []
-events world (brought p bytes) = flat_map (said p bytes) world.sessions
+events world (brought p bytes) = flat_map (lines_said p bytes) world.sessions
 events world (closed p) = leaves p ∷ []
 events world quiet = []
 events world ended = []
@@ -101,7 +108,7 @@ closes_long p = record { messages = []; closings = record { peer = p; why = why.
 abbrev pub closes_surplus : ℕ → Outs
 closes_surplus p = record { messages = []; closings = record { peer = p; why = why.Clients } ∷ [] }
 
--- One event: what it sends and closes, and the world behind it.
+-- One event: what it sends and closes, and the world after it.
 abbrev pub Takes : World → Event → Outs → World → Type 0
 -- a client joins, unless there would be too many
 Takes world (joins p) outs next =

@@ -3,8 +3,8 @@ use el_base::Listed;
 use el_outside::Place;
 use el_tx::{Header, Tx};
 
-/// A block of Bitcoin's serialization: its header, and its transactions in the order in which they stand. As a value it may have any number of
-/// them.
+/// A block of Bitcoin's serialization: its header, and its transactions in the order in which they stand. As
+/// a value it may have any number of them.
 #[derive(Debug, Drop)]
 pub struct Block {
     /// The first 80 bytes of the block.
@@ -13,7 +13,8 @@ pub struct Block {
     pub txs: Listed<Tx>,
 }
 
-/// A block with the place where it stands in the node's block files. The place is kept as it was given; no answer about a chain depends on it.
+/// A block with the place where it stands in the node's block files. The place is kept as it was given; no
+/// answer about a chain depends on it.
 #[derive(Debug, Drop)]
 pub struct Placed {
     /// The block itself.

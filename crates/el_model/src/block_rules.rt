@@ -2,24 +2,23 @@
 ghost use Rattle.std.specs.Prelude.{◌≡◌, ◌≢◌, ◌⊎◌, ◌≤◌, ◌<◌, ◌^◌, ◌+◌, ℕ, List, length, IfOk, IfErr, IfNone, IfSome, OnOk, OnErr, MatchOption, Some, None};
 ghost use Rattle.std.specs.List.{AllByRecursion};
 ghost use Rattle.el_merkle.specs.Merkle as merkle;
+ghost use Rattle.el_tx.specs.Encoding.{HasEncoding};
 ghost use Rattle.el_tx.specs.Headers.{IsHeader};
 ghost use Rattle.el_model.specs.Blocks as spec;
-ghost use Rattle.el_model.specs.Blocks.{HasSpelling, IsBlockText, HasOneCoinbase, AllDiffer, block_text, block_weight, max_weight};
-ghost use Rattle.el_model.specs.BlockStops.{Breaks};
-ghost use Rattle.el_model.specs.BlockParts.{NoCoinbase, FirstCoinbaseAt, FirstTwice};
+ghost use Rattle.el_model.specs.Blocks.{IsBlockEncoding, NoCoinbase, HasOneCoinbase, AllDiffer, block_encoding, block_weight};
+ghost use Rattle.el_model.specs.BlockFaults.{Breaks};
+ghost use Rattle.el_model.specs.within.BlockParts.{FirstCoinbaseAt, FirstTwice};
 ghost use Rattle.el_model.specs.declared.fault.BlockFault.{BlockFault};
 
 use crate::block::Block;
 use crate::block_weight::weight_of;
 use crate::fault::BlockFault;
+use crate::limits::MAX_BLOCK_WEIGHT;
 use el_base::{Hash32, OutOfMemory};
 use el_merkle::root;
 use el_tx::{Tx, is_coinbase, txid};
 use indexmap::IndexMap;
 use std::alloc::Global;
-
-// How much a block may weigh, in weight units (BIP 141).
-const MAX_WEIGHT: u128 = 4_000_000;
 
 // Where the first coinbase stands, if there is one.
 fn first_coinbase(txs: &[Tx]) -> Option<usize>
@@ -56,7 +55,7 @@ fn coinbase_rule(block: &Block) -> Result<(), BlockFault>
 
 // The txids of transactions, in their order.
 fn txids(alloc: Global, txs: &[Tx]) -> Result<Vec<Hash32>, OutOfMemory>
-    requires { AllByRecursion HasSpelling txs.now }
+    requires { AllByRecursion HasEncoding txs.now }
     ensures { IfOk result (λ list. list.items ≡ spec.txids txs.now) }
 {
     let mut list = Vec::new(alloc);
@@ -66,9 +65,11 @@ fn txids(alloc: Global, txs: &[Tx]) -> Result<Vec<Hash32>, OutOfMemory>
     Ok(list)
 }
 
-// The indexes of the first hash that stands before it too, the earlier one first. One pass, in expected constant time a hash.
+// The indexes of the first hash that stands before it too, the earlier one first. One pass, in expected
+// constant time a hash.
 fn first_twice(alloc: Global, hashes: &[Hash32]) -> Result<Option<(usize, usize)>, OutOfMemory>
-    ensures { IfOk result (λ found. MatchOption found (AllDiffer hashes.now) (λ at. FirstTwice hashes.now at.0 at.1)) }
+    ensures { IfOk result (λ found. MatchOption found (AllDiffer hashes.now)
+        (λ at. FirstTwice hashes.now at.0 at.1)) }
 {
     let mut seen: IndexMap<Hash32, usize> = IndexMap::new(alloc);
     for (second, hash) in hashes.iter().enumerate() {
@@ -112,45 +113,40 @@ fn root_rule(alloc: Global, block: &Block, hashes: &[Hash32]) -> Result<(), Bloc
 // The weight is at most 4,000,000.
 fn weight_rule(block: &Block) -> Result<(), BlockFault>
     requires header { IsHeader block.now.header }
-    requires few { length block.now.txs < 2 ^ 64 }
-    requires spelled { AllByRecursion HasSpelling block.now.txs }
-    requires small { length (block_text block.now) < 2 ^ 61 }
+    requires small { length (block_encoding block.now) < 2 ^ 64 }
     requires coinbase { HasOneCoinbase block.now.txs }
     requires differ { AllDiffer (spec.txids block.now.txs) }
     requires same_root { block.now.header.root ≡ merkle.root (spec.txids block.now.txs) }
-    ensures kept { OnOk result (block_weight block.now ≤ max_weight) }
+    ensures kept { OnOk result (block_weight block.now ≤ MAX_BLOCK_WEIGHT) }
     ensures broken { IfErr result (Breaks block.now) }
 {
-    let weight = u128::from(weight_of(block));
-    if weight > MAX_WEIGHT {
+    let weight = weight_of(block);
+    if weight > u128::from(MAX_BLOCK_WEIGHT) {
         return Err(BlockFault::Heavy { weight });
     }
     Ok(())
 }
 
-/// Whether a block whose text has that size keeps the rules: one coinbase, which stands first; no txid twice; the Merkle root in the header; and the
-/// weight.
+/// Whether a block keeps the rules: one coinbase, which stands first; no txid twice; the Merkle root in the
+/// header; and the weight.
 ///
 /// # Errors
 ///
-/// The fault of the first rule in this order that the block breaks. `BlockFault::Memory` comes where no memory is found, and for a block of 2^61 bytes
-/// or more that breaks no rule before the last one.
-pub fn keep_rules(alloc: Global, block: &Block, size: usize) -> Result<(), BlockFault>
+/// The fault of the first rule in this order that the block breaks, or `BlockFault::Memory` where no memory
+/// is found.
+pub fn keep_rules(alloc: Global, block: &Block) -> Result<(), BlockFault>
     requires some { 1 ≤ length block.now.txs }
-    requires text { IsBlockText (block_text block.now) block.now }
-    requires size { size ≡ length (block_text block.now) }
+    requires text { IsBlockEncoding (block_encoding block.now) block.now }
+    requires small { length (block_encoding block.now) < 2 ^ 64 }
     ensures coinbase { OnOk result (HasOneCoinbase block.now.txs) }
     ensures differ { OnOk result (AllDiffer (spec.txids block.now.txs)) }
     ensures same_root { OnOk result (block.now.header.root ≡ merkle.root (spec.txids block.now.txs)) }
-    ensures light { OnOk result (block_weight block.now ≤ max_weight) }
+    ensures light { OnOk result (block_weight block.now ≤ MAX_BLOCK_WEIGHT) }
     ensures broken { IfErr result (λ e. (e ≡ BlockFault.Memory) ⊎ Breaks block.now e) }
 {
     coinbase_rule(block)?;
     let hashes = txids(alloc, block.txs.as_slice())?;
     txid_rule(alloc, block, hashes.as_slice())?;
     root_rule(alloc, block, hashes.as_slice())?;
-    if size >= 1 << 61 {
-        return Err(BlockFault::Memory);
-    }
     weight_rule(block)
 }

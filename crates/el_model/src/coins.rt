@@ -1,35 +1,29 @@
-// The coins behind a block.
+// The coins after a block.
 ghost use Rattle.std.specs.Prelude.{◌≡◌, ◌⊎◌, ◌+◌, ◌<◌, ◌≤◌, ◌^◌, ◌++◌, ◌∷◌, [], ℕ, List, length, sum_by, None, Some, Ok, IfOk, IfErr, IfSome, OnOk, OnErr, MatchResult, if◌then◌else◌};
 ghost use Rattle.std.specs.List.{AllByRecursion};
-ghost use Rattle.el_tx.specs.Spelling.{max_money};
-ghost use Rattle.el_tx.specs.Hashing as hashing;
-ghost use Rattle.el_model.specs.declared.coin.Coin as coin_shape;
-ghost use Rattle.el_tx.specs.declared.types.TxOut as output_shape;
+ghost use Rattle.el_tx.specs.Encoding.{max_money, total_value};
+ghost use Rattle.el_tx.specs.Hashing.{same_outpoint};
 ghost use Rattle.el_tx.specs.declared.types.Outpoint as outpoint_shape;
-ghost use Rattle.el_model.specs.Blocks.{IsSpelled, tip};
+ghost use Rattle.el_model.specs.Blocks.{HasBlockEncoding, tip};
 ghost use Rattle.el_model.specs.Coins as spec;
-ghost use Rattle.el_model.specs.Faults.{has_coin, missing_input, missing_fault, tx_fault, fault_in, fault as block_fault};
-ghost use Rattle.el_model.specs.CoinLayers.{Holds, IsKept, bounds_fault};
-ghost use Rattle.el_model.specs.CoinTables.{coin_by, coin_over, value_in, FitsBlock};
+ghost use Rattle.el_model.specs.Faults.{has_coin, missing_input, missing_fault, bounds_fault, tx_fault, fault_in, fault as block_fault};
+ghost use Rattle.el_model.specs.within.CoinLayers.{Holds, HoldsSome, IfHolds, IsPlainLedger};
+ghost use Rattle.el_model.specs.within.CoinTables.{coin_by, coin_over, value_in, FitsBlock};
 
 use crate::block::Placed;
 use crate::coin::Coin;
 use crate::fault::ConnectFault;
+use crate::limits::ROW_LIMIT;
 use el_base::{Hash32, OutOfMemory, sha256};
-use el_tx::{Outpoint, Tx, TxIn, TxOut, is_coinbase, txid};
+use el_tx::{MAX_MONEY, Outpoint, Tx, TxIn, TxOut, is_coinbase, txid};
 use indexmap::IndexMap;
 use std::alloc::{AllocError, Global};
-
-// How many rows a table can have, so that the number of a row has 32 bits.
-const ROW_LIMIT: u32 = 4_294_967_295;
 
 // The number of the table of blocks.
 const BLOCKS: u8 = 1;
 
-// All the money that there can be, in satoshi.
-const MAX_MONEY: u64 = 2_100_000_000_000_000;
-
-/// Coins by their outpoints, and what all of them hold together, in satoshi. None stands where a coin was taken.
+/// Coins by their outpoints, and what all of them hold together, in satoshi. None stands where a coin was
+/// taken.
 #[derive(Debug, Drop)]
 pub struct CoinTable {
     pub map: IndexMap<Outpoint, Option<Coin>>,
@@ -68,8 +62,10 @@ fn set_coin(
 ) -> Result<(), OutOfMemory>
     requires held { value_in (coin_over base.now.map changes.old.map outpoint) ≤ changes.old.supply }
     requires fits { IfSome coin (λ c. changes.old.supply + c.value < 2 ^ 64) }
-    ensures set { OnOk result ((o : outpoint_shape.Outpoint) → coin_over base.now.map changes.new.map o ≡ (if spec.same_outpoint outpoint o then coin else coin_over base.now.map changes.old.map o)) }
-    ensures sum { OnOk result (changes.new.supply + value_in (coin_over base.now.map changes.old.map outpoint) ≡ changes.old.supply + value_in coin) }
+    ensures set { OnOk result ((o : outpoint_shape.Outpoint) → coin_over base.now.map changes.new.map o
+        ≡ (if same_outpoint outpoint o then coin else coin_over base.now.map changes.old.map o)) }
+    ensures sum { OnOk result (changes.new.supply + value_in (coin_over base.now.map changes.old.map outpoint)
+        ≡ changes.old.supply + value_in coin) }
 {
     let replaced = coin_at(base, changes, &outpoint);
     changes.map.insert(outpoint, coin)?;
@@ -83,9 +79,11 @@ fn take_coin(
     changes: &mut CoinTable,
     outpoint: Outpoint,
 ) -> Result<bool, OutOfMemory>
-    requires { (coins : List coin_shape.Coin) × Holds base.now changes.old coins }
-    ensures there { (coins : List coin_shape.Coin) → Holds base.now changes.old coins → IfOk result (λ there. there ≡ has_coin outpoint coins) }
-    ensures taken { (coins : List coin_shape.Coin) → Holds base.now changes.old coins → OnOk result (Holds base.now changes.new (spec.without outpoint coins)) }
+    requires { HoldsSome base.now changes.old }
+    ensures there { IfHolds base.now changes.old (λ coins.
+        IfOk result (λ there. there ≡ has_coin outpoint coins)) }
+    ensures taken { IfHolds base.now changes.old (λ coins.
+        OnOk result (Holds base.now changes.new (spec.without outpoint coins))) }
     ensures less { OnOk result (changes.new.supply ≤ changes.old.supply) }
 {
     if coin_at(base, changes, &outpoint).is_none() {
@@ -97,9 +95,10 @@ fn take_coin(
 
 // Puts the coin in the place of one that is there under its outpoint.
 fn put_coin(base: &CoinTable, changes: &mut CoinTable, coin: Coin) -> Result<(), OutOfMemory>
-    requires stands { (coins : List coin_shape.Coin) × Holds base.now changes.old coins }
+    requires stands { HoldsSome base.now changes.old }
     requires fits { changes.old.supply + coin.value < 2 ^ 64 }
-    ensures put { (coins : List coin_shape.Coin) → Holds base.now changes.old coins → OnOk result (Holds base.now changes.new (spec.put coin coins)) }
+    ensures add_coin { IfHolds base.now changes.old (λ coins.
+        OnOk result (Holds base.now changes.new (spec.add_coin coin coins))) }
     ensures more { OnOk result (changes.new.supply ≤ changes.old.supply + coin.value) }
 {
     set_coin(base, changes, coin.outpoint, Some(coin))?;
@@ -107,14 +106,16 @@ fn put_coin(base: &CoinTable, changes: &mut CoinTable, coin: Coin) -> Result<(),
 }
 
 // Takes the coin of each input, up to the first that is not there, whose number it gives.
-fn take_inputs(
+fn spend_inputs(
     base: &CoinTable,
     changes: &mut CoinTable,
     inputs: &[TxIn],
 ) -> Result<Option<usize>, OutOfMemory>
-    requires { (coins : List coin_shape.Coin) × Holds base.now changes.old coins }
-    ensures missing { (coins : List coin_shape.Coin) → Holds base.now changes.old coins → IfOk result (λ number. number ≡ missing_input 0 inputs.now coins) }
-    ensures taken { (coins : List coin_shape.Coin) → Holds base.now changes.old coins → result ≡ Ok None → Holds base.now changes.new (spec.take_inputs inputs.now coins) }
+    requires { HoldsSome base.now changes.old }
+    ensures missing { IfHolds base.now changes.old (λ coins.
+        IfOk result (λ number. number ≡ missing_input 0 inputs.now coins)) }
+    ensures taken { IfHolds base.now changes.old (λ coins.
+        result ≡ Ok None → Holds base.now changes.new (spec.spend_inputs inputs.now coins)) }
     ensures less { OnOk result (changes.new.supply ≤ changes.old.supply) }
 {
     for (number, input) in inputs.iter().enumerate() {
@@ -125,13 +126,6 @@ fn take_inputs(
     Ok(None)
 }
 
-/// Whether these are the inputs of a coinbase: one input, which names no output, by 32 zero bytes and the index 2^32 - 1.
-pub fn names_no_output(tx: &Tx) -> bool
-    ensures { result ≡ spec.names_no_output tx.now.inputs }
-{
-    is_coinbase(tx)
-}
-
 // Takes the coins of a transaction with that index in its block; a coinbase takes none.
 fn take_all(
     base: &CoinTable,
@@ -139,33 +133,37 @@ fn take_all(
     index: usize,
     tx: &Tx,
 ) -> Result<(), ConnectFault>
-    requires { (coins : List coin_shape.Coin) × Holds base.now changes.old coins }
-    ensures fault { (coins : List coin_shape.Coin) → Holds base.now changes.old coins → IfErr result (λ e. (e ≡ ConnectFault.Memory) ⊎ (missing_fault index tx.now coins ≡ Some e)) }
-    ensures none { (coins : List coin_shape.Coin) → Holds base.now changes.old coins → OnOk result (missing_fault index tx.now coins ≡ None) }
-    ensures left { (coins : List coin_shape.Coin) → Holds base.now changes.old coins → OnOk result (Holds base.now changes.new (spec.coins_left tx.now coins)) }
+    requires { HoldsSome base.now changes.old }
+    ensures fault { IfHolds base.now changes.old (λ coins.
+        IfErr result (λ e. (e ≡ ConnectFault.Memory) ⊎ (missing_fault index tx.now coins ≡ Some e))) }
+    ensures none { IfHolds base.now changes.old (λ coins.
+        OnOk result (missing_fault index tx.now coins ≡ None)) }
+    ensures left { IfHolds base.now changes.old (λ coins.
+        OnOk result (Holds base.now changes.new (spec.coins_left tx.now coins))) }
     ensures less { OnOk result (changes.new.supply ≤ changes.old.supply) }
 {
-    if names_no_output(tx) {
+    if is_coinbase(tx) {
         return Ok(());
     }
-    match take_inputs(base, changes, tx.inputs.as_slice())? {
+    match spend_inputs(base, changes, tx.inputs.as_slice())? {
         None => Ok(()),
         Some(input) => Err(ConnectFault::MissingCoin { tx: index, input }),
     }
 }
 
 // Puts the coins of a transaction's outputs, in their order.
-fn put_outputs(
+fn add_outputs(
     base: &CoinTable,
     changes: &mut CoinTable,
     height: u32,
     txid: Hash32,
     outputs: &[TxOut],
 ) -> Result<(), OutOfMemory>
-    requires stands { (coins : List coin_shape.Coin) × Holds base.now changes.old coins }
+    requires stands { HoldsSome base.now changes.old }
     requires few { length outputs.now < 2 ^ 32 }
-    requires fits { changes.old.supply + sum_by (λ (o : output_shape.TxOut). o.value) outputs.now < 2 ^ 64 }
-    ensures { (coins : List coin_shape.Coin) → Holds base.now changes.old coins → OnOk result (Holds base.now changes.new (spec.put_outputs txid height 0 outputs.now coins)) }
+    requires fits { changes.old.supply + total_value outputs.now < 2 ^ 64 }
+    ensures { IfHolds base.now changes.old (λ coins.
+        OnOk result (Holds base.now changes.new (spec.add_outputs txid height 0 outputs.now coins))) }
 {
     for (index, output) in outputs.iter().enumerate() {
         let coin = Coin {
@@ -182,9 +180,11 @@ fn put_outputs(
     Ok(())
 }
 
-// The faults of a transaction that come after its inputs: all coins hold more than there can be, or the table of blocks is full.
+// The faults of a transaction that come after its inputs: all coins hold more than there can be, or the table
+// of blocks is full.
 fn check_bounds(supply: u64, height: u32, index: usize) -> Result<(), ConnectFault>
-    ensures { MatchResult result (λ _. bounds_fault supply height index ≡ None) (λ e. bounds_fault supply height index ≡ Some e) }
+    ensures { MatchResult result (λ _. bounds_fault supply height index ≡ None)
+        (λ e. bounds_fault supply height index ≡ Some e) }
 {
     if supply > MAX_MONEY {
         return Err(ConnectFault::Money {
@@ -200,7 +200,7 @@ fn check_bounds(supply: u64, height: u32, index: usize) -> Result<(), ConnectFau
     Ok(())
 }
 
-// The coins behind a transaction of a block at that height, where it has that index.
+// The coins after a transaction of a block at that height, where it has that index.
 fn connect_tx(
     alloc: Global,
     base: &CoinTable,
@@ -209,26 +209,30 @@ fn connect_tx(
     index: usize,
     tx: &Tx,
 ) -> Result<(), ConnectFault>
-    requires stands { (coins : List coin_shape.Coin) × Holds base.now changes.old coins }
+    requires stands { HoldsSome base.now changes.old }
     requires fits { FitsBlock tx.now }
     requires money { changes.old.supply ≤ max_money }
-    ensures fault { (coins : List coin_shape.Coin) → Holds base.now changes.old coins → IfErr result (λ e. (e ≡ ConnectFault.Memory) ⊎ (tx_fault height index tx.now coins ≡ Some e)) }
-    ensures none { (coins : List coin_shape.Coin) → Holds base.now changes.old coins → OnOk result (tx_fault height index tx.now coins ≡ None) }
-    ensures behind { (coins : List coin_shape.Coin) → Holds base.now changes.old coins → OnOk result (Holds base.now changes.new (spec.coins_behind height tx.now coins)) }
+    ensures fault { IfHolds base.now changes.old (λ coins.
+        IfErr result (λ e. (e ≡ ConnectFault.Memory) ⊎ (tx_fault height index tx.now coins ≡ Some e))) }
+    ensures none { IfHolds base.now changes.old (λ coins.
+        OnOk result (tx_fault height index tx.now coins ≡ None)) }
+    ensures after { IfHolds base.now changes.old (λ coins.
+        OnOk result (Holds base.now changes.new (spec.coins_after height tx.now coins))) }
     ensures bound { OnOk result (changes.new.supply ≤ max_money) }
 {
     take_all(base, changes, index, tx)?;
     let id = txid(alloc, tx)?;
-    put_outputs(base, changes, height, id, tx.outputs.as_slice())?;
+    add_outputs(base, changes, height, id, tx.outputs.as_slice())?;
     check_bounds(changes.supply, height, index)?;
     Ok(())
 }
 
-/// The coins behind the transactions of a block at that height, laid over those before it: those that the block changes, and the new supply.
+/// The coins after the transactions of a block at that height, laid over those before it: those that the
+/// block changes, and the new supply.
 ///
 /// # Errors
 ///
-/// The first fault of the first transaction that has one, or `ConnectFault::Memory` for want of memory.
+/// The first fault of the first transaction that has one, or `ConnectFault::Memory` where memory runs out.
 pub fn connect(
     alloc: Global,
     base: &CoinTable,
@@ -236,12 +240,15 @@ pub fn connect(
     height: u32,
     txs: &[Tx],
 ) -> Result<(), ConnectFault>
-    requires stands { (coins : List coin_shape.Coin) × Holds base.now changes.old coins }
+    requires stands { HoldsSome base.now changes.old }
     requires fit { AllByRecursion FitsBlock txs.now }
     requires money { changes.old.supply ≤ max_money }
-    ensures fault { (coins : List coin_shape.Coin) → Holds base.now changes.old coins → IfErr result (λ e. (e ≡ ConnectFault.Memory) ⊎ (fault_in height 0 txs.now coins ≡ Some e)) }
-    ensures none { (coins : List coin_shape.Coin) → Holds base.now changes.old coins → OnOk result (fault_in height 0 txs.now coins ≡ None) }
-    ensures behind { (coins : List coin_shape.Coin) → Holds base.now changes.old coins → OnOk result (Holds base.now changes.new (spec.coins_behind_all height txs.now coins)) }
+    ensures fault { IfHolds base.now changes.old (λ coins.
+        IfErr result (λ e. (e ≡ ConnectFault.Memory) ⊎ (fault_in height 0 txs.now coins ≡ Some e))) }
+    ensures none { IfHolds base.now changes.old (λ coins.
+        OnOk result (fault_in height 0 txs.now coins ≡ None)) }
+    ensures after { IfHolds base.now changes.old (λ coins.
+        OnOk result (Holds base.now changes.new (spec.coins_after_all height txs.now coins))) }
     ensures bound { OnOk result (changes.new.supply ≤ max_money) }
 {
     for (index, tx) in txs.iter().enumerate() {
@@ -250,9 +257,10 @@ pub fn connect(
     Ok(())
 }
 
-// Lays the changes over the base. It fails only for want of memory, and then nothing has changed.
+// Lays the changes over the base. It fails only where memory runs out, and then nothing has changed.
 fn lay_over(base: &mut CoinTable, mut changes: CoinTable) -> Result<(), AllocError>
-    ensures laid { OnOk result ((o : outpoint_shape.Outpoint) → coin_by base.new.map o ≡ coin_over base.old.map changes.map o) }
+    ensures laid { OnOk result ((o : outpoint_shape.Outpoint) →
+        coin_by base.new.map o ≡ coin_over base.old.map changes.map o) }
     ensures supply { OnOk result (base.new.supply ≡ changes.supply) }
     ensures same { OnErr result (base.new.map.entries ≡ base.old.map.entries) }
     ensures same_supply { OnErr result (base.new.supply ≡ base.old.supply) }
@@ -264,25 +272,27 @@ fn lay_over(base: &mut CoinTable, mut changes: CoinTable) -> Result<(), AllocErr
     Ok(())
 }
 
-/// Adds a block behind the last, with the coins behind it, unless it has a fault. A refused block changes nothing that can be seen.
+/// Adds a block after the last, with the coins after it, unless it has a fault. A refused block changes
+/// nothing that can be seen.
 ///
 /// # Errors
 ///
-/// The block's first fault, or `ConnectFault::Memory` for want of memory.
+/// The block's first fault, or `ConnectFault::Memory` where memory runs out.
 pub fn add_block(
     alloc: Global,
     blocks: &mut Vec<Placed>,
     coins: &mut CoinTable,
     placed: Placed,
 ) -> Result<(), ConnectFault>
-    requires kept { IsKept blocks.old.items coins.old }
-    requires spelled { IsSpelled placed.block }
-    requires behind { placed.block.header.previous ≡ tip blocks.old.items }
-    ensures kept { IsKept blocks.new.items coins.new }
+    requires kept { IsPlainLedger blocks.old.items coins.old }
+    requires encoded { HasBlockEncoding placed.block }
+    requires after { placed.block.header.previous ≡ tip blocks.old.items }
+    ensures kept { IsPlainLedger blocks.new.items coins.new }
     ensures ok { OnOk result (blocks.new.items ≡ blocks.old.items ++ placed ∷ []) }
     ensures err { OnErr result (blocks.new.items ≡ blocks.old.items) }
     ensures faultless { OnOk result (block_fault blocks.old.items placed.block ≡ None) }
-    ensures fault { IfErr result (λ e. (e ≡ ConnectFault.Memory) ⊎ (block_fault blocks.old.items placed.block ≡ Some e)) }
+    ensures fault { IfErr result (λ e. (e ≡ ConnectFault.Memory)
+        ⊎ (block_fault blocks.old.items placed.block ≡ Some e)) }
 {
     let mut changes = CoinTable {
         map: IndexMap::new(alloc),

@@ -7,19 +7,21 @@ use el_base::{CompactFault, Hash32, OutOfMemory};
 use el_tx::TxFault;
 use std::alloc::{AllocError, AllocFailed};
 
-/// Why bytes are not read as a block: the first of these that stands, but that the number of transactions (`Count`, `NoTransactions`) is looked at
-/// behind the header and before the transactions. Places are counted in bytes, from 0.
+/// Why bytes are not read as a block: the first of these that stands, but that the number of transactions
+/// (`Count`, `NoTransactions`) is looked at after the header and before the transactions. Places are counted
+/// in bytes, from 0.
 #[derive(Clone, Copy, Debug, PartialEq, Eq, thiserror::Error)]
 pub enum BlockFault {
     /// There are fewer bytes than the 80 of a header.
     #[error("fewer than 80 bytes")]
     Short,
-    /// The transaction with this index, from 0, is not read, for this fault, which is never `TxFault::Memory`. A place in the fault counts from the
-    /// transaction's first byte.
+    /// The transaction with this index, from 0, is not read, for this fault, which is never
+    /// `TxFault::Memory`. A place in the fault counts from the transaction's first byte.
     #[error("transaction {index}: {fault}")]
     Tx { index: usize, fault: TxFault },
-    /// Bytes stand behind the block. Its own bytes end before this place, which counts from the first byte handed in.
-    #[error("bytes behind the block at {place}")]
+    /// Bytes stand after the block. Its own bytes end before this place, which counts from the first byte
+    /// handed in.
+    #[error("bytes after the block at {place}")]
     Trailing { place: usize },
     /// There are no transactions.
     #[error("no transactions")]
@@ -47,17 +49,19 @@ pub enum BlockFault {
     Memory,
 }
 
-/// Why a block can't be added to a chain: the fault of its first transaction that has one, and of that the first in this order.
+/// Why a block can't be added to a chain: the fault of its first transaction that has one, and of that the
+/// first in this order.
 #[derive(Clone, Copy, Debug, PartialEq, Eq, thiserror::Error)]
 pub enum ConnectFault {
-    /// The coin that an input takes is not there, since there was none or it was taken before; both count from 0. It is the transaction's first such
-    /// input.
+    /// The coin that an input takes is not there, since there was none or it was taken before; both count
+    /// from 0. It is the transaction's first such input.
     #[error("transaction {tx}: no coin for input {input}")]
     MissingCoin { tx: usize, input: usize },
-    /// With this transaction all coins together hold so many satoshi, above 2,100,000,000,000,000.
+    /// With this transaction all coins together hold that number of satoshi, above `el_tx::MAX_MONEY`.
     #[error("all coins hold {supply} satoshi")]
     Money { supply: u128 },
-    /// The table with this number would need more rows than the limit, which is `rows`. A plain ledger has one table, number 1, of blocks.
+    /// The table with this number would need more rows than the limit, which is `rows`. A plain ledger has
+    /// one table, number 1, of blocks.
     #[error("table {table} is full at {rows} rows")]
     Full { table: u8, rows: u64 },
     /// No memory was found for the block.

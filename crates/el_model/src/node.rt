@@ -3,7 +3,8 @@ use el_base::Hash32;
 use el_outside::Place;
 use el_tx::Header;
 
-/// A block that was found in the block files, by its record's header. The hash is always that of the header's 80 bytes.
+/// A block that was found in the block files, by its record's header. The hash is always that of the header's
+/// 80 bytes.
 #[derive(Clone, Copy, Debug, PartialEq, Eq)]
 pub struct Node {
     /// The block's hash, in inner order.

@@ -1,28 +1,31 @@
 // Reading a block.
 ghost use Rattle.std.specs.Prelude.{◌≡◌, ◌≢◌, ◌⊎◌, ◌≤◌, ◌<◌, ◌+◌, ◌^◌, ◌++◌, ℕ, List, length, IfOk, IfErr, IfNone, IfSome, OnOk, Ok, Err};
-ghost use Rattle.el_base.specs.Compact.{compact, StopsCompact};
+ghost use Rattle.el_base.specs.Compact.{compact, FirstCompactFault};
 ghost use Rattle.el_base.specs.declared.compact.CompactFault.{CompactFault};
-ghost use Rattle.el_tx.specs.Headers.{header_text, IsHeader};
-ghost use Rattle.el_tx.specs.Hashing.{full_text};
-ghost use Rattle.el_tx.specs.Stops.{Stops};
+ghost use Rattle.el_tx.specs.Encoding.{HasEncoding};
+ghost use Rattle.el_tx.specs.Headers.{header_encoding, IsHeader};
+ghost use Rattle.el_tx.specs.Hashing.{full_encoding};
+ghost use Rattle.el_tx.specs.FirstFault.{FirstFault};
 ghost use Rattle.el_tx.specs.declared.fault.TxFault.{TxFault};
-ghost use Rattle.el_model.specs.Blocks.{SpellsBlock, IsBlockText, HasSpelling};
-ghost use Rattle.el_model.specs.BlockStops.{StopsBlock, Breaks};
-ghost use Rattle.el_model.specs.BlockParts.{AreTxs, StopsTxs};
+ghost use Rattle.el_model.specs.Blocks.{EncodesBlock, IsBlockEncoding};
+ghost use Rattle.el_model.specs.BlockFaults.{FirstBlockFault, Breaks};
+ghost use Rattle.el_model.specs.within.BlockParts.{AreTxs, FaultInTxs};
+ghost use Rattle.el_model.specs.Records.{IsNode, IsBlockOf, IsOtherBlock};
 ghost use Rattle.el_model.specs.declared.block.Block as shape;
 ghost use Rattle.el_model.specs.declared.fault.BlockFault.{BlockFault};
 
 use crate::block::Block;
 use crate::block_rules::keep_rules;
 use crate::fault::BlockFault;
-use el_base::{Cursor, Listed, read_compact};
-use el_tx::{Header, Tx, TxFault, decode_header, decode_tx};
+use crate::node::Node;
+use el_base::{Cursor, Hash32, Listed, read_compact};
+use el_tx::{Header, Tx, TxFault, block_hash, decode_header, decode_tx, encode_header};
 use std::alloc::Global;
 
 // The header in front of the bytes.
 fn header_of(c: &mut Cursor<'_>) -> Result<Header, BlockFault>
     ensures fits { IfOk result IsHeader }
-    ensures read { IfOk result (λ h. c.old.rest ≡ header_text h ++ c.new.rest) }
+    ensures read { IfOk result (λ h. c.old.rest ≡ header_encoding h ++ c.new.rest) }
     ensures place { OnOk result (c.new.place ≡ c.old.place + 80) }
     ensures short { IfErr result (λ e. (length c.old.rest < 80) × (e ≡ BlockFault.Short)) }
 {
@@ -39,7 +42,8 @@ fn count_of(c: &mut Cursor<'_>) -> Result<u64, BlockFault>
     ensures some { IfOk result (λ n. (1 ≤ n) × (n < 2 ^ 64)) }
     ensures read { IfOk result (λ n. c.old.rest ≡ compact n ++ c.new.rest) }
     ensures fault { IfErr result (λ e.
-        ((found : CompactFault) × StopsCompact c.old.place c.old.rest found × (e ≡ BlockFault.Count found))
+        ((found : CompactFault) × FirstCompactFault c.old.place c.old.rest found
+        × (e ≡ BlockFault.Count found))
         ⊎ ((rest : List ℕ) × (c.old.rest ≡ compact 0 ++ rest) × (e ≡ BlockFault.NoTransactions))) }
 {
     match read_compact(c) {
@@ -60,12 +64,12 @@ fn in_block(index: usize, fault: TxFault) -> BlockFault
     }
 }
 
-// The transaction in front, which has this index in its block, and what stands behind it.
+// The transaction in front, which has this index in its block, and what stands after it.
 fn next_tx(alloc: Global, index: usize, bytes: &[u8]) -> Result<(Tx, &[u8]), BlockFault>
-    ensures spelled { IfOk result (λ r. HasSpelling r.0) }
-    ensures read { IfOk result (λ r. bytes.now ≡ full_text r.0 ++ r.1.now) }
+    ensures encoded { IfOk result (λ r. HasEncoding r.0) }
+    ensures read { IfOk result (λ r. bytes.now ≡ full_encoding r.0 ++ r.1.now) }
     ensures fault { IfErr result (λ e. (e ≡ BlockFault.Memory)
-        ⊎ ((found : TxFault) × Stops bytes.now found × (e ≡ BlockFault.Tx index found))) }
+        ⊎ ((found : TxFault) × FirstFault bytes.now found × (e ≡ BlockFault.Tx index found))) }
 {
     match decode_tx(alloc, bytes) {
         Ok((tx, size)) => {
@@ -76,17 +80,17 @@ fn next_tx(alloc: Global, index: usize, bytes: &[u8]) -> Result<(Tx, &[u8]), Blo
     }
 }
 
-// So many transactions, and what stands behind them.
+// So many transactions, and what stands after them.
 fn read_txs(alloc: Global, n: u64, bytes: &[u8]) -> Result<(Listed<Tx>, &[u8]), BlockFault>
     ensures read { IfOk result (λ r. AreTxs bytes.now n r.0 r.1.now) }
-    ensures fault { IfErr result (λ e. (e ≡ BlockFault.Memory) ⊎ StopsTxs n bytes.now e) }
+    ensures fault { IfErr result (λ e. (e ≡ BlockFault.Memory) ⊎ FaultInTxs n bytes.now e) }
 {
     let mut txs = Listed::new(alloc);
     let mut rest = bytes;
     for _ in 0..n {
-        let (tx, behind) = next_tx(alloc, txs.len(), rest)?;
+        let (tx, after) = next_tx(alloc, txs.len(), rest)?;
         txs.push(tx)?;
-        rest = behind;
+        rest = after;
     }
     Ok((txs, rest))
 }
@@ -94,8 +98,8 @@ fn read_txs(alloc: Global, n: u64, bytes: &[u8]) -> Result<(Listed<Tx>, &[u8]), 
 // The block that all the bytes are, whatever it means.
 fn whole_block(alloc: Global, bytes: &[u8]) -> Result<Block, BlockFault>
     ensures some { IfOk result (λ b. 1 ≤ length b.txs) }
-    ensures read { IfOk result (IsBlockText bytes.now) }
-    ensures fault { IfErr result (λ e. (e ≡ BlockFault.Memory) ⊎ StopsBlock bytes.now e) }
+    ensures read { IfOk result (IsBlockEncoding bytes.now) }
+    ensures fault { IfErr result (λ e. (e ≡ BlockFault.Memory) ⊎ FirstBlockFault bytes.now e) }
 {
     let mut c = Cursor::new(bytes);
     let header = header_of(&mut c)?;
@@ -109,27 +113,57 @@ fn whole_block(alloc: Global, bytes: &[u8]) -> Result<Block, BlockFault>
     Ok(Block { header, txs })
 }
 
-/// Reads a block, of all the bytes, in Bitcoin's serialization: a header of 80 bytes, the number of transactions, the transactions in either form
-/// (BIP 144), and nothing behind. One coinbase stands first, no txid stands twice, the header has the Merkle root of the txids, and the weight is
-/// at most 4,000,000 (BIP 141). Neither proof of work nor scripts or amounts are tested. The time grows with the number of bytes, and with
-/// the number of transactions no more than it: each txid is computed once, and looked for once among those before it, in expected constant time.
+/// Reads a block, of all the bytes, in Bitcoin's serialization: a header of 80 bytes, the number of
+/// transactions, the transactions in either form (BIP 144), and nothing after. One coinbase stands first, no
+/// txid stands twice, the header has the Merkle root of the txids, and the weight is at most 4,000,000 (BIP
+/// 141). Neither proof of work nor scripts or amounts are tested. The time grows with the number of bytes,
+/// and with the number of transactions no more than it: each txid is computed once, and looked for once among
+/// those before it, in expected constant time.
 ///
 /// # Errors
 ///
-/// The first fault in this order: the header (`Short`), the number of transactions (`Count`, `NoTransactions`), each transaction (`Tx`), bytes
-/// behind (`Trailing`), `FirstNotCoinbase`, `LaterCoinbase`, `SameTxid`, `BadMerkle`, `Heavy`. `BlockFault::Memory` comes where no memory is found,
-/// and for a block of 2^61 bytes or more, which no memory holds.
+/// The first fault in this order: the header (`Short`), the number of transactions (`Count`,
+/// `NoTransactions`), each transaction (`Tx`), bytes after (`Trailing`), `FirstNotCoinbase`, `LaterCoinbase`,
+/// `SameTxid`, `BadMerkle`, `Heavy`. `BlockFault::Memory` comes where no memory is found.
 pub fn plain_block(alloc: Global, bytes: &[u8]) -> Result<Block, BlockFault>
-    // What is read is spelled so.
-    ensures read { IfOk result (SpellsBlock bytes.now) }
-    // What is spelled so is read.
-    ensures only { result ≢ Err BlockFault.Memory → (block : shape.Block) → SpellsBlock bytes.now block → result ≡ Ok block }
+    // What is read is encoded so.
+    ensures read { IfOk result (EncodesBlock bytes.now) }
+    // What is encoded so is read.
+    ensures only { result ≢ Err BlockFault.Memory → (block : shape.Block) → EncodesBlock bytes.now block
+        → result ≡ Ok block }
     // A fault is the first one.
-    ensures fault { IfErr result (λ e. (e ≡ BlockFault.Memory) ⊎ StopsBlock bytes.now e) }
+    ensures fault { IfErr result (λ e. (e ≡ BlockFault.Memory) ⊎ FirstBlockFault bytes.now e) }
     // The first fault is found.
-    ensures stops { result ≢ Err BlockFault.Memory → (e : BlockFault) → StopsBlock bytes.now e → result ≡ Err e }
+    ensures first_fault { result ≢ Err BlockFault.Memory → (e : BlockFault) → FirstBlockFault bytes.now e
+        → result ≡ Err e }
 {
     let block = whole_block(alloc, bytes)?;
-    keep_rules(alloc, &block, bytes.len())?;
+    keep_rules(alloc, &block)?;
     Ok(block)
+}
+
+/// Compares the bytes at a node's place with its block: whether they are as many as the place says and begin
+/// with the node's header. Takes no memory.
+///
+/// # Errors
+///
+/// The hash of the first 80 bytes, or None where there are fewer than 80, or fewer than the place says.
+pub fn compare_block(node: &Node, bytes: &[u8]) -> Result<(), Option<Hash32>>
+    requires { IsNode node.now }
+    ensures same { OnOk result (IsBlockOf node.now bytes.now) }
+    ensures other { IfErr result (IsOtherBlock node.now bytes.now) }
+{
+    let wanted = node.place.len as usize;
+    if bytes.len() < wanted {
+        return Err(None);
+    }
+    let Some((header, _)) = bytes.split_first_chunk::<80>() else {
+        return Err(None);
+    };
+    let text = encode_header(&node.header);
+    if bytes.len() == wanted && header.as_slice() == text.as_slice() {
+        Ok(())
+    } else {
+        Err(Some(block_hash(header)))
+    }
 }

@@ -1,7 +1,7 @@
 -- How stories go on, how counts rise, how files grow.
-use Rattle.std.proofs.Common.{◌≡◌, ℕ, ◌+◌, ◌≤◌, List, [], ◌∷◌, ◌++◌, refl, ap, sym, ◌∙◌, append_assoc, append-nil, arith, Bool, true, false, not, ◌&&◌, ◌||◌, ◌==◌, eq-eqb, IsTrue}
+use Rattle.std.proofs.Common.{◌≡◌, ℕ, ◌+◌, List, [], ◌∷◌, ◌++◌, refl, ap, sym, ◌∙◌, append_assoc, append-nil, arith, Bool, true, false, not, ◌&&◌, ◌||◌, ◌==◌, eq-eqb, IsTrue}
 use Rattle.std.specs.List.{list_any}
-use Rattle.el_outside.specs.Story.{Story, Came, opened, Message, Closing, GoesOn, opens, leaves, is_open, is_unused, is_new, was_closed}
+use Rattle.el_outside.specs.Story.{Story, ArrivalWithBytes, opened, Message, Closing, GoesOn, opens, leaves, is_open, is_unused, is_new, was_closed}
 use Rattle.el_outside.specs.declared.link.Why.{Why}
 use Rattle.el_outside.specs.Counts.{RoseBy}
 use Rattle.el_outside.specs.Files.{Grows, AllGrow}
@@ -11,7 +11,7 @@ pub goes_none : (s : Story) → GoesOn s s [] [] []
 goes_none s = simp append-nil
 
 -- a story goes on twice
-pub goes_more : (a b c : Story) (xs ys : List Came) (ms ns : List Message) (cs ds : List Closing)
+pub goes_more : (a b c : Story) (xs ys : List ArrivalWithBytes) (ms ns : List Message) (cs ds : List Closing)
     → GoesOn a b xs ms cs → GoesOn b c ys ns ds → GoesOn a c (xs ++ ys) (ms ++ ns) (cs ++ ds)
 goes_more a b c xs ys ms ns cs ds h k = let e = rw h at k in e ∙ simp append_assoc
 
@@ -19,8 +19,8 @@ goes_more a b c xs ys ms ns cs ds h k = let e = rw h at k in e ∙ simp append_a
 pub rose_more : (a b c m n : ℕ) → RoseBy a b m → RoseBy b c n → RoseBy a c (m + n)
 rose_more a b c m n h k = omega arith
 
-pub rose_none : (a b : ℕ) → a ≤ b → RoseBy a b 0
-rose_none a b h = omega arith
+pub rose_none : (a : ℕ) → RoseBy a a 0
+rose_none a = omega arith
 
 -- files grow by nothing, and twice
 pub grows_none : (xs : List ℕ) → Grows xs xs
@@ -54,11 +54,11 @@ or_no false = refl
 same_number : (p : ℕ) → p == p ≡ true
 same_number p = eq-eqb p p refl
 
-opened_open : (xs : List Came) (c : Bool) (p : ℕ) → IsTrue (not (list_any (leaves p) xs) && not c)
+opened_open : (xs : List ArrivalWithBytes) (c : Bool) (p : ℕ) → IsTrue (not (list_any (leaves p) xs) && not c)
     → IsTrue (list_any (opens p) (xs ++ opened p ∷ []) && (not (list_any (leaves p) (xs ++ opened p ∷ [])) && not c))
 opened_open xs c p unused = rw (any_more (opens p) xs (opened p ∷ []), any_more (leaves p) xs (opened p ∷ []), same_number p, or_true, or_no) unused
 
-arrived_open : (xs : List Came) (c : Bool) (p : ℕ) (a : Came) → IsTrue (list_any (opens p) xs && (not (list_any (leaves p) xs) && not c)) → leaves p a ≡ false
+arrived_open : (xs : List ArrivalWithBytes) (c : Bool) (p : ℕ) (a : ArrivalWithBytes) → IsTrue (list_any (opens p) xs && (not (list_any (leaves p) xs) && not c)) → leaves p a ≡ false
     → IsTrue (list_any (opens p) (xs ++ a ∷ []) && (not (list_any (leaves p) (xs ++ a ∷ [])) && not c))
 arrived_open xs c p a is stays =
     rw (any_more (opens p) xs (a ∷ []), any_more (leaves p) xs (a ∷ []), stays, or_no (list_any (leaves p) xs))
@@ -83,7 +83,7 @@ pub sent_stays_open : (s t : Story) (p : ℕ) (ms : List Message) → IsTrue (is
 sent_stays_open s t p ms is goes = rw goes (simp append-nil is)
 
 -- and where an arrival is not that it left
-pub arrived_stays_open : (s t : Story) (p : ℕ) (a : Came) → IsTrue (is_open s p) → leaves p a ≡ false → GoesOn s t (a ∷ []) [] [] → IsTrue (is_open t p)
+pub arrived_stays_open : (s t : Story) (p : ℕ) (a : ArrivalWithBytes) → IsTrue (is_open s p) → leaves p a ≡ false → GoesOn s t (a ∷ []) [] [] → IsTrue (is_open t p)
 arrived_stays_open s t p a is stays goes = rw goes (simp append-nil (arrived_open s.arrivals (was_closed s p) p a is stays))
 
 -- and where another peer is closed

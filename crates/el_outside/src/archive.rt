@@ -1,7 +1,13 @@
 // The node's block files.
-ghost use Rattle.std.specs.Prelude.{◌≡◌, ℕ, ◌-◌, ◌<◌, ◌≤◌, ◌^◌, List, [], length, take, drop, min, IfOk};
+ghost use Rattle.std.specs.Prelude.{◌≡◌, ℕ, ◌-◌, ◌<◌, ◌≤◌, List, [], length, take, drop, min, IfOk};
 ghost use Rattle.el_outside.specs.Counts.{HasCause};
 ghost use Rattle.el_outside.specs.Files.{AllGrow};
+
+/// The greatest number of block files.
+pub const MOST_FILES: u32 = 100_000;
+
+/// Each block file has fewer bytes than this.
+pub const SIZE_LIMIT: u64 = 1 << 62;
 
 /// A call of the block files failed.
 #[derive(Clone, Copy, Debug, PartialEq, Eq, thiserror::Error)]
@@ -11,6 +17,7 @@ pub struct ArchiveFailed;
 /// Where a block stands in the block files.
 #[derive(Clone, Copy, Debug, PartialEq, Eq)]
 pub struct Place {
+    /// The file's number, from 0 on.
     pub file: u32,
     /// The place of the record's first magic byte.
     pub offset: u64,
@@ -18,7 +25,7 @@ pub struct Place {
     pub len: u32,
 }
 
-/// The node's block files. Within one life they keep the bytes that they have and may gain more behind them.
+/// The node's block files. Within one life they keep the bytes that they have and may gain more after them.
 pub trait Archive {
     /// Whether the archive tells what its files hold. One in memory does, a real one doesn't.
     ghost tells: { Type 0 };
@@ -26,28 +33,41 @@ pub trait Archive {
     /// The bytes of each file, by its number; a file that isn't there has none.
     ghost bytes: { Self → ℕ → List ℕ };
 
+    /// The number of the highest file plus 1, or 0.
+    ghost file_count: { Self → ℕ };
+
+    /// No file after the highest one has bytes.
+    ghost none_after: { (archive : Self) (file : ℕ)
+        → tells → file_count archive ≤ file → bytes archive file ≡ [] };
+
+    /// A read of the file from the place gave these bytes. An archive may take it for anything; code over any
+    /// archive knows it from `read` alone.
+    ghost gave: { (file at : ℕ) → List ℕ → Type 0 };
+
     /// How often a call has failed; it stands still at 2^64 - 1.
     ghost faults: { Self → ℕ };
 
     /// The number of the highest file plus 1, or 0.
     fn files(&mut self) -> Result<u32, ArchiveFailed>
-        ensures few { IfOk result (λ n. n ≤ 100000) }
-        // No file behind the highest one has bytes.
-        ensures highest { tells → IfOk result (λ n. (file : ℕ) → n ≤ file → bytes self.new file ≡ []) }
+        ensures few { IfOk result (λ n. n ≤ MOST_FILES) }
+        ensures number { tells → IfOk result (λ n. n ≡ file_count self.new) }
         ensures keeps { tells → AllGrow (bytes self.old) (bytes self.new) }
         ensures cause { HasCause (faults self.old) (faults self.new) result };
 
     /// The size of a file in bytes.
     fn size(&mut self, file: u32) -> Result<u64, ArchiveFailed>
-        ensures small { IfOk result (λ n. n < 2 ^ 62) }
+        ensures small { IfOk result (λ n. n < SIZE_LIMIT) }
         ensures size { tells → IfOk result (λ n. n ≡ length (bytes self.new file)) }
         ensures keeps { tells → AllGrow (bytes self.old) (bytes self.new) }
         ensures cause { HasCause (faults self.old) (faults self.new) result };
 
-    /// Fills the front of the buffer with what the file has from the place on, and answers how many bytes that are.
+    /// Fills the front of the buffer with what the file has from the place on, and answers how many bytes
+    /// those are.
     fn read(&mut self, file: u32, at: u64, buf: &mut [u8]) -> Result<usize, ArchiveFailed>
         ensures within { IfOk result (λ n. n ≤ length buf.old) }
-        ensures count { tells → IfOk result (λ n. n ≡ min (length buf.old) (length (bytes self.new file) - at)) }
+        ensures given { IfOk result (λ n. gave file at (take n buf.new)) }
+        ensures count { tells → IfOk result (λ n.
+            n ≡ min (length buf.old) (length (bytes self.new file) - at)) }
         ensures filled { tells → IfOk result (λ n. take n buf.new ≡ take n (drop at (bytes self.new file))) }
         ensures keeps { tells → AllGrow (bytes self.old) (bytes self.new) }
         ensures cause { HasCause (faults self.old) (faults self.new) result };

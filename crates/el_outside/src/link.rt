@@ -1,7 +1,10 @@
 // The link to clients and to the node.
 ghost use Rattle.std.specs.Prelude.{◌≡◌, ℕ, ◌<◌, ◌≤◌, IsTrue, [], ◌∷◌, length, IfOk, OnOk, OnErr, IsErrOf, MatchBool};
 ghost use Rattle.el_outside.specs.Counts.{RoseBy, HasCause};
-ghost use Rattle.el_outside.specs.Story.{Story, GoesOn, came, IsNext, is_open, is_new, NamesNoClosed};
+ghost use Rattle.el_outside.specs.Story.{Story, GoesOn, with_bytes, IsNextArrival, is_open, is_new, NamesNoClosed};
+
+/// The size of the buffer that `Link::next` fills, in bytes.
+pub const BUFFER_SIZE: usize = 65_536;
 
 /// A peer's number: 0 is the node, clients are 1 and up. No number is used twice.
 pub type Peer = u32;
@@ -11,7 +14,7 @@ pub type Peer = u32;
 pub enum Arrival {
     /// A new peer.
     Opened(Peer),
-    /// So many bytes of a peer, from 1 to 65,536.
+    /// Bytes of a peer, and how many: from 1 to 65,536.
     Bytes(Peer, usize),
     /// A peer that left.
     Closed(Peer),
@@ -34,7 +37,7 @@ pub enum Why {
     Gone,
     /// A fault of the index device while the client was told of changes.
     Disk,
-    /// Want of memory.
+    /// Out of memory, for its bytes or its reply.
     Memory,
 }
 
@@ -44,6 +47,7 @@ pub enum SendFault {
     /// The link failed for this peer.
     #[error("the peer is gone")]
     Gone,
+    /// There was no room for the message.
     #[error("out of memory")]
     Memory,
 }
@@ -64,26 +68,36 @@ pub trait Link {
     /// No peer with a greater number was opened, left or was closed.
     ghost last: { Self → ℕ };
 
+    /// How often `next` was called; it stands still at 2^64 - 1.
+    ghost calls: { Self → ℕ };
+
     /// How often a call has failed; it stands still at 2^64 - 1.
     ghost faults: { Self → ℕ };
 
     /// The next arrival, whose bytes stand first in the buffer. It waits for peers as long as it takes.
     fn next(&mut self, buf: &mut [u8]) -> Result<Arrival, LinkFailed>
-        requires { length buf.old ≡ 65536 }
-        ensures lawful { IfOk result (λ arrival. IsNext (last self.old) arrival (last self.new)) }
-        ensures took { tells → IfOk result (λ arrival. GoesOn (story self.old) (story self.new) (came arrival buf.new ∷ []) [] []) }
-        ensures silent { tells → IfOk result (λ arrival. NamesNoClosed (story self.old) (came arrival buf.new)) }
+        requires { length buf.old ≡ BUFFER_SIZE }
+        ensures lawful { IfOk result (λ arrival. IsNextArrival (last self.old) arrival (last self.new)) }
+        ensures took { tells → IfOk result (λ arrival.
+            GoesOn (story self.old) (story self.new) (with_bytes arrival buf.new ∷ []) [] []) }
+        ensures silent { tells → IfOk result (λ arrival.
+            NamesNoClosed (story self.old) (with_bytes arrival buf.new)) }
         ensures none_taken { tells → OnErr result (story self.new ≡ story self.old) }
         ensures same_last { OnErr result (last self.new ≡ last self.old) }
+        ensures called { RoseBy (calls self.old) (calls self.new) 1 }
         ensures cause { HasCause (faults self.old) (faults self.new) result };
 
     /// Sends one message to a peer. A fault sends nothing of it.
     fn send(&mut self, p: Peer, bytes: &[u8]) -> Result<(), SendFault>
-        ensures sent { tells → OnOk result (GoesOn (story self.old) (story self.new) [] (record { peer = p; text = bytes.now } ∷ []) []) }
+        ensures sent { tells → OnOk result
+            (GoesOn (story self.old) (story self.new) [] (record { peer = p; text = bytes.now } ∷ []) []) }
         ensures not_sent { tells → OnErr result (story self.new ≡ story self.old) }
         ensures same_last { last self.new ≡ last self.old }
-        ensures never_falls { faults self.old ≤ faults self.new }
-        ensures cause { IsErrOf result SendFault.Gone → RoseBy (faults self.old) (faults self.new) 1 };
+        ensures same_calls { calls self.new ≡ calls self.old }
+        // A peer that is gone is a fault, and nothing else is.
+        ensures counted { IsErrOf result SendFault.Gone → RoseBy (faults self.old) (faults self.new) 1 }
+        ensures uncounted { OnOk result (faults self.new ≡ faults self.old) }
+        ensures memory_uncounted { IsErrOf result SendFault.Memory → faults self.new ≡ faults self.old };
 
     /// Closes a peer; for one that isn't open nothing changes. It can't fail.
     fn close(&mut self, p: Peer, why: Why)
@@ -91,7 +105,8 @@ pub trait Link {
             (GoesOn (story self.old) (story self.new) [] [] (record { peer = p; why = why } ∷ []))
             (story self.new ≡ story self.old) }
         ensures same_last { last self.new ≡ last self.old }
-        ensures never_falls { faults self.old ≤ faults self.new };
+        ensures same_calls { calls self.new ≡ calls self.old }
+        ensures uncounted { faults self.new ≡ faults self.old };
 
     /// A greater number is new.
     ghost greater_is_new: { (link : Self) (p : ℕ) → tells → last link < p → IsTrue (is_new (story link) p) };

@@ -1,5 +1,4 @@
 pub mod HeaderLemmas
-pub mod SizeLemmas
 pub mod Loop
 pub mod Passed
 pub mod Fields

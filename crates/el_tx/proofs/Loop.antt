@@ -6,8 +6,8 @@ use Rattle.el_tx.specs.declared.reading.ReadError.{ReadError}
 use Rattle.el_tx.specs.declared.reading.ReadError.TheVariants as errors
 use Rattle.el_tx.specs.declared.types.TxIn.{TxIn}
 use Rattle.el_tx.specs.declared.types.TxOut.{TxOut}
-use Rattle.el_tx.specs.Stops.{money}
-use Rattle.el_tx.specs.Reading.{Fails, many_at, output_at, next_output_at, stack_at, stacks_at}
+use Rattle.el_tx.specs.Encoding.{total_value}
+use Rattle.el_tx.specs.within.Reading.{Fails, many_at, output_at, next_output_at, stack_at, stacks_at}
 
 pub goes_on : {A : Type 0} (next : List A → Left → Result (A × Left) TxFault) (before : List A) (count i : ℕ) (left : Left) (x : A) (after : Left) (total : Result (List A × Left) TxFault)
     → i < count → next before left ≡ Ok (x, after) → many_at next before (count - i) left ≡ total → many_at next (before ++ x ∷ []) (count - (i + 1)) after ≡ total
@@ -35,7 +35,7 @@ is_done next before count i left total le so_far =
     sym so_far ∙ one
 
 -- reading the output of this index and sum is reading the next one
-pub next_output : (outputs : List TxOut) (index sum : ℕ) (left : Left) → index ≡ length outputs → sum ≡ money outputs → output_at index sum left ≡ next_output_at outputs left
+pub next_output : (outputs : List TxOut) (index sum : ℕ) (left : Left) → index ≡ length outputs → sum ≡ total_value outputs → output_at index sum left ≡ next_output_at outputs left
 next_output outputs index sum left p q = rw (p, q) refl
 
 -- the witnesses

@@ -5,42 +5,29 @@ use Rattle.std.proofs.lemmas.List.{append-nil, flat_map_more}
 use Rattle.std.proofs.lemmas.List.Concat.{flat_map-cons}
 use Rattle.el_base.specs.Left.{Left, AreBytes}
 use Rattle.el_tx.specs.declared.fault.TxFault.{TxFault}
-use Rattle.el_tx.specs.Stops.{StopsAmong}
-use Rattle.el_tx.specs.Reading.{many_at}
-use Rattle.el_tx.proofs.Passed.{Passed, Took, Took-then, middle, Passed-front, Passed-back, none_passed, behind, Sound, done, step}
-
--- ---- lists
-
-pub flat_map-push : {A : Type 0} (text : A → List ℕ) (xs : List A) (x : A) → flat_map text xs ++ text x ≡ flat_map text (xs ++ x ∷ [])
-flat_map-push text xs x = flat_map_more text [] xs x
-
-pub All-push : {A : Type 0} (P : A → Type 0) (xs : List A) (x : A) → AllByRecursion P xs → P x → AllByRecursion P (xs ++ x ∷ [])
-All-push P [] x all p = (p, tt)
-All-push P (y ∷ xs) x all p = (all.0, All-push P xs x all.1 p)
-
-pub All-weaker : {A : Type 0} (P Q : A → Type 0) (xs : List A) → ((x : A) → P x → Q x) → AllByRecursion P xs → AllByRecursion Q xs
-All-weaker P Q [] h all = tt
-All-weaker P Q (x ∷ xs) h all = (h x all.0, All-weaker P Q xs h all.1)
+use Rattle.el_tx.specs.FirstFault.{FaultAmong}
+use Rattle.el_tx.specs.within.Reading.{many_at}
+use Rattle.el_tx.proofs.Passed.{Passed, Took, Took-then, middle, Passed-front, Passed-back, none_passed, after, Sound, done, step}
 
 -- ---- what is read
 
 pub many_sound : {A : Type 0} (next : List A → Left → Result (A × Left) TxFault) (Are : List A → Type 0) (text : A → List ℕ) (Next : List A → ℕ → List ℕ → TxFault → Type 0)
     → ((before : List A) (left : Left) → Are before → AreBytes left.rest → Sound (next before left) (λ x. Took left (text x.0) x.1 × Are (before ++ x.0 ∷ [])) (Next before left.place left.rest))
     → (start : Left) (count : ℕ) (before : List A) (n : ℕ) (left : Left) → length before + n ≡ count → Took start (flat_map text before) left → Are before
-    → Sound (many_at next before n left) (λ xs. Took start (flat_map text xs.0) xs.1 × (length xs.0 ≡ count) × Are xs.0) (StopsAmong Are text Next count start.place start.rest)
+    → Sound (many_at next before n left) (λ xs. Took start (flat_map text xs.0) xs.1 × (length xs.0 ≡ count) × Are xs.0) (FaultAmong Are text Next count start.place start.rest)
 unfolding many_at
 many_sound next Are text Next each start count before zero left size took are = done (before, left) (took, omega arith, are)
 many_sound next Are text Next each start count before (suc n) left size took are =
     step (next before left) _ (each before left are took.fits)
     (λ x p.
     let longer : length (before ++ x.0 ∷ []) + n ≡ count = simp length-append (omega arith) in
-    let whole : Took start (flat_map text (before ++ x.0 ∷ [])) x.1 = subst (λ (t : List ℕ). Took start t x.1) (flat_map-push text before x.0) (Took-then start (flat_map text before) left (text x.0) x.1 took p.0) in
+    let whole : Took start (flat_map text (before ++ x.0 ∷ [])) x.1 = subst (λ (t : List ℕ). Took start t x.1) (flat_map_more text [] before x.0) (Took-then start (flat_map text before) left (text x.0) x.1 took p.0) in
     many_sound next Are text Next each start count (before ++ x.0 ∷ []) n x.1 longer whole p.1)
-    (λ e s. record { before = before; fewer = omega arith; lawful = are; next = behind (flat_map text before) (Next before) start left e took.passed s })
+    (λ e s. record { before = before; fewer = omega arith; lawful = are; next = after (flat_map text before) (Next before) start left e took.passed s })
 
--- ---- what is spelled
+-- ---- what is encoded
 
--- each fits behind those before it
+-- each fits after those before it
 abbrev pub Chain : {A : Type 0} → (List A → A → Type 0) → List A → List A → Type 0
 Chain Fit before [] = Unit {0}
 Chain Fit before (x ∷ xs) = Fit before x × Chain Fit (before ++ x ∷ []) xs

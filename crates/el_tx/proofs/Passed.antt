@@ -1,10 +1,10 @@
 -- Passing a text, and what a reading step gives.
-use Rattle.std.proofs.Common.{◌≡◌, ℕ, ◌+◌, Bool, true, false, cond, List, [], ◌++◌, length, Result, Ok, Err, refl, sym, ap, subst, ◌∙◌, append_assoc, length-append, arith, ◌⊎◌, inl, inr}
+use Rattle.std.proofs.Common.{◌≡◌, ℕ, ◌+◌, Bool, true, false, cond, List, [], ◌++◌, length, Result, Ok, Err, refl, sym, ap, subst, ◌∙◌, append_assoc, length-append, arith}
 use Rattle.std.proofs.lemmas.List.{append_cancel_left}
 use Rattle.el_base.specs.Left.{Left, AreBytes}
 use Rattle.el_tx.specs.declared.fault.TxFault.{TxFault}
-use Rattle.el_tx.specs.Stops.{Behind}
-use Rattle.el_tx.specs.Reading.{◌>>=◌}
+use Rattle.el_tx.specs.FirstFault.{After}
+use Rattle.el_tx.specs.within.Reading.{◌>>=◌}
 
 -- the text stands between two places
 pub record Passed (left : Left) (text : List ℕ) (next : Left) : Type 0 where
@@ -53,16 +53,16 @@ none_passed a b p =
     let place = p.place in
     Left-is a b (omega arith) p.parts
 
--- a fault behind a text
-pub behind : (text : List ℕ) (Next : ℕ → List ℕ → TxFault → Type 0) (left next : Left) (f : TxFault) → Passed left text next → Next next.place next.rest f
-    → Behind text Next left.place left.rest f
-behind text Next left next f p s = record { more = next.rest; parts = p.parts; next = subst (λ (k : ℕ). Next k next.rest f) p.place s }
+-- a fault after a text
+pub after : (text : List ℕ) (Next : ℕ → List ℕ → TxFault → Type 0) (left next : Left) (f : TxFault) → Passed left text next → Next next.place next.rest f
+    → After text Next left.place left.rest f
+after text Next left next f p s = record { more = next.rest; parts = p.parts; next = subst (λ (k : ℕ). Next k next.rest f) p.place s }
 
 -- where it stands
 abbrev pub stand : List ℕ → Left → List ℕ → Left
 stand text left more = record { place = left.place + length text; rest = more }
 
-pub stand_passed : (text : List ℕ) (Next : ℕ → List ℕ → TxFault → Type 0) (left : Left) (f : TxFault) (b : Behind text Next left.place left.rest f) → Passed left text (stand text left b.more)
+pub stand_passed : (text : List ℕ) (Next : ℕ → List ℕ → TxFault → Type 0) (left : Left) (f : TxFault) (b : After text Next left.place left.rest f) → Passed left text (stand text left b.more)
 stand_passed text Next left f b = record { parts = b.parts; place = refl }
 
 -- what a reading gives: a value with one property, or a fault with the other
@@ -94,7 +94,3 @@ pub either : {A : Type 0} (b : Bool) (r s : Result A TxFault) {P : A → Type 0}
     → (b ≡ true → Sound r P Q) → (b ≡ false → Sound s P Q) → Sound (cond b r s) P Q
 either true r s h k = h refl
 either false r s h k = k refl
-
-pub chosen_test : (b : Bool) → (b ≡ true) ⊎ (b ≡ false)
-chosen_test true = inl refl
-chosen_test false = inr refl

@@ -1,14 +1,15 @@
--- How a block's header is spelled: 80 bytes. Numbers are little endian; hashes stand in inner order.
+-- How a block's header is encoded: 80 bytes. Numbers are little endian; hashes stand in inner order.
 use Rattle.std.specs.Prelude.{◌≡◌, ℕ, ◌<◌, ◌^◌, List, ◌++◌, length, take, drop, pos, negsuc, ◌≤ℤ◌, ◌<ℤ◌}
 use Rattle.std.specs.Int.{w32, to_le_bytes, from_le_bytes, cast_unsigned, cast_signed}
 use Rattle.el_base.specs.Left.{AreBytes}
 use Rattle.el_tx.specs.declared.types.Header.{Header}
 
 -- version, hash of the block before, Merkle root, time, bits, nonce
-abbrev pub header_text : Header → List ℕ
-header_text h =
+abbrev pub header_encoding : Header → List ℕ
+header_encoding h =
     to_le_bytes w32 (cast_unsigned w32 h.version)
-    ++ (h.previous.0 ++ (h.root.0 ++ (to_le_bytes w32 h.time ++ (to_le_bytes w32 h.bits ++ to_le_bytes w32 h.nonce))))
+    ++ (h.previous.0 ++ (h.root.0
+    ++ (to_le_bytes w32 h.time ++ (to_le_bytes w32 h.bits ++ to_le_bytes w32 h.nonce))))
 
 -- a header whose fields fit
 pub record IsHeader (h : Header) : Type 0 where
@@ -22,11 +23,11 @@ pub record IsHeader (h : Header) : Type 0 where
   pub bits : h.bits < 2 ^ 32
   pub nonce : h.nonce < 2 ^ 32
 
--- the number that four bytes spell from the place on
+-- the number that four bytes encode from the place on
 abbrev pub number_from : ℕ → List ℕ → ℕ
 number_from place bytes = from_le_bytes w32 (take 4 (drop place bytes))
 
--- the header that the first 80 bytes spell: what `header_text` writes, read back
+-- the header that the first 80 bytes encode: what `header_encoding` writes, read back
 abbrev pub header_of : List ℕ → Header
 header_of bytes = record {
   version = cast_signed w32 (number_from 0 bytes);

@@ -1,5 +1,5 @@
-pub mod Spelling
+pub mod Encoding
 pub mod Hashing
 pub mod Headers
-pub mod Stops
-pub mod Reading
+pub mod FirstFault
+pub mod within

@@ -1,9 +1,9 @@
 // Reading a transaction.
 ghost use Rattle.std.specs.Prelude.{◌≡◌, ◌≢◌, ◌⊎◌, ℕ, List, ◌++◌, ◌≤◌, length, take, IfOk, IfErr, Ok, Err};
-ghost use Rattle.el_tx.specs.Spelling.{Spells};
-ghost use Rattle.el_tx.specs.Stops.{Stops};
-ghost use Rattle.el_tx.specs.Reading as spec;
-ghost use Rattle.el_tx.specs.Reading.{Gives, Answers, bytes_at, flag_at, form_at, plain_at, witnessed_at, tx_at};
+ghost use Rattle.el_tx.specs.Encoding.{Encodes};
+ghost use Rattle.el_tx.specs.FirstFault.{FirstFault};
+ghost use Rattle.el_tx.specs.within.Reading as spec;
+ghost use Rattle.el_tx.specs.within.Reading.{Gives, Answers, bytes_at, flag_at, form_at, stripped_at, witnessed_at, tx_at};
 ghost use Rattle.el_tx.specs.declared.types.Tx as shape;
 ghost use Rattle.el_tx.specs.declared.fault.TxFault.{TxFault};
 
@@ -15,7 +15,7 @@ use el_base::Cursor;
 use std::alloc::Global;
 
 // The flag, which is 1.
-#[tactic(auto, unfolding(crate::specs::Reading::flag_at))]
+#[tactic(auto, unfolding(crate::specs::within::Reading::flag_at))]
 fn flag_of(c: &mut Cursor<'_>) -> Result<bool, ReadError>
     ensures { Gives (λ x. x) result c.new (flag_at c.old) }
 {
@@ -35,7 +35,7 @@ fn is_marked(bytes: &[u8]) -> bool
 }
 
 // Marker and flag, where they stand: whether the form is that with witnesses.
-#[tactic(auto, unfolding(crate::specs::Reading::form_at))]
+#[tactic(auto, unfolding(crate::specs::within::Reading::form_at))]
 fn form_of(c: &mut Cursor<'_>) -> Result<bool, ReadError>
     ensures { Gives (λ x. x) result c.new (form_at c.old) }
 {
@@ -47,9 +47,9 @@ fn form_of(c: &mut Cursor<'_>) -> Result<bool, ReadError>
 }
 
 // The rest of the form without witnesses.
-#[tactic(auto, unfolding(crate::specs::Reading::plain_at))]
-fn plain_of(alloc: Global, c: &mut Cursor<'_>, version: i32) -> Result<Tx, ReadError>
-    ensures { Gives (λ x. x) result c.new (plain_at version c.old) }
+#[tactic(auto, unfolding(crate::specs::within::Reading::stripped_at))]
+fn stripped_of(alloc: Global, c: &mut Cursor<'_>, version: i32) -> Result<Tx, ReadError>
+    ensures { Gives (λ x. x) result c.new (stripped_at version c.old) }
 {
     let (inputs, outputs) = body_of(alloc, c)?;
     let lock = u32_of(c)?;
@@ -62,7 +62,7 @@ fn plain_of(alloc: Global, c: &mut Cursor<'_>, version: i32) -> Result<Tx, ReadE
 }
 
 // The rest of the form with witnesses.
-#[tactic(auto, unfolding(crate::specs::Reading::witnessed_at))]
+#[tactic(auto, unfolding(crate::specs::within::Reading::witnessed_at))]
 fn witnessed_of(alloc: Global, c: &mut Cursor<'_>, version: i32) -> Result<Tx, ReadError>
     ensures { Gives (λ x. x) result c.new (witnessed_at version c.old) }
 {
@@ -77,7 +77,7 @@ fn witnessed_of(alloc: Global, c: &mut Cursor<'_>, version: i32) -> Result<Tx, R
     })
 }
 
-#[tactic(auto, unfolding(crate::specs::Reading::tx_at))]
+#[tactic(auto, unfolding(crate::specs::within::Reading::tx_at))]
 fn tx_of(alloc: Global, c: &mut Cursor<'_>) -> Result<Tx, ReadError>
     ensures { Gives (λ x. x) result c.new (tx_at c.old) }
 {
@@ -85,11 +85,11 @@ fn tx_of(alloc: Global, c: &mut Cursor<'_>) -> Result<Tx, ReadError>
     if form_of(c)? {
         witnessed_of(alloc, c, version)
     } else {
-        plain_of(alloc, c, version)
+        stripped_of(alloc, c, version)
     }
 }
 
-// The transaction and how many bytes spell it, as reading gives them.
+// The transaction and how many bytes encode it, as reading gives them.
 fn read_tx(alloc: Global, bytes: &[u8]) -> Result<(Tx, usize), TxFault>
     ensures { Answers result (tx_at (record { place = 0; rest = bytes.now })) }
 {
@@ -101,25 +101,27 @@ fn read_tx(alloc: Global, bytes: &[u8]) -> Result<(Tx, usize), TxFault>
     }
 }
 
-/// Reads one transaction from the front of the bytes, and answers how many bytes spell it. Other bytes may follow it.
+/// Reads one transaction from the front of the bytes, and answers how many bytes encode it. Other bytes may
+/// follow it.
 ///
-/// Both forms are read: the plain one, and that of BIP 144 with marker, flag and a witness for each input. Numbers are
+/// Both forms are read: that without marker, flag and witnesses, and that of BIP 144 with them. Numbers are
 /// little endian, values are in satoshi, and hashes stay in the order in which they stand.
 ///
 /// # Errors
 ///
-/// The first fault from left to right, whose place counts from the first byte handed in. `TxFault::Memory` comes where
-/// no memory is found, whatever the bytes are.
+/// The first fault from left to right. `TxFault::Memory` comes where no memory is found, whatever the bytes
+/// are.
 pub fn decode_tx(alloc: Global, bytes: &[u8]) -> Result<(Tx, usize), TxFault>
-    // What is read is spelled so.
-    ensures read { IfOk result (λ r. (r.1 ≤ length bytes.now) × Spells (take r.1 bytes.now) r.0) }
-    // What is spelled so is read, whatever follows it.
-    ensures only { result ≢ Err TxFault.Memory → (text rest : List ℕ) (tx : shape.Tx)
-        → Spells text tx → bytes.now ≡ text ++ rest → result ≡ Ok (tx, length text) }
+    // What is read is encoded so.
+    ensures read { IfOk result (λ r. (r.1 ≤ length bytes.now) × Encodes (take r.1 bytes.now) r.0) }
+    // What is encoded so is read, whatever follows it.
+    ensures only { result ≢ Err TxFault.Memory → (front rest : List ℕ) (tx : shape.Tx)
+        → Encodes front tx → bytes.now ≡ front ++ rest → result ≡ Ok (tx, length front) }
     // A fault is the first one from left to right.
-    ensures fault { IfErr result (λ e. (e ≡ TxFault.Memory) ⊎ Stops bytes.now e) }
+    ensures fault { IfErr result (λ e. (e ≡ TxFault.Memory) ⊎ FirstFault bytes.now e) }
     // The first fault from left to right is found.
-    ensures stops { result ≢ Err TxFault.Memory → (e : TxFault) → Stops bytes.now e → result ≡ Err e }
+    ensures first_fault { result ≢ Err TxFault.Memory → (e : TxFault) → FirstFault bytes.now e
+        → result ≡ Err e }
 {
     read_tx(alloc, bytes)
 }

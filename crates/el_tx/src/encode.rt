@@ -1,15 +1,15 @@
 // Writing a transaction.
 ghost use Rattle.std.specs.Prelude.{◌≡◌, ℕ, List, ◌++◌, flat_map, IfOk, OnOk};
 ghost use Rattle.std.specs.Int.{w32, to_le_bytes};
-ghost use Rattle.el_tx.specs.Spelling as spelling;
-ghost use Rattle.el_tx.specs.Spelling.{Spells, sized, counted, input_text, output_text, stack_text, body_text, plain_text, witness_text};
-ghost use Rattle.el_tx.specs.Hashing.{full_text};
+ghost use Rattle.el_tx.specs.Encoding as encoding;
+ghost use Rattle.el_tx.specs.Encoding.{Encodes, HasEncoding, sized, counted, input_encoding, output_encoding, stack_encoding, body_encoding, stripped_encoding, witness_encoding};
+ghost use Rattle.el_tx.specs.Hashing.{full_encoding};
 
 use crate::types::{Outpoint, Tx, TxIn, TxOut};
 use el_base::{Bytes, OutOfMemory, write_compact};
 use std::alloc::Global;
 
-// Bytes behind their number.
+// Bytes after their number.
 fn write_sized(out: &mut Vec<u8>, bytes: &[u8]) -> Result<(), OutOfMemory>
     ensures { OnOk result (out.new.items ≡ out.old.items ++ sized bytes.now) }
 {
@@ -27,14 +27,14 @@ fn write_number(out: &mut Vec<u8>, n: u32) -> Result<(), OutOfMemory>
 }
 
 fn write_outpoint(out: &mut Vec<u8>, o: &Outpoint) -> Result<(), OutOfMemory>
-    ensures { OnOk result (out.new.items ≡ out.old.items ++ spelling.outpoint_text o.now) }
+    ensures { OnOk result (out.new.items ≡ out.old.items ++ encoding.outpoint_encoding o.now) }
 {
     out.extend_from_slice(o.txid.0.as_slice())?;
     write_number(out, o.index)
 }
 
 fn write_input(out: &mut Vec<u8>, i: &TxIn) -> Result<(), OutOfMemory>
-    ensures { OnOk result (out.new.items ≡ out.old.items ++ input_text i.now) }
+    ensures { OnOk result (out.new.items ≡ out.old.items ++ input_encoding i.now) }
 {
     write_outpoint(out, &i.from)?;
     write_sized(out, i.script.as_slice())?;
@@ -42,7 +42,7 @@ fn write_input(out: &mut Vec<u8>, i: &TxIn) -> Result<(), OutOfMemory>
 }
 
 fn write_inputs(out: &mut Vec<u8>, inputs: &[TxIn]) -> Result<(), OutOfMemory>
-    ensures { OnOk result (out.new.items ≡ out.old.items ++ counted input_text inputs.now) }
+    ensures { OnOk result (out.new.items ≡ out.old.items ++ counted input_encoding inputs.now) }
 {
     write_compact(inputs.len() as u64, out)?;
     for i in inputs {
@@ -52,14 +52,14 @@ fn write_inputs(out: &mut Vec<u8>, inputs: &[TxIn]) -> Result<(), OutOfMemory>
 }
 
 fn write_output(out: &mut Vec<u8>, o: &TxOut) -> Result<(), OutOfMemory>
-    ensures { OnOk result (out.new.items ≡ out.old.items ++ output_text o.now) }
+    ensures { OnOk result (out.new.items ≡ out.old.items ++ output_encoding o.now) }
 {
     out.extend_from_slice(o.value.to_le_bytes().as_slice())?;
     write_sized(out, o.script.as_slice())
 }
 
 fn write_outputs(out: &mut Vec<u8>, outputs: &[TxOut]) -> Result<(), OutOfMemory>
-    ensures { OnOk result (out.new.items ≡ out.old.items ++ counted output_text outputs.now) }
+    ensures { OnOk result (out.new.items ≡ out.old.items ++ counted output_encoding outputs.now) }
 {
     write_compact(outputs.len() as u64, out)?;
     for o in outputs {
@@ -68,7 +68,7 @@ fn write_outputs(out: &mut Vec<u8>, outputs: &[TxOut]) -> Result<(), OutOfMemory
     Ok(())
 }
 
-// The witness of an input: its items, each behind its size.
+// The witness of an input: its items, each after its size.
 fn write_stack(out: &mut Vec<u8>, items: &[Bytes]) -> Result<(), OutOfMemory>
     ensures { OnOk result (out.new.items ≡ out.old.items ++ counted sized items.now) }
 {
@@ -80,7 +80,7 @@ fn write_stack(out: &mut Vec<u8>, items: &[Bytes]) -> Result<(), OutOfMemory>
 }
 
 fn write_stacks(out: &mut Vec<u8>, inputs: &[TxIn]) -> Result<(), OutOfMemory>
-    ensures { OnOk result (out.new.items ≡ out.old.items ++ flat_map stack_text inputs.now) }
+    ensures { OnOk result (out.new.items ≡ out.old.items ++ flat_map stack_encoding inputs.now) }
 {
     for i in inputs {
         write_stack(out, i.witness.as_slice())?;
@@ -90,33 +90,33 @@ fn write_stacks(out: &mut Vec<u8>, inputs: &[TxIn]) -> Result<(), OutOfMemory>
 
 // The inputs and the outputs.
 fn write_body(out: &mut Vec<u8>, tx: &Tx) -> Result<(), OutOfMemory>
-    ensures { OnOk result (out.new.items ≡ out.old.items ++ body_text tx.now) }
+    ensures { OnOk result (out.new.items ≡ out.old.items ++ body_encoding tx.now) }
 {
     write_inputs(out, tx.inputs.as_slice())?;
     write_outputs(out, tx.outputs.as_slice())
 }
 
 fn write_version(out: &mut Vec<u8>, tx: &Tx) -> Result<(), OutOfMemory>
-    ensures { OnOk result (out.new.items ≡ out.old.items ++ spelling.version_text tx.now) }
+    ensures { OnOk result (out.new.items ≡ out.old.items ++ encoding.version_encoding tx.now) }
 {
     out.extend_from_slice(tx.version.to_le_bytes().as_slice())?;
     Ok(())
 }
 
 // The form without marker, flag and witnesses.
-pub(crate) fn plain_form(alloc: Global, tx: &Tx) -> Result<Vec<u8>, OutOfMemory>
-    ensures { IfOk result (λ v. v.items ≡ plain_text tx.now) }
+pub(crate) fn stripped_form(alloc: Global, tx: &Tx) -> Result<Vec<u8>, OutOfMemory>
+    ensures { IfOk result (λ v. v.items ≡ stripped_encoding tx.now) }
 {
-    let mut text = Vec::new(alloc);
-    write_version(&mut text, tx)?;
-    write_body(&mut text, tx)?;
-    write_number(&mut text, tx.lock)?;
-    Ok(text)
+    let mut out = Vec::new(alloc);
+    write_version(&mut out, tx)?;
+    write_body(&mut out, tx)?;
+    write_number(&mut out, tx.lock)?;
+    Ok(out)
 }
 
 // The form with marker, flag and witnesses.
 fn witness_form(alloc: Global, tx: &Tx) -> Result<Vec<u8>, OutOfMemory>
-    ensures { IfOk result (λ v. v.items ≡ witness_text tx.now) }
+    ensures { IfOk result (λ v. v.items ≡ witness_encoding tx.now) }
 {
     let mut out = Vec::new(alloc);
     write_version(&mut out, tx)?;
@@ -128,23 +128,23 @@ fn witness_form(alloc: Global, tx: &Tx) -> Result<Vec<u8>, OutOfMemory>
 }
 
 // Whether some input has a witness.
-pub(crate) fn has_witness(tx: &Tx) -> bool
-    ensures { result ≡ spelling.has_witness tx.now }
+pub(crate) fn some_witness(inputs: &[TxIn]) -> bool
+    ensures { result ≡ encoding.some_witness inputs.now }
 {
-    tx.inputs.as_slice().iter().any(|i| !i.witness.is_empty())
+    inputs.iter().any(|i| !i.witness.is_empty())
 }
 
-/// The spelling of a transaction that has one, the only one that there is: without marker, flag and witnesses where no
-/// input has a witness, else with them (BIP 144). Fails only for want of memory.
+/// The encoding of a transaction that has one, the only one that there is: without marker, flag and witnesses
+/// where no input has a witness, else with them (BIP 144). Fails only where memory runs out.
 pub fn encode_tx(alloc: Global, tx: &Tx) -> Result<Bytes, OutOfMemory>
-    requires { (bytes : List ℕ) × Spells bytes tx.now }
-    ensures spelled { IfOk result (λ b. Spells b tx.now) }
-    ensures full { IfOk result (λ b. b ≡ full_text tx.now) }
+    requires { HasEncoding tx.now }
+    ensures encoded { IfOk result (λ b. Encodes b tx.now) }
+    ensures full { IfOk result (λ b. b ≡ full_encoding tx.now) }
 {
-    let form = if has_witness(tx) {
+    let form = if some_witness(tx.inputs.as_slice()) {
         witness_form(alloc, tx)?
     } else {
-        plain_form(alloc, tx)?
+        stripped_form(alloc, tx)?
     };
     Ok(Bytes::from_vec(form))
 }

@@ -1,13 +1,13 @@
-/// Why bytes spell no transaction. A place counts from the first byte handed in.
+/// Why bytes encode no transaction. A place counts from the first byte handed in.
 #[derive(Clone, Copy, Debug, PartialEq, Eq, thiserror::Error)]
 pub enum TxFault {
     /// The bytes end within the field whose first byte stands at the place.
     #[error("bytes end within the field at {place}")]
     Short { place: usize },
-    /// The CompactSize at the place has a shorter spelling.
-    #[error("the number at {place} has a shorter spelling")]
+    /// The CompactSize at the place has a shorter encoding.
+    #[error("the number at {place} has a shorter encoding")]
     LongSpelling { place: usize },
-    /// The byte at the place, behind the marker, is not 1 (BIP 144).
+    /// The byte at the place, after the marker, is not 1 (BIP 144).
     #[error("the flag at {place} is not 1")]
     BadFlag { place: usize },
     /// The form with witnesses, but every witness is empty (BIP 144).

@@ -1,10 +1,10 @@
 // The hash and the size of a transaction, and whether it is a coinbase.
-ghost use Rattle.std.specs.Prelude.{◌≡◌, ℕ, ◌<◌, ◌^◌, ◌↔◌, List, length, IsTrue, IfOk};
+ghost use Rattle.std.specs.Prelude.{◌≡◌, ℕ, ◌<◌, ◌^◌, List, length, IfOk};
 ghost use Rattle.el_tx.specs.Hashing as spec;
-ghost use Rattle.el_tx.specs.Spelling.{Spells};
+ghost use Rattle.el_tx.specs.Encoding.{Encodes, HasEncoding};
 
-use crate::encode::plain_form;
-use crate::size::{added_size, plain_size};
+use crate::encode::stripped_form;
+use crate::size::sizes_of;
 use crate::types::{Outpoint, Tx};
 use el_base::{Hash32, OutOfMemory, sha256d};
 use std::alloc::Global;
@@ -15,36 +15,38 @@ const NO_OUTPUT: Outpoint = Outpoint {
     index: u32::MAX,
 };
 
-/// The txid, in inner order: the SHA-256 of the SHA-256 of the form without marker, flag and witnesses. Fails only for
-/// want of memory.
+/// The txid, in inner order: the SHA-256 of the SHA-256 of the form without marker, flag and witnesses. Fails
+/// only where memory runs out.
 pub fn txid(alloc: Global, tx: &Tx) -> Result<Hash32, OutOfMemory>
-    requires { (bytes : List ℕ) × Spells bytes tx.now }
+    requires { HasEncoding tx.now }
     ensures { IfOk result (λ h. h ≡ spec.txid tx.now) }
 {
-    let text = plain_form(alloc, tx)?;
-    Ok(sha256d(text.as_slice()))
+    let bytes = stripped_form(alloc, tx)?;
+    Ok(sha256d(bytes.as_slice()))
 }
 
-/// The weight in weight units (BIP 141): three times the size without marker, flag and witnesses, plus the full size.
-/// Takes no memory.
+/// The weight in weight units (BIP 141): three times the size without marker, flag and witnesses, plus the
+/// full size. Takes no memory.
 pub fn weight(tx: &Tx) -> u64
-    requires { (bytes : List ℕ) × Spells bytes tx.now × (length bytes < 2 ^ 61) }
+    requires { (bytes : List ℕ) × Encodes bytes tx.now × (length bytes < 2 ^ 61) }
     ensures { result ≡ spec.weight tx.now }
 {
-    4 * plain_size(tx) + added_size(tx)
+    let sizes = sizes_of(tx);
+    (3 * sizes.stripped + sizes.full) as u64
 }
 
 /// The size in virtual bytes (BIP 141): a quarter of the weight, rounded up. Takes no memory.
 pub fn vsize(tx: &Tx) -> u64
-    requires { (bytes : List ℕ) × Spells bytes tx.now × (length bytes < 2 ^ 61) }
+    requires { (bytes : List ℕ) × Encodes bytes tx.now × (length bytes < 2 ^ 61) }
     ensures { result ≡ spec.vsize tx.now }
 {
     weight(tx).div_ceil(4)
 }
 
-/// Whether the transaction is a coinbase: its one input names the outpoint of 32 zero bytes and index 2^32 - 1.
+/// Whether the transaction is a coinbase: its one input names the outpoint of 32 zero bytes and the index
+/// 2^32 - 1.
 pub fn is_coinbase(tx: &Tx) -> bool
-    ensures { IsTrue result ↔ spec.IsCoinbase tx.now }
+    ensures is { result ≡ spec.is_coinbase tx.now }
 {
     match tx.inputs.as_slice() {
         [only] => only.from == NO_OUTPUT,

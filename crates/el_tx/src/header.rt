@@ -1,14 +1,14 @@
-// Block headers: their spelling, read and written, and their hash.
+// Block headers: their encoding, read and written, and their hash.
 ghost use Rattle.std.specs.Prelude.{◌≡◌, ◌+◌, ◌≤◌, ◌++◌, length, take};
 ghost use Rattle.std.specs.Int.{w32, to_le_bytes, cast_unsigned};
 ghost use Rattle.el_base.specs.Hashing as hashing;
-ghost use Rattle.el_tx.specs.Headers.{header_text, header_of, IsHeader};
+ghost use Rattle.el_tx.specs.Headers.{header_encoding, header_of, IsHeader};
 ghost use Rattle.el_tx.specs.declared.types.Header as shape;
 
 use crate::types::Header;
 use el_base::{Hash32, sha256d};
 
-// The number that the first four bytes spell, and the bytes behind them.
+// The number that the first four bytes encode, and the bytes after them.
 fn number(bytes: &[u8]) -> (u32, &[u8])
     requires { 4 ≤ length bytes.now }
     ensures { bytes.now ≡ to_le_bytes w32 result.0 ++ result.1.now }
@@ -19,7 +19,7 @@ fn number(bytes: &[u8]) -> (u32, &[u8])
     }
 }
 
-// The number with a sign that the first four bytes spell, and the bytes behind them.
+// The number with a sign that the first four bytes encode, and the bytes after them.
 fn signed_number(bytes: &[u8]) -> (i32, &[u8])
     requires { 4 ≤ length bytes.now }
     ensures { bytes.now ≡ to_le_bytes w32 (cast_unsigned w32 result.0) ++ result.1.now }
@@ -30,7 +30,7 @@ fn signed_number(bytes: &[u8]) -> (i32, &[u8])
     }
 }
 
-// The first 32 bytes, and the bytes behind them.
+// The first 32 bytes, and the bytes after them.
 fn hash(bytes: &[u8]) -> (Hash32, &[u8])
     requires { 32 ≤ length bytes.now }
     ensures { bytes.now ≡ result.0.0 ++ result.1.now }
@@ -43,11 +43,11 @@ fn hash(bytes: &[u8]) -> (Hash32, &[u8])
 
 /// Reads a block's header, in Bitcoin's serialization: little endian numbers, hashes in inner order.
 pub fn decode_header(bytes: &[u8; 80]) -> Header
-    // What is read is spelled so.
-    ensures spelled { header_text result ≡ bytes.now }
+    // What is read is encoded so.
+    ensures encoded { header_encoding result ≡ bytes.now }
     ensures fits { IsHeader result }
-    // What is spelled so is read.
-    ensures only { (h : shape.Header) → IsHeader h → bytes.now ≡ header_text h → result ≡ h }
+    // What is encoded so is read.
+    ensures only { (h : shape.Header) → IsHeader h → bytes.now ≡ header_encoding h → result ≡ h }
     // It is read field by field.
     ensures reads { result ≡ header_of bytes.now }
 {
@@ -68,33 +68,33 @@ pub fn decode_header(bytes: &[u8; 80]) -> Header
 }
 
 // Puts four bytes from the place on.
-fn put_four(text: &mut [u8; 80], place: usize, bytes: [u8; 4])
+fn put_four(header: &mut [u8; 80], place: usize, field: [u8; 4])
     requires { place + 4 ≤ 80 }
-    ensures { take (place + 4) text.new ≡ take place text.old ++ bytes }
+    ensures { take (place + 4) header.new ≡ take place header.old ++ field }
 {
-    text[place..place + 4].copy_from_slice(bytes.as_slice());
+    header[place..place + 4].copy_from_slice(field.as_slice());
 }
 
 // Puts a hash from the place on.
-fn put_hash(text: &mut [u8; 80], place: usize, hash: Hash32)
+fn put_hash(header: &mut [u8; 80], place: usize, hash: Hash32)
     requires { place + 32 ≤ 80 }
-    ensures { take (place + 32) text.new ≡ take place text.old ++ hash.0 }
+    ensures { take (place + 32) header.new ≡ take place header.old ++ hash.0 }
 {
-    text[place..place + 32].copy_from_slice(hash.0.as_slice());
+    header[place..place + 32].copy_from_slice(hash.0.as_slice());
 }
 
-/// The spelling of a block's header, the only one that there is.
+/// The encoding of a block's header, the only one that there is.
 pub fn encode_header(h: &Header) -> [u8; 80]
-    ensures { result ≡ header_text h.now }
+    ensures { result ≡ header_encoding h.now }
 {
-    let mut text = [0u8; 80];
-    put_four(&mut text, 0, h.version.to_le_bytes());
-    put_hash(&mut text, 4, h.previous);
-    put_hash(&mut text, 36, h.root);
-    put_four(&mut text, 68, h.time.to_le_bytes());
-    put_four(&mut text, 72, h.bits.to_le_bytes());
-    put_four(&mut text, 76, h.nonce.to_le_bytes());
-    text
+    let mut bytes = [0u8; 80];
+    put_four(&mut bytes, 0, h.version.to_le_bytes());
+    put_hash(&mut bytes, 4, h.previous);
+    put_hash(&mut bytes, 36, h.root);
+    put_four(&mut bytes, 68, h.time.to_le_bytes());
+    put_four(&mut bytes, 72, h.bits.to_le_bytes());
+    put_four(&mut bytes, 76, h.nonce.to_le_bytes());
+    bytes
 }
 
 /// The hash of the block with this header: the SHA-256 of the SHA-256 of its 80 bytes, in inner order.

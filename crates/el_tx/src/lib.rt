@@ -1,4 +1,4 @@
-//! Bitcoin's transactions and block headers: their spellings, read and written, and their hashes.
+//! Bitcoin's transactions and block headers: their encodings, read and written, and their hashes.
 #![tactic(auto)]
 
 mod decode;
@@ -18,14 +18,13 @@ pub use encode::encode_tx;
 pub use fault::TxFault;
 pub use hashing::{is_coinbase, txid, vsize, weight};
 pub use header::{block_hash, decode_header, encode_header};
-pub use header_laws::headers_differ_in_spelling;
+pub use header_laws::headers_differ_in_encoding;
 pub use laws::{
-    each_has_one_spelling, each_is_read_or_stops, first_fault_is_one, no_spelling_begins_another,
-    nothing_spelled_stops,
+    each_has_one_encoding, each_is_read_or_faults, first_fault_is_one, no_encoding_begins_another,
+    nothing_encoded_faults,
 };
-pub use types::{Header, Outpoint, Tx, TxIn, TxOut};
+pub use size::{Sizes, sizes_of};
+pub use types::{Header, MAX_MONEY, Outpoint, Tx, TxIn, TxOut};
 
 #[cfg(test)]
-mod decode_tests;
-#[cfg(test)]
-mod encode_tests;
+mod tests;

@@ -3,8 +3,8 @@ ghost use Rattle.std.specs.Prelude.{◌≡◌};
 ghost use Rattle.std.specs.Int.{w32, w64};
 ghost use Rattle.el_tx.specs.declared.fault.TxFault.TheVariants as fault;
 ghost use Rattle.el_tx.specs.declared.reading.ReadError.TheVariants.{Memory, Fault};
-ghost use Rattle.el_tx.specs.Stops.{fault_of};
-ghost use Rattle.el_tx.specs.Reading.{Gives, bytes_at, number_at, count_at, sized_at, outpoint_at, version_at};
+ghost use Rattle.el_tx.specs.FirstFault.{fault_of};
+ghost use Rattle.el_tx.specs.within.Reading.{Gives, bytes_at, number_at, count_at, sized_at, outpoint_at, version_at};
 
 use crate::fault::TxFault;
 use crate::types::Outpoint;
@@ -84,7 +84,7 @@ pub fn u64_of(c: &mut Cursor<'_>) -> Result<u64, ReadError>
 }
 
 /// The version, which has a sign.
-#[tactic(auto, unfolding(crate::specs::Reading::version_at))]
+#[tactic(auto, unfolding(crate::specs::within::Reading::version_at))]
 pub fn version_of(c: &mut Cursor<'_>) -> Result<i32, ReadError>
     ensures { Gives (λ x. x) result c.new (version_at c.old) }
 {
@@ -93,7 +93,7 @@ pub fn version_of(c: &mut Cursor<'_>) -> Result<i32, ReadError>
 }
 
 /// A CompactSize.
-#[tactic(auto, unfolding(crate::specs::Reading::count_at))]
+#[tactic(auto, unfolding(crate::specs::within::Reading::count_at))]
 pub fn count_of(c: &mut Cursor<'_>) -> Result<u64, ReadError>
     ensures { Gives (λ x. x) result c.new (count_at c.old) }
 {
@@ -101,8 +101,8 @@ pub fn count_of(c: &mut Cursor<'_>) -> Result<u64, ReadError>
     Ok(n)
 }
 
-/// Bytes behind their number.
-#[tactic(auto, unfolding(crate::specs::Reading::sized_at))]
+/// Bytes after their number.
+#[tactic(auto, unfolding(crate::specs::within::Reading::sized_at))]
 pub fn sized_of(alloc: Global, c: &mut Cursor<'_>) -> Result<Bytes, ReadError>
     ensures { Gives (λ x. x) result c.new (sized_at c.old) }
 {
@@ -112,7 +112,7 @@ pub fn sized_of(alloc: Global, c: &mut Cursor<'_>) -> Result<Bytes, ReadError>
 }
 
 /// The outpoint that an input spends.
-#[tactic(auto, unfolding(crate::specs::Reading::outpoint_at))]
+#[tactic(auto, unfolding(crate::specs::within::Reading::outpoint_at))]
 pub fn outpoint_of(c: &mut Cursor<'_>) -> Result<Outpoint, ReadError>
     ensures { Gives (λ x. x) result c.new (outpoint_at c.old) }
 {

@@ -1,19 +1,17 @@
 // The parts of a transaction, read from left to right.
 ghost use Rattle.std.specs.Prelude.{◌≡◌, ◌+◌, ◌≤◌, [], length, IfOk};
-ghost use Rattle.el_tx.specs.Spelling.{max_money};
-ghost use Rattle.el_tx.specs.Reading.{Gives, input_at, inputs_at, value_at, output_at, outputs_at, items_at, stack_at, stacks_at, witnesses_at, some_inputs_at, some_outputs_at, body_at, some_witness};
+ghost use Rattle.el_tx.specs.Encoding.{max_money};
+ghost use Rattle.el_tx.specs.within.Reading.{Gives, input_at, inputs_at, value_at, output_at, outputs_at, items_at, stack_at, stacks_at, witnesses_at, some_inputs_at, some_outputs_at, body_at};
 
+use crate::encode::some_witness;
 use crate::fault::TxFault;
 use crate::reading::{ReadError, count_of, outpoint_of, sized_of, u32_of, u64_of};
-use crate::types::{TxIn, TxOut};
+use crate::types::{MAX_MONEY, TxIn, TxOut};
 use el_base::{Bytes, Cursor, Listed};
 use std::alloc::Global;
 
-// All the money that there can be, in satoshi.
-const MAX_MONEY: u64 = 2_100_000_000_000_000;
-
 // An input, as yet without its witness.
-#[tactic(auto, unfolding(crate::specs::Reading::input_at))]
+#[tactic(auto, unfolding(crate::specs::within::Reading::input_at))]
 fn input_of(alloc: Global, c: &mut Cursor<'_>) -> Result<TxIn, ReadError>
     ensures { Gives (λ x. x) result c.new (input_at c.old) }
 {
@@ -39,7 +37,7 @@ fn inputs_of(alloc: Global, c: &mut Cursor<'_>, count: u64) -> Result<Listed<TxI
     Ok(inputs)
 }
 
-#[tactic(auto, unfolding(crate::specs::Reading::some_inputs_at))]
+#[tactic(auto, unfolding(crate::specs::within::Reading::some_inputs_at))]
 fn some_inputs_of(alloc: Global, c: &mut Cursor<'_>) -> Result<Listed<TxIn>, ReadError>
     ensures { Gives (λ x. x) result c.new (some_inputs_at c.old) }
 {
@@ -50,8 +48,8 @@ fn some_inputs_of(alloc: Global, c: &mut Cursor<'_>) -> Result<Listed<TxIn>, Rea
     inputs_of(alloc, c, count)
 }
 
-// The value of the output with this index, behind outputs of this sum.
-#[tactic(auto, unfolding(crate::specs::Reading::value_at))]
+// The value of the output with this index, after outputs of this sum.
+#[tactic(auto, unfolding(crate::specs::within::Reading::value_at))]
 fn value_of(c: &mut Cursor<'_>, index: usize, sum: u64) -> Result<u64, ReadError>
     requires { sum ≤ max_money }
     ensures value { Gives (λ x. x) result c.new (value_at index sum c.old) }
@@ -64,7 +62,7 @@ fn value_of(c: &mut Cursor<'_>, index: usize, sum: u64) -> Result<u64, ReadError
     Ok(value)
 }
 
-#[tactic(auto, unfolding(crate::specs::Reading::output_at))]
+#[tactic(auto, unfolding(crate::specs::within::Reading::output_at))]
 fn output_of(alloc: Global, c: &mut Cursor<'_>, index: usize, sum: u64) -> Result<TxOut, ReadError>
     requires { sum ≤ max_money }
     ensures output { Gives (λ x. x) result c.new (output_at index sum c.old) }
@@ -88,7 +86,7 @@ fn outputs_of(alloc: Global, c: &mut Cursor<'_>, count: u64) -> Result<Listed<Tx
     Ok(outputs)
 }
 
-#[tactic(auto, unfolding(crate::specs::Reading::some_outputs_at))]
+#[tactic(auto, unfolding(crate::specs::within::Reading::some_outputs_at))]
 fn some_outputs_of(alloc: Global, c: &mut Cursor<'_>) -> Result<Listed<TxOut>, ReadError>
     ensures { Gives (λ x. x) result c.new (some_outputs_at c.old) }
 {
@@ -100,7 +98,7 @@ fn some_outputs_of(alloc: Global, c: &mut Cursor<'_>) -> Result<Listed<TxOut>, R
 }
 
 /// The inputs, as yet without their witnesses, and the outputs.
-#[tactic(auto, unfolding(crate::specs::Reading::body_at))]
+#[tactic(auto, unfolding(crate::specs::within::Reading::body_at))]
 pub fn body_of(
     alloc: Global,
     c: &mut Cursor<'_>,
@@ -124,7 +122,7 @@ fn items_of(alloc: Global, c: &mut Cursor<'_>, count: u64) -> Result<Listed<Byte
 }
 
 // The witness of one input.
-#[tactic(auto, unfolding(crate::specs::Reading::stack_at))]
+#[tactic(auto, unfolding(crate::specs::within::Reading::stack_at))]
 fn stack_of(alloc: Global, c: &mut Cursor<'_>) -> Result<Listed<Bytes>, ReadError>
     ensures { Gives (λ x. x) result c.new (stack_at c.old) }
 {
@@ -159,15 +157,8 @@ fn stacks_of(
     Ok(full)
 }
 
-// Whether some input has a witness.
-fn has_some(inputs: &[TxIn]) -> bool
-    ensures { result ≡ some_witness inputs.now }
-{
-    inputs.iter().any(|input| !input.witness.is_empty())
-}
-
 /// The inputs with their witnesses, of which some is not empty.
-#[tactic(auto, unfolding(crate::specs::Reading::witnesses_at))]
+#[tactic(auto, unfolding(crate::specs::within::Reading::witnesses_at))]
 pub fn witnesses_of(
     alloc: Global,
     c: &mut Cursor<'_>,
@@ -176,7 +167,7 @@ pub fn witnesses_of(
     ensures { Gives (λ x. x) result c.new (witnesses_at inputs c.old) }
 {
     let full = stacks_of(alloc, c, inputs)?;
-    if !has_some(full.as_slice()) {
+    if !some_witness(full.as_slice()) {
         return Err(ReadError::Fault(TxFault::EmptyWitness));
     }
     Ok(full)

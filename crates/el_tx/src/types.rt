@@ -1,5 +1,8 @@
-// Plain transactions and headers.
+// Transactions and headers.
 use el_base::{Bytes, Hash32, Listed};
+
+/// All the money that there can be, in satoshi: 21,000,000 bitcoin of 100,000,000 satoshi each.
+pub const MAX_MONEY: u64 = 2_100_000_000_000_000;
 
 /// A block's header (80 bytes).
 #[derive(Clone, Copy, Debug, PartialEq, Eq)]

@@ -1,5 +1,5 @@
 -- What goes over the link while the events of an arrival are worked off.
-use Rattle.std.proofs.Common.{◌≡◌, ◌⊎◌, inl, inr, ℕ, ◌+◌, ◌≤◌, ◌==◌, Bool, true, false, not, List, [], ◌∷◌, ◌++◌, length, Option, Some, None, refl, ap, sym, ◌∙◌, append-nil, append_assoc, arith, IsTrue, nat_lt, eqb-true}
+use Rattle.std.proofs.Common.{◌≡◌, inl, inr, ℕ, ◌+◌, ◌==◌, Bool, true, false, not, List, [], ◌∷◌, ◌++◌, length, Some, None, refl, ap, sym, ◌∙◌, append-nil, append_assoc, arith, IsTrue, nat_lt, eqb-true}
 use Rattle.std.specs.Prelude.{MatchBool}
 use Rattle.std.specs.List.{AllByRecursion, filter, list_any}
 use Rattle.el_outside.specs.Counts.{RoseBy}
@@ -7,17 +7,15 @@ use Rattle.el_outside.specs.Story.{Story, Message, Closing, GoesOn, is_open}
 use Rattle.el_outside.specs.declared.link.Why.{Why}
 use Rattle.el_outside.specs.declared.link.Why.TheVariants as why
 use Rattle.el_outside.proofs.Stories.{goes_none, goes_more, rose_more, rose_none, sent_stays_open, other_stays_open}
-use Rattle.el_model.specs.Blocks.{Chain}
 use Rattle.el_model.specs.Lines.{LineEvent, line, too_long}
 use Rattle.el_model.specs.World.{World, Session, Event, joins, leaves, says, Outs, nothing, reply_to, Takes, is_peer, is_client, without_client, client_limit}
 use Rattle.el_model.specs.Run.{Turns, none, takes, departs, gone_in, is_gone, IsDeparture}
 use Rattle.el_model.proofs.Cuts.{either}
-use Rattle.electrum_serve.specs.State.{State, Hearing, SessionsAre, AllVoid, IsSaidBy, Stands, Steps, took, departed, IsDone, gone_from, option_kept}
-use Rattle.electrum_serve.specs.Progress.{AreOpen, peer_of, Delivered, sent, lost, Progress, Finished}
-use Rattle.electrum_serve.specs.declared.out.Out.{Out}
-use Rattle.electrum_serve.specs.declared.out.Out.TheVariants as out
-use Rattle.electrum_serve.specs.Turn.{outs_of}
-use Rattle.electrum_serve.proofs.Servers.{left_void}
+use Rattle.el_core.specs.State.{State, Stands}
+use Rattle.el_core.specs.Turn.{OneTurn, took, departed, TookTurn, IsDone, outs_of}
+use Rattle.el_core.specs.declared.out.Out.{Out}
+use Rattle.el_core.specs.declared.out.Out.TheVariants as out
+use Rattle.electrum_serve.specs.within.Progress.{ClientsAreOpen, peer_of, Forgets, Delivered, sent, lost, Progress, Finished}
 
 -- an open peer is closed
 pub closed_open : (s t : Story) (p : ℕ) (reason : Why) → IsTrue (is_open s p)
@@ -25,12 +23,12 @@ pub closed_open : (s t : Story) (p : ℕ) (reason : Why) → IsTrue (is_open s p
 closed_open s t p reason open' h = rw open' at h
 
 -- a message that was not sent, and the closing of its client
-pub lost_closed : (tells : Type 0) (s next : State) (p : ℕ) (text : List ℕ) (reason : Why) (before mid after : Story) (low middle high : ℕ) → IsDeparture reason
+pub lost_closed : (tells : Type 0) (s next : State) (p : ℕ) (text : List ℕ) (reason : Why) (before mid after : Story) (low high : ℕ) → IsDeparture reason
     → (tells → IsTrue (is_open before p)) → (tells → mid ≡ before)
     → (tells → MatchBool (is_open mid p) (GoesOn mid after [] [] (record { peer = p; why = reason } ∷ [])) (after ≡ mid))
-    → next ≡ gone_from s p → RoseBy low high (gone_in (record { peer = p; why = reason } ∷ [])) → Delivered tells (out.Send p text) s before low next after high
-lost_closed tells s next p text reason before mid after low middle high departure open' same closing gone rose =
-    lost p text reason refl departure gone rose (λ t.
+    → Forgets s p next → RoseBy low high (gone_in (record { peer = p; why = reason } ∷ [])) → Delivered tells (out.Send p text) s before low next after high
+lost_closed tells s next p text reason before mid after low high departure open' same closing forgets rose =
+    lost p text reason refl departure forgets rose (λ t.
     let e = same t in
     let c = rw e at (closing t) in
     closed_open before after p reason (open' t) c)
@@ -92,7 +90,7 @@ took_case world left o next rest (says p too_long) is t = elim (either (is_clien
   | inr h ↦ absurd (sent_nothing o (let e = rw h at t in e.0))
 ]
 
-pub step_case : (world : World) (left : List Event) (o : Out) (next : World) (rest : List Event) → Steps world left (outs_of o) next rest → StepCase world left o next rest
+pub step_case : (world : World) (left : List Event) (o : Out) (next : World) (rest : List Event) → OneTurn world left (outs_of o) next rest → StepCase world left o next rest
 step_case world left o next rest (took event is t) = took_case world left o next rest event is t
 step_case world left o next rest (departed p client outs gone same) = closed_client p why.Memory (is_close o p why.Memory outs) refl client gone
 
@@ -132,47 +130,43 @@ all_strangers s t (x ∷ xs) p reason goes all unnamed = elim (either (x.peer ==
   | inr h ↦ (other_stays_open s t x.peer p reason all.0 h goes, all_strangers s t xs p reason goes all.1 (rw h at unnamed))
 ]
 
--- who is waiting to be closed
-surplus_of : (client : Option Hearing) (surplus : Option ℕ) (sessions : List Session) (left rest : List Event) (p : ℕ) → SessionsAre client surplus sessions left
-    → left ≡ joins p ∷ rest → surplus ≡ Some p
-surplus_of None None sessions left rest p are is = absurd (let v = rw is at are.1 in v.0.1)
-surplus_of None (Some q) sessions left rest p are is = absurd are
-surplus_of (Some c) None sessions left rest p are is = absurd (let v = rw is at (left_void c are.0 left are.3) in v.0.1)
-surplus_of (Some c) (Some q) sessions left rest p are is = let e = sym are.3.joins_is ∙ is in let same : q ≡ p = joined q p rest e in ap Some same
-  where
-    joined : (q p : ℕ) (rest : List Event) → ◌≡◌ {A = List Event} (joins q ∷ []) (joins p ∷ rest) → q ≡ p
-    joined q p rest e = cc
+-- the peer that joins first is the one too many
+abbrev pub Waits : State → Type 0
+Waits s = (world : World) (p : ℕ) (rest : List Event) → Stands s world (joins p ∷ rest) → s.surplus ≡ Some p
+
+waiting : (s : State) (world : World) (left rest : List Event) (p : ℕ) → Waits s → Stands s world left → left ≡ joins p ∷ rest → s.surplus ≡ Some p
+waiting s world left rest p waits stands first = waits world p rest (rw first at stands)
 
 -- whom a turn speaks to is open
-pub out_open : (s : State) (world : World) (left : List Event) (o : Out) (next : World) (rest : List Event) (story : Story) → Stands s world left
-    → StepCase world left o next rest → AreOpen s world story → IsTrue (is_open story (peer_of o))
-out_open s world left o next rest story stands (replied p text met is client same first) are = rw is (client_open story world.sessions p client are.sessions)
-out_open s world left o next rest story stands (closed_client p reason is other client gone) are = rw is (client_open story world.sessions p client are.sessions)
-out_open s world left o next rest story stands (closed_other p reason is other first same) are =
-    let waiting = surplus_of s.client s.surplus world.sessions left rest p stands.sessions first in
-    rw is (are.surplus p waiting).0
+pub out_open : (s : State) (world : World) (left : List Event) (o : Out) (next : World) (rest : List Event) (story : Story) → Waits s → Stands s world left
+    → StepCase world left o next rest → ClientsAreOpen s world story → IsTrue (is_open story (peer_of o))
+out_open s world left o next rest story waits stands (replied p text met is client same first) are = rw is (client_open story world.sessions p client are.sessions)
+out_open s world left o next rest story waits stands (closed_client p reason is other client gone) are = rw is (client_open story world.sessions p client are.sessions)
+out_open s world left o next rest story waits stands (closed_other p reason is other first same) are =
+    let is_surplus = waiting s world left rest p waits stands first in
+    rw is (are.surplus p is_surplus).0
 
--- the clients behind a turn are open
-pub still_open : (s s' : State) (world : World) (left : List Event) (o : Out) (next : World) (rest : List Event) (before after : Story) → Stands s world left
-    → StepCase world left o next rest → s'.surplus ≡ None → AreOpen s world before → GoesOn before after [] (outs_of o).messages (outs_of o).closings → AreOpen s' next after
-still_open s s' world left o next rest before after stands (replied p text met is client same first) unused are goes = record {
+-- the clients after a turn are open
+pub still_open : (s s' : State) (world : World) (left : List Event) (o : Out) (next : World) (rest : List Event) (before after : Story) → Waits s → Stands s world left
+    → StepCase world left o next rest → s'.surplus ≡ None → ClientsAreOpen s world before → GoesOn before after [] (outs_of o).messages (outs_of o).closings → ClientsAreOpen s' next after
+still_open s s' world left o next rest before after waits stands (replied p text met is client same first) unused are goes = record {
   sessions = rw same (all_sent before after world.sessions _ (rw is at goes) are.sessions);
   surplus = λ q e. absurd (let f = sym unused ∙ e in cc);
 }
-still_open s s' world left o next rest before after stands (closed_client p reason is other client gone) unused are goes = record {
+still_open s s' world left o next rest before after waits stands (closed_client p reason is other client gone) unused are goes = record {
   sessions = rw gone (all_others before after world.sessions p reason (rw is at goes) are.sessions);
   surplus = λ q e. absurd (let f = sym unused ∙ e in cc);
 }
-still_open s s' world left o next rest before after stands (closed_other p reason is other first same) unused are goes =
-    let waiting = surplus_of s.client s.surplus world.sessions left rest p stands.sessions first in
+still_open s s' world left o next rest before after waits stands (closed_other p reason is other first same) unused are goes =
+    let is_surplus = waiting s world left rest p waits stands first in
     record {
-      sessions = rw same (all_strangers before after world.sessions p reason (rw is at goes) are.sessions (are.surplus p waiting).1);
+      sessions = rw same (all_strangers before after world.sessions p reason (rw is at goes) are.sessions (are.surplus p is_surplus).1);
       surplus = λ q e. absurd (let f = sym unused ∙ e in cc);
     }
 
--- the events behind a turn
+-- the events after a turn
 steps_turns : (first world : World) (done left : List Event) (ms : List Message) (cs : List Closing) (outs : Outs) (next : World) (rest all : List Event)
-    → Turns first done ms cs world → Steps world left outs next rest → all ≡ done ++ left
+    → Turns first done ms cs world → OneTurn world left outs next rest → all ≡ done ++ left
     → (done' : List Event) × (all ≡ done' ++ rest) × Turns first done' (ms ++ outs.messages) (cs ++ outs.closings) next
 steps_turns first world done left ms cs outs next rest all turns (took event is t) whole = (
   done ++ event ∷ [],
@@ -186,24 +180,12 @@ steps_turns first world done left ms cs outs next rest all turns (departed p cli
       rw (made, gone, append-nil ms) d,
     )
 
--- a message that was not sent: its client is gone, and what is left of its lines has no effect
-gone_stands : (chain : Chain) (client : Option Hearing) (surplus : Option ℕ) (world : World) (left rest : List Event) (p : ℕ) (met : LineEvent) → surplus ≡ None → chain ≡ world.chain
-    → SessionsAre client surplus world.sessions rest → is_client p world ≡ true → left ≡ says p met ∷ rest
-    → Stands (record { chain = chain; client = option_kept p client; surplus = surplus }) (without_client p world) left
-gone_stands chain None None world left rest p met unused same are client is = absurd (let e = rw are.0 at client in cc)
-gone_stands chain None (Some q) world left rest p met unused same are client is = absurd are
-gone_stands chain (Some c) (Some q) world left rest p met unused same are client is = absurd (let e = unused in cc)
-gone_stands chain (Some c) None world left rest p met unused same are client is = elim (either (c.peer == p)) [
-  | inl h ↦ rw h (record { chain = same; sessions = (rw (are.1, h) refl, rw is ((p, refl), left_void c are.0 rest are.3)) })
-  | inr h ↦ absurd (let e = rw (are.1, h) at client in cc)
-]
-
 -- a turn closes nobody as gone
-not_gone : (world : World) (left : List Event) (o : Out) (next : World) (rest : List Event) (middle high : ℕ) → StepCase world left o next rest → middle ≤ high
+not_gone : (world : World) (left : List Event) (o : Out) (next : World) (rest : List Event) (middle high : ℕ) → StepCase world left o next rest → high ≡ middle
     → RoseBy middle high (gone_in (outs_of o).closings)
-not_gone world left o next rest middle high (replied p text met is client same first) le = rw is (rose_none middle high le)
-not_gone world left o next rest middle high (closed_client p reason is other client gone) le = rw (is, other) (omega arith)
-not_gone world left o next rest middle high (closed_other p reason is other first same) le = rw (is, other) (omega arith)
+not_gone world left o next rest middle high (replied p text met is client same first) still = rw (is, still) (rose_none middle)
+not_gone world left o next rest middle high (closed_client p reason is other client gone) still = rw (is, other, still) (rose_none middle)
+not_gone world left o next rest middle high (closed_other p reason is other first same) still = rw (is, other, still) (rose_none middle)
 
 -- a message is the reply to a line of a client
 lost_case : (world : World) (left : List Event) (o : Out) (next : World) (rest : List Event) (p : ℕ) (text : List ℕ) → o ≡ out.Send p text → StepCase world left o next rest
@@ -214,30 +196,44 @@ lost_case world left o next rest p text is (replied q other met was client same 
 lost_case world left o next rest p text is (closed_client q reason was other client gone) = absurd (let f = sym was ∙ is in cc)
 lost_case world left o next rest p text is (closed_other q reason was other first same) = absurd (let f = sym was ∙ is in cc)
 
+-- turns after turns
+pub turns_more : (first world last : World) (done es : List Event) (ms ns : List Message) (cs ds : List Closing) → Turns first done ms cs world → Turns world es ns ds last
+    → Turns first (done ++ es) (ms ++ ns) (cs ++ ds) last
+turns_more first world last done es ms ns cs ds before none = rw (append-nil done, append-nil ms, append-nil cs) before
+turns_more first world last done es ms ns cs ds before (takes past ms' cs' mid event outs next so_far step) =
+    let one = takes (done ++ past) (ms ++ ms') (cs ++ cs') mid event outs next (turns_more first world mid done past ms ms' cs cs' before so_far) step in
+    rw (append_assoc done past (event ∷ []), append_assoc ms ms' outs.messages, append_assoc cs cs' outs.closings) at one
+turns_more first world last done es ms ns cs ds before (departs past ms' cs' mid p reason so_far client departure) =
+    let one = departs (done ++ past) (ms ++ ms') (cs ++ cs') mid p reason (turns_more first world mid done past ms ms' cs cs' before so_far) client departure in
+    rw (append_assoc cs cs' (record { peer = p; why = reason } ∷ [])) at one
+
 -- one turn and what went over the link
 pub progress_more : (first : World) (all : List Event) (tells : Type 0) (start before after : Story) (low middle high : ℕ) (s mid s' : State) (o : Out)
-    (progress : Progress first all tells start before low middle s) (next : World) (rest : List Event) → Steps progress.world progress.left (outs_of o) next rest → Stands mid next rest
-    → mid.surplus ≡ None → Delivered tells o mid before middle s' after high → Progress first all tells start after low high s'
-progress_more first all tells start before after low middle high s mid s' o progress next rest steps stands unused (sent same le goes) =
-    let t = steps_turns first progress.world progress.done progress.left progress.messages progress.closings (outs_of o) next rest all progress.turns steps progress.whole in
+    (progress : Progress first all tells start before low middle s) → Waits s → TookTurn progress.world progress.left (outs_of o) mid → mid.surplus ≡ None
+    → Delivered tells o mid before middle s' after high → Progress first all tells start after low high s'
+progress_more first all tells start before after low middle high s mid s' o progress waits turn unused (sent same still goes) =
+    let this = step_case progress.world progress.left o turn.next turn.rest turn.turn in
+    let t = steps_turns first progress.world progress.done progress.left progress.messages progress.closings (outs_of o) turn.next turn.rest all progress.turns turn.turn progress.whole in
     record {
       done = t.0;
-      left = rest;
+      left = turn.rest;
       messages = progress.messages ++ (outs_of o).messages;
       closings = progress.closings ++ (outs_of o).closings;
-      world = next;
+      world = turn.next;
       whole = t.1;
       turns = t.2;
-      stands = rw same stands;
+      stands = rw same turn.stands;
       story = λ told. goes_more start before after [] [] progress.messages (outs_of o).messages progress.closings (outs_of o).closings (progress.story told) (goes told);
       are_open = λ told.
-          still_open s s' progress.world progress.left o next rest before after progress.stands (step_case progress.world progress.left o next rest steps)
+          still_open s s' progress.world progress.left o turn.next turn.rest before after waits progress.stands this
           (ap (λ (x : State). x.surplus) same ∙ unused) (progress.are_open told) (goes told);
-      faults = rw (gone_more progress.closings (outs_of o).closings) (rose_more low middle high (gone_in progress.closings) (gone_in (outs_of o).closings) progress.faults (not_gone progress.world progress.left o next rest middle high (step_case progress.world progress.left o next rest steps) le));
+      faults = rw (gone_more progress.closings (outs_of o).closings)
+          (rose_more low middle high (gone_in progress.closings) (gone_in (outs_of o).closings) progress.faults
+          (not_gone progress.world progress.left o turn.next turn.rest middle high this still));
     }
-progress_more first all tells start before after low middle high s mid s' o progress next rest steps stands unused (lost p text reason is departure gone rose goes) =
-    let was = lost_case progress.world progress.left o next rest p text is (step_case progress.world progress.left o next rest steps) in
-    let stands' = rw was.2 at stands in
+progress_more first all tells start before after low middle high s mid s' o progress waits turn unused (lost p text reason is departure forgets rose goes) =
+    let was = lost_case progress.world progress.left o turn.next turn.rest p text is (step_case progress.world progress.left o turn.next turn.rest turn.turn) in
+    let stands' : Stands mid progress.world turn.rest = rw was.2 at turn.stands in
     record {
       done = progress.done;
       left = progress.left;
@@ -246,55 +242,36 @@ progress_more first all tells start before after low middle high s mid s' o prog
       world = without_client p progress.world;
       whole = progress.whole;
       turns = departs progress.done progress.messages progress.closings progress.world p reason progress.turns was.1 departure;
-      stands = rw gone (gone_stands mid.chain mid.client mid.surplus progress.world progress.left rest p was.0 unused stands'.chain stands'.sessions was.1 was.3);
+      stands = rw was.3 (forgets.unsent unused progress.world was.0 turn.rest stands' was.1);
       story = λ told.
           let both = goes_more start before after [] [] progress.messages [] progress.closings (record { peer = p; why = reason } ∷ []) (progress.story told) (goes told) in
           rw (append-nil progress.messages) at both;
       are_open = λ told. record {
         sessions = all_others before after progress.world.sessions p reason (goes told) (progress.are_open told).sessions;
-        surplus = λ q e. absurd (let f = sym unused ∙ sym (ap (λ (x : State). x.surplus) gone) ∙ e in cc);
+        surplus = λ q e. absurd (let f = sym unused ∙ sym forgets.surplus ∙ e in cc);
       };
       faults = rw (gone_more progress.closings (record { peer = p; why = reason } ∷ []))
           (rose_more low middle high (gone_in progress.closings) (gone_in (record { peer = p; why = reason } ∷ [])) progress.faults rose);
     }
 
--- lines of nobody have no effect
-void_turns : (first world : World) (done left : List Event) (ms : List Message) (cs : List Closing) → world.sessions ≡ [] → AllVoid left → Turns first done ms cs world
-    → Turns first (done ++ left) ms cs world
-void_turns first world done [] ms cs empty void turns = rw (append-nil done) turns
-void_turns first world done (e ∷ es) ms cs empty void turns =
-    let one = takes done ms cs world e nothing world turns (void_event e void.0) in
-    let one' = rw (append-nil ms, append-nil cs) at one in
-    let more = void_turns first world (done ++ e ∷ []) es ms cs empty void.1 one' in
-    rw (append_assoc done (e ∷ []) es) at more
-  where
-    void_event : (e : Event) → (p : ℕ) × IsSaidBy p e → Takes world e nothing world
-    void_event (joins q) v = absurd v.1
-    void_event (leaves q) v = absurd v.1
-    void_event (says q (line bytes)) v = rw empty (refl, refl)
-    void_event (says q too_long) v = rw empty (refl, refl)
-
 -- the work is done
 pub finished : (first : World) (all : List Event) (tells : Type 0) (before after : Story) (low high : ℕ) (s s' : State) (progress : Progress first all tells before after low high s)
     → IsDone progress.world progress.left s' → s'.surplus ≡ None → Finished first all tells before after low high s'
-finished first all tells before after low high s s' progress done unused = record {
-  messages = progress.messages;
-  closings = progress.closings;
-  world = progress.world;
-  turns = rw progress.whole (all_turns done.void);
-  stands = done.stands;
-  story = progress.story;
-  are_open = λ told. record { sessions = (progress.are_open told).sessions; surplus = λ q e. absurd (let f = sym unused ∙ e in cc) };
-  faults = progress.faults;
-}
-  where
-    all_turns : (progress.left ≡ []) ⊎ ((progress.world.sessions ≡ []) × AllVoid progress.left)
-        → Turns first (progress.done ++ progress.left) progress.messages progress.closings progress.world
-    all_turns (inl empty) = rw (empty, append-nil progress.done) progress.turns
-    all_turns (inr void) = void_turns first progress.world progress.done progress.left progress.messages progress.closings void.0 void.1 progress.turns
+finished first all tells before after low high s s' progress done unused =
+    let both = turns_more first progress.world progress.world progress.done progress.left progress.messages [] progress.closings [] progress.turns done.turns in
+    record {
+      messages = progress.messages;
+      closings = progress.closings;
+      world = progress.world;
+      turns = rw progress.whole (rw (append-nil progress.messages, append-nil progress.closings) at both);
+      stands = done.stands;
+      story = progress.story;
+      are_open = λ told. record { sessions = (progress.are_open told).sessions; surplus = λ q e. absurd (let f = sym unused ∙ e in cc) };
+      faults = progress.faults;
+    }
 
 -- before the first turn
-pub begins : (first : World) (all : List Event) (tells : Type 0) (story : Story) (count : ℕ) (s : State) → Stands s first all → (tells → AreOpen s first story)
+pub begins : (first : World) (all : List Event) (tells : Type 0) (story : Story) (count : ℕ) (s : State) → Stands s first all → (tells → ClientsAreOpen s first story)
     → Progress first all tells story story count count s
 begins first all tells story count s stands are = record {
   done = [];
@@ -307,5 +284,5 @@ begins first all tells story count s stands are = record {
   stands = stands;
   story = λ told. goes_none story;
   are_open = are;
-  faults = rose_none count count (omega arith);
+  faults = rose_none count;
 }

@@ -1,9 +1,4 @@
 mod Five
-mod Requests
-mod Printing
-mod LineLemmas
-mod ClientTurns
-mod Servers
 mod Deliveries
 mod Runs
 mod Endings

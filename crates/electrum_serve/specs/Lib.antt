@@ -1,10 +1,6 @@
 pub mod Words
 pub mod Commands
-pub mod State
-pub mod Found
-pub mod Turn
-pub mod Progress
 pub mod File
 pub mod Statuses
 pub mod Ends
-pub mod Paths
+pub mod within

@@ -1,13 +1,12 @@
 // The chain of file 0.
-ghost use Rattle.std.specs.Prelude.{◌≡◌, ◌≤◌, ◌↔◌, ◌++◌, ◌∷◌, [], List, ℕ, IfOk, IsErrOf, IsTrue, OnOk};
+ghost use Rattle.std.specs.Prelude.{◌≡◌, ◌≢◌, ◌↔◌, ◌++◌, ◌∷◌, [], List, ℕ, IfOk, IsErrOf, IsTrue, OnOk};
 ghost use Rattle.std.specs.List.{AllByRecursion};
-ghost use Rattle.el_outside.specs.Counts.{RoseBy};
-ghost use Rattle.el_outside.specs.Files.{AllGrow, IsFile};
-ghost use Rattle.el_model.specs.Blocks.{IsSpelled, SpellsBlock, tip};
+ghost use Rattle.el_outside.specs.Counts.{OnlyReads};
+ghost use Rattle.el_outside.specs.Files.{IsFile};
+ghost use Rattle.el_model.specs.Blocks.{HasBlockEncoding, EncodesBlock, tip};
 ghost use Rattle.el_model.specs.Faults.{IsGood, IsNext};
-ghost use Rattle.el_model.specs.Records.{GivesChain, IsNode, body_at, records};
+ghost use Rattle.el_model.specs.Records.{GivesChain, IsNode, IsBlockOf, block_at, records};
 ghost use Rattle.el_model.specs.declared.block.Block as shape;
-ghost use Rattle.el_files.specs.Reading.{IsBlockOf};
 ghost use Rattle.electrum_serve.specs.File.{GivesNoChain};
 
 use el_base::Hash32;
@@ -20,12 +19,55 @@ use std::alloc::Global;
 /// Why file 0 gives no chain.
 #[derive(Clone, Copy, Debug, PartialEq, Eq)]
 pub enum FileFault {
-    /// No memory was found.
+    /// Out of memory.
     Memory,
-    /// The block files failed.
+    /// A call of the block files failed.
     Failed,
     /// The records of the file, in order, are no good chain.
     Bad,
+}
+
+// The fault of a scan as one of the file.
+fn scan_fault(fault: ScanFault) -> FileFault
+    ensures failed { result ≡ FileFault.Failed ↔ fault ≡ ScanFault.ArchiveFailed }
+    ensures never_bad { result ≢ FileFault.Bad }
+{
+    match fault {
+        ScanFault::ArchiveFailed => FileFault::Failed,
+        ScanFault::Memory => FileFault::Memory,
+    }
+}
+
+// The fault of a block as one of the file.
+fn block_fault(fault: BlockFault) -> FileFault
+    ensures bad { result ≡ FileFault.Bad → fault ≢ BlockFault.Memory }
+    ensures never_failed { result ≢ FileFault.Failed }
+{
+    match fault {
+        BlockFault::Short
+        | BlockFault::Tx { .. }
+        | BlockFault::Trailing { .. }
+        | BlockFault::NoTransactions
+        | BlockFault::FirstNotCoinbase
+        | BlockFault::LaterCoinbase { .. }
+        | BlockFault::SameTxid { .. }
+        | BlockFault::BadMerkle { .. }
+        | BlockFault::Heavy { .. }
+        | BlockFault::Count(_) => FileFault::Bad,
+        BlockFault::Memory => FileFault::Memory,
+    }
+}
+
+// The fault of a block that can't stand after the last one as one of the file.
+fn connect_fault(fault: ConnectFault) -> FileFault
+    ensures bad { result ≡ FileFault.Bad → fault ≢ ConnectFault.Memory }
+    ensures never_failed { result ≢ FileFault.Failed }
+{
+    match fault {
+        ConnectFault::MissingCoin { .. } | ConnectFault::Money { .. } | ConnectFault::Full { .. } =>
+            { FileFault::Bad }
+        ConnectFault::Memory => FileFault::Memory,
+    }
 }
 
 // The records of file 0, in order.
@@ -34,47 +76,45 @@ fn scan_first<A: Archive>(
     archive: &mut A,
     magic: [u8; 4],
 ) -> Result<Vec<Node>, FileFault>
-    ensures scanned { A.tells → IfOk result (λ found. (file : List ℕ) × IsFile (A.bytes archive.old 0) file (A.bytes archive.new 0)
+    ensures scanned { A.tells → IfOk result (λ found. (file : List ℕ)
+        × IsFile (A.bytes archive.old 0) file (A.bytes archive.new 0)
         × (found.items ≡ records magic 0 file)) }
     ensures nodes { IfOk result (λ found. AllByRecursion IsNode found.items) }
-    ensures keeps { A.tells → AllGrow (A.bytes archive.old) (A.bytes archive.new) }
-    ensures never_falls { A.faults archive.old ≤ A.faults archive.new }
-    ensures failed { IsErrOf result FileFault.Failed → RoseBy (A.faults archive.old) (A.faults archive.new) 1 }
     ensures never_bad { IsErrOf result FileFault.Bad → ⊥ }
+    ensures only_reads { OnlyReads A.tells (A.bytes archive.old) (A.bytes archive.new)
+        (A.faults archive.old) (A.faults archive.new) FileFault.Failed result }
 {
     let mut found = Vec::new(alloc);
     match scan_file(alloc, archive, magic, 0, &mut found) {
         Ok(()) => Ok(found),
-        Err(ScanFault::ArchiveFailed) => Err(FileFault::Failed),
-        Err(ScanFault::Memory) => Err(FileFault::Memory),
+        Err(fault) => Err(scan_fault(fault)),
     }
 }
 
-// The block that the bytes spell, all of them.
+// The block that the bytes encode, all of them.
 fn block_of(alloc: Global, bytes: &[u8]) -> Result<Block, FileFault>
-    ensures read { IfOk result (SpellsBlock bytes.now) }
-    ensures bad { IsErrOf result FileFault.Bad → (b : shape.Block) → SpellsBlock bytes.now b → ⊥ }
+    ensures read { IfOk result (EncodesBlock bytes.now) }
+    ensures bad { IsErrOf result FileFault.Bad → (b : shape.Block) → EncodesBlock bytes.now b → ⊥ }
     ensures not_failed { IsErrOf result FileFault.Failed → ⊥ }
 {
     match decode_block(alloc, bytes) {
         Ok(block) => Ok(block),
-        Err(BlockFault::Memory) => Err(FileFault::Memory),
-        Err(_) => Err(FileFault::Bad),
+        Err(fault) => Err(block_fault(fault)),
     }
 }
 
 // The block of a record that was found in file 0.
 fn read_record<A: Archive>(alloc: Global, archive: &mut A, node: &Node) -> Result<Block, FileFault>
     requires { IsNode node.now }
-    ensures spelled { IfOk result IsSpelled }
-    ensures read { A.tells → IfOk result (SpellsBlock (body_at node.now.place (A.bytes archive.new node.now.place.file))) }
-    // The bytes there are others than those of the record, or they spell no block.
+    ensures encoded { IfOk result HasBlockEncoding }
+    ensures read { A.tells → IfOk result
+        (EncodesBlock (block_at node.now.place (A.bytes archive.new node.now.place.file))) }
+    // The bytes there are others than those of the record, or they encode no block.
     ensures bad { IsErrOf result FileFault.Bad → A.tells → (b : shape.Block)
-        → IsBlockOf node.now (body_at node.now.place (A.bytes archive.new node.now.place.file))
-        → SpellsBlock (body_at node.now.place (A.bytes archive.new node.now.place.file)) b → ⊥ }
-    ensures keeps { A.tells → AllGrow (A.bytes archive.old) (A.bytes archive.new) }
-    ensures never_falls { A.faults archive.old ≤ A.faults archive.new }
-    ensures failed { IsErrOf result FileFault.Failed → RoseBy (A.faults archive.old) (A.faults archive.new) 1 }
+        → IsBlockOf node.now (block_at node.now.place (A.bytes archive.new node.now.place.file))
+        → EncodesBlock (block_at node.now.place (A.bytes archive.new node.now.place.file)) b → ⊥ }
+    ensures only_reads { OnlyReads A.tells (A.bytes archive.old) (A.bytes archive.new)
+        (A.faults archive.old) (A.faults archive.new) FileFault.Failed result }
 {
     match read_block(alloc, archive, node) {
         Ok(bytes) => block_of(alloc, bytes.as_slice()),
@@ -94,9 +134,9 @@ fn names_tip(ledger: &PlainLedger, block: &Block) -> bool
     }
 }
 
-// Adds a block, if it may stand behind the last one.
+// Adds a block, if it may stand after the last one.
 fn add_block(ledger: &mut PlainLedger, block: Block, place: Place) -> Result<(), FileFault>
-    requires { IsSpelled block }
+    requires { HasBlockEncoding block }
     ensures added { OnOk result (ledger.new ≡ ledger.old ++ record { block = block; place = place } ∷ []) }
     ensures next { OnOk result (IsNext ledger.old block) }
     ensures bad { IsErrOf result FileFault.Bad → IsNext ledger.old block → ⊥ }
@@ -107,8 +147,7 @@ fn add_block(ledger: &mut PlainLedger, block: Block, place: Place) -> Result<(),
     }
     match ledger.extend(block, place) {
         Ok(()) => Ok(()),
-        Err(ConnectFault::Memory) => Err(FileFault::Memory),
-        Err(_) => Err(FileFault::Bad),
+        Err(fault) => Err(connect_fault(fault)),
     }
 }
 
@@ -120,14 +159,13 @@ pub fn read_chain<A: Archive>(
 ) -> Result<PlainLedger, FileFault>
     ensures good { IfOk result IsGood }
     // The file gives the ledger's chain.
-    ensures read { A.tells → IfOk result (λ ledger. (file : List ℕ) × IsFile (A.bytes archive.old 0) file (A.bytes archive.new 0)
-        × GivesChain magic 0 file ledger) }
+    ensures read { A.tells → IfOk result (λ ledger. (file : List ℕ)
+        × IsFile (A.bytes archive.old 0) file (A.bytes archive.new 0) × GivesChain magic 0 file ledger) }
     // The file gives none.
-    ensures bad { IsErrOf result FileFault.Bad → A.tells → (file : List ℕ) × IsFile (A.bytes archive.old 0) file (A.bytes archive.new 0)
-        × GivesNoChain magic file }
-    ensures keeps { A.tells → AllGrow (A.bytes archive.old) (A.bytes archive.new) }
-    ensures never_falls { A.faults archive.old ≤ A.faults archive.new }
-    ensures failed { IsErrOf result FileFault.Failed → RoseBy (A.faults archive.old) (A.faults archive.new) 1 }
+    ensures bad { IsErrOf result FileFault.Bad → A.tells → (file : List ℕ)
+        × IsFile (A.bytes archive.old 0) file (A.bytes archive.new 0) × GivesNoChain magic file }
+    ensures only_reads { OnlyReads A.tells (A.bytes archive.old) (A.bytes archive.new)
+        (A.faults archive.old) (A.faults archive.new) FileFault.Failed result }
 {
     let found = match scan_first(alloc, archive, magic) {
         Ok(found) => found,

@@ -1,6 +1,6 @@
 // How the program ends.
 ghost use Rattle.std.specs.Prelude.{◌≡◌};
-ghost use Rattle.electrum_serve.specs.Statuses.{code_of, words_of};
+ghost use Rattle.electrum_serve.specs.Statuses.{code_of, line_of};
 
 /// How a call of `serve` ended.
 #[derive(Clone, Copy, Debug, PartialEq, Eq)]
@@ -13,7 +13,7 @@ pub enum Status {
     ArchiveFailed,
     /// The link failed.
     LinkFailed,
-    /// No memory was found.
+    /// Out of memory.
     OutOfMemory,
     /// All turns were made.
     TurnsSpent,
@@ -37,18 +37,18 @@ impl Status {
         }
     }
 
-    /// What the program says of it.
-    pub fn words(self) -> &'static str
-        ensures { result.now ≡ words_of self }
+    /// The line that the program writes to standard error as it ends.
+    pub fn line(self) -> &'static str
+        ensures { result.now ≡ line_of self }
     {
         match self {
-            Status::Ended => "ended",
-            Status::Usage => "usage",
-            Status::ArchiveFailed => "block files failed",
-            Status::LinkFailed => "link failed",
-            Status::OutOfMemory => "out of memory",
-            Status::TurnsSpent => "turns spent",
-            Status::BadChain => "bad chain",
+            Status::Ended => "electrum_serve: ended\n",
+            Status::Usage => "electrum_serve: usage\n",
+            Status::ArchiveFailed => "electrum_serve: block files failed\n",
+            Status::LinkFailed => "electrum_serve: link failed\n",
+            Status::OutOfMemory => "electrum_serve: out of memory\n",
+            Status::TurnsSpent => "electrum_serve: turns spent\n",
+            Status::BadChain => "electrum_serve: bad chain\n",
         }
     }
 }

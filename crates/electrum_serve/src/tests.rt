@@ -1,35 +1,48 @@
-// Whole runs over devices in memory.
-use crate::{Status, serve};
+// What crosses crates: whole calls of `serve` over devices in memory.
+ghost use Rattle.std.specs.Prelude.{◌<◌};
+
+use crate::serving::serve;
+use crate::status::Status;
 use el_base::Bytes;
 use el_fakes::{Closed, Coming, MemArchive, MemLink};
 use el_outside::Why;
 use std::alloc::{AllocError, Global};
 use std::test::Fail;
 
-// The record of the genesis block, as it stands in the first block file of the main network.
+// The record of the genesis block.
 const GENESIS: &str =
-    "f9beb4d91d0100000100000000000000000000000000000000000000000000000000000000000000000000003ba3edfd7a7b12b27ac72c3e67768f617fc81bc3888a51323a9fb8aa4b1e5e4a29ab5f49ffff001d1dac2b7c0101000000010000000000000000000000000000000000000000000000000000000000000000ffffffff4d04ffff001d0104455468652054696d65732030332f4a616e2f32303039204368616e63656c6c6f72206f6e206272696e6b206f66207365636f6e64206261696c6f757420666f722062616e6b73ffffffff0100f2052a01000000434104678afdb0fe5548271967f1a67130b7105cd6a828e03909a67962e0ea1f61deb649f6bc3f4cef38c4f35504e51ec112de5c384df7ba0b8d578a4c702b6bf11d5fac00000000";
+    "f9beb4d91d0100000100000000000000000000000000000000000000000000000000000000000000000000003ba3edfd7a7b\
+    12b27ac72c3e67768f617fc81bc3888a51323a9fb8aa4b1e5e4a29ab5f49ffff001d1dac2b7c010100000001000000000000\
+    0000000000000000000000000000000000000000000000000000ffffffff4d04ffff001d0104455468652054696d65732030\
+    332f4a616e2f32303039204368616e63656c6c6f72206f6e206272696e6b206f66207365636f6e64206261696c6f75742066\
+    6f722062616e6b73ffffffff0100f2052a01000000434104678afdb0fe5548271967f1a67130b7105cd6a828e03909a67962\
+    e0ea1f61deb649f6bc3f4cef38c4f35504e51ec112de5c384df7ba0b8d578a4c702b6bf11d5fac00000000";
 
-// The record of the block behind it.
+// The record of the block after it.
 const BLOCK1: &str =
-    "f9beb4d9d7000000010000006fe28c0ab6f1b372c1a6a246ae63f74f931e8365e15a089c68d6190000000000982051fd1e4ba744bbbe680e1fee14677ba1a3c3540bf7b1cdb606e857233e0e61bc6649ffff001d01e362990101000000010000000000000000000000000000000000000000000000000000000000000000ffffffff0704ffff001d0104ffffffff0100f2052a0100000043410496b538e853519c726a2c91e61ec11600ae1390813a627c66fb8be7947be63c52da7589379515d4e0a604f8141781e62294721166bf621e73a82cbf2342c858eeac00000000";
+    "f9beb4d9d7000000010000006fe28c0ab6f1b372c1a6a246ae63f74f931e8365e15a089c68d6190000000000982051fd1e4b\
+    a744bbbe680e1fee14677ba1a3c3540bf7b1cdb606e857233e0e61bc6649ffff001d01e36299010100000001000000000000\
+    0000000000000000000000000000000000000000000000000000ffffffff0704ffff001d0104ffffffff0100f2052a010000\
+    0043410496b538e853519c726a2c91e61ec11600ae1390813a627c66fb8be7947be63c52da7589379515d4e0a604f8141781\
+    e62294721166bf621e73a82cbf2342c858eeac00000000";
 
-// The record of another block behind the genesis block: a coinbase, and a transaction with a witness that spends the genesis block's coin.
+// The record of another block after the genesis block: a coinbase, and a transaction with a witness that
+// spends the genesis block's coin.
 const SPENDING: &str =
-    "f9beb4d9f8000000010000006fe28c0ab6f1b372c1a6a246ae63f74f931e8365e15a089c68d61900000000002c836b51f04ec7390f370ad9be5c2bf25ca6abde6585c950bbd1f325fce7bf8c29ab5f49ffff001d000000000201000000010000000000000000000000000000000000000000000000000000000000000000ffffffff050100000000ffffffff0100f2052a01000000015200000000020000000001013ba3edfd7a7b12b27ac72c3e67768f617fc81bc3888a51323a9fb8aa4b1e5e4a0000000000ffffffff0200943577000000000151185ad0b200000000160014000102030405060708090a0b0c0d0e0f1011121302012a0301020300000000";
+    "f9beb4d9f8000000010000006fe28c0ab6f1b372c1a6a246ae63f74f931e8365e15a089c68d61900000000002c836b51f04e\
+    c7390f370ad9be5c2bf25ca6abde6585c950bbd1f325fce7bf8c29ab5f49ffff001d00000000020100000001000000000000\
+    0000000000000000000000000000000000000000000000000000ffffffff050100000000ffffffff0100f2052a0100000001\
+    5200000000020000000001013ba3edfd7a7b12b27ac72c3e67768f617fc81bc3888a51323a9fb8aa4b1e5e4a0000000000ff\
+    ffffff0200943577000000000151185ad0b200000000160014000102030405060708090a0b0c0d0e0f1011121302012a0301\
+    020300000000";
 
 // The record of one whose second transaction spends a coin that never was.
 const MISSING: &str =
-    "f9beb4d9d0000000010000006fe28c0ab6f1b372c1a6a246ae63f74f931e8365e15a089c68d6190000000000b18b0874637eb5109bff5524bb27c5b45ff877eeb4d3591af96ab96962bbf77f29ab5f49ffff001d000000000201000000010000000000000000000000000000000000000000000000000000000000000000ffffffff050100000000ffffffff0100f2052a01000000015100000000010000000111111111111111111111111111111111111111111111111111111111111111110000000000ffffffff010100000000000000015100000000";
-
-// The record of `BLOCK1` with another Merkle root in its header.
-const OTHER_ROOT: &str =
-    "f9beb4d9d7000000010000006fe28c0ab6f1b372c1a6a246ae63f74f931e8365e15a089c68d6190000000000982051fd1f4ba744bbbe680e1fee14677ba1a3c3540bf7b1cdb606e857233e0e61bc6649ffff001d01e362990101000000010000000000000000000000000000000000000000000000000000000000000000ffffffff0704ffff001d0104ffffffff0100f2052a0100000043410496b538e853519c726a2c91e61ec11600ae1390813a627c66fb8be7947be63c52da7589379515d4e0a604f8141781e62294721166bf621e73a82cbf2342c858eeac00000000";
-
-// What may stand between records: a few bytes, and zeros.
-const BYTES: &str = "aabbcc";
-
-const ZEROS: &str = "00000000000000000000000000000000";
+    "f9beb4d9d0000000010000006fe28c0ab6f1b372c1a6a246ae63f74f931e8365e15a089c68d6190000000000b18b0874637e\
+    b5109bff5524bb27c5b45ff877eeb4d3591af96ab96962bbf77f29ab5f49ffff001d00000000020100000001000000000000\
+    0000000000000000000000000000000000000000000000000000ffffffff050100000000ffffffff0100f2052a0100000001\
+    5100000000010000000111111111111111111111111111111111111111111111111111111111111111110000000000ffffff\
+    ff010100000000000000015100000000";
 
 const GENESIS_SCRIPT: &str = "740485f380ff6379d11ef6fe7d7cdd68aea7f8bd0d953d9fdf3531fb7d531833";
 
@@ -52,10 +65,28 @@ const SPENDING_ENTRY: &str =
 const INVALID: &str =
     "{\"error\":{\"code\":-32600,\"message\":\"invalid request\"},\"id\":null,\"jsonrpc\":\"2.0\"}\n";
 
-const ONCE: &str = "once --blocks a --network main";
+// What a call is made over: its words, how many bytes file 0 has, which call of the archive, of `next` and of
+// `send` fails, from 1 on and 0 for none, and how many calls of `next` may be made.
+#[derive(Clone, Copy)]
+struct Given<'a> {
+    words: &'a str,
+    len: usize,
+    fails: [u64; 3],
+    turns: u64,
+}
+
+// A call in which nothing fails.
+fn usual() -> Given<'static> {
+    Given {
+        words: "once --blocks a --network main",
+        len: 10_000,
+        fails: [0, 0, 0],
+        turns: 10_000_000,
+    }
+}
 
 // Words of one text, cut at blanks.
-fn words(alloc: Global, text: &str) -> Result<Vec<String>, AllocError> {
+fn words_in(alloc: Global, text: &str) -> Result<Vec<String>, AllocError> {
     let mut all = Vec::new(alloc);
     for word in text.split_whitespace() {
         all.push(String::from_str(alloc, word)?)?;
@@ -63,7 +94,7 @@ fn words(alloc: Global, text: &str) -> Result<Vec<String>, AllocError> {
     Ok(all)
 }
 
-// The bytes that these digits show, the first so many of them.
+// The first bytes that these digits show, this many of them.
 fn shown_bytes(alloc: Global, digits: &[&str], len: usize) -> Result<Bytes, AllocError> {
     let mut bytes = Vec::new(alloc);
     for part in digits {
@@ -76,52 +107,62 @@ fn shown_bytes(alloc: Global, digits: &[&str], len: usize) -> Result<Bytes, Allo
     Ok(Bytes::from_vec(bytes))
 }
 
-// Block files whose file 0 has the bytes that these digits show, and the call that fails, from 1 on; 0 for none.
-fn files(alloc: Global, digits: &[&str], len: usize, fails: u64) -> Result<MemArchive, AllocError> {
+// What a call did: how it ended, how often the archive failed and was called, and the link.
+#[derive(Drop)]
+struct Done {
+    status: Status,
+    archive: MemArchive,
+    link: MemLink,
+}
+
+// Makes the call, over a file of which these are the digits, and over what comes over the link.
+fn call(
+    alloc: Global,
+    digits: &[&str],
+    given: Given<'_>,
+    coming: Vec<Coming>,
+) -> Result<Done, AllocError> {
+    let words = words_in(alloc, given.words)?;
     let mut files = Vec::new(alloc);
-    files.push(shown_bytes(alloc, digits, len)?)?;
-    let failing = Vec::from_slice(alloc, &[fails])?;
-    Ok(MemArchive::new(files, failing))
+    files.push(shown_bytes(alloc, digits, given.len)?)?;
+    let [archive_fails, next_fails, send_fails] = given.fails;
+    let mut archive = MemArchive::new(files, Vec::from_slice(alloc, &[archive_fails])?);
+    let nexts = Vec::from_slice(alloc, &[next_fails])?;
+    let sends = Vec::from_slice(alloc, &[send_fails])?;
+    let mut link = MemLink::new(alloc, coming, nexts, sends).map_err(|_| AllocError)?;
+    let status = serve(
+        alloc,
+        words.as_slice(),
+        &mut archive,
+        &mut link,
+        given.turns,
+    );
+    Ok(Done {
+        status,
+        archive,
+        link,
+    })
 }
 
 // Bytes of a peer.
-fn bytes_of(alloc: Global, peer: u32, text: &str) -> Result<Coming, AllocError> {
-    let bytes = Vec::from_slice(alloc, text.as_bytes())?;
+fn bytes_of(alloc: Global, peer: u32, bytes: &[u8]) -> Result<Coming, AllocError> {
+    let bytes = Vec::from_slice(alloc, bytes)?;
     Ok(Coming::Bytes(peer, Bytes::from_vec(bytes)))
 }
 
-// One client, and its text.
-fn client(alloc: Global, text: &str) -> Result<Vec<Coming>, AllocError> {
+// One client, and its text in pieces of this length.
+fn client(alloc: Global, text: &str, piece: usize) -> Result<Vec<Coming>, AllocError>
+    requires { 0 < piece }
+{
     let mut steps = Vec::new(alloc);
     steps.push(Coming::Opened(1))?;
-    steps.push(bytes_of(alloc, 1, text)?)?;
-    Ok(steps)
-}
-
-// One client, and its text byte by byte.
-fn slow_client(alloc: Global, text: &str) -> Result<Vec<Coming>, AllocError> {
-    let mut steps = Vec::new(alloc);
-    steps.push(Coming::Opened(1))?;
-    for byte in text.as_bytes() {
-        let piece = Vec::from_slice(alloc, &[*byte])?;
-        steps.push(Coming::Bytes(1, Bytes::from_vec(piece)))?;
+    for bytes in text.as_bytes().chunks(piece) {
+        steps.push(bytes_of(alloc, 1, bytes)?)?;
     }
     Ok(steps)
 }
 
-// A link that brings these steps, and the calls of `next` and of `send` that fail, from 1 on; 0 for none.
-fn link(
-    alloc: Global,
-    steps: Vec<Coming>,
-    next_fails: u64,
-    send_fails: u64,
-) -> Result<MemLink, AllocError> {
-    let nexts = Vec::from_slice(alloc, &[next_fails])?;
-    let sends = Vec::from_slice(alloc, &[send_fails])?;
-    MemLink::new(alloc, steps, nexts, sends).map_err(|_| AllocError)
-}
-
-// All that was sent, one message behind the other.
+// All that was sent, one message after the other.
 fn sent(alloc: Global, link: &MemLink) -> Result<Vec<u8>, AllocError> {
     let mut all = Vec::new(alloc);
     for message in link.sent() {
@@ -132,13 +173,9 @@ fn sent(alloc: Global, link: &MemLink) -> Result<Vec<u8>, AllocError> {
 
 // The line that asks for the history of a shown script hash.
 fn asks(alloc: Global, script: &str) -> Result<String, AllocError> {
-    let mut line = String::from_str(
-        alloc,
-        "{\"id\":1,\"method\":\"blockchain.scripthash.get_history\",\"params\":[\"",
-    )?;
-    line.push_str(script)?;
-    line.push_str("\"]}\n")?;
-    Ok(line)
+    format!(in alloc;
+        "{{\"id\":1,\"method\":\"blockchain.scripthash.get_history\",\"params\":[\"{script}\"]}}\n"
+    )
 }
 
 // The reply with these entries, commas between them.
@@ -154,42 +191,22 @@ fn replies(alloc: Global, entries: &[&str]) -> Result<String, AllocError> {
     Ok(text)
 }
 
-// Runs `once` over a file and these steps.
-fn run_steps(
-    alloc: Global,
-    digits: &[&str],
-    len: usize,
-    steps: Vec<Coming>,
-) -> Result<(Status, MemLink), AllocError> {
-    let words = words(alloc, ONCE)?;
-    let mut archive = files(alloc, digits, len, 0)?;
-    let mut link = link(alloc, steps, 0, 0)?;
-    let status = serve(alloc, words.as_slice(), &mut archive, &mut link, 1_000_000);
-    Ok((status, link))
-}
-
-// Runs `once` over a file and what one client says.
-fn run(
-    alloc: Global,
-    digits: &[&str],
-    len: usize,
-    text: &str,
-) -> Result<(Status, MemLink), AllocError> {
-    run_steps(alloc, digits, len, client(alloc, text)?)
-}
-
-// Whether `once` over these records answers the history of the script hash by these entries.
+// Whether `once` over these records answers the history of the script hash by these entries, where the line
+// comes in pieces of this length.
 fn lists(
     alloc: Global,
     digits: &[&str],
     script: &str,
     entries: &[&str],
-) -> Result<bool, AllocError> {
+    piece: usize,
+) -> Result<bool, AllocError>
+    requires { 0 < piece }
+{
     let line = asks(alloc, script)?;
     let want = replies(alloc, entries)?;
-    let (status, link) = run(alloc, digits, 10_000, line.as_str())?;
-    let text = sent(alloc, &link)?;
-    Ok(status == Status::Ended && text.as_slice() == want.as_bytes())
+    let done = call(alloc, digits, usual(), client(alloc, line.as_str(), piece)?)?;
+    let text = sent(alloc, &done.link)?;
+    Ok(done.status == Status::Ended && text.as_slice() == want.as_bytes())
 }
 
 #[test]
@@ -200,9 +217,9 @@ fn histories_of_outputs(rt: HostRuntime) -> Result<(), Fail> {
         (BLOCK1_SCRIPT, &[BLOCK1_ENTRY]),
     ];
     for (script, entries) in table {
-        let digits: [&[&str]; 2] = [&[GENESIS, BLOCK1], &[GENESIS, BYTES, BLOCK1, ZEROS]];
+        let digits: [&[&str]; 2] = [&[GENESIS, BLOCK1], &[GENESIS, "aabbcc", BLOCK1, "00000000"]];
         for records in digits {
-            assert!(rt; lists(rt.alloc(), records, script, entries)?, "{script}");
+            assert!(rt; lists(rt.alloc(), records, script, entries, 1)?, "{script}");
         }
     }
     Ok(())
@@ -216,7 +233,7 @@ fn histories_of_spenders(rt: HostRuntime) -> Result<(), Fail> {
     ];
     for (script, entries) in table {
         assert!(rt;
-            lists(rt.alloc(), &[GENESIS, ZEROS, SPENDING], script, entries)?,
+            lists(rt.alloc(), &[GENESIS, SPENDING], script, entries, 1_000)?,
             "{script}"
         );
     }
@@ -224,23 +241,11 @@ fn histories_of_spenders(rt: HostRuntime) -> Result<(), Fail> {
 }
 
 #[test]
-fn pieces_of_one_byte(rt: HostRuntime) -> Result<(), Fail> {
-    let line = asks(rt.alloc(), GENESIS_SCRIPT)?;
-    let steps = slow_client(rt.alloc(), line.as_str())?;
-    let (status, link) = run_steps(rt.alloc(), &[GENESIS], 1_000, steps)?;
-    assert_eq!(rt; status, Status::Ended);
-    let want = replies(rt.alloc(), &[GENESIS_ENTRY])?;
-    assert_eq!(rt; sent(rt.alloc(), &link)?.as_slice(), want.as_bytes());
-    Ok(())
-}
-
-#[test]
-fn files_that_give_no_chain(rt: HostRuntime) -> Result<(), Fail> {
-    let table: [(&[&str], usize, Status); 9] = [
+fn files_and_their_chains(rt: HostRuntime) -> Result<(), Fail> {
+    let table: [(&[&str], usize, Status); 8] = [
         (&[BLOCK1], 1_000, Status::BadChain),
         (&[BLOCK1, GENESIS], 1_000, Status::BadChain),
         (&[GENESIS, GENESIS], 1_000, Status::BadChain),
-        (&[GENESIS, OTHER_ROOT], 1_000, Status::BadChain),
         (&[GENESIS, MISSING], 1_000, Status::BadChain),
         (&[], 0, Status::Ended),
         (&[GENESIS], 292, Status::Ended),
@@ -248,52 +253,44 @@ fn files_that_give_no_chain(rt: HostRuntime) -> Result<(), Fail> {
         (&[GENESIS, BLOCK1], 515, Status::Ended),
     ];
     for (digits, len, want) in table {
-        let (status, link) = run(rt.alloc(), digits, len, "")?;
-        assert_eq!(rt; status, want);
-        assert_eq!(rt; link.sent().len(), 0);
+        let given = Given { len, ..usual() };
+        let done = call(rt.alloc(), digits, given, client(rt.alloc(), "", 1)?)?;
+        assert_eq!(rt; done.status, want);
+        assert_eq!(rt; done.link.sent().len(), 0);
     }
-    Ok(())
-}
-
-#[test]
-fn other_lines(rt: HostRuntime) -> Result<(), Fail> {
-    let (status, link) = run(rt.alloc(), &[GENESIS], 1_000, "{}\nopen")?;
-    assert_eq!(rt; status, Status::Ended);
-    assert_eq!(rt; sent(rt.alloc(), &link)?.as_slice(), INVALID.as_bytes());
-    assert_eq!(rt; link.closed().len(), 0);
     Ok(())
 }
 
 #[test]
 fn other_words(rt: HostRuntime) -> Result<(), Fail> {
-    let table = [
+    for words in [
         "",
-        "once --network main --blocks a",
         "serve --blocks a",
-        "once --network=main --blocks a",
+        "once --network main --blocks a",
         "once --blocks -a --network main",
         "once --blocks a --network signet",
-        "once --blocks a --network main more",
-    ];
-    for text in table {
-        let words = words(rt.alloc(), text)?;
-        let mut archive = files(rt.alloc(), &[GENESIS], 1_000, 0)?;
-        let mut link = link(rt.alloc(), client(rt.alloc(), "{}\n")?, 0, 0)?;
-        let status = serve(rt.alloc(), words.as_slice(), &mut archive, &mut link, 9);
-        assert_eq!(rt; status, Status::Usage, "{text}");
-        assert_eq!(rt; archive.calls(), 0);
-        assert_eq!(rt; link.sent().len(), 0);
+    ] {
+        let given = Given { words, ..usual() };
+        let done = call(
+            rt.alloc(),
+            &[GENESIS],
+            given,
+            client(rt.alloc(), "{}\n", 3)?,
+        )?;
+        assert_eq!(rt; done.status, Status::Usage, "{words}");
+        assert_eq!(rt; done.archive.calls(), 0);
+        assert_eq!(rt; done.link.sent().len(), 0);
     }
     Ok(())
 }
 
-// A line of so many bytes, ended, between lines that are no requests.
+// A line of this many bytes, ended, between lines that are no requests.
 fn long_line(alloc: Global, len: usize) -> Result<String, AllocError> {
     let mut text = String::from_str(alloc, "{}\n")?;
     for _ in 0..len {
         text.push('x')?;
     }
-    text.push_str("\n{}\n")?;
+    text.push_str("\n{}\nopen")?;
     Ok(text)
 }
 
@@ -306,10 +303,14 @@ fn longest_lines(rt: HostRuntime) -> Result<(), Fail> {
     let table: [(usize, usize, &[Closed]); 2] = [(1_000_000, 3, &[]), (1_000_001, 1, &long)];
     for (len, messages, closed) in table {
         let text = long_line(rt.alloc(), len)?;
-        let (status, link) = run(rt.alloc(), &[GENESIS], 1_000, text.as_str())?;
-        assert_eq!(rt; status, Status::Ended);
-        assert_eq!(rt; link.sent().len(), messages);
-        assert_eq!(rt; link.closed(), closed);
+        let steps = client(rt.alloc(), text.as_str(), 100_000)?;
+        let done = call(rt.alloc(), &[GENESIS], usual(), steps)?;
+        assert_eq!(rt; done.status, Status::Ended);
+        assert_eq!(rt; done.link.sent().len(), messages);
+        assert_eq!(rt; done.link.closed(), closed);
+        for message in done.link.sent() {
+            assert_eq!(rt; message.text.as_slice(), INVALID.as_bytes());
+        }
     }
     Ok(())
 }
@@ -319,95 +320,52 @@ fn two_clients(alloc: Global) -> Result<Vec<Coming>, AllocError> {
     let mut steps = Vec::new(alloc);
     steps.push(Coming::Opened(1))?;
     steps.push(Coming::Opened(2))?;
-    steps.push(bytes_of(alloc, 2, "{}\n")?)?;
-    steps.push(bytes_of(alloc, 1, "{}\n{}\n{}\n")?)?;
-    steps.push(Coming::Closed(1))?;
+    steps.push(bytes_of(alloc, 2, b"{}\n")?)?;
+    steps.push(bytes_of(alloc, 1, b"{}\n{}\n{}\n")?)?;
+    steps.push(Coming::Quiet)?;
     Ok(steps)
 }
 
 #[test]
-fn clients_too_many(rt: HostRuntime) -> Result<(), Fail> {
-    let (status, link) = run_steps(rt.alloc(), &[GENESIS], 1_000, two_clients(rt.alloc())?)?;
-    assert_eq!(rt; status, Status::Ended);
-    assert_eq!(rt; link.sent().len(), 3);
+fn calls_that_fail_and_turns_that_end(rt: HostRuntime) -> Result<(), Fail> {
     let surplus = Closed {
         peer: 2,
         why: Why::Clients,
     };
-    assert_eq!(rt; link.closed(), [surplus].as_slice());
-    Ok(())
-}
-
-#[test]
-fn turns_are_spent(rt: HostRuntime) -> Result<(), Fail> {
-    let words = words(rt.alloc(), ONCE)?;
-    for (turns, want) in [(3, Status::TurnsSpent), (4, Status::Ended)] {
-        let mut archive = files(rt.alloc(), &[GENESIS], 1_000, 0)?;
-        let mut quiet = Vec::new(rt.alloc());
-        for _ in 0..3 {
-            quiet.push(Coming::Quiet)?;
-        }
-        let mut link = link(rt.alloc(), quiet, 0, 0)?;
-        let status = serve(rt.alloc(), words.as_slice(), &mut archive, &mut link, turns);
-        assert_eq!(rt; status, want);
-    }
-    Ok(())
-}
-
-#[test]
-fn archive_calls_that_fail(rt: HostRuntime) -> Result<(), Fail> {
-    let words = words(rt.alloc(), ONCE)?;
-    for fails in 1..5 {
-        let mut archive = files(rt.alloc(), &[GENESIS, BLOCK1], 1_000, fails)?;
-        let mut link = link(rt.alloc(), client(rt.alloc(), "{}\n")?, 0, 0)?;
-        let status = serve(rt.alloc(), words.as_slice(), &mut archive, &mut link, 9);
-        assert_eq!(rt; status, Status::ArchiveFailed, "call {fails}");
-        assert_eq!(rt; archive.faults(), 1);
-        assert_eq!(rt; link.sent().len(), 0);
-    }
-    Ok(())
-}
-
-// Runs `once` over two clients, where these calls of `next` and of `send` fail.
-fn run_failing(
-    alloc: Global,
-    next_fails: u64,
-    send_fails: u64,
-) -> Result<(Status, MemLink), AllocError> {
-    let words = words(alloc, ONCE)?;
-    let mut archive = files(alloc, &[GENESIS], 1_000, 0)?;
-    let mut link = link(alloc, two_clients(alloc)?, next_fails, send_fails)?;
-    let status = serve(alloc, words.as_slice(), &mut archive, &mut link, 9);
-    Ok((status, link))
-}
-
-#[test]
-fn calls_of_next_that_fail(rt: HostRuntime) -> Result<(), Fail> {
-    for fails in 1..5 {
-        let (status, link) = run_failing(rt.alloc(), fails, 0)?;
-        assert_eq!(rt; status, Status::LinkFailed, "call {fails}");
-        assert_eq!(rt; link.faults(), 1);
-    }
-    Ok(())
-}
-
-#[test]
-fn calls_of_send_that_fail(rt: HostRuntime) -> Result<(), Fail> {
-    let closed = [
-        Closed {
-            peer: 2,
-            why: Why::Clients,
-        },
-        Closed {
-            peer: 1,
-            why: Why::Gone,
-        },
+    let gone = Closed {
+        peer: 1,
+        why: Why::Gone,
+    };
+    let one: &[Closed] = &[surplus];
+    let both: &[Closed] = &[surplus, gone];
+    // which calls fail, how many turns there are; how it ends, how often archive and link failed, how many
+    // messages were sent, who was closed
+    let table: [([u64; 3], u64, Status, u64, u64, usize, &[Closed]); 12] = [
+        ([0, 0, 0], 100, Status::Ended, 0, 0, 3, one),
+        ([0, 0, 0], 5, Status::Ended, 0, 0, 3, one),
+        ([0, 0, 0], 4, Status::TurnsSpent, 0, 0, 3, one),
+        ([0, 0, 0], 0, Status::TurnsSpent, 0, 0, 0, &[]),
+        ([1, 0, 0], 100, Status::ArchiveFailed, 1, 0, 0, &[]),
+        ([2, 0, 0], 100, Status::ArchiveFailed, 1, 0, 0, &[]),
+        ([3, 0, 0], 100, Status::ArchiveFailed, 1, 0, 0, &[]),
+        ([0, 1, 0], 100, Status::LinkFailed, 0, 1, 0, &[]),
+        ([0, 5, 0], 100, Status::LinkFailed, 0, 1, 3, one),
+        ([0, 0, 1], 100, Status::Ended, 0, 1, 0, both),
+        ([0, 0, 3], 100, Status::Ended, 0, 1, 2, both),
+        ([0, 5, 2], 100, Status::LinkFailed, 0, 2, 1, both),
     ];
-    for (fails, messages) in [(1, 0), (2, 1), (3, 2)] {
-        let (status, link) = run_failing(rt.alloc(), 0, fails)?;
-        assert_eq!(rt; status, Status::Ended, "send {fails}");
-        assert_eq!(rt; link.sent().len(), messages);
-        assert_eq!(rt; link.closed(), closed.as_slice());
+    for (fails, turns, status, archive_faults, link_faults, messages, closed) in table {
+        let given = Given {
+            fails,
+            turns,
+            ..usual()
+        };
+        let done = call(rt.alloc(), &[GENESIS], given, two_clients(rt.alloc())?)?;
+        assert_eq!(rt; done.status, status, "{fails:?} {turns}");
+        assert_eq!(rt; done.archive.faults(), archive_faults);
+        assert_eq!(rt; done.link.faults(), link_faults);
+        assert_eq!(rt; done.link.sent().len(), messages);
+        assert_eq!(rt; done.link.closed(), closed);
     }
     Ok(())
 }

@@ -35,7 +35,7 @@ impl Network {
         }
     }
 
-    /// The four bytes that begin the network's records in block files.
+    /// The four bytes that begin the network's records in block files (Bitcoin's message start).
     pub fn magic(self) -> [u8; 4]
         ensures { result ≡ network_magic self }
     {
@@ -81,7 +81,7 @@ fn is_folder(word: &str) -> bool
 /// The words `once --blocks DIR --network NET`, in this order; None exactly for other words.
 pub fn once_of(words: &[String]) -> Option<OnceWords<'_>>
     ensures found { IfSome result (λ once. IsOnceOf (texts words.now) once.blocks.now once.network) }
-    ensures none { IfNone result ((folder : List ℕ) (network : shape.Network) → IsOnceOf (texts words.now) folder network → ⊥) }
+    ensures none { IfNone result (IsNoCommand (texts words.now)) }
 {
     let [once, blocks, folder, network, name] = words else {
         return None;
@@ -110,7 +110,7 @@ pub fn once_of(words: &[String]) -> Option<OnceWords<'_>>
 /// The magic of the network that the words of `once` name; None exactly for other words.
 pub fn magic_of(words: &[String]) -> Option<[u8; 4]>
     ensures found { IfSome result (λ magic. IsOnce (texts words.now) magic) }
-    ensures none { IfNone result ((magic : List ℕ) → IsOnce (texts words.now) magic → ⊥) }
+    ensures none { IfNone result (IsNoCommand (texts words.now)) }
 {
     match once_of(words) {
         Some(once) => Some(once.network.magic()),

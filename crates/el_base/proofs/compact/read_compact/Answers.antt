@@ -1,7 +1,7 @@
 use Rattle.std.proofs.Common.{Ok, Err, length, ◌≡◌, ◌≤◌, sym, ◌∙◌, refl}
 use Rattle.el_base.specs.Left.{AreBytes}
 use Rattle.el_base.specs.CompactReading.{number_at, width_of}
-use Rattle.el_base.proofs.CompactLemmas.{again, stops, refuses_short, refuses_long, wide_enough, passed}
+use Rattle.el_base.proofs.CompactLemmas.{again, first_fault, refuses_short, refuses_long, wide_enough, passed}
 use Rattle.el_base.proofs.compact.read_compact.Goals as goal
 
 pub pass-requires : goal.pass-requires
@@ -44,7 +44,7 @@ pub returns-in-Err-clause-fault : goal.returns-in-Err-clause-fault
 returns-in-Err-clause-fault c =
     let e : number_at c.args.c.now.place c.args.c.now.rest ≡ Err c.in-Err.fault = cc in
     let fits : AreBytes c.args.c.now.rest = rw c.rest-bytes.ensures at c.number_of.ensures.are_bytes in
-    stops c.args.c.now.place c.args.c.now.rest c.in-Err.fault fits e
+    first_fault c.args.c.now.place c.args.c.now.rest c.in-Err.fault fits e
 
 pub returns-in-Err-clause-only : goal.returns-in-Err-clause-only
 returns-in-Err-clause-only c = λ bytes rest n s is.

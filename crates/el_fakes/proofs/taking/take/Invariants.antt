@@ -1,9 +1,10 @@
-use Rattle.std.proofs.Common.{ℕ, List, drop}
-use Rattle.el_fakes.specs.declared.taking.Taken.{Taken}
-use Rattle.el_fakes.specs.Taking.{TakesFirst}
+use Rattle.std.proofs.Common.{◌≡◌}
+use Rattle.el_fakes.specs.Coming.{hand_first}
+use Rattle.el_fakes.specs.within.Peers.{closed_in}
+use Rattle.el_fakes.specs.within.Taking.{steps_from}
 use Rattle.el_fakes.proofs.taking.take.Given as goal
 
--- what is taken from here on is what is taken from the spot on
+-- what comes next from the spot on is what comes next from here on
 abbrev pub invariant-loop-place : goal.invariant-loop-place
-invariant-loop-place l = (taken : Taken) (buf : List ℕ) → TakesFirst (drop l.place l.coming) (record { place = l.place; given = l.given }) l.last l.closed taken buf
-    → TakesFirst (drop l.fn.spot.place l.coming) l.fn.spot l.last l.closed taken buf
+invariant-loop-place l = hand_first l.last (closed_in l.closed) (steps_from l.fn.spot l.coming)
+    ≡ hand_first l.last (closed_in l.closed) (steps_from (record { place = l.place; given = l.given }) l.coming)

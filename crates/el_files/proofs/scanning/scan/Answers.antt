@@ -1,8 +1,11 @@
-use Rattle.std.proofs.Common.{◌≡◌, ◌≤◌, arith, rules, inr, ◌∙◌, ap, ◌++◌, ℕ}
-use Rattle.el_outside.proofs.Stories.{all_grow_more}
+use Rattle.std.proofs.Common.{◌≡◌, ◌≤◌, arith, rules, inr, ◌∙◌, ap, ◌++◌, ℕ, Err}
+use Rattle.std.proofs.lemmas.Result.{err_from_is_err_and}
+use Rattle.el_outside.proofs.Calls.{has_more, reads_failed}
 use Rattle.el_model.specs.declared.node.Node.{Node}
 use Rattle.el_model.specs.Records.{records_of_files}
+use Rattle.el_outside.specs.declared.archive.TheConstants.{MOST_FILES}
 use Rattle.el_files.specs.Scanning.{IsFoundIn, IsFoundBelow}
+use Rattle.el_files.specs.declared.limits.TheConstants.{PIECE_SIZE}
 use Rattle.el_files.proofs.Appends.{only_none, only_joined, only_weaker, on_err}
 use Rattle.el_files.proofs.ManyFiles.{scanned_to_none, scanned_to_more, scanned_front, found_below}
 use Rattle.el_files.proofs.Scans.{buffer_kept}
@@ -10,49 +13,51 @@ use Rattle.el_files.proofs.scanning.scan.Goals as goal
 
 pub loop-file-init : goal.loop-file-init
 loop-file-init g c = record {
-  scanned = λ t. scanned_to_none c.args.magic _ _ c.in_ok-count.count c.args.found.now.items (c.in_ok-count.ensures.keeps t) (c.in_ok-count.ensures.highest t);
+  scanned = λ t.
+      scanned_to_none g.A.Archive.bytes g.A.Archive.file_count c.args.magic _ _ c.in_ok-count.count c.args.found.now.items (c.in_ok-count.ensures.keeps t)
+      (c.in_ok-count.ensures.number t) (λ file more. g.A.Archive.none_after _ file t more);
   nodes = only_none _ _;
-  keeps = λ t. c.in_ok-count.ensures.keeps t;
-  later = omega (arith, c.in_ok-count.ensures.cause.later);
+  reads = record { keeps = c.in_ok-count.ensures.keeps; same = c.in_ok-count.ensures.cause.uncounted };
   long = c.in_ok-buffer.ensures;
 }
 
 pub returns-in_err-scan_through-clause-front : goal.returns-in_err-scan_through-clause-front
 returns-in_err-scan_through-clause-front g c = λ t.
     let front = c.in_err-scan_through.ensures.front t in
-    on_err _ _ (inr (scanned_front c.args.magic (g.A.Archive.bytes c.args.archive.now) (g.A.Archive.bytes c.loop-file.archive) (g.A.Archive.bytes c.scan_through.new.archive)
+    on_err _ _ (inr (scanned_front g.A.Archive.bytes g.A.Archive.file_count c.args.magic _ _ _
     c.in_ok-count.count c.loop-file.file c.args.found.now.items c.loop-file.found.items c.scan_through.new.found.items front.0 (c.loop-file.invariant.scanned t)
-    c.loop-file-test.true (c.loop-file.invariant.keeps t) (c.in_err-scan_through.ensures.keeps t) front.1 front.2))
+    c.loop-file-test.true (c.in_err-scan_through.ensures.only_reads.keeps t) front.1 front.2))
 
 pub returns-in_err-scan_through-clause-nodes : goal.returns-in_err-scan_through-clause-nodes
 returns-in_err-scan_through-clause-nodes g c =
-    let few : c.in_ok-count.count ≤ 100000 = c.in_ok-count.ensures.few in
-    only_joined (IsFoundBelow 100000) c.args.found.now.items c.loop-file.found.items c.scan_through.new.found.items c.loop-file.invariant.nodes
-    (only_weaker (IsFoundIn c.loop-file.file) (IsFoundBelow 100000) c.loop-file.found.items c.scan_through.new.found.items
-    (λ (n : Node) h. found_below c.loop-file.file c.in_ok-count.count n c.loop-file-test.true few h) c.in_err-scan_through.ensures.nodes)
+    let few : c.in_ok-count.count ≤ MOST_FILES = c.in_ok-count.ensures.few in
+    only_joined (IsFoundBelow g.A.Archive.gave c.args.magic MOST_FILES) c.args.found.now.items c.loop-file.found.items c.scan_through.new.found.items c.loop-file.invariant.nodes
+    (only_weaker (IsFoundIn g.A.Archive.gave c.args.magic c.loop-file.file) (IsFoundBelow g.A.Archive.gave c.args.magic MOST_FILES) c.loop-file.found.items c.scan_through.new.found.items
+    (λ (n : Node) h. found_below g.A.Archive.gave c.args.magic c.loop-file.file c.in_ok-count.count n c.loop-file-test.true few h) c.in_err-scan_through.ensures.nodes)
 
-pub returns-in_err-scan_through-clause-keeps : goal.returns-in_err-scan_through-clause-keeps
-returns-in_err-scan_through-clause-keeps g c = λ t. all_grow_more _ _ _ (c.loop-file.invariant.keeps t) (c.in_err-scan_through.ensures.keeps t)
+pub returns-in_err-scan_through-clause-only_reads : goal.returns-in_err-scan_through-clause-only_reads
+returns-in_err-scan_through-clause-only_reads g c =
+    let p = err_from_is_err_and c.from_residual-in_err-scan_through.result c.from_residual-in_err-scan_through.ensures.1 in
+    reads_failed c.loop-file.invariant.reads c.in_err-scan_through.ensures.only_reads (p.1 ∙ ap Err p.2)
 
 pub loop-file-preserved : goal.loop-file-preserved
 loop-file-preserved g c =
-    let few : c.in_ok-count.count ≤ 100000 = c.in_ok-count.ensures.few in
+    let few : c.in_ok-count.count ≤ MOST_FILES = c.in_ok-count.ensures.few in
     record {
       scanned = λ t.
           let all = c.in_ok-scan_through.ensures.records t in
-          scanned_to_more c.args.magic (g.A.Archive.bytes c.args.archive.now) (g.A.Archive.bytes c.loop-file.archive) (g.A.Archive.bytes c.scan_through.new.archive)
+          scanned_to_more g.A.Archive.bytes g.A.Archive.file_count c.args.magic _ _ _
           c.in_ok-count.count c.loop-file.file c.args.found.now.items c.loop-file.found.items c.scan_through.new.found.items all.0 (c.loop-file.invariant.scanned t)
-          c.loop-file-test.true (c.loop-file.invariant.keeps t) (c.in_ok-scan_through.ensures.keeps t) all.1 all.2;
-      nodes = only_joined (IsFoundBelow 100000) c.args.found.now.items c.loop-file.found.items c.scan_through.new.found.items c.loop-file.invariant.nodes
-          (only_weaker (IsFoundIn c.loop-file.file) (IsFoundBelow 100000) c.loop-file.found.items c.scan_through.new.found.items
-          (λ (n : Node) h. found_below c.loop-file.file c.in_ok-count.count n c.loop-file-test.true few h) c.in_ok-scan_through.ensures.nodes);
-      keeps = λ t. all_grow_more _ _ _ (c.loop-file.invariant.keeps t) (c.in_ok-scan_through.ensures.keeps t);
-      later = omega (arith, c.in_ok-scan_through.ensures.never_falls);
-      long = buffer_kept c.loop-file.buffer.len 65536 c.scan_through.new.buffer c.loop-file.buffer.items (search rules) c.loop-file.invariant.long (search rules);
+          c.loop-file-test.true (c.in_ok-scan_through.ensures.only_reads.keeps t) all.1 all.2;
+      nodes = only_joined (IsFoundBelow g.A.Archive.gave c.args.magic MOST_FILES) c.args.found.now.items c.loop-file.found.items c.scan_through.new.found.items c.loop-file.invariant.nodes
+          (only_weaker (IsFoundIn g.A.Archive.gave c.args.magic c.loop-file.file) (IsFoundBelow g.A.Archive.gave c.args.magic MOST_FILES) c.loop-file.found.items c.scan_through.new.found.items
+          (λ (n : Node) h. found_below g.A.Archive.gave c.args.magic c.loop-file.file c.in_ok-count.count n c.loop-file-test.true few h) c.in_ok-scan_through.ensures.nodes);
+      reads = has_more c.loop-file.invariant.reads c.in_ok-scan_through.ensures.only_reads;
+      long = buffer_kept c.loop-file.buffer.len PIECE_SIZE c.scan_through.new.buffer c.loop-file.buffer.items (search rules) c.loop-file.invariant.long (search rules);
     }
 
 pub returns-clause-records : goal.returns-clause-records
 returns-clause-records g c = λ t.
     let s = c.loop-file.invariant.scanned t in
-    let last : c.loop-file.file ≡ s.all.count = let k = s.counted in omega arith in
+    let last : c.loop-file.file ≡ g.A.Archive.file_count s.all.told = let k = s.counted in omega (arith, k) in
     (s.all, s.appended ∙ ap (λ (n : ℕ). c.args.found.now.items ++ records_of_files c.args.magic n s.all.files) last)

@@ -1,5 +1,7 @@
-use Rattle.std.proofs.Common.{ℕ, List, ◌+◌, arith, refl, sym}
-use Rattle.el_outside.proofs.Stories.{grows_none, grows_more, all_grow_more}
+use Rattle.std.proofs.Common.{ℕ, List, ◌+◌, arith, refl, sym, ap, ◌∙◌, Err}
+use Rattle.std.proofs.lemmas.Result.{err_from_is_err_and}
+use Rattle.el_outside.proofs.Stories.{grows_none, grows_more}
+use Rattle.el_outside.proofs.Calls.{has_more, has_then, reads_failed, reads_ok}
 use Rattle.el_files.specs.Scanning.{IsFoundIn}
 use Rattle.el_files.proofs.Appends.{only_joined, on_err}
 use Rattle.el_files.proofs.Scans.{front_of_file, no_front, walked_to_more, walked_all, walked_front}
@@ -13,27 +15,22 @@ returns-in_err-size-clause-front g c = λ t.
 pub returns-in_err-at-clause-front : goal.returns-in_err-at-clause-front
 returns-in_err-at-clause-front g c = λ t.
     let bytes : List ℕ = g.A.Archive.bytes c.size.new.self c.args.file in
-    let w = c.in_err-at.ensures.walked t bytes (sym (c.in_ok-size.ensures.size t)) (c.loop-at.invariant.keeps t c.args.file) in
+    let w = c.in_err-at.ensures.walked t bytes (sym (c.in_ok-size.ensures.size t)) (c.loop-at.invariant.reads.keeps t c.args.file) in
     let more = walked_to_more c.args.magic c.args.file c.loop-at.at w.0 (c.loop-at.at + w.0) bytes c.args.found.now.items c.loop-at.found.items c.scan_piece.new.found.items
     (c.loop-at.invariant.walked t) w.1 refl in
     on_err _ _ (front_of_file c.args.magic c.args.file _ bytes _ c.args.found.now.items c.scan_piece.new.found.items (c.in_ok-size.ensures.keeps t c.args.file)
-    (grows_more bytes _ _ (c.loop-at.invariant.keeps t c.args.file) (c.in_err-at.ensures.keeps t c.args.file))
+    (grows_more bytes _ _ (c.loop-at.invariant.reads.keeps t c.args.file) (c.in_err-at.ensures.only_reads.keeps t c.args.file))
     (walked_front c.args.magic c.args.file (c.loop-at.at + w.0) bytes c.args.found.now.items c.scan_piece.new.found.items more))
-
-pub returns-in_err-at-clause-keeps : goal.returns-in_err-at-clause-keeps
-returns-in_err-at-clause-keeps g c = λ t.
-    all_grow_more _ _ _ (all_grow_more _ _ _ (c.in_ok-size.ensures.keeps t) (c.loop-at.invariant.keeps t)) (c.in_err-at.ensures.keeps t)
 
 pub loop-at-preserved : goal.loop-at-preserved
 loop-at-preserved g c = record {
   walked = λ t.
       let bytes : List ℕ = g.A.Archive.bytes c.size.new.self c.args.file in
-      let w = c.in_ok-at.ensures.walked t bytes (sym (c.in_ok-size.ensures.size t)) (c.loop-at.invariant.keeps t c.args.file) in
+      let w = c.in_ok-at.ensures.walked t bytes (sym (c.in_ok-size.ensures.size t)) (c.loop-at.invariant.reads.keeps t c.args.file) in
       walked_to_more c.args.magic c.args.file c.loop-at.at w.0 c.in_ok-at.at bytes c.args.found.now.items c.loop-at.found.items c.scan_piece.new.found.items
       (c.loop-at.invariant.walked t) w.1 w.2;
-  nodes = only_joined (IsFoundIn c.args.file) c.args.found.now.items c.loop-at.found.items c.scan_piece.new.found.items c.loop-at.invariant.nodes c.in_ok-at.ensures.nodes;
-  keeps = λ t. all_grow_more _ _ _ (c.loop-at.invariant.keeps t) (c.in_ok-at.ensures.keeps t);
-  later = omega (arith, c.in_ok-at.ensures.never_falls);
+  nodes = only_joined (IsFoundIn g.A.Archive.gave c.args.magic c.args.file) c.args.found.now.items c.loop-at.found.items c.scan_piece.new.found.items c.loop-at.invariant.nodes c.in_ok-at.ensures.nodes;
+  reads = has_more c.loop-at.invariant.reads c.in_ok-at.ensures.only_reads;
   within = omega (arith, c.in_ok-at.ensures.goes);
 }
 
@@ -41,10 +38,17 @@ pub returns-clause-records : goal.returns-clause-records
 returns-clause-records g c = λ t.
     let bytes : List ℕ = g.A.Archive.bytes c.size.new.self c.args.file in (
       bytes,
-      record { grew = c.in_ok-size.ensures.keeps t c.args.file; grows = c.loop-at.invariant.keeps t c.args.file },
+      record { grew = c.in_ok-size.ensures.keeps t c.args.file; grows = c.loop-at.invariant.reads.keeps t c.args.file },
       walked_all c.args.magic c.args.file c.loop-at.at c.in_ok-size.size bytes c.args.found.now.items c.loop-at.found.items (c.loop-at.invariant.walked t)
           (sym (c.in_ok-size.ensures.size t)) (omega arith),
     )
 
-pub returns-clause-keeps : goal.returns-clause-keeps
-returns-clause-keeps g c = λ t. all_grow_more _ _ _ (c.in_ok-size.ensures.keeps t) (c.loop-at.invariant.keeps t)
+pub returns-in_err-at-clause-only_reads : goal.returns-in_err-at-clause-only_reads
+returns-in_err-at-clause-only_reads g c =
+    let p = err_from_is_err_and c.from_residual-in_err-at.result c.from_residual-in_err-at.ensures.1 in
+    reads_failed (has_then (record { keeps = c.in_ok-size.ensures.keeps; same = c.in_ok-size.ensures.cause.uncounted }) c.loop-at.invariant.reads)
+    c.in_err-at.ensures.only_reads (p.1 ∙ ap Err p.2)
+
+pub returns-clause-only_reads : goal.returns-clause-only_reads
+returns-clause-only_reads g c =
+    reads_ok (has_then (record { keeps = c.in_ok-size.ensures.keeps; same = c.in_ok-size.ensures.cause.uncounted }) c.loop-at.invariant.reads)

@@ -1,13 +1,13 @@
-use Rattle.std.proofs.Common.{refl}
-use Rattle.el_model.proofs.BlockRules.{not_first, later_too, behind_first}
+use Rattle.std.proofs.Common.{sym}
+use Rattle.el_model.proofs.BlockRules.{not_first, later_too, after_first}
 use Rattle.el_model.proofs.block_rules.coinbase_rule.Goals as goal
 
 pub returns-then-not-is_coinbase-clause-broken : goal.returns-then-not-is_coinbase-clause-broken
 returns-then-not-is_coinbase-clause-broken c =
     not_first c.args.block.now c.as_slice.result.now c.first-item.result c.as_slice.ensures c.in-len1-up.len_at_least c.first-item.is
-    (λ is. (let f = c.if-not-is_coinbase.ensures.1 is in cc))
+    (sym c.if-not-is_coinbase.ensures.is)
 
 pub returns-in-Some-clause-broken : goal.returns-in-Some-clause-broken
 returns-in-Some-clause-broken c =
     later_too c.args.block.now c.as_slice.result.now _ c.first-item.result c.in-Some.later c.as_slice.ensures c.in-len1-up.len_at_least c.first-item.is
-    (c.if-not-is_coinbase.ensures.0 refl) (behind_first c.as_slice.result.now) c.in-Some.ensures.some
+    (sym c.if-not-is_coinbase.ensures.is) (after_first c.as_slice.result.now) c.in-Some.ensures.some

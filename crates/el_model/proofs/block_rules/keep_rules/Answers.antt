@@ -1,6 +1,6 @@
 use Rattle.std.proofs.lemmas.Result.{err_from_is_err_and}
 use Rattle.std.proofs.Common.{inr}
-use Rattle.el_model.specs.BlockStops.{Breaks}
+use Rattle.el_model.specs.BlockFaults.{Breaks}
 use Rattle.el_model.proofs.BlockRules.{or_memory}
 use Rattle.el_model.proofs.block_rules.keep_rules.Goals as goal
 

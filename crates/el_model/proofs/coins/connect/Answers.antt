@@ -1,7 +1,7 @@
 use Rattle.std.proofs.Common.{◌∙◌}
 use Rattle.std.proofs.lemmas.Result.{err_from_is_err_and}
-use Rattle.el_model.specs.Coins.{coins_behind}
-use Rattle.el_model.proofs.CoinSteps.{fits_behind, txs_step, txs_stop, err_passed}
+use Rattle.el_model.specs.Coins.{coins_after}
+use Rattle.el_model.proofs.CoinSteps.{fits_after, txs_step, txs_stop, err_passed}
 use Rattle.el_model.proofs.coins.connect.Goals as goal
 
 pub returns-in_err-connect_tx-clause-fault : goal.returns-in_err-connect_tx-clause-fault
@@ -13,9 +13,9 @@ returns-in_err-connect_tx-clause-fault c = λ coins h.
 pub loop-index-preserved : goal.loop-index-preserved
 loop-index-preserved c = record {
   bound = c.in_ok-connect_tx.ensures.bound;
-  fit = fits_behind c.args.txs.now c.loop-index.index c.index-txs-index.result c.loop-index-test.true c.index-txs-index.is c.loop-index.invariant.fit;
+  fit = fits_after c.args.txs.now c.loop-index.index c.index-txs-index.result c.loop-index-test.true c.index-txs-index.is c.loop-index.invariant.fit;
   stands = λ coins h.
       let m = c.loop-index.invariant.stands coins h in
       let step = txs_step c.args.height c.loop-index.index c.args.txs.now c.index-txs-index.result m.0 c.loop-index-test.true c.index-txs-index.is (c.in_ok-connect_tx.ensures.none m.0 m.1) in
-      (coins_behind c.args.height c.index-txs-index.result m.0, c.in_ok-connect_tx.ensures.behind m.0 m.1, m.2 ∙ step.0, m.3 ∙ step.1);
+      (coins_after c.args.height c.index-txs-index.result m.0, c.in_ok-connect_tx.ensures.after m.0 m.1, m.2 ∙ step.0, m.3 ∙ step.1);
 }

@@ -1,21 +1,21 @@
 use Rattle.std.proofs.Common.{◌∙◌, sym, arith, append-nil}
 use Rattle.std.proofs.lemmas.List.{drop_all}
-use Rattle.el_model.specs.Coins.{coins_behind}
-use Rattle.el_model.proofs.CoinSteps.{fits_behind}
-use Rattle.el_model.proofs.Histories.{block_step, behind_step}
+use Rattle.el_model.specs.Coins.{coins_after}
+use Rattle.el_model.proofs.CoinSteps.{fits_after}
+use Rattle.el_model.proofs.Histories.{block_step, after_step}
 use Rattle.el_model.proofs.history.add_block.Goals as goal
 
 pub loop-tx-preserved : goal.loop-tx-preserved
 loop-tx-preserved c = record {
-  fit = fits_behind c.args.txs.now c.loop-tx.tx-index c.tx-item.result c.loop-tx-test.true c.tx-item.is c.loop-tx.invariant.fit;
+  fit = fits_after c.args.txs.now c.loop-tx.tx-index c.tx-item.result c.loop-tx-test.true c.tx-item.is c.loop-tx.invariant.fit;
   stands = λ coins h.
       let m = c.loop-tx.invariant.stands coins h in
       let t = c.tx-item.result in
       let lt = c.loop-tx-test.true in (
-        coins_behind c.args.height t m.0,
+        coins_after c.args.height t m.0,
         c.in_ok-add_tx.ensures.own m.0 m.1,
-        block_step c.args.script.now.0 c.args.height c.loop-tx.tx-index c.args.txs.now t m.0 c.loop-tx.found.items c.add_tx.new.found.items _ lt c.tx-item.is m.2 (c.in_ok-add_tx.ensures.found m.0 m.1),
-        m.3 ∙ behind_step c.args.height c.loop-tx.tx-index c.args.txs.now t m.0 lt c.tx-item.is,
+        block_step c.args.script_hash.now.0 c.args.height c.loop-tx.tx-index c.args.txs.now t m.0 c.loop-tx.found.items c.add_tx.new.found.items _ lt c.tx-item.is m.2 (c.in_ok-add_tx.ensures.found m.0 m.1),
+        m.3 ∙ after_step c.args.height c.loop-tx.tx-index c.args.txs.now t m.0 lt c.tx-item.is,
       );
 }
 

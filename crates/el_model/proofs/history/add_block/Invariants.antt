@@ -1,16 +1,16 @@
 use Rattle.std.proofs.Common.{◌≡◌, ◌++◌, List, drop}
 use Rattle.std.specs.List.{AllByRecursion}
 use Rattle.el_model.specs.declared.coin.Coin.{Coin}
-use Rattle.el_model.specs.CoinTables.{AreOwn, FitsBlock}
-use Rattle.el_model.specs.Coins.{coins_behind_all}
-use Rattle.el_model.specs.Listings.{listed_in}
+use Rattle.el_model.specs.within.CoinTables.{AreOwn, FitsBlock}
+use Rattle.el_model.specs.Coins.{coins_after_all}
+use Rattle.el_model.specs.within.Listings.{listed_in}
 use Rattle.el_model.proofs.history.add_block.Given as goal
 
 -- what was found, and what the transactions that are left add
 abbrev pub invariant-loop-tx : goal.invariant-loop-tx
 invariant-loop-tx l = record {
   fit : AllByRecursion FitsBlock (drop l.tx-index l.txs);
-  stands : (coins : List Coin) → AreOwn l.initial.own l.script.0 coins → (mid : List Coin) × AreOwn l.own l.script.0 mid
-      × (l.found.items ++ listed_in l.script.0 l.height (drop l.tx-index l.txs) mid ≡ l.initial.found.items ++ listed_in l.script.0 l.height l.txs coins)
-      × (coins_behind_all l.height l.txs coins ≡ coins_behind_all l.height (drop l.tx-index l.txs) mid);
+  stands : (coins : List Coin) → AreOwn l.initial.own l.script_hash.0 coins → (mid : List Coin) × AreOwn l.own l.script_hash.0 mid
+      × (l.found.items ++ listed_in l.script_hash.0 l.height (drop l.tx-index l.txs) mid ≡ l.initial.found.items ++ listed_in l.script_hash.0 l.height l.txs coins)
+      × (coins_after_all l.height l.txs coins ≡ coins_after_all l.height (drop l.tx-index l.txs) mid);
 }

@@ -1,6 +1,6 @@
 use Rattle.std.proofs.Common.{◌∙◌, arith}
 use Rattle.std.proofs.lemmas.List.{drop_all}
-use Rattle.el_model.specs.Coins.{put, coin_made}
+use Rattle.el_model.specs.Coins.{add_coin, coin_made}
 use Rattle.el_model.proofs.CoinSteps.{output_step}
 use Rattle.el_model.proofs.Histories.{own_made}
 use Rattle.el_model.proofs.history.note_outputs.Goals as goal
@@ -10,8 +10,8 @@ loop-index-preserved c = λ height coins h.
     let m = c.loop-index.invariant height coins h in
     let o = c.index-outputs-index.result in
     let coin = coin_made c.args.txid height c.loop-index.index o in (
-      put coin m.0,
-      own_made c.loop-index.own c.note.new.own c.args.script.now.0 m.0 coin c.pays.result m.1 c.in_ok-note.ensures c.pays.ensures,
+      add_coin coin m.0,
+      own_made c.loop-index.own c.note.new.own c.args.script_hash.now.0 m.0 coin c.pays.result m.1 c.in_ok-note.ensures c.pays.ensures,
       m.2 ∙ output_step c.args.txid height c.loop-index.index c.args.outputs.now o m.0 c.loop-index-test.true c.index-outputs-index.is,
     )
 

@@ -14,4 +14,4 @@ pub returns-clause-read : goal.returns-clause-read
 returns-clause-read c =
     let taken = c.in-Ok.ensures.taken in
     header_in_front c.args.c.now.rest c.in-Ok.front.now c.take.new.self.rest _ taken.1 (ap (λ left. left.rest) taken.2)
-    (c.decode_header.ensures.spelled ∙ c.copy_from_slice.ensures.after)
+    (c.decode_header.ensures.encoded ∙ c.copy_from_slice.ensures.after)

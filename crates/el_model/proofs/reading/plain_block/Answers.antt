@@ -1,5 +1,5 @@
 use Rattle.std.proofs.lemmas.Result.{err_from_is_err_and}
-use Rattle.el_model.proofs.BlockRules.{refused_only, refused_stops, in_bytes, read_only}
+use Rattle.el_model.proofs.BlockRules.{refused_only, refused_faults, in_bytes, read_only}
 use Rattle.el_model.proofs.BlockLemmas.{never_both_block}
 use Rattle.el_model.proofs.reading.plain_block.Goals as goal
 
@@ -8,10 +8,10 @@ returns-in_err-block-clause-only c =
     let p = err_from_is_err_and c.from_residual.result c.from_residual.ensures.1 in
     refused_only c.args.bytes.now c.from_residual.result p.0 p.1 (rw p.2 c.in_err-block.ensures.fault)
 
-pub returns-in_err-block-clause-stops : goal.returns-in_err-block-clause-stops
-returns-in_err-block-clause-stops c =
+pub returns-in_err-block-clause-first_fault : goal.returns-in_err-block-clause-first_fault
+returns-in_err-block-clause-first_fault c =
     let p = err_from_is_err_and c.from_residual.result c.from_residual.ensures.1 in
-    refused_stops c.args.bytes.now c.from_residual.result p.0 p.1 (rw p.2 c.in_err-block.ensures.fault)
+    refused_faults c.args.bytes.now c.from_residual.result p.0 p.1 (rw p.2 c.in_err-block.ensures.fault)
 
 pub returns-in_err-keep_rules-clause-only : goal.returns-in_err-keep_rules-clause-only
 returns-in_err-keep_rules-clause-only c =
@@ -24,10 +24,10 @@ returns-in_err-keep_rules-clause-fault c =
     let p = err_from_is_err_and c.from_residual-in_err-keep_rules.result c.from_residual-in_err-keep_rules.ensures.1 in
     rw p.1 (in_bytes c.args.bytes.now c.in_ok-block.block p.0 c.in_ok-block.ensures.read (rw p.2 c.in_err-keep_rules.ensures.broken))
 
-pub returns-in_err-keep_rules-clause-stops : goal.returns-in_err-keep_rules-clause-stops
-returns-in_err-keep_rules-clause-stops c =
+pub returns-in_err-keep_rules-clause-first_fault : goal.returns-in_err-keep_rules-clause-first_fault
+returns-in_err-keep_rules-clause-first_fault c =
     let p = err_from_is_err_and c.from_residual-in_err-keep_rules.result c.from_residual-in_err-keep_rules.ensures.1 in
-    refused_stops c.args.bytes.now c.from_residual-in_err-keep_rules.result p.0 p.1
+    refused_faults c.args.bytes.now c.from_residual-in_err-keep_rules.result p.0 p.1
     (in_bytes c.args.bytes.now c.in_ok-block.block p.0 c.in_ok-block.ensures.read (rw p.2 c.in_err-keep_rules.ensures.broken))
 
 pub returns-clause-read : goal.returns-clause-read
@@ -42,5 +42,5 @@ returns-clause-read c = record {
 pub returns-clause-only : goal.returns-clause-only
 returns-clause-only c = λ not_memory block s. read_only c.args.bytes.now c.in_ok-block.block block (returns-clause-read c) s
 
-pub returns-clause-stops : goal.returns-clause-stops
-returns-clause-stops c = λ not_memory e s. absurd (never_both_block c.args.bytes.now c.in_ok-block.block e (returns-clause-read c) s)
+pub returns-clause-first_fault : goal.returns-clause-first_fault
+returns-clause-first_fault c = λ not_memory e s. absurd (never_both_block c.args.bytes.now c.in_ok-block.block e (returns-clause-read c) s)

@@ -1,4 +1,4 @@
-use Rattle.el_model.specs.BlockParts.{AreTxs}
+use Rattle.el_model.specs.within.BlockParts.{AreTxs}
 use Rattle.el_model.proofs.reading.read_txs.Given as goal
 
 abbrev pub invariant-loop : goal.invariant-loop

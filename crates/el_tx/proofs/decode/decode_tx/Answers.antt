@@ -11,5 +11,5 @@ returns-clause-only c = only c.args.bytes.now c.read_tx.result c.read_tx.ensures
 pub returns-clause-fault : goal.returns-clause-fault
 returns-clause-fault c = faults c.args.bytes.now c.read_tx.result (λ i. omega (arith, c.type_inv.bytes i)) c.read_tx.ensures
 
-pub returns-clause-stops : goal.returns-clause-stops
-returns-clause-stops c = refuses c.args.bytes.now c.read_tx.result c.read_tx.ensures
+pub returns-clause-first_fault : goal.returns-clause-first_fault
+returns-clause-first_fault c = refuses c.args.bytes.now c.read_tx.result c.read_tx.ensures

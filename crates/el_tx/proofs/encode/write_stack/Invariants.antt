@@ -1,6 +1,6 @@
 use Rattle.std.proofs.Common.{◌≡◌, ◌++◌, length, take, flat_map}
 use Rattle.el_base.specs.Compact.{compact}
-use Rattle.el_tx.specs.Spelling.{sized}
+use Rattle.el_tx.specs.Encoding.{sized}
 use Rattle.el_tx.proofs.encode.write_stack.Given as goal
 
 abbrev pub invariant-loop-item : goal.invariant-loop-item

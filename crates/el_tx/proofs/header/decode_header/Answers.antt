@@ -7,8 +7,8 @@ use Rattle.el_tx.specs.declared.types.Header.{Header}
 use Rattle.el_tx.proofs.HeaderLemmas.{one_header, six_fields, header_again}
 use Rattle.el_tx.proofs.header.decode_header.Goals as goal
 
-pub returns-clause-spelled : goal.returns-clause-spelled
-returns-clause-spelled c =
+pub returns-clause-encoded : goal.returns-clause-encoded
+returns-clause-encoded c =
     let previous : length c.hash.result.0.0 ≡ 32 = search rules in
     let root : length c.hash-2.result.0.0 ≡ 32 = search rules in
     let version : FitsSigned w32 c.signed_number-version.result.0 = search rules in
@@ -33,7 +33,7 @@ returns-clause-only c = λ h fits is.
       nonce = c.number-nonce.result.0;
     } in
     let whole : IsHeader read = search rules in
-    one_header read h whole fits (returns-clause-spelled c ∙ is)
+    one_header read h whole fits (returns-clause-encoded c ∙ is)
 
 pub returns-clause-reads : goal.returns-clause-reads
 returns-clause-reads c =
@@ -46,4 +46,4 @@ returns-clause-reads c =
       nonce = c.number-nonce.result.0;
     } in
     let whole : IsHeader read = search rules in
-    header_again read c.args.bytes.now whole (returns-clause-spelled c)
+    header_again read c.args.bytes.now whole (returns-clause-encoded c)

@@ -1,5 +1,5 @@
 use Rattle.std.proofs.Common.{◌≡◌, ◌-◌}
-use Rattle.el_tx.specs.Reading.{many_at, input_at, inputs_at}
+use Rattle.el_tx.specs.within.Reading.{many_at, input_at, inputs_at}
 use Rattle.el_tx.proofs.reading_parts.inputs_of.Given as goal
 
 abbrev pub invariant-loop : goal.invariant-loop

@@ -1,5 +1,5 @@
 use Rattle.std.proofs.lemmas.Result.{err_from_is_err_and}
-use Rattle.el_tx.specs.Reading.{sized_at, items_at}
+use Rattle.el_tx.specs.within.Reading.{sized_at, items_at}
 use Rattle.el_tx.proofs.Loop.{goes_on, ends, is_done}
 use Rattle.el_tx.proofs.reading_parts.items_of.Goals as goal
 

@@ -2,7 +2,7 @@ use Rattle.std.proofs.Common.{◌≡◌, ◌∙◌, sym, ap, subst, ◌+◌, Ok}
 use Rattle.std.proofs.lemmas.Result.{err_from_is_err_and}
 use Rattle.std.proofs.lemmas.List.Sums.{sum_by_push}
 use Rattle.el_tx.specs.declared.types.TxOut.{TxOut}
-use Rattle.el_tx.specs.Reading.{Fails, next_output_at, outputs_at}
+use Rattle.el_tx.specs.within.Reading.{Fails, next_output_at, outputs_at}
 use Rattle.el_tx.proofs.Loop.{goes_on, ends, is_done, next_output}
 use Rattle.el_tx.proofs.reading_parts.outputs_of.Goals as goal
 

@@ -1,7 +1,7 @@
 use Rattle.std.proofs.Common.{[], sym, ◌∙◌}
 use Rattle.std.proofs.lemmas.Result.{err_from_is_err_and}
 use Rattle.std.proofs.lemmas.List.{nil_from_length}
-use Rattle.el_tx.specs.Reading.{stacks_at}
+use Rattle.el_tx.specs.within.Reading.{stacks_at}
 use Rattle.el_tx.proofs.Loop.{stack_goes_on, stack_ends, stacks_done}
 use Rattle.el_tx.proofs.reading_parts.stacks_of.Goals as goal
 

@@ -1,5 +1,5 @@
 use Rattle.std.proofs.Common.{◌≡◌, []}
-use Rattle.el_tx.specs.Reading.{stacks_at}
+use Rattle.el_tx.specs.within.Reading.{stacks_at}
 use Rattle.el_tx.proofs.reading_parts.stacks_of.Given as goal
 
 abbrev pub invariant-loop-input : goal.invariant-loop-input

@@ -1,19 +1,18 @@
-use Rattle.std.proofs.Common.{List, ◌≡◌, ◌≤◌}
+use Rattle.std.proofs.Common.{List, ◌≡◌}
 use Rattle.el_model.specs.World.{World, Event}
-use Rattle.electrum_serve.specs.State.{Stands, work}
-use Rattle.electrum_serve.specs.Progress.{AreOpen, Progress}
+use Rattle.el_core.specs.State.{Stands, work}
+use Rattle.electrum_serve.specs.within.Progress.{ClientsAreOpen, Progress}
 use Rattle.electrum_serve.proofs.running.work_off.Given as goal
 
 abbrev pub invariant-loop-out : goal.invariant-loop-out
 invariant-loop-out g l =
     let story = g.K.Link.story in
     let faults = g.K.Link.faults in
-    let last = g.K.Link.last in
+    let calls = g.K.Link.calls in
     record {
-      progress : (world : World) (all : List Event) → Stands l.initial.server world all → (g.K.Link.tells → AreOpen l.initial.server world (story l.initial.link))
+      progress : (world : World) (all : List Event) → Stands l.initial.server world all → (g.K.Link.tells → ClientsAreOpen l.initial.server world (story l.initial.link))
           → Progress world all g.K.Link.tells (story l.initial.link) (story l.link) (faults l.initial.link) (faults l.link) l.server;
-      same_last : last l.link ≡ last l.initial.link;
-      never_falls : faults l.initial.link ≤ faults l.link;
+      same_calls : calls l.link ≡ calls l.initial.link;
     }
 
 abbrev pub decreases-loop-out : goal.decreases-loop-out

@@ -1,9 +1,12 @@
-use Rattle.std.proofs.Common.{◌≡◌, ◌<◌, ◌==◌, ◌++◌, ◌∷◌, [], length, map, true, sym, ◌∙◌, ap, arith}
+use Rattle.std.proofs.Common.{◌≡◌, ◌<◌, ◌==◌, ◌++◌, ◌∷◌, [], length, map, true, sym, ◌∙◌, ap, arith, append-nil}
 use Rattle.std.specs.List.{list_any}
-use Rattle.std.proofs.lemmas.List.{map-append}
+use Rattle.el_outside.specs.Story.{is_open}
+use Rattle.el_fakes.specs.Coming.{SteadyState}
 use Rattle.el_fakes.specs.Greatest.{greatest}
 use Rattle.el_fakes.specs.Kept.{message_of, closing_of}
-use Rattle.el_fakes.specs.Links.{story_of}
+use Rattle.el_fakes.specs.within.Heard.{arrivals_of}
+use Rattle.el_fakes.specs.within.Links.{story_of}
+use Rattle.std.proofs.lemmas.List.{map-append}
 use Rattle.el_fakes.proofs.PeerLemmas.{closes, last-closes, shorter-but}
 use Rattle.el_fakes.proofs.steady_link.SteadyLinkLink.close.Goals as goal
 
@@ -17,20 +20,23 @@ closings_now c = rw c.put_closed.ensures.items (map-append closing_of c.self.ins
 
 -- the greatest number stays
 same_greatest : (c : goal.After-put_closed) → greatest (record {
-  arrivals = c.self.inside.heard.arrivals;
+  arrivals = arrivals_of c.self.inside.heard;
   messages = map message_of c.self.inside.sent.items;
   closings = map closing_of c.put_closed.new.closed.items;
 }) ≡ greatest (story_of c.self.inside)
 same_greatest c =
     rw (closings_now c) (
-    last-closes c.self.inside.heard.arrivals (map message_of c.self.inside.sent.items) (map closing_of c.self.inside.closed.items) c.args.p c.args.why
+    last-closes (arrivals_of c.self.inside.heard) (map message_of c.self.inside.sent.items) (map closing_of c.self.inside.closed.items) c.args.p c.args.why
     (sym (c.self.invariant.peers c.args.p) ∙ among c))
+
+same_story : (c : goal.After-put_closed) → story_of c.self.inside ≡ c.args.self.now.story
+same_story c = ap (λ (s : SteadyState). s.story) c.self.view_is
 
 pub invariant_of-self : goal.invariant_of-self
 invariant_of-self c = record {
   peers =
       rw (c.remove.ensures.without, closings_now c) (
-      closes c.self.inside.heard.arrivals (map message_of c.self.inside.sent.items) (map closing_of c.self.inside.closed.items)
+      closes (arrivals_of c.self.inside.heard) (map message_of c.self.inside.sent.items) (map closing_of c.self.inside.closed.items)
       c.self.inside.peers.items c.args.p c.args.why c.self.invariant.peers);
   last = c.self.invariant.last ∙ sym (same_greatest c);
   count =
@@ -42,5 +48,10 @@ invariant_of-self c = record {
   closed_room = omega arith;
 }
 
+pub returns-then-is_among-clause-closed : goal.returns-then-is_among-clause-closed
+returns-then-is_among-clause-closed c =
+    let open_is : is_open (story_of c.self.inside) c.args.p ≡ true = sym (c.self.invariant.peers c.args.p) ∙ among c in
+    rw (← same_story c, open_is, closings_now c) (simp append-nil)
+
 pub returns-then-is_among-clause-same_last : goal.returns-then-is_among-clause-same_last
-returns-then-is_among-clause-same_last c = same_greatest c ∙ ap greatest c.self.view_is
+returns-then-is_among-clause-same_last c = same_greatest c ∙ ap greatest (same_story c)

@@ -1,28 +1,32 @@
 use Rattle.std.proofs.Common.{◌≡◌, ℕ, ◌+◌, ◌≤◌, length, map, true, sym, ◌∙◌, subst, arith, rules}
-use Rattle.el_outside.specs.Story.{Story, IsNext, was_closed}
+use Rattle.el_outside.specs.Story.{IsNextArrival, was_closed, with_bytes}
+use Rattle.el_fakes.specs.Coming.{SteadyState, next_after}
 use Rattle.el_fakes.specs.Greatest.{greatest}
 use Rattle.el_fakes.specs.Kept.{message_of, closing_of}
-use Rattle.el_fakes.specs.Links.{story_of}
-use Rattle.el_fakes.specs.Peers.{adds, last_after}
-use Rattle.el_fakes.proofs.PeerLemmas.{arrives, last-arrives, length-peers_after, any-closing_of}
+use Rattle.el_fakes.specs.within.Heard.{arrivals_of}
+use Rattle.el_fakes.specs.within.Links.{story_of}
+use Rattle.el_fakes.specs.within.Peers.{adds, last_after, closed_in}
+use Rattle.el_fakes.specs.within.Taking.{steps_from}
+use Rattle.el_fakes.proofs.Arriving.{same_next}
+use Rattle.el_fakes.proofs.PeerLemmas.{arrives, last-arrives, length-peers_after, closed_of}
 use Rattle.el_fakes.proofs.steady_link.SteadyLinkLink.next.Goals as goal
 
-lawful : (c : goal.After-self-4-1) → IsNext (greatest (story_of c.self.inside)) c.take-taken.result.arrival (last_after c.self.inside.last c.take-taken.result.arrival)
+lawful : (c : goal.Joined-self-then) → IsNextArrival (greatest (story_of c.self.inside)) c.take-taken.result.arrival (last_after c.self.inside.last c.take-taken.result.arrival)
 lawful c =
-    subst (λ (n : ℕ). IsNext n c.take-taken.result.arrival (last_after c.self.inside.last c.take-taken.result.arrival)) c.self.invariant.last c.take-taken.ensures.taken.lawful
+    subst (λ (n : ℕ). IsNextArrival n c.take-taken.result.arrival (last_after c.self.inside.last c.take-taken.result.arrival)) c.self.invariant.last c.take-taken.ensures.taken.lawful
 
-greatest_now : (c : goal.After-self-4-1) → c.welcome-self-inside.result
-    ≡ greatest (record { arrivals = c.then-self-inside.result.arrivals; messages = map message_of c.self.inside.sent.items; closings = map closing_of c.self.inside.closed.items })
+greatest_now : (c : goal.Joined-self-then) → c.welcome-self-inside.result
+    ≡ greatest (record { arrivals = arrivals_of c.then.result; messages = map message_of c.self.inside.sent.items; closings = map closing_of c.self.inside.closed.items })
 greatest_now c =
-    rw (c.then-self-inside.ensures, c.welcome-self-inside.ensures.last) (
-    last-arrives c.self.inside.heard.arrivals (map message_of c.self.inside.sent.items) (map closing_of c.self.inside.closed.items)
+    rw (c.then.ensures, c.welcome-self-inside.ensures.last) (
+    last-arrives (arrivals_of c.self.inside.heard) (map message_of c.self.inside.sent.items) (map closing_of c.self.inside.closed.items)
     c.self.inside.last c.take-taken.result.arrival c.take-taken.new.buf c.self.invariant.last)
 
 pub invariant_of-self : goal.invariant_of-self
 invariant_of-self c = record {
   peers =
-      rw (c.then-self-inside.ensures, c.welcome-self-inside.ensures.peers) (
-      arrives c.self.inside.heard.arrivals (map message_of c.self.inside.sent.items) (map closing_of c.self.inside.closed.items)
+      rw (c.then.ensures, c.welcome-self-inside.ensures.peers) (
+      arrives (arrivals_of c.self.inside.heard) (map message_of c.self.inside.sent.items) (map closing_of c.self.inside.closed.items)
       c.self.inside.peers.items c.take-taken.result.arrival c.take-taken.new.buf _ c.self.invariant.peers (lawful c));
   last = greatest_now c;
   count =
@@ -37,12 +41,22 @@ invariant_of-self c = record {
 pub returns-clause-lawful : goal.returns-clause-lawful
 returns-clause-lawful c =
     let after : last_after c.self.inside.last c.take-taken.result.arrival
-    ≡ greatest (record { arrivals = c.then-self-inside.result.arrivals; messages = map message_of c.self.inside.sent.items; closings = map closing_of c.self.inside.closed.items })
+    ≡ greatest (record { arrivals = arrivals_of c.then.result; messages = map message_of c.self.inside.sent.items; closings = map closing_of c.self.inside.closed.items })
     = sym c.welcome-self-inside.ensures.last ∙ greatest_now c in
-    rw (← c.self.view_is) (subst (λ (n : ℕ). IsNext (greatest (story_of c.self.inside)) c.take-taken.result.arrival n) after (lawful c))
+    rw (← c.self.view_is) (subst (λ (n : ℕ). IsNextArrival (greatest (story_of c.self.inside)) c.take-taken.result.arrival n) after (lawful c))
 
 pub returns-clause-silent : goal.returns-clause-silent
-returns-clause-silent c told p named was =
-    let before : was_closed (story_of c.self.inside) p ≡ true = subst (λ (s : Story). was_closed s p ≡ true) (sym c.self.view_is) was in
+returns-clause-silent c p named was =
+    let before : was_closed (story_of c.self.inside) p ≡ true = subst (λ (s : SteadyState). was_closed s.story p ≡ true) (sym c.self.view_is) was in
     c.take-taken.ensures.taken.silent p named
-    (rw c.as_slice-2.ensures.value (sym (any-closing_of c.self.inside.closed.items p) ∙ before))
+    (rw c.as_slice-2.ensures.value (sym (closed_of c.self.inside.closed.items p) ∙ before))
+
+-- what comes next is what is taken
+next_is : (c : goal.Joined-self-then) → next_after (story_of c.self.inside) (steps_from c.self.inside.spot c.self.inside.coming.items)
+    ≡ record { arrival = with_bytes c.take-taken.result.arrival c.take-taken.new.buf; coming = steps_from c.take-taken.result.spot c.self.inside.coming.items }
+next_is c =
+    rw (← c.self.invariant.last, same_next c.self.inside.last (was_closed (story_of c.self.inside)) (closed_in c.self.inside.closed.items) (closed_of c.self.inside.closed.items))
+    (rw (c.as_slice.ensures.value, c.as_slice-2.ensures.value) at c.take-taken.ensures.handed)
+
+pub returns-clause-handed : goal.returns-clause-handed
+returns-clause-handed c = rw (← c.self.view_is) (next_is c)

@@ -1,0 +1,343 @@
+#!/usr/bin/env python3
+"""Runs the built program on small cases: on real folders, files and streams, of which no contract speaks.
+
+usage: .ci/tries.py [PASSED FAILED]
+
+Each case has a folder of its own, in which the program runs. What it writes to standard output, what it says on standard
+error and its exit status are compared with values that stand here. The blocks are the first two of Bitcoin's main network.
+The last line is 'N passed, M failed', with the given counts added.
+"""
+
+import os
+import subprocess
+import sys
+import tempfile
+import time
+
+TOP = os.path.dirname(os.path.dirname(os.path.abspath(__file__)))
+BUILT = os.path.join(TOP, "crates", "electrum_serve", "out")
+
+# The two blocks, each a header, the number of its transactions and its coinbase.
+GENESIS = bytes.fromhex(
+    "01000000" + "00" * 32 + "3ba3edfd7a7b12b27ac72c3e67768f617fc81bc3888a51323a9fb8aa4b1e5e4a"
+    "29ab5f49" "ffff001d" "1dac2b7c" "01"
+    "01000000" "01" + "00" * 32 + "ffffffff" "4d"
+    "04ffff001d0104455468652054696d65732030332f4a616e2f32303039204368616e63656c6c6f72206f6e206272696e"
+    "6b206f66207365636f6e64206261696c6f757420666f722062616e6b73"
+    "ffffffff" "01" "00f2052a01000000" "43"
+    "4104678afdb0fe5548271967f1a67130b7105cd6a828e03909a67962e0ea1f61deb649f6bc3f4cef38c4f35504e51ec1"
+    "12de5c384df7ba0b8d578a4c702b6bf11d5fac" "00000000"
+)
+BLOCK1 = bytes.fromhex(
+    "01000000" "6fe28c0ab6f1b372c1a6a246ae63f74f931e8365e15a089c68d6190000000000"
+    "982051fd1e4ba744bbbe680e1fee14677ba1a3c3540bf7b1cdb606e857233e0e"
+    "61bc6649" "ffff001d" "01e36299" "01"
+    "01000000" "01" + "00" * 32 + "ffffffff" "07" "04ffff001d0104"
+    "ffffffff" "01" "00f2052a01000000" "43"
+    "410496b538e853519c726a2c91e61ec11600ae1390813a627c66fb8be7947be63c52da7589379515d4e0a604f8141781"
+    "e62294721166bf621e73a82cbf2342c858eeac" "00000000"
+)
+
+MAIN = bytes.fromhex("f9beb4d9")
+REGTEST = bytes.fromhex("fabfb5da")
+
+# The script hashes of what the two coinbases pay to, and their txids.
+GENESIS_SCRIPT = "740485f380ff6379d11ef6fe7d7cdd68aea7f8bd0d953d9fdf3531fb7d531833"
+BLOCK1_SCRIPT = "cc0d7111befe9f24f1824c797e837c5cff2f8773901ccb9aca0372a2a6c48d34"
+GENESIS_TXID = "4a5e1e4baab89f3a32518a88c31bc87f618f76673e2cc77ab2127b7afdeda33b"
+BLOCK1_TXID = "0e3e2357e806b6cdb1f70b54c3a3a17b6714ee1f0e68bebb44a74b1efd512098"
+
+INVALID = b'{"error":{"code":-32600,"message":"invalid request"},"id":null,"jsonrpc":"2.0"}\n'
+
+# How the program ends: its exit status, and its words on standard error.
+ENDED = (0, "ended")
+USAGE = (2, "usage")
+FILES_FAILED = (4, "block files failed")
+LINK_FAILED = (6, "link failed")
+BAD_CHAIN = (10, "bad chain")
+
+
+def record(block, magic=MAIN):
+    """A record of a block file: magic, size and block."""
+    return magic + len(block).to_bytes(4, "little") + block
+
+
+GOOD = record(GENESIS) + record(BLOCK1)
+
+
+def asks(script, number=1):
+    """The line that asks for a history."""
+    return b'{"id":%d,"method":"blockchain.scripthash.get_history","params":["%s"]}\n' % (number, script.encode())
+
+
+def replies(entries, number=1):
+    """The reply with these entries, each a height and a txid."""
+    shown = ",".join('{"height":%d,"tx_hash":"%s"}' % entry for entry in entries)
+    return b'{"id":%d,"jsonrpc":"2.0","result":[%s]}\n' % (number, shown.encode())
+
+
+ONE = asks(GENESIS_SCRIPT)
+FOUND = replies([(0, GENESIS_TXID)])
+NONE_FOUND = replies([])
+
+
+def put(path, data):
+    """Writes a file, and the folders above it."""
+    os.makedirs(os.path.dirname(path) or ".", exist_ok=True)
+    with open(path, "wb") as it:
+        it.write(data)
+
+
+def once(folder, network="main"):
+    return ["once", "--blocks", folder, "--network", network]
+
+
+def start(program, words, **streams):
+    return subprocess.Popen([program, *words], stderr=subprocess.PIPE, **streams)
+
+
+def ends(started, given):
+    """What a program that was started writes, says and ends with, once it was given its input."""
+    try:
+        wrote, said = started.communicate(given, timeout=60)
+    except subprocess.TimeoutExpired:
+        started.kill()
+        wrote, said = started.communicate()
+        return wrote, said, "it had not ended after 60 seconds"
+    return wrote, said, started.returncode
+
+
+def run(program, words, given=b""):
+    return ends(start(program, words, stdin=subprocess.PIPE, stdout=subprocess.PIPE), given)
+
+
+# The cases. Each runs in an empty folder, and gives what the program did and what it was to do.
+
+
+def no_words(program):
+    return run(program, [], ONE), (b"", USAGE)
+
+
+def other_words(program):
+    put("a/blk00000.dat", GOOD)
+    for words in (
+        ["once"],
+        ["serve", "--blocks", "a", "--network", "main"],
+        ["once", "--network", "main", "--blocks", "a"],
+        ["once", "--network=main", "--blocks", "a"],
+        ["once", "--blocks", "", "--network", "main"],
+        ["once", "--blocks", "-a", "--network", "main"],
+        ["once", "--blocks", "a", "--network", "signet"],
+        ["once", "--blocks", "a", "--network", "main", "more"],
+    ):
+        did = run(program, words, ONE)
+        if did != as_wanted((b"", USAGE)):
+            return did, (b"", USAGE)
+    return did, (b"", USAGE)
+
+
+def words_that_are_no_text(program):
+    put("a/blk00000.dat", GOOD)
+    return run(program, [*once("a"), b"\xff"], ONE), (b"", USAGE)
+
+
+def folder_that_is_not_there(program):
+    put("blk00000.dat", GOOD)
+    return run(program, once("a"), ONE), (b"", FILES_FAILED)
+
+
+def folder_that_is_a_file(program):
+    put("a", GOOD)
+    return run(program, once("a"), ONE), (b"", FILES_FAILED)
+
+
+def folder_below_a_file(program):
+    put("a", GOOD)
+    return run(program, once("a/b"), ONE), (b"", FILES_FAILED)
+
+
+def file_that_can_not_be_opened(program):
+    os.mkdir("a")
+    os.symlink("blk00000.dat", "a/blk00000.dat")
+    return run(program, once("a"), ONE), (b"", FILES_FAILED)
+
+
+def file_that_can_not_be_read(program):
+    # a folder is opened as a file is, and has a size; with many names in it one that no record is too long for
+    for number in range(100):
+        put("a/blk00000.dat/a-file-with-a-long-name-%d" % number, b"")
+    return run(program, once("a"), ONE), (b"", FILES_FAILED)
+
+
+def no_file(program):
+    os.mkdir("a")
+    return run(program, once("a"), ONE), (NONE_FOUND, ENDED)
+
+
+def another_file_alone(program):
+    put("a/blk00001.dat", GOOD)
+    put("a/blk0000.dat", GOOD)
+    return run(program, once("a"), ONE), (NONE_FOUND, ENDED)
+
+
+def masked_file(program):
+    key = bytes.fromhex("a5c30f69125ae178")
+    put("a/blk00000.dat", bytes(byte ^ key[place % 8] for place, byte in enumerate(GOOD)))
+    return run(program, once("a"), ONE), (NONE_FOUND, ENDED)
+
+
+def record_far_in_the_file(program):
+    put("a/blk00000.dat", record(GENESIS) + bytes(100_000) + record(BLOCK1) + b"\xf9")
+    return run(program, once("a"), asks(BLOCK1_SCRIPT)), (replies([(1, BLOCK1_TXID)]), ENDED)
+
+
+def second_block_alone(program):
+    put("a/blk00000.dat", record(BLOCK1))
+    return run(program, once("a"), ONE), (b"", BAD_CHAIN)
+
+
+def many_lines(program):
+    put("a/blk00000.dat", GOOD)
+    given = ONE + asks(BLOCK1_SCRIPT, 2) + b"{}\n" + asks("00" * 32, 3) + ONE
+    wrote = FOUND + replies([(1, BLOCK1_TXID)], 2) + INVALID + replies([], 3) + FOUND
+    return run(program, once("a"), given), (wrote, ENDED)
+
+
+def input_in_pieces(program):
+    put("a/blk00000.dat", GOOD)
+    started = start(program, once("a"), stdin=subprocess.PIPE, stdout=subprocess.PIPE)
+    for piece in (ONE[:30], ONE[30:50], ONE[50:] + ONE[:20]):
+        started.stdin.write(piece)
+        started.stdin.flush()
+        time.sleep(0.05)
+    return ends(started, ONE[20:]), (FOUND + FOUND, ENDED)
+
+
+def input_cut_in_a_line(program):
+    put("a/blk00000.dat", GOOD)
+    return run(program, once("a"), ONE + ONE[:-1]), (FOUND, ENDED)
+
+
+def no_input(program):
+    put("a/blk00000.dat", GOOD)
+    return run(program, once("a")), (b"", ENDED)
+
+
+def input_that_can_not_be_read(program):
+    put("a/blk00000.dat", GOOD)
+    folder = os.open("a", os.O_RDONLY)
+    did = ends(start(program, once("a"), stdin=folder, stdout=subprocess.PIPE), None)
+    os.close(folder)
+    return did, (b"", LINK_FAILED)
+
+
+def closed_output(program):
+    put("a/blk00000.dat", GOOD)
+    words = ["-c", 'exec "$@" >&-', "", program, *once("a")]
+    did = ends(start("sh", words, stdin=subprocess.PIPE, stdout=subprocess.PIPE), ONE + ONE)
+    return did, (b"", ENDED)
+
+
+def output_that_nobody_reads(program):
+    put("a/blk00000.dat", GOOD)
+    reading, writing = os.pipe()
+    os.close(reading)
+    did = ends(start(program, once("a"), stdin=subprocess.PIPE, stdout=writing), ONE + ONE)
+    os.close(writing)
+    return (b"", *did[1:]), (b"", ENDED)
+
+
+def full_output(program):
+    put("a/blk00000.dat", GOOD)
+    with open("/dev/full", "wb") as full:
+        did = ends(start(program, once("a"), stdin=subprocess.PIPE, stdout=full), ONE + ONE)
+    return (b"", *did[1:]), (b"", ENDED)
+
+
+def network_of_another_name(program):
+    put("a/blk00000.dat", GOOD)
+    return run(program, once("a", "testnet3"), ONE), (NONE_FOUND, ENDED)
+
+
+def network_of_its_own(program):
+    put("a/blk00000.dat", record(GENESIS, REGTEST) + record(BLOCK1))
+    return run(program, once("a", "regtest"), ONE + asks(BLOCK1_SCRIPT, 2)), (FOUND + replies([], 2), ENDED)
+
+
+def folder_elsewhere(program):
+    put("a/b/blk00000.dat", GOOD)
+    put("a/blk00000.dat", record(BLOCK1))
+    put("blk00000.dat", record(BLOCK1))
+    return run(program, once(os.path.abspath("a/b")), ONE), (FOUND, ENDED)
+
+
+CASES = [
+    no_words,
+    other_words,
+    words_that_are_no_text,
+    folder_that_is_not_there,
+    folder_that_is_a_file,
+    folder_below_a_file,
+    file_that_can_not_be_opened,
+    file_that_can_not_be_read,
+    no_file,
+    another_file_alone,
+    masked_file,
+    record_far_in_the_file,
+    second_block_alone,
+    many_lines,
+    input_in_pieces,
+    input_cut_in_a_line,
+    no_input,
+    input_that_can_not_be_read,
+    closed_output,
+    output_that_nobody_reads,
+    full_output,
+    network_of_another_name,
+    network_of_its_own,
+    folder_elsewhere,
+]
+
+
+def as_wanted(wanted):
+    """What a program does that does as it is to do."""
+    wrote, (status, words) = wanted
+    return wrote, b"electrum_serve: %s\n" % words.encode(), status
+
+
+def try_case(program, case):
+    """Whether the case ends as it is to end; says how it did otherwise."""
+    before = os.getcwd()
+    with tempfile.TemporaryDirectory(prefix="tries-") as room:
+        os.chdir(room)
+        try:
+            did, wanted = case(program)
+        except OSError as error:
+            print(f"tries: {case.__name__} FAILED: {error}")
+            return False
+        finally:
+            os.chdir(before)
+    if did == as_wanted(wanted):
+        return True
+    print(f"tries: {case.__name__} FAILED: it wrote, said and ended with {did}, and not {as_wanted(wanted)}")
+    return False
+
+
+def main(given):
+    passed, failed = (int(given[0]), int(given[1])) if len(given) == 2 else (0, 0)
+    program = os.path.join(BUILT, "electrum_serve")
+    if os.access(program, os.X_OK):
+        for case in CASES:
+            if try_case(program, case):
+                passed += 1
+            else:
+                failed += 1
+        print(f"tries: {len(CASES)} cases of the built program")
+    else:
+        print("tries: skipped: the program was not built")
+    print(f"{passed} passed, {failed} failed")
+    return 1 if failed else 0
+
+
+if __name__ == "__main__":
+    sys.exit(main(sys.argv[1:]))

@@ -1,0 +1,4 @@
+mod Events
+mod Sessions
+mod Arriving
+mod Turning

@@ -1,0 +1,46 @@
+-- What the server makes of an arrival, before its turns.
+use Rattle.std.specs.Prelude.{◌≡◌, ◌⊎◌, ℕ, ◌==◌, if◌then◌else◌, List, [], ◌++◌, Option, Some, None}
+use Rattle.el_outside.specs.Story.{ArrivalWithBytes, opened, brought, closed, quiet, ended}
+use Rattle.el_outside.specs.declared.link.Arrival.{Arrival}
+use Rattle.el_outside.specs.declared.link.Arrival.TheVariants as arrival
+use Rattle.el_model.specs.World.{World, Event, with_client, without_client, events, after_hearing}
+use Rattle.el_model.specs.Run.{Turns}
+use Rattle.el_core.specs.State.{State, ClientState, Stands}
+
+-- the arrival with all the bytes that were handed over
+abbrev pub with_all_bytes : Arrival → List ℕ → ArrivalWithBytes
+with_all_bytes (arrival.Opened p) bytes = opened p
+with_all_bytes (arrival.Bytes p n) bytes = brought p bytes
+with_all_bytes (arrival.Closed p) bytes = closed p
+with_all_bytes arrival.Quiet bytes = quiet
+with_all_bytes arrival.Ended bytes = ended
+
+-- who is connected, or waits to be closed, once an arrival was taken
+abbrev pub IsAfterArrival : ArrivalWithBytes → World → World → Option ℕ → Type 0
+IsAfterArrival (opened p) world next surplus =
+    ((next ≡ with_client p world) × (surplus ≡ None)) ⊎ ((next ≡ world) × (surplus ≡ Some p))
+IsAfterArrival (brought p bytes) world next surplus =
+    (next ≡ after_hearing (brought p bytes) world) × (surplus ≡ None)
+IsAfterArrival (closed p) world next surplus = (next ≡ without_client p world) × (surplus ≡ None)
+IsAfterArrival quiet world next surplus = (next ≡ world) × (surplus ≡ None)
+IsAfterArrival ended world next surplus = (next ≡ world) × (surplus ≡ None)
+
+-- The server took an arrival: its events are those that were done with it, which send and close nothing, and
+-- those that are left to turns.
+pub record TookArrival (arrival : ArrivalWithBytes) (world : World) (s : State) : Type 0 where
+  pub done : List Event
+  pub left : List Event
+  pub next : World
+  pub whole : events world arrival ≡ done ++ left
+  pub turns : Turns (after_hearing arrival world) done [] [] next
+  pub stands : Stands s next left
+  pub after : IsAfterArrival arrival world next s.surplus
+
+-- the client, unless it is this one
+abbrev pub option_kept : ℕ → Option ClientState → Option ClientState
+option_kept p None = None
+option_kept p (Some c) = if c.peer == p then None else Some c
+
+-- a client goes
+abbrev pub gone_from : State → ℕ → State
+gone_from s p = record s { client = option_kept p s.client }

@@ -1,0 +1,5 @@
+pub mod Heard
+pub mod Laws
+pub mod Links
+pub mod Peers
+pub mod Taking

@@ -1,0 +1,7 @@
+mod Requests
+mod Printing
+mod LineCuts
+mod Standing
+mod SameStates
+mod Numbers
+mod NodeLineLemmas

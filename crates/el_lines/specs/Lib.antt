@@ -1,0 +1,3 @@
+pub mod LineStates
+pub mod NodeLines
+pub mod within

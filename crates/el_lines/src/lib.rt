@@ -1,0 +1,21 @@
+//! What comes over a link and goes back over it. The bytes of a peer are cut into lines; a line of a client
+//! is read as a request of Electrum Protocol 1.4, as far as its methods are known, and a line of a node by
+//! its own grammar; and the replies to clients are printed (JSON-RPC 2.0).
+#![tactic(auto)]
+
+mod answer;
+mod bytes;
+mod laws;
+mod line_buffer;
+mod node_line;
+mod number;
+mod request;
+
+pub use answer::{history_reply, too_large_reply};
+pub use laws::{cuts_do_not_matter, node_line_says_one_thing};
+pub use line_buffer::{LineBuffer, LineEvent};
+pub use node_line::{NODE_LINE_LIMIT, NodeLine, NodeLineFault, read_node_line};
+pub use request::{Request, request_of};
+
+#[cfg(test)]
+mod tests;

@@ -1,0 +1,218 @@
+// Bytes that come in pieces, cut into lines.
+ghost use Rattle.std.specs.Prelude.{◌≡◌, ℕ, List, [], ◌∷◌, ◌++◌, ◌+◌, ◌<◌, ◌≤◌, length, slice_get, IfOk, IfSome, IfNone, OnOk, OnErr, MatchOption, Ok, Some, None, true, false, take, drop};
+ghost use Rattle.el_model.specs.Lines.{lines, too_long};
+ghost use Rattle.el_lines.specs.LineStates.{IsAt, held, as_listed, HasNoNewline};
+ghost use Rattle.el_lines.specs.within.Places.{StandsFirst};
+
+use crate::bytes::{byte_at, bytes_before, bytes_from, leave_out};
+use el_base::{Bytes, OutOfMemory};
+use std::alloc::Global;
+use std::marker::Model;
+
+/// What is met in a peer's bytes.
+#[derive(Debug, PartialEq, Eq, Drop)]
+pub enum LineEvent {
+    /// A whole line that isn't above the limit, without the byte 10 that ended it. It may be empty.
+    Line(Bytes),
+    /// A line of more than `limit` bytes without its byte 10, which may still have to come. None of its bytes
+    /// is given.
+    TooLong { limit: usize },
+}
+
+/// Bytes of a peer, fed in pieces of any size and given as lines, each ended by byte 10 (the newline that
+/// ends each message of Electrum Protocol 1.4).
+///
+/// A line above the limit is given as `TooLong` as soon as more bytes of it were fed than the limit says. The
+/// rest of it is skipped and never kept. So where each piece is followed by calls of `next_line` up to None,
+/// a peer that sends no byte 10 takes the memory of no more than `limit` bytes and the piece fed last. Each
+/// byte is searched once for byte 10, however the bytes are cut, and moved once on average.
+#[derive(Debug, Drop)]
+pub struct LineBuffer {
+    limit: usize,
+    // Bytes that were fed. Those before `start` were given.
+    bytes: Vec<u8>,
+    start: usize,
+    // How many bytes from `start` on are known not to be byte 10.
+    seen: usize,
+    skips: bool,
+}
+
+impl Model for LineBuffer {
+    ghost use Rattle.std.specs.Prelude.{◌≡◌, ◌≤◌, [], length, drop, true};
+    ghost use Rattle.el_lines.specs.LineStates.{LineState};
+    ghost use Rattle.el_lines.specs.within.Places.{IsSearched};
+
+    ghost Value = { LineState };
+
+    ghost view = { λ b. record { limit = b.limit; rest = drop b.start b.bytes.items; skips = b.skips } };
+
+    ghost invariant = { λ b. (b.start ≤ length b.bytes.items)
+        × IsSearched 10 (drop b.start b.bytes.items) b.seen
+        × (b.skips ≡ true → drop b.start b.bytes.items ≡ []) };
+}
+
+impl LineBuffer {
+    /// A buffer that was fed nothing, for lines of at most `limit` bytes without their byte 10. Takes no
+    /// memory.
+    pub fn new(alloc: Global, limit: usize) -> LineBuffer
+        ensures limit { result.limit ≡ limit }
+        ensures at { IsAt result [] 0 }
+        ensures held { held result ≡ 0 }
+    {
+        LineBuffer {
+            limit,
+            bytes: Vec::new(alloc),
+            start: 0,
+            seen: 0,
+            skips: false,
+        }
+    }
+
+    /// Takes the next piece of the peer's bytes, also where lines of earlier ones wait. It fails only where
+    /// memory runs out.
+    pub fn feed(&mut self, bytes: &[u8]) -> Result<(), OutOfMemory>
+        ensures at { (fed : List ℕ) (given : ℕ) → IsAt self.old fed given
+            → OnOk result (IsAt self.new (fed ++ bytes.now) given) }
+        ensures refused { OnErr result (self.new ≡ self.old) }
+        ensures limit { self.new.limit ≡ self.old.limit }
+        ensures held { held self.new ≤ held self.old + length bytes.now }
+        // What is skipped takes no memory.
+        ensures skipped { self.old.skips ≡ true → HasNoNewline bytes.now
+            → (result ≡ Ok tt) × (self.new ≡ self.old) }
+    {
+        if !self.skips {
+            self.add(bytes)?;
+            return Ok(());
+        }
+        match byte_at(bytes, b'\n', 0) {
+            Some(end) => {
+                self.add(bytes_from(bytes, end + 1))?;
+                Ok(())
+            }
+            None => Ok(()),
+        }
+    }
+
+    /// The next line, or None where no line has ended and none is too long. It fails only where the memory
+    /// for a line's bytes runs out, and may then be called again.
+    pub fn next_line(&mut self) -> Result<Option<LineEvent>, OutOfMemory>
+        ensures next { (fed : List ℕ) (given : ℕ) → IsAt self.old fed given
+            → IfOk result (λ found. MatchOption found
+            ((given ≡ length (lines self.old.limit fed)) × IsAt self.new fed given)
+            (λ e. (slice_get (lines self.old.limit fed) given ≡ Some (as_listed e))
+            × IsAt self.new fed (given + 1))) }
+        // Where no event is left, or the next is no line, no memory is taken.
+        ensures none { (fed : List ℕ) (given : ℕ) → IsAt self.old fed given
+            → given ≡ length (lines self.old.limit fed) → result ≡ Ok None }
+        ensures too_long { (fed : List ℕ) (given : ℕ) → IsAt self.old fed given
+            → slice_get (lines self.old.limit fed) given ≡ Some too_long
+            → result ≡ Ok (Some (LineEvent.TooLong self.old.limit)) }
+        ensures refused { OnErr result (self.new ≡ self.old) }
+        ensures limit { self.new.limit ≡ self.old.limit }
+        ensures consumed { IfOk result (λ found. IfSome found (λ e. held self.new < held self.old)) }
+        // What then waits is the start of one line.
+        ensures waits { IfOk result (λ found.
+            IfNone found ((self.new ≡ self.old) × (held self.new ≤ self.old.limit))) }
+    {
+        let limit = self.limit;
+        match self.find_newline() {
+            Some(end) if end > limit => {
+                self.pass(end);
+                Ok(Some(LineEvent::TooLong { limit }))
+            }
+            Some(end) => {
+                let line = self.copy_line(end)?;
+                self.pass(end);
+                Ok(Some(LineEvent::Line(line)))
+            }
+            None if self.len() > limit => {
+                self.skip();
+                Ok(Some(LineEvent::TooLong { limit }))
+            }
+            None => {
+                self.leave_out_given();
+                Ok(None)
+            }
+        }
+    }
+
+    // How many bytes are held.
+    fn len(&self) -> usize
+        ensures { result ≡ held self.now }
+    {
+        self.bytes.len() - self.start
+    }
+
+    // Looks for the first byte 10 of those that are held.
+    fn find_newline(&mut self) -> Option<usize>
+        ensures found { MatchOption result
+            (HasNoNewline self.old.rest)
+            (λ end. StandsFirst 10 self.old.rest end) }
+        ensures same { self.new ≡ self.old }
+    {
+        let found = byte_at(
+            bytes_from(self.bytes.as_slice(), self.start),
+            b'\n',
+            self.seen,
+        );
+        self.seen = match found {
+            Some(end) => end,
+            None => self.bytes.len() - self.start,
+        };
+        found
+    }
+
+    // The line that ends there.
+    fn copy_line(&self, end: usize) -> Result<Bytes, OutOfMemory>
+        requires { end ≤ held self.now }
+        ensures { IfOk result (λ line. line ≡ take end self.now.rest) }
+    {
+        let held = bytes_from(self.bytes.as_slice(), self.start);
+        Bytes::from_slice(*self.bytes.allocator(), bytes_before(held, end))
+    }
+
+    // Goes on after the line that ends there.
+    fn pass(&mut self, end: usize)
+        requires { end < held self.old }
+        ensures { self.new ≡ record self.old { rest = drop (end + 1) self.old.rest } }
+    {
+        self.start += end;
+        self.start += 1;
+        self.seen = 0;
+    }
+
+    // Forgets the bytes, and skips the rest of their line.
+    fn skip(&mut self)
+        ensures { self.new ≡ record { limit = self.old.limit; rest = []; skips = true } }
+    {
+        self.bytes.clear();
+        self.start = 0;
+        self.seen = 0;
+        self.skips = true;
+    }
+
+    // Keeps the bytes after those that are held, and skips nothing.
+    fn add(&mut self, bytes: &[u8]) -> Result<(), OutOfMemory>
+        ensures added { OnOk result (self.new
+            ≡ record { limit = self.old.limit; rest = self.old.rest ++ bytes.now; skips = false }) }
+        ensures refused { OnErr result (self.new ≡ self.old) }
+    {
+        if self.start > self.len() {
+            self.leave_out_given();
+        }
+        self.bytes.extend_from_slice(bytes)?;
+        self.skips = false;
+        Ok(())
+    }
+
+    // Gives the memory of bytes that were given to those that come.
+    fn leave_out_given(&mut self)
+        ensures { self.new ≡ self.old }
+    {
+        if self.start == 0 {
+            return;
+        }
+        leave_out(&mut self.bytes, self.start);
+        self.start = 0;
+    }
+}

@@ -1,0 +1,304 @@
+// What no contract says: printed texts, lines from outside, and that each call succeeds where memory is
+// ample.
+use crate::{
+    LineBuffer, LineEvent, NODE_LINE_LIMIT, NodeLine, NodeLineFault, cuts_do_not_matter,
+    history_reply, node_line_says_one_thing, read_node_line, request_of, too_large_reply,
+};
+use el_base::{Bytes, Hash32};
+use el_model::{Entry, LINE_LIMIT};
+use std::alloc::Global;
+use std::test::Fail;
+
+// The hash of Bitcoin's first block in inner order, and as it is shown, in lower case, upper case and both.
+const HASH: [u8; 32] = [
+    0x6f, 0xe2, 0x8c, 0x0a, 0xb6, 0xf1, 0xb3, 0x72, 0xc1, 0xa6, 0xa2, 0x46, 0xae, 0x63, 0xf7, 0x4f,
+    0x93, 0x1e, 0x83, 0x65, 0xe1, 0x5a, 0x08, 0x9c, 0x68, 0xd6, 0x19, 0x00, 0x00, 0x00, 0x00, 0x00,
+];
+
+const SHOWN: [&str; 3] = [
+    "000000000019d6689c085ae165831e934ff763ae46a2a6c172b3f1b60a8ce26f",
+    "000000000019D6689C085AE165831E934FF763AE46A2A6C172B3F1B60A8CE26F",
+    "000000000019d6689c085ae165831e934FF763AE46A2A6C172B3F1B60A8CE26F",
+];
+
+// The texts one after the other.
+fn joined(alloc: Global, parts: &[&str]) -> Result<Vec<u8>, Fail> {
+    let mut text = Vec::new(alloc);
+    for part in parts {
+        text.extend_from_slice(part.as_bytes())?;
+    }
+    Ok(text)
+}
+
+// Adds the events that are left: the bytes of each line and a bar, and a hash sign for one that is too long.
+fn take_events(buffer: &mut LineBuffer, limit: usize, events: &mut Vec<u8>) -> Result<(), Fail> {
+    for _ in 0..8 {
+        match buffer.next_line()? {
+            Some(LineEvent::Line(line)) => {
+                events.extend_from_slice(line.as_slice())?;
+                events.push(b'|')?;
+            }
+            Some(event) => {
+                if event == (LineEvent::TooLong { limit }) {
+                    events.push(b'#')?;
+                }
+            }
+            None => {}
+        }
+    }
+    Ok(())
+}
+
+// The events of bytes that are fed in these pieces.
+fn events_of(alloc: Global, limit: usize, pieces: &[&[u8]]) -> Result<Vec<u8>, Fail> {
+    let mut buffer = LineBuffer::new(alloc, limit);
+    let mut events = Vec::new(alloc);
+    for piece in pieces {
+        buffer.feed(piece)?;
+        take_events(&mut buffer, limit, &mut events)?;
+    }
+    Ok(events)
+}
+
+#[test]
+fn lines_at_the_limit(rt: HostRuntime) -> Result<(), Fail> {
+    let table: [(&[&[u8]], &[u8]); 8] = [
+        (&[b"one\n\nfives\n"], b"one||fives|"),
+        (&[b"sixsix\nab\n"], b"#ab|"),
+        (&[b"12345"], b""),
+        (&[b"12345", b"\n"], b"12345|"),
+        (&[b"123456"], b"#"),
+        (&[b"123456", b"789", b"0\nab\ncd"], b"#ab|"),
+        (&[b"1234567\n7654321\n1"], b"##"),
+        (&[b"", b"\n", b"\0\xff\r\n"], b"|\0\xff\r|"),
+    ];
+    for (pieces, events) in table {
+        assert_eq!(rt;
+            events_of(rt.alloc(), 5, pieces)?.as_slice(),
+            events,
+            "of {pieces:?}"
+        );
+    }
+    cuts_do_not_matter();
+    Ok(())
+}
+
+// Three lines, of which the last is too long, and bytes of a fourth.
+#[test]
+fn pieces_give_the_same_lines(rt: HostRuntime) -> Result<(), Fail> {
+    let script: &[u8] = b"one\n\nthe third line\nfour";
+    for at in 0..=script.len() {
+        let (front, back) = script.split_at(at);
+        let events = events_of(rt.alloc(), 5, &[front, back])?;
+        assert_eq!(rt; events.as_slice(), b"one||#".as_slice(), "cut at {at}");
+        // The second piece comes while lines of the first wait.
+        let mut buffer = LineBuffer::new(rt.alloc(), 5);
+        let mut events = Vec::new(rt.alloc());
+        buffer.feed(front)?;
+        buffer.feed(back)?;
+        take_events(&mut buffer, 5, &mut events)?;
+        assert_eq!(rt; events.as_slice(), b"one||#".as_slice(), "cut at {at}");
+    }
+    Ok(())
+}
+
+// Feeds a megabyte without byte 10 in pieces of 62,500 bytes.
+fn feed_megabyte(alloc: Global, buffer: &mut LineBuffer, events: &mut Vec<u8>) -> Result<(), Fail> {
+    let piece = vec![in alloc; b'a'; 62_500]?;
+    for _ in 0..16 {
+        buffer.feed(&piece)?;
+        take_events(buffer, LINE_LIMIT, events)?;
+    }
+    Ok(())
+}
+
+#[test]
+fn a_line_without_end(rt: HostRuntime) -> Result<(), Fail> {
+    let mut buffer = LineBuffer::new(rt.alloc(), LINE_LIMIT);
+    let mut events = Vec::new(rt.alloc());
+    feed_megabyte(rt.alloc(), &mut buffer, &mut events)?;
+    assert_eq!(rt; events.as_slice(), b"".as_slice());
+    buffer.feed(b"a")?;
+    take_events(&mut buffer, LINE_LIMIT, &mut events)?;
+    assert_eq!(rt; events.as_slice(), b"#".as_slice());
+    feed_megabyte(rt.alloc(), &mut buffer, &mut events)?;
+    buffer.feed(b"\nnext\n")?;
+    take_events(&mut buffer, LINE_LIMIT, &mut events)?;
+    assert_eq!(rt; events.as_slice(), b"#next|".as_slice());
+    Ok(())
+}
+
+#[test]
+fn lines_of_blocks(rt: HostRuntime) -> Result<(), Fail> {
+    for (line, file, at) in [
+        ("block 0 0", 0, 0),
+        ("block 10 293", 10, 293),
+        ("block 0000000007 00000000000000000008", 7, 8),
+        (
+            "block 4294967295 9223372036854775807",
+            4_294_967_295,
+            9_223_372_036_854_775_807,
+        ),
+    ] {
+        let found = read_node_line(rt.alloc(), line.as_bytes())?;
+        assert_eq!(rt; found, NodeLine::Block { file, at }, "of {line}");
+    }
+    node_line_says_one_thing();
+    Ok(())
+}
+
+#[test]
+fn lines_of_hashes(rt: HostRuntime) -> Result<(), Fail> {
+    for shown in SHOWN {
+        let line = joined(rt.alloc(), &["tip ", shown])?;
+        let found = read_node_line(rt.alloc(), &line)?;
+        assert_eq!(rt; found, NodeLine::Tip(Hash32(HASH)), "of {shown}");
+        let line = joined(rt.alloc(), &["drop ", shown])?;
+        let found = read_node_line(rt.alloc(), &line)?;
+        assert_eq!(rt; found, NodeLine::Drop(Hash32(HASH)), "of {shown}");
+    }
+    Ok(())
+}
+
+// Lines that say nothing.
+const NO_LINES: [&str; 37] = [
+    "",
+    "block",
+    "block 0",
+    "block 0 ",
+    "block 0 0 ",
+    " block 0 0",
+    "block  0 0",
+    "block 0  0",
+    "block 0 0 0",
+    "Block 0 0",
+    "block 4294967296 0",
+    "block 00000000000 0",
+    "block 0 9223372036854775808",
+    "block 0 18446744073709551616",
+    "block 0 000000000000000000000",
+    "block +1 0",
+    "block 0 -1",
+    "block 0x1 0",
+    "block 0\t0",
+    "block 0 0\r",
+    "tip",
+    "tip 000000000019d6689c085ae165831e934ff763ae46a2a6c172b3f1b60a8ce26",
+    "tip 000000000019d6689c085ae165831e934ff763ae46a2a6c172b3f1b60a8ce26f ",
+    "tip 000000000019d6689c085ae165831e934ff763ae46a2a6c172b3f1b60a8ce26g",
+    "tip  00000000019d6689c085ae165831e934ff763ae46a2a6c172b3f1b60a8ce26f",
+    "Tip 000000000019d6689c085ae165831e934ff763ae46a2a6c172b3f1b60a8ce26f",
+    "tx",
+    "tx ",
+    "tx 0",
+    "tx 00a",
+    "tx 0g",
+    "tx 00 00",
+    "tx 0x00",
+    "drop",
+    "drop 00",
+    "tip\u{e9}",
+    "tx \u{e9}",
+];
+
+#[test]
+fn no_node_lines(rt: HostRuntime) -> Result<(), Fail> {
+    for line in NO_LINES {
+        let found = read_node_line(rt.alloc(), line.as_bytes());
+        assert_eq!(rt; found, Err(NodeLineFault::Line), "of {line}");
+    }
+    let found = read_node_line(rt.alloc(), &[b't', b'x', b' ', 255, 254]);
+    assert_eq!(rt; found, Err(NodeLineFault::Line));
+    Ok(())
+}
+
+// The second transaction has 4,000,000 bytes, and its line is no longer than a line may be.
+#[test]
+fn lines_of_transactions(rt: HostRuntime) -> Result<(), Fail> {
+    let bytes = Bytes::from_slice(rt.alloc(), &[0, 0xa9, 0xff])?;
+    let found = read_node_line(rt.alloc(), b"tx 00a9fF")?;
+    assert_eq!(rt; found, NodeLine::Tx(bytes));
+    let mut line = Vec::from_slice(rt.alloc(), b"tx ")?;
+    let digits = vec![in rt.alloc(); b'7'; 8_000_000]?;
+    line.extend_from_slice(&digits)?;
+    assert!(rt; line.len() <= NODE_LINE_LIMIT);
+    let found = read_node_line(rt.alloc(), &line)?;
+    let bytes = vec![in rt.alloc(); 0x77; 4_000_000]?;
+    assert_eq!(rt; found == NodeLine::Tx(Bytes::from_vec(bytes)), true);
+    Ok(())
+}
+
+#[test]
+fn printed_faults(rt: HostRuntime) -> Result<(), Fail> {
+    for (fault, text) in [
+        (NodeLineFault::Line, "no line of a node"),
+        (NodeLineFault::Memory, "out of memory"),
+    ] {
+        let printed = format!(in rt.alloc(); "{fault}")?;
+        assert_eq!(rt; printed.as_str(), text);
+    }
+    Ok(())
+}
+
+// The line that asks for a history.
+fn asks(alloc: Global, id: &str, shown: &str) -> Result<Vec<u8>, Fail> {
+    let method = ",\"method\":\"blockchain.scripthash.get_history\",\"params\":[\"";
+    joined(alloc, &["{\"id\":", id, method, shown, "\"]}"])
+}
+
+#[test]
+fn requests(rt: HostRuntime) -> Result<(), Fail> {
+    for (id, shown, is_request) in [
+        ("0", SHOWN[0], true),
+        ("7", SHOWN[1], true),
+        ("9999999999", SHOWN[2], true),
+        ("", SHOWN[0], false),
+        ("01", SHOWN[0], false),
+        ("-1", SHOWN[0], false),
+        ("10000000000", SHOWN[0], false),
+        ("1", "00", false),
+        ("1", "", false),
+    ] {
+        let line = asks(rt.alloc(), id, shown)?;
+        match request_of(&line) {
+            Some(request) => {
+                assert_eq!(rt; request.id, id.as_bytes());
+                assert_eq!(rt; request.script_hash, Hash32(HASH));
+                assert!(rt; is_request);
+            }
+            None => assert!(rt; !is_request),
+        }
+    }
+    Ok(())
+}
+
+const REPLY_HEAD: &str = "{\"id\":7,\"jsonrpc\":\"2.0\",\"result\":[";
+
+const ENTRIES: [&str; 2] = [
+    "{\"height\":0,\"tx_hash\":\"000000000019d6689c085ae165831e934ff763ae46a2a6c172b3f1b60a8ce26f\"}",
+    "{\"height\":840000,\"tx_hash\":\"000000000019d6689c085ae165831e934ff763ae46a2a6c172b3f1b60a8ce26f\"}",
+];
+
+const TOO_LARGE: &str =
+    "{\"error\":{\"code\":1,\"message\":\"history too large\"},\"id\":7,\"jsonrpc\":\"2.0\"}\n";
+
+#[test]
+fn replies(rt: HostRuntime) -> Result<(), Fail> {
+    let entries = [0, 840_000].map(|height| Entry {
+        height,
+        txid: Hash32(HASH),
+    });
+    let table: [(usize, &[&str]); 3] = [
+        (0, &[REPLY_HEAD, "]}\n"]),
+        (1, &[REPLY_HEAD, ENTRIES[0], "]}\n"]),
+        (2, &[REPLY_HEAD, ENTRIES[0], ",", ENTRIES[1], "]}\n"]),
+    ];
+    for (count, parts) in table {
+        let reply = history_reply(rt.alloc(), b"7", &entries[..count])?;
+        let text = joined(rt.alloc(), parts)?;
+        assert_eq!(rt; reply.as_slice(), text.as_slice(), "of {count}");
+    }
+    let reply = too_large_reply(rt.alloc(), b"7")?;
+    assert_eq!(rt; reply.as_slice(), TOO_LARGE.as_bytes());
+    Ok(())
+}

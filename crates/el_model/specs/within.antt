@@ -1,0 +1,4 @@
+pub mod BlockParts
+pub mod CoinTables
+pub mod CoinLayers
+pub mod Listings

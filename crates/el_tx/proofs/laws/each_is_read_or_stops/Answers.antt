@@ -1,5 +1,0 @@
-use Rattle.el_tx.proofs.Decoded.{one_or_other}
-use Rattle.el_tx.proofs.laws.each_is_read_or_stops.Goals as goal
-
-pub returns : goal.returns
-returns c = λ bytes fits. one_or_other bytes fits

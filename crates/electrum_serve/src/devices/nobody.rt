@@ -1,0 +1,66 @@
+// Devices that have nothing, for words that ask for none.
+ghost use Rattle.std.specs.Prelude.{[], refl};
+
+use el_outside::{Archive, ArchiveFailed, Arrival, Link, LinkFailed, Peer, SendFault, Why};
+
+/// Block files of which there are none.
+#[derive(Clone, Copy, Debug)]
+pub struct NoFiles;
+
+impl Archive for NoFiles {
+    ghost tells = { Unit {0} };
+
+    ghost bytes = { λ files n. [] };
+
+    ghost file_count = { λ files. 0 };
+
+    ghost none_after = { λ files n told after. refl };
+
+    ghost gave = { λ file at bytes. Unit {0} };
+
+    ghost faults = { λ files. 0 };
+
+    fn files(&mut self) -> Result<u32, ArchiveFailed> {
+        Ok(0)
+    }
+
+    fn size(&mut self, _file: u32) -> Result<u64, ArchiveFailed> {
+        Ok(0)
+    }
+
+    fn read(&mut self, _file: u32, _at: u64, _buf: &mut [u8]) -> Result<usize, ArchiveFailed> {
+        Ok(0)
+    }
+}
+
+/// A link that nobody comes over.
+#[derive(Clone, Copy, Debug, Default)]
+pub struct NoLink {
+    /// How often `next` was called.
+    pub calls: u64,
+}
+
+impl Link for NoLink {
+    ghost tells = { ⊥ };
+
+    ghost story = { λ link. record { arrivals = []; messages = []; closings = [] } };
+
+    ghost last = { λ link. 0 };
+
+    ghost calls = { λ link. link.calls };
+
+    ghost faults = { λ link. 0 };
+
+    ghost greater_is_new = { λ link p told less. absurd told };
+
+    fn next(&mut self, _buf: &mut [u8]) -> Result<Arrival, LinkFailed> {
+        self.calls = self.calls.saturating_add(1);
+        Ok(Arrival::Ended)
+    }
+
+    fn send(&mut self, _p: Peer, _bytes: &[u8]) -> Result<(), SendFault> {
+        Err(SendFault::Memory)
+    }
+
+    fn close(&mut self, _p: Peer, _why: Why) {}
+}

@@ -1,0 +1,108 @@
+// From the words of the command line to the end of the program.
+ghost use Rattle.std.specs.Prelude.{◌≡◌, drop, IfOk};
+ghost use Rattle.std.specs.Process.{exit_status};
+ghost use Rattle.electrum_serve.specs.Words.{texts};
+ghost use Rattle.electrum_serve.specs.Commands.{IsNoCommand};
+ghost use Rattle.electrum_serve.specs.within.Devices.{folder_of};
+ghost use Rattle.electrum_serve.specs.Statuses.{code_of};
+
+use crate::devices::block_files::BlockFiles;
+use crate::devices::nobody::{NoFiles, NoLink};
+use crate::devices::standard_link::StandardLink;
+use crate::serving::serve;
+use crate::status::Status;
+use crate::words::{Command, read_words};
+use el_base::OutOfMemory;
+use std::alloc::Global;
+use std::process::ExitCode;
+use std::{env, io};
+
+// At most this many calls of `next` are made: more than a program makes in its life.
+const TURNS: u64 = u64::MAX;
+
+// The words after the first, which is the program's name.
+fn after_name(words: Vec<String>) -> Vec<String>
+    ensures { result.items ≡ drop 1 words.items }
+{
+    let mut words = words;
+    if !words.is_empty() {
+        let _name = words.remove(0);
+    }
+    words
+}
+
+// The words after the program's name. None where one is no text, since no command has such a word.
+fn words_of(rt: &HostRuntime) -> Result<Vec<String>, OutOfMemory> {
+    match env::args(rt) {
+        Ok(words) => Ok(after_name(words.collect(rt.alloc())?)),
+        Err(e) if e.kind() == io::ErrorKind::OutOfMemory => Err(OutOfMemory),
+        Err(_) => Ok(Vec::new(rt.alloc())),
+    }
+}
+
+// The block files that the command asks for: those of its folder.
+fn files_of(
+    rt: HostRuntime,
+    alloc: Global,
+    command: &Command,
+) -> Result<BlockFiles<HostRuntime>, OutOfMemory>
+    ensures { IfOk result (λ files. files ≡ record { folder = folder_of command.now; faults = 0 }) }
+{
+    let Command::Once { blocks, .. } = command;
+    BlockFiles::new(rt, alloc, blocks.as_str())
+}
+
+// Serves the command of these words over its block files and the standard streams.
+fn serve_command(
+    rt: &HostRuntime,
+    words: &[String],
+    command: &Command,
+) -> Result<Status, OutOfMemory>
+    ensures refused { IsNoCommand (texts words.now) → IfOk result (λ status. status ≡ Status.Usage) }
+    ensures lawful { IfOk result (λ status. status ≡ Status.Usage → IsNoCommand (texts words.now)) }
+{
+    let mut archive = files_of(rt.clone()?, rt.alloc(), command)?;
+    let mut link = StandardLink::new(rt.clone()?);
+    Ok(serve(rt.alloc(), words, &mut archive, &mut link, TURNS))
+}
+
+// Serves words that are no command over devices that have nothing.
+fn serve_nobody(rt: &HostRuntime, words: &[String]) -> Status
+    requires { IsNoCommand (texts words.now) }
+    ensures { result ≡ Status.Usage }
+{
+    serve(
+        rt.alloc(),
+        words,
+        &mut NoFiles,
+        &mut NoLink { calls: 0 },
+        TURNS,
+    )
+}
+
+// Serves the words over the devices that they ask for.
+fn serve_words(rt: &HostRuntime, words: &[String]) -> Result<Status, OutOfMemory>
+    ensures refused { IsNoCommand (texts words.now) → IfOk result (λ status. status ≡ Status.Usage) }
+    ensures lawful { IfOk result (λ status. status ≡ Status.Usage → IsNoCommand (texts words.now)) }
+{
+    match read_words(rt.alloc(), words)? {
+        Some(command) => serve_command(rt, words, &command),
+        None => Ok(serve_nobody(rt, words)),
+    }
+}
+
+/// Serves the words that the program was started with, and answers how that ended.
+pub fn serve_all(rt: &HostRuntime) -> Status {
+    match words_of(rt) {
+        Ok(words) => serve_words(rt, words.as_slice()).unwrap_or(Status::OutOfMemory),
+        Err(_) => Status::OutOfMemory,
+    }
+}
+
+/// Tells on standard error how the program ended, and gives its exit status.
+pub fn tell_end(rt: &HostRuntime, status: Status) -> ExitCode
+    ensures { exit_status result ≡ code_of status }
+{
+    let _ = eprint!(rt; "{}", status.line());
+    ExitCode::from(status.code())
+}
