@@ -10,4 +10,5 @@ pub mod Replies
 pub mod World
 pub mod Run
 pub mod CoinLaws
+pub mod Headers
 pub mod within
