@@ -58,7 +58,7 @@ abbrev pub TurnGives : Chain → World → List Event → Option Out → Option 
 TurnGives chain world left (Some o) next = TookTurn world left (outs_of o) (record { chain = chain; client = next; surplus = None })
 TurnGives chain world left None next = IsDone world left (record { chain = chain; client = next; surplus = None })
 
--- it is closed for want of memory
+-- it is closed as out of memory
 closes_memory : (chain : Chain) (c : ClientState) (o : Option Out) (next : Option ClientState) (world : World) (left : List Event) → chain ≡ world.chain
     → SessionsAre (Some c) None world.sessions left → o ≡ Some (out.Close c.peer why.Memory) → next ≡ None → TurnGives chain world left o next
 closes_memory chain c o next world left same sessions is gone = rw (is, gone) (record {

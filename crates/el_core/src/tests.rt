@@ -69,7 +69,7 @@ fn say(server: &mut Server, p: Peer, text: &str, shown: &mut Vec<u8>) -> Result<
     )
 }
 
-// What a client gets that sends this in two pieces, cut after so many bytes.
+// What a client gets that sends this in two pieces, cut after this number of bytes.
 fn replies(alloc: Global, first: &str, second: &str) -> Result<Vec<u8>, AllocError> {
     let mut server = Server::new(alloc, PlainLedger::new(alloc));
     let mut shown = Vec::new(alloc);
