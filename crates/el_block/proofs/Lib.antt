@@ -1,0 +1,4 @@
+pub mod BlockLemmas
+pub mod BlockRules
+pub mod BlockOrFault
+pub mod TxidLemmas

@@ -1,11 +1,14 @@
 // What no contract says: Bitcoin's first two blocks, which fault comes, and that each call succeeds where
 // memory is ample.
 ghost use Rattle.std.specs.Prelude.{ℕ, List, IfOk};
-ghost use Rattle.el_model.specs.Blocks.{EncodesBlock};
+ghost use Rattle.el_block.specs.Blocks.{EncodesBlock};
 
-use crate::{block_has_one_serialization, decode_block, encode_block, written_is_read};
-use el_base::{CompactFault, Hash32};
-use el_model::{Block, BlockFault};
+use crate::{
+    Block, BlockFault, block_has_one_encoding, decode_block, decode_with_txids,
+    each_is_block_or_faults, encode_block, encoded_block_has_no_fault, first_block_fault_is_one,
+    no_block_begins_another, written_is_read,
+};
+use el_base::{CompactFault, Hash32, OutOfMemory};
 use el_tx::TxFault;
 use std::alloc::Global;
 use std::test::Fail;
@@ -37,6 +40,9 @@ const OUTPUTS_1: &str =
      d4e0a604f8141781e62294721166bf621e73a82cbf2342c858eeac";
 
 const HASH_0: &str = "000000000019d6689c085ae165831e934ff763ae46a2a6c172b3f1b60a8ce26f";
+
+// The txids of their coinbases.
+const TXID_0: &str = "4a5e1e4baab89f3a32518a88c31bc87f618f76673e2cc77ab2127b7afdeda33b";
 
 const TXID_1: &str = "0e3e2357e806b6cdb1f70b54c3a3a17b6714ee1f0e68bebb44a74b1efd512098";
 
@@ -72,6 +78,9 @@ const SPEND_B: &str =
 const SIGNED_A: &str =
     "0100000000010111111111111111111111111111111111111111111111111111111111111111110000000000ffffffff01e8\
      03000000000000015101012a00000000";
+
+// The txid of the first that spends, with or without its witness.
+const TXID_A: &str = "99296a9c40f5e307530147cc99133f35ae866b280d362d7c487bfd30ea1d72d8";
 
 // The Merkle root of the coinbase and the first that spends, with or without its witness.
 const ROOT_COIN_A: &str = "c4d80dc078c1bf63254c8cd1d80356e142cdbb38987d97cf5f067613c4a21dad";
@@ -120,10 +129,9 @@ fn fault_after(alloc: Global, root: &str, parts: [&str; 5]) -> Result<Option<Blo
 
 #[test]
 fn reads_and_writes(rt: HostRuntime) -> Result<(), Fail> {
-    let first = "4a5e1e4baab89f3a32518a88c31bc87f618f76673e2cc77ab2127b7afdeda33b";
     let none = "0000000000000000000000000000000000000000000000000000000000000000";
     for (parts, previous, root, txs) in [
-        (BLOCK_0, none, first, 1),
+        (BLOCK_0, none, TXID_0, 1),
         (BLOCK_1, HASH_0, TXID_1, 1),
         (SIGNED, none, ROOT_COIN_A_SHOWN, 2),
     ] {
@@ -137,7 +145,25 @@ fn reads_and_writes(rt: HostRuntime) -> Result<(), Fail> {
         let again = written_is_read(rt.alloc(), &block)?;
         assert_eq!(rt; again.header, block.header);
     }
-    block_has_one_serialization();
+    block_has_one_encoding();
+    Ok(())
+}
+
+// Of the block with the witness the last txid is that of the form without it.
+#[test]
+fn gives_txids(rt: HostRuntime) -> Result<(), Fail> {
+    for (parts, count, last) in [
+        (BLOCK_0, 1, TXID_0),
+        (BLOCK_1, 1, TXID_1),
+        (SIGNED, 2, TXID_A),
+    ] {
+        let bytes = bytes_of(rt.alloc(), parts.as_slice())?;
+        let (block, txids) = decode_with_txids(rt.alloc(), bytes.as_slice())?;
+        assert_eq!(rt; block.txs.len(), count);
+        assert_eq!(rt; txids.len(), count);
+        let last = Hash32::from_shown(last)?;
+        assert_eq!(rt; txids.as_slice().last().copied(), Some(last));
+    }
     Ok(())
 }
 
@@ -287,4 +313,67 @@ fn weighs(rt: HostRuntime) -> Result<(), Fail> {
         assert_eq!(rt; decode_block(rt.alloc(), bytes.as_slice()).err(), fault);
     }
     Ok(())
+}
+
+#[test]
+fn prints_faults(rt: HostRuntime) -> Result<(), Fail> {
+    let hash = Hash32([0; 32]);
+    for (fault, text) in [
+        (BlockFault::Short, "fewer than 80 bytes"),
+        (
+            BlockFault::Count(CompactFault::Short { place: 80 }),
+            "number of transactions: bytes end within the number at 80",
+        ),
+        (BlockFault::NoTransactions, "no transactions"),
+        (
+            BlockFault::Tx {
+                index: 3,
+                fault: TxFault::NoOutputs,
+            },
+            "transaction 3: no outputs",
+        ),
+        (
+            BlockFault::Trailing { place: 285 },
+            "bytes after the block at 285",
+        ),
+        (
+            BlockFault::FirstNotCoinbase,
+            "the first transaction is no coinbase",
+        ),
+        (
+            BlockFault::LaterCoinbase { index: 2 },
+            "transaction 2 is a coinbase too",
+        ),
+        (
+            BlockFault::SameTxid {
+                first: 1,
+                second: 3,
+            },
+            "transactions 1 and 3 have one txid",
+        ),
+        (
+            BlockFault::BadMerkle {
+                header: hash,
+                found: hash,
+            },
+            "the Merkle root is not the header's",
+        ),
+        (
+            BlockFault::Heavy { weight: 4_000_001 },
+            "the block weighs 4000001",
+        ),
+        (BlockFault::from(OutOfMemory), "out of memory"),
+    ] {
+        assert_eq!(rt; format!(in rt.alloc(); "{fault}")?.as_str(), text);
+    }
+    Ok(())
+}
+
+#[test]
+fn states_laws() {
+    no_block_begins_another();
+    block_has_one_encoding();
+    encoded_block_has_no_fault();
+    first_block_fault_is_one();
+    each_is_block_or_faults();
 }

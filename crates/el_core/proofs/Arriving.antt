@@ -1,7 +1,7 @@
 -- What the server makes of an arrival.
 use Rattle.std.proofs.Common.{◌≡◌, inl, inr, ℕ, ◌≤◌, ◌==◌, true, List, [], ◌∷◌, ◌++◌, length, map, Option, Some, None, refl, sym, ◌∙◌, append-nil, eqb-true, arith, length-append}
 use Rattle.el_outside.specs.Story.{ArrivalWithBytes, opened, brought, closed}
-use Rattle.el_model.specs.Blocks.{Chain}
+use Rattle.el_chain.specs.Chains.{Chain}
 use Rattle.el_model.specs.Lines.{lines}
 use Rattle.el_model.specs.World.{World, joins, leaves, says, nothing, events, after_hearing, added_lines, with_client, without_client, line_limit}
 use Rattle.el_model.specs.Run.{none, takes}

@@ -4,7 +4,7 @@ use Rattle.std.specs.Prelude.{MatchBool, IfSome, IfNone}
 use Rattle.std.specs.List.{slice_get}
 use Rattle.std.proofs.lemmas.Option.{slice_get_within}
 use Rattle.el_outside.specs.declared.link.Why.TheVariants as why
-use Rattle.el_model.specs.Blocks.{Chain}
+use Rattle.el_chain.specs.Chains.{Chain}
 use Rattle.el_model.specs.Lines.{LineEvent, line, too_long, lines}
 use Rattle.el_model.specs.World.{World, Event, joins, leaves, says, Takes, nothing, closes_surplus, is_client, without_client, line_limit}
 use Rattle.el_model.specs.Run.{Turns, none, takes}

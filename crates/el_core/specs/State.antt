@@ -1,7 +1,7 @@
 -- What the server keeps, and which world it stands for.
 use Rattle.std.specs.Prelude.{◌≡◌, ℕ, ◌+◌, ◌≤◌, Bool, true, false, List, [], ◌∷◌, length, map, drop, Option, Some, None}
 use Rattle.std.specs.List.{AllByRecursion}
-use Rattle.el_model.specs.Blocks.{Chain}
+use Rattle.el_chain.specs.Chains.{Chain}
 use Rattle.el_model.specs.Lines.{lines}
 use Rattle.el_model.specs.World.{World, Session, Event, says, joins, leaves, line_limit}
 use Rattle.el_lines.specs.LineStates.{LineState, IsAt, held}

@@ -8,8 +8,9 @@ ghost use Rattle.el_core.specs.within.Clients.{IsFresh, Keeps, Gives, NextIsLine
 use crate::out::Out;
 use crate::reply::reply;
 use el_base::{Bytes, OutOfMemory};
+use el_chain::PlainChain;
 use el_lines::{LineBuffer, LineEvent};
-use el_model::{LINE_LIMIT, PlainLedger};
+use el_model::LINE_LIMIT;
 use el_outside::{Peer, Why};
 use std::alloc::Global;
 use std::marker::Model;
@@ -85,7 +86,7 @@ impl Client {
 // What a client gets for what was met in its bytes: the reply to a line, or its closing.
 fn answer(
     alloc: Global,
-    ledger: &PlainLedger,
+    ledger: &PlainChain,
     client: Client,
     met: LineEvent,
 ) -> (Out, Option<Client>)
@@ -105,7 +106,7 @@ fn answer(
 /// One turn of a client: the reply to its next line, its closing, or nothing where no whole line is left.
 pub fn client_turn(
     alloc: Global,
-    ledger: &PlainLedger,
+    ledger: &PlainChain,
     client: Client,
 ) -> (Option<Out>, Option<Client>)
     ensures turn { ClientTurn ledger.now client result.0 result.1 }

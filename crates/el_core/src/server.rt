@@ -9,7 +9,7 @@ ghost use Rattle.el_core.specs.within.Clients.{Hears, Opens, ClientSteps};
 
 use crate::client::{Client, client_turn};
 use crate::out::Out;
-use el_model::PlainLedger;
+use el_chain::PlainChain;
 use el_outside::{Arrival, Peer, Why};
 use std::alloc::Global;
 use std::marker::Model;
@@ -23,7 +23,7 @@ use std::marker::Model;
 #[derive(Debug, Drop)]
 pub struct Server {
     alloc: Global,
-    ledger: PlainLedger,
+    ledger: PlainChain,
     client: Option<Client>,
     surplus: Option<Peer>,
 }
@@ -38,7 +38,7 @@ impl Model for Server {
 
 impl Server {
     /// A server without clients. Takes no memory.
-    pub fn new(alloc: Global, ledger: PlainLedger) -> Server
+    pub fn new(alloc: Global, ledger: PlainChain) -> Server
         ensures value { result ≡ record { chain = ledger; client = None; surplus = None } }
         ensures stands { Stands result (quiet_world ledger) [] }
         ensures idle { IsIdle result }

@@ -3,8 +3,9 @@ ghost use Rattle.std.specs.Prelude.{OnOk};
 ghost use Rattle.el_core.specs.State.{IsIdle};
 
 use crate::{Out, Server};
+use el_chain::PlainChain;
 use el_lines::too_large_reply;
-use el_model::{LINE_LIMIT, PlainLedger};
+use el_model::LINE_LIMIT;
 use el_outside::{Arrival, Peer, Why};
 use std::alloc::{AllocError, Global};
 use std::test::Fail;
@@ -71,7 +72,7 @@ fn say(server: &mut Server, p: Peer, text: &str, shown: &mut Vec<u8>) -> Result<
 
 // What a client gets that sends this in two pieces, cut after this number of bytes.
 fn replies(alloc: Global, first: &str, second: &str) -> Result<Vec<u8>, AllocError> {
-    let mut server = Server::new(alloc, PlainLedger::new(alloc));
+    let mut server = Server::new(alloc, PlainChain::new(alloc));
     let mut shown = Vec::new(alloc);
     arrive(&mut server, Arrival::Opened(1), b"", &mut shown)?;
     say(&mut server, 1, first, &mut shown)?;
@@ -130,7 +131,7 @@ fn lines_round_the_limit(rt: HostRuntime) -> Result<(), Fail> {
 
 #[test]
 fn one_client_at_once(rt: HostRuntime) -> Result<(), Fail> {
-    let mut server = Server::new(rt.alloc(), PlainLedger::new(rt.alloc()));
+    let mut server = Server::new(rt.alloc(), PlainChain::new(rt.alloc()));
     let mut shown = Vec::new(rt.alloc());
     arrive(&mut server, Arrival::Opened(1), b"", &mut shown)?;
     arrive(&mut server, Arrival::Opened(2), b"", &mut shown)?;

@@ -6,9 +6,9 @@ ghost use Rattle.el_fakes.specs.Archives.{file_bytes, is_short, are_fitting};
 use el_base::Bytes;
 use el_outside::{MOST_FILES, SIZE_LIMIT};
 
-// Fills the front of the buffer with what the bytes have from the place on, and answers how many bytes that
-// are.
-pub(crate) fn fill(bytes: &[u8], at: u64, buf: &mut [u8]) -> usize
+/// Fills the front of the buffer with what the bytes have from the place on, and answers how many bytes that
+/// are.
+pub fn fill(bytes: &[u8], at: u64, buf: &mut [u8]) -> usize
     ensures count { result ≡ min (length buf.old) (length bytes.now - at) }
     ensures filled { take result buf.new ≡ take result (drop at bytes.now) }
 {
@@ -31,8 +31,8 @@ pub(crate) fn bytes_of(files: &[Bytes], file: u32) -> &[u8]
     }
 }
 
-// Whether the number stands in the list.
-pub(crate) fn is_listed(numbers: &[u64], n: u64) -> bool
+/// Whether the number stands in the list.
+pub fn is_listed(numbers: &[u64], n: u64) -> bool
     ensures { result ≡ list_any (λ m. n == m) numbers.now }
 {
     numbers.iter().any(|m| n == *m)

@@ -1,7 +1,7 @@
 -- How lists of nodes are appended to.
 use Rattle.std.proofs.Common.{◌≡◌, List, [], ◌∷◌, ◌++◌, sym, ap, ◌∙◌, append_assoc, append-nil, Result, Ok, Err, OnErr}
 use Rattle.el_base.proofs.Lists.{all_append, all_weaker}
-use Rattle.el_model.specs.declared.node.Node.{Node}
+use Rattle.el_chain.specs.declared.node.Node.{Node}
 use Rattle.el_files.specs.Appending.{AppendsOnly}
 
 -- nothing was appended

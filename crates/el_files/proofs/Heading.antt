@@ -8,25 +8,16 @@ use Rattle.std.proofs.lemmas.List.{take-take, drop-take}
 use Rattle.el_base.specs.declared.hash.Hash32.{Hash32}
 use Rattle.el_tx.specs.Headers.{header_of, header_encoding}
 use Rattle.el_tx.specs.declared.types.Header.{Header}
-use Rattle.el_model.specs.Blocks.{block_hash}
-use Rattle.el_model.specs.Records.{size_field, record_size, node_of, node_at, IsNode}
-use Rattle.el_model.specs.declared.limits.TheConstants.{MIN_BLOCK_SIZE, MAX_BLOCK_WEIGHT}
-use Rattle.el_model.specs.declared.node.Node.{Node}
+use Rattle.el_block.specs.Blocks.{block_hash}
+use Rattle.el_chain.specs.Records.{size_field, record_size, node_of, node_at, IsNode}
+use Rattle.el_block.specs.declared.limits.TheConstants.{MAX_BLOCK_WEIGHT}
+use Rattle.el_chain.specs.declared.limits.TheConstants.{MIN_BLOCK_SIZE}
+use Rattle.el_chain.specs.declared.node.Node.{Node}
 use Rattle.el_outside.specs.declared.archive.TheConstants.{SIZE_LIMIT}
 use Rattle.el_files.specs.declared.limits.TheConstants.{HEAD_SIZE}
 use Rattle.el_files.specs.Scanning.{IsFoundIn, IsFoundAt}
+pub use Rattle.el_chain.proofs.RecordBytes.{header_in_front, size_bounds}
 use Rattle.el_files.specs.within.Finding.{IsAt, IsIn}
-
--- a field within the front of bytes
-pub field : (n m k : ℕ) (xs : List ℕ) → n + m ≤ k → take m (drop n (take k xs)) ≡ take m (drop n xs)
-field n m k xs within =
-    let same : k ≡ n + (k - n) = omega arith in
-    ap (λ (j : ℕ). take m (drop n (take j xs))) same ∙ ap (take m) (drop-take n (k - n) xs) ∙ take-take m (k - n) (drop n xs) (omega arith)
-
--- the header is read from 80 bytes
-pub header_in_front : (xs : List ℕ) → header_of (take 80 xs) ≡ header_of xs
-header_in_front xs =
-    rw (field 0 4 80 xs (omega arith), field 4 32 80 xs (omega arith), field 36 32 80 xs (omega arith), field 68 4 80 xs (omega arith), field 72 4 80 xs (omega arith), field 76 4 80 xs (omega arith)) refl
 
 -- so is the node
 pub node_in_front : (file place size : ℕ) (xs : List ℕ) → node_of file place size (take 80 xs) ≡ node_of file place size xs
@@ -43,24 +34,6 @@ node_made hash h file place size header hashed encoded reads =
     same_parts (λ (x : List ℕ) (k : Header). record { hash = record { 0 = x }; header = k; place = record { file = file; offset = place; len = size } })
     hash.0 (block_hash (header_of header)).0 h (header_of header)
     (hashed ∙ ap sha256d (sym encoded ∙ ap header_encoding reads)) reads
-
--- what a size that was read tells
-size_tested : (a b c d : Bool) (x y : ℕ) → ◌≡◌ {A = Option ℕ} (if a && (b && (c && d)) then Some x else None) (Some y)
-    → IsTrue b × IsTrue c × IsTrue d × (x ≡ y)
-size_tested true true true true x y e = (refl, refl, refl, cc)
-size_tested true true true false x y e = absurd (cc)
-size_tested true true false d x y e = absurd (cc)
-size_tested true false c d x y e = absurd (cc)
-size_tested false b c d x y e = absurd (cc)
-
-pub size_bounds : (magic bytes : List ℕ) (left n : ℕ) → record_size magic bytes left ≡ Some n → (MIN_BLOCK_SIZE ≤ n) × (n ≤ MAX_BLOCK_WEIGHT) × (8 + n ≤ left)
-size_bounds magic bytes left n e =
-    let t = size_tested (bytes_eq (take 4 bytes) magic) (nat_le MIN_BLOCK_SIZE (size_field bytes)) (nat_le (size_field bytes) MAX_BLOCK_WEIGHT) (nat_le (8 + size_field bytes) left) (size_field bytes) n e in
-    let least = leb-true MIN_BLOCK_SIZE (size_field bytes) t.0 in
-    let most = leb-true (size_field bytes) MAX_BLOCK_WEIGHT t.1 in
-    let within = leb-true (8 + size_field bytes) left t.2 in
-    let is : size_field bytes ≡ n = t.3 in
-    (omega arith, omega arith, omega arith)
 
 -- a node that was read
 pub node_read : (magic bytes header : List ℕ) (file place left n : ℕ) (node : Node) → record_size magic bytes left ≡ Some n → header ≡ take 80 (drop 8 bytes)

@@ -3,8 +3,8 @@ use Rattle.std.proofs.Common.{◌≡◌, ℕ, zero, suc, ◌+◌, ◌-◌, ◌<�
 use Rattle.std.proofs.lemmas.Bool.{eq-eqb, eqb-true}
 use Rattle.el_outside.specs.Files.{Grows, AllGrow, IsFile}
 use Rattle.el_outside.proofs.Stories.{grows_none, grows_more}
-use Rattle.el_model.specs.Records.{records, records_of_files}
-use Rattle.el_model.specs.declared.node.Node.{Node}
+use Rattle.el_chain.specs.Records.{records, records_of_files}
+use Rattle.el_chain.specs.declared.node.Node.{Node}
 use Rattle.el_outside.specs.declared.archive.TheConstants.{MOST_FILES}
 use Rattle.el_files.specs.Appending.{AppendsFront}
 use Rattle.el_files.specs.Scanning.{AllFiles, IsFoundIn, IsFoundBelow}

@@ -5,16 +5,7 @@ use Rattle.std.proofs.lemmas.List.{take_min}
 use Rattle.el_base.specs.declared.hash.Hash32.{Hash32}
 use Rattle.el_tx.specs.declared.types.Tx.{Tx}
 use Rattle.el_tx.specs.declared.fault.TxFault.{TxFault}
-use Rattle.el_files.specs.Reading.{IfChanged, IsTxOf, IsOtherTx}
-use Rattle.el_files.specs.declared.fault.ReadFault.{ReadFault}
-use Rattle.el_files.specs.declared.fault.ReadFault.TheVariants as fault
-
--- what a read gives of a file, of which it may have fewer bytes than were asked for
-pub part_read : (len at count : ℕ) (given bytes : List ℕ) → count ≡ min len (length bytes - at) → given ≡ take count (drop at bytes)
-    → given ≡ take len (drop at bytes)
-part_read len at count given bytes counted filled =
-    let rest : count ≡ min len (length (drop at bytes)) = counted ∙ ap (min len) (sym (length-drop at bytes)) in
-    filled ∙ ap (λ (n : ℕ). take n (drop at bytes)) rest ∙ take_min len (drop at bytes)
+use Rattle.el_files.specs.Reading.{IsTxOf, IsOtherTx}
 
 -- a transaction that was read is the one that is encoded
 pub same_tx : (read : Tx) (size : ℕ) (other : Tx) (long : ℕ) → ◌≡◌ {A = Result (Tx × ℕ) TxFault} (Ok (read, size)) (Ok (other, long)) → (read ≡ other) × (size ≡ long)
@@ -41,13 +32,3 @@ no_tx wanted bytes (Some id) e only = absurd (cc)
 pub of_length : (len : ℕ) (wanted : Hash32) (bytes : List ℕ) (found : Option Hash32) → length bytes ≡ len → IsOtherTx (length bytes) wanted bytes found
     → IsOtherTx len wanted bytes found
 of_length len wanted bytes found long other = rw (← long) other
-
--- where no change can be, the answer is none
-pub unchanged : {T : Type 0} (f : ReadFault) (r : Result T ReadFault) (P : Hash32 → Option Hash32 → Type 0) (Q : T → Type 0) → r ≡ Err f
-    → IfChanged {T = Unit {0}} (Err f) P → ((wanted : Hash32) (found : Option Hash32) → P wanted found → ⊥) → IfOk r Q × IfChanged r (λ wanted found. ⊥)
-unchanged {T} f r P Q e c none = rw e (tt, of_fault f c)
-  where
-    of_fault : (g : ReadFault) → IfChanged {T = Unit {0}} (Err g) P → IfChanged {T = T} (Err g) (λ wanted found. ⊥)
-    of_fault fault.ArchiveFailed k = tt
-    of_fault (fault.Changed wanted found) k = none wanted found k
-    of_fault fault.Memory k = tt

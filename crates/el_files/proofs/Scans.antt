@@ -4,8 +4,8 @@ use Rattle.std.specs.Prelude.{Option, None, Some, option_map, option_to_list}
 use Rattle.std.proofs.lemmas.Bool.{le-leb}
 use Rattle.std.proofs.lemmas.List.{take-append-le, drop-append-le, drop-drop, length-take, length-take-le, take_at}
 use Rattle.el_outside.specs.Files.{Grows, IsFile}
-use Rattle.el_model.specs.Records.{record_size, node_of, records, records_from}
-use Rattle.el_model.specs.declared.node.Node.{Node}
+use Rattle.el_chain.specs.Records.{record_size, node_of, records, records_from}
+use Rattle.el_chain.specs.declared.node.Node.{Node}
 use Rattle.el_files.specs.declared.limits.TheConstants.{MIN_RECORD_SIZE}
 use Rattle.el_files.specs.Appending.{AppendsFront}
 use Rattle.el_files.specs.within.Walking.{Walked, WalkedTo}

@@ -4,21 +4,15 @@ use Rattle.std.specs.Prelude.{Option, None, Some, option_map, option_to_list}
 use Rattle.std.specs.Str.{bytes_eq}
 use Rattle.std.specs.Int.{w32, from_le_bytes}
 use Rattle.std.proofs.lemmas.List.{drop-drop, drop-take, take-take}
-use Rattle.el_model.specs.Records.{size_field, record_size, node_of, node_at, bytes_after, records_from}
-use Rattle.el_model.specs.declared.limits.TheConstants.{MIN_BLOCK_SIZE, MAX_BLOCK_WEIGHT}
-use Rattle.el_model.specs.declared.node.Node.{Node}
+use Rattle.el_chain.specs.Records.{size_field, record_size, node_of, node_at, bytes_after, records_from}
+use Rattle.el_block.specs.declared.limits.TheConstants.{MAX_BLOCK_WEIGHT}
+use Rattle.el_chain.specs.declared.limits.TheConstants.{MIN_BLOCK_SIZE}
+use Rattle.el_chain.specs.declared.node.Node.{Node}
 use Rattle.el_files.specs.declared.limits.TheConstants.{HEAD_SIZE}
 use Rattle.el_files.specs.within.Walking.{Walked}
-use Rattle.el_files.proofs.Heading.{field, node_in_front}
+pub use Rattle.el_chain.proofs.RecordBytes.{field, size_here, node_here, size_of}
+use Rattle.el_files.proofs.Heading.{node_in_front}
 
--- the record that stands in front of all bytes that a file has left
-abbrev pub size_here : List ℕ → List ℕ → Option ℕ
-size_here magic bytes = record_size magic bytes (length bytes)
-
-abbrev pub node_here : List ℕ → ℕ → ℕ → List ℕ → Option Node
-node_here magic file place bytes = node_at magic file place bytes (length bytes)
-
--- to pass bytes is to begin after them
 passing : (magic : List ℕ) (file place passed : ℕ) (bytes : List ℕ)
     → records_from magic file place passed bytes ≡ records_from magic file (place + passed) 0 (drop passed bytes)
 passing magic file place zero bytes = ap (λ (p : ℕ). records_from magic file p 0 bytes) (let e : place ≡ place + 0 = omega arith in e)
@@ -87,12 +81,6 @@ piece_from piece bytes i is within =
 no_size : (f : ℕ → Node) (r : Option ℕ) → option_map f r ≡ None → r ≡ None
 no_size f None e = refl
 no_size f (Some n) e = absurd (cc)
-
-pub size_of : (file place : ℕ) (header : List ℕ) (r : Option ℕ) (node : Node) → option_map (λ n. node_of file place n header) r ≡ Some node → r ≡ Some node.place.len
-size_of file place header None node e = absurd (cc)
-size_of file place header (Some n) node e =
-    let is : node_of file place n header ≡ node = cc in
-    ap (λ (m : Node). Some m.place.len) is
 
 pub walked_none : (magic : List ℕ) (file place : ℕ) (bytes : List ℕ) (old : List Node) → Walked magic file place 0 bytes old old
 walked_none magic file place bytes old = record {

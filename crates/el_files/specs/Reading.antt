@@ -4,17 +4,10 @@ use Rattle.el_base.specs.declared.hash.Hash32.{Hash32}
 use Rattle.el_tx.specs.Encoding.{Encodes}
 use Rattle.el_tx.specs.Hashing.{txid}
 use Rattle.el_tx.specs.declared.types.Tx.{Tx}
-use Rattle.el_model.specs.declared.node.Spot.{Spot}
-use Rattle.el_files.specs.declared.limits.TheConstants.{PREFIX_SIZE}
-use Rattle.el_files.specs.declared.fault.ReadFault.{ReadFault}
-use Rattle.el_files.specs.declared.fault.ReadFault.TheVariants as fault
-
--- this is so of the hash that was wanted and of the one that was found, where the answer is a change
-abbrev pub IfChanged : {T : Type 0} → Result T ReadFault → (Hash32 → Option Hash32 → Type 0) → Type 0
-IfChanged (Ok x) P = Unit {0}
-IfChanged (Err fault.ArchiveFailed) P = Unit {0}
-IfChanged (Err (fault.Changed wanted found)) P = P wanted found
-IfChanged (Err fault.Memory) P = Unit {0}
+use Rattle.el_chain.specs.declared.node.Spot.{Spot}
+use Rattle.el_chain.specs.declared.limits.TheConstants.{PREFIX_SIZE}
+use Rattle.el_chain.specs.declared.read_fault.ReadFault.{ReadFault}
+use Rattle.el_chain.specs.declared.read_fault.ReadFault.TheVariants as fault
 
 -- the bytes of the transaction at the spot of a file with these bytes: they stand in the block, after magic
 -- and size

@@ -2,10 +2,13 @@
 use Rattle.std.specs.Prelude.{◌≡◌, ℕ, ◌+◌, ◌<◌, ◌≤◌, List, [], length, drop, Some}
 use Rattle.el_outside.specs.Files.{AllGrow, IsFile}
 use Rattle.el_outside.specs.declared.archive.TheConstants.{SIZE_LIMIT}
-use Rattle.el_model.specs.Records.{IsNode, node_at}
-use Rattle.el_model.specs.declared.limits.TheConstants.{MIN_BLOCK_SIZE, MAX_BLOCK_WEIGHT}
-use Rattle.el_model.specs.declared.node.Node.{Node}
-use Rattle.el_files.specs.declared.limits.TheConstants.{PREFIX_SIZE, HEAD_SIZE}
+pub use Rattle.el_chain.specs.Records.{IsRecordIn}
+use Rattle.el_chain.specs.Records.{IsNode, node_at}
+use Rattle.el_block.specs.declared.limits.TheConstants.{MAX_BLOCK_WEIGHT}
+use Rattle.el_chain.specs.declared.limits.TheConstants.{MIN_BLOCK_SIZE}
+use Rattle.el_chain.specs.declared.node.Node.{Node}
+use Rattle.el_files.specs.declared.limits.TheConstants.{HEAD_SIZE}
+use Rattle.el_chain.specs.declared.limits.TheConstants.{PREFIX_SIZE}
 
 -- A block that was found in the block files. Its record ends where a file can.
 pub record IsFound (n : Node) : Type 0 where
@@ -46,11 +49,6 @@ pub record IsFoundBelow (gave : ℕ → ℕ → List ℕ → Type 0) (magic : Li
     : Type 0 where
   pub found : IsFoundIn gave magic n.place.file n
   pub file : n.place.file < count
-
--- The node is that of the record that stands at its place in the file with this number and these bytes.
-pub record IsRecordIn (magic : List ℕ) (number : ℕ) (bytes : List ℕ) (n : Node) : Type 0 where
-  pub stands : node_at magic number n.place.offset (drop n.place.offset bytes)
-      (length (drop n.place.offset bytes)) ≡ Some n
 
 -- The bytes of all files of an archive that was `before` and is `now`: of each file as it was at some
 -- moment between. `told` is the archive as it was when it told the number of its files; none after them has

@@ -1,13 +1,14 @@
 // The heads of records: magic, size and header.
 ghost use Rattle.std.specs.Prelude.{◌≡◌, ◌+◌, ◌<◌, ◌≤◌, take, length, IfSome};
 ghost use Rattle.std.specs.Str.{bytes_eq};
-ghost use Rattle.el_model.specs.Records as records;
-ghost use Rattle.el_model.specs.Records.{IsNode};
+ghost use Rattle.el_chain.specs.Records as records;
+ghost use Rattle.el_chain.specs.Records.{IsNode};
 ghost use Rattle.el_outside.specs.declared.archive.TheConstants.{SIZE_LIMIT};
 ghost use Rattle.el_files.specs.within.Finding.{IsAt};
 
-use crate::limits::{HEAD_SIZE, PREFIX_SIZE};
-use el_model::{MAX_BLOCK_WEIGHT, MIN_BLOCK_SIZE, Node};
+use crate::limits::HEAD_SIZE;
+use el_block::MAX_BLOCK_WEIGHT;
+use el_chain::{MIN_BLOCK_SIZE, Node, PREFIX_SIZE};
 use el_outside::Place;
 use el_tx::{block_hash, decode_header};
 

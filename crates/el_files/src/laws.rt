@@ -1,8 +1,8 @@
 // What holds of the records of a file.
 ghost use Rattle.std.specs.Prelude.{ℕ, List};
 ghost use Rattle.std.specs.List.{AllByRecursion};
-ghost use Rattle.el_model.specs.Records.{records};
-ghost use Rattle.el_files.specs.Scanning.{IsRecordIn};
+ghost use Rattle.el_chain.specs.Records.{records};
+ghost use Rattle.el_chain.specs.Records.{IsRecordIn};
 
 /// Each node in the list of a file's records is that of the record that stands at its place.
 pub fn records_stand()

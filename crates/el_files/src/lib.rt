@@ -2,8 +2,6 @@
 //! read notices that the bytes have changed since the block or the transaction was found there.
 #![tactic(auto)]
 
-mod fault;
-mod filling;
 mod heads;
 mod laws;
 mod limits;
@@ -12,10 +10,10 @@ mod reading;
 mod scanning;
 mod walk;
 
-pub use fault::{ReadFault, ScanFault};
+pub use el_chain::{ReadFault, ScanFault, read_block};
 pub use laws::records_stand;
 pub use lookup::record_at;
-pub use reading::{read_block, read_tx};
+pub use reading::read_tx;
 pub use scanning::{scan, scan_file};
 
 #[cfg(test)]

@@ -1,8 +1,5 @@
 // Sizes in the block files, each of which stands here alone.
-use el_model::MIN_BLOCK_SIZE;
-
-/// How many bytes of a record stand before its block: the network's magic and the block's size.
-pub const PREFIX_SIZE: u32 = 8;
+use el_chain::{MIN_BLOCK_SIZE, PREFIX_SIZE};
 
 /// How many bytes the head of a record has: the network's magic, the block's size and its header.
 pub const HEAD_SIZE: usize = 88;

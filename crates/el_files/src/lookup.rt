@@ -2,13 +2,12 @@
 ghost use Rattle.std.specs.Prelude.{◌≡◌, ℕ, List, length, drop, IfOk, IfSome};
 ghost use Rattle.el_outside.specs.Counts.{OnlyReads};
 ghost use Rattle.el_outside.specs.Files.{IsFile};
-ghost use Rattle.el_model.specs.Records.{node_at};
+ghost use Rattle.el_chain.specs.Records.{node_at};
 ghost use Rattle.el_files.specs.Scanning.{IsFoundAt};
 
-use crate::filling::fill;
 use crate::heads::node_in;
 use crate::limits::{HEAD_SIZE, MIN_RECORD_SIZE};
-use el_model::Node;
+use el_chain::{Node, fill};
 use el_outside::{Archive, ArchiveFailed};
 
 /// The block whose record stands at the place of a file, counted in bytes from 0. None where no record

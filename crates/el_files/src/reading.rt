@@ -1,66 +1,16 @@
-// Blocks and transactions of the block files, by their places.
-ghost use Rattle.std.specs.Prelude.{◌≡◌, ◌≢◌, ◌+◌, ◌≤◌, ℕ, List, Some, length, take, drop, IfOk, IfErr, IfSome, OnOk};
-ghost use Rattle.el_base.specs.Left.{AreBytes};
+// Transactions of the block files, by their places.
+ghost use Rattle.std.specs.Prelude.{◌≡◌, ◌≢◌, ℕ, List, Some, length, IfOk, IfErr, IfSome, OnOk};
 ghost use Rattle.el_outside.specs.Counts.{OnlyReads};
-ghost use Rattle.el_model.specs.Records.{IsBlockOf, IsNode, IsOtherBlock, block_at};
-ghost use Rattle.el_outside.specs.Files.{Grows};
-ghost use Rattle.el_files.specs.Reading.{IfChanged, IsTxOf, IsOtherTx, text_at};
-ghost use Rattle.el_files.specs.Scanning.{IsRecordIn};
+ghost use Rattle.el_chain.specs.Reading.{IfChanged};
+ghost use Rattle.el_files.specs.Reading.{IsTxOf, IsOtherTx, text_at};
 ghost use Rattle.el_base.specs.declared.hash.Hash32 as shape;
-ghost use Rattle.el_files.specs.declared.fault.ReadFault.TheVariants as fault;
+ghost use Rattle.el_chain.specs.declared.read_fault.ReadFault.TheVariants as fault;
 
-use crate::fault::{ReadFault, ScanFault};
-use crate::filling::zeros;
-use crate::limits::PREFIX_SIZE;
 use el_base::{Hash32, OutOfMemory};
-use el_model::{Node, Spot, compare_block};
-use el_outside::{Archive, Place};
+use el_chain::{PREFIX_SIZE, ReadFault, Spot, read_part};
+use el_outside::Archive;
 use el_tx::{TxFault, decode_tx, txid};
 use std::alloc::Global;
-
-// The bytes of the file after the first `skipped` ones at the place: `len` of them, or those that are there
-// where these are fewer.
-fn part_of<A: Archive>(
-    alloc: Global,
-    archive: &mut A,
-    place: Place,
-    skipped: u64,
-    len: u32,
-) -> Result<Vec<u8>, ScanFault>
-    ensures part { A.tells → IfOk result
-        (λ v. v.items ≡ take len (drop (place.offset + skipped) (A.bytes archive.new place.file))) }
-    ensures within { IfOk result (λ v. length v.items ≤ len) }
-    ensures only_reads { OnlyReads A.tells (A.bytes archive.old) (A.bytes archive.new)
-        (A.faults archive.old) (A.faults archive.new) ScanFault.ArchiveFailed result }
-{
-    let Some(at) = place.offset.checked_add(skipped) else {
-        // No file reaches so far.
-        archive.size(place.file)?;
-        return Ok(Vec::new(alloc));
-    };
-    let mut part = zeros(alloc, len as usize)?;
-    let count = archive.read(place.file, at, part.as_mut_slice())?;
-    part.truncate(count);
-    Ok(part)
-}
-
-// Compares the bytes with the node's block.
-fn check_block(node: &Node, bytes: &[u8]) -> Result<(), ReadFault>
-    requires { IsNode node.now }
-    ensures same { OnOk result (IsBlockOf node.now bytes.now) }
-    ensures other { IfErr result (λ e. e ≢ fault.ArchiveFailed) }
-    ensures wanted { IfChanged result (λ wanted found. wanted ≡ node.now.hash) }
-    ensures changed { IfChanged result (λ wanted found. IsOtherBlock node.now bytes.now found) }
-    ensures bytes { AreBytes bytes.now }
-{
-    match compare_block(node, bytes) {
-        Ok(()) => Ok(()),
-        Err(found) => Err(ReadFault::Changed {
-            wanted: node.hash,
-            found,
-        }),
-    }
-}
 
 // The txid of the transaction that all these bytes encode, if they encode one.
 fn txid_in(alloc: Global, bytes: &[u8]) -> Result<Option<Hash32>, OutOfMemory>
@@ -110,46 +60,6 @@ fn compare_tx(alloc: Global, wanted: Hash32, len: u32, bytes: &[u8]) -> Result<(
     }
 }
 
-/// The bytes of the block at the node's place, as many as the place says. Any place can be asked for.
-///
-/// # Errors
-///
-/// `ReadFault::Changed` where the file ends before the last of these bytes, or where other bytes stand
-/// there than the node's header: `wanted` is the node's hash, `found` that of the first 80 bytes, or None
-/// where the file ends too early or the place tells fewer than 80. `ReadFault::ArchiveFailed` where a call
-/// of the block files failed, and `ReadFault::Memory` where memory runs out.
-pub fn read_block<A: Archive>(
-    alloc: Global,
-    archive: &mut A,
-    node: &Node,
-) -> Result<Vec<u8>, ReadFault>
-    requires { IsNode node.now }
-    ensures block { IfOk result (λ v. IsBlockOf node.now v.items) }
-    // These are the bytes that stand there.
-    ensures stands { A.tells → IfOk result
-        (λ v. v.items ≡ block_at node.now.place (A.bytes archive.new node.now.place.file)) }
-    ensures wanted { IfChanged result (λ wanted found. wanted ≡ node.now.hash) }
-    // It has changed where the bytes that stand there are not the block's.
-    ensures changed { A.tells → IfChanged result (λ wanted found.
-        IsOtherBlock node.now (block_at node.now.place (A.bytes archive.new node.now.place.file)) found) }
-    // A block whose record stood in the file is read as it stood there, and has never changed.
-    ensures stays { A.tells → (magic file : List ℕ) → IsRecordIn magic node.now.place.file file node.now
-        → Grows file (A.bytes archive.old node.now.place.file)
-        → IfOk result (λ v. v.items ≡ block_at node.now.place file) × IfChanged result (λ wanted found. ⊥) }
-    ensures only_reads { OnlyReads A.tells (A.bytes archive.old) (A.bytes archive.new)
-        (A.faults archive.old) (A.faults archive.new) ReadFault.ArchiveFailed result }
-{
-    let body = part_of(
-        alloc,
-        archive,
-        node.place,
-        PREFIX_SIZE as u64,
-        node.place.len,
-    )?;
-    check_block(node, body.as_slice())?;
-    Ok(body)
-}
-
 /// The bytes of the transaction at the spot, as many as the spot says. They encode one transaction
 /// (Bitcoin's serialization, in either form of BIP 144) with this txid, in inner order. Any spot can be
 /// asked for.
@@ -178,7 +88,7 @@ pub fn read_tx<A: Archive>(
         (A.faults archive.old) (A.faults archive.new) ReadFault.ArchiveFailed result }
 {
     let skipped = PREFIX_SIZE as u64 + spot.start as u64;
-    let text = part_of(alloc, archive, spot.place, skipped, spot.len)?;
+    let text = read_part(alloc, archive, spot.place, skipped, spot.len)?;
     compare_tx(alloc, wanted, spot.len, text.as_slice())?;
     Ok(text)
 }

@@ -2,17 +2,15 @@
 ghost use Rattle.std.specs.Prelude.{◌≡◌, ◌+◌, ◌<◌, ◌≤◌, ◌⊎◌, ℕ, List, ◌++◌, length, drop, IfOk, OnOk, OnErr};
 ghost use Rattle.el_outside.specs.Counts.{OnlyReads};
 ghost use Rattle.el_outside.specs.Files.{Grows, IsFile};
-ghost use Rattle.el_model.specs.Records.{records, records_of_files};
+ghost use Rattle.el_chain.specs.Records.{records, records_of_files};
 ghost use Rattle.el_outside.specs.declared.archive.TheConstants.{MOST_FILES, SIZE_LIMIT};
 ghost use Rattle.el_files.specs.Appending.{AppendsOnly, AppendsFront};
 ghost use Rattle.el_files.specs.Scanning.{IsFoundIn, IsFoundBelow, AllFiles};
 ghost use Rattle.el_files.specs.within.Walking.{Walked};
 
-use crate::fault::ScanFault;
-use crate::filling::{fill, zeros};
 use crate::limits::{MIN_RECORD_SIZE, PIECE_SIZE};
 use crate::walk::walk;
-use el_model::Node;
+use el_chain::{Node, ScanFault, fill, zeros};
 use el_outside::Archive;
 use std::alloc::Global;
 

@@ -4,8 +4,8 @@ ghost use Rattle.std.specs.Prelude.{[], refl};
 
 use crate::{ReadFault, ScanFault, read_block, read_tx, record_at, scan, scan_file};
 use el_base::{Bytes, Hash32, OutOfMemory};
+use el_chain::{Node, Spot};
 use el_fakes::{Later, MemArchive};
-use el_model::{Node, Spot};
 use el_outside::{Archive, ArchiveFailed, Place};
 use std::alloc::Global;
 use std::test::Fail;

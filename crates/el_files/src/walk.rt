@@ -6,9 +6,9 @@ ghost use Rattle.el_files.specs.within.Finding.{IsIn};
 ghost use Rattle.el_files.specs.within.Walking.{Walked};
 
 use crate::heads::node_in;
-use crate::limits::{HEAD_SIZE, PREFIX_SIZE};
+use crate::limits::HEAD_SIZE;
 use el_base::OutOfMemory;
-use el_model::Node;
+use el_chain::{Node, PREFIX_SIZE};
 
 /// Walks over a piece that stands at the place `at` of a file, which has `left` bytes from there on, and
 /// appends the blocks whose records' heads stand in it. It answers how many bytes were passed: all but

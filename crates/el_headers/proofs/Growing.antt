@@ -9,11 +9,11 @@ use Rattle.std.proofs.lemmas.Option.{none-some, same_Some, slice_get_within}
 use Rattle.indexmap.specs.IndexMap.{IndexMap, get}
 use Rattle.el_base.proofs.Lists.{all_more, all_weaker}
 use Rattle.el_base.specs.declared.hash.Hash32.{Hash32}
-use Rattle.el_model.specs.declared.node.Node.{Node}
-use Rattle.el_model.specs.Blocks.{AllDiffer}
-use Rattle.el_model.specs.Headers.{same_hash, has_hash, is_known, is_second, added, names_none, genesis, IsFound}
-use Rattle.el_model.specs.Records.{IsNode}
-use Rattle.el_model.proofs.BlockRules.{still_differ}
+use Rattle.el_chain.specs.declared.node.Node.{Node}
+use Rattle.el_block.specs.Blocks.{AllDiffer}
+use Rattle.el_chain.specs.Headers.{same_hash, has_hash, is_known, is_second, added, names_none, genesis, IsFound}
+use Rattle.el_chain.specs.Records.{IsNode}
+use Rattle.el_block.proofs.BlockRules.{still_differ}
 use Rattle.el_headers.specs.Adding.{IsNew}
 use Rattle.el_headers.specs.within.Tables.{greatest, names, AreNewest, AreOlder, open_count, Has, HasParent, HasHeight, AreHeights, IsHeight, IsParent, NoneLeft, Numbers, is_lowest}
 use Rattle.el_headers.proofs.Places.{hash_is, hash_same, at_one, at_left, at_last, at_more, any_from, greatest_more, greatest_passes, greatest_above}

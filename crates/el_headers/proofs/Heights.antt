@@ -7,8 +7,8 @@ use Rattle.std.proofs.lemmas.List.{length_push}
 use Rattle.std.proofs.lemmas.Option.{none-some, same_Some, slice_get_within, slice_get_read, slice_get-get_or, get_or_from_slice_get}
 use Rattle.indexmap.specs.IndexMap.{IndexMap, get}
 use Rattle.el_base.specs.declared.hash.Hash32.{Hash32}
-use Rattle.el_model.specs.declared.node.Node.{Node}
-use Rattle.el_model.specs.Headers.{same_hash, names_none, genesis}
+use Rattle.el_chain.specs.declared.node.Node.{Node}
+use Rattle.el_chain.specs.Headers.{same_hash, names_none, genesis}
 use Rattle.el_headers.specs.within.Tables.{greatest, names, AreNewest, AreOlder, open_count, is_open, is_open_height, attached_at, stacked, Has, HasParent, HasHeight, AreHeights, NoneLeft, IsUpTo, ChildrenLeft, StayKnown}
 use Rattle.el_headers.proofs.Places.{hash_is, hash_same, at_one, at_there, at_left, at_last, at_more, set_here, set_other, in_front, of_front, greatest_passes, greatest_above}
 

@@ -7,8 +7,8 @@ use Rattle.std.proofs.lemmas.List.{length_push, append_assoc}
 use Rattle.std.proofs.lemmas.List.Elements.{Contains-append_left}
 use Rattle.el_base.proofs.Lists.{all_more, all_weaker}
 use Rattle.el_base.specs.declared.hash.Hash32.{Hash32}
-use Rattle.el_model.specs.declared.node.Node.{Node}
-use Rattle.el_model.specs.Headers.{is_known, is_second, added, names_none, genesis, IsFound, AreLinked, last_node, IsPath}
+use Rattle.el_chain.specs.declared.node.Node.{Node}
+use Rattle.el_chain.specs.Headers.{is_known, is_second, added, names_none, genesis, IsFound, AreLinked, last_node, IsPath}
 use Rattle.el_headers.proofs.Places.{at_one}
 use Rattle.el_headers.proofs.Growing.{genesis_stays, one_place}
 use Rattle.el_headers.proofs.Paths.{place_of, member_at, found_at}

@@ -8,9 +8,9 @@ use Rattle.std.proofs.lemmas.List.Elements.{Contains-append_left}
 use Rattle.std.proofs.lemmas.Option.{none-some, same_Some, slice_get_within, slice_get_read, get_or_from_slice_get}
 use Rattle.el_base.proofs.Lists.{all_more, all_weaker}
 use Rattle.el_base.specs.declared.hash.Hash32.{Hash32}
-use Rattle.el_model.specs.declared.node.Node.{Node}
-use Rattle.el_model.specs.Blocks.{AllDiffer}
-use Rattle.el_model.specs.Headers.{is_known, is_second, added, names_none, genesis, IsFound, AreLinked, last_node, IsPath}
+use Rattle.el_chain.specs.declared.node.Node.{Node}
+use Rattle.el_block.specs.Blocks.{AllDiffer}
+use Rattle.el_chain.specs.Headers.{is_known, is_second, added, names_none, genesis, IsFound, AreLinked, last_node, IsPath}
 use Rattle.el_headers.specs.within.Tables.{HasParent, HasHeight, AreHeights, IsParent, NoneLeft}
 use Rattle.el_headers.proofs.Places.{at_one, any_from, any_at}
 use Rattle.el_headers.proofs.Heights.{known_or_open, never_both}

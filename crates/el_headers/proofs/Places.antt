@@ -6,8 +6,8 @@ use Rattle.std.proofs.lemmas.Bool.{cases_Bool, or_cases, or_left, or_right, fals
 use Rattle.std.proofs.lemmas.Option.{none-some, same_Some, slice_get_within}
 use Rattle.std.proofs.lemmas.Slice.Eq.{bytes_eq-Decides}
 use Rattle.el_base.specs.declared.hash.Hash32.{Hash32}
-use Rattle.el_model.specs.declared.node.Node.{Node}
-use Rattle.el_model.specs.Headers.{same_hash}
+use Rattle.el_chain.specs.declared.node.Node.{Node}
+use Rattle.el_chain.specs.Headers.{same_hash}
 use Rattle.el_headers.specs.within.Tables.{greatest, greatest_from}
 
 -- two hashes are one exactly where they are equal

@@ -8,9 +8,9 @@ use Rattle.std.proofs.lemmas.List.{length_push}
 use Rattle.std.proofs.lemmas.Option.{none-some}
 use Rattle.indexmap.specs.IndexMap.{IndexMap, get}
 use Rattle.el_base.specs.declared.hash.Hash32.{Hash32}
-use Rattle.el_model.specs.declared.node.Node.{Node}
-use Rattle.el_model.specs.Headers.{same_hash, has_hash, is_known, is_second, added, names_none, genesis, IsFound, IsPath}
-use Rattle.el_model.specs.Records.{IsNode}
+use Rattle.el_chain.specs.declared.node.Node.{Node}
+use Rattle.el_chain.specs.Headers.{same_hash, has_hash, is_known, is_second, added, names_none, genesis, IsFound, IsPath}
+use Rattle.el_chain.specs.Records.{IsNode}
 use Rattle.el_headers.specs.Adding.{IsNew}
 use Rattle.el_headers.specs.declared.table.Table.{Table}
 use Rattle.el_headers.specs.within.Tables.{greatest, names, AreNewest, AreOlder, AreHeights, AreSame, IsTable, IsHeight, Keeps, Numbers, NoneLeft, StayKnown, open_count}

@@ -1,8 +1,8 @@
 -- What a header tree answers: what became of a node that was added, and why there is no path.
 use Rattle.std.specs.Prelude.{◌≡◌, ℕ, ◌+◌, true, false, List, length}
 use Rattle.el_base.specs.declared.hash.Hash32.{Hash32}
-use Rattle.el_model.specs.declared.node.Node.{Node}
-use Rattle.el_model.specs.Headers.{is_known, is_second, added, IsPath}
+use Rattle.el_chain.specs.declared.node.Node.{Node}
+use Rattle.el_chain.specs.Headers.{is_known, is_second, added, IsPath}
 use Rattle.el_headers.specs.declared.answer.Added.{Added}
 use Rattle.el_headers.specs.declared.answer.Added.TheVariants.{Attached, Waiting, Known, SecondGenesis}
 use Rattle.el_headers.specs.declared.answer.PathFault.{PathFault}

@@ -1,11 +1,11 @@
 // Which nodes are attached, and at which height.
 ghost use Rattle.std.specs.Prelude.{◌≡◌, ◌+◌, ◌≤◌, ◌<◌, ℕ, List, [], Some, length, slice_get, vec_capacity};
-ghost use Rattle.el_model.specs.declared.node.Node as shape;
+ghost use Rattle.el_chain.specs.declared.node.Node as shape;
 ghost use Rattle.el_headers.specs.within.Tables.{AreHeights, AreNewest, AreOlder, ChildrenLeft, Has, IsHeight, IsTable, NoneLeft, StayKnown, attached_at, open_count, stacked};
 
 use crate::table::{Table, number_of};
 use el_base::Hash32;
-use el_model::Node;
+use el_chain::Node;
 use indexmap::IndexMap;
 
 /// What the genesis names as the block before it.

@@ -1,9 +1,9 @@
 // What holds of found headers and of paths.
 ghost use Rattle.std.specs.Prelude.{◌≡◌, ◌≢◌, List, [], ◌++◌, ◌∷◌, false, Contains};
 ghost use Rattle.el_base.specs.declared.hash.Hash32 as hash_shape;
-ghost use Rattle.el_model.specs.declared.node.Node as shape;
-ghost use Rattle.el_model.specs.Headers.{IsFound, IsPath, added, names_none};
-ghost use Rattle.el_model.specs.Records.{IsNode};
+ghost use Rattle.el_chain.specs.declared.node.Node as shape;
+ghost use Rattle.el_chain.specs.Headers.{IsFound, IsPath, added, names_none};
+ghost use Rattle.el_chain.specs.Records.{IsNode};
 
 /// At most one path leads to a hash. It does nothing when it runs.
 pub fn path_is_one()

@@ -1,16 +1,16 @@
 // The path to a hash.
 ghost use Rattle.std.specs.Prelude.{◌≡◌, ◌+◌, ◌≤◌, ℕ, suc, List, Some, IfOk, IfErr, IsErrOf, length, slice_get};
 ghost use Rattle.std.specs.List.{AllByRecursion};
-ghost use Rattle.el_model.specs.declared.node.Node as shape;
-ghost use Rattle.el_model.specs.Headers.{IsFound, IsPath};
-ghost use Rattle.el_model.specs.Records.{IsNode};
+ghost use Rattle.el_chain.specs.declared.node.Node as shape;
+ghost use Rattle.el_chain.specs.Headers.{IsFound, IsPath};
+ghost use Rattle.el_chain.specs.Records.{IsNode};
 ghost use Rattle.el_headers.specs.Adding.{HasNoPath};
 ghost use Rattle.el_headers.specs.within.Tables.{IsParent, IsTable};
 
 use crate::answer::PathFault;
 use crate::table::{Table, number_of};
 use el_base::{Hash32, OutOfMemory};
-use el_model::Node;
+use el_chain::Node;
 use std::alloc::Global;
 
 // The number of the parent of a node that is attached above the genesis.

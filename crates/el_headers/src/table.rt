@@ -1,11 +1,11 @@
 // The tables of a header tree: its nodes, and what stands beside them.
 ghost use Rattle.std.specs.Prelude.{◌≡◌, ◌<◌, ◌++◌, ◌∷◌, [], OnOk, length, vec_len, vec_capacity};
 ghost use Rattle.indexmap.specs.IndexMap.{get, spare};
-ghost use Rattle.el_model.specs.Headers.{same_hash};
+ghost use Rattle.el_chain.specs.Headers.{same_hash};
 ghost use Rattle.el_headers.specs.within.Tables.{AreSame, HasRoom, IsTable, Keeps, Numbers};
 
 use el_base::{Hash32, OutOfMemory};
-use el_model::Node;
+use el_chain::Node;
 use indexmap::IndexMap;
 use std::alloc::Global;
 

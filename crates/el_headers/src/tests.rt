@@ -1,12 +1,12 @@
 // What no contract says of the tree: whole headers as Bitcoin's nodes serialize them, with the answers of
 // each call, and that each call succeeds where memory is ample. The answers were made by another program.
 ghost use Rattle.std.specs.Prelude.{IfOk};
-ghost use Rattle.el_model.specs.Records.{IsNode};
+ghost use Rattle.el_chain.specs.Records.{IsNode};
 
 use crate::attach::NO_BLOCK;
 use crate::{Added, HeaderTree, PathFault, found_stays_found, path_is_one, paths_stay_and_go_on};
 use el_base::{Hash32, OutOfMemory};
-use el_model::Node;
+use el_chain::Node;
 use el_outside::Place;
 use el_tx::{block_hash, decode_header};
 use std::alloc::{AllocError, AllocFailed, Global};

@@ -1,9 +1,9 @@
 // The header tree.
 ghost use Rattle.std.specs.Prelude.{◌≡◌, ◌≤◌, ℕ, List, [], ◌∷◌, ◌++◌, Some, IfOk, IfErr, OnOk, OnErr, length, option_map};
 ghost use Rattle.std.specs.List.{AllByRecursion};
-ghost use Rattle.el_model.specs.declared.node.Node as shape;
-ghost use Rattle.el_model.specs.Headers.{IsFound, IsPath, added, genesis, is_known, is_second};
-ghost use Rattle.el_model.specs.Records.{IsNode};
+ghost use Rattle.el_chain.specs.declared.node.Node as shape;
+ghost use Rattle.el_chain.specs.Headers.{IsFound, IsPath, added, genesis, is_known, is_second};
+ghost use Rattle.el_chain.specs.Records.{IsNode};
 ghost use Rattle.el_headers.specs.Adding.{HasNoPath, IsNew, Tells};
 ghost use Rattle.el_headers.specs.within.Tables.{IsTable};
 
@@ -12,7 +12,7 @@ use crate::attach::{NO_BLOCK, attach_waiting, height_of};
 use crate::path::path_in;
 use crate::table::{Table, empty_table, keep, make_room, number_of};
 use el_base::{Hash32, OutOfMemory};
-use el_model::Node;
+use el_chain::Node;
 use std::alloc::Global;
 use std::marker::Model;
 
@@ -29,7 +29,7 @@ pub struct HeaderTree {
 
 impl Model for HeaderTree {
     ghost use Rattle.std.specs.Prelude.{List};
-    ghost use Rattle.el_model.specs.declared.node.Node.{Node};
+    ghost use Rattle.el_chain.specs.declared.node.Node.{Node};
     ghost use Rattle.el_headers.specs.within.Tables.{IsTable};
 
     ghost Value = { List Node };

@@ -2,7 +2,7 @@
 use Rattle.std.proofs.Common.{◌≡◌, ℕ, ◌+◌, ◌<◌, List, [], ◌∷◌, ◌++◌, length, refl, ap, ◌∙◌, append_assoc, arith, cond, take, get_or, ◌==◌}
 use Rattle.std.proofs.Math.Dec.{eqb-suc-zero}
 use Rattle.std.proofs.lemmas.List.{take_more, length-take-le}
-use Rattle.el_model.specs.declared.entry.Entry.{Entry}
+use Rattle.el_chain.specs.declared.entry.Entry.{Entry}
 use Rattle.el_model.specs.Replies.{entry_text, entries_text}
 
 entries_more : (es : List Entry) (f : Entry) → entries_text (es ++ f ∷ []) ≡ entries_text es ++ (cond (length es == 0) [] (44 ∷ []) ++ entry_text f)

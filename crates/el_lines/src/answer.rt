@@ -2,7 +2,7 @@
 ghost use Rattle.std.specs.Prelude.{◌≡◌, ◌++◌, IfOk, OnOk, if◌then◌else◌, [], ◌∷◌};
 ghost use Rattle.el_model.specs.Replies.{entry_text, entries_text, history_text, too_large_text};
 
-use el_model::Entry;
+use el_chain::Entry;
 use std::alloc::{AllocError, Global};
 
 // Adds an entry.

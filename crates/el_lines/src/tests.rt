@@ -5,7 +5,8 @@ use crate::{
     history_reply, node_line_says_one_thing, read_node_line, request_of, too_large_reply,
 };
 use el_base::{Bytes, Hash32};
-use el_model::{Entry, LINE_LIMIT};
+use el_chain::Entry;
+use el_model::LINE_LIMIT;
 use std::alloc::Global;
 use std::test::Fail;
 

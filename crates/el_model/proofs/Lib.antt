@@ -1,13 +1,4 @@
-pub mod Chains
 pub mod Cuts
-pub mod BlockLemmas
-pub mod BlockRules
-pub mod CoinLists
-pub mod CoinSteps
-pub mod Histories
-pub mod GoodChains
-pub mod GivenChains
-pub mod BlockOrFault
-pub mod SupplyLaws
-pub mod CoinOrigins
-pub mod NoHistories
+pub mod RunLemmas
+pub mod ReadBodies
+pub mod PlainMoves

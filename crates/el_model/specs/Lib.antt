@@ -1,14 +1,9 @@
-pub mod Blocks
-pub mod BlockFaults
-pub mod Coins
-pub mod Faults
-pub mod History
-pub mod Records
 pub mod Lines
 pub mod NodeLines
+pub mod Queries
+pub mod Keeping
+pub mod Going
 pub mod Replies
 pub mod World
 pub mod Run
-pub mod CoinLaws
-pub mod Headers
 pub mod within

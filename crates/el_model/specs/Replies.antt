@@ -5,10 +5,10 @@ use Rattle.std.specs.List.{AllPass}
 use Rattle.std.specs.Char.{is_ascii_digit}
 use Rattle.std.specs.Fmt.{decimal}
 use Rattle.el_base.specs.Shown.{shown, Shows}
-use Rattle.el_model.specs.declared.entry.Entry.{Entry}
+use Rattle.el_chain.specs.declared.entry.Entry.{Entry}
 use Rattle.el_model.specs.declared.limits.TheConstants.{ENTRY_LIMIT}
-use Rattle.el_model.specs.Blocks.{Chain}
-use Rattle.el_model.specs.History.{history}
+use Rattle.el_chain.specs.Chains.{Chain}
+use Rattle.el_chain.specs.History.{history}
 
 -- what a request begins with, up to its id
 abbrev pub request_head : List ℕ

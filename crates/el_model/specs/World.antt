@@ -3,7 +3,7 @@ use Rattle.std.specs.Prelude.{◌≡◌, ℕ, ◌==◌, nat_lt, Bool, not, if◌
 use Rattle.std.specs.List.{list_any, flat_map}
 use Rattle.el_outside.specs.Story.{ArrivalWithBytes, opened, brought, closed, quiet, ended, Message, Closing}
 use Rattle.el_outside.specs.declared.link.Why.TheVariants as why
-use Rattle.el_model.specs.Blocks.{Chain}
+use Rattle.el_chain.specs.Chains.{Chain}
 use Rattle.el_model.specs.declared.limits.TheConstants.{LINE_LIMIT, CLIENT_LIMIT}
 use Rattle.el_model.specs.Lines.{LineEvent, line, too_long, lines}
 use Rattle.el_model.specs.Replies.{IsReply}

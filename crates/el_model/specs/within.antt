@@ -1,4 +1,1 @@
-pub mod BlockParts
-pub mod CoinTables
-pub mod CoinLayers
-pub mod Listings
+pub mod Reading

@@ -1,106 +1,277 @@
-// The plain ledger.
-ghost use Rattle.std.specs.Prelude.{◌≡◌, ◌≢◌, ◌⊎◌, List, ℕ, [], ◌∷◌, ◌++◌, None, Some, IfOk, IfErr, OnOk, OnErr, MatchOption, Ok, Err};
-ghost use Rattle.el_model.specs.Blocks.{tip, HasBlockEncoding};
-ghost use Rattle.el_model.specs.Faults.{fault};
-ghost use Rattle.el_model.specs.History.{history};
+// The trait of ledgers: a chain that can be asked and moved.
+ghost use Rattle.std.specs.Prelude.{◌≡◌, ◌≢◌, ◌≤◌, ◌+◌, ◌*◌, ℕ, List, [], ◌++◌, length, Some, Option, IfOk, IfErr, IfSome, MatchOption, OnOk, IsErrOf};
+ghost use Rattle.el_base.specs.declared.hash.Hash32 as shape;
+ghost use Rattle.el_outside.specs.Counts.{HasCause, CountsOnly, OnlyReads};
+ghost use Rattle.el_outside.specs.Moments.{LeavesOnly};
+ghost use Rattle.el_chain.specs.Chains.{Chain, zero_hash};
+ghost use Rattle.el_chain.specs.Faults.{IsGood};
+ghost use Rattle.el_chain.specs.History.{history};
+ghost use Rattle.el_model.specs.Queries as asked;
+ghost use Rattle.el_model.specs.Queries.{height_of, tip_of, header_at, place_at, hashes_to, txids_at};
+ghost use Rattle.el_chain.specs.Moves.{target, IsPlan, FitsChain, Moves, IsRefused, InFlight, last_hash};
+ghost use Rattle.el_chain.specs.Touches.{AreTouched};
+ghost use Rattle.el_model.specs.Keeping.{Quiet, Either};
+ghost use Rattle.el_chain.specs.declared.moves.MoveFault.TheVariants as stop;
 
-use crate::block::{Block, Placed};
-use crate::coins::{CoinTable, add_block};
-use crate::entry::Entry;
-use crate::fault::ConnectFault;
-use crate::history::history_of;
-use el_base::{Hash32, OutOfMemory};
-use el_outside::Place;
-use el_tx::{block_hash, encode_header};
-use indexmap::IndexMap;
+use crate::fault::QueryFault;
+use el_base::{Hash32, Steps};
+use el_chain::{Coin, Entry, MoveFault, Moved, Plan, Spot};
+use el_outside::{Archive, DiskFailed, Place};
+use el_tx::Outpoint;
 use std::alloc::Global;
-use std::marker::Model;
+use std::sync::ledger::Ledger as Counts;
 
-/// A good chain of blocks, the genesis block first, which contracts see as the list of its blocks with their
-/// places. It keeps whole blocks and the coins after them. Each history is computed anew over all blocks. It
-/// has at most 4,294,967,295 blocks.
-#[derive(Debug, Drop)]
-pub struct PlainLedger {
-    blocks: Vec<Placed>,
-    coins: CoinTable,
-}
+/// A chain that can be asked and moved. Every call but `height` and `tip` asks that the ledger is live, and
+/// every call but `go` leaves it as it was, whatever it answers. A clause on content holds for every chain
+/// that the ledger stands for: chains that differ in witnesses alone may stand for the same.
+pub trait Ledger {
+    /// The ledger stands for the chain.
+    ghost stands: { Self → Chain → Type 0 };
 
-impl Model for PlainLedger {
-    ghost use Rattle.std.specs.Prelude.{List};
-    ghost use Rattle.el_model.specs.declared.block.Placed.{Placed};
-    ghost use Rattle.el_model.specs.within.CoinLayers.{IsPlainLedger};
+    /// No call on its device has failed since it was opened.
+    ghost is_live: { Self → Type 0 };
 
-    ghost Value = { List Placed };
+    /// The height of the last block.
+    ghost height: { Self → Option ℕ };
 
-    ghost view = { λ l. l.blocks.items };
+    /// The hash of the last block.
+    ghost tip: { Self → Option shape.Hash32 };
 
-    ghost invariant = { λ l. IsPlainLedger l.blocks.items l.coins };
-}
+    /// Into how many buckets its rows are put.
+    ghost buckets: { Self → ℕ };
 
-impl PlainLedger {
-    /// A chain of no blocks. Takes no memory.
-    pub fn new(alloc: Global) -> PlainLedger
-        ensures { result ≡ [] }
-    {
-        PlainLedger {
-            blocks: Vec::new(alloc),
-            coins: CoinTable {
-                map: IndexMap::new(alloc),
-                supply: 0,
-            },
-        }
-    }
+    /// How often its device has failed; it stands still at 2^64 - 1.
+    ghost faults: { Self → ℕ };
 
-    /// The hash of the last block, in inner order: the SHA-256 of the SHA-256 of the 80 bytes of its header.
-    /// None exactly for no blocks. Takes no memory.
-    pub fn tip(&self) -> Option<Hash32>
-        ensures last { MatchOption result (self.now ≡ []) (λ hash. (hash ≡ tip self.now)) }
-        ensures none { self.now ≡ [] → result ≡ None }
-    {
-        match self.blocks.as_slice() {
-            [] => None,
-            [.., last] => Some(block_hash(&encode_header(&last.block.header))),
-        }
-    }
+    /// Whether it tells what a crash may leave. One in memory alone doesn't.
+    ghost tells_crash: { Type 0 };
 
-    /// Adds a block after the last, with its place. Its header has to name the tip, or on no blocks the hash
-    /// of 32 zero bytes.
+    /// What a crash may leave, as an image of a disk.
+    ghost Left: { Type 0 };
+
+    /// What is left stands for the chain.
+    ghost means: { Left → Chain → Type 0 };
+
+    /// The moment, as a number that doesn't fall.
+    ghost moment: { Self → ℕ };
+
+    /// What a crash at some moment from that one on might have left, during a call or between two.
+    ghost left_since: { Self → ℕ → Left → Type 0 };
+
+    /// The height of the last block; None exactly for no blocks.
+    fn height(&self) -> Option<u32>
+        ensures { result ≡ height self.now };
+
+    /// The hash of the last block, in inner order; None exactly for no blocks.
+    fn tip(&self) -> Option<Hash32>
+        ensures { result ≡ tip self.now };
+
+    /// The 80 bytes of the header of that height (Bitcoin's serialization).
+    fn header<L: Counts + Send>(
+        &mut self,
+        h: u32,
+        steps: &mut Steps<L>,
+    ) -> Result<[u8; 80], DiskFailed>
+        requires live { is_live self.old }
+        requires within { MatchOption (height self.old) ⊥ (λ top. h ≤ top) }
+        ensures header { (chain : Chain) → stands self.old chain
+            → IfOk result (λ bytes. header_at chain h ≡ Some bytes) }
+        ensures rows { steps.new ≤ steps.old + 1 }
+        ensures quiet { Quiet is_live height tip buckets stands tells_crash means moment left_since
+            self.old self.new }
+        ensures cause { HasCause (faults self.old) (faults self.new) result };
+
+    /// Where the block of that height stands in the block files.
+    fn place<L: Counts + Send>(&mut self, h: u32, steps: &mut Steps<L>) -> Result<Place, DiskFailed>
+        requires live { is_live self.old }
+        requires within { MatchOption (height self.old) ⊥ (λ top. h ≤ top) }
+        ensures place { (chain : Chain) → stands self.old chain
+            → IfOk result (λ place. place_at chain h ≡ Some place) }
+        ensures rows { steps.new ≤ steps.old + 1 }
+        ensures quiet { Quiet is_live height tip buckets stands tells_crash means moment left_since
+            self.old self.new }
+        ensures cause { HasCause (faults self.old) (faults self.new) result };
+
+    /// The block hashes of heights 0 to `upto`, in inner order.
+    fn hashes<L: Counts + Send>(
+        &mut self,
+        alloc: Global,
+        upto: u32,
+        steps: &mut Steps<L>,
+    ) -> Result<Vec<Hash32>, QueryFault>
+        requires live { is_live self.old }
+        requires within { MatchOption (height self.old) ⊥ (λ top. upto ≤ top) }
+        ensures hashes { (chain : Chain) → stands self.old chain
+            → IfOk result (λ found. found.items ≡ hashes_to chain upto) }
+        ensures quiet { Quiet is_live height tip buckets stands tells_crash means moment left_since
+            self.old self.new }
+        ensures cause { CountsOnly (faults self.old) (faults self.new) QueryFault.DiskFailed result };
+
+    /// The history of a script hash (Electrum Protocol 1.4, `blockchain.scripthash.get_history`).
+    fn history<L: Counts + Send>(
+        &mut self,
+        alloc: Global,
+        script_hash: &Hash32,
+        steps: &mut Steps<L>,
+    ) -> Result<Vec<Entry>, QueryFault>
+        requires live { is_live self.old }
+        ensures history { (chain : Chain) → stands self.old chain
+            → IfOk result (λ found. found.items ≡ history chain script_hash.now.0) }
+        ensures rows { (chain : Chain) → stands self.old chain
+            → steps.new ≤ steps.old + (1 + asked.scripts_in_bucket chain (buckets self.old) script_hash.now.0
+            + 2 * length (history chain script_hash.now.0)) }
+        ensures quiet { Quiet is_live height tip buckets stands tells_crash means moment left_since
+            self.old self.new }
+        ensures cause { CountsOnly (faults self.old) (faults self.new) QueryFault.DiskFailed result };
+
+    /// The coins of a script hash, in chain order of their transactions, then by index.
+    fn unspent<L: Counts + Send>(
+        &mut self,
+        alloc: Global,
+        script_hash: &Hash32,
+        steps: &mut Steps<L>,
+    ) -> Result<Vec<Coin>, QueryFault>
+        requires live { is_live self.old }
+        ensures unspent { (chain : Chain) → stands self.old chain
+            → IfOk result (λ found. found.items ≡ asked.unspent chain script_hash.now.0) }
+        ensures rows { (chain : Chain) → stands self.old chain
+            → steps.new ≤ steps.old + (1 + asked.scripts_in_bucket chain (buckets self.old) script_hash.now.0
+            + 2 * length (history chain script_hash.now.0)
+            + asked.outputs_of_history chain script_hash.now.0) }
+        ensures quiet { Quiet is_live height tip buckets stands tells_crash means moment left_since
+            self.old self.new }
+        ensures cause { CountsOnly (faults self.old) (faults self.new) QueryFault.DiskFailed result };
+
+    /// What the coins of a script hash hold together, in satoshi.
+    fn balance<L: Counts + Send>(
+        &mut self,
+        script_hash: &Hash32,
+        steps: &mut Steps<L>,
+    ) -> Result<u64, DiskFailed>
+        requires live { is_live self.old }
+        ensures balance { (chain : Chain) → stands self.old chain
+            → IfOk result (λ sum. sum ≡ asked.balance chain script_hash.now.0) }
+        ensures rows { (chain : Chain) → stands self.old chain
+            → steps.new ≤ steps.old + (1
+            + asked.scripts_in_bucket chain (buckets self.old) script_hash.now.0) }
+        ensures quiet { Quiet is_live height tip buckets stands tells_crash means moment left_since
+            self.old self.new }
+        ensures cause { HasCause (faults self.old) (faults self.new) result };
+
+    /// Where the newest transaction with that txid, in inner order, stands; None exactly where the chain has
+    /// none.
+    fn find_tx<L: Counts + Send>(
+        &mut self,
+        txid: &Hash32,
+        steps: &mut Steps<L>,
+    ) -> Result<Option<Spot>, DiskFailed>
+        requires live { is_live self.old }
+        ensures spot { (chain : Chain) → stands self.old chain
+            → IfOk result (λ found. found ≡ asked.find_tx chain txid.now) }
+        ensures rows { (chain : Chain) → stands self.old chain
+            → steps.new ≤ steps.old + (2 + asked.txs_in_bucket chain (buckets self.old) txid.now.0) }
+        ensures quiet { Quiet is_live height tip buckets stands tells_crash means moment left_since
+            self.old self.new }
+        ensures cause { HasCause (faults self.old) (faults self.new) result };
+
+    /// The txids of the block of that height, in inner order, as its transactions stand.
+    fn block_txids<L: Counts + Send>(
+        &mut self,
+        alloc: Global,
+        h: u32,
+        steps: &mut Steps<L>,
+    ) -> Result<Vec<Hash32>, QueryFault>
+        requires live { is_live self.old }
+        requires within { MatchOption (height self.old) ⊥ (λ top. h ≤ top) }
+        ensures txids { (chain : Chain) → stands self.old chain
+            → IfOk result (λ found. txids_at chain h ≡ Some found.items) }
+        ensures quiet { Quiet is_live height tip buckets stands tells_crash means moment left_since
+            self.old self.new }
+        ensures cause { CountsOnly (faults self.old) (faults self.new) QueryFault.DiskFailed result };
+
+    /// The coin of an outpoint; None exactly where the chain's coins lack it.
+    fn coin<L: Counts + Send>(
+        &mut self,
+        o: &Outpoint,
+        steps: &mut Steps<L>,
+    ) -> Result<Option<Coin>, DiskFailed>
+        requires live { is_live self.old }
+        ensures coin { (chain : Chain) → stands self.old chain
+            → IfOk result (λ found. found ≡ asked.coin_of chain o.now) }
+        ensures quiet { Quiet is_live height tip buckets stands tells_crash means moment left_since
+            self.old self.new }
+        ensures cause { HasCause (faults self.old) (faults self.new) result };
+
+    /// The transaction that took the coin of the newest output with that outpoint; None exactly where there
+    /// is none.
+    fn spender<L: Counts + Send>(
+        &mut self,
+        o: &Outpoint,
+        steps: &mut Steps<L>,
+    ) -> Result<Option<Entry>, DiskFailed>
+        requires live { is_live self.old }
+        ensures spender { (chain : Chain) → stands self.old chain
+            → IfOk result (λ found. found ≡ asked.spender chain o.now) }
+        ensures quiet { Quiet is_live height tip buckets stands tells_crash means moment left_since
+            self.old self.new }
+        ensures cause { HasCause (faults self.old) (faults self.new) result };
+
+    /// One move: `back` blocks are taken back and the blocks of `forward` are put in their place, all of it
+    /// or nothing. Their bytes are read from the block files.
     ///
     /// # Errors
     ///
-    /// The first fault of the block's first transaction that has one: `ConnectFault::MissingCoin`,
-    /// `ConnectFault::Money`, or `ConnectFault::Full` of table 1, which comes exactly where there are
-    /// 4,294,967,295 blocks already and the first transaction has no fault before it. Else
-    /// `ConnectFault::Memory` where memory runs out. A refused block changes nothing.
-    pub fn extend(&mut self, block: Block, place: Place) -> Result<(), ConnectFault>
-        requires encoded { HasBlockEncoding block }
-        requires after { block.header.previous ≡ tip self.old }
-        ensures ok { OnOk result (self.new ≡ self.old ++ record { block = block; place = place } ∷ []) }
-        ensures err { OnErr result (self.new ≡ self.old) }
-        // A block that is added has no fault.
-        ensures faultless { OnOk result (fault self.old block ≡ None) }
-        // A fault is the first one.
-        ensures fault { IfErr result (λ e. (e ≡ ConnectFault.Memory) ⊎ (fault self.old block ≡ Some e)) }
-    {
-        add_block(
-            *self.blocks.allocator(),
-            &mut self.blocks,
-            &mut self.coins,
-            Placed { block, place },
-        )
-    }
+    /// In this order: `ArchiveFailed`; `Changed` for the first block whose bytes don't begin with its header;
+    /// `BadBlock` or `Refused` for the first block in chain order that has a fault. After `DiskFailed` the
+    /// ledger isn't live; every other refusal changes nothing.
+    fn go<A: Archive, L: Counts + Send>(
+        &mut self,
+        alloc: Global,
+        plan: &Plan,
+        archive: &mut A,
+        steps: &mut Steps<L>,
+    ) -> Result<Moved, MoveFault>
+        requires live { is_live self.old }
+        requires plan { IsPlan plan.now }
+        requires fits { (chain : Chain) → stands self.old chain → FitsChain plan.now chain }
+        // The ledger then stands for the target, and a crash since the start may have left the old chain or
+        // the target.
+        ensures moved { (chain : Chain) → stands self.old chain → IfOk result (λ m. (blocks : Chain)
+            × Moves A.tells (A.bytes archive.new) chain plan.now blocks
+            × stands self.new (target plan.now chain blocks)
+            × AreTouched plan.now chain blocks m.touched
+            × (tells_crash → LeavesOnly moment left_since self.old self.new
+            (Either means chain (target plan.now chain blocks)))) }
+        ensures answer { IfOk result (λ m. (m.tip ≡ tip self.new) × (m.height ≡ height self.new)) }
+        // Also where no chain is told.
+        ensures last { IfOk result (λ m. plan.now.forward ≢ []
+            → tip self.new ≡ Some (last_hash zero_hash plan.now.forward)) }
+        ensures live { OnOk result (is_live self.new) }
+        ensures refused { (chain : Chain) → stands self.old chain
+            → IfErr result (IsRefused A.tells (A.bytes archive.new) chain plan.now) }
+        // After any other refusal it is as it was, and a crash leaves the old chain alone.
+        ensures unchanged { IfErr result (λ e. e ≢ stop.DiskFailed
+            → Quiet is_live height tip buckets stands tells_crash means moment left_since self.old self.new) }
+        ensures crash_failed { (chain : Chain) → stands self.old chain → IsErrOf result MoveFault.DiskFailed
+            → (next : Chain) × InFlight A.tells (A.bytes archive.new) chain plan.now next
+            × (tells_crash → LeavesOnly moment left_since self.old self.new (Either means chain next)) }
+        ensures cause { CountsOnly (faults self.old) (faults self.new) MoveFault.DiskFailed result }
+        ensures reads { OnlyReads A.tells (A.bytes archive.old) (A.bytes archive.new) (A.faults archive.old)
+            (A.faults archive.new)
+            MoveFault.ArchiveFailed result };
 
-    /// The history of a script hash (`blockchain.scripthash.get_history` of Electrum Protocol 1.4, of
-    /// transactions in blocks): the transactions that fund or spend it, each once, in chain order. A script
-    /// hash is the SHA-256 of a whole locking script, here in inner order; clients write the reverse. Fails
-    /// only where memory runs out.
-    pub fn history(&self, script_hash: &Hash32) -> Result<Vec<Entry>, OutOfMemory>
-        ensures { IfOk result (λ found. found.items ≡ history self.now script_hash.now.0) }
-    {
-        history_of(
-            *self.blocks.allocator(),
-            self.blocks.as_slice(),
-            script_hash,
-        )
-    }
+    /// Height and tip are the chain's.
+    ghost height_is: { (l : Self) (chain : Chain) → stands l chain → height l ≡ height_of chain };
+
+    ghost tip_is: { (l : Self) (chain : Chain) → stands l chain → tip l ≡ tip_of chain };
+
+    /// A ledger stands for good chains alone.
+    ghost good: { (l : Self) (chain : Chain) → stands l chain → IsGood chain };
+
+    /// The moments from a later one on are among those from an earlier one on.
+    ghost earlier: { (l : Self) (t u : ℕ) (left : Left) → t ≤ u → left_since l u left → left_since l t left };
+
+    /// Between calls a live ledger leaves its own chain alone.
+    ghost leaves_own: { (l : Self) (chain : Chain) (left : Left) → tells_crash → is_live l → stands l chain
+        → left_since l (moment l) left → means left chain };
 }

@@ -1,169 +1,49 @@
-// Reading a block.
-ghost use Rattle.std.specs.Prelude.{◌≡◌, ◌≢◌, ◌⊎◌, ◌≤◌, ◌<◌, ◌+◌, ◌^◌, ◌++◌, ℕ, List, length, IfOk, IfErr, IfNone, IfSome, OnOk, Ok, Err};
-ghost use Rattle.el_base.specs.Compact.{compact, FirstCompactFault};
-ghost use Rattle.el_base.specs.declared.compact.CompactFault.{CompactFault};
-ghost use Rattle.el_tx.specs.Encoding.{HasEncoding};
-ghost use Rattle.el_tx.specs.Headers.{header_encoding, IsHeader};
-ghost use Rattle.el_tx.specs.Hashing.{full_encoding};
-ghost use Rattle.el_tx.specs.FirstFault.{FirstFault};
-ghost use Rattle.el_tx.specs.declared.fault.TxFault.{TxFault};
-ghost use Rattle.el_model.specs.Blocks.{EncodesBlock, IsBlockEncoding};
-ghost use Rattle.el_model.specs.BlockFaults.{FirstBlockFault, Breaks};
-ghost use Rattle.el_model.specs.within.BlockParts.{AreTxs, FaultInTxs};
-ghost use Rattle.el_model.specs.Records.{IsNode, IsBlockOf, IsOtherBlock};
-ghost use Rattle.el_model.specs.declared.block.Block as shape;
-ghost use Rattle.el_model.specs.declared.fault.BlockFault.{BlockFault};
+// The bytes of all blocks of a move.
+ghost use Rattle.std.specs.Prelude.{◌≡◌, IfOk, IfErr};
+ghost use Rattle.std.specs.List.{AllByRecursion};
+ghost use Rattle.el_outside.specs.Counts.{OnlyReads};
+ghost use Rattle.el_chain.specs.Moves.{AreRead, body_of};
+ghost use Rattle.el_chain.specs.Records.{IsNode, IsBlockOf};
+ghost use Rattle.el_model.specs.within.Reading.{IsUnreadOne, IsUnread};
 
-use crate::block::Block;
-use crate::block_rules::keep_rules;
-use crate::fault::BlockFault;
-use crate::node::Node;
-use el_base::{Cursor, Hash32, Listed, read_compact};
-use el_tx::{Header, Tx, TxFault, block_hash, decode_header, decode_tx, encode_header};
+use el_base::Bytes;
+use el_chain::{MoveFault, Node, ReadFault, read_block};
+use el_outside::Archive;
 use std::alloc::Global;
 
-// The header in front of the bytes.
-fn header_of(c: &mut Cursor<'_>) -> Result<Header, BlockFault>
-    ensures fits { IfOk result IsHeader }
-    ensures read { IfOk result (λ h. c.old.rest ≡ header_encoding h ++ c.new.rest) }
-    ensures place { OnOk result (c.new.place ≡ c.old.place + 80) }
-    ensures short { IfErr result (λ e. (length c.old.rest < 80) × (e ≡ BlockFault.Short)) }
-{
-    let Ok(front) = c.take(80) else {
-        return Err(BlockFault::Short);
-    };
-    let mut text = [0u8; 80];
-    text.copy_from_slice(front);
-    Ok(decode_header(&text))
-}
-
-// The number of transactions, of which there is one.
-fn count_of(c: &mut Cursor<'_>) -> Result<u64, BlockFault>
-    ensures some { IfOk result (λ n. (1 ≤ n) × (n < 2 ^ 64)) }
-    ensures read { IfOk result (λ n. c.old.rest ≡ compact n ++ c.new.rest) }
-    ensures fault { IfErr result (λ e.
-        ((found : CompactFault) × FirstCompactFault c.old.place c.old.rest found
-        × (e ≡ BlockFault.Count found))
-        ⊎ ((rest : List ℕ) × (c.old.rest ≡ compact 0 ++ rest) × (e ≡ BlockFault.NoTransactions))) }
-{
-    match read_compact(c) {
-        Ok(0) => Err(BlockFault::NoTransactions),
-        Ok(n) => Ok(n),
-        Err(fault) => Err(BlockFault::Count(fault)),
-    }
-}
-
-// The fault of the transaction with this index, in its block.
-fn in_block(index: usize, fault: TxFault) -> BlockFault
-    ensures memory { fault ≡ TxFault.Memory → result ≡ BlockFault.Memory }
-    ensures kept { (fault ≡ TxFault.Memory) ⊎ (result ≡ BlockFault.Tx index fault) }
-{
-    match fault {
-        TxFault::Memory => BlockFault::Memory,
-        _ => BlockFault::Tx { index, fault },
-    }
-}
-
-// The transaction in front, which has this index in its block, and what stands after it.
-fn next_tx(alloc: Global, index: usize, bytes: &[u8]) -> Result<(Tx, &[u8]), BlockFault>
-    ensures encoded { IfOk result (λ r. HasEncoding r.0) }
-    ensures read { IfOk result (λ r. bytes.now ≡ full_encoding r.0 ++ r.1.now) }
-    ensures fault { IfErr result (λ e. (e ≡ BlockFault.Memory)
-        ⊎ ((found : TxFault) × FirstFault bytes.now found × (e ≡ BlockFault.Tx index found))) }
-{
-    match decode_tx(alloc, bytes) {
-        Ok((tx, size)) => {
-            let (_, rest) = bytes.split_at(size);
-            Ok((tx, rest))
-        }
-        Err(fault) => Err(in_block(index, fault)),
-    }
-}
-
-// So many transactions, and what stands after them.
-fn read_txs(alloc: Global, n: u64, bytes: &[u8]) -> Result<(Listed<Tx>, &[u8]), BlockFault>
-    ensures read { IfOk result (λ r. AreTxs bytes.now n r.0 r.1.now) }
-    ensures fault { IfErr result (λ e. (e ≡ BlockFault.Memory) ⊎ FaultInTxs n bytes.now e) }
-{
-    let mut txs = Listed::new(alloc);
-    let mut rest = bytes;
-    for _ in 0..n {
-        let (tx, after) = next_tx(alloc, txs.len(), rest)?;
-        txs.push(tx)?;
-        rest = after;
-    }
-    Ok((txs, rest))
-}
-
-// The block that all the bytes are, whatever it means.
-fn whole_block(alloc: Global, bytes: &[u8]) -> Result<Block, BlockFault>
-    ensures some { IfOk result (λ b. 1 ≤ length b.txs) }
-    ensures read { IfOk result (IsBlockEncoding bytes.now) }
-    ensures fault { IfErr result (λ e. (e ≡ BlockFault.Memory) ⊎ FirstBlockFault bytes.now e) }
-{
-    let mut c = Cursor::new(bytes);
-    let header = header_of(&mut c)?;
-    let n = count_of(&mut c)?;
-    let (txs, rest) = read_txs(alloc, n, c.rest())?;
-    if !rest.is_empty() {
-        return Err(BlockFault::Trailing {
-            place: bytes.len() - rest.len(),
-        });
-    }
-    Ok(Block { header, txs })
-}
-
-/// Reads a block, of all the bytes, in Bitcoin's serialization: a header of 80 bytes, the number of
-/// transactions, the transactions in either form (BIP 144), and nothing after. One coinbase stands first, no
-/// txid stands twice, the header has the Merkle root of the txids, and the weight is at most 4,000,000 (BIP
-/// 141). Neither proof of work nor scripts or amounts are tested. The time grows with the number of bytes,
-/// and with the number of transactions no more than it: each txid is computed once, and looked for once among
-/// those before it, in expected constant time.
-///
-/// # Errors
-///
-/// The first fault in this order: the header (`Short`), the number of transactions (`Count`,
-/// `NoTransactions`), each transaction (`Tx`), bytes after (`Trailing`), `FirstNotCoinbase`, `LaterCoinbase`,
-/// `SameTxid`, `BadMerkle`, `Heavy`. `BlockFault::Memory` comes where no memory is found.
-pub fn plain_block(alloc: Global, bytes: &[u8]) -> Result<Block, BlockFault>
-    // What is read is encoded so.
-    ensures read { IfOk result (EncodesBlock bytes.now) }
-    // What is encoded so is read.
-    ensures only { result ≢ Err BlockFault.Memory → (block : shape.Block) → EncodesBlock bytes.now block
-        → result ≡ Ok block }
-    // A fault is the first one.
-    ensures fault { IfErr result (λ e. (e ≡ BlockFault.Memory) ⊎ FirstBlockFault bytes.now e) }
-    // The first fault is found.
-    ensures first_fault { result ≢ Err BlockFault.Memory → (e : BlockFault) → FirstBlockFault bytes.now e
-        → result ≡ Err e }
-{
-    let block = whole_block(alloc, bytes)?;
-    keep_rules(alloc, &block)?;
-    Ok(block)
-}
-
-/// Compares the bytes at a node's place with its block: whether they are as many as the place says and begin
-/// with the node's header. Takes no memory.
-///
-/// # Errors
-///
-/// The hash of the first 80 bytes, or None where there are fewer than 80, or fewer than the place says.
-pub fn compare_block(node: &Node, bytes: &[u8]) -> Result<(), Option<Hash32>>
+// The bytes of one block.
+fn read_one<A: Archive>(alloc: Global, archive: &mut A, node: &Node) -> Result<Bytes, MoveFault>
     requires { IsNode node.now }
-    ensures same { OnOk result (IsBlockOf node.now bytes.now) }
-    ensures other { IfErr result (IsOtherBlock node.now bytes.now) }
+    ensures read { IfOk result (λ text. IsBlockOf node.now text) }
+    ensures told { A.tells → IfOk result (λ text. text ≡ body_of (A.bytes archive.new) node.now) }
+    ensures unread { IfErr result (IsUnreadOne A.tells (A.bytes archive.new) node.now) }
+    ensures only_reads { OnlyReads A.tells (A.bytes archive.old) (A.bytes archive.new)
+        (A.faults archive.old) (A.faults archive.new) MoveFault.ArchiveFailed result }
 {
-    let wanted = node.place.len as usize;
-    if bytes.len() < wanted {
-        return Err(None);
+    match read_block(alloc, archive, node) {
+        Ok(bytes) => Ok(Bytes::from_vec(bytes)),
+        Err(ReadFault::ArchiveFailed) => Err(MoveFault::ArchiveFailed),
+        Err(ReadFault::Changed { wanted, found }) => Err(MoveFault::Changed { wanted, found }),
+        Err(ReadFault::Memory) => Err(MoveFault::Memory),
     }
-    let Some((header, _)) = bytes.split_first_chunk::<80>() else {
-        return Err(None);
-    };
-    let text = encode_header(&node.header);
-    if bytes.len() == wanted && header.as_slice() == text.as_slice() {
-        Ok(())
-    } else {
-        Err(Some(block_hash(header)))
+}
+
+/// The bytes of all blocks, in order, each beginning with its header.
+pub fn read_all<A: Archive>(
+    alloc: Global,
+    archive: &mut A,
+    nodes: &[Node],
+) -> Result<Vec<Bytes>, MoveFault>
+    requires { AllByRecursion IsNode nodes.now }
+    ensures read { IfOk result (λ texts. AreRead A.tells (A.bytes archive.new) nodes.now texts.items) }
+    ensures unread { IfErr result (IsUnread A.tells (A.bytes archive.new) nodes.now) }
+    ensures only_reads { OnlyReads A.tells (A.bytes archive.old) (A.bytes archive.new)
+        (A.faults archive.old) (A.faults archive.new) MoveFault.ArchiveFailed result }
+{
+    let mut texts = Vec::new(alloc);
+    for node in nodes {
+        let text = read_one(alloc, archive, node)?;
+        texts.push(text)?;
     }
+    Ok(texts)
 }

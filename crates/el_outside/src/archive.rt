@@ -6,7 +6,7 @@ ghost use Rattle.el_outside.specs.Files.{AllGrow};
 /// The greatest number of block files.
 pub const MOST_FILES: u32 = 100_000;
 
-/// Each block file has fewer bytes than this.
+/// Each file of a device, a block file or one of the index, has fewer bytes than this.
 pub const SIZE_LIMIT: u64 = 1 << 62;
 
 /// A call of the block files failed.

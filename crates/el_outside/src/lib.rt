@@ -1,11 +1,19 @@
-//! What lies outside the program: the node's block files, and the link to clients.
+//! What lies outside the program: the node's block files, the disk of the index, and the link to clients.
 #![tactic(auto)]
 
 mod archive;
+mod disk;
+mod disk_laws;
 mod laws;
 mod link;
 
 pub use archive::{Archive, ArchiveFailed, MOST_FILES, Place, SIZE_LIMIT};
+pub use disk::{Disk, DiskFailed};
+pub use disk_laws::{
+    files_fail_independently, lives_go_on, model_keeps_the_clauses, moments_add_up,
+    other_bytes_stay, past_the_end_are_any_bytes, reads_are_images, sizes_lie_between,
+    syncs_settle, written_ranges_hold_any_bytes,
+};
 pub use laws::{counts_add_up, stories_join};
 pub use link::{Arrival, BUFFER_SIZE, Link, LinkFailed, Peer, SendFault, Why};
 

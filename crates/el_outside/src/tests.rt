@@ -1,6 +1,6 @@
 // What no contract says: the printed texts of the faults.
 
-use crate::{ArchiveFailed, LinkFailed, SendFault};
+use crate::{ArchiveFailed, DiskFailed, LinkFailed, SendFault};
 use std::test::Fail;
 
 #[test]
@@ -8,6 +8,7 @@ fn faults_are_printed(rt: HostRuntime) -> Result<(), Fail> {
     let alloc = rt.alloc();
     for (printed, wanted) in [
         (format!(in alloc; "{ArchiveFailed}")?, "block files failed"),
+        (format!(in alloc; "{DiskFailed}")?, "index device failed"),
         (format!(in alloc; "{LinkFailed}")?, "link failed"),
         (
             format!(in alloc; "{}", SendFault::Gone)?,

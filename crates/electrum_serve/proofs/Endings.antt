@@ -1,8 +1,8 @@
 -- How a call ends.
 use Rattle.std.proofs.Common.{◌≡◌, ℕ, List, refl}
-use Rattle.el_model.specs.Blocks.{Chain}
-use Rattle.el_model.specs.Faults.{IsGood}
-use Rattle.el_model.specs.Records.{GivesChain}
+use Rattle.el_chain.specs.Chains.{Chain}
+use Rattle.el_chain.specs.Faults.{IsGood}
+use Rattle.el_chain.specs.Records.{GivesChain}
 use Rattle.el_outside.specs.Files.{IsFile}
 use Rattle.electrum_serve.specs.Words.{IsOnce}
 use Rattle.electrum_serve.specs.Ends.{Counts, Traffic, RunEnds, IsUnserved, Ends, archive_faults}

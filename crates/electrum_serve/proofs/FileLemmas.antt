@@ -12,14 +12,15 @@ use Rattle.el_tx.specs.Headers.{header_encoding, header_of}
 use Rattle.el_tx.specs.Encoding.{counted}
 use Rattle.el_tx.specs.Hashing.{full_encoding}
 use Rattle.el_tx.proofs.HeaderLemmas.{header_again, header_length}
-use Rattle.el_model.specs.declared.block.Block.{Block}
-use Rattle.el_model.specs.declared.block.Placed.{Placed}
-use Rattle.el_model.specs.declared.node.Node.{Node}
-use Rattle.el_model.specs.Blocks.{Chain, EncodesBlock}
-use Rattle.el_model.specs.Faults.{IsGood, IsNext, AreNext}
-use Rattle.el_model.specs.Records.{record_size, node_of, records, block_at, IsBlockOf, GivesChain}
-use Rattle.el_model.proofs.BlockLemmas.{one_block}
-use Rattle.el_model.proofs.GoodChains.{next_more}
+use Rattle.el_block.specs.declared.block.Block.{Block}
+use Rattle.el_chain.specs.declared.placed.Placed.{Placed}
+use Rattle.el_chain.specs.declared.node.Node.{Node}
+use Rattle.el_block.specs.Blocks.{EncodesBlock}
+use Rattle.el_chain.specs.Chains.{Chain}
+use Rattle.el_chain.specs.Faults.{IsGood, IsNext, AreNext}
+use Rattle.el_chain.specs.Records.{record_size, node_of, records, block_at, IsBlockOf, GivesChain}
+use Rattle.el_block.proofs.BlockLemmas.{one_block}
+use Rattle.el_chain.proofs.GoodChains.{next_more}
 use Rattle.el_files.specs.Scanning.{IsRecordIn}
 use Rattle.el_files.proofs.Heading.{header_in_front}
 use Rattle.el_files.proofs.Standing.{records_stand, stands_within, block_stays}

@@ -6,7 +6,7 @@ use Rattle.el_outside.specs.Story.{Story, ArrivalWithBytes, opened, brought, clo
 use Rattle.el_outside.specs.declared.link.Arrival.{Arrival}
 use Rattle.el_outside.specs.declared.link.Arrival.TheVariants as arrival
 use Rattle.el_outside.proofs.Stories.{goes_none, goes_more, rose_more, rose_none, opened_is_open, arrived_stays_open, new_unused, new_not_open}
-use Rattle.el_model.specs.Blocks.{Chain}
+use Rattle.el_chain.specs.Chains.{Chain}
 use Rattle.el_model.specs.World.{World, Session, Event, is_peer, hearing, after_hearing, quiet_world}
 use Rattle.el_model.specs.Run.{Run, none, more, gone_in}
 use Rattle.el_model.proofs.Cuts.{either}

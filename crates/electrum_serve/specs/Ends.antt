@@ -4,9 +4,9 @@ use Rattle.std.specs.List.{AllByRecursion}
 use Rattle.el_outside.specs.Counts.{RoseBy}
 use Rattle.el_outside.specs.Files.{IsFile}
 use Rattle.el_outside.specs.Story.{ArrivalWithBytes, opened, brought, closed, quiet, ended, Message, Closing}
-use Rattle.el_model.specs.Blocks.{Chain}
-use Rattle.el_model.specs.Faults.{IsGood}
-use Rattle.el_model.specs.Records.{GivesChain}
+use Rattle.el_chain.specs.Chains.{Chain}
+use Rattle.el_chain.specs.Faults.{IsGood}
+use Rattle.el_chain.specs.Records.{GivesChain}
 use Rattle.el_model.specs.World.{World, quiet_world}
 use Rattle.el_model.specs.Run.{Run, gone_in}
 use Rattle.electrum_serve.specs.File.{GivesNoChain}

@@ -3,16 +3,17 @@ ghost use Rattle.std.specs.Prelude.{◌≡◌, ◌≢◌, ◌↔◌, ◌++◌, �
 ghost use Rattle.std.specs.List.{AllByRecursion};
 ghost use Rattle.el_outside.specs.Counts.{OnlyReads};
 ghost use Rattle.el_outside.specs.Files.{IsFile};
-ghost use Rattle.el_model.specs.Blocks.{HasBlockEncoding, EncodesBlock, tip};
-ghost use Rattle.el_model.specs.Faults.{IsGood, IsNext};
-ghost use Rattle.el_model.specs.Records.{GivesChain, IsNode, IsBlockOf, block_at, records};
-ghost use Rattle.el_model.specs.declared.block.Block as shape;
+ghost use Rattle.el_block.specs.Blocks.{HasBlockEncoding, EncodesBlock};
+ghost use Rattle.el_chain.specs.Chains.{tip};
+ghost use Rattle.el_chain.specs.Faults.{IsGood, IsNext};
+ghost use Rattle.el_chain.specs.Records.{GivesChain, IsNode, IsBlockOf, block_at, records};
+ghost use Rattle.el_block.specs.declared.block.Block as shape;
 ghost use Rattle.electrum_serve.specs.File.{GivesNoChain};
 
 use el_base::Hash32;
-use el_block::decode_block;
+use el_block::{Block, BlockFault, decode_block};
+use el_chain::{ConnectFault, Node, PlainChain};
 use el_files::{ReadFault, ScanFault, read_block, scan_file};
-use el_model::{Block, BlockFault, ConnectFault, Node, PlainLedger};
 use el_outside::{Archive, Place};
 use std::alloc::Global;
 
@@ -64,8 +65,10 @@ fn connect_fault(fault: ConnectFault) -> FileFault
     ensures never_failed { result ≢ FileFault.Failed }
 {
     match fault {
-        ConnectFault::MissingCoin { .. } | ConnectFault::Money { .. } | ConnectFault::Full { .. } =>
-            { FileFault::Bad }
+        ConnectFault::DiskFailed
+        | ConnectFault::MissingCoin { .. }
+        | ConnectFault::Money { .. }
+        | ConnectFault::Full { .. } => FileFault::Bad,
         ConnectFault::Memory => FileFault::Memory,
     }
 }
@@ -125,7 +128,7 @@ fn read_record<A: Archive>(alloc: Global, archive: &mut A, node: &Node) -> Resul
 }
 
 // Whether the block names the last one, or the zero hash where there is none.
-fn names_tip(ledger: &PlainLedger, block: &Block) -> bool
+fn names_tip(ledger: &PlainChain, block: &Block) -> bool
     ensures { IsTrue result ↔ (block.now.header.previous ≡ tip ledger.now) }
 {
     match ledger.tip() {
@@ -135,7 +138,7 @@ fn names_tip(ledger: &PlainLedger, block: &Block) -> bool
 }
 
 // Adds a block, if it may stand after the last one.
-fn add_block(ledger: &mut PlainLedger, block: Block, place: Place) -> Result<(), FileFault>
+fn add_block(ledger: &mut PlainChain, block: Block, place: Place) -> Result<(), FileFault>
     requires { HasBlockEncoding block }
     ensures added { OnOk result (ledger.new ≡ ledger.old ++ record { block = block; place = place } ∷ []) }
     ensures next { OnOk result (IsNext ledger.old block) }
@@ -156,7 +159,7 @@ pub fn read_chain<A: Archive>(
     alloc: Global,
     archive: &mut A,
     magic: [u8; 4],
-) -> Result<PlainLedger, FileFault>
+) -> Result<PlainChain, FileFault>
     ensures good { IfOk result IsGood }
     // The file gives the ledger's chain.
     ensures read { A.tells → IfOk result (λ ledger. (file : List ℕ)
@@ -171,7 +174,7 @@ pub fn read_chain<A: Archive>(
         Ok(found) => found,
         Err(fault) => return Err(fault),
     };
-    let mut ledger = PlainLedger::new(alloc);
+    let mut ledger = PlainChain::new(alloc);
     for node in found.as_slice() {
         let block = match read_record(alloc, archive, node) {
             Ok(block) => block,

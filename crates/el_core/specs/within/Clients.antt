@@ -1,7 +1,7 @@
 -- What the server's parts do with its client.
 use Rattle.std.specs.Prelude.{◌≡◌, ◌⊎◌, ◌==◌, ℕ, ◌+◌, ◌≤◌, true, false, List, [], ◌++◌, length, Option, Some, None, MatchBool, slice_get}
 use Rattle.el_outside.specs.declared.link.Why.TheVariants as why
-use Rattle.el_model.specs.Blocks.{Chain}
+use Rattle.el_chain.specs.Chains.{Chain}
 use Rattle.el_model.specs.Lines.{LineEvent, line, lines}
 use Rattle.el_model.specs.Replies.{IsReply}
 use Rattle.el_model.specs.World.{line_limit}

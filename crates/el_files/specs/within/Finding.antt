@@ -1,6 +1,6 @@
 -- What a head tells of a block, before it is said where the head came from.
 use Rattle.std.specs.Prelude.{◌≡◌, ℕ, List}
-use Rattle.el_model.specs.declared.node.Node.{Node}
+use Rattle.el_chain.specs.declared.node.Node.{Node}
 use Rattle.el_files.specs.Scanning.{IsFound, HasHead}
 
 -- the block's record stands at this place of this file

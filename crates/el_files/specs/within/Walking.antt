@@ -1,7 +1,7 @@
 -- How far a walk over a file has come.
 use Rattle.std.specs.Prelude.{◌≡◌, ℕ, ◌+◌, List, ◌++◌, drop}
-use Rattle.el_model.specs.Records.{records, records_from}
-use Rattle.el_model.specs.declared.node.Node.{Node}
+use Rattle.el_chain.specs.Records.{records, records_from}
+use Rattle.el_chain.specs.declared.node.Node.{Node}
 
 -- The walk began at the place of the file, where these bytes stand, and passed `passed` of them. It
 -- appended the records that it passed.

@@ -5,8 +5,8 @@ use Rattle.std.specs.Option.{option_or, is_some}
 use Rattle.std.specs.Vec.{vec_capacity, vec_len}
 use Rattle.indexmap.specs.IndexMap.{IndexMap, get, spare}
 use Rattle.el_base.specs.declared.hash.Hash32.{Hash32}
-use Rattle.el_model.specs.declared.node.Node.{Node}
-use Rattle.el_model.specs.Headers.{same_hash, has_hash, names_none, genesis, IsFound}
+use Rattle.el_chain.specs.declared.node.Node.{Node}
+use Rattle.el_chain.specs.Headers.{same_hash, has_hash, names_none, genesis, IsFound}
 use Rattle.el_headers.specs.declared.table.Table.{Table}
 
 -- the greatest number of a node that passes the test, where the first has that number

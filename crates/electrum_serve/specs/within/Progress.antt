@@ -4,7 +4,7 @@ use Rattle.std.specs.List.{AllByRecursion}
 use Rattle.el_outside.specs.Counts.{RoseBy}
 use Rattle.el_outside.specs.Story.{Story, ArrivalWithBytes, Message, Closing, GoesOn, is_open}
 use Rattle.el_outside.specs.declared.link.Why.{Why}
-use Rattle.el_model.specs.Blocks.{Chain}
+use Rattle.el_chain.specs.Chains.{Chain}
 use Rattle.el_model.specs.Lines.{LineEvent}
 use Rattle.el_model.specs.World.{World, Session, Event, says, is_client, without_client, quiet_world}
 use Rattle.el_model.specs.Run.{Turns, Run, gone_in, IsDeparture}

@@ -1,6 +1,6 @@
 use Rattle.std.proofs.Common.{◌∙◌, ◌<◌, ◌≤◌, ap, length, List, arith}
-use Rattle.el_model.specs.declared.entry.Entry.{Entry}
-use Rattle.el_model.specs.History.{history}
+use Rattle.el_chain.specs.declared.entry.Entry.{Entry}
+use Rattle.el_chain.specs.History.{history}
 use Rattle.el_model.specs.Replies.{listed, too_large, history_text, entry_limit}
 use Rattle.el_core.proofs.reply.reply.Goals as goal
 

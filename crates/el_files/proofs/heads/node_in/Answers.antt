@@ -1,7 +1,7 @@
 use Rattle.std.proofs.Common.{◌≡◌, drop, take, ap, sym, ◌∙◌}
 use Rattle.std.specs.Prelude.{Some}
 use Rattle.std.proofs.lemmas.List.{take_rest}
-use Rattle.el_model.specs.Records as records
+use Rattle.el_chain.specs.Records as records
 use Rattle.el_files.proofs.Heading.{node_read, node_found, size_bounds}
 use Rattle.el_files.proofs.heads.node_in.Goals as goal
 

@@ -1,8 +1,8 @@
 use Rattle.std.proofs.Common.{◌≡◌, ◌≤◌, arith, rules, inr, ◌∙◌, ap, ◌++◌, ℕ, Err}
 use Rattle.std.proofs.lemmas.Result.{err_from_is_err_and}
 use Rattle.el_outside.proofs.Calls.{has_more, reads_failed}
-use Rattle.el_model.specs.declared.node.Node.{Node}
-use Rattle.el_model.specs.Records.{records_of_files}
+use Rattle.el_chain.specs.declared.node.Node.{Node}
+use Rattle.el_chain.specs.Records.{records_of_files}
 use Rattle.el_outside.specs.declared.archive.TheConstants.{MOST_FILES}
 use Rattle.el_files.specs.Scanning.{IsFoundIn, IsFoundBelow}
 use Rattle.el_files.specs.declared.limits.TheConstants.{PIECE_SIZE}

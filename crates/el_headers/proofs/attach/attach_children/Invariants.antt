@@ -1,7 +1,7 @@
 use Rattle.std.proofs.Common.{◌≡◌, ◌+◌, ℕ, Some, length}
 use Rattle.std.specs.Prelude.{vec_capacity}
 use Rattle.std.specs.List.{slice_get}
-use Rattle.el_model.specs.declared.node.Node.{Node}
+use Rattle.el_chain.specs.declared.node.Node.{Node}
 use Rattle.el_headers.specs.within.Tables.{AreHeights, ChildrenLeft, StayKnown, open_count}
 use Rattle.el_headers.proofs.Heights.{places_left}
 use Rattle.el_headers.proofs.attach.attach_children.Given as goal

@@ -4,8 +4,8 @@ use Rattle.std.specs.Option.{is_some}
 use Rattle.std.proofs.lemmas.Option.{slice_get_read, slice_get_within}
 use Rattle.std.proofs.lemmas.Result.{err_from_is_err_and}
 use Rattle.el_base.specs.declared.hash.Hash32.{Hash32}
-use Rattle.el_model.specs.Headers.{IsPath, has_hash}
-use Rattle.el_model.specs.Records.{IsNode}
+use Rattle.el_chain.specs.Headers.{IsPath, has_hash}
+use Rattle.el_chain.specs.Records.{IsNode}
 use Rattle.el_headers.proofs.Growing.{parent_at}
 use Rattle.el_headers.proofs.Paths.{path_there, no_path, path_nodes}
 use Rattle.el_headers.proofs.Putting.{any_greatest, known_at}

@@ -1,6 +1,6 @@
 use Rattle.std.proofs.Common.{◌≡◌, ◌∙◌, ap}
 use Rattle.std.specs.Option.{is_some}
-use Rattle.el_model.specs.Headers.{has_hash}
+use Rattle.el_chain.specs.Headers.{has_hash}
 use Rattle.el_headers.proofs.Putting.{any_greatest}
 use Rattle.el_headers.proofs.tree.has_node.Goals as goal
 

@@ -1,6 +1,6 @@
 use Rattle.std.proofs.Common.{List, subst}
 use Rattle.std.specs.Result.{IfOk}
-use Rattle.el_model.specs.declared.node.Node.{Node}
+use Rattle.el_chain.specs.declared.node.Node.{Node}
 use Rattle.el_headers.specs.Adding.{Tells}
 use Rattle.el_headers.proofs.tree.HeaderTree.add.Goals as goal
 

@@ -1,6 +1,6 @@
 use Rattle.std.proofs.Common.{List, subst}
 use Rattle.std.specs.Result.{IfErr}
-use Rattle.el_model.specs.declared.node.Node.{Node}
+use Rattle.el_chain.specs.declared.node.Node.{Node}
 use Rattle.el_headers.specs.Adding.{HasNoPath}
 use Rattle.el_headers.proofs.tree.HeaderTree.path.Goals as goal
 

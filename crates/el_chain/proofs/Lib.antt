@@ -1,0 +1,17 @@
+pub mod Chains
+pub mod CoinLists
+pub mod CoinSteps
+pub mod Meters
+pub mod Histories
+pub mod Tallies
+pub mod Connecting
+pub mod GoodChains
+pub mod DraftSteps
+pub mod GivenChains
+pub mod SupplyLaws
+pub mod CoinOrigins
+pub mod NoHistories
+pub mod TouchedScripts
+pub mod RecordBytes
+pub mod TouchLemmas
+pub mod BalanceLemmas

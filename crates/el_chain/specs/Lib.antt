@@ -1,0 +1,12 @@
+pub mod Chains
+pub mod Coins
+pub mod RowCounts
+pub mod Faults
+pub mod History
+pub mod Records
+pub mod Reading
+pub mod Headers
+pub mod Moves
+pub mod Touches
+pub mod CoinLaws
+pub mod within

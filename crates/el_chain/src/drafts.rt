@@ -1,0 +1,200 @@
+// Several blocks, all of which are added or none.
+ghost use Rattle.std.specs.Prelude.{◌≡◌, ◌≢◌, ◌⊎◌, ◌+◌, ◌<◌, ◌≤◌, ◌++◌, ◌∷◌, [], ℕ, List, length, IfOk, IfErr, OnOk, OnErr};
+ghost use Rattle.std.specs.List.{AllByRecursion};
+ghost use Rattle.el_chain.specs.declared.placed.Placed as placed_shape;
+ghost use Rattle.el_block.specs.Blocks.{EncodesBlock};
+ghost use Rattle.el_chain.specs.Chains.{Chain, tip};
+ghost use Rattle.el_chain.specs.Records.{IsBlockOf};
+ghost use Rattle.el_block.specs.BlockFaults.{FirstBlockFault};
+ghost use Rattle.el_chain.specs.within.CoinLayers.{IsPlainChain};
+ghost use Rattle.el_chain.specs.within.Drafts.{IsDrafted};
+ghost use Rattle.el_chain.specs.Faults.{IsNext, fault as block_fault};
+ghost use Rattle.el_chain.specs.Headers.{AreLinked};
+ghost use Rattle.el_chain.specs.Coins.{coins as coins_of};
+ghost use Rattle.el_chain.specs.Touches.{Touch};
+ghost use Rattle.el_chain.specs.Moves.{AreOf, AreNextBlocks, FaultInAt, IsStop};
+ghost use Rattle.el_chain.specs.Records.{IsNode};
+ghost use Rattle.el_block.specs.declared.block.Block as block_shape;
+
+use crate::coins::{CoinTable, connect, lay_over};
+use crate::fault::ConnectFault;
+use crate::moves::MoveFault;
+use crate::node::Node;
+use crate::placed::Placed;
+use crate::tally::Tally;
+use crate::touched::Touched;
+use crate::touching::touched_by;
+use el_base::{Bytes, Hash32, OutOfMemory};
+use el_block::{Block, BlockFault, decode_block};
+use indexmap::IndexMap;
+use std::alloc::Global;
+
+// The fault of a block of that hash that isn't read.
+fn bad(hash: Hash32, fault: BlockFault) -> MoveFault
+    ensures memory { fault ≡ BlockFault.Memory → result ≡ MoveFault.Memory }
+    ensures kept { (fault ≡ BlockFault.Memory) ⊎ (result ≡ MoveFault.BadBlock hash fault) }
+{
+    match fault {
+        BlockFault::Memory => MoveFault::Memory,
+        _ => MoveFault::BadBlock { hash, fault },
+    }
+}
+
+// Reads the block of that hash.
+fn read_for(alloc: Global, hash: Hash32, text: &[u8]) -> Result<Block, MoveFault>
+    ensures read { IfOk result (EncodesBlock text.now) }
+    ensures first_fault { (chain : Chain) → IfErr result (IsStop chain hash text.now) }
+{
+    match decode_block(alloc, text) {
+        Ok(block) => Ok(block),
+        Err(fault) => Err(bad(hash, fault)),
+    }
+}
+
+// Connects the block of that hash after the chain of the draft.
+fn connect_for(
+    alloc: Global,
+    blocks: &[Placed],
+    fresh: &[Placed],
+    base: &CoinTable,
+    changes: &mut CoinTable,
+    tally: &mut Tally,
+    hash: Hash32,
+    block: &Block,
+) -> Result<(), MoveFault>
+    requires drafted { IsDrafted base.now (blocks.now ++ fresh.now) changes.old tally.old }
+    requires encoded { (text : List ℕ) × EncodesBlock text block.now }
+    requires names { block.now.header.previous ≡ tip (blocks.now ++ fresh.now) }
+    ensures next { OnOk result (IsNext (blocks.now ++ fresh.now) block.now) }
+    ensures drafted { (place : _) → OnOk result (IsDrafted base.now ((blocks.now ++ fresh.now)
+        ++ record { block = block.now; place = place } ∷ []) changes.new tally.new) }
+    ensures first_fault { (text : List ℕ) → EncodesBlock text block.now
+        → IfErr result (IsStop (blocks.now ++ fresh.now) hash text) }
+{
+    match connect(
+        alloc,
+        base,
+        changes,
+        tally,
+        blocks,
+        fresh,
+        block.txs.as_slice(),
+    ) {
+        Ok(()) => Ok(()),
+        Err(ConnectFault::Memory) => Err(MoveFault::Memory),
+        Err(fault) => Err(MoveFault::Refused { hash, fault }),
+    }
+}
+
+// The next block of the draft.
+fn draft_next(
+    alloc: Global,
+    blocks: &[Placed],
+    base: &CoinTable,
+    changes: &mut CoinTable,
+    tally: &mut Tally,
+    fresh: &mut Vec<Placed>,
+    node: &Node,
+    text: &[u8],
+) -> Result<(), MoveFault>
+    requires drafted { IsDrafted base.now (blocks.now ++ fresh.old.items) changes.old tally.old }
+    requires node { IsNode node.now }
+    requires of { IsBlockOf node.now text.now }
+    requires names { node.now.header.previous ≡ tip (blocks.now ++ fresh.old.items) }
+    ensures drafted { OnOk result (IsDrafted base.now (blocks.now ++ fresh.new.items) changes.new tally.new) }
+    ensures added { OnOk result ((b : placed_shape.Placed) × (fresh.new.items ≡ fresh.old.items ++ b ∷ [])
+        × (b.place ≡ node.now.place)
+        × EncodesBlock text.now b.block × IsNext (blocks.now ++ fresh.old.items) b.block
+        × (tip (blocks.now ++ fresh.new.items) ≡ node.now.hash)) }
+    ensures first_fault { IfErr result (IsStop (blocks.now ++ fresh.old.items) node.now.hash text.now) }
+{
+    let block = read_for(alloc, node.hash, text)?;
+    connect_for(
+        alloc,
+        blocks,
+        fresh.as_slice(),
+        base,
+        changes,
+        tally,
+        node.hash,
+        &block,
+    )?;
+    fresh.push(Placed {
+        block,
+        place: node.place,
+    })?;
+    Ok(())
+}
+
+// The blocks of the nodes, one after the other.
+fn draft_all(
+    alloc: Global,
+    blocks: &[Placed],
+    base: &CoinTable,
+    changes: &mut CoinTable,
+    tally: &mut Tally,
+    nodes: &[Node],
+    texts: &[Bytes],
+) -> Result<Vec<Placed>, MoveFault>
+    requires drafted { IsDrafted base.now blocks.now changes.old tally.old }
+    requires nodes { AllByRecursion IsNode nodes.now }
+    requires of { AreOf nodes.now texts.now }
+    requires linked { AreLinked (tip blocks.now) nodes.now }
+    ensures drafted { IfOk result (λ fresh. IsDrafted base.now (blocks.now
+        ++ fresh.items) changes.new tally.new) }
+    ensures next { IfOk result (λ fresh. AreNextBlocks blocks.now nodes.now texts.now fresh.items) }
+    ensures first_fault { IfErr result (λ e. (e ≡ MoveFault.Memory)
+        ⊎ FaultInAt blocks.now nodes.now texts.now e) }
+{
+    let mut fresh = Vec::new(alloc);
+    for (index, node) in nodes.iter().enumerate() {
+        let text = texts[index].as_slice();
+        draft_next(alloc, blocks, base, changes, tally, &mut fresh, node, text)?;
+    }
+    Ok(fresh)
+}
+
+/// Adds the blocks of the nodes, which these bytes encode, or none, and gives the script hashes that they
+/// touch.
+pub fn add_all(
+    alloc: Global,
+    blocks: &mut Vec<Placed>,
+    coins: &mut CoinTable,
+    tally: &mut Tally,
+    nodes: &[Node],
+    texts: &[Bytes],
+) -> Result<Touched, MoveFault>
+    requires kept { IsPlainChain blocks.old.items coins.old tally.old }
+    requires nodes { AllByRecursion IsNode nodes.now }
+    requires of { AreOf nodes.now texts.now }
+    requires linked { AreLinked (tip blocks.old.items) nodes.now }
+    ensures kept { IsPlainChain blocks.new.items coins.new tally.new }
+    ensures ok { IfOk result (λ touched. (fresh : Chain) × (blocks.new.items ≡ blocks.old.items ++ fresh)
+        × AreNextBlocks blocks.old.items nodes.now texts.now fresh
+        × Touch touched (coins_of blocks.old.items) fresh) }
+    ensures err { OnErr result (blocks.new.items ≡ blocks.old.items) }
+    ensures first_fault { IfErr result (λ e. (e ≡ MoveFault.Memory)
+        ⊎ FaultInAt blocks.old.items nodes.now texts.now e) }
+{
+    let mut changes = CoinTable {
+        map: IndexMap::new(alloc),
+        supply: coins.supply,
+    };
+    let mut counted = *tally;
+    let mut fresh = draft_all(
+        alloc,
+        blocks.as_slice(),
+        coins,
+        &mut changes,
+        &mut counted,
+        nodes,
+        texts,
+    )?;
+    let touched = touched_by(alloc, coins, fresh.as_slice())?;
+    blocks.reserve(fresh.len())?;
+    lay_over(coins, changes)?;
+    *tally = counted;
+    // There is room, so all are moved.
+    let _moved = blocks.append(&mut fresh);
+    Ok(touched)
+}

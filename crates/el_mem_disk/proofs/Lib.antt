@@ -1,0 +1,4 @@
+pub mod DiskFileLists
+pub mod DiskSound
+pub mod DiskCalls
+pub mod Choices

@@ -1,0 +1,38 @@
+use Rattle.std.proofs.Common.{◌∙◌, ap}
+use Rattle.el_outside.specs.Images.{at_file}
+use Rattle.el_mem_disk.specs.DiskFiles.{file_synced}
+use Rattle.el_mem_disk.specs.Disks.{DiskState, state_of, with_file}
+use Rattle.el_mem_disk.proofs.DiskCalls.{files_by, nothing_new, sync_crash, sync_seen, sync_on_disk}
+use Rattle.el_mem_disk.proofs.disk.MemDiskDisk.sync.Goals as goal
+
+pub returns-then-tick-clause-others : goal.returns-then-tick-clause-others
+returns-then-tick-clause-others c f ne = ap (λ files. (files f).bytes) (files_by c.fault.ensures ∙ files_by c.tick.ensures.same)
+
+pub returns-then-tick-clause-crash : goal.returns-then-tick-clause-crash
+returns-then-tick-clause-crash c = nothing_new (state_of c.args.self.now).files (state_of c.fault.new.self).files (state_of c.args.self.now).past (state_of c.fault.new.self).past (files_by c.fault.ensures ∙ files_by c.tick.ensures.same)
+
+pub returns-in-Ok-clause-durable : goal.returns-in-Ok-clause-durable
+returns-in-Ok-clause-durable c = sync_on_disk (state_of c.args.self.now).files (state_of c.settle.new.self).files (state_of c.args.self.now).past (state_of c.settle.new.self).past c.args.self.now.sound c.args.file
+    (files_by c.in-Ok.ensures.ok ∙ ap (λ files. at_file files c.args.file (file_synced (files c.args.file))) (files_by c.tick.ensures.same))
+
+pub returns-in-Ok-clause-seen : goal.returns-in-Ok-clause-seen
+returns-in-Ok-clause-seen c = sync_seen (state_of c.args.self.now).files (state_of c.settle.new.self).files (state_of c.args.self.now).past (state_of c.settle.new.self).past c.args.self.now.sound c.args.file
+    (files_by c.in-Ok.ensures.ok ∙ ap (λ files. at_file files c.args.file (file_synced (files c.args.file))) (files_by c.tick.ensures.same))
+
+pub returns-in-Ok-clause-crash : goal.returns-in-Ok-clause-crash
+returns-in-Ok-clause-crash c = sync_crash (state_of c.args.self.now).files (state_of c.settle.new.self).files (state_of c.args.self.now).past (state_of c.settle.new.self).past c.args.self.now.sound c.args.file
+    (files_by c.in-Ok.ensures.ok ∙ ap (λ files. at_file files c.args.file (file_synced (files c.args.file))) (files_by c.tick.ensures.same))
+
+pub returns-in-Ok-clause-others : goal.returns-in-Ok-clause-others
+returns-in-Ok-clause-others c f ne = λ i. sync_seen (state_of c.args.self.now).files (state_of c.settle.new.self).files (state_of c.args.self.now).past (state_of c.settle.new.self).past c.args.self.now.sound c.args.file
+    (files_by c.in-Ok.ensures.ok ∙ ap (λ files. at_file files c.args.file (file_synced (files c.args.file))) (files_by c.tick.ensures.same)) i f
+
+pub returns-in-Err-clause-others : goal.returns-in-Err-clause-others
+returns-in-Err-clause-others c f ne = ap (λ files. (files f).bytes) (files_by c.fault-in-Err.ensures ∙ files_by c.in-Err.ensures.err ∙ files_by c.tick.ensures.same)
+
+pub returns-in-Err-clause-crash : goal.returns-in-Err-clause-crash
+returns-in-Err-clause-crash c = nothing_new (state_of c.args.self.now).files (state_of c.fault-in-Err.new.self).files (state_of c.args.self.now).past (state_of c.fault-in-Err.new.self).past (files_by c.fault-in-Err.ensures ∙ files_by c.in-Err.ensures.err ∙ files_by c.tick.ensures.same)
+
+pub returns-in-Ok-clause-done : goal.returns-in-Ok-clause-done
+returns-in-Ok-clause-done c =
+    c.in-Ok.ensures.ok ∙ ap (λ (s : DiskState). with_file s c.args.file (file_synced (s.files c.args.file))) c.tick.ensures.same

@@ -1,0 +1,5 @@
+pub mod DiskFiles
+pub mod Disks
+pub mod Failing
+pub mod SilentDisks
+pub mod within

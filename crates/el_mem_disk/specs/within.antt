@@ -1,0 +1,2 @@
+pub mod DiskPast
+pub mod DiskRules

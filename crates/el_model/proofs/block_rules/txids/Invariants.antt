@@ -1,6 +1,0 @@
-use Rattle.std.proofs.Common.{◌≡◌, take, map}
-use Rattle.el_tx.specs.Hashing.{txid}
-use Rattle.el_model.proofs.block_rules.txids.Given as goal
-
-abbrev pub invariant-loop-tx : goal.invariant-loop-tx
-invariant-loop-tx l = l.list.items ≡ map txid (take l.tx-index l.txs)

@@ -1,0 +1,31 @@
+-- What calls of a ledger leave as it was, and what a crash since then may leave.
+use Rattle.std.specs.Prelude.{◌≡◌, ◌⊎◌, ℕ, Option}
+use Rattle.el_base.specs.declared.hash.Hash32.{Hash32}
+use Rattle.el_outside.specs.Moments.{LeavesOnly}
+use Rattle.el_chain.specs.Chains.{Chain}
+
+-- Whether the ledger is live, its height, its tip, its number of buckets and the chains that it stands for
+-- are as they were.
+pub record Stays {S : Type 0} (is_live : S → Type 0) (height : S → Option ℕ)
+    (tip : S → Option Hash32) (buckets : S → ℕ)
+    (stands : S → Chain → Type 0) (old new : S) : Type 0 where
+  pub still_live : is_live old → is_live new
+  pub was_live : is_live new → is_live old
+  pub same_height : height new ≡ height old
+  pub same_tip : tip new ≡ tip old
+  pub same_buckets : buckets new ≡ buckets old
+  pub still_stands : (chain : Chain) → stands old chain → stands new chain
+  pub stood : (chain : Chain) → stands new chain → stands old chain
+
+-- A call has left the ledger as it was, and whatever a crash since its start leaves stands for the chain.
+pub record Quiet {S C : Type 0} (is_live : S → Type 0) (height : S → Option ℕ)
+    (tip : S → Option Hash32) (buckets : S → ℕ)
+    (stands : S → Chain → Type 0) (tells_crash : Type 0) (means : C → Chain → Type 0) (moment : S → ℕ)
+    (left_since : S → ℕ → C → Type 0) (old new : S) : Type 0 where
+  pub stays : Stays is_live height tip buckets stands old new
+  pub crash : tells_crash → (chain : Chain) → stands old chain
+      → LeavesOnly moment left_since old new (λ c. means c chain)
+
+-- what a crash left stands for the one chain or for the other
+abbrev pub Either : {C : Type 0} → (C → Chain → Type 0) → Chain → Chain → C → Type 0
+Either means a b c = means c a ⊎ means c b

@@ -1,0 +1,9 @@
+pub mod Lists
+pub mod ChainLists
+pub mod Tables
+pub mod Connecting
+pub mod Disconnecting
+pub mod Queries
+pub mod Edits
+pub mod Fits
+pub mod Example
