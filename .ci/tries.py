@@ -92,6 +92,13 @@ def once(folder, network="main"):
     return ["once", "--blocks", folder, "--network", network]
 
 
+def serve(folder, network="main", client_port="50001", node_port="8331"):
+    return [
+        "serve", "--blocks", folder, "--index", "index", "--network", network,
+        "--client-port", client_port, "--node-port", node_port,
+    ]
+
+
 def start(program, words, **streams):
     return subprocess.Popen([program, *words], stderr=subprocess.PIPE, **streams)
 
@@ -123,6 +130,7 @@ def other_words(program):
     for words in (
         ["once"],
         ["serve", "--blocks", "a", "--network", "main"],
+        ["server", *serve("a")[1:]],
         ["once", "--network", "main", "--blocks", "a"],
         ["once", "--network=main", "--blocks", "a"],
         ["once", "--blocks", "", "--network", "main"],
@@ -134,6 +142,47 @@ def other_words(program):
         if did != as_wanted((b"", USAGE)):
             return did, (b"", USAGE)
     return did, (b"", USAGE)
+
+
+def other_words_of_serve(program):
+    put("a/blk00000.dat", GOOD)
+    lawful = serve("a")
+    for words in (
+        lawful[:-1],
+        [*lawful, "more"],
+        ["serve", *lawful[3:5], *lawful[1:3], *lawful[5:]],
+        serve("-a"),
+        serve("a", network="signet"),
+        serve("a", client_port="0"),
+        serve("a", client_port="65536"),
+        serve("a", client_port="+1"),
+        serve("a", client_port=""),
+        serve("a", client_port="00000000001"),
+        serve("a", node_port="x"),
+        serve("a", node_port="50001"),
+        serve("a", node_port="0050001"),
+    ):
+        did = run(program, words, ONE)
+        if did != as_wanted((b"", USAGE)):
+            return did, (b"", USAGE)
+    return did, (b"", USAGE)
+
+
+def serves_two_files(program):
+    # no node leads the server along the headers that the scan finds, so that the chain stays empty
+    put("a/blk00000.dat", record(GENESIS))
+    put("a/blk00001.dat", record(BLOCK1))
+    return run(program, serve("a", client_port="0000000001"), ONE + b"{}\n"), (NONE_FOUND + INVALID, ENDED)
+
+
+def serves_blocks_in_any_order(program):
+    put("a/blk00000.dat", record(BLOCK1))
+    put("a/blk00003.dat", record(GENESIS))
+    return run(program, serve("a"), ONE), (NONE_FOUND, ENDED)
+
+
+def serves_no_folder(program):
+    return run(program, serve("a"), ONE), (b"", FILES_FAILED)
 
 
 def words_that_are_no_text(program):
@@ -274,6 +323,10 @@ def folder_elsewhere(program):
 CASES = [
     no_words,
     other_words,
+    other_words_of_serve,
+    serves_two_files,
+    serves_blocks_in_any_order,
+    serves_no_folder,
     words_that_are_no_text,
     folder_that_is_not_there,
     folder_that_is_a_file,

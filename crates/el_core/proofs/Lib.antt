@@ -1,4 +1,9 @@
-mod Events
-mod Sessions
-mod Arriving
-mod Turning
+pub mod Events
+pub mod Moved
+pub mod Compared
+pub mod Sessions
+pub mod Peers
+pub mod Noded
+pub mod Turned
+pub mod Causes
+pub mod Arriving

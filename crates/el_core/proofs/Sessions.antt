@@ -1,17 +1,19 @@
 -- The one session, and the events that its client's bytes leave.
 use Rattle.std.proofs.Common.{◌≡◌, inl, inr, ℕ, ◌+◌, ◌≤◌, ◌==◌, true, false, List, [], ◌∷◌, length, map, drop, Option, Some, None, refl, ap, sym, ◌∙◌, arith, subst, eq-eqb}
 use Rattle.std.specs.List.{AllByRecursion, slice_get}
+use Rattle.std.specs.Prelude.{find}
 use Rattle.std.proofs.lemmas.List.{drop_all}
 use Rattle.std.proofs.lemmas.Option.{slice_get_within, get_or_from_slice_get}
 use Rattle.el_base.proofs.Lists.{left_at}
+use Rattle.el_chain.specs.Chains.{Chain}
 use Rattle.el_model.specs.Lines.{LineEvent, lines}
-use Rattle.el_model.specs.World.{World, Event, joins, says, is_client, without_client, line_limit}
+use Rattle.el_model.specs.World.{World, Event, says, is_client, is_peer, without_client, line_limit}
 use Rattle.el_model.proofs.Cuts.{either}
 use Rattle.el_lines.specs.LineStates.{IsAt}
 use Rattle.el_core.specs.State.{State, ClientState, HasGivenAll, HearsLeft, in_order, losing, SessionsAre, AllVoid, IsSaidBy, Stands}
 use Rattle.el_core.specs.Arrivals.{gone_from, option_kept}
 
--- lines that a peer said
+-- lines that a client said
 pub said_all : (p : ℕ) (ls : List LineEvent) → AllByRecursion (IsSaidBy p) (map (says p) ls)
 said_all p [] = tt
 said_all p (l ∷ ls) = (refl, said_all p ls)
@@ -24,18 +26,22 @@ void_all p (e ∷ es) h = ((p, h.0), void_all p es h.1)
 pub one_client : (world : World) (p : ℕ) (heard : List ℕ) → world.sessions ≡ record { peer = p; heard = heard } ∷ [] → is_client p world ≡ true
 one_client world p heard e = rw (e, eq-eqb p p refl) refl
 
+pub one_found : (world : World) (p : ℕ) (heard : List ℕ) → world.sessions ≡ record { peer = p; heard = heard } ∷ []
+    → find (is_peer p) world.sessions ≡ Some (record { peer = p; heard = heard })
+one_found world p heard e = rw (e, eq-eqb p p refl) refl
+
 pub one_gone : (world : World) (p : ℕ) (heard : List ℕ) → world.sessions ≡ record { peer = p; heard = heard } ∷ [] → (without_client p world).sessions ≡ []
 one_gone world p heard e = rw (e, eq-eqb p p refl) refl
 
 -- the next event of a client's lines
-pub left_first : (p : ℕ) (ls : List LineEvent) (given : ℕ) (e : LineEvent) → slice_get ls given ≡ Some e
-    → map (says p) (drop given ls) ≡ says p e ∷ map (says p) (drop (given + 1) ls)
-left_first p ls given e is =
-    ap (map (says p)) (left_at ls given e (slice_get_within ls given e is) (sym (get_or_from_slice_get ls given e e is)))
+pub left_first : (F : LineEvent → Event) (ls : List LineEvent) (given : ℕ) (e : LineEvent) → slice_get ls given ≡ Some e
+    → map F (drop given ls) ≡ F e ∷ map F (drop (given + 1) ls)
+left_first F ls given e is =
+    ap (map F) (left_at ls given e (slice_get_within ls given e is) (sym (get_or_from_slice_get ls given e e is)))
 
 -- none is left at the end
-pub left_none : (p : ℕ) (ls : List LineEvent) (given : ℕ) → given ≡ length ls → map (says p) (drop given ls) ≡ []
-left_none p ls given all = ap (map (says p)) (drop_all given ls (omega arith))
+pub left_none : (F : LineEvent → Event) (ls : List LineEvent) (given : ℕ) → given ≡ length ls → map F (drop given ls) ≡ []
+left_none F ls given all = ap (map F) (drop_all given ls (omega arith))
 
 -- the lines of a client whose bytes were all kept are left in order
 pub record Ordered (c : ClientState) (heard : List ℕ) (left : List Event) : Type 0 where
@@ -62,48 +68,27 @@ at_end c heard left kept all limit hears =
     let o = ordered c heard left kept hears in
     subst (λ (n : ℕ). IsAt c.buffer heard n) (all_met c heard o.given limit all o.at) o.at
 
--- who waits to be closed
-waits_as : (client : Option ClientState) (surplus : Option ℕ) (world : World) (rest : List Event) (p : ℕ) → SessionsAre client surplus world.sessions (joins p ∷ rest) → surplus ≡ Some p
-waits_as None None world rest p are = absurd are.1.0.1
-waits_as None (Some q) world rest p are = absurd are
-waits_as (Some c) None world rest p are = absurd (let v = left_void c are.heard (joins p ∷ rest) are.leaves_left in v.0.1)
-waits_as (Some c) (Some q) world rest p are = let e = sym are.leaves_left.joins_is in let same : q ≡ p = joined q p rest e in ap Some same
-  where
-    joined : (q p : ℕ) (rest : List Event) → ◌≡◌ {A = List Event} (joins q ∷ []) (joins p ∷ rest) → q ≡ p
-    joined q p rest e = cc
-
-pub waiting : (s : State) (world : World) (p : ℕ) (rest : List Event) → Stands s world (joins p ∷ rest) → s.surplus ≡ Some p
-waiting s world p rest stands = waits_as s.client s.surplus world rest p stands.sessions
-
 -- a client goes
-gone_by : (client : Option ClientState) (surplus : Option ℕ) (world : World) (p : ℕ) → surplus ≡ None
-    → SessionsAre client surplus world.sessions [] → SessionsAre (option_kept p client) surplus (without_client p world).sessions []
-gone_by None None world p unused sessions = (rw sessions.0 refl, tt)
-gone_by None (Some q) world p unused sessions = absurd sessions
-gone_by (Some c) (Some q) world p unused sessions = absurd (let e = unused in cc)
-gone_by (Some c) None world p unused sessions = elim (either (c.peer == p)) [
-  | inl h ↦ rw h (rw (sessions.alone, h) refl, tt)
+pub gone_by : (client : Option ClientState) (surplus : Option ℕ) (world : World) (p : ℕ) (left : List Event) → surplus ≡ None
+    → SessionsAre client surplus world.sessions left → SessionsAre (option_kept p client) surplus (without_client p world).sessions left
+gone_by None None world p left unused sessions = (rw sessions.0 refl, sessions.1)
+gone_by None (Some q) world p left unused sessions = absurd sessions
+gone_by (Some c) (Some q) world p left unused sessions = absurd (let e = unused in cc)
+gone_by (Some c) None world p left unused sessions = elim (either (c.peer == p)) [
+  | inl h ↦ rw h (rw (sessions.alone, h) refl, left_void c sessions.heard left sessions.leaves_left)
   | inr h ↦ rw h (record { heard = sessions.heard; alone = rw (sessions.alone, h) refl; limit = sessions.limit; leaves_left = sessions.leaves_left })
 ]
 
-pub gone_stands : (s : State) (world : World) (p : ℕ) → s.surplus ≡ None → Stands s world [] → Stands (gone_from s p) (without_client p world) []
-gone_stands s world p unused stands = record { chain = stands.chain; sessions = gone_by s.client s.surplus world p unused stands.sessions }
-
--- a reply that was not sent: its client is gone, and what is left of its lines has no effect
-unsent_by : (client : Option ClientState) (surplus : Option ℕ) (world : World) (rest : List Event) (p : ℕ) (met : LineEvent) → surplus ≡ None
-    → SessionsAre client surplus world.sessions rest → is_client p world ≡ true
-    → SessionsAre (option_kept p client) surplus (without_client p world).sessions (says p met ∷ rest)
-unsent_by None None world rest p met unused are client = absurd (let e = rw are.0 at client in cc)
-unsent_by None (Some q) world rest p met unused are client = absurd are
-unsent_by (Some c) (Some q) world rest p met unused are client = absurd (let e = unused in cc)
-unsent_by (Some c) None world rest p met unused are client = elim (either (c.peer == p)) [
-  | inl h ↦ rw h (rw (are.alone, h) refl, ((p, refl), left_void c are.heard rest are.leaves_left))
-  | inr h ↦ absurd (let e = rw (are.alone, h) at client in cc)
-]
-
-pub unsent : (s : State) (p : ℕ) → s.surplus ≡ None → (world : World) (met : LineEvent) (rest : List Event) → Stands s world rest → is_client p world ≡ true
-    → Stands (gone_from s p) (without_client p world) (says p met ∷ rest)
-unsent s p unused world met rest stands client = record {
-  chain = stands.chain;
-  sessions = unsent_by s.client s.surplus world rest p met unused stands.sessions client;
+pub gone_stands : {G : Type 0} (stands : G → Chain → Type 0) (s : State G) (world : World) (p : ℕ) (left : List Event) → s.surplus ≡ None → Stands stands s world left
+    → Stands stands (gone_from s p) (without_client p world) left
+gone_stands stands s world p left unused stood = record {
+  chain = stood.chain;
+  magic = stood.magic;
+  found = stood.found;
+  ahead = stood.ahead;
+  ordered = stood.ordered;
+  node = stood.node;
+  said = stood.said;
+  sessions = gone_by s.client s.surplus world p stood.said unused stood.sessions;
+  left_is = stood.left_is;
 }

@@ -1,19 +1,23 @@
 // The one client and its bytes.
-ghost use Rattle.std.specs.Prelude.{◌≡◌, ◌<◌, ◌≤◌, false, Some, OnOk, OnErr, OnSome, IfOk, IfSome, IfNone, MatchOption};
-ghost use Rattle.el_model.specs.World.{line_limit};
+ghost use Rattle.std.specs.Prelude.{◌≡◌, ◌⊎◌, ◌<◌, ◌≤◌, [], false, None, Some, OnOk, OnErr, OnSome, IfOk, IfSome, IfNone, length, vec_capacity};
+ghost use Rattle.el_outside.specs.Counts.{RoseBy};
+ghost use Rattle.el_chain.specs.Chains.{Chain};
+ghost use Rattle.el_model.specs.Keeping.{Quiet};
+ghost use Rattle.el_model.specs.World.{line_limit, reply_to};
 ghost use Rattle.el_lines.specs.LineStates.{as_listed, held};
 ghost use Rattle.el_core.specs.State.{HasGivenAll, HasNoWork, IsHeardOut, work_of_client};
-ghost use Rattle.el_core.specs.within.Clients.{IsFresh, Keeps, Gives, NextIsLine, Answers, ClientTurn};
+ghost use Rattle.el_core.specs.Turn.{outs_of};
+ghost use Rattle.el_core.specs.within.Clients.{IsFresh, Keeps, Gives, NextIsLine, SendsReply, Answers, ClientTurn};
 
-use crate::out::Out;
+use crate::out::Outs;
 use crate::reply::reply;
-use el_base::{Bytes, OutOfMemory};
-use el_chain::PlainChain;
+use el_base::{Bytes, Listed, OutOfMemory, Steps};
 use el_lines::{LineBuffer, LineEvent};
-use el_model::LINE_LIMIT;
+use el_model::{LINE_LIMIT, Ledger};
 use el_outside::{Peer, Why};
 use std::alloc::Global;
 use std::marker::Model;
+use std::sync::ledger::Ledger as Counts;
 
 /// A connected client, which contracts see as a `ClientState`.
 #[derive(Debug, Drop)]
@@ -83,49 +87,121 @@ impl Client {
     }
 }
 
-// What a client gets for what was met in its bytes: the reply to a line, or its closing.
-fn answer(
+/// One message.
+pub fn sending(alloc: Global, p: Peer, text: Bytes) -> Result<Outs, OutOfMemory>
+    ensures { IfOk result (λ o. outs_of o ≡ reply_to p text) }
+{
+    let mut sends = Listed::new(alloc);
+    sends.push((p, text))?;
+    Ok(Outs { sends, close: None })
+}
+
+/// Room for one message.
+pub fn room_for_one(alloc: Global) -> Result<Vec<(Peer, Bytes)>, OutOfMemory>
+    ensures empty { IfOk result (λ room. room.items ≡ []) }
+    ensures room { IfOk result (λ room. length room.items < vec_capacity room) }
+{
+    let mut room = Vec::new(alloc);
+    room.try_reserve(1)?;
+    Ok(room)
+}
+
+/// One message, for which there is room. Takes no memory.
+pub fn sending_in(room: Vec<(Peer, Bytes)>, p: Peer, text: Bytes) -> Outs
+    requires empty { room.items ≡ [] }
+    requires room { length room.items < vec_capacity room }
+    ensures { outs_of result ≡ reply_to p text }
+{
+    let mut room = room;
+    room.push_reserved((p, text));
+    Outs {
+        sends: Listed::from_vec(room),
+        close: None,
+    }
+}
+
+/// One closing. Takes no memory.
+pub fn closing(alloc: Global, p: Peer, why: Why) -> Outs
+    ensures { outs_of result ≡ record { messages = []; closing = Some (record { peer = p; why = why }) } }
+{
+    Outs {
+        sends: Listed::new(alloc),
+        close: Some((p, why)),
+    }
+}
+
+// The message with the reply to a line.
+fn replying<G: Ledger, L: Counts + Send>(
     alloc: Global,
-    ledger: &PlainChain,
+    ledger: &mut G,
+    p: Peer,
+    line: &[u8],
+    steps: &mut Steps<L>,
+) -> Result<Outs, OutOfMemory>
+    requires live { G.is_live ledger.old }
+    ensures reply { (chain : Chain) → G.stands ledger.old chain → IfOk result (λ o.
+        SendsReply chain line.now (λ n. RoseBy (G.faults ledger.old) (G.faults ledger.new) n) p (outs_of o)) }
+    ensures quiet { Quiet G.is_live G.height G.tip G.buckets G.stands G.tells_crash
+        G.means G.moment G.left_since ledger.old ledger.new }
+    ensures disk_rose { RoseBy (G.faults ledger.old) (G.faults ledger.new) 0
+        ⊎ RoseBy (G.faults ledger.old) (G.faults ledger.new) 1 }
+{
+    let text = reply(alloc, ledger, line, steps)?;
+    sending(alloc, p, text)
+}
+
+// What a client gets for what was met in its bytes: the reply to a line, or its closing.
+fn answer<G: Ledger, L: Counts + Send>(
+    alloc: Global,
+    ledger: &mut G,
     client: Client,
     met: LineEvent,
-) -> (Out, Option<Client>)
-    ensures answers { Answers ledger.now client met result.0 result.1 }
+    steps: &mut Steps<L>,
+) -> (Outs, Option<Client>)
+    requires live { G.is_live ledger.old }
+    ensures answers { (chain : Chain) → G.stands ledger.old chain → Answers chain
+        (λ n. RoseBy (G.faults ledger.old) (G.faults ledger.new) n) client met (outs_of result.0) result.1 }
+    ensures quiet { Quiet G.is_live G.height G.tip G.buckets G.stands G.tells_crash
+        G.means G.moment G.left_since ledger.old ledger.new }
     ensures no_more { work_of_client result.1 ≤ work_of_client (Some client) }
 {
     let peer = client.peer();
     match met {
-        LineEvent::TooLong { limit: _ } => (Out::Close(peer, Why::Long), None),
-        LineEvent::Line(line) => match reply(alloc, ledger, line.as_slice()) {
-            Ok(text) => (Out::Send(peer, Bytes::from_vec(text)), Some(client)),
-            Err(_) => (Out::Close(peer, Why::Memory), None),
+        LineEvent::TooLong { limit: _ } => (closing(alloc, peer, Why::Long), None),
+        LineEvent::Line(line) => match replying(alloc, ledger, peer, line.as_slice(), steps) {
+            Ok(outs) => (outs, Some(client)),
+            Err(_) => (closing(alloc, peer, Why::Memory), None),
         },
     }
 }
 
 /// One turn of a client: the reply to its next line, its closing, or nothing where no whole line is left.
-pub fn client_turn(
+pub fn client_turn<G: Ledger, L: Counts + Send>(
     alloc: Global,
-    ledger: &PlainChain,
+    ledger: &mut G,
     client: Client,
-) -> (Option<Out>, Option<Client>)
-    ensures turn { ClientTurn ledger.now client result.0 result.1 }
+    steps: &mut Steps<L>,
+) -> (Option<Outs>, Option<Client>)
+    requires live { G.is_live ledger.old }
+    ensures turn { (chain : Chain) → G.stands ledger.old chain → ClientTurn chain
+        (λ n. RoseBy (G.faults ledger.old) (G.faults ledger.new) n) client result.0 result.1 }
+    ensures quiet { Quiet G.is_live G.height G.tip G.buckets G.stands G.tells_crash
+        G.means G.moment G.left_since ledger.old ledger.new }
+    ensures still { IfNone result.0 (G.faults ledger.new ≡ G.faults ledger.old) }
     ensures less { OnSome result.0 (work_of_client result.1 < work_of_client (Some client)) }
     ensures done { IfNone result.0 (HasNoWork result.1) }
 {
     let mut client = client;
     let peer = client.peer();
     if client.is_lost() {
-        return (Some(Out::Close(peer, Why::Memory)), None);
+        return (Some(closing(alloc, peer, Why::Memory)), None);
     }
-    let Ok(found) = client.next_line() else {
-        return (Some(Out::Close(peer, Why::Memory)), None);
-    };
-    match found {
-        None => (None, Some(client)),
-        Some(met) => {
-            let (out, client) = answer(alloc, ledger, client, met);
-            (Some(out), client)
+    match client.next_line() {
+        Err(_) => (Some(closing(alloc, peer, Why::Memory)), None),
+        Ok(None) => (None, Some(client)),
+        Ok(Some(met)) => {
+            let (outs, client) = answer(alloc, ledger, client, met, steps);
+            (Some(outs), client)
         }
     }
 }

@@ -1,14 +1,21 @@
-//! A server over a chain of blocks: a pure core that takes arrivals, and answers by turns what they ask for
-//! (Electrum Protocol 1.4). It calls nothing outside; each turn gives one message to send or one client to
-//! close.
+//! A server over any ledger: a pure core that takes arrivals, and answers by turns what they ask for. Clients
+//! ask for histories (Electrum Protocol 1.4), and a node tells where its blocks stand and which is its tip,
+//! to which the ledger is moved. It calls nothing outside but the block files and what the ledger calls; each
+//! turn gives messages to send and at most one client to close.
 #![tactic(auto)]
 
+mod ahead;
 mod client;
+mod comparing;
+mod fault;
+mod moving;
+mod orders;
 mod out;
 mod reply;
 mod server;
 
-pub use out::Out;
+pub use fault::StepFault;
+pub use out::Outs;
 pub use server::Server;
 
 #[cfg(test)]

@@ -1,87 +1,164 @@
 // The server: a pure core that takes arrivals and answers by turns.
-ghost use Rattle.std.specs.Prelude.{◌≡◌, ◌⊎◌, ◌<◌, ◌≤◌, ℕ, List, [], ◌∷◌, None, Some, true, OnSome, IfSome, IfNone};
-ghost use Rattle.el_model.specs.Lines.{LineEvent, too_long};
-ghost use Rattle.el_model.specs.World.{World, Event, joins, says, quiet_world, is_client, without_client};
-ghost use Rattle.el_core.specs.State.{IsIdle, Stands, HasNoWork, work, work_of_client};
+ghost use Rattle.std.specs.Prelude.{◌≡◌, ◌≢◌, ◌⊎◌, ◌<◌, ◌≤◌, ◌+◌, ℕ, List, [], ◌∷◌, None, Some, true, OnSome, OnOk, OnErr, IfOk, IfErr, IfSome, IfNone, IsErrOf, length};
+ghost use Rattle.el_outside.specs.Counts.{RoseBy, CountsOnly};
+ghost use Rattle.el_outside.specs.Files.{AllGrow};
+ghost use Rattle.el_outside.specs.Moments.{LeavesOnly};
+ghost use Rattle.el_chain.specs.Chains.{Chain};
+ghost use Rattle.el_model.specs.Keeping.{Quiet, Either};
+ghost use Rattle.el_model.specs.Lines.{too_long};
+ghost use Rattle.el_model.specs.World.{World, Event, joins, says, is_client, quiet_world, without_client, reply_to};
+ghost use Rattle.el_lines.specs.LineStates.{as_listed, held};
+ghost use Rattle.el_core.specs.State.{IsIdle, Stands, HasGivenAll, HasNoWork, work, work_of_client, work_of_surplus};
 ghost use Rattle.el_core.specs.Arrivals.{TookArrival, with_all_bytes, gone_from};
-ghost use Rattle.el_core.specs.Turn.{TookTurn, IsDone, HasLost, MeetsLine, outs_of};
-ghost use Rattle.el_core.specs.within.Clients.{Hears, Opens, ClientSteps};
+ghost use Rattle.el_core.specs.Turn.{LeadsTo, TookTurn, TurnFailed, IsDone, HasLost, MeetsLine, ClosesLong, outs_of};
+ghost use Rattle.el_core.specs.within.Clients.{Hears, Opens, Gives, NextIsLine, ClientSteps, PeersTurn};
+ghost use Rattle.el_core.specs.within.Moving.{MoveTurn, MoveFailed, NodeTurn, LineFailed, RoseWith};
 
-use crate::client::{Client, client_turn};
-use crate::out::Out;
-use el_chain::PlainChain;
-use el_outside::{Arrival, Peer, Why};
+use crate::ahead::Ahead;
+use crate::client::{Client, client_turn, closing, room_for_one, sending_in};
+use crate::fault::StepFault;
+use crate::moving::move_next;
+use crate::orders::order;
+use crate::out::Outs;
+use el_base::{OutOfMemory, Steps};
+use el_headers::HeaderTree;
+use el_lines::{LineBuffer, LineEvent};
+use el_model::{Ledger, NODE_LINE_LIMIT};
+use el_outside::{Archive, Arrival, Peer, Why};
 use std::alloc::Global;
 use std::marker::Model;
+use std::mem;
+use std::sync::ledger::Ledger as Counts;
 
-/// The server's state: the ledger that it answers from, its client, and a client too many that isn't closed
-/// yet. It calls nothing outside. Contracts see it as a `State`, which stands for a `World` of the model.
+/// The server's state: the ledger that it answers from, the headers that were found, the node's bytes and
+/// what its last tip line is still to do, its client, and a client too many that isn't closed yet. Contracts
+/// see it as a `State`, which stands for a `World` of the model.
 ///
 /// An arrival is taken by `take`; then `turn` is called until it answers None, and only then the next arrival
-/// is taken. What a turn gives is sent or closed before the next turn, and a client whose message can't be
-/// sent is told by `gone`.
-#[derive(Debug, Drop)]
-pub struct Server {
+/// is taken. What a turn gives is sent and closed before the next turn, and a client to whom a message can't
+/// be sent is told by `gone`. After a `StepFault` `into_ledger` alone may be called.
+#[derive(Drop)]
+pub struct Server<G: Ledger> {
     alloc: Global,
-    ledger: PlainChain,
+    ledger: G,
+    magic: [u8; 4],
+    tree: HeaderTree,
+    node: LineBuffer,
+    ahead: Ahead,
     client: Option<Client>,
     surplus: Option<Peer>,
 }
 
-impl Model for Server {
+impl<G: Ledger> Model for Server<G> {
+    ghost use Rattle.std.specs.Prelude.{◌≡◌};
+    ghost use Rattle.std.specs.List.{AllByRecursion};
+    ghost use Rattle.el_chain.specs.Headers.{AreLinked};
+    ghost use Rattle.el_chain.specs.Records.{IsNode};
+    ghost use Rattle.el_model.specs.NodeAnswers.{node_limit};
     ghost use Rattle.el_core.specs.State.{State};
+    ghost use Rattle.el_core.specs.within.Linked.{named};
 
-    ghost Value = { State };
+    ghost Value = { State G };
 
-    ghost view = { λ s. record { chain = s.ledger; client = s.client; surplus = s.surplus } };
+    ghost view = { λ s. record {
+      ledger = s.ledger;
+      magic = s.magic;
+      found = s.tree;
+      node = s.node;
+      ahead = s.ahead;
+      client = s.client;
+      surplus = s.surplus;
+    } };
+
+    ghost invariant = { λ s. AllByRecursion IsNode s.ahead × AreLinked (named (G.tip s.ledger)) s.ahead
+        × (s.node.limit ≡ node_limit) };
 }
 
-impl Server {
-    /// A server without clients. Takes no memory.
-    pub fn new(alloc: Global, ledger: PlainChain) -> Server
-        ensures value { result ≡ record { chain = ledger; client = None; surplus = None } }
-        ensures stands { Stands result (quiet_world ledger) [] }
+impl<G: Ledger> Server<G> {
+    /// A server without clients, whose node has said nothing. Takes no memory.
+    pub fn new(alloc: Global, ledger: G, tree: HeaderTree, magic: [u8; 4]) -> Server<G>
+        requires live { G.is_live ledger }
+        ensures ledger { result.ledger ≡ ledger }
+        ensures stands { (chain : Chain) (files : ℕ → List ℕ) → G.stands ledger chain
+            → Stands G.stands result (quiet_world chain magic tree files) [] }
         ensures idle { IsIdle result }
     {
         Server {
             alloc,
             ledger,
+            magic,
+            tree,
+            node: LineBuffer::new(alloc, NODE_LINE_LIMIT),
+            ahead: Ahead::none(alloc),
             client: None,
             surplus: None,
         }
     }
 
+    /// The ledger, as it stands, also after a `StepFault`.
+    pub fn into_ledger(self) -> G
+        ensures { result ≡ self.ledger }
+    {
+        let Server {
+            alloc: _,
+            ledger,
+            magic: _,
+            tree: _,
+            node: _,
+            ahead: _,
+            client: _,
+            surplus: _,
+        } = self;
+        ledger
+    }
+
     /// Takes an arrival, with exactly its bytes; what it asks for is left to turns. Bytes of a peer that is
     /// no client are ignored. Where memory runs out for a client's bytes, the next turn closes it.
-    pub fn take(&mut self, arrival: Arrival, bytes: &[u8])
-        requires { IsIdle self.old }
-        ensures { (world : World) → Stands self.old world []
-            → TookArrival (with_all_bytes arrival bytes.now) world self.new }
+    ///
+    /// # Errors
+    ///
+    /// `OutOfMemory` for the node's bytes, which are then lost; the server is as it was.
+    pub fn take(&mut self, arrival: Arrival, bytes: &[u8]) -> Result<(), OutOfMemory>
+        requires idle { IsIdle self.old }
+        ensures taken { (world : World) → Stands G.stands self.old world []
+            → OnOk result (TookArrival G.stands (with_all_bytes arrival bytes.now) world self.new) }
+        ensures refused { OnErr result (self.new ≡ self.old) }
+        ensures memory { OnErr result ((n : ℕ) × (arrival ≡ Arrival.Bytes 0 n)) }
+        ensures ledger { self.new.ledger ≡ self.old.ledger }
     {
         match arrival {
             Arrival::Opened(p) => self.open(p),
-            Arrival::Bytes(p, _) => self.hear(p, bytes),
+            Arrival::Bytes(p, _) => {
+                if p == 0 {
+                    self.node.feed(bytes)?;
+                } else {
+                    self.hear(p, bytes);
+                }
+            }
             Arrival::Closed(p) => self.forget(p),
             Arrival::Quiet => {}
             Arrival::Ended => {}
         }
+        Ok(())
     }
 
-    // A peer comes: the client, or one too many.
+    // A peer comes: the client, one too many, or the node, which is none.
     fn open(&mut self, p: Peer)
         ensures { Opens p self.old self.new }
     {
+        if p == 0 {
+            return;
+        }
         match self.client {
             None => self.client = Some(Client::new(self.alloc, p)),
             Some(_) => self.surplus = Some(p),
         }
     }
 
-    // Bytes of a peer come.
+    // Bytes of a client come.
     fn hear(&mut self, p: Peer, bytes: &[u8])
-        ensures chain { self.new.chain ≡ self.old.chain }
-        ensures surplus { self.new.surplus ≡ self.old.surplus }
         ensures client { Hears p bytes.now self.old.client self.new.client }
+        ensures same { self.new ≡ record self.old { client = self.new.client } }
     {
         if let Some(client) = &mut self.client {
             if client.peer() == p {
@@ -93,10 +170,9 @@ impl Server {
     /// Forgets a client that is gone, with all that is left of its bytes. For another peer nothing changes.
     pub fn gone(&mut self, p: Peer)
         ensures gone { self.new ≡ gone_from self.old p }
-        // The reply to its line wasn't sent: then that line is still left, and has no effect.
-        ensures unsent { self.old.surplus ≡ None → (world : World) (met : LineEvent) (rest : List Event)
-            → Stands self.old world rest → is_client p world ≡ true
-            → Stands self.new (without_client p world) (says p met ∷ rest) }
+        // What is left of its lines has no effect.
+        ensures stands { self.old.surplus ≡ None → (world : World) (rest : List Event)
+            → Stands G.stands self.old world rest → Stands G.stands self.new (without_client p world) rest }
         ensures no_more { work self.new ≤ work self.old }
     {
         self.forget(p);
@@ -113,31 +189,106 @@ impl Server {
         }
     }
 
-    /// Does the next piece of work: one message, or one closing. None exactly where none is left to send or
-    /// to close; the start of a line, which is kept until its end comes, is no work.
-    pub fn turn(&mut self) -> Option<Out>
-        ensures step { IfSome result (λ out. (world : World) (left : List Event) → Stands self.old world left
-            → TookTurn world left (outs_of out) self.new) }
-        // A closing as out of memory stands for lost bytes, or for a whole line or its reply that found none.
-        ensures memory { IfSome result (λ out. (world : World) (left : List Event) (p : ℕ)
-            → Stands self.old world left → out ≡ Out.Close p Why.Memory
-            → HasLost p self.old.client ⊎ MeetsLine p left) }
-        // A client's next line that is too long closes it as that, where none of its bytes were lost.
-        ensures long { (world : World) (p : ℕ) (rest : List Event)
-            → Stands self.old world (says p too_long ∷ rest) → is_client p world ≡ true
-            → (HasLost p self.old.client → ⊥) → result ≡ Some (Out.Close p Why.Long) }
-        // Who joins by a turn is one too many.
-        ensures waiting { (world : World) (p : ℕ) (rest : List Event) → Stands self.old world (joins p ∷ rest)
-            → self.old.surplus ≡ Some p }
-        ensures unused { self.new.surplus ≡ None }
-        ensures less { OnSome result (work self.new < work self.old) }
-        ensures idle { IfNone result (IsIdle self.new) }
-        ensures done { IfNone result ((world : World) (left : List Event) → Stands self.old world left
-            → IsDone world left self.new) }
+    // The next move of the node's last tip line.
+    fn turn_ahead<A: Archive, L: Counts + Send>(
+        &mut self,
+        archive: &mut A,
+        steps: &mut Steps<L>,
+    ) -> Result<Outs, StepFault>
+        requires live { G.is_live self.old.ledger }
+        requires some { self.old.ahead ≢ [] }
+        ensures moving { (chain : Chain) → G.stands self.old.ledger chain → IfOk result (λ o. (text : List ℕ)
+            × (outs_of o ≡ reply_to 0 text) × MoveTurn A.tells (A.bytes archive.new) chain 0 self.old.ahead
+            (LeadsTo G.stands G.tells_crash G.means G.moment G.left_since
+            self.old.ledger self.new.ledger chain)
+            self.new.ahead (λ n. RoseBy (A.faults archive.old) (A.faults archive.new) n) text) }
+        ensures stopped { (chain : Chain) → G.stands self.old.ledger chain → IfErr result (λ e.
+            MoveFailed A.tells (A.bytes archive.new) chain 0 self.old.ahead
+            (LeadsTo G.stands G.tells_crash G.means G.moment G.left_since
+            self.old.ledger self.new.ledger chain)
+            (λ next. G.tells_crash
+            → LeavesOnly G.moment G.left_since self.old.ledger self.new.ledger
+            (Either G.means chain next)) e) }
+        ensures some { self.old.ahead ≢ [] }
+        ensures fewer { OnOk result (length self.new.ahead < length self.old.ahead) }
+        ensures same { self.new ≡ record self.old { ledger = self.new.ledger; ahead = self.new.ahead } }
+        ensures live { OnOk result (G.is_live self.new.ledger) }
+        ensures still_live { IsErrOf result StepFault.Memory → G.is_live self.new.ledger }
+        ensures keeps { A.tells → AllGrow (A.bytes archive.old) (A.bytes archive.new) }
+        ensures archive_rose { IfErr result (λ e.
+            RoseWith e (λ n. RoseBy (A.faults archive.old) (A.faults archive.new) n)) }
+        ensures disk_rose { CountsOnly (G.faults self.old.ledger) (G.faults self.new.ledger)
+            StepFault.DiskFailed result }
     {
-        match self.take_surplus() {
-            Some(p) => Some(Out::Close(p, Why::Clients)),
-            None => self.turn_client(),
+        let Ok(room) = room_for_one(self.alloc) else {
+            return Err(StepFault::Memory);
+        };
+        let rest = mem::replace(&mut self.ahead, Ahead::none(self.alloc));
+        match move_next(self.alloc, &mut self.ledger, 0, rest, archive, steps) {
+            Ok(step) => {
+                self.ahead = step.left;
+                Ok(sending_in(room, 0, step.text))
+            }
+            Err(fault) => Err(fault),
+        }
+    }
+
+    // A line of the node.
+    fn turn_node<A: Archive, L: Counts + Send>(
+        &mut self,
+        met: LineEvent,
+        archive: &mut A,
+        steps: &mut Steps<L>,
+    ) -> Result<Outs, StepFault>
+        requires live { G.is_live self.old.ledger }
+        requires still { self.old.ahead ≡ [] }
+        ensures node_turn { (chain : Chain) → G.stands self.old.ledger chain
+            → IfOk result (λ o. (text : List ℕ) × (outs_of o ≡ reply_to 0 text)
+            × NodeTurn A.tells (A.bytes archive.old) (A.bytes archive.new)
+            self.old.magic self.old.found chain (as_listed met) self.new.found
+            (LeadsTo G.stands G.tells_crash G.means G.moment G.left_since
+            self.old.ledger self.new.ledger chain)
+            self.new.ahead (λ n. RoseBy (A.faults archive.old) (A.faults archive.new) n) text) }
+        ensures stopped { (chain : Chain) → G.stands self.old.ledger chain → IfErr result (λ e.
+            LineFailed A.tells (A.bytes archive.new) self.old.found chain (as_listed met)
+            (LeadsTo G.stands G.tells_crash G.means G.moment G.left_since
+            self.old.ledger self.new.ledger chain)
+            (λ next. G.tells_crash
+            → LeavesOnly G.moment G.left_since self.old.ledger self.new.ledger
+            (Either G.means chain next)) e) }
+        ensures still { self.old.ahead ≡ [] }
+        ensures fewer { OnOk result (length self.new.ahead ≤ length self.old.found) }
+        ensures more { OnOk result (length self.new.found ≤ length self.old.found + 1) }
+        ensures same { self.new ≡ record self.old {
+          ledger = self.new.ledger;
+          found = self.new.found;
+          ahead = self.new.ahead;
+        } }
+        ensures live { OnOk result (G.is_live self.new.ledger) }
+        ensures still_live { IsErrOf result StepFault.Memory → G.is_live self.new.ledger }
+        ensures keeps { A.tells → AllGrow (A.bytes archive.old) (A.bytes archive.new) }
+        ensures archive_rose { IfErr result (λ e.
+            RoseWith e (λ n. RoseBy (A.faults archive.old) (A.faults archive.new) n)) }
+        ensures disk_rose { CountsOnly (G.faults self.old.ledger) (G.faults self.new.ledger)
+            StepFault.DiskFailed result }
+    {
+        let Ok(room) = room_for_one(self.alloc) else {
+            return Err(StepFault::Memory);
+        };
+        match order(
+            self.alloc,
+            &mut self.ledger,
+            &mut self.tree,
+            self.magic,
+            archive,
+            met,
+            steps,
+        ) {
+            Ok(step) => {
+                self.ahead = step.left;
+                Ok(sending_in(room, 0, step.text))
+            }
+            Err(fault) => Err(fault),
         }
     }
 
@@ -150,20 +301,136 @@ impl Server {
     }
 
     // A turn of the client.
-    fn turn_client(&mut self) -> Option<Out>
-        ensures chain { self.new.chain ≡ self.old.chain }
-        ensures surplus { self.new.surplus ≡ self.old.surplus }
-        ensures steps { ClientSteps self.old.chain self.old.client result self.new.client }
+    fn turn_client<L: Counts + Send>(&mut self, steps: &mut Steps<L>) -> Option<Outs>
+        requires live { G.is_live self.old.ledger }
+        ensures client_steps { (chain : Chain) → G.stands self.old.ledger chain → ClientSteps chain
+            (λ n. RoseBy (G.faults self.old.ledger) (G.faults self.new.ledger) n)
+            self.old.client result self.new.client }
+        ensures quiet { Quiet G.is_live G.height G.tip G.buckets G.stands G.tells_crash
+            G.means G.moment G.left_since self.old.ledger self.new.ledger }
+        ensures still { IfNone result (G.faults self.new.ledger ≡ G.faults self.old.ledger) }
+        ensures same { self.new ≡ record self.old { ledger = self.new.ledger; client = self.new.client } }
         ensures less { OnSome result (work_of_client self.new.client < work_of_client self.old.client) }
         ensures done { IfNone result (HasNoWork self.new.client) }
     {
         match self.client.take() {
             None => None,
             Some(client) => {
-                let (out, client) = client_turn(self.alloc, &self.ledger, client);
+                let (outs, client) = client_turn(self.alloc, &mut self.ledger, client, steps);
                 self.client = client;
-                out
+                outs
             }
+        }
+    }
+
+    // The next line of the node.
+    fn next_line(&mut self) -> Result<Option<LineEvent>, OutOfMemory>
+        ensures met { IfOk result (λ found. IfSome found (λ e.
+            Gives self.old.node (as_listed e) self.new.node)) }
+        ensures none { IfOk result (λ found. IfNone found (HasGivenAll self.old.node)) }
+        ensures unchanged { IfOk result (λ found. IfNone found (self.new ≡ self.old)) }
+        ensures consumed { IfOk result (λ found. IfSome found (λ e.
+            held self.new.node < held self.old.node)) }
+        ensures line { OnErr result (NextIsLine self.old.node) }
+        ensures refused { OnErr result (self.new ≡ self.old) }
+        ensures limit { self.new.node.limit ≡ self.old.node.limit }
+        ensures same { self.new ≡ record self.old { node = self.new.node } }
+    {
+        self.node.next_line()
+    }
+
+    // A turn where the node has nothing left: the client too many is closed, or the client has its turn.
+    fn turn_peers<L: Counts + Send>(&mut self, steps: &mut Steps<L>) -> Option<Outs>
+        requires live { G.is_live self.old.ledger }
+        ensures peers { (chain : Chain) → G.stands self.old.ledger chain → PeersTurn chain
+            (λ n. RoseBy (G.faults self.old.ledger) (G.faults self.new.ledger) n) self.old result self.new }
+        ensures quiet { Quiet G.is_live G.height G.tip G.buckets G.stands G.tells_crash
+            G.means G.moment G.left_since self.old.ledger self.new.ledger }
+        ensures still { IfNone result (G.faults self.new.ledger ≡ G.faults self.old.ledger) }
+        ensures same { self.new ≡ record self.old {
+          ledger = self.new.ledger;
+          client = self.new.client;
+          surplus = self.new.surplus;
+        } }
+        ensures less { OnSome result (work_of_client self.new.client + work_of_surplus self.new.surplus
+            < work_of_client self.old.client + work_of_surplus self.old.surplus) }
+        ensures unused { self.new.surplus ≡ None }
+        ensures done { IfNone result (HasNoWork self.new.client × (self.new.surplus ≡ None)) }
+    {
+        match self.take_surplus() {
+            Some(p) => Some(closing(self.alloc, p, Why::Clients)),
+            None => self.turn_client(steps),
+        }
+    }
+
+    /// Does the next piece of work: the next move of the node's last tip line, its next line, or what is left
+    /// of the client. None exactly where none is left to do; the start of a line, which is kept until its end
+    /// comes, is no work.
+    ///
+    /// # Errors
+    ///
+    /// In a line of the node: `StepFault::DiskFailed` where a call on the index's device failed, and
+    /// `StepFault::Memory` where memory runs out.
+    pub fn turn<A: Archive, L: Counts + Send>(
+        &mut self,
+        archive: &mut A,
+        steps: &mut Steps<L>,
+    ) -> Result<Option<Outs>, StepFault>
+        requires live { G.is_live self.old.ledger }
+        // It takes the next event, or does what an event left, as `Run` allows.
+        ensures step { (world : World) (left : List Event) → Stands G.stands self.old world left
+            → (A.tells → AllGrow world.files (A.bytes archive.old)) → IfOk result (λ found. IfSome found (λ o.
+            TookTurn G.stands
+            (LeadsTo G.stands G.tells_crash G.means G.moment G.left_since self.old.ledger self.new.ledger)
+            A.tells (A.bytes archive.new) (A.faults archive.old) (A.faults archive.new)
+            (G.faults self.old.ledger) (G.faults self.new.ledger) world left (outs_of o) self.new)) }
+        // Where nothing is done, nothing is left.
+        ensures done { (world : World) (left : List Event) → Stands G.stands self.old world left
+            → IfOk result (λ found. IfNone found (IsDone G.stands A.tells world left self.new)) }
+        ensures unchanged { IfOk result (λ found. IfNone found
+            ((G.faults self.new.ledger ≡ G.faults self.old.ledger)
+            × (A.faults archive.new ≡ A.faults archive.old))) }
+        // Where it fails, the server stops.
+        ensures failed { (world : World) (left : List Event) → Stands G.stands self.old world left
+            → (A.tells → AllGrow world.files (A.bytes archive.old)) → IfErr result (λ e.
+            TurnFailed G.stands G.is_live
+            (λ chain next. G.tells_crash
+            → LeavesOnly G.moment G.left_since self.old.ledger self.new.ledger
+            (Either G.means chain next))
+            A.tells (A.bytes archive.new) (A.faults archive.old) (A.faults archive.new)
+            (G.faults self.old.ledger) (G.faults self.new.ledger) world left self.new.ledger e) }
+        // A closing as out of memory stands for lost bytes, or for a whole line or its reply that found none.
+        ensures memory { (world : World) (left : List Event) (p : ℕ) → Stands G.stands self.old world left
+            → IfOk result (λ found. IfSome found (λ o. o.close ≡ Some (p, Why.Memory)
+            → HasLost p self.old.client ⊎ MeetsLine p left)) }
+        // A client's next line that is too long closes it as that, where none of its bytes were lost.
+        ensures long { (world : World) (p : ℕ) (rest : List Event)
+            → Stands G.stands self.old world (says p too_long ∷ rest) → world.ahead ≡ []
+            → is_client p world ≡ true → (HasLost p self.old.client → ⊥) → ClosesLong p result }
+        // Who joins by a turn is one too many.
+        ensures waiting { (world : World) (p : ℕ) (rest : List Event)
+            → Stands G.stands self.old world (joins p ∷ rest) → self.old.surplus ≡ Some p }
+        // No client too many comes by a turn.
+        ensures surplus { IfOk result (λ found.
+            (self.new.surplus ≡ None) ⊎ (self.new.surplus ≡ self.old.surplus)) }
+        ensures less { IfOk result (λ found. IfSome found (λ o. work self.new < work self.old)) }
+        ensures idle { IfOk result (λ found. IfNone found (IsIdle self.new)) }
+        ensures live { OnOk result (G.is_live self.new.ledger) }
+        ensures keeps { A.tells → AllGrow (A.bytes archive.old) (A.bytes archive.new) }
+    {
+        if !self.ahead.is_empty() {
+            return match self.turn_ahead(archive, steps) {
+                Ok(outs) => Ok(Some(outs)),
+                Err(fault) => Err(fault),
+            };
+        }
+        match self.next_line() {
+            Err(_) => Err(StepFault::Memory),
+            Ok(None) => Ok(self.turn_peers(steps)),
+            Ok(Some(met)) => match self.turn_node(met, archive, steps) {
+                Ok(outs) => Ok(Some(outs)),
+                Err(fault) => Err(fault),
+            },
         }
     }
 }

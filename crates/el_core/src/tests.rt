@@ -1,112 +1,599 @@
-// A server without blocks, by its turns.
-ghost use Rattle.std.specs.Prelude.{OnOk};
+// What no contract says: that the answers are these texts, whose hashes another program computed from the
+// rules on blocks, and that each call succeeds where memory is ample.
+ghost use Rattle.std.specs.Prelude.{◌≡◌, ◌<◌, ◌≤◌, ◌∷◌, [], length, IfOk, OnOk};
+ghost use Rattle.std.specs.List.{AllByRecursion};
+ghost use Rattle.el_tx.specs.Encoding.{HasEncoding};
 ghost use Rattle.el_core.specs.State.{IsIdle};
 
-use crate::{Out, Server};
-use el_chain::PlainChain;
-use el_lines::too_large_reply;
-use el_model::LINE_LIMIT;
+use crate::{Outs, Server};
+use el_base::{Bytes, Hash32, Steps};
+use el_block::Block;
+use el_fakes::MemArchive;
+use el_gen::{
+    BLOCK_1, BLOCK_1_HASH, EMPTY_SCRIPT_HASH, GENESIS, GENESIS_HASH, GENESIS_SCRIPT_HASH,
+    GENESIS_TXID, block, block_bytes, coinbase, spend,
+};
+use el_headers::HeaderTree;
+use el_model::{LINE_LIMIT, Ledger, PlainLedger};
 use el_outside::{Arrival, Peer, Why};
-use std::alloc::{AllocError, Global};
+use el_tx::{Outpoint, Tx, block_hash, encode_header, encode_tx, txid};
+use std::alloc::Global;
+use std::marker::Brand;
+use std::sync::ledger::{Blank, Ledger as Counts};
 use std::test::Fail;
 
-const INVALID: &str =
-    "{\"error\":{\"code\":-32600,\"message\":\"invalid request\"},\"id\":null,\"jsonrpc\":\"2.0\"}\n";
+// Hashes that another program computed: of the blocks of heights 0, 15 and 16 that `chain_file` makes, of a
+// second block without one before it, and of blocks that break one rule each.
+const FIRST: &str = "e24fc0cd4b74e58d1bcfa1d15b2c35345824b4e3e6e3959659d662c2ce011688";
 
-const TOO_LARGE: &str =
-    "{\"error\":{\"code\":1,\"message\":\"history too large\"},\"id\":7,\"jsonrpc\":\"2.0\"}\n";
+const LAST_BUT_ONE: &str = "ec64e2e04433bcc77d518d46c9fe3b92839d51043760ddf71cd149c52fe41bda";
 
-const EMPTY_SCRIPT: &str = "55b852781b9995a44c939b64e441ae2724b96f99c8f4fb9a141cfc9842c4b0e3";
+const LAST: &str = "30a80381768f75991a5cfe1345761eda0014bc5e9af7ca751b273b50e4374da5";
 
-const NONE: &str = "{\"id\":7,\"jsonrpc\":\"2.0\",\"result\":[]}\n";
+const OTHER_FIRST: &str = "b724ccbf1211321ad26fe98e9c5e2d67a9f5134e654c9c97fcfe1b9b2977883c";
+
+const TAKES_NO_COIN: &str = "efef1e8216e8fbdd5ce6ff1d70a32163377768b5287cdc0f530b9723382fe040";
+
+const MAKES_MONEY: &str = "235e410274ab5f9e68126e8c24ed30c534f4abeaa3991fdd082badce02a60b93";
+
+const HEAVY: &str = "fa64b2a291b3b34c3fda28ba2cc5071c006a36383dc5c828dc4ed4b98f284cab";
+
+const UNKNOWN: &str = "2222222222222222222222222222222222222222222222222222222222222222";
+
+// The four bytes before each record of Bitcoin's main network.
+const MAGIC: [u8; 4] = [0xf9, 0xbe, 0xb4, 0xd9];
+
+const ZERO: Hash32 = Hash32([0; 32]);
+
+// What happens in a run.
+#[derive(Clone, Copy)]
+enum Step<'a> {
+    // From now on the block file has only its bytes from here to there.
+    Part(usize, usize),
+    // The next call of the block files fails.
+    Fails,
+    // A peer comes.
+    Opens(Peer),
+    // A peer says this, where a capital letter stands for a hash.
+    Says(Peer, &'a str),
+    // A client is told to be gone.
+    Gone(Peer),
+    // What was shown so far is left out.
+    Forget,
+}
+
+// The text with a hash in place of each capital letter.
+fn spelled(alloc: Global, text: &str) -> Result<String, Fail> {
+    let mut whole = String::new(alloc);
+    for letter in text.chars() {
+        match letter {
+            'A' => whole.push_str(FIRST)?,
+            'B' => whole.push_str(BLOCK_1_HASH)?,
+            'E' => whole.push_str(EMPTY_SCRIPT_HASH)?,
+            'G' => whole.push_str(GENESIS_HASH)?,
+            'O' => whole.push_str(OTHER_FIRST)?,
+            'S' => whole.push_str(GENESIS_SCRIPT_HASH)?,
+            'U' => whole.push_str(UNKNOWN)?,
+            'X' => whole.push_str(GENESIS_TXID)?,
+            'Y' => whole.push_str(LAST_BUT_ONE)?,
+            'Z' => whole.push_str(LAST)?,
+            other => whole.push(other)?,
+        }
+    }
+    Ok(whole)
+}
 
 // The cause in a word.
 fn word_of(why: Why) -> &'static str {
     match why {
         Why::Long => "long\n",
         Why::Clients => "clients\n",
-        Why::Memory => "memory\n",
         _ => "other\n",
     }
 }
 
-// Makes all turns, and adds what they send, and why they close.
-fn work_off(server: &mut Server, shown: &mut Vec<u8>) -> Result<(), AllocError>
-    ensures { OnOk result (IsIdle server.new) }
-{
-    while let Some(out) = server.turn() {
-        match out {
-            Out::Send(_, text) => shown.extend_from_slice(text.as_slice())?,
-            Out::Close(_, why) => shown.extend_from_slice(word_of(why).as_bytes())?,
-        }
+// Adds what a turn sends, and why it closes.
+fn show(outs: &Outs, shown: &mut Vec<u8>) -> Result<(), Fail> {
+    for (_, text) in outs.sends.as_slice() {
+        shown.extend_from_slice(text.as_slice())?;
+    }
+    if let Some((_, why)) = outs.close {
+        shown.extend_from_slice(word_of(why).as_bytes())?;
     }
     Ok(())
 }
 
-// Takes an arrival, and makes all turns after it.
-fn arrive(
-    server: &mut Server,
-    arrival: Arrival,
-    bytes: &[u8],
+// Makes all turns.
+fn work_off<L: Counts + Send>(
+    server: &mut Server<PlainLedger>,
+    archive: &mut MemArchive,
+    steps: &mut Steps<L>,
     shown: &mut Vec<u8>,
-) -> Result<(), AllocError>
+) -> Result<(), Fail>
+    ensures { OnOk result (IsIdle server.new) }
+{
+    while let Some(outs) = server.turn(archive, steps)? {
+        show(&outs, shown)?;
+    }
+    Ok(())
+}
+
+// Block files of these bytes; the call with this number fails.
+fn archive_of(alloc: Global, file: &[u8], failing: u64) -> Result<MemArchive, Fail> {
+    let mut files = Vec::new(alloc);
+    files.push(Bytes::from_slice(alloc, file)?)?;
+    Ok(MemArchive::new(files, Vec::from_slice(alloc, &[failing])?))
+}
+
+// These bytes of the file; none where it hasn't all of them.
+fn part_of(file: &[u8], from: usize, to: usize) -> &[u8] {
+    file.get(from..to).unwrap_or(&[])
+}
+
+// Makes one step, with all turns after it.
+fn make_step<L: Counts + Send>(
+    alloc: Global,
+    file: &[u8],
+    server: &mut Server<PlainLedger>,
+    archive: &mut MemArchive,
+    steps: &mut Steps<L>,
+    step: Step<'_>,
+    shown: &mut Vec<u8>,
+) -> Result<(), Fail>
     requires { IsIdle server.old }
     ensures { OnOk result (IsIdle server.new) }
 {
-    server.take(arrival, bytes);
-    work_off(server, shown)
+    match step {
+        Step::Part(from, to) => *archive = archive_of(alloc, part_of(file, from, to), 0)?,
+        Step::Fails => *archive = archive_of(alloc, file, 1)?,
+        Step::Opens(p) => server.take(Arrival::Opened(p), b"")?,
+        Step::Says(p, text) => {
+            let text = spelled(alloc, text)?;
+            server.take(Arrival::Bytes(p, text.len()), text.as_bytes())?;
+        }
+        Step::Gone(p) => server.gone(p),
+        Step::Forget => shown.truncate(0),
+    }
+    work_off(server, archive, steps, shown)
 }
 
-// Bytes of a peer.
-fn say(server: &mut Server, p: Peer, text: &str, shown: &mut Vec<u8>) -> Result<(), AllocError>
-    requires { IsIdle server.old }
-    ensures { OnOk result (IsIdle server.new) }
+// What a run showed, and the height that its ledger then had.
+type Played = (Vec<u8>, Option<u32>);
+
+// Makes these steps from a server that knows nothing, over a block file that has these bytes at first.
+fn play_counted<L: Counts + Send>(
+    alloc: Global,
+    file: &[u8],
+    run: &[Step<'_>],
+    blank: Blank,
+) -> Result<Played, Fail>
+    requires name { blank.name ≡ L.name }
+    requires parts { blank.parts ≡ L.parts }
+    requires some { 0 < blank.parts }
 {
-    arrive(
-        server,
-        Arrival::Bytes(p, text.len()),
-        text.as_bytes(),
-        shown,
-    )
-}
-
-// What a client gets that sends this in two pieces, cut after this number of bytes.
-fn replies(alloc: Global, first: &str, second: &str) -> Result<Vec<u8>, AllocError> {
-    let mut server = Server::new(alloc, PlainChain::new(alloc));
+    let mut steps = Steps::<L>::new(blank);
+    let mut archive = archive_of(alloc, file, 0)?;
+    let mut server = Server::new(
+        alloc,
+        PlainLedger::new(alloc),
+        HeaderTree::new(alloc),
+        MAGIC,
+    );
     let mut shown = Vec::new(alloc);
-    arrive(&mut server, Arrival::Opened(1), b"", &mut shown)?;
-    say(&mut server, 1, first, &mut shown)?;
-    say(&mut server, 1, second, &mut shown)?;
-    Ok(shown)
+    for step in run {
+        make_step(
+            alloc,
+            file,
+            &mut server,
+            &mut archive,
+            &mut steps,
+            *step,
+            &mut shown,
+        )?;
+    }
+    Ok((shown, server.into_ledger().height()))
 }
 
-// The line that asks for the history of a shown script hash.
-fn request(alloc: Global, script_hash: &str) -> Result<String, AllocError> {
-    let mut line = String::from_str(alloc, "{\"id\":7,\"method\":")?;
-    line.push_str("\"blockchain.scripthash.get_history\",\"params\":[\"")?;
-    line.push_str(script_hash)?;
-    line.push_str("\"]}\n")?;
-    Ok(line)
+fn play(alloc: Global, file: &[u8], run: &[Step<'_>]) -> Result<Played, Fail> {
+    play_counted::<Brand>(alloc, file, run, Blank::new(1))
+}
+
+// Adds the record of a block with these bytes.
+fn add_record(text: &[u8], file: &mut Vec<u8>) -> Result<(), Fail> {
+    file.extend_from_slice(MAGIC.as_slice())?;
+    let [a, b, c, d, ..] = (text.len() as u64).to_le_bytes();
+    file.extend_from_slice(&[a, b, c, d])?;
+    file.extend_from_slice(text)?;
+    Ok(())
+}
+
+// Bitcoin's first two blocks as a node may have stored them, with other bytes between and after them, and the
+// first bytes of the second block once more.
+fn first_file(alloc: Global) -> Result<Vec<u8>, Fail> {
+    let first = hex::decode(alloc, GENESIS)?;
+    let second = hex::decode(alloc, BLOCK_1)?;
+    let mut file = Vec::new(alloc);
+    add_record(first.as_slice(), &mut file)?;
+    file.extend_from_slice(&[0xaa, 0xbb, 0xcc])?;
+    add_record(second.as_slice(), &mut file)?;
+    file.extend_from_slice(&[0; 100])?;
+    add_record(second.as_slice(), &mut file)?;
+    file.truncate(677);
+    Ok(file)
+}
+
+// Whether these steps show this text, where a capital letter stands for a hash, and leave the ledger with
+// that height.
+fn shows(
+    alloc: Global,
+    file: &[u8],
+    run: &[Step<'_>],
+    wanted: &str,
+    height: Option<u32>,
+) -> Result<bool, Fail> {
+    let (shown, top) = play(alloc, file, run)?;
+    let wanted = spelled(alloc, wanted)?;
+    Ok(shown.as_slice() == wanted.as_bytes() && top == height)
 }
 
 #[test]
-fn lines_and_their_replies(rt: HostRuntime) -> Result<(), Fail> {
-    let asks = request(rt.alloc(), EMPTY_SCRIPT)?;
-    let table: [(&str, &str, &str); 4] = [
-        (asks.as_str(), "", NONE),
-        ("", "{}", ""),
-        ("{}", "\n", INVALID),
-        ("{", "}\nopen", INVALID),
+fn answers_to_node_lines(rt: HostRuntime) -> Result<(), Fail> {
+    let file = first_file(rt.alloc())?;
+    let file = file.as_slice();
+    let table: [(&[Step<'_>], &str, Option<u32>); 10] = [
+        (&[Step::Says(0, "block 0 0\n")], "block G\n", None),
+        (
+            &[Step::Says(0, "block 0 0\nblock 00 0\n")],
+            "block G\nblock G\n",
+            None,
+        ),
+        (&[Step::Says(0, "block 0 1\n")], "refused place\n", None),
+        (&[Step::Says(0, "block 0 619\n")], "refused place\n", None),
+        (&[Step::Says(0, "block 1 0\n")], "refused place\n", None),
+        (&[Step::Says(0, "tip U\n")], "refused unknown U\n", None),
+        (
+            &[Step::Says(0, "block 0 296\ntip B\n")],
+            "block B\nrefused unconnected B\n",
+            None,
+        ),
+        (
+            &[Step::Says(0, "Tip x\nblo"), Step::Says(0, "ck 0 0")],
+            "refused line\n",
+            None,
+        ),
+        (
+            &[Step::Says(0, "block 0 296\nblock 0 0\ntip B\n")],
+            "block B\nblock G\nat B 1\n",
+            Some(1),
+        ),
+        (
+            &[
+                Step::Says(0, "block 0 0\ntip G\nblock 0 296\n"),
+                Step::Says(0, "tip B\ntip B\n"),
+            ],
+            "block G\nat G 0\nblock B\nat B 1\nat B 1\n",
+            Some(1),
+        ),
     ];
-    for (first, second, want) in table {
-        let shown = replies(rt.alloc(), first, second)?;
-        assert_eq!(rt; shown.as_slice(), want.as_bytes(), "{first}{second}");
+    for (run, wanted, height) in table {
+        assert!(rt; shows(rt.alloc(), file, run, wanted, height)?, "{wanted}");
+    }
+    Ok(())
+}
+
+#[test]
+fn block_files_that_fail_or_change(rt: HostRuntime) -> Result<(), Fail> {
+    let file = first_file(rt.alloc())?;
+    let file = file.as_slice();
+    let table: [(&[Step<'_>], &str, Option<u32>); 4] = [
+        (
+            &[Step::Fails, Step::Says(0, "block 0 0\ntip G\n")],
+            "refused archive\nrefused unknown G\n",
+            None,
+        ),
+        (
+            &[
+                Step::Says(0, "block 0 0\n"),
+                Step::Fails,
+                Step::Says(0, "tip G\ntip G\n"),
+            ],
+            "block G\nrefused archive\nat G 0\n",
+            Some(0),
+        ),
+        (
+            &[
+                Step::Says(0, "block 0 0\n"),
+                Step::Part(8, 677),
+                Step::Says(0, "tip G\n"),
+            ],
+            "block G\nrefused changed G\n",
+            None,
+        ),
+        (
+            &[
+                Step::Says(0, "block 0 0\nblock 0 296\n"),
+                Step::Part(0, 293),
+                Step::Says(0, "tip B\ntip G\n"),
+            ],
+            "block G\nblock B\nrefused changed B\nat G 0\n",
+            Some(0),
+        ),
+    ];
+    for (run, wanted, height) in table {
+        assert!(rt; shows(rt.alloc(), file, run, wanted, height)?, "{wanted}");
+    }
+    Ok(())
+}
+
+fn one(alloc: Global, tx: Tx) -> Result<Vec<Tx>, Fail>
+    ensures { IfOk result (λ txs. txs.items ≡ tx ∷ []) }
+{
+    let mut txs = Vec::new(alloc);
+    txs.push(tx)?;
+    Ok(txs)
+}
+
+// The block of that height and branch after another. It has a coinbase alone.
+fn coinbase_block(alloc: Global, previous: Hash32, height: u32, branch: u8) -> Result<Block, Fail>
+    requires { height ≤ 4000000 }
+    ensures { IfOk result (λ b. AllByRecursion HasEncoding b.txs) }
+{
+    let txs = one(alloc, coinbase(alloc, height, branch, 101)?)?;
+    Ok(block(alloc, previous, height, branch, txs)?)
+}
+
+// The records of seventeen blocks, each on the one before, and of another block without one before it.
+fn chain_file(alloc: Global) -> Result<Vec<u8>, Fail> {
+    let mut file = Vec::new(alloc);
+    let mut previous = ZERO;
+    for height in 0..17 {
+        let made = coinbase_block(alloc, previous, height, 0)?;
+        add_record(block_bytes(alloc, &made)?.as_slice(), &mut file)?;
+        previous = block_hash(&encode_header(&made.header));
+    }
+    let other = coinbase_block(alloc, ZERO, 0, 1)?;
+    add_record(block_bytes(alloc, &other)?.as_slice(), &mut file)?;
+    Ok(file)
+}
+
+// The lines by which the node tells the seventeen blocks.
+fn telling_lines(alloc: Global) -> Result<String, Fail> {
+    let mut lines = String::new(alloc);
+    for height in 0..17u32 {
+        lines.push_str(format!(in alloc; "block 0 {}\n", 160 * height)?.as_str())?;
+    }
+    Ok(lines)
+}
+
+#[test]
+fn tips_move_the_ledger(rt: HostRuntime) -> Result<(), Fail> {
+    let alloc = rt.alloc();
+    let file = chain_file(alloc)?;
+    let lines = telling_lines(alloc)?;
+    let table: [(&str, &str, u32); 6] = [
+        ("tip Z\n", "at Y 15\nat Z 16\n", 16),
+        ("tip Z\ntip Z\n", "at Y 15\nat Z 16\nat Z 16\n", 16),
+        ("tip A\ntip Z\n", "at A 0\nat Z 16\n", 16),
+        ("tip Y\ntip A\n", "at Y 15\nrefused deep 15\n", 15),
+        ("tip Z\ntip Y\n", "at Y 15\nat Z 16\nrefused deep 1\n", 16),
+        (
+            "block 0 2720\ntip A\nblock 0 0\n",
+            "refused genesis O\nat A 0\nblock A\n",
+            0,
+        ),
+    ];
+    for (said, wanted, height) in table {
+        let run = [
+            Step::Says(0, lines.as_str()),
+            Step::Forget,
+            Step::Says(0, said),
+        ];
+        let is_shown = shows(alloc, file.as_slice(), run.as_slice(), wanted, Some(height))?;
+        assert!(rt; is_shown, "{wanted}");
+    }
+    Ok(())
+}
+
+// The bytes of the parts.
+fn listed(alloc: Global, parts: &[&[u8]]) -> Result<Vec<u8>, Fail> {
+    let mut whole = Vec::new(alloc);
+    for part in parts {
+        whole.extend_from_slice(part)?;
+    }
+    Ok(whole)
+}
+
+// The coinbase of the first block, and the outpoint of its output.
+fn first_coin(alloc: Global) -> Result<(Tx, Outpoint), Fail>
+    ensures { IfOk result (λ made. HasEncoding made.0) }
+{
+    let tx = coinbase(alloc, 0, 0, 101)?;
+    let txid = txid(alloc, &tx)?;
+    Ok((tx, Outpoint { txid, index: 0 }))
+}
+
+// Whether the node is told that the block with these bytes and this hash is bad, by this word.
+fn is_bad(alloc: Global, text: &[u8], hash: &str, word: &str) -> Result<bool, Fail> {
+    let mut file = Vec::new(alloc);
+    add_record(text, &mut file)?;
+    let said = format!(in alloc; "block 0 0\ntip {hash}\n")?;
+    let wanted = format!(in alloc; "block {hash}\nrefused bad {hash} {word}\n")?;
+    shows(
+        alloc,
+        file.as_slice(),
+        &[Step::Says(0, said.as_str())],
+        wanted.as_str(),
+        None,
+    )
+}
+
+// Under the header of the first block other bytes than its own.
+#[test]
+fn bytes_that_are_no_block(rt: HostRuntime) -> Result<(), Fail> {
+    let alloc = rt.alloc();
+    let header = encode_header(&coinbase_block(alloc, ZERO, 0, 0)?.header);
+    let header = header.as_slice();
+    let (tx, coin) = first_coin(alloc)?;
+    let first = encode_tx(alloc, &tx)?;
+    let first = first.as_slice();
+    let spent = spend(alloc, [coin].as_slice(), [(5_000_000_000, 1)].as_slice())?;
+    let later = encode_tx(alloc, &spent)?;
+    let later = later.as_slice();
+    let table: [(&[&[u8]], &str); 8] = [
+        (&[header, &[253, 1, 0], first], "count"),
+        (&[header, &[0]], "empty"),
+        (&[header, &[1], &[1, 0, 0, 0]], "tx"),
+        (&[header, &[1], first, &[0]], "trailing"),
+        (&[header, &[1], later], "coinbase"),
+        (&[header, &[2], first, first], "coinbase"),
+        (&[header, &[3], first, later, later], "repeated"),
+        (&[header, &[2], first, later], "merkle"),
+    ];
+    for (parts, word) in table {
+        let text = listed(alloc, parts)?;
+        assert!(rt; is_bad(alloc, text.as_slice(), FIRST, word)?, "{word}");
+    }
+    Ok(())
+}
+
+// The bytes of the first block of these transactions.
+fn made(alloc: Global, txs: Vec<Tx>) -> Result<Bytes, Fail>
+    requires some { 1 ≤ length txs.items }
+    requires encoded { AllByRecursion HasEncoding txs.items }
+{
+    let made = block(alloc, ZERO, 0, 0, txs)?;
+    Ok(block_bytes(alloc, &made)?)
+}
+
+// A block of which a transaction takes an output that isn't there.
+fn taking_no_coin(alloc: Global) -> Result<Bytes, Fail> {
+    let (first, Outpoint { txid, .. }) = first_coin(alloc)?;
+    let absent = Outpoint { txid, index: 1 };
+    let mut txs = one(alloc, first)?;
+    txs.push(spend(alloc, [absent].as_slice(), [(1, 1)].as_slice())?)?;
+    made(alloc, txs)
+}
+
+// A block after which there are more than 21 million bitcoin, by one satoshi.
+fn making_money(alloc: Global) -> Result<Bytes, Fail> {
+    let (first, coin) = first_coin(alloc)?;
+    let halves = spend(alloc, [coin].as_slice(), [(1, 1), (1, 2)].as_slice())?;
+    let half = Outpoint {
+        txid: txid(alloc, &halves)?,
+        index: 0,
+    };
+    let all = spend(
+        alloc,
+        [half].as_slice(),
+        [(2_100_000_000_000_000, 1)].as_slice(),
+    )?;
+    let mut txs = one(alloc, first)?;
+    txs.push(halves)?;
+    txs.push(all)?;
+    made(alloc, txs)
+}
+
+// A block with a weight of 4,100,712.
+fn heavy(alloc: Global) -> Result<Bytes, Fail> {
+    let (first, coin) = first_coin(alloc)?;
+    let coins = vec![in alloc; coin; 25_000]?;
+    let mut txs = one(alloc, first)?;
+    txs.push(spend(alloc, coins.as_slice(), [(1, 1)].as_slice())?)?;
+    made(alloc, txs)
+}
+
+#[test]
+fn blocks_that_break_a_rule(rt: HostRuntime) -> Result<(), Fail> {
+    let alloc = rt.alloc();
+    for (text, hash, word) in [
+        (taking_no_coin(alloc)?, TAKES_NO_COIN, "coin"),
+        (making_money(alloc)?, MAKES_MONEY, "money"),
+        (heavy(alloc)?, HEAVY, "heavy"),
+    ] {
+        assert!(rt; is_bad(alloc, text.as_slice(), hash, word)?, "{word}");
+    }
+    Ok(())
+}
+
+const ASKS_EMPTY: &str =
+    "{\"id\":7,\"method\":\"blockchain.scripthash.get_history\",\"params\":[\"E\"]}\n";
+
+const NONE: &str = "{\"id\":7,\"jsonrpc\":\"2.0\",\"result\":[]}\n";
+
+const ASKS_FIRST: &str =
+    "{\"id\":7,\"method\":\"blockchain.scripthash.get_history\",\"params\":[\"S\"]}\n";
+
+const ONE: &str = "{\"id\":7,\"jsonrpc\":\"2.0\",\"result\":[{\"height\":0,\"tx_hash\":\"X\"}]}\n";
+
+const INVALID: &str =
+    "{\"error\":{\"code\":-32600,\"message\":\"invalid request\"},\"id\":null,\"jsonrpc\":\"2.0\"}\n";
+
+#[test]
+fn client_lines(rt: HostRuntime) -> Result<(), Fail> {
+    let file = first_file(rt.alloc())?;
+    let told = Step::Says(0, "block 0 0\ntip G\n");
+    let table: [(&[Step<'_>], &str); 6] = [
+        (&[Step::Opens(1), Step::Says(1, ASKS_EMPTY)], NONE),
+        (
+            &[Step::Opens(1), Step::Says(1, "{}"), Step::Says(1, "\n")],
+            INVALID,
+        ),
+        (
+            &[Step::Opens(1), Step::Says(1, "{"), Step::Says(1, "}\nopen")],
+            INVALID,
+        ),
+        (&[Step::Opens(1), Step::Says(1, ASKS_FIRST)], NONE),
+        (
+            &[
+                told,
+                Step::Forget,
+                Step::Opens(1),
+                Step::Says(1, ASKS_FIRST),
+            ],
+            ONE,
+        ),
+        (
+            &[
+                Step::Opens(1),
+                told,
+                Step::Forget,
+                Step::Says(1, ASKS_FIRST),
+            ],
+            ONE,
+        ),
+    ];
+    for (run, wanted) in table {
+        let (shown, _) = play(rt.alloc(), file.as_slice(), run)?;
+        assert_eq!(rt; shown.as_slice(), spelled(rt.alloc(), wanted)?.as_bytes());
+    }
+    Ok(())
+}
+
+#[test]
+fn one_client_at_once(rt: HostRuntime) -> Result<(), Fail> {
+    let run = [
+        Step::Opens(1),
+        Step::Opens(2),
+        Step::Says(2, "{}\n"),
+        Step::Gone(1),
+        Step::Opens(3),
+        Step::Says(3, "{}\n"),
+    ];
+    for (count, parts) in [
+        (1, ["", ""]),
+        (3, ["clients\n", ""]),
+        (6, ["clients\n", INVALID]),
+    ] {
+        let (shown, _) = play(rt.alloc(), b"", &run[..count])?;
+        let mut wanted = String::from_str(rt.alloc(), parts[0])?;
+        wanted.push_str(parts[1])?;
+        assert_eq!(rt; shown.as_slice(), wanted.as_bytes());
     }
     Ok(())
 }
 
 // So many bytes without byte 10.
-fn long_text(alloc: Global, len: usize) -> Result<String, AllocError> {
+fn long_text(alloc: Global, len: usize) -> Result<String, Fail> {
     let mut text = String::new(alloc);
     for _ in 0..len {
         text.push('x')?;
@@ -116,39 +603,15 @@ fn long_text(alloc: Global, len: usize) -> Result<String, AllocError> {
 
 #[test]
 fn lines_round_the_limit(rt: HostRuntime) -> Result<(), Fail> {
-    let table: [(usize, &str, &str); 3] = [
-        (LINE_LIMIT, "\n", INVALID),
-        (LINE_LIMIT, "x", "long\n"),
-        (LINE_LIMIT, "x\n{}\n", "long\n"),
-    ];
-    for (len, second, want) in table {
-        let first = long_text(rt.alloc(), len)?;
-        let shown = replies(rt.alloc(), first.as_str(), second)?;
-        assert_eq!(rt; shown.as_slice(), want.as_bytes(), "{second}");
+    let text = long_text(rt.alloc(), LINE_LIMIT)?;
+    for (end, wanted) in [("\n", INVALID), ("x", "long\n"), ("x\n{}\n", "long\n")] {
+        let run = [
+            Step::Opens(1),
+            Step::Says(1, text.as_str()),
+            Step::Says(1, end),
+        ];
+        let (shown, _) = play(rt.alloc(), b"", run.as_slice())?;
+        assert_eq!(rt; shown.as_slice(), wanted.as_bytes());
     }
-    Ok(())
-}
-
-#[test]
-fn one_client_at_once(rt: HostRuntime) -> Result<(), Fail> {
-    let mut server = Server::new(rt.alloc(), PlainChain::new(rt.alloc()));
-    let mut shown = Vec::new(rt.alloc());
-    arrive(&mut server, Arrival::Opened(1), b"", &mut shown)?;
-    arrive(&mut server, Arrival::Opened(2), b"", &mut shown)?;
-    say(&mut server, 2, "{}\n", &mut shown)?;
-    assert_eq!(rt; shown.as_slice(), "clients\n".as_bytes());
-    server.gone(1);
-    let mut shown = Vec::new(rt.alloc());
-    work_off(&mut server, &mut shown)?;
-    arrive(&mut server, Arrival::Opened(3), b"", &mut shown)?;
-    say(&mut server, 3, "{}\n", &mut shown)?;
-    assert_eq!(rt; shown.as_slice(), INVALID.as_bytes());
-    Ok(())
-}
-
-#[test]
-fn a_history_too_large(rt: HostRuntime) -> Result<(), Fail> {
-    let text = too_large_reply(rt.alloc(), b"7")?;
-    assert_eq!(rt; text.as_slice(), TOO_LARGE.as_bytes());
     Ok(())
 }

@@ -1,6 +1,6 @@
 // Replies, printed (JSON-RPC 2.0; Electrum Protocol 1.4).
 ghost use Rattle.std.specs.Prelude.{◌≡◌, ◌++◌, IfOk, OnOk, if◌then◌else◌, [], ◌∷◌};
-ghost use Rattle.el_model.specs.Replies.{entry_text, entries_text, history_text, too_large_text};
+ghost use Rattle.el_model.specs.Replies.{entry_text, entries_text, disk_text, history_text, too_large_text};
 
 use el_chain::Entry;
 use std::alloc::{AllocError, Global};
@@ -67,6 +67,19 @@ pub fn too_large_reply(alloc: Global, id: &[u8]) -> Result<Vec<u8>, AllocError>
 {
     let mut out = Vec::new(alloc);
     out.extend_from_slice(b"{\"error\":{\"code\":1,\"message\":\"history too large\"},\"id\":")?;
+    out.extend_from_slice(id)?;
+    out.extend_from_slice(b",\"jsonrpc\":\"2.0\"}\n")?;
+    Ok(out)
+}
+
+/// The reply to a request in which a call of the index's device failed, ended by byte 10: an error of
+/// JSON-RPC 2.0 of code 3, with the request's id. It fails only where memory runs out.
+#[tactic(auto, unfolding(el_model::specs::Replies::disk_text))]
+pub fn disk_reply(alloc: Global, id: &[u8]) -> Result<Vec<u8>, AllocError>
+    ensures { IfOk result (λ text. text.items ≡ disk_text id.now) }
+{
+    let mut out = Vec::new(alloc);
+    out.extend_from_slice(b"{\"error\":{\"code\":3,\"message\":\"index device failed\"},\"id\":")?;
     out.extend_from_slice(id)?;
     out.extend_from_slice(b",\"jsonrpc\":\"2.0\"}\n")?;
     Ok(out)

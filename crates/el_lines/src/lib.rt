@@ -7,14 +7,20 @@ mod answer;
 mod bytes;
 mod laws;
 mod line_buffer;
+mod node_answer;
 mod node_line;
 mod number;
 mod request;
 
-pub use answer::{history_reply, too_large_reply};
+pub use answer::{disk_reply, history_reply, too_large_reply};
 pub use laws::{cuts_do_not_matter, node_line_says_one_thing};
 pub use line_buffer::{LineBuffer, LineEvent};
-pub use node_line::{NODE_LINE_LIMIT, NodeLine, NodeLineFault, read_node_line};
+pub use node_answer::{
+    archive_refused, at_answer, block_answer, deep_refused, genesis_refused, line_refused,
+    long_refused, move_refused, place_refused, unconnected_refused, unknown_refused,
+};
+pub use node_line::{NodeLine, NodeLineFault, read_node_line};
+pub use number::number_of;
 pub use request::{Request, request_of};
 
 #[cfg(test)]

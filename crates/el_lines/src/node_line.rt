@@ -12,10 +12,6 @@ use crate::number::number_of;
 use el_base::{Bytes, Hash32};
 use std::alloc::Global;
 
-/// How many bytes a node's line may have at most, without the byte 10 that ends it: the hex of a transaction
-/// of 4,000,000 bytes, and 100 bytes.
-pub const NODE_LINE_LIMIT: usize = 8_000_100;
-
 /// What a line of a node says.
 #[derive(Debug, PartialEq, Eq, Drop)]
 pub enum NodeLine {

@@ -2,8 +2,9 @@
 ghost use Rattle.std.specs.Prelude.{◌≡◌, ℕ, ◌<◌, ◌≤◌, ◌^◌, MatchOption};
 ghost use Rattle.el_model.specs.NodeLines.{ShowsNumber};
 
-// The number below the bound that at most `most` digits show.
-pub(crate) fn number_of(text: &[u8], most: usize, bound: u64) -> Option<u64>
+/// The number below the bound that the text shows, by at most `most` digits, of which the first may be zeros;
+/// None exactly where it shows none. Takes no memory.
+pub fn number_of(text: &[u8], most: usize, bound: u64) -> Option<u64>
     requires some { 0 < bound }
     ensures { MatchOption result
         ((n : ℕ) → ShowsNumber text.now most bound n → ⊥)

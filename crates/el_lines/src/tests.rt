@@ -1,12 +1,15 @@
 // What no contract says: printed texts, lines from outside, and that each call succeeds where memory is
 // ample.
 use crate::{
-    LineBuffer, LineEvent, NODE_LINE_LIMIT, NodeLine, NodeLineFault, cuts_do_not_matter,
-    history_reply, node_line_says_one_thing, read_node_line, request_of, too_large_reply,
+    LineBuffer, LineEvent, NodeLine, NodeLineFault, archive_refused, at_answer, block_answer,
+    cuts_do_not_matter, deep_refused, disk_reply, genesis_refused, history_reply, line_refused,
+    long_refused, move_refused, node_line_says_one_thing, place_refused, read_node_line,
+    request_of, too_large_reply, unconnected_refused, unknown_refused,
 };
-use el_base::{Bytes, Hash32};
-use el_chain::Entry;
-use el_model::LINE_LIMIT;
+use el_base::{Bytes, CompactFault, Hash32, OutOfMemory};
+use el_block::{BlockFault, decode_block};
+use el_chain::{ConnectFault, Entry, MoveFault};
+use el_model::{LINE_LIMIT, NODE_LINE_LIMIT};
 use std::alloc::Global;
 use std::test::Fail;
 
@@ -283,6 +286,9 @@ const ENTRIES: [&str; 2] = [
 const TOO_LARGE: &str =
     "{\"error\":{\"code\":1,\"message\":\"history too large\"},\"id\":7,\"jsonrpc\":\"2.0\"}\n";
 
+const DISK_FAILED: &str =
+    "{\"error\":{\"code\":3,\"message\":\"index device failed\"},\"id\":7,\"jsonrpc\":\"2.0\"}\n";
+
 #[test]
 fn replies(rt: HostRuntime) -> Result<(), Fail> {
     let entries = [0, 840_000].map(|height| Entry {
@@ -301,5 +307,139 @@ fn replies(rt: HostRuntime) -> Result<(), Fail> {
     }
     let reply = too_large_reply(rt.alloc(), b"7")?;
     assert_eq!(rt; reply.as_slice(), TOO_LARGE.as_bytes());
+    let reply = disk_reply(rt.alloc(), b"7")?;
+    assert_eq!(rt; reply.as_slice(), DISK_FAILED.as_bytes());
+    Ok(())
+}
+
+// Whether the text is this one, where the letter H stands for the shown hash.
+fn is_text(alloc: Global, text: Result<Bytes, OutOfMemory>, wanted: &str) -> Result<bool, Fail> {
+    let mut whole = String::new(alloc);
+    for letter in wanted.chars() {
+        match letter {
+            'H' => whole.push_str(SHOWN[0])?,
+            other => whole.push(other)?,
+        }
+    }
+    Ok(text?.as_slice() == whole.as_bytes())
+}
+
+#[test]
+fn answers_to_a_node(rt: HostRuntime) -> Result<(), Fail> {
+    let alloc = rt.alloc();
+    let hash = Hash32(HASH);
+    for (text, wanted) in [
+        (block_answer(alloc, hash), "block H\n"),
+        (at_answer(alloc, Some(hash), Some(0)), "at H 0\n"),
+        (at_answer(alloc, Some(hash), Some(840_000)), "at H 840000\n"),
+        (at_answer(alloc, None, None), ""),
+        (line_refused(alloc), "refused line\n"),
+        (long_refused(alloc), "refused long 8000100\n"),
+        (place_refused(alloc), "refused place\n"),
+        (genesis_refused(alloc, hash), "refused genesis H\n"),
+        (unknown_refused(alloc, hash), "refused unknown H\n"),
+        (unconnected_refused(alloc, hash), "refused unconnected H\n"),
+        (deep_refused(alloc, 1), "refused deep 1\n"),
+        (deep_refused(alloc, 101), "refused deep 101\n"),
+        (archive_refused(alloc), "refused archive\n"),
+    ] {
+        assert!(rt; is_text(alloc, text, wanted)?, "{wanted}");
+    }
+    Ok(())
+}
+
+// The fault of a block that has no whole transaction.
+fn no_transaction(alloc: Global) -> BlockFault {
+    let mut text = [0; 81];
+    text[80] = 1;
+    match decode_block(alloc, text.as_slice()) {
+        Err(fault) => fault,
+        Ok(_) => BlockFault::Memory,
+    }
+}
+
+// Whether the text says that the block is bad, by this word.
+fn says_bad(alloc: Global, text: Option<Bytes>, word: &str) -> Result<bool, Fail> {
+    let wanted = joined(alloc, &["refused bad ", SHOWN[0], " ", word, "\n"])?;
+    match text {
+        Some(text) => Ok(text.as_slice() == wanted.as_slice()),
+        None => Ok(false),
+    }
+}
+
+#[test]
+fn words_for_bad_blocks(rt: HostRuntime) -> Result<(), Fail> {
+    let alloc = rt.alloc();
+    let hash = Hash32(HASH);
+    let other = Hash32([7; 32]);
+    for (fault, word) in [
+        (BlockFault::Short, "header"),
+        (
+            BlockFault::Count(CompactFault::LongSpelling { place: 80 }),
+            "count",
+        ),
+        (BlockFault::NoTransactions, "empty"),
+        (no_transaction(alloc), "tx"),
+        (BlockFault::Trailing { place: 285 }, "trailing"),
+        (BlockFault::FirstNotCoinbase, "coinbase"),
+        (BlockFault::LaterCoinbase { index: 1 }, "coinbase"),
+        (
+            BlockFault::SameTxid {
+                first: 1,
+                second: 2,
+            },
+            "repeated",
+        ),
+        (
+            BlockFault::BadMerkle {
+                header: other,
+                found: hash,
+            },
+            "merkle",
+        ),
+        (BlockFault::Heavy { weight: 4_000_001 }, "heavy"),
+    ] {
+        let text = move_refused(alloc, MoveFault::BadBlock { hash, fault })?;
+        assert!(rt; says_bad(alloc, text, word)?, "{word}");
+    }
+    for (fault, word) in [
+        (ConnectFault::MissingCoin { tx: 1, input: 0 }, "coin"),
+        (
+            ConnectFault::Money {
+                supply: 2_100_000_000_000_001,
+            },
+            "money",
+        ),
+        (
+            ConnectFault::Full {
+                table: 2,
+                rows: 4_294_967_295,
+            },
+            "full",
+        ),
+    ] {
+        let text = move_refused(alloc, MoveFault::Refused { hash, fault })?;
+        assert!(rt; says_bad(alloc, text, word)?, "{word}");
+    }
+    Ok(())
+}
+
+#[test]
+fn other_refused_moves(rt: HostRuntime) -> Result<(), Fail> {
+    let alloc = rt.alloc();
+    let wanted = Hash32(HASH);
+    let fault = MoveFault::Changed {
+        wanted,
+        found: None,
+    };
+    let text = joined(alloc, &["refused changed ", SHOWN[0], "\n"])?;
+    assert_eq!(rt; move_refused(alloc, fault)?, Some(Bytes::from_vec(text)));
+    for fault in [
+        MoveFault::DiskFailed,
+        MoveFault::ArchiveFailed,
+        MoveFault::Memory,
+    ] {
+        assert_eq!(rt; move_refused(alloc, fault)?, None);
+    }
     Ok(())
 }

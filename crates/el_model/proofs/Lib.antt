@@ -2,3 +2,9 @@ pub mod Cuts
 pub mod RunLemmas
 pub mod ReadBodies
 pub mod PlainMoves
+pub mod Mapped
+pub mod Spenders
+pub mod OwnCoins
+pub mod Findings
+pub mod Lightness
+pub mod PlanLaws

@@ -1,20 +1,14 @@
 -- Bytes of blocks that were read stay as the files grow.
-use Rattle.std.proofs.Common.{◌≡◌, ◌⊎◌, inl, inr, ℕ, zero, suc, ◌+◌, ◌-◌, ◌<◌, ◌≤◌, List, [], ◌∷◌, ◌++◌, length, map, take, drop, get_or, None, Some, Result, Err, refl, sym, ap, ◌∙◌, append_assoc, arith}
+use Rattle.std.proofs.Common.{◌≡◌, ℕ, zero, suc, ◌+◌, ◌<◌, ◌≤◌, List, [], ◌∷◌, ◌++◌, length, map, take, drop, get_or, refl, sym, ap, ◌∙◌, append_assoc, arith}
 use Rattle.std.proofs.lemmas.List.{take-append-le, take_all, get_or_default}
 use Rattle.std.specs.List.{AllByRecursion}
-use Rattle.std.specs.Result.{IfErr}
-use Rattle.el_outside.specs.Files.{Grows, AllGrow}
-use Rattle.el_base.specs.declared.hash.Hash32.{Hash32}
-use Rattle.std.specs.Prelude.{Option}
+use Rattle.el_outside.specs.Files.{AllGrow}
 use Rattle.el_chain.specs.declared.node.Node.{Node}
 use Rattle.el_chain.specs.declared.moves.MoveFault.{MoveFault}
 use Rattle.el_chain.specs.declared.moves.MoveFault.TheVariants as stop
-use Rattle.el_chain.specs.Records.{IsBlockOf, IsOtherBlock}
+use Rattle.el_chain.specs.Records.{IsBlockOf}
 use Rattle.el_chain.specs.Moves.{body_of}
-use Rattle.el_chain.specs.declared.moves.Plan.{Plan}
-use Rattle.el_chain.specs.Chains.{Chain}
-use Rattle.el_chain.specs.Faults.{IsGood}
-use Rattle.el_chain.specs.Moves.{AreOf, AreRead, HasChanged}
+use Rattle.el_chain.specs.Moves.{AreOf, AreRead}
 use Rattle.el_chain.specs.Records.{IsNode}
 use Rattle.el_base.proofs.Lists.{cut_at, left_at, taken_at}
 use Rattle.el_model.specs.within.Reading.{IsUnreadOne, IsUnread}

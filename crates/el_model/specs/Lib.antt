@@ -1,7 +1,11 @@
 pub mod Lines
 pub mod NodeLines
+pub mod NodeAnswers
 pub mod Queries
+pub mod Plans
 pub mod Keeping
+pub mod Sessions
+pub mod Plain
 pub mod Going
 pub mod Replies
 pub mod World

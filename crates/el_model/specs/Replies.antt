@@ -1,6 +1,6 @@
 -- The reply to a client's line (JSON-RPC 2.0; Electrum Protocol 1.4, blockchain.scripthash.get_history). One
 -- encoding of one request is known so far; to any other line the reply says that it is invalid.
-use Rattle.std.specs.Prelude.{◌≡◌, ℕ, ◌≤◌, ◌<◌, List, [], ◌∷◌, ◌++◌, length, codes, slice_index}
+use Rattle.std.specs.Prelude.{◌≡◌, ℕ, ◌≤◌, ◌<◌, List, [], ◌∷◌, ◌++◌, length, codes, slice_index, Option, Some, Bool, false}
 use Rattle.std.specs.List.{AllPass}
 use Rattle.std.specs.Char.{is_ascii_digit}
 use Rattle.std.specs.Fmt.{decimal}
@@ -9,6 +9,7 @@ use Rattle.el_chain.specs.declared.entry.Entry.{Entry}
 use Rattle.el_model.specs.declared.limits.TheConstants.{ENTRY_LIMIT}
 use Rattle.el_chain.specs.Chains.{Chain}
 use Rattle.el_chain.specs.History.{history}
+use Rattle.el_model.specs.Sessions.{Session}
 
 -- what a request begins with, up to its id
 abbrev pub request_head : List ℕ
@@ -74,14 +75,33 @@ abbrev pub invalid_text : List ℕ
 invalid_text =
     codes "{\"error\":{\"code\":-32600,\"message\":\"invalid request\"},\"id\":null,\"jsonrpc\":\"2.0\"}\n"
 
--- The text is the reply, over this chain, to the line, which stands without the byte 10 that ended it: the
--- history that it asks for, or that it is too large, or that the line is no request.
-pub data IsReply (chain : Chain) (line text : List ℕ) : Type 0 where
+-- the reply where a call of the index's device failed (error 3), ended by byte 10
+unfoldable pub disk_text : List ℕ → List ℕ
+disk_text id =
+    codes "{\"error\":{\"code\":3,\"message\":\"index device failed\"},\"id\":"
+    ++ id ++ codes ",\"jsonrpc\":\"2.0\"}\n"
+
+-- What comes of a client's line: the text that the client gets, if it gets one; its session after the line;
+-- and whether it is then closed.
+pub record Reply : Type 0 where
+  pub text : Option (List ℕ)
+  pub session : Session
+  pub closes : Bool
+
+-- it gets this text, and stays with its session as it was
+abbrev pub replies : Session → List ℕ → Reply
+replies session text = record { text = Some text; session = session; closes = false }
+
+-- What comes, over this chain, of a line of the client with this session; it stands without the byte 10 that
+-- ended it. The client gets the history that the line asks for, or that it is too large, or that the line is
+-- no request.
+pub data IsReply (chain : Chain) (session : Session) (line : List ℕ) (reply : Reply) : Type 0 where
   listed : (id script_hash : List ℕ) → Asks line id script_hash
       → length (history chain script_hash) ≤ entry_limit
-      → text ≡ history_text id (history chain script_hash) → IsReply chain line text
+      → reply ≡ replies session (history_text id (history chain script_hash))
+      → IsReply chain session line reply
   too_large : (id script_hash : List ℕ) → Asks line id script_hash
       → entry_limit < length (history chain script_hash)
-      → text ≡ too_large_text id → IsReply chain line text
+      → reply ≡ replies session (too_large_text id) → IsReply chain session line reply
   invalid : ((id script_hash : List ℕ) → Asks line id script_hash → ⊥)
-      → text ≡ invalid_text → IsReply chain line text
+      → reply ≡ replies session invalid_text → IsReply chain session line reply

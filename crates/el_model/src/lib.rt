@@ -3,19 +3,28 @@
 #![tactic(auto)]
 
 mod fault;
+mod finding;
 mod going;
 mod laws;
 mod ledger;
 mod limits;
+mod own_coins;
+mod plain_calls;
 mod plain_ledger;
 mod reading;
+mod spending;
+mod txid;
 
 pub use fault::QueryFault;
 pub use going::{Mark, Stop, go_on};
-pub use laws::pieces_do_not_matter;
+pub use laws::{moves_are_the_plan, pieces_do_not_matter};
 pub use ledger::Ledger;
-pub use limits::{CLIENT_LIMIT, ENTRY_LIMIT, LINE_LIMIT};
+pub use limits::{CLIENT_LIMIT, ENTRY_LIMIT, LINE_LIMIT, NODE_LINE_LIMIT};
 pub use plain_ledger::PlainLedger;
 
+#[cfg(test)]
+mod move_tests;
+#[cfg(test)]
+mod query_tests;
 #[cfg(test)]
 mod tests;

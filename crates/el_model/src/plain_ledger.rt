@@ -2,20 +2,17 @@
 ghost use Rattle.std.specs.Prelude.{◌≡◌, ◌≢◌, ◌⊎◌, ◌++◌, ◌∷◌, [], ◌<◌, ◌^◌, length, None, Some, IfOk, IfErr, OnOk, OnErr};
 ghost use Rattle.el_outside.specs.Counts.{OnlyReads};
 ghost use Rattle.el_block.specs.Blocks.{HasBlockEncoding};
-ghost use Rattle.el_chain.specs.Chains.{Chain, tip};
-ghost use Rattle.el_chain.specs.Faults.{fault};
-ghost use Rattle.el_chain.specs.History.{history};
-ghost use Rattle.el_chain.specs.Moves.{IsPlan, FitsChain, Moves, IsRefused, target};
+ghost use Rattle.el_chain.specs.Chains.{Chain, tip, zero_hash};
+ghost use Rattle.el_chain.specs.Faults.{fault, IsGood};
+ghost use Rattle.el_chain.specs.Moves.{IsPlan, FitsChain, Moves, IsRefused, target, last_hash};
 ghost use Rattle.el_chain.specs.Touches.{AreTouched};
-ghost use Rattle.el_model.specs.Queries as asked;
 ghost use Rattle.el_model.specs.Queries.{height_of, tip_of};
 
 use crate::reading::read_all;
-use el_base::{Hash32, OutOfMemory};
+use el_base::Hash32;
 use el_block::Block;
-use el_chain::{Coin, ConnectFault, Entry, MoveFault, Moved, Placed, PlainChain, Plan};
+use el_chain::{ConnectFault, MoveFault, Moved, Placed, PlainChain, Plan};
 use el_outside::{Archive, Place};
-use el_tx::Outpoint;
 use std::alloc::Global;
 use std::marker::Model;
 
@@ -36,7 +33,7 @@ impl Model for PlainLedger {
 }
 
 // The height of the last of these blocks.
-fn top_of(blocks: &[Placed]) -> Option<u32>
+pub(crate) fn top_of(blocks: &[Placed]) -> Option<u32>
     requires { length blocks.now < 2 ^ 32 }
     ensures { result ≡ height_of blocks.now }
 {
@@ -44,6 +41,13 @@ fn top_of(blocks: &[Placed]) -> Option<u32>
         0 => None,
         n => Some((n - 1) as u32),
     }
+}
+
+// The hash of the chain's last block.
+pub(crate) fn tip_in(chain: &PlainChain) -> Option<Hash32>
+    ensures { result ≡ tip_of chain.now }
+{
+    chain.tip()
 }
 
 impl PlainLedger {
@@ -54,6 +58,13 @@ impl PlainLedger {
         PlainLedger {
             chain: PlainChain::new(alloc),
         }
+    }
+
+    /// A ledger of the blocks of a chain. Takes no memory.
+    pub fn over(chain: PlainChain) -> PlainLedger
+        ensures { result ≡ chain }
+    {
+        PlainLedger { chain }
     }
 
     /// Adds a block after the last, with its place, as `PlainChain::extend` does.
@@ -72,51 +83,26 @@ impl PlainLedger {
         self.chain.extend(block, place)
     }
 
-    /// The height of the last block; None exactly for no blocks.
-    pub fn height(&self) -> Option<u32>
-        ensures { result ≡ height_of self.now }
+    /// What is kept, the blocks with their places.
+    pub fn blocks(&self) -> &[Placed]
+        ensures blocks { result.now ≡ self.now }
+        ensures good { IsGood self.now }
+        ensures few { length self.now < 2 ^ 32 }
     {
-        top_of(self.chain.blocks())
+        self.chain.blocks()
     }
 
-    /// The hash of the last block, in inner order; None exactly for no blocks.
-    pub fn tip(&self) -> Option<Hash32>
-        ensures { result ≡ tip_of self.now }
+    // The chain, with its coins.
+    pub(crate) fn chain(&self) -> &PlainChain
+        ensures { result.now ≡ self.now }
     {
-        self.chain.tip()
+        &self.chain
     }
 
-    /// The history of a script hash, in inner order (Electrum Protocol 1.4,
-    /// `blockchain.scripthash.get_history`).
-    pub fn history(&self, script_hash: &Hash32) -> Result<Vec<Entry>, OutOfMemory>
-        ensures { IfOk result (λ found. found.items ≡ history self.now script_hash.now.0) }
-    {
-        self.chain.history(script_hash)
-    }
-
-    /// What the coins of a script hash, in inner order, hold together, in satoshi. Takes no memory.
-    pub fn balance(&self, script_hash: &Hash32) -> u64
-        ensures { result ≡ asked.balance self.now script_hash.now.0 }
-    {
-        self.chain.balance(script_hash)
-    }
-
-    /// The coin of an outpoint; None exactly where the chain's coins lack it. Takes no memory.
-    pub fn coin(&self, outpoint: &Outpoint) -> Option<Coin>
-        ensures { result ≡ asked.coin_of self.now outpoint.now }
-    {
-        self.chain.coin(outpoint)
-    }
-
-    /// One move: the blocks of `forward` are put after the last, all of them or none. Their bytes are read
-    /// from the block files.
-    ///
-    /// # Errors
-    ///
-    /// In this order: `ArchiveFailed`; `Changed` for the first block whose bytes don't begin with its header;
-    /// `BadBlock` or `Refused` for the first block in chain order that has a fault. `Memory` may come in
-    /// place of any of them. Then nothing has changed.
-    pub fn go<A: Archive>(
+    // One move: the blocks of `forward` are put after the last, all of them or none. The first of them that
+    // has a fault is the one that is told, after a failure of the block files and a block that has changed.
+    // Memory may run out in place of any fault.
+    pub(crate) fn make_move<A: Archive>(
         &mut self,
         alloc: Global,
         plan: &Plan,
@@ -128,7 +114,11 @@ impl PlainLedger {
             × Moves A.tells (A.bytes archive.new) self.old plan.now blocks
             × (self.new ≡ target plan.now self.old blocks) × AreTouched plan.now self.old blocks m.touched) }
         ensures answer { IfOk result (λ m. (m.tip ≡ tip_of self.new) × (m.height ≡ height_of self.new)) }
+        ensures last { IfOk result (λ m. plan.now.forward ≢ []
+            → tip_of self.new ≡ Some (last_hash zero_hash plan.now.forward)) }
         ensures refused { IfErr result (IsRefused A.tells (A.bytes archive.new) self.old plan.now) }
+        // There is no device of an index that could fail.
+        ensures no_disk { IfErr result (λ e. e ≢ MoveFault.DiskFailed) }
         ensures unchanged { OnErr result (self.new ≡ self.old) }
         ensures reads { OnlyReads A.tells (A.bytes archive.old) (A.bytes archive.new) (A.faults archive.old)
             (A.faults archive.new) MoveFault.ArchiveFailed result }
@@ -139,8 +129,8 @@ impl PlainLedger {
         // The list says that no script hash stands twice.
         let _listed = touched.list();
         Ok(Moved {
-            tip: self.tip(),
-            height: self.height(),
+            tip: tip_in(&self.chain),
+            height: top_of(self.chain.blocks()),
             touched,
         })
     }

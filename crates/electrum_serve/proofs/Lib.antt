@@ -1,5 +1,10 @@
-mod Five
-mod Deliveries
-mod Runs
-mod Endings
-mod FileLemmas
+pub mod Openness
+pub mod Sendings
+pub mod Deliveries
+pub mod Turned
+pub mod Progresses
+pub mod Arrivals
+pub mod Runs
+pub mod FileLemmas
+pub mod Openings
+pub mod Servings

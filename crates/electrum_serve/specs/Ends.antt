@@ -1,131 +1,77 @@
 -- How a call of `serve` ends.
-use Rattle.std.specs.Prelude.{◌≡◌, ℕ, ◌+◌, ◌≤◌, List, [], ◌∷◌, ◌++◌, length, Bool, true, false, ◌==◌}
-use Rattle.std.specs.List.{AllByRecursion}
-use Rattle.el_outside.specs.Counts.{RoseBy}
-use Rattle.el_outside.specs.Files.{IsFile}
-use Rattle.el_outside.specs.Story.{ArrivalWithBytes, opened, brought, closed, quiet, ended, Message, Closing}
+use Rattle.std.specs.Prelude.{◌≡◌, ◌⊎◌, ℕ, List, [], ◌∷◌, true, false}
+use Rattle.el_outside.specs.Files.{AllGrow, IsFile}
+use Rattle.el_chain.specs.declared.node.Node.{Node}
 use Rattle.el_chain.specs.Chains.{Chain}
-use Rattle.el_chain.specs.Faults.{IsGood}
-use Rattle.el_chain.specs.Records.{GivesChain}
-use Rattle.el_model.specs.World.{World, quiet_world}
-use Rattle.el_model.specs.Run.{Run, gone_in}
+use Rattle.el_model.specs.World.{quiet_world}
+use Rattle.el_model.specs.Run.{Loss, archive}
+use Rattle.el_words.specs.Commands.{IsCommand, IsNoCommand, IsServe, IsOnce}
 use Rattle.electrum_serve.specs.File.{GivesNoChain}
-use Rattle.electrum_serve.specs.Words.{IsOnce}
-use Rattle.electrum_serve.specs.Commands.{IsNoCommand}
+use Rattle.electrum_serve.specs.Opened.{all_added, IsScanned, IsRead}
+use Rattle.electrum_serve.specs.Runs.{Counts, Traffic, no_traffic, Rose, RunEnds}
 use Rattle.electrum_serve.specs.declared.status.Status.{Status}
 use Rattle.electrum_serve.specs.declared.status.Status.TheVariants as status
+use Rattle.el_words.specs.declared.words.Command.{Command}
 
--- the arrival ends the run: nothing comes any more, or peer 0 left
-abbrev pub is_end : ArrivalWithBytes → Bool
-is_end (opened p) = false
-is_end (brought p bytes) = false
-is_end (closed p) = p == 0
-is_end quiet = false
-is_end ended = true
+-- What was served. `before` and `after` are the archive before the call and after it.
+pub data IsServed {A : Type 0} (tells : Type 0) (bytes : A → ℕ → List ℕ) (file_count : A → ℕ)
+    (words : List (List ℕ)) (c : Counts) (before after : A) (t : Traffic) (s : Status) : Type 0 where
+  -- `serve`: a node and clients, from the empty chain with the headers that the scan of all files found
+  serve : (magic : List ℕ) (now : A) (nodes : List Node) → IsServe words magic
+      → IsScanned tells bytes file_count magic before now nodes → (tells → AllGrow (bytes now) (bytes after))
+      → RunEnds tells (quiet_world [] magic (all_added [] nodes) (bytes now)) true (bytes after) c t s
+      → IsServed tells bytes file_count words c before after t s
+  -- `once`: clients without a node, from the chain that file 0 gives, with its headers
+  once : (magic : List ℕ) (now : A) (nodes : List Node) (chain : Chain) → IsOnce words magic
+      → IsRead tells (bytes before) (bytes now) magic nodes chain
+      → (tells → AllGrow (bytes now) (bytes after))
+      → RunEnds tells (quiet_world chain magic (all_added [] nodes) (bytes now)) false (bytes after) c t s
+      → IsServed tells bytes file_count words c before after t s
 
--- no arrival ends the run
-abbrev pub NoneEnds : List ArrivalWithBytes → Type 0
-NoneEnds arrivals = AllByRecursion (λ a. is_end a ≡ false) arrivals
-
--- the last arrival ends the run, and none before
-pub record LastEnds (arrivals : List ArrivalWithBytes) : Type 0 where
-  pub front : List ArrivalWithBytes
-  pub last : ArrivalWithBytes
-  pub whole : arrivals ≡ front ++ last ∷ []
-  pub before : NoneEnds front
-  pub ends : is_end last ≡ true
-
--- How many calls of `next` may be made; and, before and after all that was done, how often it had been
--- called, and how often calls of the link had failed.
-pub record Counts : Type 0 where
-  pub turns : ℕ
-  pub calls_before : ℕ
-  pub calls_after : ℕ
-  pub faults_before : ℕ
-  pub faults_after : ℕ
-
--- What went over the link in a call: what was taken, sent and closed.
-pub record Traffic : Type 0 where
-  pub arrivals : List ArrivalWithBytes
-  pub messages : List Message
-  pub closings : List Closing
-
--- nothing was taken, sent or closed
-abbrev pub no_traffic : Traffic
-no_traffic = record { arrivals = []; messages = []; closings = [] }
-
--- The traffic is that of a run over the chain, in which this many calls of `next` failed, and each other
--- one brought an arrival. Each failure of the link is such a call, or a message that was not sent, whose
--- client was closed as gone.
-pub record IsRun (chain : Chain) (c : Counts) (t : Traffic) (failed : ℕ) : Type 0 where
-  pub world : World
-  pub run : Run (quiet_world chain) t.arrivals t.messages t.closings world
-  pub calls : RoseBy c.calls_before c.calls_after (length t.arrivals + failed)
-  pub faults : RoseBy c.faults_before c.faults_after (gone_in t.closings + failed)
-  pub turns : length t.arrivals + failed ≤ c.turns
-
--- How a run ends.
-abbrev pub RunEnds : Chain → Counts → Traffic → Status → Type 0
--- nothing comes any more, or peer 0 left
-RunEnds chain c t status.Ended = IsRun chain c t 0 × LastEnds t.arrivals
--- the last call of `next` failed
-RunEnds chain c t status.LinkFailed = IsRun chain c t 1 × NoneEnds t.arrivals
--- all calls of `next` were made, and none ended the run
-RunEnds chain c t status.TurnsSpent = IsRun chain c t 0 × NoneEnds t.arrivals × (length t.arrivals ≡ c.turns)
-RunEnds chain c t status.Usage = ⊥
-RunEnds chain c t status.ArchiveFailed = ⊥
-RunEnds chain c t status.OutOfMemory = ⊥
-RunEnds chain c t status.BadChain = ⊥
-
--- The words are those of `once`, the chain is good and, where the archive tells, it is the one that file 0
--- gives, as it was when its size was told; and the run over it ends so.
-pub record IsServed (tells : Type 0) (words : List (List ℕ)) (c : Counts) (before after : List ℕ)
-    (t : Traffic) (s : Status) : Type 0 where
-  pub magic : List ℕ
-  pub once : IsOnce words magic
-  pub chain : Chain
-  pub good : IsGood chain
-  pub of_file : tells → (file : List ℕ) × IsFile before file after × GivesChain magic 0 file chain
-  pub run_ends : RunEnds chain c t s
-
--- file 0, as it was when its size was told, gives no chain
-pub record IsBadFile (tells : Type 0) (words : List (List ℕ)) (before after : List ℕ) : Type 0 where
-  pub magic : List ℕ
-  pub once : IsOnce words magic
-  pub of_file : tells → (file : List ℕ) × IsFile before file after × GivesNoChain magic file
-
--- the link was not called
-pub record IsSilent (c : Counts) (t : Traffic) : Type 0 where
+-- the link was not called, and these calls failed
+pub record IsSilent (c : Counts) (t : Traffic) (losses : List Loss) : Type 0 where
   pub traffic : t ≡ no_traffic
   pub calls : c.calls_after ≡ c.calls_before
-  pub faults : c.faults_after ≡ c.faults_before
+  pub rose : Rose c.faults_before c.faults_after losses
 
--- the words are those of `once`
-abbrev pub AreOnce : List (List ℕ) → Type 0
-AreOnce words = (magic : List ℕ) × IsOnce words magic
+-- the words are those of some command
+abbrev pub AreCommand : List (List ℕ) → Type 0
+AreCommand words = (command : Command) × IsCommand words command
 
--- Each status has its cause. File 0 has some bytes at the start of the call and at its end.
-abbrev pub Ends : Type 0 → List (List ℕ) → Counts → List ℕ → List ℕ → Traffic → Status → Type 0
-Ends tells words c before after t status.Ended = IsServed tells words c before after t status.Ended
-Ends tells words c before after t status.LinkFailed = IsServed tells words c before after t status.LinkFailed
-Ends tells words c before after t status.TurnsSpent = IsServed tells words c before after t status.TurnsSpent
+-- file 0, as it was when its size was told, gives no chain
+pub record IsBadFile (tells : Type 0) (words : List (List ℕ)) (before after : ℕ → List ℕ) : Type 0 where
+  pub magic : List ℕ
+  pub once : IsOnce words magic
+  pub of_file : tells → (file : List ℕ) × IsFile (before 0) file (after 0) × GivesNoChain magic file
+
+-- Each status has its cause.
+abbrev pub Ends : {A : Type 0} → Type 0 → (A → ℕ → List ℕ) → (A → ℕ) → List (List ℕ) → Counts → A → A
+    → Traffic
+    → Status → Type 0
+Ends tells bytes file_count words c before after t status.Ended =
+    IsServed tells bytes file_count words c before after t status.Ended
+Ends tells bytes file_count words c before after t status.LinkFailed =
+    IsServed tells bytes file_count words c before after t status.LinkFailed
+Ends tells bytes file_count words c before after t status.TurnsSpent =
+    IsServed tells bytes file_count words c before after t status.TurnsSpent
+Ends tells bytes file_count words c before after t status.DiskFailed =
+    IsServed tells bytes file_count words c before after t status.DiskFailed
+-- out of memory before the first arrival, or in the run
+Ends tells bytes file_count words c before after t status.OutOfMemory =
+    (AreCommand words × IsSilent c t [])
+    ⊎ IsServed tells bytes file_count words c before after t status.OutOfMemory
 -- the words are others
-Ends tells words c before after t status.Usage = IsNoCommand words × IsSilent c t
--- a call of the archive failed, by which its count rose
-Ends tells words c before after t status.ArchiveFailed = AreOnce words × IsSilent c t
--- out of memory
-Ends tells words c before after t status.OutOfMemory = AreOnce words × IsSilent c t
+Ends tells bytes file_count words c before after t status.Usage = IsNoCommand words × IsSilent c t []
+-- a call of the block files failed before the first arrival
+Ends tells bytes file_count words c before after t status.ArchiveFailed =
+    AreCommand words × IsSilent c t (archive ∷ [])
 -- file 0 gives no chain
-Ends tells words c before after t status.BadChain = IsBadFile tells words before after × IsSilent c t
-
--- how many calls of the archive failed: the first that does ends everything
-abbrev pub archive_faults : Status → ℕ
-archive_faults status.ArchiveFailed = 1
-archive_faults other = 0
+Ends tells bytes file_count words c before after t status.BadChain =
+    IsBadFile tells words (bytes before) (bytes after) × IsSilent c t []
 
 -- the statuses with which nobody was served
 abbrev pub IsUnserved : Status → Type 0
-IsUnserved status.Ended = ⊥
-IsUnserved status.LinkFailed = ⊥
-IsUnserved status.TurnsSpent = ⊥
-IsUnserved other = Unit {0}
+IsUnserved status.Usage = Unit {0}
+IsUnserved status.ArchiveFailed = Unit {0}
+IsUnserved status.BadChain = Unit {0}
+IsUnserved other = ⊥

@@ -1,6 +1,6 @@
-pub mod Words
-pub mod Commands
 pub mod File
 pub mod Statuses
+pub mod Runs
+pub mod Opened
 pub mod Ends
 pub mod within

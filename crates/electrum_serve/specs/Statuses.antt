@@ -8,6 +8,7 @@ abbrev pub code_of : Status → ℕ
 code_of status.Ended = 0
 code_of status.Usage = 2
 code_of status.ArchiveFailed = 4
+code_of status.DiskFailed = 5
 code_of status.LinkFailed = 6
 code_of status.OutOfMemory = 7
 code_of status.TurnsSpent = 8
@@ -18,6 +19,7 @@ abbrev pub words_of : Status → List ℕ
 words_of status.Ended = codes "ended"
 words_of status.Usage = codes "usage"
 words_of status.ArchiveFailed = codes "block files failed"
+words_of status.DiskFailed = codes "index device failed"
 words_of status.LinkFailed = codes "link failed"
 words_of status.OutOfMemory = codes "out of memory"
 words_of status.TurnsSpent = codes "turns spent"

@@ -1,3 +1,5 @@
 pub mod Paths
 pub mod Devices
+pub mod Sending
 pub mod Progress
+pub mod Unread

@@ -28,8 +28,8 @@ pub enum FileFault {
     Bad,
 }
 
-// The fault of a scan as one of the file.
-fn scan_fault(fault: ScanFault) -> FileFault
+/// The fault of a scan as one of the file.
+pub fn scan_fault(fault: ScanFault) -> FileFault
     ensures failed { result ≡ FileFault.Failed ↔ fault ≡ ScanFault.ArchiveFailed }
     ensures never_bad { result ≢ FileFault.Bad }
 {
@@ -154,16 +154,18 @@ fn add_block(ledger: &mut PlainChain, block: Block, place: Place) -> Result<(), 
     }
 }
 
-/// The chain of the records of file 0, in their order.
+/// The records of file 0, in their order, and the chain that they give.
 pub fn read_chain<A: Archive>(
     alloc: Global,
     archive: &mut A,
     magic: [u8; 4],
-) -> Result<PlainChain, FileFault>
-    ensures good { IfOk result IsGood }
-    // The file gives the ledger's chain.
-    ensures read { A.tells → IfOk result (λ ledger. (file : List ℕ)
-        × IsFile (A.bytes archive.old 0) file (A.bytes archive.new 0) × GivesChain magic 0 file ledger) }
+) -> Result<(Vec<Node>, PlainChain), FileFault>
+    ensures good { IfOk result (λ r. IsGood r.1) }
+    ensures nodes { IfOk result (λ r. AllByRecursion IsNode r.0.items) }
+    // The file gives the chain, and these are its records.
+    ensures read { A.tells → IfOk result (λ r. (file : List ℕ)
+        × IsFile (A.bytes archive.old 0) file (A.bytes archive.new 0) × GivesChain magic 0 file r.1
+        × (r.0.items ≡ records magic 0 file)) }
     // The file gives none.
     ensures bad { IsErrOf result FileFault.Bad → A.tells → (file : List ℕ)
         × IsFile (A.bytes archive.old 0) file (A.bytes archive.new 0) × GivesNoChain magic file }
@@ -185,5 +187,5 @@ pub fn read_chain<A: Archive>(
             Err(fault) => return Err(fault),
         }
     }
-    Ok(ledger)
+    Ok((found, ledger))
 }

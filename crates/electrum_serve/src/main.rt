@@ -3,20 +3,20 @@
 
 mod devices;
 mod file;
+mod opening;
 mod program;
 mod running;
 mod serving;
 mod status;
-mod words;
 
 pub use devices::block_files::BlockFiles;
 pub use devices::nobody::{NoFiles, NoLink};
 pub use devices::standard_link::StandardLink;
+pub use el_words::{Command, Network, OnceWords, ServeWords, once_of, read_words, serve_of};
 use program::{serve_all, tell_end};
 pub use serving::serve;
 pub use status::Status;
 use std::process::ExitCode;
-pub use words::{Command, Network, OnceWords, once_of, read_words};
 
 #[cfg(test)]
 mod tests;

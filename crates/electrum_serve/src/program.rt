@@ -1,8 +1,8 @@
 // From the words of the command line to the end of the program.
 ghost use Rattle.std.specs.Prelude.{◌≡◌, drop, IfOk};
 ghost use Rattle.std.specs.Process.{exit_status};
-ghost use Rattle.electrum_serve.specs.Words.{texts};
-ghost use Rattle.electrum_serve.specs.Commands.{IsNoCommand};
+ghost use Rattle.el_words.specs.Words.{texts};
+ghost use Rattle.el_words.specs.Commands.{IsNoCommand};
 ghost use Rattle.electrum_serve.specs.within.Devices.{folder_of};
 ghost use Rattle.electrum_serve.specs.Statuses.{code_of};
 
@@ -11,8 +11,8 @@ use crate::devices::nobody::{NoFiles, NoLink};
 use crate::devices::standard_link::StandardLink;
 use crate::serving::serve;
 use crate::status::Status;
-use crate::words::{Command, read_words};
 use el_base::OutOfMemory;
+use el_words::{Command, read_words};
 use std::alloc::Global;
 use std::process::ExitCode;
 use std::{env, io};
@@ -48,8 +48,11 @@ fn files_of(
 ) -> Result<BlockFiles<HostRuntime>, OutOfMemory>
     ensures { IfOk result (λ files. files ≡ record { folder = folder_of command.now; faults = 0 }) }
 {
-    let Command::Once { blocks, .. } = command;
-    BlockFiles::new(rt, alloc, blocks.as_str())
+    let folder = match command {
+        Command::Serve { blocks, .. } => blocks,
+        Command::Once { blocks, .. } => blocks,
+    };
+    BlockFiles::new(rt, alloc, folder.as_str())
 }
 
 // Serves the command of these words over its block files and the standard streams.

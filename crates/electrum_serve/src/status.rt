@@ -11,7 +11,9 @@ pub enum Status {
     Usage,
     /// The block files failed.
     ArchiveFailed,
-    /// The link failed.
+    /// A call of the index's device failed.
+    DiskFailed,
+    /// The link failed: a call of `next`, or a send to the node.
     LinkFailed,
     /// Out of memory.
     OutOfMemory,
@@ -30,6 +32,7 @@ impl Status {
             Status::Ended => 0,
             Status::Usage => 2,
             Status::ArchiveFailed => 4,
+            Status::DiskFailed => 5,
             Status::LinkFailed => 6,
             Status::OutOfMemory => 7,
             Status::TurnsSpent => 8,
@@ -45,6 +48,7 @@ impl Status {
             Status::Ended => "electrum_serve: ended\n",
             Status::Usage => "electrum_serve: usage\n",
             Status::ArchiveFailed => "electrum_serve: block files failed\n",
+            Status::DiskFailed => "electrum_serve: index device failed\n",
             Status::LinkFailed => "electrum_serve: link failed\n",
             Status::OutOfMemory => "electrum_serve: out of memory\n",
             Status::TurnsSpent => "electrum_serve: turns spent\n",

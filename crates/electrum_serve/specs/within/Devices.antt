@@ -3,8 +3,8 @@ use Rattle.std.specs.Prelude.{◌≡◌, ◌==◌, ℕ, Bool, if◌then◌else�
 use Rattle.el_outside.specs.declared.link.Arrival.{Arrival}
 use Rattle.el_outside.specs.declared.link.Arrival.TheVariants as arrival
 use Rattle.el_outside.specs.declared.link.LinkFailed.{LinkFailed}
-use Rattle.electrum_serve.specs.declared.words.Command.{Command}
-use Rattle.electrum_serve.specs.declared.words.Command.TheVariants as command
+use Rattle.el_words.specs.declared.words.Command.{Command}
+use Rattle.el_words.specs.declared.words.Command.TheVariants as command
 
 -- block files: their folder, and how often a call has failed
 pub record FolderFiles : Type 0 where
@@ -26,4 +26,5 @@ IsArrivalOf (Err e) is_closed result = IsErr result
 
 -- the folder of block files that a command asks for
 abbrev pub folder_of : Command → List ℕ
+folder_of (command.Serve blocks index network client_port node_port) = blocks
 folder_of (command.Once blocks network) = blocks

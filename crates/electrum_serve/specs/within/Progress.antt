@@ -1,85 +1,141 @@
 -- What the server has done of an arrival's events, and what went over the link meanwhile.
-use Rattle.std.specs.Prelude.{◌≡◌, ℕ, true, false, List, [], ◌∷◌, ◌++◌, length, IsTrue, None, Some}
-use Rattle.std.specs.List.{AllByRecursion}
+use Rattle.std.specs.Prelude.{◌≡◌, ℕ, false, List, [], ◌++◌, length, IsTrue, Option, None, Some, Bool, if◌then◌else◌}
 use Rattle.el_outside.specs.Counts.{RoseBy}
+use Rattle.el_outside.specs.Files.{AllGrow}
 use Rattle.el_outside.specs.Story.{Story, ArrivalWithBytes, Message, Closing, GoesOn, is_open}
-use Rattle.el_outside.specs.declared.link.Why.{Why}
 use Rattle.el_chain.specs.Chains.{Chain}
-use Rattle.el_model.specs.Lines.{LineEvent}
-use Rattle.el_model.specs.World.{World, Session, Event, says, is_client, without_client, quiet_world}
-use Rattle.el_model.specs.Run.{Turns, Run, gone_in, IsDeparture}
+use Rattle.el_model.specs.World.{World, Event, is_client, without_node, Outs}
+use Rattle.el_model.specs.Run.{Stop, Loss, link_losses, Turns, Stops, StopsIn, Delivers, Run}
 use Rattle.el_core.specs.State.{State, Stands}
-use Rattle.el_core.specs.Turn.{outs_of}
-use Rattle.el_core.specs.declared.out.Out.{Out}
-use Rattle.el_core.specs.declared.out.Out.TheVariants as out
-use Rattle.electrum_serve.specs.Ends.{NoneEnds}
+use Rattle.electrum_serve.specs.Runs.{Faults, faults, Rose, NoneEnds, taken}
+use Rattle.electrum_serve.specs.within.Sending.{AllOpen, CanSend}
 
 -- the clients of the world, and the one too many, are open
-pub record ClientsAreOpen (s : State) (world : World) (story : Story) : Type 0 where
-  pub sessions : AllByRecursion (λ (session : Session). IsTrue (is_open story session.peer)) world.sessions
+pub record ClientsAreOpen {G : Type 0} (s : State G) (world : World) (story : Story) : Type 0 where
+  pub sessions : AllOpen story world.sessions
   pub surplus : (p : ℕ) → s.surplus ≡ Some p → IsTrue (is_open story p) × (is_client p world ≡ false)
 
--- whom a message or a closing is for
-abbrev pub peer_of : Out → ℕ
-peer_of (out.Send p text) = p
-peer_of (out.Close p reason) = p
+-- the client to close is open, and none of the world
+abbrev pub CanClose : World → Story → Option Closing → Type 0
+CanClose next story None = Unit {0}
+CanClose next story (Some c) = IsTrue (is_open story c.peer) × (is_client c.peer next ≡ false)
 
--- The server forgot a client: the line whose reply wasn't sent is still left, and has no effect.
-pub record Forgets (s : State) (p : ℕ) (next : State) : Type 0 where
-  pub surplus : next.surplus ≡ s.surplus
-  pub unsent : s.surplus ≡ None → (world : World) (met : LineEvent) (rest : List Event) → Stands s world rest
-      → is_client p world ≡ true → Stands next (without_client p world) (says p met ∷ rest)
+-- What a turn gave can be sent and closed.
+pub record CanDeliver {G : Type 0} (stands : G → Chain → Type 0) (tells : Type 0) (s : State G) (next : World)
+    (rest : List Event) (outs : Outs) (story : Story) : Type 0 where
+  pub can_send : CanSend stands tells s next rest story outs.messages
+  pub can_close : tells → CanClose next story outs.closing
 
--- It went over the link, which counted no failure; or its client was closed, as gone where the link counted
--- one.
-pub data Delivered (tells : Type 0) (o : Out) (s : State) (before : Story) (low : ℕ)
-    (next : State) (after : Story) (high : ℕ) : Type 0 where
-  sent : next ≡ s → high ≡ low → (tells → GoesOn before after [] (outs_of o).messages (outs_of o).closings)
-      → Delivered tells o s before low next after high
-  lost : (p : ℕ) (text : List ℕ) (reason : Why) → o ≡ out.Send p text → IsDeparture reason → Forgets s p next
-      → RoseBy low high (gone_in (record { peer = p; why = reason } ∷ []))
-      → (tells → GoesOn before after [] [] (record { peer = p; why = reason } ∷ []))
-      → Delivered tells o s before low next after high
+-- It was sent and closed, as far as no client was lost.
+pub record Delivered {G : Type 0} (stands : G → Chain → Type 0) (tells : Type 0) (world : World)
+    (rest : List Event) (outs : Outs) (s : State G) (before : Story) (low : ℕ) (now : State G) (after : Story)
+    (high : ℕ) : Type 0 where
+  pub sent : List Message
+  pub closings : List Closing
+  pub losses : List Loss
+  pub next : World
+  pub delivers : Delivers world outs.messages outs.closing sent closings losses next
+  pub stood : Stands stands now next rest
+  pub ledger : now.ledger ≡ s.ledger
+  pub surplus : now.surplus ≡ s.surplus
+  pub files : next.files ≡ world.files
+  pub story : tells → GoesOn before after [] sent closings
+  pub are_open : tells → AllOpen after next.sessions
+  pub others : outs.closing ≡ None → tells → (q : ℕ) → IsTrue (is_open before q) → is_client q world ≡ false
+      → IsTrue (is_open after q) × (is_client q next ≡ false)
+  pub rose : RoseBy low high (link_losses losses)
 
--- Of these events some were taken or departed from, and the others are left.
-pub record Progress (first : World) (all : List Event) (tells : Type 0) (before after : Story) (low high : ℕ)
-    (s : State) : Type 0 where
+-- What is seen of the devices between two calls: what went over the link, how often calls failed, and the
+-- block files.
+pub record Seen : Type 0 where
+  pub story : Story
+  pub faults : Faults
+  pub files : ℕ → List ℕ
+
+abbrev pub seen : Story → (ℕ → List ℕ) → ℕ → ℕ → ℕ → Seen
+seen story files of_link of_archive of_disk =
+    record { story = story; faults = faults of_link of_archive of_disk; files = files }
+
+-- Of these events some are done, and the others are left.
+pub record Progress {G : Type 0} (stands : G → Chain → Type 0) (link_tells tells : Type 0) (first : World)
+    (all : List Event) (before now : Seen) (s : State G) : Type 0 where
   pub done : List Event
   pub left : List Event
   pub messages : List Message
   pub closings : List Closing
+  pub losses : List Loss
   pub world : World
   pub whole : all ≡ done ++ left
-  pub turns : Turns first done messages closings world
-  pub stands : Stands s world left
-  pub story : tells → GoesOn before after [] messages closings
-  pub are_open : tells → ClientsAreOpen s world after
-  pub faults : RoseBy low high (gone_in closings)
+  pub turns : Turns tells first done messages closings losses world
+  pub stood : Stands stands s world left
+  pub story : link_tells → GoesOn before.story now.story [] messages closings
+  pub are_open : link_tells → ClientsAreOpen s world now.story
+  pub rose : Rose before.faults now.faults losses
+  pub grown : tells → AllGrow world.files now.files
 
--- All of these events were taken or departed from.
-pub record Finished (first : World) (all : List Event) (tells : Type 0) (before after : Story) (low high : ℕ)
-    (s : State) : Type 0 where
+-- All of these events are done, and the node's last line leaves nothing to do.
+pub record Finished {G : Type 0} (stands : G → Chain → Type 0) (link_tells tells : Type 0) (first : World)
+    (all : List Event) (before now : Seen) (s : State G) : Type 0 where
   pub messages : List Message
   pub closings : List Closing
+  pub losses : List Loss
   pub world : World
-  pub turns : Turns first all messages closings world
-  pub stands : Stands s world []
-  pub story : tells → GoesOn before after [] messages closings
-  pub are_open : tells → ClientsAreOpen s world after
-  pub faults : RoseBy low high (gone_in closings)
+  pub turns : Turns tells first all messages closings losses world
+  pub still : world.ahead ≡ []
+  pub stood : Stands stands s world []
+  pub story : link_tells → GoesOn before.story now.story [] messages closings
+  pub are_open : link_tells → ClientsAreOpen s world now.story
+  pub rose : Rose before.faults now.faults losses
+  pub grown : tells → AllGrow world.files now.files
+
+-- The run stops among the turns for these events.
+pub record Stopped (link_tells tells : Type 0) (first : World) (all : List Event) (stop : Stop)
+    (before now : Seen)
+    : Type 0 where
+  pub done : List Event
+  pub left : List Event
+  pub whole : all ≡ done ++ left
+  pub messages : List Message
+  pub closings : List Closing
+  pub losses : List Loss
+  pub world : World
+  pub turns : Turns tells first done messages closings losses world
+  pub sent : List Message
+  pub closed : List Closing
+  pub lost : List Loss
+  pub stops : Stops tells world left stop sent closed lost
+  pub story : link_tells → GoesOn before.story now.story [] (messages ++ sent) (closings ++ closed)
+  pub rose : Rose before.faults now.faults (losses ++ lost)
+
+-- The run stops in this arrival.
+pub record StoppedIn (link_tells tells : Type 0) (world : World) (arrival : ArrivalWithBytes) (stop : Stop)
+    (before now : Seen) : Type 0 where
+  pub messages : List Message
+  pub closings : List Closing
+  pub losses : List Loss
+  pub stops : StopsIn tells world arrival stop messages closings losses
+  pub story : link_tells → GoesOn before.story now.story [] messages closings
+  pub rose : Rose before.faults now.faults losses
+
+-- an arrival as it is taken, with a node or without one
+abbrev pub taken_one : Bool → ArrivalWithBytes → ArrivalWithBytes
+taken_one node a = if node then a else without_node a
 
 -- The arrivals so far, none of which ended the run: as many as `next` was called.
-pub record Going (chain : Chain) (tells : Type 0) (count : ℕ) (s : State) (before after : Story)
-    (low high dialled called : ℕ) : Type 0 where
+pub record Going {G : Type 0} (stands : G → Chain → Type 0) (link_tells tells : Type 0) (first : World)
+    (node : Bool)
+    (count : ℕ) (s : State G) (before now : Seen) (dialled called : ℕ) : Type 0 where
   pub arrivals : List ArrivalWithBytes
   pub messages : List Message
   pub closings : List Closing
+  pub losses : List Loss
   pub world : World
-  pub run : Run (quiet_world chain) arrivals messages closings world
-  pub stands : Stands s world []
+  pub run : Run tells first (taken node arrivals) messages closings losses world
+  pub stood : Stands stands s world []
   pub none_ends : NoneEnds arrivals
   pub counted : length arrivals ≡ count
-  pub story : tells → GoesOn before after arrivals messages closings
-  pub are_open : tells → ClientsAreOpen s world after
+  pub story : link_tells → GoesOn before.story now.story arrivals messages closings
+  pub are_open : link_tells → ClientsAreOpen s world now.story
   pub calls : RoseBy dialled called (length arrivals)
-  pub faults : RoseBy low high (gone_in closings)
+  pub rose : Rose before.faults now.faults losses
+  pub grown : tells → AllGrow world.files now.files

@@ -1,15 +1,25 @@
-use Rattle.std.proofs.Common.{sym, ◌∙◌, refl}
-use Rattle.el_core.specs.within.Clients.{answers}
+use Rattle.std.proofs.Common.{sym, ap, ◌∙◌, refl}
+use Rattle.el_model.specs.Run.{closes_memory}
+use Rattle.el_core.specs.within.Clients.{loses, departs, answers}
+use Rattle.el_core.proofs.Moved.{rose_still}
 use Rattle.el_core.proofs.client.client_turn.Goals as goal
 
-pub returns-in-None-clause-done : goal.returns-in-None-clause-done
-returns-in-None-clause-done c =
-    let all = rw c.in-None.is at c.in-Ok.ensures.none in
-    let same = rw c.in-None.is at c.in-Ok.ensures.unchanged in
+pub returns-then-is_lost-clause-turn : goal.returns-then-is_lost-clause-turn
+returns-then-is_lost-clause-turn g c = λ chain stands.
+    loses c.closing.result (sym c.is_lost.ensures ∙ c.if-is_lost.true) refl (c.closing.ensures ∙ ap closes_memory c.peer-peer.ensures) refl (rose_still _ _ refl)
+
+pub returns-in-Err-clause-turn : goal.returns-in-Err-clause-turn
+returns-in-Err-clause-turn g c = λ chain stands.
+    departs c.closing-in-Err.result (sym c.is_lost.ensures ∙ c.if-is_lost.false) c.in-Err.ensures.line refl (c.closing-in-Err.ensures ∙ ap closes_memory c.peer-peer.ensures) refl (rose_still _ _ refl)
+
+pub returns-in-Ok-None-clause-done : goal.returns-in-Ok-None-clause-done
+returns-in-Ok-None-clause-done g c =
+    let all = rw c.in-Ok-None.field-0-is at c.in-Ok-None.ensures.none in
+    let same = rw c.in-Ok-None.field-0-is at c.in-Ok-None.ensures.unchanged in
     rw same (record { given_all = all; kept = sym c.is_lost.ensures ∙ c.if-is_lost.false })
 
-pub returns-in-Some-clause-turn : goal.returns-in-Some-clause-turn
-returns-in-Some-clause-turn c =
-    let gives = rw c.in-Some.is at c.in-Ok.ensures.met in
-    let answered = rw c.in-Ok.ensures.same at c.answer-out.ensures.answers in
-    answers c.in-Some.met c.next_line.new.self.buffer c.answer-out.result.0 (sym c.is_lost.ensures ∙ c.if-is_lost.false) c.in-Ok.ensures.limit gives answered refl
+pub returns-in-Ok-Some-clause-turn : goal.returns-in-Ok-Some-clause-turn
+returns-in-Ok-Some-clause-turn g c = λ chain stands.
+    let gives = rw c.in-Ok-Some.field-0-is at c.in-Ok-Some.ensures.met in
+    let answered = rw c.in-Ok-Some.ensures.same at (c.answer-outs.ensures.answers chain stands) in
+    answers c.answer-outs.result.0 c.in-Ok-Some.met c.next_line.new.self.buffer (sym c.is_lost.ensures ∙ c.if-is_lost.false) c.in-Ok-Some.ensures.limit gives answered refl

@@ -1,4 +1,4 @@
-use Rattle.std.proofs.Common.{◌≡◌, ◌∙◌, refl, ap, Err}
+use Rattle.std.proofs.Common.{◌∙◌, refl, ap, Err}
 use Rattle.std.proofs.lemmas.Result.{err_from_is_err_and}
 use Rattle.el_chain.proofs.CoinSteps.{err_passed}
 use Rattle.el_outside.proofs.Calls.{has_more, reads_failed, reads_other}

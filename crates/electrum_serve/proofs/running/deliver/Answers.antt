@@ -1,11 +1,15 @@
-use Rattle.std.proofs.Common.{refl}
-use Rattle.electrum_serve.specs.within.Progress.{sent}
-use Rattle.electrum_serve.proofs.Deliveries.{closed_open}
+use Rattle.electrum_serve.proofs.Deliveries.{delivered}
+use Rattle.el_core.specs.Turn.{outs_of}
 use Rattle.electrum_serve.proofs.running.deliver.Goals as goal
 
-pub returns-in-Send-clause-delivered : goal.returns-in-Send-clause-delivered
-returns-in-Send-clause-delivered g c = λ open'. rw c.in-Send.is (c.send.ensures.delivered (rw c.in-Send.is at open'))
+pub returns-in-Ok-clause-delivered : goal.returns-in-Ok-clause-delivered
+returns-in-Ok-clause-delivered g c = λ next rest can.
+    let sent = rw c.as_slice.ensures at (c.in-Ok.ensures.sent next rest) in
+    delivered g.G.Ledger.stands g.K.Link.tells next rest (outs_of c.args.outs.now) c.in-Ok.lost
+    c.args.server.now c.send_all.new.server _ _ _ _ _ _
+    can.can_close (sent can.can_send) c.close.ensures.closes c.close.ensures.same_faults
 
-pub returns-in-Close-clause-delivered : goal.returns-in-Close-clause-delivered
-returns-in-Close-clause-delivered g c = λ open'. rw c.in-Close.is
-    (sent refl c.close.ensures.uncounted (λ t. closed_open _ _ c.in-Close.p c.in-Close.why (let h = open' t in rw c.in-Close.is at h) (c.close.ensures.closed t)))
+pub returns-in-Err-clause-undelivered : goal.returns-in-Err-clause-undelivered
+returns-in-Err-clause-undelivered g c = λ next rest can.
+    let stopped = rw c.as_slice.ensures at (c.in-Err.ensures.stopped next rest) in
+    stopped can.can_send

@@ -1,49 +1,117 @@
-use Rattle.std.proofs.Common.{sym, ◌∙◌, arith}
+use Rattle.std.proofs.Common.{refl, sym, ◌∙◌, arith, ap}
 use Rattle.el_outside.specs.Story.{with_bytes}
-use Rattle.electrum_serve.proofs.Runs.{going_none, one_further, going_more, told_ended, told_failed, told_spent, names_new}
+use Rattle.el_outside.proofs.Stories.{all_grow_none, all_grow_more, rose_none}
+use Rattle.electrum_serve.proofs.Runs.{going_none, one_further, going_more, told_ended, told_spent, told_failed, told_stopped, told_halt, enters}
+use Rattle.electrum_serve.specs.within.Progress.{taken_one, seen}
+use Rattle.electrum_serve.specs.within.Sending.{stop_of}
+use Rattle.el_core.specs.Arrivals.{with_all_bytes}
 use Rattle.electrum_serve.proofs.running.run.Goals as goal
 
 pub loop-turn-init : goal.loop-turn-init
 loop-turn-init g c = record {
-  going = going_none c.args.server.chain g.K.Link.tells c.args.server _ _ _ c.requires.stands c.requires.idle.surplus;
+  going = λ first stood nobody files.
+      going_none g.G.Ledger.stands g.K.Link.tells g.A.Archive.tells first c.args.node c.args.server.now _ _
+      stood nobody c.requires.idle.surplus (λ t. rw files (all_grow_none _));
+  live = c.requires.live;
   idle = c.requires.idle;
+  keeps = λ t. all_grow_none _;
 }
 
-pub returns-in_default : goal.returns-in_default
-returns-in_default g c =
-    told_failed c.args.server.chain g.K.Link.tells c.loop-turn._turn c.args.turns c.loop-turn.server (g.K.Link.story c.args.link.now) (g.K.Link.story c.loop-turn.link) (g.K.Link.story c.next.new.self)
-    (g.K.Link.faults c.args.link.now) (g.K.Link.faults c.loop-turn.link) (g.K.Link.faults c.next.new.self)
-    (g.K.Link.calls c.args.link.now) (g.K.Link.calls c.loop-turn.link) (g.K.Link.calls c.next.new.self)
-    c.loop-turn.invariant.going c.in_default.ensures.none_taken c.in_default.ensures.cause.counted c.next.ensures.called c.loop-turn-test.true
+pub returns-clause-ends : goal.returns-clause-ends
+returns-clause-ends g c = λ first stood nobody files.
+    told_spent g.G.Ledger.stands g.K.Link.tells g.A.Archive.tells first c.args.node c.loop-turn._turn
+    c.args.turns c.loop-turn.server _ _ _ _
+    (c.loop-turn.invariant.going first stood nobody files) (let h = c.loop-turn-test.false in
+    let k = c.loop-turn.auto._turn-end in omega arith)
 
-pub returns-then-ends : goal.returns-then-ends
-returns-then-ends g c =
-    let f = one_further c.args.server.chain g.K.Link.tells c.loop-turn._turn (with_bytes c.in-Ok.arrival c.next.new.buf) c.loop-turn.server c.take.new.self c.work_off.new.server
-    (g.K.Link.story c.args.link.now) (g.K.Link.story c.loop-turn.link) (g.K.Link.story c.next.new.self) (g.K.Link.story c.work_off.new.link)
-    (g.K.Link.faults c.args.link.now) (g.K.Link.faults c.loop-turn.link) (g.K.Link.faults c.next.new.self) (g.K.Link.faults c.work_off.new.link)
-    (g.K.Link.calls c.args.link.now) (g.K.Link.calls c.loop-turn.link) (g.K.Link.calls c.work_off.new.link)
-    c.loop-turn.invariant.going (λ world stands. rw c.brought.ensures at (c.take.ensures world stands)) c.in-Ok.ensures.took
-    (λ told. names_new c.in-Ok.arrival c.next.new.buf (g.K.Link.last c.loop-turn.link) (g.K.Link.last c.next.new.self) (g.K.Link.story c.loop-turn.link)
-    (λ p lt. g.met.K.Link.greater_is_new c.loop-turn.link p told lt) c.in-Ok.ensures.lawful)
-    c.in-Ok.ensures.cause.uncounted (rw c.work_off.ensures.same_calls c.next.ensures.called) c.work_off.ensures.finished in
-    told_ended c.args.server.chain g.K.Link.tells c.loop-turn._turn c.args.turns _ _ _ _ _ _ _ _ f (sym (c.ends.ensures c.next.new.buf) ∙ c.if-ends.true) c.loop-turn-test.true
+pub returns-clause-keeps : goal.returns-clause-keeps
+returns-clause-keeps g c = c.loop-turn.invariant.keeps
+
+pub serve_arrival-requires-clause-live : goal.serve_arrival-requires-clause-live
+serve_arrival-requires-clause-live g c = λ κs lives. c.loop-turn.invariant.live
+
+pub serve_arrival-requires-clause-idle : goal.serve_arrival-requires-clause-idle
+serve_arrival-requires-clause-idle g c = λ κs lives. c.loop-turn.invariant.idle
+
+pub returns-in_default-clause-keeps : goal.returns-in_default-clause-keeps
+returns-in_default-clause-keeps g c = c.loop-turn.invariant.keeps
+
+pub returns-in_default-clause-ends : goal.returns-in_default-clause-ends
+returns-in_default-clause-ends g c = λ first stood nobody files.
+    told_failed g.G.Ledger.stands g.K.Link.tells g.A.Archive.tells first c.args.node c.loop-turn._turn
+    c.args.turns c.loop-turn.server _ _ _ _ _ _
+    (c.loop-turn.invariant.going first stood nobody files) c.in_default.ensures.none_taken refl
+    (record { link = c.in_default.ensures.cause.counted; archive = rose_none _; disk = rose_none _ })
+    c.next.ensures.called c.loop-turn-test.true
+
+pub returns-in-Err-clause-ends : goal.returns-in-Err-clause-ends
+returns-in-Err-clause-ends g c = λ first stood nobody files.
+    let going = c.loop-turn.invariant.going first stood nobody files in
+    let is = c.as_taken-taken.ensures c.brought.result.now ∙ ap (taken_one c.args.node) c.brought.ensures in
+    let are = enters g.K.Link.tells c.args.node c.loop-turn.server going.world c.in-Ok.arrival c.next.new.buf
+    (with_all_bytes c.as_taken-taken.result c.brought.result.now) _ _ _ _
+    is going.are_open (λ t p lt. g.met.K.Link.greater_is_new c.loop-turn.link p t lt) c.in-Ok.ensures.lawful
+    c.in-Ok.ensures.took in
+    let stopped = c.in-Err.ensures.stopped going.world going.stood going.grown are in
+    rw c.status.ensures (told_halt g.K.Link.tells g.A.Archive.tells first c.args.node c.args.turns _ _
+    (seen (g.K.Link.story c.args.link.now) (g.A.Archive.bytes c.args.archive.now)
+    (g.K.Link.faults c.args.link.now)
+    (g.A.Archive.faults c.args.archive.now) (g.G.Ledger.faults c.args.server.now.ledger))
+    (seen (g.K.Link.story c.serve_arrival.new.link) (g.A.Archive.bytes c.serve_arrival.new.archive)
+    (g.K.Link.faults c.serve_arrival.new.link)
+    (g.A.Archive.faults c.serve_arrival.new.archive) (g.G.Ledger.faults c.serve_arrival.new.server.ledger))
+    c.in-Err.halt
+    (told_stopped g.G.Ledger.stands g.K.Link.tells g.A.Archive.tells first c.args.node c.loop-turn._turn
+    c.args.turns (with_bytes c.in-Ok.arrival c.next.new.buf) c.loop-turn.server
+    _ _ _ _ _ _ _ (stop_of c.in-Err.halt) going c.in-Ok.ensures.took (rw c.in-Ok.ensures.cause.uncounted refl)
+    (c.serve_arrival.ensures.same_calls ∙ c.next.ensures.called)
+    c.loop-turn-test.true (rw is at stopped)))
+
+pub returns-in-Err-clause-keeps : goal.returns-in-Err-clause-keeps
+returns-in-Err-clause-keeps g c =
+    λ t. all_grow_more _ _ _ (c.loop-turn.invariant.keeps t) (c.serve_arrival.ensures.keeps t)
+
+pub returns-then-ends-clause-ends : goal.returns-then-ends-clause-ends
+returns-then-ends-clause-ends g c = λ first stood nobody files.
+    let going = c.loop-turn.invariant.going first stood nobody files in
+    let is = c.as_taken-taken.ensures c.brought.result.now ∙ ap (taken_one c.args.node) c.brought.ensures in
+    let are = enters g.K.Link.tells c.args.node c.loop-turn.server going.world c.in-Ok.arrival c.next.new.buf
+    (with_all_bytes c.as_taken-taken.result c.brought.result.now) _ _ _ _
+    is going.are_open (λ t p lt. g.met.K.Link.greater_is_new c.loop-turn.link p t lt) c.in-Ok.ensures.lawful
+    c.in-Ok.ensures.took in
+    let done = c.in_default-serve_arrival.ensures.served going.world going.stood going.grown are in
+    told_ended g.G.Ledger.stands g.K.Link.tells g.A.Archive.tells first c.args.node c.loop-turn._turn
+    c.args.turns (with_bytes c.in-Ok.arrival c.next.new.buf) c.serve_arrival.new.server
+    _ _ _ _
+    (one_further g.G.Ledger.stands g.K.Link.tells g.A.Archive.tells first c.args.node c.loop-turn._turn
+    (with_bytes c.in-Ok.arrival c.next.new.buf) c.loop-turn.server c.serve_arrival.new.server
+    _ _ _ _ _ _ _ going c.in-Ok.ensures.took (rw c.in-Ok.ensures.cause.uncounted refl)
+    (c.serve_arrival.ensures.same_calls ∙ c.next.ensures.called) (rw is at done))
+    (sym (c.ends.ensures c.next.new.buf) ∙ c.if-ends.true) c.loop-turn-test.true
+
+pub returns-then-ends-clause-keeps : goal.returns-then-ends-clause-keeps
+returns-then-ends-clause-keeps g c =
+    λ t. all_grow_more _ _ _ (c.loop-turn.invariant.keeps t) (c.serve_arrival.ensures.keeps t)
 
 pub loop-turn-preserved : goal.loop-turn-preserved
 loop-turn-preserved g c = record {
-  going =
-      let f = one_further c.args.server.chain g.K.Link.tells c.loop-turn._turn (with_bytes c.in-Ok.arrival c.next.new.buf) c.loop-turn.server c.take.new.self c.work_off.new.server
-      (g.K.Link.story c.args.link.now) (g.K.Link.story c.loop-turn.link) (g.K.Link.story c.next.new.self) (g.K.Link.story c.work_off.new.link)
-      (g.K.Link.faults c.args.link.now) (g.K.Link.faults c.loop-turn.link) (g.K.Link.faults c.next.new.self) (g.K.Link.faults c.work_off.new.link)
-      (g.K.Link.calls c.args.link.now) (g.K.Link.calls c.loop-turn.link) (g.K.Link.calls c.work_off.new.link)
-      c.loop-turn.invariant.going (λ world stands. rw c.brought.ensures at (c.take.ensures world stands)) c.in-Ok.ensures.took
-      (λ told. names_new c.in-Ok.arrival c.next.new.buf (g.K.Link.last c.loop-turn.link) (g.K.Link.last c.next.new.self) (g.K.Link.story c.loop-turn.link)
-      (λ p lt. g.met.K.Link.greater_is_new c.loop-turn.link p told lt) c.in-Ok.ensures.lawful)
-      c.in-Ok.ensures.cause.uncounted (rw c.work_off.ensures.same_calls c.next.ensures.called) c.work_off.ensures.finished in
-      going_more c.args.server.chain g.K.Link.tells c.loop-turn._turn _ _ _ _ _ _ _ _ f (sym (c.ends.ensures c.next.new.buf) ∙ c.if-ends.false);
-  idle = c.work_off.ensures.idle;
+  going = λ first stood nobody files.
+      let going = c.loop-turn.invariant.going first stood nobody files in
+      let is = c.as_taken-taken.ensures c.brought.result.now ∙ ap (taken_one c.args.node) c.brought.ensures in
+      let are = enters g.K.Link.tells c.args.node c.loop-turn.server going.world c.in-Ok.arrival
+      c.next.new.buf (with_all_bytes c.as_taken-taken.result c.brought.result.now) _ _ _ _
+      is going.are_open (λ t p lt. g.met.K.Link.greater_is_new c.loop-turn.link p t lt) c.in-Ok.ensures.lawful
+      c.in-Ok.ensures.took in
+      let done = c.in_default-serve_arrival.ensures.served going.world going.stood going.grown are in
+      going_more g.G.Ledger.stands g.K.Link.tells g.A.Archive.tells first c.args.node c.loop-turn._turn
+      (with_bytes c.in-Ok.arrival c.next.new.buf) c.serve_arrival.new.server
+      _ _ _ _
+      (one_further g.G.Ledger.stands g.K.Link.tells g.A.Archive.tells first c.args.node c.loop-turn._turn
+      (with_bytes c.in-Ok.arrival c.next.new.buf) c.loop-turn.server c.serve_arrival.new.server
+      _ _ _ _ _ _ _ going c.in-Ok.ensures.took (rw c.in-Ok.ensures.cause.uncounted refl)
+      (c.serve_arrival.ensures.same_calls ∙ c.next.ensures.called) (rw is at done))
+      (sym (c.ends.ensures c.next.new.buf) ∙ c.if-ends.false);
+  live = c.in_default-serve_arrival.ensures.live;
+  idle = c.in_default-serve_arrival.ensures.idle;
+  keeps = λ t. all_grow_more _ _ _ (c.loop-turn.invariant.keeps t) (c.serve_arrival.ensures.keeps t);
 }
-
-pub returns : goal.returns
-returns g c =
-    told_spent c.args.server.chain g.K.Link.tells c.loop-turn._turn c.args.turns c.loop-turn.server _ _ _ _ _ _ c.loop-turn.invariant.going
-    (let h = c.loop-turn-test.false in let k = c.loop-turn.auto._turn-end in omega arith)

@@ -1,29 +1,70 @@
 use Rattle.std.proofs.Common.{refl, ◌∙◌}
-use Rattle.electrum_serve.proofs.Deliveries.{begins, progress_more, finished, out_open, step_case}
+use Rattle.el_outside.proofs.Stories.{all_grow_none, all_grow_more}
+use Rattle.el_core.specs.Turn.{outs_of}
+use Rattle.electrum_serve.proofs.Progresses.{begins, can_deliver, progress_more, finished, stopped_turn, stopped_sending}
 use Rattle.electrum_serve.proofs.running.work_off.Goals as goal
 
-pub loop-out-init : goal.loop-out-init
-loop-out-init g c = record {
-  progress = λ world all stands are. begins world all _ _ _ _ stands are;
+pub loop-outs-init : goal.loop-outs-init
+loop-outs-init g c = record {
+  progress = λ world all stood grown are. begins g.G.Ledger.stands g.K.Link.tells g.A.Archive.tells world all
+      _ c.args.server.now stood grown are;
+  live = c.requires.live;
+  keeps = λ t. all_grow_none _;
   same_calls = refl;
 }
 
-pub loop-out-preserved : goal.loop-out-preserved
-loop-out-preserved g c = record {
-  progress = λ world all stands are.
-      let p = c.loop-out.invariant.progress world all stands are in
-      let t = c.in-Some.ensures.step p.world p.left p.stands in
-      progress_more world all g.K.Link.tells (g.K.Link.story c.args.link.now) (g.K.Link.story c.loop-out.link) (g.K.Link.story c.deliver.new.link)
-      (g.K.Link.faults c.args.link.now) (g.K.Link.faults c.loop-out.link) (g.K.Link.faults c.deliver.new.link)
-      c.loop-out.server c.turn.new.self c.deliver.new.server c.in-Some.out p c.turn.ensures.waiting t c.turn.ensures.unused
-      (c.deliver.ensures.delivered (λ told.
-      out_open c.loop-out.server p.world p.left c.in-Some.out t.next t.rest (g.K.Link.story c.loop-out.link) c.turn.ensures.waiting p.stands
-      (step_case p.world p.left c.in-Some.out t.next t.rest t.turn) (p.are_open told)));
-  same_calls = c.deliver.ensures.same_calls ∙ c.loop-out.invariant.same_calls;
+pub loop-outs-preserved : goal.loop-outs-preserved
+loop-outs-preserved g c = record {
+  progress = λ world all stood grown are.
+      let p = c.loop-outs.invariant.progress world all stood grown are in
+      let t = rw c.in-Ok-Some.field-0-is at (c.in-Ok-Some.ensures.step p.world p.left p.stood p.grown) in
+      progress_more g.G.Ledger.stands _ g.K.Link.tells g.A.Archive.tells g.G.Ledger.faults world all _ _ _ _ _
+      _ c.loop-outs.server c.turn.new.self c.deliver.new.server
+      (outs_of c.in-Ok-Some.outs) p refl t
+      (c.in-Ok.ensures.delivered t.next t.rest
+      (can_deliver g.G.Ledger.stands _ g.K.Link.tells g.A.Archive.tells _ _ _ _ _ p.world p.left
+      (outs_of c.in-Ok-Some.outs) c.loop-outs.server c.turn.new.self _ p.stood t p.are_open));
+  live = rw c.in-Ok.ensures.same_ledger c.in-Ok-Some.ensures.live;
+  keeps = λ t. all_grow_more _ _ _ (c.loop-outs.invariant.keeps t) (c.in-Ok-Some.ensures.keeps t);
+  same_calls = c.in-Ok.ensures.same_calls ∙ c.loop-outs.invariant.same_calls;
 }
 
-pub returns-clause-finished : goal.returns-clause-finished
-returns-clause-finished g c = λ world all stands are.
-    let p = c.loop-out.invariant.progress world all stands are in
-    finished world all g.K.Link.tells (g.K.Link.story c.args.link.now) (g.K.Link.story c.loop-out.link) (g.K.Link.faults c.args.link.now) (g.K.Link.faults c.loop-out.link)
-    c.loop-out.server c.turn.new.self p (c.in_default.ensures.done p.world p.left p.stands) c.turn.ensures.unused
+pub returns-in-Err-deliver-clause-stopped : goal.returns-in-Err-deliver-clause-stopped
+returns-in-Err-deliver-clause-stopped g c = λ world all stood grown are.
+    let p = c.loop-outs.invariant.progress world all stood grown are in
+    let t = rw c.in-Ok-Some.field-0-is at (c.in-Ok-Some.ensures.step p.world p.left p.stood p.grown) in
+    stopped_sending g.G.Ledger.stands _ g.K.Link.tells g.A.Archive.tells g.G.Ledger.faults world all _ _ _ _ _
+    _ c.loop-outs.server c.turn.new.self c.deliver.new.server
+    (outs_of c.in-Ok-Some.outs) _ p refl t
+    (c.in-Err-deliver.ensures.undelivered t.next t.rest
+    (can_deliver g.G.Ledger.stands _ g.K.Link.tells g.A.Archive.tells _ _ _ _ _ p.world p.left
+    (outs_of c.in-Ok-Some.outs) c.loop-outs.server c.turn.new.self _ p.stood t p.are_open))
+
+pub returns-in-Err-deliver-clause-keeps : goal.returns-in-Err-deliver-clause-keeps
+returns-in-Err-deliver-clause-keeps g c =
+    λ t. all_grow_more _ _ _ (c.loop-outs.invariant.keeps t) (c.in-Ok-Some.ensures.keeps t)
+
+pub returns-in-Ok-None-clause-finished : goal.returns-in-Ok-None-clause-finished
+returns-in-Ok-None-clause-finished g c = λ world all stood grown are.
+    let p = c.loop-outs.invariant.progress world all stood grown are in
+    finished g.G.Ledger.stands g.K.Link.tells g.A.Archive.tells world all _ _ _ c.loop-outs.server
+    c.turn.new.self p
+    (rw c.in-Ok-None.field-0-is at (c.in-Ok-None.ensures.done p.world p.left p.stood))
+    (rw c.in-Ok-None.field-0-is at c.in-Ok-None.ensures.idle).surplus refl
+    (let q = rw c.in-Ok-None.field-0-is at c.in-Ok-None.ensures.unchanged in rw (q.0, q.1) refl)
+    c.in-Ok-None.ensures.keeps
+
+pub returns-in-Ok-None-clause-keeps : goal.returns-in-Ok-None-clause-keeps
+returns-in-Ok-None-clause-keeps g c =
+    λ t. all_grow_more _ _ _ (c.loop-outs.invariant.keeps t) (c.in-Ok-None.ensures.keeps t)
+
+pub returns-in-Err-clause-stopped : goal.returns-in-Err-clause-stopped
+returns-in-Err-clause-stopped g c = λ world all stood grown are.
+    let p = c.loop-outs.invariant.progress world all stood grown are in
+    stopped_turn g.G.Ledger.stands _ _ g.K.Link.tells g.A.Archive.tells g.G.Ledger.faults world all _ _ _
+    c.loop-outs.server c.turn.new.self _ c.in-Err.fault p refl
+    (c.in-Err.ensures.failed p.world p.left p.stood p.grown) c.halt_of.ensures refl refl
+
+pub returns-in-Err-clause-keeps : goal.returns-in-Err-clause-keeps
+returns-in-Err-clause-keeps g c =
+    λ t. all_grow_more _ _ _ (c.loop-outs.invariant.keeps t) (c.in-Err.ensures.keeps t)

@@ -1,19 +1,25 @@
-use Rattle.std.proofs.Common.{List, ◌≡◌}
+use Rattle.std.proofs.Common.{◌≡◌, List}
+use Rattle.el_outside.specs.Files.{AllGrow}
 use Rattle.el_model.specs.World.{World, Event}
 use Rattle.el_core.specs.State.{Stands, work}
-use Rattle.electrum_serve.specs.within.Progress.{ClientsAreOpen, Progress}
+use Rattle.electrum_serve.specs.within.Progress.{ClientsAreOpen, Progress, seen}
 use Rattle.electrum_serve.proofs.running.work_off.Given as goal
 
-abbrev pub invariant-loop-out : goal.invariant-loop-out
-invariant-loop-out g l =
-    let story = g.K.Link.story in
-    let faults = g.K.Link.faults in
-    let calls = g.K.Link.calls in
-    record {
-      progress : (world : World) (all : List Event) → Stands l.initial.server world all → (g.K.Link.tells → ClientsAreOpen l.initial.server world (story l.initial.link))
-          → Progress world all g.K.Link.tells (story l.initial.link) (story l.link) (faults l.initial.link) (faults l.link) l.server;
-      same_calls : calls l.link ≡ calls l.initial.link;
-    }
+abbrev pub invariant-loop-outs : goal.invariant-loop-outs
+invariant-loop-outs g l = record {
+  progress : (world : World) (all : List Event) → Stands g.G.Ledger.stands l.initial.server world all
+      → (g.A.Archive.tells → AllGrow world.files (g.A.Archive.bytes l.initial.archive))
+      → (g.K.Link.tells → ClientsAreOpen l.initial.server world (g.K.Link.story l.initial.link))
+      → Progress g.G.Ledger.stands g.K.Link.tells g.A.Archive.tells world all
+      (seen (g.K.Link.story l.initial.link) (g.A.Archive.bytes l.initial.archive)
+      (g.K.Link.faults l.initial.link) (g.A.Archive.faults l.initial.archive)
+      (g.G.Ledger.faults l.initial.server.ledger))
+      (seen (g.K.Link.story l.link) (g.A.Archive.bytes l.archive) (g.K.Link.faults l.link)
+      (g.A.Archive.faults l.archive) (g.G.Ledger.faults l.server.ledger)) l.server;
+  live : g.G.Ledger.is_live l.server.ledger;
+  keeps : g.A.Archive.tells → AllGrow (g.A.Archive.bytes l.initial.archive) (g.A.Archive.bytes l.archive);
+  same_calls : g.K.Link.calls l.link ≡ g.K.Link.calls l.initial.link;
+}
 
-abbrev pub decreases-loop-out : goal.decreases-loop-out
-decreases-loop-out g l = work l.server
+abbrev pub decreases-loop-outs : goal.decreases-loop-outs
+decreases-loop-outs g l = work l.server

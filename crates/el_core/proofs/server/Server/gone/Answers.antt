@@ -1,5 +1,5 @@
-use Rattle.el_core.proofs.Sessions.{unsent}
+use Rattle.el_core.proofs.Sessions.{gone_stands}
 use Rattle.el_core.proofs.server.Server.gone.Goals as goal
 
-pub returns-clause-unsent : goal.returns-clause-unsent
-returns-clause-unsent c = rw c.forget.ensures (unsent c.args.self.now c.args.p)
+pub returns-clause-stands : goal.returns-clause-stands
+returns-clause-stands g c = λ unused world rest stood. rw c.forget.ensures (gone_stands g.G.Ledger.stands c.args.self.now world c.args.p rest unused stood)

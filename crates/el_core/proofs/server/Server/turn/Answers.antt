@@ -1,41 +1,160 @@
-use Rattle.std.proofs.Common.{sym, ap, ◌∙◌}
-use Rattle.el_core.specs.State.{State}
-use Rattle.el_core.proofs.Sessions.{waiting}
-use Rattle.el_core.proofs.Turning.{surplus_steps, client_steps, turn_some, turn_none, memory_cause, long_closes, no_line_left}
+use Rattle.std.proofs.Common.{◌∙◌, ap, Ok, Err}
+use Rattle.el_core.proofs.Compared.{nil_if}
 use Rattle.el_core.proofs.server.Server.turn.Goals as goal
+use Rattle.el_core.specs.Turn.{outs_of, closing_of}
+use Rattle.el_core.proofs.Causes.{waiting, none_ordered_before, none_given, none_unread, reply_other, found_memory, peers_long}
+use Rattle.el_core.proofs.Peers.{none_ordered}
+use Rattle.el_lines.specs.LineStates.{as_listed}
+use Rattle.std.proofs.Common.{length, ◌==◌}
+use Rattle.el_core.specs.State.{State}
+use Rattle.el_core.proofs.Noded.{ahead_failed}
+use Rattle.el_core.proofs.Turned.{ahead_turned, node_turned, peers_turned, peers_ended, node_failed, peers_idle, unread_failed, ahead_less, line_less}
 
-pub returns-in-Some-clause-step : goal.returns-in-Some-clause-step
-returns-in-Some-clause-step c = λ world left stands.
-    surplus_steps c.args.self.now c.take_surplus.new.self world left c.in-Some.p (sym c.take_surplus.ensures.value ∙ c.in-Some.is) c.take_surplus.ensures.after stands
+pub returns-in-Ok-clause-step : goal.returns-in-Ok-clause-step
+returns-in-Ok-clause-step g c = λ world left stood told.
+    let a = g.A.Archive in
+    let l = g.G.Ledger in
+    let e = c.in-Ok.ensures in
+    ahead_turned l.is_live l.height l.tip l.buckets l.stands l.tells_crash l.means l.moment l.left_since l.faults a.tells c.args.self.now c.turn_ahead.new.self world left
+    (a.bytes c.args.archive.now) (a.bytes c.turn_ahead.new.archive) (a.faults c.args.archive.now) (a.faults c.turn_ahead.new.archive) (outs_of c.in-Ok.outs)
+    stood told e.keeps e.disk_rose.uncounted e.some e.same e.moving
 
-pub returns-in-Some-clause-long : goal.returns-in-Some-clause-long
-returns-in-Some-clause-long c = λ world p rest stands client kept.
-    absurd (no_line_left c.args.self.now world rest p c.in-Some.p _ (sym c.take_surplus.ensures.value ∙ c.in-Some.is) stands)
+pub returns-in-Ok-clause-less : goal.returns-in-Ok-clause-less
+returns-in-Ok-clause-less g c = ahead_less c.args.self.now c.turn_ahead.new.self c.in-Ok.ensures.fewer c.in-Ok.ensures.same
 
-pub returns-in-Some-clause-waiting : goal.returns-in-Some-clause-waiting
-returns-in-Some-clause-waiting c = λ world p rest stands. waiting c.args.self.now world p rest stands
+pub returns-in-Err-clause-failed : goal.returns-in-Err-clause-failed
+returns-in-Err-clause-failed g c = λ world left stood told.
+    let a = g.A.Archive in
+    let l = g.G.Ledger in
+    let e = c.in-Err.ensures in
+    ahead_failed l.stands l.tells_crash l.means l.moment l.left_since a.tells l.is_live c.args.self.now c.turn_ahead.new.self.ledger world left (a.bytes c.turn_ahead.new.archive)
+    (a.faults c.args.archive.now) (a.faults c.turn_ahead.new.archive) (l.faults c.args.self.now.ledger) (l.faults c.turn_ahead.new.self.ledger) c.in-Err.fault
+    (λ none. e.some (stood.ahead ∙ none))
+    (record { archive = e.archive_rose; disk = λ is. e.disk_rose.counted (ap Err is); others = λ other. e.disk_rose.others_uncounted other })
+    (λ is. e.still_live (ap Err is)) (rw stood.ahead at (e.stopped world.chain stood.chain))
 
-pub returns-in-None-clause-step : goal.returns-in-None-clause-step
-returns-in-None-clause-step c =
-    turn_some c.args.self.now c.turn_client.new.self c.turn_client.result (c.turn_client.ensures.surplus ∙ ap (λ (t : State). t.surplus) c.take_surplus.ensures.after)
-    (λ world left stands. client_steps c.args.self.now c.take_surplus.new.self c.turn_client.new.self c.turn_client.result world left
-    (sym c.take_surplus.ensures.value ∙ c.in-None.is) c.take_surplus.ensures.after c.turn_client.ensures.chain c.turn_client.ensures.surplus c.turn_client.ensures.steps stands)
+pub returns-in-Err-next_line-clause-failed : goal.returns-in-Err-next_line-clause-failed
+returns-in-Err-next_line-clause-failed g c = λ world left stood told.
+    let a = g.A.Archive in
+    let l = g.G.Ledger in
+    unread_failed l.is_live l.height l.tip l.buckets l.stands l.tells_crash l.means l.moment l.left_since l.faults a.tells c.args.self.now c.next_line.new.self world left
+    (a.bytes c.args.archive.now) (a.faults c.args.archive.now) c.requires.live (λ m n d t h i j. g.met.G.Ledger.leaves_own m n d t h i j) c.in-Err-next_line.ensures.refused stood c.in-Err-next_line.ensures.line
 
-pub returns-in-None-clause-done : goal.returns-in-None-clause-done
-returns-in-None-clause-done c =
-    turn_none c.args.self.now c.turn_client.new.self c.turn_client.result (c.turn_client.ensures.surplus ∙ ap (λ (t : State). t.surplus) c.take_surplus.ensures.after)
-    (λ world left stands. client_steps c.args.self.now c.take_surplus.new.self c.turn_client.new.self c.turn_client.result world left
-    (sym c.take_surplus.ensures.value ∙ c.in-None.is) c.take_surplus.ensures.after c.turn_client.ensures.chain c.turn_client.ensures.surplus c.turn_client.ensures.steps stands)
+pub returns-in-Ok-None-clause-step : goal.returns-in-Ok-None-clause-step
+returns-in-Ok-None-clause-step g c = λ world left stood told.
+    let a = g.A.Archive in
+    let l = g.G.Ledger in
+    let all = rw c.in-Ok-None.field-0-is at c.in-Ok-None.ensures.none in
+    let unchanged = rw c.in-Ok-None.field-0-is at c.in-Ok-None.ensures.unchanged in
+    let p = rw unchanged at c.turn_peers.ensures.peers in
+    let q = rw unchanged at c.turn_peers.ensures.quiet in
+    let s = rw unchanged at c.turn_peers.ensures.same in
+    peers_turned l.is_live l.height l.tip l.buckets l.stands l.tells_crash l.means l.moment l.left_since l.faults a.tells c.args.self.now c.turn_peers.new.self world left
+    (a.bytes c.args.archive.now) (a.faults c.args.archive.now) c.turn_peers.result stood told (nil_if c.args.self.now.ahead c.is_empty.result c.if-not-is_empty.false (c.is_empty.ensures ∙ ap (λ (s : State g.row.G.Denot). length s.ahead == 0) c.self.view_is)) all s q p
 
-pub returns-in-None-clause-memory : goal.returns-in-None-clause-memory
-returns-in-None-clause-memory c =
-    memory_cause c.args.self.now c.take_surplus.new.self c.turn_client.new.self c.turn_client.result (sym c.take_surplus.ensures.value ∙ c.in-None.is)
-    c.take_surplus.ensures.after c.turn_client.ensures.steps
+pub returns-in-Ok-None-clause-done : goal.returns-in-Ok-None-clause-done
+returns-in-Ok-None-clause-done g c = λ world left stood.
+    let a = g.A.Archive in
+    let l = g.G.Ledger in
+    let all = rw c.in-Ok-None.field-0-is at c.in-Ok-None.ensures.none in
+    let unchanged = rw c.in-Ok-None.field-0-is at c.in-Ok-None.ensures.unchanged in
+    let p = rw unchanged at c.turn_peers.ensures.peers in
+    let q = rw unchanged at c.turn_peers.ensures.quiet in
+    let s = rw unchanged at c.turn_peers.ensures.same in
+    peers_ended l.is_live l.height l.tip l.buckets l.stands l.tells_crash l.means l.moment l.left_since l.faults a.tells c.args.self.now c.turn_peers.new.self world left
+    c.turn_peers.result stood (nil_if c.args.self.now.ahead c.is_empty.result c.if-not-is_empty.false (c.is_empty.ensures ∙ ap (λ (s : State g.row.G.Denot). length s.ahead == 0) c.self.view_is)) all s q p
 
-pub returns-in-None-clause-long : goal.returns-in-None-clause-long
-returns-in-None-clause-long c =
-    long_closes c.args.self.now c.take_surplus.new.self c.turn_client.new.self c.turn_client.result (sym c.take_surplus.ensures.value ∙ c.in-None.is)
-    c.take_surplus.ensures.after c.turn_client.ensures.steps
+pub returns-in-Ok-None-clause-idle : goal.returns-in-Ok-None-clause-idle
+returns-in-Ok-None-clause-idle g c =
+    let unchanged = rw c.in-Ok-None.field-0-is at c.in-Ok-None.ensures.unchanged in
+    let s = rw unchanged at c.turn_peers.ensures.same in
+    peers_idle c.args.self.now c.turn_peers.new.self c.turn_peers.result (nil_if c.args.self.now.ahead c.is_empty.result c.if-not-is_empty.false (c.is_empty.ensures ∙ ap (λ (s : State g.row.G.Denot). length s.ahead == 0) c.self.view_is)) s c.turn_peers.ensures.done
 
-pub returns-in-None-clause-waiting : goal.returns-in-None-clause-waiting
-returns-in-None-clause-waiting c = λ world p rest stands. waiting c.args.self.now world p rest stands
+pub returns-in-Ok-turn_node-clause-step : goal.returns-in-Ok-turn_node-clause-step
+returns-in-Ok-turn_node-clause-step g c = λ world left stood told.
+    let a = g.A.Archive in
+    let l = g.G.Ledger in
+    let e = c.in-Ok-turn_node.ensures in
+    node_turned l.is_live l.height l.tip l.buckets l.stands l.tells_crash l.means l.moment l.left_since l.faults a.tells c.args.self.now c.next_line.new.self c.turn_node.new.self world left
+    (a.bytes c.args.archive.now) (a.bytes c.turn_node.new.archive) (a.faults c.args.archive.now) (a.faults c.turn_node.new.archive) (outs_of c.in-Ok-turn_node.outs) (as_listed c.in-Ok-Some.met)
+    stood told e.keeps e.disk_rose.uncounted e.still c.in-Ok-Some.ensures.same c.in-Ok-Some.ensures.limit (rw c.in-Ok-Some.field-0-is at c.in-Ok-Some.ensures.met) e.same e.node_turn
+
+pub returns-in-Ok-turn_node-clause-less : goal.returns-in-Ok-turn_node-clause-less
+returns-in-Ok-turn_node-clause-less g c =
+    let e = c.in-Ok-turn_node.ensures in
+    line_less c.args.self.now c.next_line.new.self c.turn_node.new.self c.in-Ok-Some.ensures.same (rw c.in-Ok-Some.field-0-is at c.in-Ok-Some.ensures.consumed) e.fewer e.more e.same
+
+pub returns-in-Err-turn_node-clause-failed : goal.returns-in-Err-turn_node-clause-failed
+returns-in-Err-turn_node-clause-failed g c = λ world left stood told.
+    let a = g.A.Archive in
+    let l = g.G.Ledger in
+    let e = c.in-Err-turn_node.ensures in
+    node_failed l.is_live l.height l.tip l.buckets l.stands l.tells_crash l.means l.moment l.left_since l.faults a.tells c.args.self.now c.next_line.new.self c.turn_node.new.self.ledger world left
+    (a.bytes c.turn_node.new.archive) (a.faults c.args.archive.now) (a.faults c.turn_node.new.archive) (as_listed c.in-Ok-Some.met) c.in-Err-turn_node.fault
+    stood e.still c.in-Ok-Some.ensures.same c.in-Ok-Some.ensures.limit (rw c.in-Ok-Some.field-0-is at c.in-Ok-Some.ensures.met)
+    (record { archive = e.archive_rose; disk = λ is. e.disk_rose.counted (ap Err is); others = λ other. e.disk_rose.others_uncounted other })
+    (λ is. e.still_live (ap Err is)) e.stopped
+
+pub returns-in-Ok-clause-waiting : goal.returns-in-Ok-clause-waiting
+returns-in-Ok-clause-waiting g c = λ world p rest stood. waiting g.G.Ledger.stands c.args.self.now world p rest stood
+
+pub returns-in-Err-clause-waiting : goal.returns-in-Err-clause-waiting
+returns-in-Err-clause-waiting g c = λ world p rest stood. waiting g.G.Ledger.stands c.args.self.now world p rest stood
+
+pub returns-in-Err-next_line-clause-waiting : goal.returns-in-Err-next_line-clause-waiting
+returns-in-Err-next_line-clause-waiting g c = λ world p rest stood. waiting g.G.Ledger.stands c.args.self.now world p rest stood
+
+pub returns-in-Ok-None-clause-waiting : goal.returns-in-Ok-None-clause-waiting
+returns-in-Ok-None-clause-waiting g c = λ world p rest stood. waiting g.G.Ledger.stands c.args.self.now world p rest stood
+
+pub returns-in-Ok-turn_node-clause-waiting : goal.returns-in-Ok-turn_node-clause-waiting
+returns-in-Ok-turn_node-clause-waiting g c = λ world p rest stood. waiting g.G.Ledger.stands c.args.self.now world p rest stood
+
+pub returns-in-Err-turn_node-clause-waiting : goal.returns-in-Err-turn_node-clause-waiting
+returns-in-Err-turn_node-clause-waiting g c = λ world p rest stood. waiting g.G.Ledger.stands c.args.self.now world p rest stood
+
+pub returns-in-Ok-clause-memory : goal.returns-in-Ok-clause-memory
+returns-in-Ok-clause-memory g c = λ world left p stood told.
+    let t = c.in-Ok.ensures.moving world.chain stood.chain in
+    absurd (reply_other (outs_of c.in-Ok.outs) 0 p t.0 t.1 (ap closing_of told))
+
+pub returns-in-Ok-clause-long : goal.returns-in-Ok-clause-long
+returns-in-Ok-clause-long g c = λ world p rest stood still is kept. absurd (c.in-Ok.ensures.some (stood.ahead ∙ still))
+
+pub returns-in-Err-clause-long : goal.returns-in-Err-clause-long
+returns-in-Err-clause-long g c = λ world p rest stood still is kept. absurd (c.in-Err.ensures.some (stood.ahead ∙ still))
+
+pub returns-in-Err-next_line-clause-long : goal.returns-in-Err-next_line-clause-long
+returns-in-Err-next_line-clause-long g c = λ world p rest stood still is kept.
+    let n = none_ordered_before g.G.Ledger.stands c.args.self.now world p _ rest stood in
+    absurd (none_unread c.args.self.now.node world.heard stood.ordered stood.node n.0 c.in-Err-next_line.ensures.line)
+
+pub returns-in-Ok-None-clause-memory : goal.returns-in-Ok-None-clause-memory
+returns-in-Ok-None-clause-memory g c = λ world left p stood.
+    let all = rw c.in-Ok-None.field-0-is at c.in-Ok-None.ensures.none in
+    let unchanged = rw c.in-Ok-None.field-0-is at c.in-Ok-None.ensures.unchanged in
+    let turn = rw unchanged at c.turn_peers.ensures.peers in
+    found_memory g.G.Ledger.stands c.args.self.now c.turn_peers.new.self world left world.chain _ c.turn_peers.result p stood
+    (none_ordered c.args.self.now.node world.heard stood.ordered stood.node all) (turn world.chain stood.chain)
+
+pub returns-in-Ok-None-clause-long : goal.returns-in-Ok-None-clause-long
+returns-in-Ok-None-clause-long g c = λ world p rest stood still is kept.
+    let unchanged = rw c.in-Ok-None.field-0-is at c.in-Ok-None.ensures.unchanged in
+    let turn = rw unchanged at c.turn_peers.ensures.peers in
+    let l = peers_long g.G.Ledger.stands c.args.self.now c.turn_peers.new.self world p rest world.chain _ c.turn_peers.result stood is kept (turn world.chain stood.chain) in
+    (l.0, ap Ok l.1, l.2)
+
+pub returns-in-Ok-turn_node-clause-memory : goal.returns-in-Ok-turn_node-clause-memory
+returns-in-Ok-turn_node-clause-memory g c = λ world left p stood told.
+    let t = c.in-Ok-turn_node.ensures.node_turn world.chain (rw (ap (λ (s : State g.row.G.Denot). s.ledger) c.in-Ok-Some.ensures.same) stood.chain) in
+    absurd (reply_other (outs_of c.in-Ok-turn_node.outs) 0 p t.0 t.1 (ap closing_of told))
+
+pub returns-in-Ok-turn_node-clause-long : goal.returns-in-Ok-turn_node-clause-long
+returns-in-Ok-turn_node-clause-long g c = λ world p rest stood still is kept.
+    let n = none_ordered_before g.G.Ledger.stands c.args.self.now world p _ rest stood in
+    absurd (none_given c.args.self.now.node c.next_line.new.self.node world.heard stood.ordered _ stood.node n.0 (rw c.in-Ok-Some.field-0-is at c.in-Ok-Some.ensures.met))
+
+pub returns-in-Err-turn_node-clause-long : goal.returns-in-Err-turn_node-clause-long
+returns-in-Err-turn_node-clause-long g c = λ world p rest stood still is kept.
+    let n = none_ordered_before g.G.Ledger.stands c.args.self.now world p _ rest stood in
+    absurd (none_given c.args.self.now.node c.next_line.new.self.node world.heard stood.ordered _ stood.node n.0 (rw c.in-Ok-Some.field-0-is at c.in-Ok-Some.ensures.met))

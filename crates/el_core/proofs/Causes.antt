@@ -1,0 +1,215 @@
+-- Why a client is closed by a turn.
+use Rattle.std.proofs.Common.{◌≡◌, ◌⊎◌, inl, inr, ℕ, ◌+◌, ◌≤◌, ◌==◌, true, false, List, [], ◌∷◌, ◌++◌, length, map, drop, Option, Some, None, ap, sym, ◌∙◌, subst, eqb-true}
+use Rattle.std.specs.Prelude.{IfSome}
+use Rattle.std.specs.List.{slice_get}
+use Rattle.el_outside.specs.Story.{Closing}
+use Rattle.el_outside.specs.declared.link.Why.TheVariants as why
+use Rattle.el_chain.specs.Chains.{Chain}
+use Rattle.el_model.specs.Lines.{LineEvent, line, too_long, lines}
+use Rattle.el_model.specs.NodeAnswers.{node_limit}
+use Rattle.el_model.specs.World as model
+use Rattle.el_model.specs.World.{World, Event, joins, says, orders, closes_long, closes_surplus, reply_to, is_client, line_limit}
+use Rattle.el_model.specs.Run.{closes_memory, IsNodesTurn}
+use Rattle.el_model.proofs.Cuts.{either}
+use Rattle.el_lines.specs.LineStates.{LineState}
+use Rattle.el_lines.specs.declared.line_buffer.LineEvent.TheVariants as event
+use Rattle.el_core.specs.State.{State, ClientState, HearsLeft, in_order, losing, SessionsAre, NodeLeaves, Stands}
+use Rattle.el_core.specs.Turn.{HasLost, MeetsLine, outs_of, closing_of}
+use Rattle.el_core.specs.within.Clients.{Gives, NextIsLine, ClientTurn, ClientSteps, loses, departs, answers, waits, PeersTurn, closes, has_turn}
+use Rattle.el_core.specs.declared.out.Outs as code
+use Rattle.el_core.proofs.Sessions.{left_first, left_none, ordered, all_met}
+
+-- the next event is none of the node's: then no line of the node is left
+said_next : (b : LineState) (heard : List ℕ) (own said : List Event) (e : Event) (rest : List Event) → NodeLeaves b heard own → e ∷ rest ≡ own ++ said → ((met : LineEvent) → e ≡ orders met → ⊥)
+    → (own ≡ []) × (said ≡ e ∷ rest)
+said_next b heard own said e rest n is other = by (drop n.given (lines node_limit heard)) n.left_is
+  where
+    by : (ls : List LineEvent) → own ≡ map orders ls → (own ≡ []) × (said ≡ e ∷ rest)
+    by [] o = (o, sym (is ∙ ap (λ (l : List Event). l ++ said) o))
+    by (l ∷ ls) o = absurd (other l (let f = is ∙ ap (λ (x : List Event). x ++ said) o in cc))
+
+nothing_next : (b : LineState) (heard : List ℕ) (own : List Event) (x : LineEvent) (n : NodeLeaves b heard own) → own ≡ [] → slice_get (lines b.limit heard) n.given ≡ Some x → ⊥
+nothing_next b heard own x n none is =
+    let listed = subst (λ (l : ℕ). slice_get (lines l heard) n.given ≡ Some x) n.limit is in
+    let first = left_first orders (lines node_limit heard) n.given x listed in
+    let e = sym none ∙ n.left_is ∙ first in
+    cc
+
+pub none_given : (b next : LineState) (heard : List ℕ) (own : List Event) (x : LineEvent) → NodeLeaves b heard own → own ≡ [] → Gives b x next → ⊥
+none_given b next heard own x n none gives = nothing_next b heard own x n none (gives heard n.given n.at).0
+
+pub none_unread : (b : LineState) (heard : List ℕ) (own : List Event) → NodeLeaves b heard own → own ≡ [] → NextIsLine b → ⊥
+none_unread b heard own n none next_line =
+    let few = subst (λ (l : ℕ). n.given ≤ length (lines l heard)) (sym n.limit) n.few in
+    let g = next_line heard n.given n.at few in
+    nothing_next b heard own (line g.0) n none g.1
+
+-- a whole line of the node is next
+pub nodes_turn : {G : Type 0} (stands : G → Chain → Type 0) (s : State G) (world : World) (left : List Event) → Stands stands s world left → NextIsLine s.node → IsNodesTurn world left
+nodes_turn stands s world left stood next_line =
+    let n = stood.node in
+    let few = subst (λ (l : ℕ). n.given ≤ length (lines l world.heard)) (sym n.limit) n.few in
+    let g = next_line world.heard n.given n.at few in
+    let listed = subst (λ (l : ℕ). slice_get (lines l world.heard) n.given ≡ Some (line g.0)) n.limit g.1 in
+    let first = left_first orders (lines node_limit world.heard) n.given (line g.0) listed in
+    rw (stood.left_is ∙ ap (λ (l : List Event). l ++ stood.said) (n.left_is ∙ first)) tt
+
+orders_no_line : (p : ℕ) (e met : LineEvent) → ◌≡◌ {A = Event} (says p e) (orders met) → ⊥
+orders_no_line p e met is = cc
+
+orders_no_joining : (p : ℕ) (met : LineEvent) → ◌≡◌ {A = Event} (joins p) (orders met) → ⊥
+orders_no_joining p met is = cc
+
+-- ---- why a client is closed
+
+same_outs : (o p : code.Outs) → ◌≡◌ {A = Option code.Outs} (Some o) (Some p) → o ≡ p
+same_outs o p e = cc
+
+no_outs : (o : code.Outs) → ◌≡◌ {A = Option code.Outs} (Some o) None → ⊥
+no_outs o e = cc
+
+-- the closing of what a turn gives
+abbrev CloseIs : Option Closing → ℕ → Type 0
+CloseIs found p = found ≡ Some (record { peer = p; why = why.Memory })
+
+closing_is : (o o' : code.Outs) (outs : model.Outs) (p : ℕ) → ◌≡◌ {A = Option code.Outs} (Some o) (Some o') → outs_of o' ≡ outs → CloseIs (outs_of o).closing p → CloseIs outs.closing p
+closing_is o o' outs p some is told =
+    let e : outs_of o ≡ outs = ap outs_of (same_outs o o' some) ∙ is in
+    ap (λ (x : model.Outs). x.closing) (sym e) ∙ told
+
+one_closing : (x y : Closing) → ◌≡◌ {A = Option Closing} (Some x) (Some y) → x ≡ y
+one_closing x y e = cc
+
+same_peer : (p q : ℕ) → CloseIs (closes_memory p).closing q → p ≡ q
+same_peer p q e = ap (λ (x : Closing). x.peer) (one_closing _ _ e)
+
+long_other : (p q : ℕ) → CloseIs (closes_long p).closing q → ⊥
+long_other p q e = let w : why.Long ≡ why.Memory = ap (λ (x : Closing). x.why) (one_closing _ _ e) in cc
+
+surplus_other : (p q : ℕ) → CloseIs (closes_surplus p).closing q → ⊥
+surplus_other p q e = let w : why.Clients ≡ why.Memory = ap (λ (x : Closing). x.why) (one_closing _ _ e) in cc
+
+pub reply_other : (o : model.Outs) (p q : ℕ) (text : List ℕ) → o ≡ reply_to p text → CloseIs o.closing q → ⊥
+reply_other o p q text is told = let e = ap (λ (x : model.Outs). x.closing) (sym is) ∙ told in cc
+
+-- the next event is a whole line
+meets : (c : ClientState) (heard : List ℕ) (left : List Event) (p : ℕ) → c.lost ≡ false → c.buffer.limit ≡ line_limit → HearsLeft c heard left → NextIsLine c.buffer → c.peer ≡ p → MeetsLine p left
+meets c heard left p kept limit hears next_line is =
+    let o = ordered c heard left kept hears in
+    let few = subst (λ (l : ℕ). o.given ≤ length (lines l heard)) (sym limit) o.few in
+    let g = next_line heard o.given o.at few in
+    let listed : slice_get (lines line_limit heard) o.given ≡ Some (line g.0) = subst (λ (l : ℕ). slice_get (lines l heard) o.given ≡ Some (line g.0)) limit g.1 in
+    rw (← is) (record {
+      bytes = g.0;
+      rest = map (says c.peer) (drop (o.given + 1) (lines line_limit heard));
+      is = o.left_is ∙ left_first (says c.peer) (lines line_limit heard) o.given (line g.0) listed;
+    })
+
+gives_line : (c : ClientState) (b : LineState) (bytes : List ℕ) → Gives c.buffer (line bytes) b → NextIsLine c.buffer
+gives_line c b bytes gives = λ fed given at few. (bytes, (gives fed given at).0)
+
+memory_of : (chain : Chain) (rose : ℕ → Type 0) (c : ClientState) (o : code.Outs) (next : Option ClientState) (world : World) (left : List Event) (p : ℕ) → SessionsAre (Some c) None world.sessions left
+    → ClientTurn chain rose c (Some o) next → CloseIs (outs_of o).closing p → HasLost p (Some c) ⊎ MeetsLine p left
+memory_of chain rose c o next world left p are (loses o' lost some is gone still) told = inl (same_peer c.peer p (closing_is o o' _ p some is told), lost)
+memory_of chain rose c o next world left p are (departs o' kept next_line some is gone still) told =
+    inr (meets c are.heard left p kept are.limit are.leaves_left next_line (same_peer c.peer p (closing_is o o' _ p some is told)))
+memory_of chain rose c o next world left p are (answers o' (event.Line bytes) b kept limit gives (inl a) some) told =
+    absurd (reply_other (outs_of o) c.peer p a.0.0 (ap outs_of (same_outs o o' some) ∙ a.0.2) told)
+memory_of chain rose c o next world left p are (answers o' (event.Line bytes) b kept limit gives (inr a) some) told =
+    inr (meets c are.heard left p kept are.limit are.leaves_left (gives_line c b bytes gives) (same_peer c.peer p (closing_is o o' _ p some a.0 told)))
+memory_of chain rose c o next world left p are (answers o' (event.TooLong most) b kept limit gives a some) told =
+    absurd (long_other c.peer p (closing_is o o' _ p some a.0 told))
+memory_of chain rose c o next world left p are (waits idle none same still) told = absurd (no_outs o none)
+
+other_event : (p q : ℕ) (bytes : List ℕ) (xs ys : List Event) → ◌≡◌ {A = List Event} (says p too_long ∷ xs) (says q (line bytes) ∷ ys) → ⊥
+other_event p q bytes xs ys e = cc
+
+-- what a turn gives closes this client for a line that is too long
+abbrev LongBy : ℕ → Option code.Outs → Type 0
+LongBy p o = (o' : code.Outs) × (o ≡ Some o') × (outs_of o' ≡ closes_long p)
+
+long_of : (chain : Chain) (rose : ℕ → Type 0) (c : ClientState) (o : Option code.Outs) (next : Option ClientState) (world : World) (rest : List Event) (p : ℕ)
+    → SessionsAre (Some c) None world.sessions (says p too_long ∷ rest) → c.peer ≡ p → (HasLost p (Some c) → ⊥) → ClientTurn chain rose c o next → LongBy p o
+long_of chain rose c o next world rest p are same kept (loses o' lost some is gone still) = absurd (kept (same, lost))
+long_of chain rose c o next world rest p are same kept (departs o' k next_line some is gone still) =
+    let m = meets c are.heard (says p too_long ∷ rest) p k are.limit are.leaves_left next_line same in
+    absurd (other_event p p m.bytes rest m.rest m.is)
+long_of chain rose c o next world rest p are same kept (answers o' (event.Line bytes) b k limit gives a some) =
+    let m = meets c are.heard (says p too_long ∷ rest) p k are.limit are.leaves_left (gives_line c b bytes gives) same in
+    absurd (other_event p p m.bytes rest m.rest m.is)
+long_of chain rose c o next world rest p are same kept (answers o' (event.TooLong most) b k limit gives a some) = (o', some, a.0 ∙ ap closes_long same)
+long_of chain rose c o next world rest p are same kept (waits idle none same_client still) =
+    let d = ordered c are.heard (says p too_long ∷ rest) idle.kept are.leaves_left in
+    let none_after = left_none (says c.peer) (lines line_limit are.heard) d.given (all_met c are.heard d.given are.limit idle.given_all d.at) in
+    absurd (let e = d.left_is ∙ none_after in cc)
+
+-- the one client is that peer
+is_one : (c : ClientState) (world : World) (heard : List ℕ) (p : ℕ) → world.sessions ≡ record { peer = c.peer; heard = heard } ∷ [] → is_client p world ≡ true → c.peer ≡ p
+is_one c world heard p alone client = elim (either (c.peer == p)) [
+  | inl h ↦ eqb-true c.peer p h
+  | inr h ↦ absurd (let e = rw (alone, h) at client in cc)
+]
+
+long_by : (chain : Chain) (rose : ℕ → Type 0) (client : Option ClientState) (o : Option code.Outs) (next : Option ClientState) (world : World) (rest : List Event) (p : ℕ)
+    → SessionsAre client None world.sessions (says p too_long ∷ rest) → is_client p world ≡ true → (HasLost p client → ⊥) → ClientSteps chain rose client o next → LongBy p o
+long_by chain rose None o next world rest p are is kept steps = absurd (let e = rw are.0 at is in cc)
+long_by chain rose (Some c) o next world rest p are is kept steps = long_of chain rose c o next world rest p are (is_one c world are.heard p are.alone is) kept steps
+
+-- while a client too many waits, no line is left
+no_line : (client : Option ClientState) (world : World) (rest : List Event) (p q : ℕ) (e : LineEvent) → SessionsAre client (Some q) world.sessions (says p e ∷ rest) → ⊥
+no_line None world rest p q e are = are
+no_line (Some c) world rest p q e are = let f = are.leaves_left.joins_is in cc
+
+-- who joins is the one too many
+no_joining : (q p : ℕ) (ls : List LineEvent) (rest : List Event) → joins p ∷ rest ≡ map (says q) ls → ⊥
+no_joining q p [] rest e = cc
+no_joining q p (l ∷ ls) rest e = cc
+
+joined : (q p : ℕ) (rest : List Event) → ◌≡◌ {A = List Event} (joins p ∷ rest) (joins q ∷ []) → q ≡ p
+joined q p rest e = cc
+
+waits_hears : (c : ClientState) (heard : List ℕ) (rest : List Event) (p : ℕ) → HearsLeft c heard (joins p ∷ rest) → ⊥
+waits_hears c heard rest p (in_order given kept at few is) = no_joining c.peer p (drop given (lines line_limit heard)) rest is
+waits_hears c heard rest p (losing lost all_said) = all_said.0
+
+waits_by : (client : Option ClientState) (surplus : Option ℕ) (world : World) (p : ℕ) (rest : List Event) → SessionsAre client surplus world.sessions (joins p ∷ rest) → surplus ≡ Some p
+waits_by None None world p rest are = absurd are.1.0.1
+waits_by None (Some q) world p rest are = absurd are
+waits_by (Some c) None world p rest are = absurd (waits_hears c are.heard rest p are.leaves_left)
+waits_by (Some c) (Some q) world p rest are = ap Some (joined q p rest are.leaves_left.joins_is)
+
+module _ {G : Type 0} (stands : G → Chain → Type 0) where
+  pub waiting : (s : State G) (world : World) (p : ℕ) (rest : List Event) → Stands stands s world (joins p ∷ rest) → s.surplus ≡ Some p
+  waiting s world p rest stood =
+      let n = said_next s.node world.heard stood.ordered stood.said (joins p) rest stood.node stood.left_is (orders_no_joining p) in
+      waits_by s.client s.surplus world p rest (rw n.1 at stood.sessions)
+
+  -- a line of a client is next: then none of the node's is
+  pub none_ordered_before : (s : State G) (world : World) (p : ℕ) (e : LineEvent) (rest : List Event) (stood : Stands stands s world (says p e ∷ rest))
+      → (stood.ordered ≡ []) × (stood.said ≡ says p e ∷ rest)
+  none_ordered_before s world p e rest stood = said_next s.node world.heard stood.ordered stood.said (says p e) rest stood.node stood.left_is (orders_no_line p e)
+
+  pub peers_memory : (old new : State G) (world : World) (left : List Event) (chain : Chain) (rose : ℕ → Type 0) (o : code.Outs) (p : ℕ) (stood : Stands stands old world left) → stood.ordered ≡ []
+      → PeersTurn chain rose old (Some o) new → CloseIs (outs_of o).closing p → HasLost p old.client ⊎ MeetsLine p left
+  peers_memory old new world left chain rose o p stood none (closes q o' is some outs_is next still) told = absurd (surplus_other q p (closing_is o o' _ p some outs_is told))
+  peers_memory old new world left chain rose o p stood none (has_turn unused steps next) told =
+      let l : left ≡ stood.said = stood.left_is ∙ ap (λ (x : List Event). x ++ stood.said) none in
+      rw l (by old.client (rw unused at stood.sessions) steps)
+    where
+      by : (client : Option ClientState) → SessionsAre client None world.sessions stood.said → ClientSteps chain rose client (Some o) new.client → HasLost p client ⊎ MeetsLine p stood.said
+      by None are s = absurd (no_outs o s.0)
+      by (Some c) are s = memory_of chain rose c o new.client world stood.said p are s told
+
+  pub peers_long : (old new : State G) (world : World) (p : ℕ) (rest : List Event) (chain : Chain) (rose : ℕ → Type 0) (o : Option code.Outs) → Stands stands old world (says p too_long ∷ rest)
+      → is_client p world ≡ true → (HasLost p old.client → ⊥) → PeersTurn chain rose old o new → LongBy p o
+  peers_long old new world p rest chain rose o stood is kept (closes q o' waits_q some outs_is next still) =
+      let n = none_ordered_before old world p too_long rest stood in
+      absurd (no_line old.client world rest p q too_long (rw (waits_q, n.1) at stood.sessions))
+  peers_long old new world p rest chain rose o stood is kept (has_turn unused steps next) =
+      let n = none_ordered_before old world p too_long rest stood in
+      long_by chain rose old.client o new.client world rest p (rw (unused, n.1) at stood.sessions) is kept steps
+
+  pub found_memory : (old new : State G) (world : World) (left : List Event) (chain : Chain) (rose : ℕ → Type 0) (o : Option code.Outs) (p : ℕ) (stood : Stands stands old world left) → stood.ordered ≡ []
+      → PeersTurn chain rose old o new → IfSome o (λ out. out.close ≡ Some (p, why.Memory) → HasLost p old.client ⊎ MeetsLine p left)
+  found_memory old new world left chain rose None p stood none turn = tt
+  found_memory old new world left chain rose (Some o) p stood none turn = λ told. peers_memory old new world left chain rose o p stood none turn (ap closing_of told)

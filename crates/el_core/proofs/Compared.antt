@@ -1,0 +1,253 @@
+-- The chain compared with a path.
+use Rattle.std.proofs.Common.{◌≡◌, ◌⊎◌, inl, inr, ℕ, zero, suc, ◌+◌, ◌-◌, ◌<◌, ◌≤◌, true, false, Bool, List, [], ◌∷◌, length, take, drop, get_or, Option, None, Some, Result, Ok, Err, rules, refl, sym, ap, ◌∙◌, arith, ◌==◌, eqb-true, eq-eqb}
+use Rattle.std.proofs.lemmas.List.{take_all, drop_all, get_or_default}
+use Rattle.std.specs.Prelude.{IsTrue, ◌↔◌}
+use Rattle.std.specs.List.{AllByRecursion}
+use Rattle.std.specs.Result.{IfOk, IfErr}
+use Rattle.el_base.specs.declared.hash.Hash32.{Hash32}
+use Rattle.el_base.specs.Hashing.{sha256d}
+use Rattle.el_base.proofs.Lists.{left_at}
+use Rattle.el_outside.specs.Moments.{LeavesOnly}
+use Rattle.el_outside.proofs.Moments.{started, joined, weaker}
+use Rattle.el_chain.specs.declared.node.Node.{Node}
+use Rattle.el_chain.specs.declared.placed.Placed.{Placed}
+use Rattle.el_block.specs.Blocks.{block_hash}
+use Rattle.el_chain.specs.Chains.{Chain, tip, tip_after, zero_hash}
+use Rattle.el_chain.specs.Headers.{AreLinked, same_hash, IsPath, genesis}
+use Rattle.el_chain.specs.Moves.{shorter, last_hash, max_back}
+use Rattle.el_tx.specs.Headers.{header_encoding}
+use Rattle.el_model.specs.Keeping.{Quiet, Either}
+use Rattle.el_model.specs.Plans.{common, back_of, rest_of, IsMoving, blocks_in}
+use Rattle.el_model.specs.Queries.{header_at, height_of}
+use Rattle.el_core.specs.Turn.{LeadsTo}
+use Rattle.el_core.specs.declared.fault.StepFault.{StepFault}
+use Rattle.el_core.specs.within.Moving.{MoveTurn, PathTurn, moves, committed, refused, failed, MoveFailed, PathFailed}
+use Rattle.el_core.specs.declared.moving.Step.{Step}
+use Rattle.el_core.specs.within.Moving.{NodeTurn, wrong, later}
+use Rattle.el_model.specs.Lines.{line}
+use Rattle.el_model.specs.NodeAnswers.{line_refused, at_answer}
+use Rattle.el_model.specs.NodeLines as said
+use Rattle.el_model.specs.World.{IsSaid}
+use Rattle.el_core.proofs.Moved.{linked_after, all_after}
+
+-- the rest of a path is linked
+pub drop_linked : (path rest : List Node) → AreLinked zero_hash path → (n : ℕ) × (rest ≡ drop n path) → (x : Hash32) × AreLinked x rest
+drop_linked path rest h end = (last_hash zero_hash (take end.0 path), rw end.1 (linked_after end.0 zero_hash path h))
+
+pub drop_nodes : (P : Node → Type 0) (path rest : List Node) → AllByRecursion P path → (n : ℕ) × (rest ≡ drop n path) → AllByRecursion P rest
+drop_nodes P path rest h end = rw end.1 (all_after P end.0 path h)
+
+-- and where nothing is taken back, it is linked to the tip
+same_is : (a b : Hash32) → same_hash a b ≡ true → a ≡ b
+same_is a b h = ap (λ (l : List ℕ). record { 0 = l }) (search rules)
+
+common_linked : (before : Hash32) (chain : Chain) (path : List Node) → AreLinked before path → length chain ≤ common chain path
+    → AreLinked (tip_after before chain) (drop (common chain path) path)
+common_linked before [] path h le = h
+common_linked before (b ∷ bs) [] h le = absurd (omega arith)
+common_linked before (b ∷ bs) (n ∷ ns) h le = by (same_hash (block_hash b.block.header) n.hash) refl (λ few. common_linked n.hash bs ns h.1 few)
+  where
+    by : (s : Bool) → same_hash (block_hash b.block.header) n.hash ≡ s → (length bs ≤ common bs ns → AreLinked (tip_after n.hash bs) (drop (common bs ns) ns))
+        → AreLinked (tip_after (block_hash b.block.header) bs) (drop (common (b ∷ bs) (n ∷ ns)) (n ∷ ns))
+    by true e go =
+        let is = same_is (block_hash b.block.header) n.hash e in
+        let few : length bs ≤ common bs ns = let l = rw e at le in omega arith in
+        rw (e, is) (go few)
+    by false e go = let l = rw e at le in absurd (omega arith)
+
+-- the plan of a path fits the chain where few enough blocks are to be taken back
+pub rest_fits : (chain : Chain) (path rest : List Node) (back : ℕ) → back ≤ max_back → back ≡ back_of chain path → rest ≡ rest_of chain path → AreLinked zero_hash path
+    → (back ≤ length chain) × AreLinked (tip (shorter back chain)) rest
+rest_fits chain path rest back few is rest_is linked =
+    let none : back ≡ 0 = omega arith in
+    let all : length chain ≤ common chain path = omega arith in
+    let whole : shorter back chain ≡ chain = rw none (ap (λ n. take n chain) (let e : length chain - 0 ≡ length chain = omega arith in e) ∙ take_all (length chain) chain (omega arith)) in
+    let fits : AreLinked (tip (shorter back chain)) rest = rw (whole, rest_is) (common_linked zero_hash chain path linked all) in
+    (omega arith, fits)
+
+pub moving_any : (b : ℕ) (ns : List Node) → (ns ≡ [] → ⊥) → IsMoving b ns
+moving_any zero [] some = absurd (some refl)
+moving_any zero (n ∷ ns) some = tt
+moving_any (suc b) ns some = tt
+
+pub along_moves : (tells : Type 0) (files : ℕ → List ℕ) (chain : Chain) (path rest left : List Node) (back : ℕ) (stands : Chain → Type 0) (rose : ℕ → Type 0) (text : List ℕ) → back ≤ max_back
+    → back ≡ back_of chain path → rest ≡ rest_of chain path → (rest ≡ [] → ⊥) → MoveTurn tells files chain back rest stands left rose text → PathTurn tells files chain path stands left rose text
+along_moves tells files chain path rest left back stands rose text few is rest_is some turn =
+    moves (rw (← is) few) (rw (← rest_is) (moving_any (back_of chain path) rest some)) (rw (is, rest_is) at turn)
+
+pub along_failed : (tells : Type 0) (files : ℕ → List ℕ) (chain : Chain) (path rest : List Node) (back : ℕ) (leads leaves : Chain → Type 0) (e : StepFault)
+    → back ≡ back_of chain path → rest ≡ rest_of chain path → MoveFailed tells files chain back rest leads leaves e → PathFailed tells files chain path leads leaves e
+along_failed tells files chain path rest back leads leaves e is rest_is f = record { next = f.next; flight = rw (is, rest_is) at f.flight; crash = f.crash; stood = f.stood }
+
+pub if_ok_map : {T E : Type 0} (r : Result T E) (P Q : T → Type 0) → ((x : T) → P x → Q x) → IfOk r P → IfOk r Q
+if_ok_map (Ok x) P Q f h = f x h
+if_ok_map (Err e) P Q f h = tt
+
+pub if_err_map : {T E : Type 0} (r : Result T E) (P Q : E → Type 0) → ((x : E) → P x → Q x) → IfErr r P → IfErr r Q
+if_err_map (Ok x) P Q f h = tt
+if_err_map (Err e) P Q f h = f e h
+
+-- a path is linked from its first node on, which names no block
+pub path_linked : (found path : List Node) (h : Hash32) → IsPath found h path → AreLinked zero_hash path
+path_linked found path h p = rw p.whole (names_zero found p.first p.begins, p.linked)
+  where
+    by : (found : List Node) (x n : Node) (s : Bool) → same_hash x.header.previous zero_hash ≡ s → genesis (x ∷ found) ≡ Some n
+        → (genesis found ≡ Some n → n.header.previous ≡ zero_hash) → n.header.previous ≡ zero_hash
+    by found x n true is e go =
+        let one : x ≡ n = (let f = rw is at e in cc) in
+        rw (← one) (same_is x.header.previous zero_hash is)
+    by found x n false is e go = go (let f = rw is at e in f)
+
+    names_zero : (found : List Node) (n : Node) → genesis found ≡ Some n → n.header.previous ≡ zero_hash
+    names_zero [] n e = absurd (let f = e in cc)
+    names_zero (x ∷ xs) n e = by xs x n (same_hash x.header.previous zero_hash) refl e (names_zero xs n)
+
+-- ---- comparing
+
+pub blocks_are : (chain : Chain) → blocks_in (height_of chain) ≡ length chain
+blocks_are [] = refl
+blocks_are (b ∷ bs) = omega arith
+
+block_here : (chain : Chain) (i : ℕ) (text : List ℕ) → header_at chain i ≡ Some text → (b : Placed) × (drop i chain ≡ b ∷ drop (i + 1) chain) × (header_encoding b.block.header ≡ text)
+block_here [] i text h = absurd (let e = h in cc)
+block_here (b ∷ bs) zero text h = (b, refl, (let e = h in cc))
+block_here (b ∷ bs) (suc i) text h =
+    let r = block_here bs i text h in
+    (r.0, r.1 ∙ ap (λ n. r.0 ∷ drop n (b ∷ bs)) (let e : suc (i + 1) ≡ suc i + 1 = omega arith in e), r.2)
+
+node_there : (path : List Node) (i : ℕ) (n d : Node) → i < length path → n ≡ get_or path i d → drop i path ≡ n ∷ drop (i + 1) path
+node_there path i n d lt is = left_at path i n lt (is ∙ get_or_default path i d n lt)
+
+hash_same : (a b : Hash32) → a ≡ b → same_hash a b ≡ true
+hash_same a b e = search rules
+
+hash_other : (a b : Hash32) → (a ≡ b → ⊥) → same_hash a b ≡ false
+hash_other a b no_eq = by (same_hash a b) refl
+  where
+    by : (s : Bool) → same_hash a b ≡ s → same_hash a b ≡ false
+    by true e = absurd (no_eq (same_is a b e))
+    by false e = e
+
+-- one block more is the same
+pub common_more : (chain : Chain) (path : List Node) (i : ℕ) (n d : Node) (text : List ℕ) → i < length path → n ≡ get_or path i d → header_at chain i ≡ Some text
+    → record { 0 = sha256d text } ≡ n.hash → common chain path ≡ i + common (drop i chain) (drop i path) → common chain path ≡ (i + 1) + common (drop (i + 1) chain) (drop (i + 1) path)
+common_more chain path i n d text lt is header same so_far =
+    let b = block_here chain i text header in
+    let hash : block_hash b.0.block.header ≡ n.hash = ap (λ (t : List ℕ). record { 0 = sha256d t }) b.2 ∙ same in
+    let yes_same = hash_same (block_hash b.0.block.header) n.hash hash in
+    let one : common (drop i chain) (drop i path) ≡ suc (common (drop (i + 1) chain) (drop (i + 1) path)) = rw (b.1, node_there path i n d lt is, yes_same) refl in
+    so_far ∙ ap (λ m. i + m) one ∙ (let e : i + suc (common (drop (i + 1) chain) (drop (i + 1) path)) ≡ (i + 1) + common (drop (i + 1) chain) (drop (i + 1) path) = omega arith in e)
+
+-- the next block is another
+pub common_other : (chain : Chain) (path : List Node) (i : ℕ) (n d : Node) (text : List ℕ) → i < length path → n ≡ get_or path i d → header_at chain i ≡ Some text
+    → (record { 0 = sha256d text } ≡ n.hash → ⊥) → common chain path ≡ i + common (drop i chain) (drop i path) → i ≡ common chain path
+common_other chain path i n d text lt is header other so_far =
+    let b = block_here chain i text header in
+    let no_same : same_hash (block_hash b.0.block.header) n.hash ≡ false =
+    hash_other (block_hash b.0.block.header) n.hash (λ e. other (ap (λ (t : List ℕ). record { 0 = sha256d t }) (sym b.2) ∙ e)) in
+    let none : common (drop i chain) (drop i path) ≡ 0 = rw (b.1, node_there path i n d lt is, no_same) refl in
+    (let e : i ≡ i + 0 = omega arith in e) ∙ ap (λ m. i + m) (sym none) ∙ sym so_far
+
+-- the chain has no more blocks
+pub common_short : (chain : Chain) (path : List Node) (i : ℕ) → length chain ≤ i → common chain path ≡ i + common (drop i chain) (drop i path) → i ≡ common chain path
+common_short chain path i le so_far =
+    (let e : i ≡ i + 0 = omega arith in e) ∙ ap (λ (l : Chain). i + common l (drop i path)) (sym (drop_all i chain le)) ∙ sym so_far
+
+-- the path has no more nodes
+pub common_ends : (chain : Chain) (path : List Node) (i : ℕ) → length path ≤ i → common chain path ≡ i + common (drop i chain) (drop i path) → i ≡ common chain path
+common_ends chain path i le so_far =
+    (let e : i ≡ i + 0 = omega arith in e) ∙ ap (λ m. i + m) (sym (rw (drop_all i path le) (none_common (drop i chain)))) ∙ sym so_far
+  where
+    none_common : (c : Chain) → common c [] ≡ 0
+    none_common [] = refl
+    none_common (b ∷ bs) = refl
+
+pub other_hash : (r : Bool) (P : Type 0) → r ≡ false → IsTrue r ↔ P → P → ⊥
+other_hash true P e b p = let f = e in cc
+other_hash false P e b p = let t = b.1 p in search rules
+
+pub this_hash : (r : Bool) (P : Type 0) → r ≡ true → IsTrue r ↔ P → P
+this_hash true P e b = b.0 (search rules)
+this_hash false P e b = absurd (let f = e in cc)
+
+-- ---- calls that leave a ledger as it was
+
+module _ {G C : Type 0} (is_live : G → Type 0) (height : G → Option ℕ) (tip_at : G → Option Hash32) (buckets : G → ℕ) (stands : G → Chain → Type 0) (tells_crash : Type 0)
+    (means : C → Chain → Type 0) (moment : G → ℕ) (left_since : G → ℕ → C → Type 0) where
+  -- no call does
+  pub quiet_none : (a : G) → is_live a
+      → ((l : G) (chain : Chain) (left : C) → tells_crash → is_live l → stands l chain → left_since l (moment l) left → means left chain)
+      → Quiet is_live height tip_at buckets stands tells_crash means moment left_since a a
+  quiet_none a live own = record {
+    stays = record {
+      still_live = λ x. x;
+      was_live = λ x. x;
+      same_height = refl;
+      same_tip = refl;
+      same_buckets = refl;
+      still_stands = λ chain x. x;
+      stood = λ chain x. x;
+    };
+    crash = λ told chain stood. started moment left_since a (λ c. means c chain) (λ c left. own a chain c told live stood left);
+  }
+
+  -- two calls do
+  pub quiet_on : (a b c : G) → Quiet is_live height tip_at buckets stands tells_crash means moment left_since a b
+      → Quiet is_live height tip_at buckets stands tells_crash means moment left_since b c → Quiet is_live height tip_at buckets stands tells_crash means moment left_since a c
+  quiet_on a b c s t = record {
+    stays = record {
+      still_live = λ x. t.stays.still_live (s.stays.still_live x);
+      was_live = λ x. s.stays.was_live (t.stays.was_live x);
+      same_height = t.stays.same_height ∙ s.stays.same_height;
+      same_tip = t.stays.same_tip ∙ s.stays.same_tip;
+      same_buckets = t.stays.same_buckets ∙ s.stays.same_buckets;
+      still_stands = λ chain x. t.stays.still_stands chain (s.stays.still_stands chain x);
+      stood = λ chain x. s.stays.stood chain (t.stays.stood chain x);
+    };
+    crash = λ told chain stood. joined moment left_since a b c (λ d. means d chain) (s.crash told chain stood) (t.crash told chain (s.stays.still_stands chain stood));
+  }
+
+  -- and a later call leads on from there
+  pub leaves_on : (a b c : G) (chain next : Chain) → Quiet is_live height tip_at buckets stands tells_crash means moment left_since a b → stands a chain
+      → (tells_crash → LeavesOnly moment left_since b c (Either means chain next)) → tells_crash → LeavesOnly moment left_since a c (Either means chain next)
+  leaves_on a b c chain next s stood then told =
+      joined moment left_since a b c (Either means chain next)
+      (weaker moment left_since a b (λ d. means d chain) (Either means chain next) (λ d m. inl m) (s.crash told chain stood)) (then told)
+
+  pub leads_on : (a b c : G) (chain next : Chain) → Quiet is_live height tip_at buckets stands tells_crash means moment left_since a b → stands a chain
+      → LeadsTo stands tells_crash means moment left_since b c chain next → LeadsTo stands tells_crash means moment left_since a c chain next
+  leads_on a b c chain next s stood then = record { stood = then.stood; crash = leaves_on a b c chain next s stood then.crash }
+
+-- ---- what is so of more
+
+pub move_map : (tells : Type 0) (files : ℕ → List ℕ) (chain : Chain) (back : ℕ) (rest left : List Node) (P Q : Chain → Type 0) (rose : ℕ → Type 0) (text : List ℕ)
+    → ((next : Chain) → P next → Q next) → MoveTurn tells files chain back rest P left rose text → MoveTurn tells files chain back rest Q left rose text
+move_map tells files chain back rest left P Q rose text gives (committed blocks put led is text_is still) = committed blocks put (gives _ led) is text_is still
+move_map tells files chain back rest left P Q rose text gives (refused e says why led none still) = refused e says why (gives chain led) none still
+move_map tells files chain back rest left P Q rose text gives (failed led none text_is one) = failed (gives chain led) none text_is one
+
+pub failed_map : (tells : Type 0) (files : ℕ → List ℕ) (chain : Chain) (back : ℕ) (rest : List Node) (P Q R S : Chain → Type 0) (e : StepFault)
+    → ((next : Chain) → P next → Q next) → ((next : Chain) → R next → S next) → MoveFailed tells files chain back rest P R e → MoveFailed tells files chain back rest Q S e
+failed_map tells files chain back rest P Q R S e leads leaves f = record { next = f.next; flight = f.flight; crash = leaves f.next f.crash; stood = λ m. leads f.next (f.stood m) }
+
+-- whether there are none
+pub nil_if : (xs : List Node) (b : Bool) → b ≡ true → b ≡ (length xs == 0) → xs ≡ []
+nil_if [] b yes_b is = refl
+nil_if (x ∷ xs) b yes_b is = absurd (let e = eqb-true (length (x ∷ xs)) 0 (sym is ∙ yes_b) in omega arith)
+
+pub some_if : (xs : List Node) (b : Bool) → b ≡ false → b ≡ (length xs == 0) → xs ≡ [] → ⊥
+some_if xs b no_b is none =
+    let e = sym no_b ∙ is ∙ eq-eqb (length xs) 0 (ap (λ (l : List Node). length l) none) in
+    cc
+
+pub at_is : (t u : Option Hash32) (h i : Option ℕ) → t ≡ u → h ≡ i → at_answer t h ≡ at_answer u i
+at_is t u h i same same' = rw (same, same') refl
+
+-- a line that is refused as none of a node
+pub refused_so : (r : Result Step StepFault) (tells : Type 0) (fb fa : ℕ → List ℕ) (magic : List ℕ) (found : List Node) (chain : Chain) (bytes tx : List ℕ) (stands : Chain → Type 0) (rose : ℕ → Type 0)
+    → IsSaid bytes None ⊎ (IsSaid bytes (Some (said.tx tx)) ⊎ IsSaid bytes (Some (said.dropped tx)))
+    → IfOk r (λ s. s.text ≡ line_refused) → IfOk r (λ s. s.left ≡ []) → stands chain → rose 0
+    → IfOk r (λ s. NodeTurn tells fb fa magic found chain (line bytes) found stands s.left rose s.text)
+refused_so (Err e) tells fb fa magic found chain bytes tx stands rose why text left led still = tt
+refused_so (Ok s) tells fb fa magic found chain bytes tx stands rose (inl nothing_said) text left led still = wrong bytes refl nothing_said refl led left text still
+refused_so (Ok s) tells fb fa magic found chain bytes tx stands rose (inr reads) text left led still = later bytes tx refl reads refl led left text still

@@ -1,0 +1,7 @@
+use Rattle.std.proofs.Common.{refl}
+use Rattle.el_core.proofs.Arriving.{new_stands}
+use Rattle.el_core.proofs.server.Server.new.Goals as goal
+
+pub returns-clause-stands : goal.returns-clause-stands
+returns-clause-stands g c = λ chain files stood.
+    new_stands g.G.Ledger.stands _ chain c.args.magic c.args.tree files stood refl refl c.none.ensures refl refl c.new.ensures.limit c.new.ensures.at

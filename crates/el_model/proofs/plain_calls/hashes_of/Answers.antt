@@ -1,0 +1,13 @@
+use Rattle.std.proofs.Common.{arith, rules}
+use Rattle.el_chain.specs.declared.placed.Placed.{Placed}
+use Rattle.el_block.specs.Blocks.{block_hash}
+use Rattle.el_model.proofs.Mapped.{mapped_more, mapped_all}
+use Rattle.el_model.proofs.plain_calls.hashes_of.Goals as goal
+
+pub loop-placed-preserved : goal.loop-placed-preserved
+loop-placed-preserved c =
+    mapped_more (λ (b : Placed). block_hash b.block.header) c.args.blocks.now c.loop-placed.placed-index c.placed-item.result c.loop-placed.found.items c.push.new.self.items _ c.loop-placed-test.true c.placed-item.is
+    (search rules) c.loop-placed.invariant
+
+pub returns : goal.returns
+returns c = mapped_all (λ (b : Placed). block_hash b.block.header) c.args.blocks.now c.loop-placed.placed-index c.loop-placed.found.items _ (let e = c.loop-placed-test.false in omega arith) c.loop-placed.invariant

@@ -1,0 +1,7 @@
+-- What the server keeps of a client.
+use Rattle.std.specs.Prelude.{ℕ, List}
+
+-- a connected client: its number, and all bytes that it has sent since it came, in order
+pub record Session : Type 0 where
+  pub peer : ℕ
+  pub heard : List ℕ

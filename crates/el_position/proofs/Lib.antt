@@ -1,0 +1,2 @@
+pub mod TxSteps
+pub mod Answered

@@ -1,0 +1,13 @@
+//! Transactions by number and by txid, in the rows of an index.
+#![tactic(auto)]
+
+mod add;
+mod lookup;
+mod take_back;
+
+pub use add::add_tx;
+pub use lookup::newest;
+pub use take_back::take_back_tx;
+
+#[cfg(test)]
+mod tests;

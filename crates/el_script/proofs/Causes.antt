@@ -1,0 +1,114 @@
+-- The number of a script, and when a table has no place for a row.
+use Rattle.std.proofs.Common.{◌≡◌, inl, inr, ℕ, ◌+◌, ◌<◌, ◌≤◌, Bool, true, false, List, [], ◌∷◌, ◌++◌, length, Option, None, Some, refl, ap, ap₂, sym, ◌∙◌, arith, length-append}
+use Rattle.std.specs.Option.{option_or}
+use Rattle.std.proofs.lemmas.Bool.{lt-ltb, le-ltb}
+use Rattle.el_base.specs.declared.hash.Hash32.{Hash32}
+use Rattle.el_chain.specs.Faults.{full}
+use Rattle.el_chain.specs.RowCounts.{has_script}
+use Rattle.el_chain.specs.declared.fault.ConnectFault.{ConnectFault}
+use Rattle.el_chain.specs.declared.fault.ConnectFault.TheVariants as connect
+use Rattle.el_tables.specs.ChainLists.{ListedBlock}
+use Rattle.el_tables.specs.Fits.{Fits, Once}
+use Rattle.el_tables.specs.Lists.{Lists, add_entry, script_number, is_tx, last_tx_of}
+use Rattle.el_tables.specs.Tables.{HeadCounts}
+use Rattle.el_tables.proofs.FitLemmas.{new_has_no_entry, script_found}
+use Rattle.el_tables.proofs.ScriptEdits.{touch_new}
+use Rattle.el_rows.specs.Tables as held
+use Rattle.el_rows.specs.declared.table.Table.TheVariants as table
+use Rattle.el_buckets.specs.Faults.{NotAdded}
+use Rattle.el_buckets.specs.Rows.{Hold}
+use Rattle.el_buckets.specs.Buckets.{newest_of}
+use Rattle.el_script.specs.Touches.{touch_full}
+use Rattle.el_script.specs.within.RowSteps.{IsEntryFault, IsScriptFault}
+use Rattle.el_script.proofs.ScriptSteps.{many_scripts, many_entries}
+
+-- 1. Numbers
+
+-- there is no newest where the script isn't there
+pub newest_none : (s : Hash32) (ss : List Hash32) → Once ss → newest_of s ss ≡ None → has_script s ss ≡ false
+newest_none s ss once none = by (has_script s ss) (sym (script_found s ss once) ∙ none)
+  where
+    by : (b : Bool) → Rattle.std.proofs.Common.cond b (Some (script_number s ss)) None ≡ None → b ≡ false
+    by true is = cc
+    by false is = refl
+
+-- and else it has the script's number
+pub newest_some : (s : Hash32) (ss : List Hash32) (n : ℕ) → Once ss → newest_of s ss ≡ Some n → (has_script s ss ≡ true) × (n ≡ script_number s ss)
+newest_some s ss n once some = by (has_script s ss) (sym (script_found s ss once) ∙ some)
+  where
+    by : (b : Bool) → Rattle.std.proofs.Common.cond b (Some (script_number s ss)) None ≡ Some n → (b ≡ true) × (n ≡ script_number s ss)
+    by true is = (refl, cc)
+    by false is = cc
+
+-- 2. Tables at their limit
+
+full_none : (k n : ℕ) → n ≤ 4294967295 → full k n ≡ None
+full_none k n le = let few = le-ltb 4294967295 n le in rw few refl
+
+full_some : (k n : ℕ) → n ≡ 4294967296 → full k n ≡ Some (connect.Full k 4294967295)
+full_some k n at = let many = lt-ltb 4294967295 n (omega arith) in rw many refl
+
+same_fault : (e : ConnectFault) (a b t rows : ℕ) → e ≡ connect.Full a b → e ≡ connect.Full t rows → Some (connect.Full a b) ≡ Some (connect.Full t rows)
+same_fault e a b t rows x y = ap (λ (f : ConnectFault). Some f) (sym x ∙ y)
+
+not_memory : (e : ConnectFault) (t rows : ℕ) → e ≡ connect.Memory → e ≡ connect.Full t rows → ⊥
+not_memory e t rows x y = let both : connect.Memory ≡ connect.Full t rows = sym x ∙ y in cc
+
+pub not_disk : (e : ConnectFault) (t rows : ℕ) → e ≡ connect.DiskFailed → e ≡ connect.Full t rows → ⊥
+not_disk e t rows x y = let both : connect.DiskFailed ≡ connect.Full t rows = sym x ∙ y in cc
+
+-- where all tables are within their limits after the step, none was full
+pub room_left : (counts : HeadCounts) (bs : List ListedBlock) (s : Hash32) (tx : ℕ) (l : Lists) (new : held.Tables) → Hold counts bs (add_entry s tx l) new
+    → length (new table.Scripts) ≤ 4294967295 → length (new table.Entries) ≤ 4294967295 → touch_full s tx l ≡ None
+room_left counts bs s tx l new hold a b =
+    let m = add_entry s tx l in
+    let c = many_scripts counts bs m new hold in
+    let d = many_entries counts bs m new hold in
+    ap₂ (λ (x y : Option ConnectFault). option_or x y) (full_none 6 (length m.scripts) (omega arith)) (full_none 8 (length m.entries) (omega arith))
+
+-- a script that isn't there, or its first entry, has no place
+pub full_new : (counts : HeadCounts) (bs : List ListedBlock) (s : Hash32) (tx : ℕ) (l : Lists) (old : held.Tables) (e : ConnectFault) (t rows : ℕ) → Hold counts bs l old
+    → Fits l → has_script s l.scripts ≡ false → IsScriptFault old e → e ≡ connect.Full t rows → touch_full s tx l ≡ Some (connect.Full t rows)
+full_new counts bs s tx l old e t rows hold fits fresh fault is =
+    let c = many_scripts counts bs l old hold in
+    let d = many_entries counts bs l old hold in
+    let added = touch_new l s tx fresh (new_has_no_entry l.scripts l.entries fits.numbered) in
+    let more_scripts : length (add_entry s tx l).scripts ≡ length l.scripts + 1 = ap (λ (m : Lists). length m.scripts) added ∙ length-append l.scripts (s ∷ []) in
+    let more_entries : length (add_entry s tx l).entries ≡ length l.entries + 1 = ap (λ (m : Lists). length m.entries) added ∙ length-append l.entries (record { tx = tx; script = length l.scripts } ∷ []) in
+    let entries_part : NotAdded table.Entries (length (old table.Entries)) e → length (old table.Scripts) < 4294967295 → touch_full s tx l ≡ Some (connect.Full t rows) =
+    λ why few. elim why [
+      | inl entries ↦
+          let at = entries.0 in
+          ap₂ (λ (x y : Option ConnectFault). option_or x y) (full_none 6 (length (add_entry s tx l).scripts) (omega arith)) (full_some 8 (length (add_entry s tx l).entries) (omega arith))
+          ∙ same_fault e 8 4294967295 t rows entries.1 is
+      | inr memory ↦ absurd (not_memory e t rows memory.1 is)
+    ] in
+    elim fault [
+      | inl why ↦ elim why [
+        | inl scripts ↦
+            let at = scripts.0 in
+            ap (λ (x : Option ConnectFault). option_or x (full 8 (length (add_entry s tx l).entries))) (full_some 6 (length (add_entry s tx l).scripts) (omega arith))
+            ∙ same_fault e 6 4294967295 t rows scripts.1 is
+        | inr memory ↦ absurd (not_memory e t rows memory.1 is)
+      ]
+      | inr rest ↦ entries_part rest.1 rest.0
+    ]
+
+-- another entry of a script that is there has no place
+pub full_known : (counts : HeadCounts) (bs : List ListedBlock) (s : Hash32) (n tx : ℕ) (l : Lists) (old : held.Tables) (e : ConnectFault) (t rows : ℕ) → Hold counts bs l old
+    → has_script s l.scripts ≡ true → n ≡ script_number s l.scripts → is_tx tx (last_tx_of n l.entries) ≡ false → length (old table.Scripts) ≤ 4294967295
+    → IsEntryFault old e → e ≡ connect.Full t rows → touch_full s tx l ≡ Some (connect.Full t rows)
+full_known counts bs s n tx l old e t rows hold known n_is fresh few fault is =
+    let c = many_scripts counts bs l old hold in
+    let d = many_entries counts bs l old hold in
+    let same_scripts : length (add_entry s tx l).scripts ≡ length l.scripts = rw known refl in
+    let apart : is_tx tx (last_tx_of (script_number s l.scripts) l.entries) ≡ false = ap (λ (k : ℕ). is_tx tx (last_tx_of k l.entries)) (sym n_is) ∙ fresh in
+    let longer = length-append l.entries (record { tx = tx; script = script_number s l.scripts } ∷ []) in
+    let more_entries : length (add_entry s tx l).entries ≡ length l.entries + 1 = rw apart longer in
+    elim fault [
+      | inl entries ↦
+          let at = entries.0 in
+          ap₂ (λ (x y : Option ConnectFault). option_or x y) (full_none 6 (length (add_entry s tx l).scripts) (omega arith)) (full_some 8 (length (add_entry s tx l).entries) (omega arith))
+          ∙ same_fault e 8 4294967295 t rows entries.1 is
+      | inr memory ↦ absurd (not_memory e t rows memory.1 is)
+    ]

@@ -1,0 +1,91 @@
+// A script or an entry more.
+ghost use Rattle.std.specs.Prelude.{◌≡◌, ◌<◌, ◌≤◌, ◌+◌, ◌⊎◌, ◌^◌, ℕ, length, OnOk, IfErr};
+ghost use Rattle.el_rows.specs.RowBytes.{link_number, FitsScriptRow};
+ghost use Rattle.el_rows.specs.Tables.{limit_of, number_of};
+ghost use Rattle.el_rows.specs.Transaction.{tables_in};
+ghost use Rattle.el_rows.specs.declared.table.Table.{Table};
+ghost use Rattle.el_script.specs.within.RowSteps.{ScriptMore, EntryMore, ThreeStay, IsEntryFault, IsScriptFault};
+
+use crate::row::{append_entry, put_script};
+use el_base::Hash32;
+use el_buckets::{Buckets, push};
+use el_chain::ConnectFault;
+use el_rows::{EntryRow, Rows, ScriptRow, Table, Txn};
+
+// The table is full.
+fn full(t: Table) -> ConnectFault
+    ensures { result ≡ ConnectFault.Full (number_of t) (limit_of t) }
+{
+    ConnectFault::Full {
+        table: t.number(),
+        rows: t.limit(),
+    }
+}
+
+// Adds a script with its first entry. After a fault the transaction may hold a part.
+pub(crate) fn add_script<R: Rows>(
+    t: &mut Txn<'_, R>,
+    s: &Hash32,
+    next: Option<u64>,
+    tx: u64,
+) -> Result<(), ConnectFault>
+    requires tx { tx < 2 ^ 32 }
+    requires next { link_number next < 2 ^ 32 }
+    ensures added { OnOk result (ScriptMore s.now next tx (tables_in t.old) (tables_in t.new)) }
+    ensures others { ThreeStay (tables_in t.old) (tables_in t.new) }
+    ensures fault { IfErr result (λ e. IsScriptFault (tables_in t.old) e) }
+    ensures rows { t.new.rows.now ≡ t.old.rows.now }
+    ensures name { t.new.rows.ghost_name ≡ t.old.rows.ghost_name }
+{
+    let script = t.count(Table::Scripts);
+    if script == Table::Scripts.limit() {
+        return Err(full(Table::Scripts));
+    }
+    let entry = EntryRow {
+        tx,
+        script,
+        before: None,
+    };
+    let last = append_entry(t, &entry)?;
+    let Hash32(hash) = *s;
+    let row = ScriptRow {
+        script: Hash32(hash),
+        next,
+        last: Some(last),
+        entries: 1,
+        balance: 0,
+    };
+    let mut bytes = [0; 52];
+    row.write(&mut bytes);
+    push(t, Buckets::ScriptHashes, s, &bytes)?;
+    Ok(())
+}
+
+// Adds an entry of a script that is there, which has this row. After a fault the transaction may hold a part.
+pub(crate) fn add_known<R: Rows>(
+    t: &mut Txn<'_, R>,
+    script: u64,
+    row: &ScriptRow,
+    before: Option<u64>,
+    tx: u64,
+) -> Result<(), ConnectFault>
+    requires below { script < length (tables_in t.old Table.Scripts) }
+    requires few { script < 2 ^ 32 }
+    requires fits { FitsScriptRow row.now }
+    requires before { link_number before < 2 ^ 32 }
+    requires tx { tx < 2 ^ 32 }
+    ensures added { OnOk result (EntryMore script row.now before tx (tables_in t.old) (tables_in t.new)) }
+    ensures others { ThreeStay (tables_in t.old) (tables_in t.new) }
+    ensures fault { IfErr result (λ e. IsEntryFault (tables_in t.old) e) }
+    ensures rows { t.new.rows.now ≡ t.old.rows.now }
+    ensures name { t.new.rows.ghost_name ≡ t.old.rows.ghost_name }
+{
+    let last = append_entry(t, &EntryRow { tx, script, before })?;
+    let entered = ScriptRow {
+        last: Some(last),
+        entries: (row.entries + 1).min(u64::from(u32::MAX)),
+        ..*row
+    };
+    put_script(t, script, &entered)?;
+    Ok(())
+}

@@ -1,0 +1,139 @@
+// An entry less.
+ghost use Rattle.std.specs.Prelude.{◌≡◌, ◌≢◌, ◌<◌, ◌≤◌, ◌+◌, ◌-◌, ◌^◌, [], ℕ, List, length, get_or, slice_set, ◌⊎◌, OnOk, OnErr, IfErr, IsOk};
+ghost use Rattle.el_outside.specs.Counts.{CountsOnly};
+ghost use Rattle.el_rows.specs.Changes.{OnTable};
+ghost use Rattle.el_rows.specs.RowBytes.{script_row_bytes, FitsScriptRow};
+ghost use Rattle.el_rows.specs.Transaction.{tables_in, OnlyReads};
+ghost use Rattle.el_rows.specs.declared.script_row.ScriptRow as script_shape;
+ghost use Rattle.el_rows.specs.declared.table.Table.{Table};
+ghost use Rattle.el_tables.specs.ChainLists.{ListedBlock};
+ghost use Rattle.el_tables.specs.Disconnecting as back;
+ghost use Rattle.el_tables.specs.Fits.{IsNumbered};
+ghost use Rattle.el_tables.specs.Lists.{Lists};
+ghost use Rattle.el_tables.specs.Tables.{HeadCounts};
+ghost use Rattle.el_buckets.specs.Buckets.{OthersStay, Popped, below};
+ghost use Rattle.el_buckets.specs.Rows.{Hold};
+ghost use Rattle.el_script.specs.within.RowSteps.{left_row, IsStepFault};
+
+use crate::row::{entry_row, put_script, script_row};
+use el_base::Steps;
+use el_buckets::{Buckets, if_below, pop};
+use el_chain::ConnectFault;
+use el_rows::{Rows, ScriptRow, Table, Txn};
+use std::sync::ledger::Ledger;
+
+// The script of that number has one entry less, and its last is this one. A script that isn't there stays
+// away. After a fault nothing has changed.
+fn leave_entry<R: Rows, L: Ledger>(
+    t: &mut Txn<'_, R>,
+    script: u64,
+    before: u64,
+    steps: &mut Steps<L>,
+) -> Result<(), ConnectFault>
+    requires live { R.is_live t.old.rows.now }
+    requires before { before + 1 < 2 ^ 32 }
+    ensures left { R.tells → script < length (tables_in t.old Table.Scripts)
+        → (r : script_shape.ScriptRow) → FitsScriptRow r
+        → script_row_bytes r ≡ get_or (tables_in t.old Table.Scripts) script []
+        → OnOk result (tables_in t.new Table.Scripts
+        ≡ slice_set (tables_in t.old Table.Scripts) script (script_row_bytes (left_row before r))) }
+    ensures away { length (tables_in t.old Table.Scripts) ≤ script
+        → OnOk result (tables_in t.new ≡ tables_in t.old) }
+    ensures others { (u : Table) → u ≢ Table.Scripts → tables_in t.new u ≡ tables_in t.old u }
+    ensures err { OnErr result (tables_in t.new ≡ tables_in t.old) }
+    ensures fault { IfErr result IsStepFault }
+    ensures reads { OnlyReads t.old t.new }
+    ensures name { t.new.rows.ghost_name ≡ t.old.rows.ghost_name }
+    ensures ticked { steps.old ≤ steps.new }
+    ensures tick { steps.new ≤ steps.old + 1 }
+    ensures cause { CountsOnly (R.faults t.old.rows.now) (R.faults t.new.rows.now) ConnectFault.DiskFailed
+        result }
+{
+    if script >= t.count(Table::Scripts) {
+        return Ok(());
+    }
+    let row = script_row(t, script, steps)?;
+    let left = ScriptRow {
+        last: Some(before),
+        entries: row.entries.saturating_sub(1),
+        ..row
+    };
+    put_script(t, script, &left)?;
+    Ok(())
+}
+
+// The last script goes, if there is one. After a fault nothing has changed.
+fn drop_script<R: Rows, L: Ledger>(
+    t: &mut Txn<'_, R>,
+    steps: &mut Steps<L>,
+) -> Result<(), ConnectFault>
+    requires live { R.is_live t.old.rows.now }
+    ensures dropped { (n : ℕ) (r : script_shape.ScriptRow) → R.tells
+        → length (tables_in t.old Table.Scripts) ≡ n + 1 → FitsScriptRow r
+        → script_row_bytes r ≡ get_or (tables_in t.old Table.Scripts) n []
+        → OnOk result (Popped Buckets.ScriptHashes r.script n (below n r.next) (tables_in t.old)
+        (tables_in t.new)) }
+    ensures none { length (tables_in t.old Table.Scripts) ≡ 0
+        → OnOk result (tables_in t.new ≡ tables_in t.old) }
+    ensures others { OthersStay Table.Scripts Table.ScriptHeads (tables_in t.old) (tables_in t.new) }
+    ensures err { OnErr result (tables_in t.new ≡ tables_in t.old) }
+    ensures fault { IfErr result IsStepFault }
+    ensures reads { OnlyReads t.old t.new }
+    ensures name { t.new.rows.ghost_name ≡ t.old.rows.ghost_name }
+    ensures ticked { steps.old ≤ steps.new }
+    ensures tick { steps.new ≤ steps.old + 1 }
+    ensures cause { CountsOnly (R.faults t.old.rows.now) (R.faults t.new.rows.now) ConnectFault.DiskFailed
+        result }
+{
+    let count = t.count(Table::Scripts);
+    if count == 0 {
+        return Ok(());
+    }
+    let last = count - 1;
+    let row = script_row(t, last, steps)?;
+    let next = if_below(row.next, last);
+    pop(t, Buckets::ScriptHashes, &row.script, last, next)?;
+    Ok(())
+}
+
+/// Takes the last entry away, and with the first entry of a script this, which is the last; where there is no
+/// entry nothing changes. It reads two rows at most. It fails only for want of memory or a disk fault, and
+/// then nothing has changed.
+pub fn take_back_entry<R: Rows, L: Ledger>(
+    t: &mut Txn<'_, R>,
+    steps: &mut Steps<L>,
+) -> Result<(), ConnectFault>
+    requires live { R.is_live t.old.rows.now }
+    // It is the step of the lists, on all tables.
+    ensures lists { (counts : HeadCounts) (bs : List ListedBlock) (l : Lists) → R.tells
+        → Hold counts bs l (tables_in t.old) → IsNumbered l.scripts l.entries
+        → OnOk result (Hold counts bs (back.take_back_entry l) (tables_in t.new)) }
+    // What follows holds over any rows.
+    ensures none { length (tables_in t.old Table.Entries) ≡ 0
+        → IsOk result × (tables_in t.new ≡ tables_in t.old) }
+    ensures shorter { OnOk result (length (tables_in t.new Table.Entries)
+        ≡ length (tables_in t.old Table.Entries) - 1) }
+    ensures others { (u : Table) → u ≢ Table.Scripts → u ≢ Table.ScriptHeads → u ≢ Table.Entries
+        → tables_in t.new u ≡ tables_in t.old u }
+    ensures err { OnErr result (tables_in t.new ≡ tables_in t.old) }
+    ensures fault { IfErr result (λ e. (e ≡ ConnectFault.DiskFailed) ⊎ (e ≡ ConnectFault.Memory)) }
+    ensures reads { OnlyReads t.old t.new }
+    ensures name { t.new.rows.ghost_name ≡ t.old.rows.ghost_name }
+    ensures ticked { steps.old ≤ steps.new }
+    ensures tick { steps.new ≤ steps.old + 2 }
+    ensures cause { CountsOnly (R.faults t.old.rows.now) (R.faults t.new.rows.now) ConnectFault.DiskFailed
+        result }
+{
+    let count = t.count(Table::Entries);
+    if count == 0 {
+        return Ok(());
+    }
+    let last = count - 1;
+    let entry = entry_row(t, last, steps)?;
+    match if_below(entry.before, last) {
+        Some(before) => leave_entry(t, entry.script, before, steps)?,
+        None => drop_script(t, steps)?,
+    }
+    t.shrink(Table::Entries, last);
+    Ok(())
+}

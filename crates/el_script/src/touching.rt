@@ -1,0 +1,150 @@
+// A transaction of a script.
+ghost use Rattle.std.specs.Prelude.{◌≡◌, ◌≢◌, ◌⊎◌, ◌<◌, ◌≤◌, ◌+◌, ◌^◌, ℕ, List, length, OnOk, IfOk, IfErr, Err, Some, None, true};
+ghost use Rattle.std.specs.Option.{ForSome};
+ghost use Rattle.el_base.specs.declared.hash.Hash32 as hash;
+ghost use Rattle.el_chain.specs.RowCounts.{has_script};
+ghost use Rattle.el_outside.specs.Counts.{CountsOnly};
+ghost use Rattle.el_rows.specs.Tables.{limit_of};
+ghost use Rattle.el_rows.specs.Transaction.{tables_in, OnlyReads};
+ghost use Rattle.el_rows.specs.declared.table.Table.{Table};
+ghost use Rattle.el_tables.specs.ChainLists.{ListedBlock};
+ghost use Rattle.el_tables.specs.Edits.{tx_of_last};
+ghost use Rattle.el_tables.specs.Fits.{Fits};
+ghost use Rattle.el_tables.specs.Lists.{ListedEntry, Lists, add_entry, is_tx, last_tx_of, script_number};
+ghost use Rattle.el_tables.specs.Tables.{HeadCounts};
+ghost use Rattle.el_buckets.specs.Faults.{NotAdded};
+ghost use Rattle.el_buckets.specs.Rows.{Hold};
+ghost use Rattle.el_buckets.specs.Buckets.{bucket_size};
+ghost use Rattle.el_script.specs.Touches.{touch_full};
+ghost use Rattle.el_script.specs.within.RowSteps.{ThreeStay, IsEntryFault};
+
+use crate::adding::{add_known, add_script};
+use crate::row::{entry_row, script_row};
+use el_base::{Hash32, Steps};
+use el_buckets::{Buckets, find, if_below};
+use el_chain::ConnectFault;
+use el_rows::{Rows, Table, Txn};
+use std::sync::ledger::Ledger;
+
+// The entry that the link names is of that transaction.
+fn is_entry_of<R: Rows, L: Ledger>(
+    t: &mut Txn<'_, R>,
+    last: Option<u64>,
+    tx: u64,
+    steps: &mut Steps<L>,
+) -> Result<bool, ConnectFault>
+    requires live { R.is_live t.old.rows.now }
+    requires below { ForSome last (λ n. n < length (tables_in t.old Table.Entries)) }
+    ensures is { (counts : HeadCounts) (bs : List ListedBlock) (l : Lists) (d : ListedEntry) → R.tells
+        → Hold counts bs l (tables_in t.old) → IfOk result (λ b. b ≡ is_tx tx (tx_of_last d l.entries last)) }
+    ensures tables { tables_in t.new ≡ tables_in t.old }
+    ensures fault { IfErr result (λ e. e ≡ ConnectFault.DiskFailed) }
+    ensures reads { OnlyReads t.old t.new }
+    ensures name { t.new.rows.ghost_name ≡ t.old.rows.ghost_name }
+    ensures ticked { steps.old ≤ steps.new }
+    ensures tick { steps.new ≤ steps.old + 1 }
+    ensures cause { CountsOnly (R.faults t.old.rows.now) (R.faults t.new.rows.now) ConnectFault.DiskFailed
+        result }
+{
+    match last {
+        None => Ok(false),
+        Some(n) => Ok(entry_row(t, n, steps)?.tx == tx),
+    }
+}
+
+// Adds an entry of a script that is there, unless its last entry is of that transaction.
+fn touch_known<R: Rows, L: Ledger>(
+    t: &mut Txn<'_, R>,
+    script: u64,
+    tx: u64,
+    steps: &mut Steps<L>,
+) -> Result<(), ConnectFault>
+    requires live { R.is_live t.old.rows.now }
+    requires below { script < length (tables_in t.old Table.Scripts) }
+    requires few { script < 2 ^ 32 }
+    requires tx { tx < 2 ^ 32 }
+    ensures lists { (counts : HeadCounts) (bs : List ListedBlock) (l : Lists) (s : hash.Hash32) → R.tells
+        → Hold counts bs l (tables_in t.old) → has_script s l.scripts ≡ true
+        → script ≡ script_number s l.scripts
+        → OnOk result (Hold counts bs (add_entry s tx l) (tables_in t.new)) }
+    ensures again { (counts : HeadCounts) (bs : List ListedBlock) (l : Lists) → R.tells
+        → Hold counts bs l (tables_in t.old) → is_tx tx (last_tx_of script l.entries) ≡ true
+        → IfErr result (λ e. e ≡ ConnectFault.DiskFailed) }
+    ensures kept { OnOk result (length (tables_in t.new Table.Scripts)
+        ≡ length (tables_in t.old Table.Scripts)) }
+    ensures within { OnOk result (length (tables_in t.new Table.Entries) ≤ limit_of Table.Entries) }
+    ensures others { ThreeStay (tables_in t.old) (tables_in t.new) }
+    ensures fault { IfErr result (λ e. (e ≡ ConnectFault.DiskFailed) ⊎ IsEntryFault (tables_in t.old) e) }
+    ensures reads { OnlyReads t.old t.new }
+    ensures name { t.new.rows.ghost_name ≡ t.old.rows.ghost_name }
+    ensures ticked { steps.old ≤ steps.new }
+    ensures tick { steps.new ≤ steps.old + 2 }
+    ensures cause { CountsOnly (R.faults t.old.rows.now) (R.faults t.new.rows.now) ConnectFault.DiskFailed
+        result }
+{
+    let row = script_row(t, script, steps)?;
+    let last = if_below(row.last, t.count(Table::Entries));
+    if is_entry_of(t, last, tx, steps)? {
+        return Ok(());
+    }
+    add_known(t, script, &row, last, tx)
+}
+
+/// Gives the script's number, and adds one entry for it and the transaction of that number, unless its last
+/// entry is of that transaction. A script that isn't there is added. After a fault the transaction of rows
+/// may hold a part.
+pub fn touch<R: Rows, L: Ledger>(
+    t: &mut Txn<'_, R>,
+    s: &Hash32,
+    tx: u64,
+    steps: &mut Steps<L>,
+) -> Result<u64, ConnectFault>
+    requires live { R.is_live t.old.rows.now }
+    requires tx { tx < 2 ^ 32 }
+    // It is the step of the lists, on all tables.
+    ensures lists { (counts : HeadCounts) (bs : List ListedBlock) (l : Lists) → R.tells
+        → Hold counts bs l (tables_in t.old) → Fits l → 0 < counts.scripts
+        → OnOk result (Hold counts bs (add_entry s.now tx l) (tables_in t.new)) }
+    ensures number { (counts : HeadCounts) (bs : List ListedBlock) (l : Lists) → R.tells
+        → Hold counts bs l (tables_in t.old) → Fits l → 0 < counts.scripts
+        → IfOk result (λ n. n ≡ script_number s.now l.scripts) }
+    // Where a table has no place for its row, the fault is this table's; and `Full` comes only there.
+    ensures room { (counts : HeadCounts) (bs : List ListedBlock) (l : Lists) → R.tells
+        → Hold counts bs l (tables_in t.old) → Fits l → 0 < counts.scripts
+        → OnOk result (touch_full s.now tx l ≡ None) }
+    ensures full { (counts : HeadCounts) (bs : List ListedBlock) (l : Lists) → R.tells
+        → Hold counts bs l (tables_in t.old) → Fits l → 0 < counts.scripts
+        → (table rows : ℕ) → result ≡ Err (ConnectFault.Full table rows)
+        → touch_full s.now tx l ≡ Some (ConnectFault.Full table rows) }
+    // Beside the walk it reads the script's row and its last entry.
+    ensures steps { (counts : HeadCounts) (bs : List ListedBlock) (l : Lists) → R.tells
+        → Hold counts bs l (tables_in t.old) → 0 < counts.scripts
+        → steps.new ≤ steps.old + 3 + bucket_size counts.scripts s.now l.scripts }
+    // What follows holds over any rows.
+    ensures below { IfOk result (λ n. n < length (tables_in t.new Table.Scripts)) }
+    ensures others { (u : Table) → u ≢ Table.Scripts → u ≢ Table.ScriptHeads → u ≢ Table.Entries
+        → tables_in t.new u ≡ tables_in t.old u }
+    ensures fault { IfErr result (λ e. (e ≡ ConnectFault.DiskFailed)
+        ⊎ (NotAdded Table.Scripts (length (tables_in t.old Table.Scripts)) e
+        ⊎ NotAdded Table.Entries (length (tables_in t.old Table.Entries)) e)) }
+    ensures reads { OnlyReads t.old t.new }
+    ensures name { t.new.rows.ghost_name ≡ t.old.rows.ghost_name }
+    ensures ticked { steps.old ≤ steps.new }
+    ensures cause { CountsOnly (R.faults t.old.rows.now) (R.faults t.new.rows.now) ConnectFault.DiskFailed
+        result }
+{
+    let Ok(found) = find(t, Buckets::ScriptHashes, s, steps) else {
+        return Err(ConnectFault::DiskFailed);
+    };
+    let count = t.count(Table::Scripts);
+    match found.newest {
+        None => {
+            add_script(t, s, found.head, tx)?;
+            Ok(count)
+        }
+        Some(script) => {
+            touch_known(t, script, tx, steps)?;
+            Ok(script)
+        }
+    }
+}

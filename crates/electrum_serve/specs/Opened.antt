@@ -1,0 +1,36 @@
+-- What the program knows before the first arrival.
+use Rattle.std.specs.Prelude.{◌≡◌, ℕ, List, [], ◌∷◌}
+use Rattle.std.specs.List.{AllByRecursion}
+use Rattle.el_outside.specs.Files.{AllGrow, IsFile}
+use Rattle.el_chain.specs.declared.node.Node.{Node}
+use Rattle.el_chain.specs.Chains.{Chain}
+use Rattle.el_chain.specs.Faults.{IsGood}
+use Rattle.el_chain.specs.Headers.{added}
+use Rattle.el_chain.specs.Records.{GivesChain, IsNode, records, records_of_files}
+use Rattle.el_files.specs.Scanning.{AllFiles}
+
+-- the nodes that are found once these were added, in their order, to those found before
+abbrev pub all_added : List Node → List Node → List Node
+all_added found [] = found
+all_added found (n ∷ ns) = all_added (added found n) ns
+
+-- The nodes are those of all records of all block files, each file as it was when its size was told, in the
+-- order of their places. `now` is the archive after that scan.
+pub record IsScanned {A : Type 0} (tells : Type 0) (bytes : A → ℕ → List ℕ) (file_count : A → ℕ)
+    (magic : List ℕ)
+    (before now : A) (nodes : List Node) : Type 0 where
+  pub each : AllByRecursion IsNode nodes
+  pub of_files : tells → (all : AllFiles bytes file_count before now)
+      × (nodes ≡ records_of_files magic (file_count all.told) all.files)
+  pub keeps : tells → AllGrow (bytes before) (bytes now)
+
+-- The nodes are those of the records of file 0, as it was when its size was told, and these give the chain.
+-- `before` and `now` are the block files before that was read and after.
+pub record IsRead (tells : Type 0) (before now : ℕ → List ℕ) (magic : List ℕ) (nodes : List Node)
+    (chain : Chain)
+    : Type 0 where
+  pub each : AllByRecursion IsNode nodes
+  pub good : IsGood chain
+  pub of_file : tells → (file : List ℕ) × IsFile (before 0) file (now 0) × GivesChain magic 0 file chain
+      × (nodes ≡ records magic 0 file)
+  pub keeps : tells → AllGrow before now

@@ -1,0 +1,125 @@
+-- How a run over the link ends.
+use Rattle.std.specs.Prelude.{◌≡◌, ◌⊎◌, ℕ, ◌+◌, ◌≤◌, List, [], ◌∷◌, ◌++◌, length, map, Bool, true, false, ◌==◌}
+use Rattle.std.specs.List.{AllByRecursion}
+use Rattle.el_outside.specs.Counts.{RoseBy}
+use Rattle.el_outside.specs.Files.{AllGrow}
+use Rattle.el_outside.specs.Story.{ArrivalWithBytes, opened, brought, closed, quiet, ended, Message, Closing}
+use Rattle.el_model.specs.World.{World, without_node}
+use Rattle.el_model.specs.Run.{Run, Halts, Stop, by_disk, by_link, by_memory, Loss, link, link_losses, archive_losses, disk_losses}
+use Rattle.electrum_serve.specs.declared.status.Status.{Status}
+use Rattle.electrum_serve.specs.declared.status.Status.TheVariants as status
+
+-- the arrival ends the run: nothing comes any more, or peer 0 left
+abbrev pub is_end : ArrivalWithBytes → Bool
+is_end (opened p) = false
+is_end (brought p bytes) = false
+is_end (closed p) = p == 0
+is_end quiet = false
+is_end ended = true
+
+-- no arrival ends the run
+abbrev pub NoneEnds : List ArrivalWithBytes → Type 0
+NoneEnds arrivals = AllByRecursion (λ a. is_end a ≡ false) arrivals
+
+-- the last arrival ends the run, and none before
+pub record LastEnds (arrivals : List ArrivalWithBytes) : Type 0 where
+  pub front : List ArrivalWithBytes
+  pub last : ArrivalWithBytes
+  pub whole : arrivals ≡ front ++ last ∷ []
+  pub before : NoneEnds front
+  pub ends : is_end last ≡ true
+
+-- no arrival before the last ends the run
+pub record NoneEndsBefore (arrivals : List ArrivalWithBytes) : Type 0 where
+  pub front : List ArrivalWithBytes
+  pub last : ArrivalWithBytes
+  pub whole : arrivals ≡ front ++ last ∷ []
+  pub before : NoneEnds front
+
+-- how often calls of the link, of the block files and of the index's device have failed
+pub record Faults : Type 0 where
+  pub link : ℕ
+  pub archive : ℕ
+  pub disk : ℕ
+
+abbrev pub faults : ℕ → ℕ → ℕ → Faults
+faults of_link of_archive of_disk = record { link = of_link; archive = of_archive; disk = of_disk }
+
+-- each failed call is one of these losses
+pub record Rose (before after : Faults) (losses : List Loss) : Type 0 where
+  pub link : RoseBy before.link after.link (link_losses losses)
+  pub archive : RoseBy before.archive after.archive (archive_losses losses)
+  pub disk : RoseBy before.disk after.disk (disk_losses losses)
+
+-- How many calls of `next` may be made; and, before and after all that was done, how often it had been
+-- called, and how often calls of devices had failed.
+pub record Counts : Type 0 where
+  pub turns : ℕ
+  pub calls_before : ℕ
+  pub calls_after : ℕ
+  pub faults_before : Faults
+  pub faults_after : Faults
+
+-- What went over the link in a call: what was taken, sent and closed.
+pub record Traffic : Type 0 where
+  pub arrivals : List ArrivalWithBytes
+  pub messages : List Message
+  pub closings : List Closing
+
+-- nothing was taken, sent or closed
+abbrev pub no_traffic : Traffic
+no_traffic = record { arrivals = []; messages = []; closings = [] }
+
+-- the last call of `next` failed, or none did
+abbrev pub next_failed : List Loss
+next_failed = link ∷ []
+
+-- Each call of `next` brought an arrival, or failed. Each failed call of a device is one of those, or one
+-- that something was answered or closed for.
+pub record IsCounted (c : Counts) (t : Traffic) (losses failed : List Loss) : Type 0 where
+  pub calls : RoseBy c.calls_before c.calls_after (length t.arrivals + length failed)
+  pub turns : length t.arrivals + length failed ≤ c.turns
+  pub rose : Rose c.faults_before c.faults_after (losses ++ failed)
+
+-- how arrivals are taken, with a node or without one
+abbrev pub taken : Bool → List ArrivalWithBytes → List ArrivalWithBytes
+taken true arrivals = arrivals
+taken false arrivals = map without_node arrivals
+
+-- The traffic is that of a run from the first world, all turns of which were made. `tells` is whether the
+-- block files tell their bytes, and `files` are those as they are in the end.
+pub record IsRun (tells : Type 0) (first : World) (node : Bool) (files : ℕ → List ℕ) (c : Counts)
+    (t : Traffic)
+    (failed : List Loss) : Type 0 where
+  pub losses : List Loss
+  pub world : World
+  pub run : Run tells first (taken node t.arrivals) t.messages t.closings losses world
+  pub grown : tells → AllGrow world.files files
+  pub counted : IsCounted c t losses failed
+
+-- The traffic is that of a run that stopped so in its last arrival.
+pub record IsHalted (tells : Type 0) (first : World) (node : Bool) (c : Counts) (t : Traffic) (stop : Stop)
+    : Type 0 where
+  pub losses : List Loss
+  pub halts : Halts tells first stop (taken node t.arrivals) t.messages t.closings losses
+  pub counted : IsCounted c t losses []
+  pub last : NoneEndsBefore t.arrivals
+
+-- How a run ends.
+abbrev pub RunEnds : Type 0 → World → Bool → (ℕ → List ℕ) → Counts → Traffic → Status → Type 0
+-- nothing comes any more, or peer 0 left
+RunEnds tells first node files c t status.Ended = IsRun tells first node files c t [] × LastEnds t.arrivals
+-- the last call of `next` failed, or an answer to the node couldn't be sent
+RunEnds tells first node files c t status.LinkFailed =
+    (IsRun tells first node files c t next_failed × NoneEnds t.arrivals)
+    ⊎ IsHalted tells first node c t by_link
+-- all calls of `next` were made, and none ended the run
+RunEnds tells first node files c t status.TurnsSpent =
+    IsRun tells first node files c t [] × NoneEnds t.arrivals × (length t.arrivals ≡ c.turns)
+-- a call of the index's device failed in a turn of the node
+RunEnds tells first node files c t status.DiskFailed = IsHalted tells first node c t by_disk
+-- no memory was found for bytes of the node, in a turn of it, or for an answer to it
+RunEnds tells first node files c t status.OutOfMemory = IsHalted tells first node c t by_memory
+RunEnds tells first node files c t status.Usage = ⊥
+RunEnds tells first node files c t status.ArchiveFailed = ⊥
+RunEnds tells first node files c t status.BadChain = ⊥

@@ -1,0 +1,171 @@
+// Block files: records of Bitcoin's first blocks, and of blocks that are made from a few numbers.
+ghost use Rattle.std.specs.Prelude.{◌≡◌, ◌≤◌, ◌∷◌, [], IfOk};
+ghost use Rattle.std.specs.List.{AllByRecursion};
+ghost use Rattle.el_tx.specs.Encoding.{HasEncoding};
+
+use el_base::{Bytes, Hash32, OutOfMemory};
+use el_block::Block;
+use el_gen::{block, block_bytes, coinbase};
+use el_tx::{Tx, block_hash, encode_header};
+use std::alloc::Global;
+use std::test::Fail;
+
+const ZERO: Hash32 = Hash32([0; 32]);
+
+pub(super) const MAIN: [u8; 4] = [0xf9, 0xbe, 0xb4, 0xd9];
+
+pub(super) const REGTEST: [u8; 4] = [0xfa, 0xbf, 0xb5, 0xda];
+
+// A part of a file, in digits.
+#[derive(Clone, Copy)]
+pub(super) enum Part {
+    // The record of a block on main.
+    Block(&'static str),
+    // Bytes that are in no record.
+    Between(&'static str),
+}
+
+// The files of a call.
+#[derive(Clone, Copy)]
+pub(super) enum Files {
+    // One file of these parts.
+    Parts(&'static [Part]),
+    // So many blocks of the first branch on regtest, at most 17.
+    Branch(u32),
+    // The second block in the first file, and the first block in the third one.
+    Apart,
+    // Two first blocks, each in a file; and in the third file two second blocks, and one with no parent.
+    Others,
+    // Sixteen blocks of the first branch, and one after them that is refused.
+    Late,
+}
+
+// Adds a record after a file's bytes.
+pub(super) fn add_record(
+    file: &mut Bytes,
+    magic: [u8; 4],
+    block: &[u8],
+) -> Result<(), OutOfMemory> {
+    file.extend(magic.as_slice())?;
+    let [a, b, c, d, ..] = (block.len() as u64).to_le_bytes();
+    file.extend([a, b, c, d].as_slice())?;
+    file.extend(block)
+}
+
+// A file of these parts.
+fn file_of(alloc: Global, parts: &[Part]) -> Result<Bytes, Fail> {
+    let mut file = Bytes::new(alloc);
+    for part in parts {
+        match *part {
+            Part::Block(digits) => {
+                add_record(&mut file, MAIN, hex::decode(alloc, digits)?.as_slice())?;
+            }
+            Part::Between(digits) => file.extend(hex::decode(alloc, digits)?.as_slice())?,
+        }
+    }
+    Ok(file)
+}
+
+// One transaction.
+pub(super) fn one(alloc: Global, tx: Tx) -> Result<Vec<Tx>, OutOfMemory>
+    ensures { IfOk result (λ txs. txs.items ≡ tx ∷ []) }
+{
+    let mut txs = Vec::new(alloc);
+    txs.push(tx)?;
+    Ok(txs)
+}
+
+// The block of a branch at that height: its coinbase pays to the script of the height's number.
+fn block_at(alloc: Global, previous: Hash32, height: u32, branch: u8) -> Result<Block, OutOfMemory>
+    requires { height ≤ 4000000 }
+    ensures { IfOk result (λ b. AllByRecursion HasEncoding b.txs) }
+{
+    let txs = one(alloc, coinbase(alloc, height, branch, height)?)?;
+    block(alloc, previous, height, branch, txs)
+}
+
+// The hash of a block.
+fn hash_of(block: &Block) -> Hash32 {
+    block_hash(&encode_header(&block.header))
+}
+
+// Adds the record of a made block after a file's bytes.
+fn add_block(alloc: Global, file: &mut Bytes, block: &Block) -> Result<(), OutOfMemory>
+    requires { AllByRecursion HasEncoding block.now.txs }
+{
+    add_record(file, REGTEST, block_bytes(alloc, block)?.as_slice())
+}
+
+// The file of the first blocks of the first branch, and the hash of the last of them.
+pub(super) fn branch(alloc: Global, count: u32) -> Result<(Bytes, Hash32), OutOfMemory>
+    requires { count ≤ 17 }
+{
+    let mut file = Bytes::new(alloc);
+    let mut last = ZERO;
+    for height in 0..count {
+        let block = block_at(alloc, last, height, 0)?;
+        add_block(alloc, &mut file, &block)?;
+        last = hash_of(&block);
+    }
+    Ok((file, last))
+}
+
+// The file with the record of one made block.
+fn alone(alloc: Global, block: &Block) -> Result<Bytes, OutOfMemory>
+    requires { AllByRecursion HasEncoding block.now.txs }
+{
+    let mut file = Bytes::new(alloc);
+    add_block(alloc, &mut file, block)?;
+    Ok(file)
+}
+
+// The second block, an empty file, and the first block.
+fn apart(alloc: Global) -> Result<Vec<Bytes>, OutOfMemory> {
+    let first = block_at(alloc, ZERO, 0, 0)?;
+    let second = block_at(alloc, hash_of(&first), 1, 0)?;
+    let mut files = only(alloc, alone(alloc, &second)?)?;
+    files.push(Bytes::new(alloc))?;
+    files.push(alone(alloc, &first)?)?;
+    Ok(files)
+}
+
+// Two first blocks; two second blocks after one of them, and one after none.
+fn others(alloc: Global) -> Result<Vec<Bytes>, OutOfMemory> {
+    let (first, last) = branch(alloc, 1)?;
+    let mut later = alone(alloc, &block_at(alloc, last, 1, 0)?)?;
+    add_block(alloc, &mut later, &block_at(alloc, last, 1, 1)?)?;
+    let lost = block_at(alloc, Hash32([0x33; 32]), 1, 2)?;
+    add_block(alloc, &mut later, &lost)?;
+    let mut files = only(alloc, first)?;
+    files.push(alone(alloc, &block_at(alloc, ZERO, 0, 1)?)?)?;
+    files.push(later)?;
+    Ok(files)
+}
+
+// Sixteen good blocks, and one with another Merkle root.
+fn late(alloc: Global) -> Result<Bytes, OutOfMemory> {
+    let (mut file, last) = branch(alloc, 16)?;
+    let mut block = block_at(alloc, last, 16, 1)?;
+    block.header.root.0[0] ^= 1;
+    add_block(alloc, &mut file, &block)?;
+    Ok(file)
+}
+
+// One file.
+pub(super) fn only(alloc: Global, file: Bytes) -> Result<Vec<Bytes>, OutOfMemory> {
+    let mut files = Vec::new(alloc);
+    files.push(file)?;
+    Ok(files)
+}
+
+// The files of a call.
+pub(super) fn files_of(alloc: Global, files: Files) -> Result<Vec<Bytes>, Fail> {
+    let made = match files {
+        Files::Parts(parts) => only(alloc, file_of(alloc, parts)?)?,
+        Files::Branch(count) => only(alloc, branch(alloc, count.min(17))?.0)?,
+        Files::Apart => apart(alloc)?,
+        Files::Others => others(alloc)?,
+        Files::Late => only(alloc, late(alloc)?)?,
+    };
+    Ok(made)
+}

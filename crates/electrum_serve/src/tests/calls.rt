@@ -1,0 +1,97 @@
+// Calls of `serve`.
+use crate::serving::serve;
+use crate::status::Status;
+use crate::tests::bringing::transcript;
+use el_base::Bytes;
+use el_fakes::{Coming, MemArchive, MemLink, SteadyArchive, SteadyLink};
+use el_outside::{Archive, Link};
+use std::alloc::{AllocError, Global};
+use std::test::Fail;
+
+pub(super) const SERVE: &str =
+    "serve --blocks a --index b --network regtest --client-port 50001 --node-port 8331";
+
+pub(super) const SERVE_MAIN: &str =
+    "serve --blocks a --index b --network main --client-port 50001 --node-port 8331";
+
+pub(super) const ONCE: &str = "once --blocks a --network regtest";
+
+pub(super) const ONCE_MAIN: &str = "once --blocks a --network main";
+
+// More turns than any of these calls makes.
+pub(super) const TURNS: u64 = 1_000_000;
+
+// Calls `serve` with the words of the text.
+pub(super) fn serve_over<A: Archive, K: Link>(
+    alloc: Global,
+    words: &str,
+    archive: &mut A,
+    link: &mut K,
+    turns: u64,
+) -> Result<Status, AllocError> {
+    let mut all = Vec::new(alloc);
+    for word in words.split_whitespace() {
+        all.push(String::from_str(alloc, word)?)?;
+    }
+    Ok(serve(alloc, all.as_slice(), archive, link, turns))
+}
+
+// How a call over devices of which no call fails ends, and what is sent and closed.
+pub(super) fn call_steady(
+    alloc: Global,
+    words: &str,
+    files: Vec<Bytes>,
+    coming: Vec<Coming>,
+) -> Result<(Status, String), Fail> {
+    let mut archive = SteadyArchive::new(files).ok_or("no such files")?;
+    let mut link = SteadyLink::new(alloc, coming)?;
+    let status = serve_over(alloc, words, &mut archive, &mut link, TURNS)?;
+    Ok((status, transcript(alloc, link.sent(), link.closed())?))
+}
+
+// Which call of each device fails, from 1 on, and 0 for none; and how many calls of `next` may be made.
+#[derive(Clone, Copy)]
+pub(super) struct Failing {
+    pub(super) archive: u64,
+    pub(super) next: u64,
+    pub(super) send: u64,
+    pub(super) turns: u64,
+}
+
+pub(super) const NONE_FAILS: Failing = Failing {
+    archive: 0,
+    next: 0,
+    send: 0,
+    turns: TURNS,
+};
+
+// How a call over devices that may fail ended, and what was sent and closed; how often the archive was
+// called, and how many calls of the archive and of the link failed.
+#[derive(Drop)]
+pub(super) struct Counted {
+    pub(super) status: Status,
+    pub(super) text: String,
+    pub(super) archive_calls: u64,
+    pub(super) faults: (u64, u64),
+}
+
+// A call over devices of which these calls fail.
+pub(super) fn call_failing(
+    alloc: Global,
+    words: &str,
+    files: Vec<Bytes>,
+    coming: Vec<Coming>,
+    fails: Failing,
+) -> Result<Counted, Fail> {
+    let mut archive = MemArchive::new(files, Vec::from_slice(alloc, &[fails.archive])?);
+    let nexts = Vec::from_slice(alloc, &[fails.next])?;
+    let sends = Vec::from_slice(alloc, &[fails.send])?;
+    let mut link = MemLink::new(alloc, coming, nexts, sends)?;
+    let status = serve_over(alloc, words, &mut archive, &mut link, fails.turns)?;
+    Ok(Counted {
+        status,
+        text: transcript(alloc, link.sent(), link.closed())?,
+        archive_calls: archive.calls(),
+        faults: (archive.faults(), link.faults()),
+    })
+}

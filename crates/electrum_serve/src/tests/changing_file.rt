@@ -1,0 +1,138 @@
+// Block files that grow, and one whose bytes change.
+ghost use Rattle.std.specs.Prelude.{[], refl};
+
+use crate::status::Status;
+use crate::tests::block_files::{Files, branch, files_of, only};
+use crate::tests::bringing::Step::Says;
+use crate::tests::bringing::{coming, transcript};
+use crate::tests::calls::{NONE_FAILS, SERVE, TURNS, call_failing, serve_over};
+use crate::tests::names::named;
+use el_base::Bytes;
+use el_fakes::{Later, MemArchive, SteadyLink, fill};
+use el_outside::{Archive, ArchiveFailed};
+use std::alloc::Global;
+use std::test::Fail;
+
+// A file that has other bytes after so many calls. It tells nothing, since no archive that tells may do so.
+#[derive(Drop)]
+struct ChangingFile {
+    before: Vec<u8>,
+    after: Vec<u8>,
+    calls_left: u64,
+}
+
+impl ChangingFile {
+    // The bytes that a call finds.
+    fn bytes(&mut self) -> &[u8] {
+        if self.calls_left == 0 {
+            return self.after.as_slice();
+        }
+        self.calls_left -= 1;
+        self.before.as_slice()
+    }
+}
+
+impl Archive for ChangingFile {
+    ghost tells = { ⊥ };
+
+    ghost bytes = { λ files n. [] };
+
+    ghost file_count = { λ files. 1 };
+
+    ghost none_after = { λ files file told after. refl };
+
+    ghost gave = { λ file at bytes. Unit {0} };
+
+    ghost faults = { λ files. 0 };
+
+    fn files(&mut self) -> Result<u32, ArchiveFailed> {
+        let _bytes = self.bytes();
+        Ok(1)
+    }
+
+    fn size(&mut self, _file: u32) -> Result<u64, ArchiveFailed> {
+        Ok((self.bytes().len() as u64).min(1_000_000))
+    }
+
+    fn read(&mut self, _file: u32, at: u64, buf: &mut [u8]) -> Result<usize, ArchiveFailed> {
+        Ok(fill(self.bytes(), at, buf))
+    }
+}
+
+// How often the archive is called before the first arrival, over the two first blocks.
+fn calls_of_scan(alloc: Global) -> Result<u64, Fail> {
+    let files = files_of(alloc, Files::Branch(2))?;
+    let found = call_failing(alloc, SERVE, files, Vec::new(alloc), NONE_FAILS)?;
+    Ok(found.archive_calls)
+}
+
+// What the node says, and what it is answered, over a file whose second block was found.
+fn answers_after_change(alloc: Global, after: Vec<u8>, lines: &str) -> Result<String, Fail> {
+    let mut archive = ChangingFile {
+        before: branch(alloc, 2)?.0.into_vec(),
+        after,
+        calls_left: calls_of_scan(alloc)?,
+    };
+    let mut link = SteadyLink::new(alloc, coming(alloc, [Says(0, lines)].as_slice(), 1_000)?)?;
+    let _status = serve_over(alloc, SERVE, &mut archive, &mut link, TURNS)?;
+    transcript(alloc, link.sent(), link.closed())
+}
+
+#[test]
+fn a_file_that_changes(rt: HostRuntime) -> Result<(), Fail> {
+    let alloc = rt.alloc();
+    // the second block's record begins at place 160; which byte changes, how many are left, the answer
+    for (place, len, want) in [
+        // no change
+        (400, 400, "0 at {a1} 1\n"),
+        // in the version, and in the last byte of the header
+        (168, 400, "0 refused changed {a1}\n"),
+        (247, 400, "0 refused changed {a1}\n"),
+        // after the header
+        (248, 400, "0 refused bad {a1} empty\n"),
+        // too few bytes
+        (400, 318, "0 refused changed {a1}\n"),
+        (400, 100, "0 refused changed {a0}\n"),
+    ] {
+        let mut after = branch(alloc, 2)?.0.into_vec();
+        if let Some(byte) = after.get_mut(place) {
+            *byte ^= 1;
+        }
+        after.truncate(len);
+        let found = answers_after_change(alloc, after, "tip {a1}\n")?;
+        assert_eq!(rt;
+            found.as_str(),
+            named(alloc, want)?.as_str(),
+            "{place} {len}"
+        );
+    }
+    Ok(())
+}
+
+// An archive of two blocks, the second of which comes with the first call after those of the scan.
+fn growing(alloc: Global) -> Result<MemArchive, Fail> {
+    let later = [Later {
+        call: calls_of_scan(alloc)?.saturating_add(1),
+        file: 0,
+        from: 160,
+    }];
+    let files = only(alloc, branch(alloc, 2)?.0)?;
+    let later = Vec::from_slice(alloc, later.as_slice())?;
+    Ok(MemArchive::growing(files, later, Vec::new(alloc)))
+}
+
+#[test]
+fn a_file_that_grows(rt: HostRuntime) -> Result<(), Fail> {
+    let alloc = rt.alloc();
+    let mut archive = growing(alloc)?;
+    let given = "tip {a1}\nblock 0 160\nblock 0 160\ntip {a1}\n";
+    let want = "0 refused unknown {a1}\n0 block {a1}\n0 block {a1}\n0 at {a1} 1\n";
+    let steps = coming(alloc, [Says(0, given)].as_slice(), 1_000)?;
+    let mut link = SteadyLink::new(alloc, steps)?;
+    let status = serve_over(alloc, SERVE, &mut archive, &mut link, TURNS)?;
+    let found = transcript(alloc, link.sent(), link.closed())?;
+    assert_eq!(rt; found.as_str(), named(alloc, want)?.as_str());
+    assert_eq!(rt; status, Status::Ended);
+    assert_eq!(rt; archive.faults(), 0);
+    Ok(())
+}

@@ -1,0 +1,205 @@
+// How calls end: by their words, their files, the number of their turns and the lengths of lines.
+use crate::status::Status;
+use crate::tests::block_files::Part::{Between, Block};
+use crate::tests::block_files::{Files, files_of};
+use crate::tests::bringing::Step::{Leaves, Opens, Says, Waits};
+use crate::tests::bringing::{Step, coming, say};
+use crate::tests::calls::{Failing, NONE_FAILS, ONCE, ONCE_MAIN, SERVE, call_failing, call_steady};
+use crate::tests::names::named;
+use el_fakes::Coming;
+use el_gen::{BLOCK_1, GENESIS, HEADER_0};
+use el_outside::Peer;
+use std::alloc::{AllocError, Global};
+use std::test::Fail;
+
+#[test]
+fn other_words(rt: HostRuntime) -> Result<(), Fail> {
+    let alloc = rt.alloc();
+    for words in [
+        "",
+        "serve --blocks a",
+        "once --network main --blocks a",
+        "once --network=main --blocks a",
+        "once --blocks -a --network main",
+        "once --blocks a --network signet",
+        "once --blocks a --network main --blocks a",
+        "serve --index b --blocks a --network main --client-port 1 --node-port 2",
+        "serve --blocks a --index b --network main --node-port 2 --client-port 1",
+        "serve --blocks --index b --network main --client-port 1 --node-port 2",
+        "serve --blocks a --index -b --network main --client-port 1 --node-port 2",
+        "serve --blocks a --index b --network Main --client-port 1 --node-port 2",
+        "serve --blocks a --index b --network main --client-port 1 --node-port 01",
+        "serve --blocks a --index b --network main --client-port 0 --node-port 2",
+        "serve --blocks a --index b --network main --client-port 1 --node-port 65536",
+        "serve --blocks a --index b --network main --client-port 1 --node-port +2",
+        "serve --blocks a --index b --network main --client-port 00000000001 --node-port 2",
+        "serve --blocks a --index b --network main --client-port 1",
+        "serve --blocks a --index b --network main --client-port 1 --node-port 2 --",
+        "check-chain 1",
+    ] {
+        let files = files_of(alloc, Files::Branch(1))?;
+        let steps = [Opens(1), Says(1, "{}\n"), Says(0, "x\n")];
+        let steps = coming(alloc, steps.as_slice(), 1_000)?;
+        let found = call_failing(alloc, words, files, steps, NONE_FAILS)?;
+        assert_eq!(rt; found.status, Status::Usage, "{words}");
+        assert_eq!(rt; found.text.as_str(), "");
+        assert_eq!(rt; found.archive_calls, 0);
+    }
+    Ok(())
+}
+
+// One whose second transaction spends a coin that never was.
+const MISSING: &str =
+    "010000006fe28c0ab6f1b372c1a6a246ae63f74f931e8365e15a089c68d6190000000000b18b0874637eb5109bff5524bb27\
+     c5b45ff877eeb4d3591af96ab96962bbf77f29ab5f49ffff001d000000000201000000010000000000000000000000000000\
+     000000000000000000000000000000000000ffffffff050100000000ffffffff0100f2052a01000000015100000000010000\
+     000111111111111111111111111111111111111111111111111111111111111111110000000000ffffffff01010000000000\
+     0000015100000000";
+
+const QUIET: &[Step<'static>] = &[Waits, Waits, Waits];
+
+const NODE_LEAVES: &[Step<'static>] = &[Opens(1), Leaves(0), Says(1, "{}\n")];
+
+const CLIENT_LEAVES: &[Step<'static>] = &[Opens(1), Says(1, "{}\n"), Leaves(1)];
+
+// What comes, how many calls of `next` may be made; how the run ends, and what is sent.
+const TURNS: [(&[Step<'static>], u64, Status, &str); 10] = [
+    (&[], 1, Status::Ended, ""),
+    (&[], 0, Status::TurnsSpent, ""),
+    (QUIET, 3, Status::TurnsSpent, ""),
+    (QUIET, 4, Status::Ended, ""),
+    (NODE_LEAVES, 1, Status::TurnsSpent, ""),
+    (NODE_LEAVES, 2, Status::Ended, ""),
+    (NODE_LEAVES, 100, Status::Ended, ""),
+    (CLIENT_LEAVES, 1, Status::TurnsSpent, ""),
+    (CLIENT_LEAVES, 3, Status::TurnsSpent, "1 {invalid}\n"),
+    (CLIENT_LEAVES, 4, Status::Ended, "1 {invalid}\n"),
+];
+
+#[test]
+fn turns_that_end(rt: HostRuntime) -> Result<(), Fail> {
+    let alloc = rt.alloc();
+    for (steps, turns, status, sent) in TURNS {
+        for words in [SERVE, ONCE] {
+            let files = files_of(alloc, Files::Branch(1))?;
+            let fails = Failing {
+                turns,
+                ..NONE_FAILS
+            };
+            let found = call_failing(alloc, words, files, coming(alloc, steps, 1_000)?, fails)?;
+            assert_eq!(rt; found.status, status, "{turns} {words}");
+            assert_eq!(rt; found.text.as_str(), named(alloc, sent)?.as_str());
+            assert_eq!(rt; found.faults, (0, 0));
+        }
+    }
+    Ok(())
+}
+
+// The words, the files, and how the call ends.
+const CHAINS: [(&str, Files, Status); 11] = [
+    (ONCE_MAIN, Files::Parts(&[Block(BLOCK_1)]), Status::BadChain),
+    (
+        ONCE_MAIN,
+        Files::Parts(&[Block(BLOCK_1), Block(GENESIS)]),
+        Status::BadChain,
+    ),
+    (
+        ONCE_MAIN,
+        Files::Parts(&[Block(GENESIS), Block(GENESIS)]),
+        Status::BadChain,
+    ),
+    (
+        ONCE_MAIN,
+        Files::Parts(&[Block(GENESIS), Block(MISSING)]),
+        Status::BadChain,
+    ),
+    // a record of 81 bytes, whose one transaction isn't there, and one of 80 bytes, which is none
+    (
+        ONCE_MAIN,
+        Files::Parts(&[
+            Between("f9beb4d951000000"),
+            Between(HEADER_0),
+            Between("01"),
+        ]),
+        Status::BadChain,
+    ),
+    (
+        ONCE_MAIN,
+        Files::Parts(&[
+            Between("f9beb4d950000000"),
+            Between(HEADER_0),
+            Between("01"),
+        ]),
+        Status::Ended,
+    ),
+    // a record that is cut is none
+    (
+        ONCE_MAIN,
+        Files::Parts(&[
+            Between("f9beb4d952000000"),
+            Between(HEADER_0),
+            Between("01"),
+        ]),
+        Status::Ended,
+    ),
+    (ONCE, Files::Apart, Status::BadChain),
+    (ONCE, Files::Late, Status::BadChain),
+    (SERVE, Files::Apart, Status::Ended),
+    (SERVE, Files::Late, Status::Ended),
+];
+
+#[test]
+fn files_and_their_chains(rt: HostRuntime) -> Result<(), Fail> {
+    let alloc = rt.alloc();
+    for (words, files, status) in CHAINS {
+        let steps = coming(alloc, [Opens(1)].as_slice(), 1_000)?;
+        let (ended, text) = call_steady(alloc, words, files_of(alloc, files)?, steps)?;
+        assert_eq!(rt; ended, status);
+        assert_eq!(rt; text.as_str(), "");
+    }
+    Ok(())
+}
+
+// A line of so many bytes, ended, between two short ones, and the start of a fourth one.
+fn long_line(alloc: Global, peer: Peer, len: usize) -> Result<Vec<Coming>, AllocError> {
+    let mut text = Vec::from_slice(alloc, b"{}\n")?;
+    text.resize(len.saturating_add(3), b'x')?;
+    text.extend_from_slice(b"\n{}\nopen")?;
+    let mut steps = Vec::new(alloc);
+    steps.push(Coming::Opened(1))?;
+    say(alloc, &mut steps, peer, text.as_slice(), 65_536)?;
+    Ok(steps)
+}
+
+const REPLIES: &str = "1 {invalid}\n1 {invalid}\n1 {invalid}\n";
+
+const LONG: &str = "1 {invalid}\nclosed 1 Long\n";
+
+const ANSWERS: &str = "0 refused line\n0 refused line\n0 refused line\n";
+
+const TOO_LONG: &str = "0 refused line\n0 refused long 8000100\n0 refused line\n";
+
+// The words, whose line it is, how many bytes it has; what is sent, and who is closed.
+const LENGTHS: [(&str, Peer, usize, &str); 4] = [
+    (ONCE, 1, 1_000_000, REPLIES),
+    (SERVE, 1, 1_000_001, LONG),
+    (SERVE, 0, 8_000_100, ANSWERS),
+    (SERVE, 0, 8_000_101, TOO_LONG),
+];
+
+#[test]
+fn longest_lines(rt: HostRuntime) -> Result<(), Fail> {
+    let alloc = rt.alloc();
+    for (words, peer, len, want) in LENGTHS {
+        let files = files_of(alloc, Files::Branch(1))?;
+        let steps = long_line(alloc, peer, len)?;
+        let (status, text) = call_steady(alloc, words, files, steps)?;
+        assert_eq!(rt; status, Status::Ended);
+        assert_eq!(rt;
+            text.as_str(),
+            named(alloc, want)?.as_str(),
+            "{words} {len}"
+        );
+    }
+    Ok(())
+}

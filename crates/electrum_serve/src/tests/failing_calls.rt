@@ -1,0 +1,140 @@
+// Calls of the devices that fail, one at a time.
+use crate::status::Status;
+use crate::tests::block_files::{Files, files_of};
+use crate::tests::bringing::Step::{Opens, Says, Waits};
+use crate::tests::bringing::{Step, coming};
+use crate::tests::calls::{Counted, Failing, NONE_FAILS, ONCE, SERVE, call_failing};
+use crate::tests::names::named;
+use std::alloc::Global;
+use std::test::Fail;
+
+// A small run over two blocks.
+const STEPS: &[Step<'static>] = &[
+    Opens(1),
+    Says(1, "{asks}{script1}{asked}\n"),
+    Says(0, "block 0 0\ntip {a1}\n"),
+    Opens(2),
+    Says(1, "{asks}{script1}{asked}\n"),
+    Waits,
+];
+
+// What is sent in runs, and who is closed.
+const TEXTS: [&str; 7] = [
+    "0 refused archive\n",
+    "1 {none}\n",
+    "0 block {a0}\n",
+    "0 at {a1} 1\n",
+    "1 {lists}{entry1}{listed}\n",
+    "closed 2 Clients\n",
+    "closed 1 Gone\n",
+];
+
+// How a run ends: the status, the texts, and how many calls of the archive and of the link failed.
+type Ending = (Status, &'static [usize], (u64, u64));
+
+// A run over two blocks of which these calls fail.
+fn run(
+    alloc: Global,
+    words: &str,
+    steps: &[Step<'static>],
+    fails: Failing,
+) -> Result<Counted, Fail> {
+    let files = files_of(alloc, Files::Branch(2))?;
+    call_failing(alloc, words, files, coming(alloc, steps, 1_000)?, fails)
+}
+
+// How often the archive is called in a run in which nothing fails.
+fn archive_calls(alloc: Global, words: &str, steps: &[Step<'static>]) -> Result<u64, Fail> {
+    Ok(
+        run(alloc, words, steps, NONE_FAILS)?
+            .archive_calls
+            .min(1_000),
+    )
+}
+
+// Whether the small run ends so where these calls fail.
+fn ends_so(alloc: Global, words: &str, fails: Failing, ending: Ending) -> Result<bool, Fail> {
+    let (status, texts, faults) = ending;
+    let mut want = String::new(alloc);
+    for number in texts {
+        let text = TEXTS.get(*number).ok_or("no such text")?;
+        want.push_str(named(alloc, *text)?.as_str())?;
+    }
+    let found = run(alloc, words, STEPS, fails)?;
+    Ok((found.status, found.text.as_str(), found.faults) == (status, want.as_str(), faults))
+}
+
+#[test]
+fn each_call_of_the_archive(rt: HostRuntime) -> Result<(), Fail> {
+    let alloc = rt.alloc();
+    // up to the first arrival, to the end of the node's first line, and to that of its second
+    let scanned = archive_calls(alloc, SERVE, &[])?;
+    let looked = archive_calls(alloc, SERVE, &[Says(0, "block 0 0\n")])?;
+    let moved = archive_calls(alloc, SERVE, STEPS)?;
+    let read = archive_calls(alloc, ONCE, STEPS)?;
+    assert!(rt; 0 < scanned && scanned < looked && looked < moved && 0 < read);
+    let failed: Ending = (Status::ArchiveFailed, &[], (1, 0));
+    let in_block: Ending = (Status::Ended, &[1, 0, 3, 4, 5], (1, 0));
+    let in_tip: Ending = (Status::Ended, &[1, 2, 0, 1, 5], (1, 0));
+    let sound: Ending = (Status::Ended, &[1, 2, 3, 4, 5], (0, 0));
+    let sound_once: Ending = (Status::Ended, &[4, 4, 5], (0, 0));
+    for (words, from, to, ending) in [
+        (SERVE, 1, scanned, failed),
+        (SERVE, scanned.saturating_add(1), looked, in_block),
+        (SERVE, looked.saturating_add(1), moved, in_tip),
+        (
+            SERVE,
+            moved.saturating_add(1),
+            moved.saturating_add(1),
+            sound,
+        ),
+        (ONCE, 1, read, failed),
+        (
+            ONCE,
+            read.saturating_add(1),
+            read.saturating_add(1),
+            sound_once,
+        ),
+    ] {
+        for archive in from..=to {
+            let fails = Failing {
+                archive,
+                ..NONE_FAILS
+            };
+            assert!(rt; ends_so(alloc, words, fails, ending)?, "{words} {archive}");
+        }
+    }
+    Ok(())
+}
+
+// Which call of `next` fails, which call of `send`, and how the small run of `serve` ends. A client to which
+// a send fails is closed, and there is room for the next one.
+const LINK_CALLS: [(u64, u64, Ending); 14] = [
+    (1, 0, (Status::LinkFailed, &[], (0, 1))),
+    (2, 0, (Status::LinkFailed, &[], (0, 1))),
+    (3, 0, (Status::LinkFailed, &[1], (0, 1))),
+    (4, 0, (Status::LinkFailed, &[1, 2, 3], (0, 1))),
+    (5, 0, (Status::LinkFailed, &[1, 2, 3, 5], (0, 1))),
+    (6, 0, (Status::LinkFailed, &[1, 2, 3, 4, 5], (0, 1))),
+    (7, 0, (Status::LinkFailed, &[1, 2, 3, 4, 5], (0, 1))),
+    (8, 0, (Status::Ended, &[1, 2, 3, 4, 5], (0, 0))),
+    (0, 1, (Status::Ended, &[2, 3, 6], (0, 1))),
+    (0, 2, (Status::LinkFailed, &[1], (0, 1))),
+    (0, 3, (Status::LinkFailed, &[1, 2], (0, 1))),
+    (0, 4, (Status::Ended, &[1, 2, 3, 5, 6], (0, 1))),
+    (0, 5, (Status::Ended, &[1, 2, 3, 4, 5], (0, 0))),
+    (5, 1, (Status::LinkFailed, &[2, 3, 6], (0, 2))),
+];
+
+#[test]
+fn each_call_of_the_link(rt: HostRuntime) -> Result<(), Fail> {
+    for (next, send, ending) in LINK_CALLS {
+        let fails = Failing {
+            next,
+            send,
+            ..NONE_FAILS
+        };
+        assert!(rt; ends_so(rt.alloc(), SERVE, fails, ending)?, "{next} {send}");
+    }
+    Ok(())
+}
