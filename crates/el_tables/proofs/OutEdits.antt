@@ -20,7 +20,7 @@ state_set s k [] = refl
 state_set s zero (x ∷ xs) = refl
 state_set s (suc k) (x ∷ xs) = ap (λ (l : List ListedOut). x ∷ l) (state_set s k xs)
 
-script_is : (k : ℕ) (xs : List ListedOut) → script_at k xs ≡ (get_or xs k no_out).script
+pub script_is : (k : ℕ) (xs : List ListedOut) → script_at k xs ≡ (get_or xs k no_out).script
 script_is k [] = refl
 script_is zero (x ∷ xs) = refl
 script_is (suc k) (x ∷ xs) = script_is k xs
@@ -30,12 +30,12 @@ value_is k [] = refl
 value_is zero (x ∷ xs) = refl
 value_is (suc k) (x ∷ xs) = value_is k xs
 
-spent_is : (k : ℕ) (xs : List ListedOut) → spent_at k xs ≡ is_spent (get_or xs k no_out).state
+pub spent_is : (k : ℕ) (xs : List ListedOut) → spent_at k xs ≡ is_spent (get_or xs k no_out).state
 spent_is k [] = refl
 spent_is zero (x ∷ xs) = refl
 spent_is (suc k) (x ∷ xs) = spent_is k xs
 
-buried_is : (by k : ℕ) (xs : List ListedOut) → buried_at by k xs ≡ is_buried_by by (get_or xs k no_out).state
+pub buried_is : (by k : ℕ) (xs : List ListedOut) → buried_at by k xs ≡ is_buried_by by (get_or xs k no_out).state
 buried_is by k [] = refl
 buried_is by zero (x ∷ xs) = refl
 buried_is by (suc k) (x ∷ xs) = buried_is by k xs
@@ -53,19 +53,19 @@ not_there by Unspent e = absurd (yes_no (sym e))
 not_there by (Spent n) e = refl
 not_there by (Buried n) e = refl
 
-spent_gone : (k : ℕ) (xs : List ListedOut) → spent_at k xs ≡ true → unspent_at k xs ≡ false
+pub spent_gone : (k : ℕ) (xs : List ListedOut) → spent_at k xs ≡ true → unspent_at k xs ≡ false
 spent_gone k [] e = refl
 spent_gone zero (x ∷ xs) e = not_unspent x.state e
 spent_gone (suc k) (x ∷ xs) e = spent_gone k xs e
 
-buried_gone : (by k : ℕ) (xs : List ListedOut) → buried_at by k xs ≡ true → unspent_at k xs ≡ false
+pub buried_gone : (by k : ℕ) (xs : List ListedOut) → buried_at by k xs ≡ true → unspent_at k xs ≡ false
 buried_gone by k [] e = refl
 buried_gone by zero (x ∷ xs) e = not_there by x.state e
 buried_gone by (suc k) (x ∷ xs) e = buried_gone by k xs e
 
 -- 2. Balances where an output is unspent again
 
-balance_back : (k j : ℕ) (xs : List ListedOut) → unspent_at k xs ≡ false → script_at k xs ≡ j → balance_of j (with_state Unspent k xs) ≡ balance_of j xs + value_at k xs
+pub balance_back : (k j : ℕ) (xs : List ListedOut) → unspent_at k xs ≡ false → script_at k xs ≡ j → balance_of j (with_state Unspent k xs) ≡ balance_of j xs + value_at k xs
 balance_back k j [] gone is = refl
 balance_back zero j (x ∷ xs) gone is =
     let self = eq-eqb x.script j is in
@@ -176,7 +176,7 @@ is_there xs (Some j) k e = elim (cases_Bool (unspent_at j xs)) [
     none_some : None ≡ Some k → ⊥
     none_some q = cc
 
-buried_rows : (counts : HeadCounts) (bs : List ListedBlock) (l : Lists) (by : ℕ) (r : Option ℕ) → ((k : ℕ) → r ≡ Some k → unspent_at k l.outs ≡ true)
+pub buried_rows : (counts : HeadCounts) (bs : List ListedBlock) (l : Lists) (by : ℕ) (r : Option ℕ) → ((k : ℕ) → r ≡ Some k → unspent_at k l.outs ≡ true)
     → tables_of counts bs (record l { outs = bury by r l.outs }) ≡ buried by r (tables_of counts bs l)
 buried_rows counts bs l by None there = refl
 buried_rows counts bs l by (Some k) there = coin_gone_rows counts bs l (Buried by) k refl (there k refl)
@@ -200,7 +200,7 @@ pub add_out_buries : (counts : HeadCounts) (bs : List ListedBlock) (l : Lists) (
 add_out_buries counts bs l tx index value script k some =
     add_out_rows counts bs l tx index value script ∙ ap (λ (r : Option ℕ). output_added (new_out tx value script) (buried tx r (tables_of counts bs l))) some
 
-unbury_rows : (counts : HeadCounts) (bs : List ListedBlock) (l : Lists) (by : ℕ) (r : Option ℕ)
+pub unbury_rows : (counts : HeadCounts) (bs : List ListedBlock) (l : Lists) (by : ℕ) (r : Option ℕ)
     → tables_of counts bs (record l { outs = unbury by r l.outs }) ≡ unburied by r (tables_of counts bs l)
 unbury_rows counts bs l by None = refl
 unbury_rows counts bs l by (Some k) =
@@ -209,6 +209,22 @@ unbury_rows counts bs l by (Some k) =
       | inl h ↦ let g : is_buried_by by (get_or l.outs k no_out).state ≡ true = sym same ∙ h in rw (h, g) (coin_back_rows counts bs l k (buried_gone by k l.outs h))
       | inr h ↦ let g : is_buried_by by (get_or l.outs k no_out).state ≡ false = sym same ∙ h in rw (h, g) refl
     ]
+
+pub last_less_rows : (counts : HeadCounts) (bs : List ListedBlock) (l : Lists) (x : ListedOut) → last l.outs ≡ Some x
+    → tables_of counts bs (record l { outs = but_last l.outs }) ≡ out_left x (tables_of counts bs l)
+last_less_rows counts bs l x = from_front (λ (xs : List ListedOut). last xs ≡ Some x → tables_of counts bs (record l { outs = but_last xs }) ≡ out_left x (tables_of counts bs (record l { outs = xs })))
+    (λ e. absurd (none_some e)) (λ xs y before e. step xs y e) l.outs
+  where
+    none_some : None ≡ Some x → ⊥
+    none_some q = cc
+
+    step : (xs : List ListedOut) (y : ListedOut) → last (xs ++ y ∷ []) ≡ Some x
+        → tables_of counts bs (record l { outs = but_last (xs ++ y ∷ []) }) ≡ out_left x (tables_of counts bs (record l { outs = xs ++ y ∷ [] }))
+    step xs y e =
+        let both : Some y ≡ Some x = sym (last_is xs y) ∙ e in
+        let same : y ≡ x = cc in
+        ap (λ (zs : List ListedOut). tables_of counts bs (record l { outs = zs })) (but_last_is xs y) ∙ out_less_rows counts bs l xs y
+        ∙ ap (λ (z : ListedOut). out_left z (tables_of counts bs (record l { outs = xs ++ y ∷ [] }))) same
 
 pub take_back_out_rows : (counts : HeadCounts) (bs : List ListedBlock) (l : Lists)
     → tables_of counts bs (take_back_output l) ≡ output_dropped (named_before (last l.outs) l) (last l.outs) (tables_of counts bs l)
@@ -229,7 +245,7 @@ take_back_out_rows counts bs l = from_front (λ (xs : List ListedOut). tables_of
         ∙ ap (unburied x.tx names) (out_less_rows counts bs l xs x)
         ∙ ap (λ (o : Option ListedOut). output_dropped (named_before o old) o (tables_of counts bs old)) (sym found)
 
-given_back_rows : (counts : HeadCounts) (bs : List ListedBlock) (l : Lists) (r : Option ℕ)
+pub given_back_rows : (counts : HeadCounts) (bs : List ListedBlock) (l : Lists) (r : Option ℕ)
     → tables_of counts bs (record l { outs = give_back r l.outs }) ≡ given_back r (tables_of counts bs l)
 given_back_rows counts bs l None = refl
 given_back_rows counts bs l (Some k) =

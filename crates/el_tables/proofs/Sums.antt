@@ -1,5 +1,5 @@
 -- What a step does to the sums: what the crate of outputs needs for running balances, and `connect` for the sum of all coins.
-use Rattle.std.proofs.Common.{◌≡◌, ℕ, zero, suc, ◌+◌, true, false, List, [], ◌∷◌, ◌++◌, refl, arith, eq-eqb, ne_eqb}
+use Rattle.std.proofs.Common.{◌≡◌, inl, inr, ◌≤◌, ◌==◌, Bool, if◌then◌else◌, ◌&&◌, ℕ, zero, suc, ◌+◌, true, false, List, [], ◌∷◌, ◌++◌, refl, arith, eq-eqb, ne_eqb}
 use Rattle.el_tables.specs.Lists.{ListedOut, State, is_unspent, unspent_at, with_state, script_at, held, balance_of, unspent_sum}
 
 -- the value of the output of that number
@@ -43,3 +43,17 @@ balance_same s (suc k) j (x ∷ xs) gone other = let rest = balance_same s k j x
 pub balance_more : (j : ℕ) (rows : List ListedOut) (x : ListedOut) → balance_of j (rows ++ x ∷ []) ≡ balance_of j rows + held j x
 balance_more j [] x = let e : held j x + 0 ≡ 0 + held j x = omega arith in e
 balance_more j (y ∷ ys) x = let rest = balance_more j ys x in omega arith
+
+-- it is a part of what all hold
+pub balance_within : (j : ℕ) (rows : List ListedOut) → balance_of j rows ≤ unspent_sum rows
+balance_within j [] = omega arith
+balance_within j (x ∷ xs) =
+    let rest = balance_within j xs in
+    let one = part (x.script == j) (is_unspent x.state) x.value in
+    omega arith
+  where
+    part : (a b : Bool) (v : ℕ) → (if a && b then v else 0) ≤ (if b then v else 0)
+    part true true v = omega arith
+    part true false v = omega arith
+    part false true v = omega arith
+    part false false v = omega arith

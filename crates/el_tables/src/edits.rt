@@ -6,7 +6,7 @@ ghost use Rattle.el_chain.specs.Headers.{same_hash};
 ghost use Rattle.el_chain.specs.RowCounts.{has_script};
 ghost use Rattle.el_tables.specs.Lists as spec;
 ghost use Rattle.el_tables.specs.ChainLists.{ListedBlock, lists};
-ghost use Rattle.el_tables.specs.Disconnecting.{last, named_before, take_back_tx, take_back_entry, take_back_output, unspend};
+ghost use Rattle.el_tables.specs.Disconnecting.{but_last, last, unbury, named_before, take_back_tx, take_back_entry, take_back_output, unspend};
 ghost use Rattle.el_tables.specs.Tables.{HeadCounts, Tables, IsLinked, tables_of, without_links, head_counts, greatest};
 ghost use Rattle.el_tables.specs.Edits as edit;
 ghost use Rattle.el_tables.specs.Fits.{Fits, IsNumbered, Once};
@@ -91,11 +91,18 @@ pub fn add_output_edits_rows()
 {}
 
 /// An output less is the last row less, and its script hash's balance has its value less, if it was unspent.
-/// What it buried is unspent again, and that script hash's balance has this value more.
+/// What it buried is unspent again, and that script hash's balance has this value more. The two are also said
+/// one by one.
 pub fn take_back_output_edits_rows()
-    ensures { (counts : HeadCounts) (bs : List ListedBlock) (l : spec.Lists) →
+    ensures rows { (counts : HeadCounts) (bs : List ListedBlock) (l : spec.Lists) →
         tables_of counts bs (take_back_output l)
         ≡ edit.output_dropped (named_before (last l.outs) l) (last l.outs) (tables_of counts bs l) }
+    ensures left { (counts : HeadCounts) (bs : List ListedBlock) (l : spec.Lists) (x : spec.ListedOut) →
+        last l.outs ≡ Some x → tables_of counts bs (record l { outs = but_last l.outs })
+        ≡ edit.out_left x (tables_of counts bs l) }
+    ensures unburied { (counts : HeadCounts) (bs : List ListedBlock) (l : spec.Lists) (by : ℕ)
+        (names : Option ℕ) → tables_of counts bs (record l { outs = unbury by names l.outs })
+        ≡ edit.unburied by names (tables_of counts bs l) }
 {}
 
 /// An input less: the output that it spent is unspent again, and its script hash's balance has its value

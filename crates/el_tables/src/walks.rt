@@ -1,6 +1,6 @@
 // What walks along links find, and what the steps do to the sum of all coins. Each function states a law and
 // does nothing when it runs.
-ghost use Rattle.std.specs.Prelude.{◌≡◌, ◌<◌, ◌+◌, ℕ, List, Option, None, Some, option_and_then, length, take, filter, get_or, slice_get, true, if◌then◌else◌};
+ghost use Rattle.std.specs.Prelude.{◌≡◌, ◌<◌, ◌≤◌, ◌+◌, ℕ, List, Option, None, Some, option_and_then, length, take, filter, get_or, slice_get, true, if◌then◌else◌};
 ghost use Rattle.el_base.specs.declared.hash.Hash32 as hash;
 ghost use Rattle.el_tx.specs.Hashing.{txid};
 ghost use Rattle.el_tx.specs.declared.types.Outpoint as outpoint_shape;
@@ -37,7 +37,7 @@ pub fn outpoint_is_found_along_older()
 {}
 
 /// What all unspent outputs hold falls by the value of an output that is spent or buried, and rises by the
-/// value of one that is added.
+/// value of one that is added. Each balance is a part of it.
 pub fn sum_follows_the_steps()
     ensures spent { (l : spec.Lists) (by k : ℕ) → spec.unspent_at k l.outs ≡ true
         → spec.unspent_sum (spec.spend_output by k l).outs + (get_or l.outs k no_out).value
@@ -48,4 +48,6 @@ pub fn sum_follows_the_steps()
     ensures buries { (l : spec.Lists) (tx index value script k : ℕ) → spec.replaced tx index l ≡ Some k
         → spec.unspent_sum (spec.add_output tx index value script l).outs + (get_or l.outs k no_out).value
         ≡ spec.unspent_sum l.outs + value }
+    ensures balances { (script : ℕ) (outs : List spec.ListedOut) →
+        spec.balance_of script outs ≤ spec.unspent_sum outs }
 {}

@@ -1,0 +1,64 @@
+// Why a journal isn't opened, and why an entry isn't read.
+ghost use Rattle.std.specs.Prelude.{◌≡◌, ⊤};
+
+use el_outside::DiskFailed;
+use std::alloc::AllocError;
+
+/// Why a journal isn't opened.
+#[derive(Clone, Copy, Debug, PartialEq, Eq, thiserror::Error)]
+pub enum JournalFault {
+    /// A call on the device that keeps the index failed.
+    #[error("index device failed")]
+    DiskFailed,
+    /// The file has two bytes or more, and the gate at this place, counted from the file's first byte, is
+    /// open, but no whole entry with the gate after it stands there.
+    #[error("journal is cut at {place}")]
+    BadJournal { place: u64 },
+    /// Out of memory.
+    #[error("out of memory")]
+    Memory,
+}
+
+impl From<DiskFailed> for JournalFault {
+    ghost use Rattle.std.specs.Prelude.{◌≡◌};
+    ghost use Rattle.el_journal.specs.declared.fault.JournalFault.TheVariants as fault;
+
+    ghost from_gives = { λ _ e. e ≡ fault.DiskFailed };
+
+    fn from(_: DiskFailed) -> Self {
+        JournalFault::DiskFailed
+    }
+}
+
+/// Why an entry isn't read.
+#[derive(Clone, Copy, Debug, PartialEq, Eq, thiserror::Error)]
+pub enum EntryFault {
+    /// A call on the device that keeps the index failed.
+    #[error("index device failed")]
+    DiskFailed,
+    /// Out of memory.
+    #[error("out of memory")]
+    Memory,
+}
+
+impl From<DiskFailed> for EntryFault {
+    ghost use Rattle.std.specs.Prelude.{◌≡◌};
+    ghost use Rattle.el_journal.specs.declared.fault.EntryFault.TheVariants as fault;
+
+    ghost from_gives = { λ _ e. e ≡ fault.DiskFailed };
+
+    fn from(_: DiskFailed) -> Self {
+        EntryFault::DiskFailed
+    }
+}
+
+impl From<AllocError> for EntryFault {
+    ghost use Rattle.std.specs.Prelude.{◌≡◌};
+    ghost use Rattle.el_journal.specs.declared.fault.EntryFault.TheVariants as fault;
+
+    ghost from_gives = { λ _ e. e ≡ fault.Memory };
+
+    fn from(_: AllocError) -> Self {
+        EntryFault::Memory
+    }
+}

@@ -1,0 +1,4 @@
+pub mod Rows
+pub mod OlderWalks
+pub mod Found
+pub mod Steps

@@ -1,0 +1,35 @@
+use Rattle.std.proofs.Common.{◌≡◌, ◌+◌, ◌-◌, ◌<◌, ◌≤◌, List, ℕ, length, set, slice_get, Some, min, option_map, ap, sym, subst, ◌∙◌, arith}
+use Rattle.el_rows.specs.Changes.{OnTable}
+use Rattle.el_rows.specs.Tables.{Tables}
+use Rattle.el_rows.specs.RowBytes.{FitsScriptRow, script_row_bytes}
+use Rattle.el_rows.specs.Transaction.{tables_in}
+use Rattle.el_rows.specs.declared.script_row.ScriptRow.{ScriptRow}
+use Rattle.el_rows.specs.declared.table.Table.TheVariants as table
+use Rattle.el_buckets.specs.Rows.{script_fields}
+use Rattle.el_position.proofs.Answered.{of_value}
+use Rattle.el_spend.specs.within.Parts.{lowered}
+use Rattle.el_spend.proofs.Steps.{lowered_here, lowered_past}
+use Rattle.el_spend.proofs.balance.lower.Goals as goal
+
+pub returns-clause-lowered : goal.returns-clause-lowered
+returns-clause-lowered g c tb told same =
+    let shown = tables_in {G = g.R.Rows} c.args.t.now in
+    let after = tables_in {G = g.R.Rows} c.put_script.new.t in
+    let row = c.in_ok-row.row in
+    let value = λ (P : ScriptRow → Type 0). of_value P _ c.script_row.result c.map_err.result row c.map_err.ensures.cases c.in_ok-row.ensures.variant c.in_ok-row.was in
+    let is = value (λ r. Some r ≡ option_map script_fields (slice_get tb.scripts c.args.script)) (c.script_row.ensures.row tb told same) in
+    let fits = value (λ r. FitsScriptRow r) c.script_row.ensures.fits in
+    let put : ScriptRow = record row { balance = c.saturating_sub.result } in
+    let on : OnTable shown after table.Scripts (set (shown table.Scripts) c.args.script (script_row_bytes put)) =
+    subst (λ (T : Tables). OnTable T after table.Scripts (set (T table.Scripts) c.args.script (script_row_bytes put))) c.script_row.ensures.tables c.in_ok-put_script.ensures.ok in
+    lowered_here shown after tb same c.args.script c.args.value c.saturating_sub.result row is fits (let e = c.saturating_sub.ensures in omega (arith, e)) on
+
+pub returns-clause-bytes : goal.returns-clause-bytes
+returns-clause-bytes g c r told fits lt is =
+    let shown = tables_in {G = g.R.Rows} c.args.t.now in
+    let row = c.in_ok-row.row in
+    let same : r ≡ row = of_value (λ x. r ≡ x) _ c.script_row.result c.map_err.result row c.map_err.ensures.cases c.in_ok-row.ensures.variant c.in_ok-row.was (c.script_row.ensures.only r told fits is) in
+    let put : ScriptRow = record row { balance = c.saturating_sub.result } in
+    let changed : put ≡ lowered c.args.value row = ap (λ (b : ℕ). record row { balance = b }) c.saturating_sub.ensures in
+    c.in_ok-put_script.ensures.ok.here ∙ ap (λ (T : Tables). set (T table.Scripts) c.args.script (script_row_bytes put)) c.script_row.ensures.tables
+    ∙ ap (λ (x : ScriptRow). set (shown table.Scripts) c.args.script (script_row_bytes x)) (changed ∙ ap (lowered c.args.value) (sym same))

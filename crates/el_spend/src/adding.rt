@@ -1,0 +1,170 @@
+// An output more.
+ghost use Rattle.std.specs.Prelude.{◌≡◌, ◌≢◌, ◌⊎◌, ◌<◌, ◌≤◌, ◌+◌, ◌^◌, ℕ, List, length, take, OnOk, IfOk, IfErr, None, option_map};
+ghost use Rattle.std.specs.Option.{ForSome};
+ghost use Rattle.el_outside.specs.Counts.{HasCause, CountsOnly};
+ghost use Rattle.el_rows.specs.RowBytes.{FitsOutRow};
+ghost use Rattle.el_rows.specs.Tables.{limit_of};
+ghost use Rattle.el_rows.specs.Transaction.{tables_in, OnlyReads};
+ghost use Rattle.el_rows.specs.declared.table.Table.{Table};
+ghost use Rattle.el_tables.specs.ChainLists.{ListedBlock};
+ghost use Rattle.el_tables.specs.Edits as edit;
+ghost use Rattle.el_tables.specs.Lists as lists;
+ghost use Rattle.el_tables.specs.Tables as typed;
+ghost use Rattle.el_tables.specs.Tables.{HeadCounts};
+ghost use Rattle.el_buckets.specs.Faults.{NotAdded};
+ghost use Rattle.el_buckets.specs.Rows.{Encode, Hold};
+ghost use Rattle.el_spend.specs.Outputs.{rows_to_find, replaced_output, BalancesFit};
+ghost use Rattle.el_spend.specs.within.Parts.{IsOutRow, out_appended};
+
+use crate::NamedOutput;
+use crate::balance::raise;
+use crate::coins::take_coin;
+use crate::lookup::coin;
+use crate::reading::listed_at;
+use el_base::Steps;
+use el_buckets::not_appended;
+use el_chain::ConnectFault;
+use el_outside::DiskFailed;
+use el_rows::{OutRow, Rows, State, Table, Txn};
+use el_tx::Outpoint;
+use std::sync::ledger::Ledger;
+
+// The coin that an output of the transaction of that number and with that index replaces.
+fn replaced<R: Rows, L: Ledger>(
+    t: &mut Txn<'_, R>,
+    tx: u64,
+    index: u32,
+    steps: &mut Steps<L>,
+) -> Result<Option<NamedOutput>, DiskFailed>
+    requires live { R.is_live t.old.rows.now }
+    ensures replaced { (counts : HeadCounts) (bs : List ListedBlock) (l : lists.Lists) → R.tells
+        → Hold counts bs l (tables_in t.old) → 0 < counts.txs
+        → IfOk result (λ f. f ≡ replaced_output tx index l) }
+    ensures steps { (counts : HeadCounts) (bs : List ListedBlock) (l : lists.Lists) → R.tells
+        → Hold counts bs l (tables_in t.old) → 0 < counts.txs
+        → steps.new ≤ steps.old + rows_to_find counts.txs (lists.txid_at tx l.txs) l + 1 }
+    ensures none { length (tables_in t.old Table.TxHeads) ≡ 0 → IfOk result (λ f. f ≡ None) }
+    ensures below { IfOk result (λ f. ForSome f (λ x. x.number < length (tables_in t.old Table.Outs))) }
+    ensures fits { IfOk result (λ f. ForSome f (λ x. FitsOutRow x.row)) }
+    ensures tables { tables_in t.new ≡ tables_in t.old }
+    ensures reads { OnlyReads t.old t.new }
+    ensures name { t.new.rows.ghost_name ≡ t.old.rows.ghost_name }
+    ensures ticked { steps.old ≤ steps.new }
+    ensures cause { HasCause (R.faults t.old.rows.now) (R.faults t.new.rows.now) result }
+{
+    let (txid, _) = listed_at(t, tx, steps)?;
+    coin(t, &Outpoint { txid, index }, tx, steps)
+}
+
+// Adds an unspent output after the last, and answers its number.
+fn append_output<R: Rows>(
+    t: &mut Txn<'_, R>,
+    tx: u64,
+    value: u64,
+    script: u64,
+) -> Result<u64, ConnectFault>
+    requires tx { tx < 2 ^ 32 }
+    requires script { script < 2 ^ 32 }
+    ensures appended { (tb : typed.Tables) → Encode (tables_in t.old) tb
+        → OnOk result (Encode (tables_in t.new) (out_appended (edit.new_out tx value script) tb)) }
+    ensures number { IfOk result (λ n. n ≡ length (tables_in t.old Table.Outs)) }
+    ensures others { (u : Table) → u ≢ Table.Outs → tables_in t.new u ≡ tables_in t.old u }
+    ensures longer { OnOk result (length (tables_in t.new Table.Outs)
+        ≡ length (tables_in t.old Table.Outs) + 1) }
+    ensures room { OnOk result (length (tables_in t.old Table.Outs) < limit_of Table.Outs) }
+    ensures fault { IfErr result (λ e. NotAdded Table.Outs (length (tables_in t.old Table.Outs)) e) }
+    ensures rows { t.new.rows.now ≡ t.old.rows.now }
+    ensures name { t.new.rows.ghost_name ≡ t.old.rows.ghost_name }
+{
+    let row = OutRow {
+        tx,
+        value,
+        script,
+        state: State::Unspent,
+    };
+    let mut bytes = [0; 21];
+    row.write(&mut bytes);
+    let n = t.count(Table::Outs);
+    match t.append(Table::Outs, &bytes) {
+        Ok(_) => Ok(n),
+        Err(fault) => Err(not_appended(fault)),
+    }
+}
+
+// The transaction of that number buries the coin, if there is one.
+fn bury<R: Rows, L: Ledger>(
+    t: &mut Txn<'_, R>,
+    tx: u64,
+    replaced: Option<NamedOutput>,
+    steps: &mut Steps<L>,
+) -> Result<(), ConnectFault>
+    requires live { R.is_live t.old.rows.now }
+    requires tx { tx < 2 ^ 32 }
+    requires below { ForSome replaced (λ x. x.number < length (tables_in t.old Table.Outs)) }
+    requires fits { ForSome replaced (λ x. FitsOutRow x.row) }
+    ensures buried { (tb : typed.Tables) → R.tells → Encode (tables_in t.old) tb
+        → ForSome replaced (λ x. IsOutRow tb x.number x.row)
+        → OnOk result (Encode (tables_in t.new) (edit.buried tx (option_map (λ x. x.number) replaced) tb)) }
+    ensures others { (u : Table) → u ≢ Table.Outs → u ≢ Table.Scripts
+        → tables_in t.new u ≡ tables_in t.old u }
+    ensures outs_stay { length (tables_in t.new Table.Outs) ≡ length (tables_in t.old Table.Outs) }
+    ensures scripts_stay { length (tables_in t.new Table.Scripts) ≡ length (tables_in t.old Table.Scripts) }
+    ensures fault { IfErr result (λ e. (e ≡ ConnectFault.DiskFailed) ⊎ (e ≡ ConnectFault.Memory)) }
+    ensures reads { OnlyReads t.old t.new }
+    ensures name { t.new.rows.ghost_name ≡ t.old.rows.ghost_name }
+    ensures ticked { steps.old ≤ steps.new }
+    ensures tick { steps.new ≤ steps.old + 1 }
+    ensures cause { CountsOnly (R.faults t.old.rows.now) (R.faults t.new.rows.now) ConnectFault.DiskFailed
+        result }
+{
+    match replaced {
+        Some(coin) => take_coin(t, &coin, State::Buried(tx), steps),
+        None => Ok(()),
+    }
+}
+
+/// Adds an output after the last: of the transaction of that number, with that index, value in satoshi and
+/// number of its script. It is unspent, and buries the coin that it replaces, the coin of the same outpoint
+/// that a transaction before made. After a fault the transaction of rows may hold a part.
+pub fn add_out<R: Rows, L: Ledger>(
+    t: &mut Txn<'_, R>,
+    tx: u64,
+    index: u32,
+    value: u64,
+    script: u64,
+    steps: &mut Steps<L>,
+) -> Result<(), ConnectFault>
+    requires live { R.is_live t.old.rows.now }
+    requires tx { tx < 2 ^ 32 }
+    requires script { script < length (tables_in t.old Table.Scripts) }
+    requires script_fits { script < 2 ^ 32 }
+    // It is the step of the lists, on all tables, where the balances after it fit.
+    ensures lists { (counts : HeadCounts) (bs : List ListedBlock) (l : lists.Lists) → R.tells
+        → Hold counts bs l (tables_in t.old) → 0 < counts.txs
+        → BalancesFit (lists.add_output tx index value script l).outs
+        → OnOk result (Hold counts bs (lists.add_output tx index value script l) (tables_in t.new)) }
+    // Beside the look-up it reads the transaction, the script of what it buries, and its own.
+    ensures steps { (counts : HeadCounts) (bs : List ListedBlock) (l : lists.Lists) → R.tells
+        → Hold counts bs l (tables_in t.old) → 0 < counts.txs
+        → steps.new ≤ steps.old + rows_to_find counts.txs (lists.txid_at tx l.txs) l + 3 }
+    // What follows holds over any rows.
+    ensures longer { OnOk result (length (tables_in t.new Table.Outs)
+        ≡ length (tables_in t.old Table.Outs) + 1) }
+    ensures scripts_stay { length (tables_in t.new Table.Scripts) ≡ length (tables_in t.old Table.Scripts) }
+    ensures others { (u : Table) → u ≢ Table.Outs → u ≢ Table.Scripts
+        → tables_in t.new u ≡ tables_in t.old u }
+    // `Full` comes exactly at the table's limit, unless the device fails.
+    ensures room { OnOk result (length (tables_in t.old Table.Outs) < limit_of Table.Outs) }
+    ensures fault { IfErr result (λ e. (e ≡ ConnectFault.DiskFailed)
+        ⊎ NotAdded Table.Outs (length (tables_in t.old Table.Outs)) e) }
+    ensures reads { OnlyReads t.old t.new }
+    ensures name { t.new.rows.ghost_name ≡ t.old.rows.ghost_name }
+    ensures ticked { steps.old ≤ steps.new }
+    ensures cause { CountsOnly (R.faults t.old.rows.now) (R.faults t.new.rows.now) ConnectFault.DiskFailed
+        result }
+{
+    let replaced = replaced(t, tx, index, steps).map_err(|_| ConnectFault::DiskFailed)?;
+    append_output(t, tx, value, script)?;
+    bury(t, tx, replaced, steps)?;
+    raise(t, script, value, steps)
+}

@@ -1,0 +1,108 @@
+// Running balances of scripts.
+ghost use Rattle.std.specs.Prelude.{◌≡◌, ◌≢◌, ◌⊎◌, ◌<◌, ◌≤◌, ◌+◌, ◌^◌, [], length, get_or, slice_set, OnOk, OnErr, IfErr};
+ghost use Rattle.el_outside.specs.Counts.{CountsOnly};
+ghost use Rattle.el_rows.specs.Changes.{OnTable};
+ghost use Rattle.el_rows.specs.RowBytes.{script_row_bytes, FitsScriptRow};
+ghost use Rattle.el_rows.specs.Transaction.{tables_in, OnlyReads};
+ghost use Rattle.el_rows.specs.declared.script_row.ScriptRow as shape;
+ghost use Rattle.el_rows.specs.declared.table.Table.{Table};
+ghost use Rattle.el_tables.specs.Edits as edit;
+ghost use Rattle.el_tables.specs.Tables as typed;
+ghost use Rattle.el_buckets.specs.Rows.{Encode};
+ghost use Rattle.el_spend.specs.within.Parts.{balance_raised, balance_lowered, raised, lowered};
+
+use crate::reading::script_row;
+use el_base::{OutOfMemory, Steps};
+use el_chain::ConnectFault;
+use el_rows::{Rows, ScriptRow, Table, Txn};
+use std::sync::ledger::Ledger;
+
+// Writes over the row of a script.
+fn put_script<R: Rows>(t: &mut Txn<'_, R>, n: u64, row: &ScriptRow) -> Result<(), OutOfMemory>
+    requires below { n < length (tables_in t.old Table.Scripts) }
+    requires fits { FitsScriptRow row.now }
+    ensures ok { OnOk result (OnTable (tables_in t.old) (tables_in t.new) Table.Scripts
+        (slice_set (tables_in t.old Table.Scripts) n (script_row_bytes row.now))) }
+    ensures err { OnErr result (tables_in t.new ≡ tables_in t.old) }
+    ensures rows { t.new.rows.now ≡ t.old.rows.now }
+    ensures name { t.new.rows.ghost_name ≡ t.old.rows.ghost_name }
+{
+    let mut bytes = [0; 52];
+    row.write(&mut bytes);
+    t.put(Table::Scripts, n, &bytes)
+}
+
+// The balance of the script of that number, if it is there, is higher by the value. It stays at 2^64 - 1.
+pub(crate) fn raise<R: Rows, L: Ledger>(
+    t: &mut Txn<'_, R>,
+    script: u64,
+    value: u64,
+    steps: &mut Steps<L>,
+) -> Result<(), ConnectFault>
+    requires live { R.is_live t.old.rows.now }
+    ensures raised { (tb : typed.Tables) → R.tells → Encode (tables_in t.old) tb
+        → (edit.row_of script tb).balance + value < 2 ^ 64
+        → OnOk result (Encode (tables_in t.new) (balance_raised script value tb)) }
+    ensures bytes { (r : shape.ScriptRow) → R.tells → FitsScriptRow r
+        → script < length (tables_in t.old Table.Scripts)
+        → script_row_bytes r ≡ get_or (tables_in t.old Table.Scripts) script []
+        → OnOk result (tables_in t.new Table.Scripts
+        ≡ slice_set (tables_in t.old Table.Scripts) script (script_row_bytes (raised value r))) }
+    ensures others { (u : Table) → u ≢ Table.Scripts → tables_in t.new u ≡ tables_in t.old u }
+    ensures stay { length (tables_in t.new Table.Scripts) ≡ length (tables_in t.old Table.Scripts) }
+    ensures fault { IfErr result (λ e. (e ≡ ConnectFault.DiskFailed) ⊎ (e ≡ ConnectFault.Memory)) }
+    ensures reads { OnlyReads t.old t.new }
+    ensures name { t.new.rows.ghost_name ≡ t.old.rows.ghost_name }
+    ensures ticked { steps.old ≤ steps.new }
+    ensures tick { steps.new ≤ steps.old + 1 }
+    ensures cause { CountsOnly (R.faults t.old.rows.now) (R.faults t.new.rows.now) ConnectFault.DiskFailed
+        result }
+{
+    if script >= t.count(Table::Scripts) {
+        return Ok(());
+    }
+    let row = script_row(t, script, steps).map_err(|_| ConnectFault::DiskFailed)?;
+    let raised = ScriptRow {
+        balance: row.balance.saturating_add(value),
+        ..row
+    };
+    put_script(t, script, &raised)?;
+    Ok(())
+}
+
+// The balance of the script of that number, if it is there, is lower by the value. It stays at 0.
+pub(crate) fn lower<R: Rows, L: Ledger>(
+    t: &mut Txn<'_, R>,
+    script: u64,
+    value: u64,
+    steps: &mut Steps<L>,
+) -> Result<(), ConnectFault>
+    requires live { R.is_live t.old.rows.now }
+    ensures lowered { (tb : typed.Tables) → R.tells → Encode (tables_in t.old) tb
+        → OnOk result (Encode (tables_in t.new) (balance_lowered script value tb)) }
+    ensures bytes { (r : shape.ScriptRow) → R.tells → FitsScriptRow r
+        → script < length (tables_in t.old Table.Scripts)
+        → script_row_bytes r ≡ get_or (tables_in t.old Table.Scripts) script []
+        → OnOk result (tables_in t.new Table.Scripts
+        ≡ slice_set (tables_in t.old Table.Scripts) script (script_row_bytes (lowered value r))) }
+    ensures others { (u : Table) → u ≢ Table.Scripts → tables_in t.new u ≡ tables_in t.old u }
+    ensures stay { length (tables_in t.new Table.Scripts) ≡ length (tables_in t.old Table.Scripts) }
+    ensures fault { IfErr result (λ e. (e ≡ ConnectFault.DiskFailed) ⊎ (e ≡ ConnectFault.Memory)) }
+    ensures reads { OnlyReads t.old t.new }
+    ensures name { t.new.rows.ghost_name ≡ t.old.rows.ghost_name }
+    ensures ticked { steps.old ≤ steps.new }
+    ensures tick { steps.new ≤ steps.old + 1 }
+    ensures cause { CountsOnly (R.faults t.old.rows.now) (R.faults t.new.rows.now) ConnectFault.DiskFailed
+        result }
+{
+    if script >= t.count(Table::Scripts) {
+        return Ok(());
+    }
+    let row = script_row(t, script, steps).map_err(|_| ConnectFault::DiskFailed)?;
+    let lowered = ScriptRow {
+        balance: row.balance.saturating_sub(value),
+        ..row
+    };
+    put_script(t, script, &lowered)?;
+    Ok(())
+}

@@ -1,0 +1,105 @@
+// Outputs that become unspent, or are no longer.
+ghost use Rattle.std.specs.Prelude.{◌≡◌, ◌≢◌, ◌⊎◌, ◌<◌, ◌≤◌, ◌+◌, ◌^◌, length, slice_set, OnOk, OnErr, IfErr};
+ghost use Rattle.el_outside.specs.Counts.{CountsOnly};
+ghost use Rattle.el_rows.specs.Changes.{OnTable};
+ghost use Rattle.el_rows.specs.RowBytes.{out_row_bytes, state_by, FitsOutRow};
+ghost use Rattle.el_rows.specs.Transaction.{tables_in, OnlyReads};
+ghost use Rattle.el_rows.specs.declared.table.Table.{Table};
+ghost use Rattle.el_tables.specs.Edits as edit;
+ghost use Rattle.el_tables.specs.Lists as lists;
+ghost use Rattle.el_tables.specs.Tables as typed;
+ghost use Rattle.el_buckets.specs.Rows.{Encode, state_fields};
+ghost use Rattle.el_spend.specs.within.Parts.{IsOutRow, state_changed};
+
+use crate::NamedOutput;
+use crate::balance::{lower, raise};
+use el_base::{OutOfMemory, Steps};
+use el_chain::ConnectFault;
+use el_rows::{OutRow, Rows, State, Table, Txn};
+use std::sync::ledger::Ledger;
+
+// Gives the output another state.
+fn put_state<R: Rows>(
+    t: &mut Txn<'_, R>,
+    output: &NamedOutput,
+    state: State,
+) -> Result<(), OutOfMemory>
+    requires below { output.now.number < length (tables_in t.old Table.Outs) }
+    requires fits { FitsOutRow output.now.row }
+    requires by { state_by state < 2 ^ 32 }
+    ensures changed { (tb : typed.Tables) (s : lists.State) → Encode (tables_in t.old) tb
+        → IsOutRow tb output.now.number output.now.row → state ≡ state_fields s
+        → OnOk result (Encode (tables_in t.new) (state_changed s output.now.number tb)) }
+    ensures others { (u : Table) → u ≢ Table.Outs → tables_in t.new u ≡ tables_in t.old u }
+    ensures stay { length (tables_in t.new Table.Outs) ≡ length (tables_in t.old Table.Outs) }
+    ensures err { OnErr result (tables_in t.new ≡ tables_in t.old) }
+    ensures rows { t.new.rows.now ≡ t.old.rows.now }
+    ensures name { t.new.rows.ghost_name ≡ t.old.rows.ghost_name }
+{
+    let changed = OutRow {
+        state,
+        ..output.row
+    };
+    let mut bytes = [0; 21];
+    changed.write(&mut bytes);
+    t.put(Table::Outs, output.number, &bytes)
+}
+
+// A coin gets another state, and leaves its script's balance.
+pub(crate) fn take_coin<R: Rows, L: Ledger>(
+    t: &mut Txn<'_, R>,
+    coin: &NamedOutput,
+    state: State,
+    steps: &mut Steps<L>,
+) -> Result<(), ConnectFault>
+    requires live { R.is_live t.old.rows.now }
+    requires below { coin.now.number < length (tables_in t.old Table.Outs) }
+    requires fits { FitsOutRow coin.now.row }
+    requires by { state_by state < 2 ^ 32 }
+    ensures taken { (tb : typed.Tables) (s : lists.State) → R.tells → Encode (tables_in t.old) tb
+        → IsOutRow tb coin.now.number coin.now.row → state ≡ state_fields s
+        → OnOk result (Encode (tables_in t.new) (edit.coin_gone s coin.now.number tb)) }
+    ensures others { (u : Table) → u ≢ Table.Outs → u ≢ Table.Scripts
+        → tables_in t.new u ≡ tables_in t.old u }
+    ensures outs_stay { length (tables_in t.new Table.Outs) ≡ length (tables_in t.old Table.Outs) }
+    ensures scripts_stay { length (tables_in t.new Table.Scripts) ≡ length (tables_in t.old Table.Scripts) }
+    ensures fault { IfErr result (λ e. (e ≡ ConnectFault.DiskFailed) ⊎ (e ≡ ConnectFault.Memory)) }
+    ensures reads { OnlyReads t.old t.new }
+    ensures name { t.new.rows.ghost_name ≡ t.old.rows.ghost_name }
+    ensures ticked { steps.old ≤ steps.new }
+    ensures tick { steps.new ≤ steps.old + 1 }
+    ensures cause { CountsOnly (R.faults t.old.rows.now) (R.faults t.new.rows.now) ConnectFault.DiskFailed
+        result }
+{
+    put_state(t, coin, state)?;
+    lower(t, coin.row.script, coin.row.value, steps)
+}
+
+// An output is unspent again, and goes into its script's balance.
+pub(crate) fn give_back<R: Rows, L: Ledger>(
+    t: &mut Txn<'_, R>,
+    output: &NamedOutput,
+    steps: &mut Steps<L>,
+) -> Result<(), ConnectFault>
+    requires live { R.is_live t.old.rows.now }
+    requires below { output.now.number < length (tables_in t.old Table.Outs) }
+    requires fits { FitsOutRow output.now.row }
+    ensures given { (tb : typed.Tables) → R.tells → Encode (tables_in t.old) tb
+        → IsOutRow tb output.now.number output.now.row
+        → (edit.row_of output.now.row.script tb).balance + output.now.row.value < 2 ^ 64
+        → OnOk result (Encode (tables_in t.new) (edit.coin_back output.now.number tb)) }
+    ensures others { (u : Table) → u ≢ Table.Outs → u ≢ Table.Scripts
+        → tables_in t.new u ≡ tables_in t.old u }
+    ensures outs_stay { length (tables_in t.new Table.Outs) ≡ length (tables_in t.old Table.Outs) }
+    ensures scripts_stay { length (tables_in t.new Table.Scripts) ≡ length (tables_in t.old Table.Scripts) }
+    ensures fault { IfErr result (λ e. (e ≡ ConnectFault.DiskFailed) ⊎ (e ≡ ConnectFault.Memory)) }
+    ensures reads { OnlyReads t.old t.new }
+    ensures name { t.new.rows.ghost_name ≡ t.old.rows.ghost_name }
+    ensures ticked { steps.old ≤ steps.new }
+    ensures tick { steps.new ≤ steps.old + 1 }
+    ensures cause { CountsOnly (R.faults t.old.rows.now) (R.faults t.new.rows.now) ConnectFault.DiskFailed
+        result }
+{
+    put_state(t, output, State::Unspent)?;
+    raise(t, output.row.script, output.row.value, steps)
+}

@@ -1,0 +1,780 @@
+// What no contract says: that each call succeeds where memory is ample, rows that stand for nothing, and a long
+// run beside plain lists.
+ghost use Rattle.std.specs.Prelude.{◌≡◌, ◌<◌, ◌^◌, ◌+◌, [], refl};
+ghost use Rattle.el_rows.specs.RowBytes.{FitsTxRow, FitsScriptRow};
+ghost use Rattle.el_rows.specs.Tables.{limit_of};
+
+use crate::{add_out, named_output, spend, take_back_out, unspend};
+use el_base::{Hash32, Steps};
+use el_chain::ConnectFault;
+use el_outside::DiskFailed;
+use el_position::{add_tx, take_back_tx};
+use el_rows::{
+    CommitFault, InRow, OutRow, Rows, ScriptRow, Sealed, State, Table, TxRow, Txn, VecRows,
+};
+use el_tx::Outpoint;
+use std::alloc::Global;
+use std::marker::Brand;
+use std::process::Abort;
+use std::sync::ledger::{Blank, Ledger};
+use std::test::Fail;
+
+fn txid(k: u8) -> Hash32 {
+    let mut bytes = [0; 32];
+    bytes[0] = k;
+    bytes[31] = 9;
+    Hash32(bytes)
+}
+
+fn outpoint(k: u8, index: u32) -> Outpoint {
+    Outpoint {
+        txid: txid(k),
+        index,
+    }
+}
+
+fn tx(k: u8, first_out: u64, outs: u32) -> TxRow
+    requires { first_out < 2 ^ 32 }
+    ensures { FitsTxRow result }
+{
+    TxRow {
+        txid: txid(k),
+        height: 7,
+        start: 81,
+        len: 60,
+        first_out,
+        outs,
+        first_in: 3,
+        ins: 2,
+        older: None,
+        next: None,
+    }
+}
+
+// Seven buckets of transactions, and three scripts.
+fn begin<R: Rows>(txn: &mut Txn<'_, R>) -> Result<(), Fail>
+    ensures rows { txn.new.rows.now ≡ txn.old.rows.now }
+    ensures name { txn.new.rows.ghost_name ≡ txn.old.rows.ghost_name }
+{
+    for _ in 0..7 {
+        txn.append(Table::TxHeads, &[0; 4])?;
+    }
+    for _ in 0..3 {
+        txn.append(Table::Scripts, &[0; 52])?;
+    }
+    Ok(())
+}
+
+// A step on the lists.
+#[derive(Clone, Copy, Debug, PartialEq, Eq)]
+enum Step {
+    // a transaction of that txid and so many outputs
+    Tx(u8, u32),
+    // an output of the last one: index, value and script
+    Out(u32, u64, u64),
+    // the next transaction spends the output of that txid and index
+    Spend(u8, u32),
+}
+
+// The lists, with nothing but what they are.
+#[derive(Drop)]
+struct Plain {
+    txs: Vec<(u8, u64, u32)>,
+    outs: Vec<OutRow>,
+    ins: Vec<u64>,
+}
+
+// The coin of that txid and index among the first transactions, so many.
+fn plain_coin(plain: &Plain, k: u8, index: u32, below: usize) -> Option<usize> {
+    let mut found = None;
+    for (i, t) in plain.txs.iter().enumerate() {
+        if i < below && t.0 == k && index < t.2 {
+            found = Some(t.1.saturating_add(u64::from(index)) as usize);
+        }
+    }
+    let number = found?;
+    match plain.outs.get(number)?.state {
+        State::Unspent => Some(number),
+        _ => None,
+    }
+}
+
+fn set_state(plain: &mut Plain, number: usize, state: State) {
+    if let Some(row) = plain.outs.get_mut(number) {
+        row.state = state;
+    }
+}
+
+fn plain_out(plain: &mut Plain, index: u32, value: u64, script: u64) -> Result<(), Fail> {
+    let last = plain.txs.len().saturating_sub(1);
+    let k = plain.txs.get(last).map_or(0, |t| t.0);
+    if let Some(number) = plain_coin(plain, k, index, last) {
+        set_state(plain, number, State::Buried(last as u64));
+    }
+    plain.outs.push(OutRow {
+        tx: last as u64,
+        value,
+        script,
+        state: State::Unspent,
+    })?;
+    Ok(())
+}
+
+fn plain_spend(plain: &mut Plain, k: u8, index: u32) -> Result<(), Fail> {
+    let by = plain.txs.len();
+    if let Some(number) = plain_coin(plain, k, index, by) {
+        set_state(plain, number, State::Spent(by as u64));
+        plain.ins.push(number as u64)?;
+    }
+    Ok(())
+}
+
+// The lists after these steps.
+fn replay(alloc: Global, steps: &[Step]) -> Result<Plain, Fail> {
+    let mut plain = Plain {
+        txs: Vec::new(alloc),
+        outs: Vec::new(alloc),
+        ins: Vec::new(alloc),
+    };
+    for step in steps {
+        match *step {
+            Step::Tx(k, outs) => plain.txs.push((k, plain.outs.len() as u64, outs))?,
+            Step::Out(index, value, script) => plain_out(&mut plain, index, value, script)?,
+            Step::Spend(k, index) => plain_spend(&mut plain, k, index)?,
+        }
+    }
+    Ok(plain)
+}
+
+// What the unspent outputs of the script hold.
+fn plain_balance(plain: &Plain, script: u64) -> u64 {
+    let mut sum: u64 = 0;
+    for row in plain.outs.iter() {
+        if row.script == script && row.state == State::Unspent {
+            sum = sum.saturating_add(row.value);
+        }
+    }
+    sum
+}
+
+fn compare_outs<A: Abort, L: Ledger>(
+    rt: &A,
+    txn: &mut Txn<'_, VecRows>,
+    plain: &Plain,
+    steps: &mut Steps<L>,
+) -> Result<(), Fail>
+    ensures name { txn.new.rows.ghost_name ≡ txn.old.rows.ghost_name }
+{
+    assert!(rt; txn.count(Table::Outs) == plain.outs.len() as u64);
+    for (i, row) in plain.outs.iter().enumerate() {
+        let mut bytes = [0; 21];
+        assert!(rt; (i as u64) < txn.count(Table::Outs));
+        txn.get(Table::Outs, i as u64, &mut bytes, steps)?;
+        assert!(rt; OutRow::read(&bytes) == *row);
+    }
+    Ok(())
+}
+
+fn compare_ins<A: Abort, L: Ledger>(
+    rt: &A,
+    txn: &mut Txn<'_, VecRows>,
+    plain: &Plain,
+    steps: &mut Steps<L>,
+) -> Result<(), Fail>
+    ensures name { txn.new.rows.ghost_name ≡ txn.old.rows.ghost_name }
+{
+    assert!(rt; txn.count(Table::Ins) == plain.ins.len() as u64);
+    for (i, out) in plain.ins.iter().enumerate() {
+        let mut bytes = [0; 4];
+        assert!(rt; (i as u64) < txn.count(Table::Ins));
+        txn.get(Table::Ins, i as u64, &mut bytes, steps)?;
+        assert!(rt; InRow::read(&bytes).out == *out);
+    }
+    Ok(())
+}
+
+fn balance<A: Abort, L: Ledger>(
+    rt: &A,
+    txn: &mut Txn<'_, VecRows>,
+    script: u64,
+    steps: &mut Steps<L>,
+) -> Result<u64, Fail>
+    ensures name { txn.new.rows.ghost_name ≡ txn.old.rows.ghost_name }
+{
+    let mut bytes = [0; 52];
+    assert!(rt; script < txn.count(Table::Scripts));
+    txn.get(Table::Scripts, script, &mut bytes, steps)?;
+    Ok(ScriptRow::read(&bytes).balance)
+}
+
+// The tables are those of the lists.
+fn compare<A: Abort, L: Ledger>(
+    rt: &A,
+    txn: &mut Txn<'_, VecRows>,
+    plain: &Plain,
+    steps: &mut Steps<L>,
+) -> Result<(), Fail>
+    ensures name { txn.new.rows.ghost_name ≡ txn.old.rows.ghost_name }
+{
+    compare_outs(rt, txn, plain, steps)?;
+    compare_ins(rt, txn, plain, steps)?;
+    for script in 0..3 {
+        let kept = balance(rt, txn, script, steps)?;
+        assert!(rt; kept == plain_balance(plain, script));
+    }
+    Ok(())
+}
+
+// Takes the step, and answers whether it did something.
+fn take_step<A: Abort, L: Ledger>(
+    rt: &A,
+    txn: &mut Txn<'_, VecRows>,
+    step: Step,
+    steps: &mut Steps<L>,
+) -> Result<bool, Fail>
+    ensures name { txn.new.rows.ghost_name ≡ txn.old.rows.ghost_name }
+{
+    let txs = txn.count(Table::Txs);
+    match step {
+        Step::Tx(k, outs) => {
+            let row = tx(k, txn.count(Table::Outs), outs);
+            assert!(rt; add_tx(txn, &row, steps) == Ok(txs));
+            Ok(true)
+        }
+        Step::Out(index, value, script) => {
+            assert!(rt; script < txn.count(Table::Scripts));
+            let last = txs.saturating_sub(1);
+            assert!(rt; add_out(txn, last, index, value, script, steps) == Ok(()));
+            Ok(true)
+        }
+        Step::Spend(k, index) => match spend(txn, &outpoint(k, index), txs, steps) {
+            Ok(found) => Ok(found.is_some()),
+            Err(_) => Err(Fail::new("the call failed")),
+        },
+    }
+}
+
+fn take_back<A: Abort, L: Ledger>(
+    rt: &A,
+    txn: &mut Txn<'_, VecRows>,
+    step: Step,
+    steps: &mut Steps<L>,
+) -> Result<(), Fail>
+    ensures name { txn.new.rows.ghost_name ≡ txn.old.rows.ghost_name }
+{
+    match step {
+        Step::Tx(_, _) => assert!(rt; take_back_tx(txn, steps) == Ok(())),
+        Step::Out(_, _, _) => assert!(rt; take_back_out(txn, steps) == Ok(())),
+        Step::Spend(_, _) => assert!(rt; unspend(txn, steps) == Ok(())),
+    }
+    Ok(())
+}
+
+// Numbers that look like chance (Knuth's constants).
+fn next_number(seed: u64) -> u64 {
+    seed.wrapping_mul(6_364_136_223_846_793_005)
+        .wrapping_add(1_442_695_040_888_963_407)
+}
+
+// A step by a number. After a transaction come as many outputs as it has, if they come at all.
+fn step_by(number: u64, left: u32, outs: u32) -> Step {
+    let small = number >> 33;
+    if left > 0 {
+        return Step::Out(outs.saturating_sub(left), small % 1000, small % 3);
+    }
+    if small % 3 == 0 {
+        Step::Tx((small / 3 % 3) as u8, (small / 9 % 4) as u32)
+    } else {
+        Step::Spend((small / 3 % 3) as u8, (small / 9 % 4) as u32)
+    }
+}
+
+fn long_run<A: Abort, L: Ledger>(rt: &A, alloc: Global, blank: Blank) -> Result<(), Fail>
+    requires name { blank.name ≡ L.name }
+    requires parts { blank.parts ≡ L.parts }
+    requires some { 0 < blank.parts }
+{
+    let mut steps = Steps::<L>::new(blank);
+    let mut rows = VecRows::new(alloc);
+    let mut txn = Txn::new(alloc, &mut rows);
+    begin(&mut txn)?;
+    let mut done = Vec::new(alloc);
+    let mut seed = 3;
+    let mut left = 0;
+    let mut outs = 0;
+    for _ in 0..200 {
+        seed = next_number(seed);
+        let step = step_by(seed, left, outs);
+        match step {
+            Step::Tx(_, count) => {
+                left = count;
+                outs = count;
+            }
+            Step::Out(_, _, _) => left = left.saturating_sub(1),
+            Step::Spend(_, _) => {}
+        }
+        if take_step(rt, &mut txn, step, &mut steps)? {
+            done.push(step)?;
+        }
+        let plain = replay(alloc, &done)?;
+        compare(rt, &mut txn, &plain, &mut steps)?;
+    }
+    undo(rt, alloc, &mut txn, &mut done, &mut steps)
+}
+
+// Takes all steps back, the last first.
+fn undo<A: Abort, L: Ledger>(
+    rt: &A,
+    alloc: Global,
+    txn: &mut Txn<'_, VecRows>,
+    done: &mut Vec<Step>,
+    steps: &mut Steps<L>,
+) -> Result<(), Fail>
+    ensures name { txn.new.rows.ghost_name ≡ txn.old.rows.ghost_name }
+{
+    while let Some(step) = done.pop() {
+        take_back(rt, txn, step, steps)?;
+        let plain = replay(alloc, done)?;
+        compare(rt, txn, &plain, steps)?;
+    }
+    Ok(())
+}
+
+#[test]
+fn steps_and_their_inverses_are_those_of_lists(rt: HostRuntime) -> Result<(), Fail> {
+    long_run::<HostRuntime, Brand>(&rt, rt.alloc(), Blank::new(1))
+}
+
+// Steps, and after them the state of each output, which inputs there are, and the balances of three scripts.
+type Case = (&'static [Step], &'static [State], &'static [u64], [u64; 3]);
+
+const COINBASE: Step = Step::Tx(0, 1);
+
+const FIRST: Step = Step::Out(0, 50, 0);
+
+const SECOND: Step = Step::Out(0, 50, 1);
+
+const TAKE: Step = Step::Spend(0, 0);
+
+const OTHER: Step = Step::Tx(1, 0);
+
+// Two coinbases with one txid: the second buries the first where this is unspent, and alone can be spent.
+const TWO_COINBASES: [Case; 6] = [
+    (
+        &[COINBASE, FIRST, COINBASE, SECOND],
+        &[State::Buried(1), State::Unspent],
+        &[],
+        [0, 50, 0],
+    ),
+    (
+        &[COINBASE, FIRST, TAKE, OTHER, COINBASE, SECOND],
+        &[State::Spent(1), State::Unspent],
+        &[0],
+        [0, 50, 0],
+    ),
+    (
+        &[COINBASE, FIRST, COINBASE, SECOND, TAKE, OTHER],
+        &[State::Buried(1), State::Spent(2)],
+        &[1],
+        [0, 0, 0],
+    ),
+    (
+        &[COINBASE, FIRST, TAKE, OTHER, COINBASE, SECOND, TAKE, OTHER],
+        &[State::Spent(1), State::Spent(3)],
+        &[0, 1],
+        [0, 0, 0],
+    ),
+    // what was spent isn't spent again, nor is the older one
+    (
+        &[COINBASE, FIRST, COINBASE, SECOND, TAKE, TAKE, OTHER],
+        &[State::Buried(1), State::Spent(2)],
+        &[1],
+        [0, 0, 0],
+    ),
+    (
+        &[COINBASE, FIRST, TAKE, TAKE, OTHER],
+        &[State::Spent(1)],
+        &[0],
+        [0, 0, 0],
+    ),
+];
+
+// A newer transaction with fewer outputs than the index leaves the older one's, and no index beyond both is
+// there.
+const FEWER_OUTPUTS: [Case; 3] = [
+    (
+        &[
+            Step::Tx(0, 2),
+            Step::Out(0, 5, 0),
+            Step::Out(1, 7, 0),
+            Step::Tx(0, 1),
+            Step::Out(0, 9, 1),
+        ],
+        &[State::Buried(1), State::Unspent, State::Unspent],
+        &[],
+        [7, 9, 0],
+    ),
+    (
+        &[
+            Step::Tx(0, 2),
+            Step::Out(0, 5, 0),
+            Step::Out(1, 7, 0),
+            Step::Tx(0, 1),
+            Step::Out(0, 9, 1),
+            Step::Spend(0, 1),
+        ],
+        &[State::Buried(1), State::Spent(2), State::Unspent],
+        &[1],
+        [0, 9, 0],
+    ),
+    (
+        &[
+            Step::Tx(0, 2),
+            Step::Out(0, 5, 0),
+            Step::Out(1, 7, 2),
+            Step::Spend(0, 2),
+            Step::Spend(3, 0),
+        ],
+        &[State::Unspent, State::Unspent],
+        &[],
+        [5, 0, 7],
+    ),
+];
+
+fn states<A: Abort, L: Ledger>(
+    rt: &A,
+    txn: &mut Txn<'_, VecRows>,
+    wanted: &[State],
+    steps: &mut Steps<L>,
+) -> Result<(), Fail>
+    ensures name { txn.new.rows.ghost_name ≡ txn.old.rows.ghost_name }
+{
+    assert!(rt; txn.count(Table::Outs) == wanted.len() as u64);
+    for (i, state) in wanted.iter().enumerate() {
+        let mut bytes = [0; 21];
+        assert!(rt; (i as u64) < txn.count(Table::Outs));
+        txn.get(Table::Outs, i as u64, &mut bytes, steps)?;
+        assert!(rt; OutRow::read(&bytes).state == *state);
+    }
+    Ok(())
+}
+
+fn check_case<A: Abort, L: Ledger>(
+    rt: &A,
+    alloc: Global,
+    case: &Case,
+    steps: &mut Steps<L>,
+) -> Result<(), Fail> {
+    let mut rows = VecRows::new(alloc);
+    let mut txn = Txn::new(alloc, &mut rows);
+    begin(&mut txn)?;
+    let mut done = Vec::new(alloc);
+    for step in case.0 {
+        if take_step(rt, &mut txn, *step, steps)? {
+            done.push(*step)?;
+        }
+    }
+    states(rt, &mut txn, case.1, steps)?;
+    for script in 0..3 {
+        let kept = balance(rt, &mut txn, script, steps)?;
+        assert!(rt; kept == case.3[script as usize]);
+    }
+    let plain = replay(alloc, &done)?;
+    assert!(rt; plain.ins.as_slice() == case.2);
+    undo(rt, alloc, &mut txn, &mut done, steps)
+}
+
+fn check_cases<A: Abort, L: Ledger>(rt: &A, alloc: Global, blank: Blank) -> Result<(), Fail>
+    requires name { blank.name ≡ L.name }
+    requires parts { blank.parts ≡ L.parts }
+    requires some { 0 < blank.parts }
+{
+    let mut steps = Steps::<L>::new(blank);
+    for case in &TWO_COINBASES {
+        check_case(rt, alloc, case, &mut steps)?;
+    }
+    for case in &FEWER_OUTPUTS {
+        check_case(rt, alloc, case, &mut steps)?;
+    }
+    Ok(())
+}
+
+#[test]
+fn the_newest_output_of_an_outpoint_counts(rt: HostRuntime) -> Result<(), Fail> {
+    check_cases::<HostRuntime, Brand>(&rt, rt.alloc(), Blank::new(1))
+}
+
+// The row of an output of transaction 0 and script 0, with that value, and that state and transaction as they
+// are written.
+fn out_bytes(value: u64, state: u8, by: u8) -> [u8; 21] {
+    let mut row = [0; 21];
+    row[4..12].copy_from_slice(&value.to_le_bytes());
+    row[16] = state;
+    row[17] = by;
+    row
+}
+
+// A transaction with one output, the first, and a link to an older one as it is written.
+fn tx_bytes(k: u8, older: u8, next: u8) -> [u8; 68] {
+    let mut row = [0; 68];
+    row[0] = k;
+    row[31] = 9;
+    row[48] = 1;
+    row[60] = older;
+    row[64] = next;
+    row
+}
+
+// Rows that stand for nothing: the links of transactions 0 and 1 to an older one, as they are written; the
+// state of output 0 and its transaction, as written; the index that is asked for; and what the look-up finds.
+type Odd = ([u8; 2], (u8, u8), u32, Option<State>);
+
+const ODD: [Odd; 6] = [
+    // a link to the row itself, and one to a newer row, are none
+    ([0, 2], (0, 0), 1, None),
+    ([2, 0], (0, 0), 1, None),
+    // the two link to each other
+    ([2, 1], (0, 0), 1, None),
+    // a state above 2 is buried
+    ([0, 1], (9, 7), 0, Some(State::Buried(7))),
+    ([0, 1], (1, 7), 0, Some(State::Spent(7))),
+    // a link past the count is none
+    ([0, 9], (0, 0), 0, Some(State::Unspent)),
+];
+
+fn check_odd<A: Abort, L: Ledger>(
+    rt: &A,
+    alloc: Global,
+    odd: &Odd,
+    steps: &mut Steps<L>,
+) -> Result<(), Fail> {
+    let mut rows = VecRows::new(alloc);
+    let mut txn = Txn::new(alloc, &mut rows);
+    txn.append(Table::TxHeads, &[2, 0, 0, 0])?;
+    txn.append(Table::Txs, &tx_bytes(0, odd.0[0], 0))?;
+    txn.append(Table::Txs, &tx_bytes(0, odd.0[1], 1))?;
+    let (state, by) = odd.1;
+    txn.append(Table::Outs, &out_bytes(5, state, by))?;
+    match named_output(&mut txn, &outpoint(0, odd.2), 2, steps) {
+        Ok(found) => assert!(rt; found.map(|x| x.row.state) == odd.3),
+        Err(_) => return Err(Fail::new("the look-up failed")),
+    }
+    // a balance of 0 under an unspent output stays
+    txn.append(Table::Scripts, &[0; 52])?;
+    let spent = match odd.3 {
+        Some(State::Unspent) => Some(0),
+        _ => None,
+    };
+    assert!(rt; spend(&mut txn, &outpoint(0, odd.2), 2, steps) == Ok(spent));
+    assert!(rt; balance(rt, &mut txn, 0, steps)? == 0);
+    Ok(())
+}
+
+// Sums stay at their type's end: a script's balance, the value of an output, and what the balance is after the
+// output was added, spent, given back and taken back.
+const SUMS: [(u64, u64, [u64; 4]); 3] = [
+    (0, 5, [5, 0, 5, 0]),
+    (
+        u64::MAX,
+        5,
+        [u64::MAX, u64::MAX - 5, u64::MAX, u64::MAX - 5],
+    ),
+    (
+        u64::MAX - 3,
+        5,
+        [u64::MAX, u64::MAX - 5, u64::MAX, u64::MAX - 5],
+    ),
+];
+
+fn check_sums<A: Abort, L: Ledger>(
+    rt: &A,
+    alloc: Global,
+    sums: &(u64, u64, [u64; 4]),
+    steps: &mut Steps<L>,
+) -> Result<(), Fail> {
+    let mut rows = VecRows::new(alloc);
+    let mut txn = Txn::new(alloc, &mut rows);
+    begin(&mut txn)?;
+    let mut row = [0; 52];
+    row[44..52].copy_from_slice(&sums.0.to_le_bytes());
+    assert!(rt; txn.count(Table::Scripts) == 3);
+    txn.put(Table::Scripts, 0, &row)?;
+    let wanted = sums.2;
+    assert!(rt; add_tx(&mut txn, &tx(0, 0, 1), steps) == Ok(0));
+    assert!(rt; txn.count(Table::Scripts) == 3);
+    assert!(rt; add_out(&mut txn, 0, 0, sums.1, 0, steps) == Ok(()));
+    assert!(rt; balance(rt, &mut txn, 0, steps)? == wanted[0]);
+    assert!(rt; spend(&mut txn, &outpoint(0, 0), 1, steps) == Ok(Some(0)));
+    assert!(rt; balance(rt, &mut txn, 0, steps)? == wanted[1]);
+    assert!(rt; unspend(&mut txn, steps) == Ok(()));
+    assert!(rt; balance(rt, &mut txn, 0, steps)? == wanted[2]);
+    assert!(rt; take_back_out(&mut txn, steps) == Ok(()));
+    assert!(rt; balance(rt, &mut txn, 0, steps)? == wanted[3]);
+    Ok(())
+}
+
+fn odd_rows<A: Abort, L: Ledger>(rt: &A, alloc: Global, blank: Blank) -> Result<(), Fail>
+    requires name { blank.name ≡ L.name }
+    requires parts { blank.parts ≡ L.parts }
+    requires some { 0 < blank.parts }
+{
+    let mut steps = Steps::<L>::new(blank);
+    for odd in &ODD {
+        check_odd(rt, alloc, odd, &mut steps)?;
+    }
+    for sums in &SUMS {
+        check_sums(rt, alloc, sums, &mut steps)?;
+    }
+    Ok(())
+}
+
+#[test]
+fn rows_that_stand_for_nothing(rt: HostRuntime) -> Result<(), Fail> {
+    odd_rows::<HostRuntime, Brand>(&rt, rt.alloc(), Blank::new(1))
+}
+
+// Where there is nothing nothing is found, and nothing is taken back.
+fn on_nothing<A: Abort, L: Ledger>(rt: &A, alloc: Global, blank: Blank) -> Result<(), Fail>
+    requires name { blank.name ≡ L.name }
+    requires parts { blank.parts ≡ L.parts }
+    requires some { 0 < blank.parts }
+{
+    let mut steps = Steps::<L>::new(blank);
+    let mut rows = VecRows::new(alloc);
+    let mut txn = Txn::new(alloc, &mut rows);
+    assert!(rt; spend(&mut txn, &outpoint(0, 0), 0, &mut steps) == Ok(None));
+    assert!(rt; unspend(&mut txn, &mut steps) == Ok(()));
+    assert!(rt; take_back_out(&mut txn, &mut steps) == Ok(()));
+    Ok(())
+}
+
+#[test]
+fn nothing_is_found_where_nothing_is(rt: HostRuntime) -> Result<(), Fail> {
+    on_nothing::<HostRuntime, Brand>(&rt, rt.alloc(), Blank::new(1))
+}
+
+// A store that is full, and whose device may fail at each row. Each row's bytes are zeros.
+#[derive(Drop)]
+struct Full {
+    fails: bool,
+    faults: u64,
+}
+
+impl Rows for Full {
+    ghost tells = { ⊥ };
+
+    ghost tells_crash = { ⊥ };
+
+    ghost lists = { λ s t. [] };
+
+    ghost counts = { λ s t. limit_of t };
+
+    ghost is_live = { λ s. Unit {0} };
+
+    ghost moment = { λ s. 0 };
+
+    ghost Left = { Unit {0} };
+
+    ghost shows = { λ c lists. ⊥ };
+
+    ghost left_since = { λ s t c. ⊥ };
+
+    ghost faults = { λ s. s.faults };
+
+    ghost counted = { λ s t told. absurd told };
+
+    ghost earlier = { λ s t u c le left. left };
+
+    ghost leaves_lists = { λ s c told live left. absurd told };
+
+    fn count(&self, t: Table) -> u64 {
+        t.limit()
+    }
+
+    fn row<L: Ledger>(
+        &mut self,
+        t: Table,
+        _: u64,
+        buf: &mut [u8],
+        steps: &mut Steps<L>,
+    ) -> Result<(), DiskFailed> {
+        steps.tick();
+        if self.fails {
+            self.faults = self.faults.saturating_add(1);
+            return Err(DiskFailed);
+        }
+        buf.fill(0);
+        if t == Table::TxHeads {
+            buf.fill(1);
+        }
+        if t == Table::Txs {
+            buf.fill(1);
+        }
+        Ok(())
+    }
+
+    fn commit(&mut self, _: &Sealed) -> Result<(), CommitFault> {
+        Err(CommitFault::Memory)
+    }
+}
+
+fn at_the_limit<A: Abort, L: Ledger>(rt: &A, alloc: Global, blank: Blank) -> Result<(), Fail>
+    requires name { blank.name ≡ L.name }
+    requires parts { blank.parts ≡ L.parts }
+    requires some { 0 < blank.parts }
+{
+    let mut steps = Steps::<L>::new(blank);
+    let mut rows = Full {
+        fails: false,
+        faults: 0,
+    };
+    let mut txn = Txn::new(alloc, &mut rows);
+    let outs = ConnectFault::Full {
+        table: 4,
+        rows: 4_294_967_295,
+    };
+    let ins = ConnectFault::Full {
+        table: 5,
+        rows: 4_294_967_295,
+    };
+    let every = Outpoint {
+        txid: Hash32([1; 32]),
+        index: 0,
+    };
+    assert!(rt; txn.count(Table::Scripts) == 4_294_967_295);
+    assert!(rt; add_out(&mut txn, 0, 0, 5, 0, &mut steps) == Err(outs));
+    assert!(rt; spend(&mut txn, &every, 0, &mut steps) == Err(ins));
+    assert!(rt; spend(&mut txn, &outpoint(7, 0), 0, &mut steps) == Ok(None));
+    Ok(())
+}
+
+#[test]
+fn full_at_the_limit(rt: HostRuntime) -> Result<(), Fail> {
+    at_the_limit::<HostRuntime, Brand>(&rt, rt.alloc(), Blank::new(1))
+}
+
+fn failing<A: Abort, L: Ledger>(rt: &A, alloc: Global, blank: Blank) -> Result<(), Fail>
+    requires name { blank.name ≡ L.name }
+    requires parts { blank.parts ≡ L.parts }
+    requires some { 0 < blank.parts }
+{
+    let mut steps = Steps::<L>::new(blank);
+    let mut rows = Full {
+        fails: true,
+        faults: 0,
+    };
+    let mut txn = Txn::new(alloc, &mut rows);
+    let fault = ConnectFault::DiskFailed;
+    assert!(rt; txn.count(Table::Scripts) == 4_294_967_295);
+    assert!(rt; named_output(&mut txn, &outpoint(1, 0), 5, &mut steps) == Err(DiskFailed));
+    assert!(rt; add_out(&mut txn, 0, 0, 5, 0, &mut steps) == Err(fault));
+    assert!(rt; spend(&mut txn, &outpoint(1, 0), 0, &mut steps) == Err(fault));
+    assert!(rt; unspend(&mut txn, &mut steps) == Err(fault));
+    assert!(rt; take_back_out(&mut txn, &mut steps) == Err(fault));
+    Ok(())
+}
+
+#[test]
+fn device_fails(rt: HostRuntime) -> Result<(), Fail> {
+    failing::<HostRuntime, Brand>(&rt, rt.alloc(), Blank::new(1))
+}

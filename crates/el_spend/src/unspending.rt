@@ -1,0 +1,92 @@
+// An input less.
+ghost use Rattle.std.specs.Prelude.{◌≡◌, ◌≢◌, ◌⊎◌, ◌<◌, ◌≤◌, ◌+◌, ◌-◌, ◌^◌, ℕ, List, Some, length, OnOk, IfErr};
+ghost use Rattle.el_outside.specs.Counts.{CountsOnly};
+ghost use Rattle.el_rows.specs.Transaction.{tables_in, OnlyReads};
+ghost use Rattle.el_rows.specs.declared.table.Table.{Table};
+ghost use Rattle.el_tables.specs.ChainLists.{ListedBlock};
+ghost use Rattle.el_tables.specs.Disconnecting as back;
+ghost use Rattle.el_tables.specs.Lists as lists;
+ghost use Rattle.el_tables.specs.Tables.{HeadCounts};
+ghost use Rattle.el_buckets.specs.Rows.{Hold};
+ghost use Rattle.el_spend.specs.Outputs.{BalancesFit};
+ghost use Rattle.el_spend.specs.within.Parts.{spent_given_back};
+
+use crate::coins::give_back;
+use crate::lookup::found_output;
+use crate::reading::in_row;
+use el_base::Steps;
+use el_chain::ConnectFault;
+use el_rows::{Rows, State, Table, Txn};
+use std::sync::ledger::Ledger;
+
+// The output of that number is unspent again, if it was spent.
+fn give_back_spent<R: Rows, L: Ledger>(
+    t: &mut Txn<'_, R>,
+    k: u64,
+    steps: &mut Steps<L>,
+) -> Result<(), ConnectFault>
+    requires live { R.is_live t.old.rows.now }
+    ensures lists { (counts : HeadCounts) (bs : List ListedBlock) (l : lists.Lists) → R.tells
+        → Hold counts bs l (tables_in t.old) → BalancesFit (back.give_back (Some k) l.outs)
+        → OnOk result (Hold counts bs (spent_given_back k l) (tables_in t.new)) }
+    ensures others { (u : Table) → u ≢ Table.Outs → u ≢ Table.Scripts
+        → tables_in t.new u ≡ tables_in t.old u }
+    ensures outs_stay { length (tables_in t.new Table.Outs) ≡ length (tables_in t.old Table.Outs) }
+    ensures scripts_stay { length (tables_in t.new Table.Scripts) ≡ length (tables_in t.old Table.Scripts) }
+    ensures fault { IfErr result (λ e. (e ≡ ConnectFault.DiskFailed) ⊎ (e ≡ ConnectFault.Memory)) }
+    ensures reads { OnlyReads t.old t.new }
+    ensures name { t.new.rows.ghost_name ≡ t.old.rows.ghost_name }
+    ensures ticked { steps.old ≤ steps.new }
+    ensures tick { steps.new ≤ steps.old + 2 }
+    ensures cause { CountsOnly (R.faults t.old.rows.now) (R.faults t.new.rows.now) ConnectFault.DiskFailed
+        result }
+{
+    let found = found_output(t, k, steps).map_err(|_| ConnectFault::DiskFailed)?;
+    let Some(output) = found else {
+        return Ok(());
+    };
+    match output.row.state {
+        State::Spent(_) => give_back(t, &output, steps),
+        _ => Ok(()),
+    }
+}
+
+/// Takes the last input away: the output that it spent is unspent again. Where there is no input nothing
+/// changes. It reads three rows at most. It fails only for want of memory or a disk fault, and then the
+/// transaction of rows may hold a part.
+pub fn unspend<R: Rows, L: Ledger>(
+    t: &mut Txn<'_, R>,
+    steps: &mut Steps<L>,
+) -> Result<(), ConnectFault>
+    requires live { R.is_live t.old.rows.now }
+    // It is the step of the lists, on all tables, where the balances after it fit.
+    ensures lists { (counts : HeadCounts) (bs : List ListedBlock) (l : lists.Lists) → R.tells
+        → Hold counts bs l (tables_in t.old) → BalancesFit (back.unspend l).outs
+        → OnOk result (Hold counts bs (back.unspend l) (tables_in t.new)) }
+    // What follows holds over any rows.
+    ensures none { length (tables_in t.old Table.Ins) ≡ 0
+        → OnOk result (tables_in t.new ≡ tables_in t.old) }
+    ensures shorter { OnOk result (length (tables_in t.new Table.Ins)
+        ≡ length (tables_in t.old Table.Ins) - 1) }
+    ensures outs_stay { length (tables_in t.new Table.Outs) ≡ length (tables_in t.old Table.Outs) }
+    ensures scripts_stay { length (tables_in t.new Table.Scripts) ≡ length (tables_in t.old Table.Scripts) }
+    ensures others { (u : Table) → u ≢ Table.Outs → u ≢ Table.Ins → u ≢ Table.Scripts
+        → tables_in t.new u ≡ tables_in t.old u }
+    ensures fault { IfErr result (λ e. (e ≡ ConnectFault.DiskFailed) ⊎ (e ≡ ConnectFault.Memory)) }
+    ensures reads { OnlyReads t.old t.new }
+    ensures name { t.new.rows.ghost_name ≡ t.old.rows.ghost_name }
+    ensures ticked { steps.old ≤ steps.new }
+    ensures tick { steps.new ≤ steps.old + 3 }
+    ensures cause { CountsOnly (R.faults t.old.rows.now) (R.faults t.new.rows.now) ConnectFault.DiskFailed
+        result }
+{
+    let count = t.count(Table::Ins);
+    if count == 0 {
+        return Ok(());
+    }
+    let last = count - 1;
+    let row = in_row(t, last, steps).map_err(|_| ConnectFault::DiskFailed)?;
+    give_back_spent(t, row.out, steps)?;
+    t.shrink(Table::Ins, last);
+    Ok(())
+}
