@@ -1,5 +1,7 @@
+pub mod BackMoves
 pub mod Chains
 pub mod CoinLists
+pub mod CoinsAgain
 pub mod CoinSteps
 pub mod Meters
 pub mod Histories

@@ -301,6 +301,54 @@ fn tells_coins_and_balances(rt: HostRuntime) -> Result<(), Fail> {
     Ok(())
 }
 
+// The script hashes that are touched where the last blocks are taken back, and none is put in their place.
+fn take_back(ledger: &mut PlainChain, back: u32) -> Result<Touched, Fail> {
+    if ledger.blocks().len() < back as usize {
+        return Err(Fail::new("there are fewer blocks"));
+    }
+    Ok(ledger.move_all(back, &[], &[])?)
+}
+
+// What a script hash has after one block was taken back: its entries, what its coins hold, and whether it was
+// touched.
+fn left_of(alloc: Global, texts: &[&str], script: &str) -> Result<(Vec<Entry>, u64, bool), Fail> {
+    let mut ledger = ledger_of(alloc, texts)?;
+    let script_hash = Hash32::from_shown(script)?;
+    let touched = take_back(&mut ledger, 1)?;
+    let entries = ledger.history(&script_hash)?;
+    Ok((
+        entries,
+        ledger.balance(&script_hash),
+        touched.has(&script_hash),
+    ))
+}
+
+#[test]
+fn takes_a_block_back(rt: HostRuntime) -> Result<(), Fail> {
+    for (script, count, balance, is_touched) in [
+        (SCRIPT_1, 1, 5_000_000_000, true),
+        (SCRIPT_2, 0, 0, true),
+        (SCRIPT_3, 0, 0, true),
+        (SCRIPT_4, 0, 0, true),
+        (SCRIPT_5, 0, 0, false),
+    ] {
+        let found = left_of(rt.alloc(), [FIRST, SECOND].as_slice(), script)?;
+        assert_eq!(rt; found.0.len(), count, "of {script}");
+        assert_eq!(rt; (found.1, found.2), (balance, is_touched), "of {script}");
+    }
+    Ok(())
+}
+
+// The coin that the second twin had replaced is a coin again.
+#[test]
+fn takes_a_twin_back(rt: HostRuntime) -> Result<(), Fail> {
+    let found = left_of(rt.alloc(), [TWIN, OTHER_TWIN].as_slice(), SCRIPT_5)?;
+    let expected = entries_of(rt.alloc(), [(0, TXID_TWIN)].as_slice())?;
+    assert_eq!(rt; found.0.as_slice(), expected.as_slice());
+    assert_eq!(rt; (found.1, found.2), (5_000_000_000, true));
+    Ok(())
+}
+
 #[test]
 fn keeps_each_script_once(rt: HostRuntime) -> Result<(), Fail> {
     let mut touched = Touched::new(rt.alloc());

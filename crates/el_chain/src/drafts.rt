@@ -1,4 +1,4 @@
-// Several blocks, all of which are added or none.
+// Drafts of moves: what a move would leave.
 ghost use Rattle.std.specs.Prelude.{◌≡◌, ◌≢◌, ◌⊎◌, ◌+◌, ◌<◌, ◌≤◌, ◌++◌, ◌∷◌, [], ℕ, List, length, IfOk, IfErr, OnOk, OnErr};
 ghost use Rattle.std.specs.List.{AllByRecursion};
 ghost use Rattle.el_chain.specs.declared.placed.Placed as placed_shape;
@@ -7,6 +7,7 @@ ghost use Rattle.el_chain.specs.Chains.{Chain, tip};
 ghost use Rattle.el_chain.specs.Records.{IsBlockOf};
 ghost use Rattle.el_block.specs.BlockFaults.{FirstBlockFault};
 ghost use Rattle.el_chain.specs.within.CoinLayers.{IsPlainChain};
+ghost use Rattle.el_chain.specs.within.CoinTables.{HasFitting};
 ghost use Rattle.el_chain.specs.within.Drafts.{IsDrafted};
 ghost use Rattle.el_chain.specs.Faults.{IsNext, fault as block_fault};
 ghost use Rattle.el_chain.specs.Headers.{AreLinked};
@@ -16,7 +17,7 @@ ghost use Rattle.el_chain.specs.Moves.{AreOf, AreNextBlocks, FaultInAt, IsStop};
 ghost use Rattle.el_chain.specs.Records.{IsNode};
 ghost use Rattle.el_block.specs.declared.block.Block as block_shape;
 
-use crate::coins::{CoinTable, connect, lay_over};
+use crate::coins::{CoinTable, connect};
 use crate::fault::ConnectFault;
 use crate::moves::MoveFault;
 use crate::node::Node;
@@ -28,6 +29,16 @@ use el_base::{Bytes, Hash32, OutOfMemory};
 use el_block::{Block, BlockFault, decode_block};
 use indexmap::IndexMap;
 use std::alloc::Global;
+
+/// What a move would leave: the new blocks, the coins that change, the counts, and the script hashes that are
+/// touched.
+#[derive(Debug, Drop)]
+pub struct Draft {
+    pub fresh: Vec<Placed>,
+    pub changes: CoinTable,
+    pub tally: Tally,
+    pub touched: Touched,
+}
 
 // The fault of a block of that hash that isn't read.
 fn bad(hash: Hash32, fault: BlockFault) -> MoveFault
@@ -154,47 +165,52 @@ fn draft_all(
     Ok(fresh)
 }
 
-/// Adds the blocks of the nodes, which these bytes encode, or none, and gives the script hashes that they
-/// touch.
-pub fn add_all(
+/// Drafts the move that takes back the blocks that are gone and puts the blocks of the nodes in their place,
+/// which these bytes encode. The base has the coins after the blocks that stay, and the counts are theirs.
+///
+/// # Errors
+///
+/// `MoveFault::BadBlock` or `MoveFault::Refused` for the first block in their order that has a fault, or
+/// `MoveFault::Memory` where memory runs out.
+pub fn draft_move(
     alloc: Global,
-    blocks: &mut Vec<Placed>,
-    coins: &mut CoinTable,
-    tally: &mut Tally,
+    blocks: &[Placed],
+    gone: &[Placed],
+    base: &CoinTable,
+    tally: &Tally,
     nodes: &[Node],
     texts: &[Bytes],
-) -> Result<Touched, MoveFault>
-    requires kept { IsPlainChain blocks.old.items coins.old tally.old }
+) -> Result<Draft, MoveFault>
+    requires kept { IsPlainChain blocks.now base.now tally.now }
+    requires gone { AllByRecursion HasFitting gone.now }
     requires nodes { AllByRecursion IsNode nodes.now }
     requires of { AreOf nodes.now texts.now }
-    requires linked { AreLinked (tip blocks.old.items) nodes.now }
-    ensures kept { IsPlainChain blocks.new.items coins.new tally.new }
-    ensures ok { IfOk result (λ touched. (fresh : Chain) × (blocks.new.items ≡ blocks.old.items ++ fresh)
-        × AreNextBlocks blocks.old.items nodes.now texts.now fresh
-        × Touch touched (coins_of blocks.old.items) fresh) }
-    ensures err { OnErr result (blocks.new.items ≡ blocks.old.items) }
+    requires linked { AreLinked (tip blocks.now) nodes.now }
+    ensures drafted { IfOk result (λ d. IsDrafted base.now (blocks.now ++ d.fresh.items) d.changes d.tally) }
+    ensures next { IfOk result (λ d. AreNextBlocks blocks.now nodes.now texts.now d.fresh.items) }
+    ensures touched { IfOk result (λ d. Touch d.touched (coins_of blocks.now) (gone.now ++ d.fresh.items)) }
     ensures first_fault { IfErr result (λ e. (e ≡ MoveFault.Memory)
-        ⊎ FaultInAt blocks.old.items nodes.now texts.now e) }
+        ⊎ FaultInAt blocks.now nodes.now texts.now e) }
 {
     let mut changes = CoinTable {
         map: IndexMap::new(alloc),
-        supply: coins.supply,
+        supply: base.supply,
     };
     let mut counted = *tally;
-    let mut fresh = draft_all(
+    let fresh = draft_all(
         alloc,
-        blocks.as_slice(),
-        coins,
+        blocks,
+        base,
         &mut changes,
         &mut counted,
         nodes,
         texts,
     )?;
-    let touched = touched_by(alloc, coins, fresh.as_slice())?;
-    blocks.reserve(fresh.len())?;
-    lay_over(coins, changes)?;
-    *tally = counted;
-    // There is room, so all are moved.
-    let _moved = blocks.append(&mut fresh);
-    Ok(touched)
+    let touched = touched_by(alloc, base, gone, fresh.as_slice())?;
+    Ok(Draft {
+        fresh,
+        changes,
+        tally: counted,
+        touched,
+    })
 }

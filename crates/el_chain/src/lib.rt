@@ -3,6 +3,7 @@
 //! blocks with their coins.
 #![tactic(auto)]
 
+mod anew;
 mod balance;
 mod coin;
 mod coins;
@@ -15,6 +16,7 @@ mod laws;
 mod limits;
 mod meter;
 mod moves;
+mod moving;
 mod node;
 mod placed;
 mod plain_chain;

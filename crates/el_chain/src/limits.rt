@@ -10,8 +10,8 @@ pub const PREFIX_SIZE: u32 = 8;
 /// How many rows a table of the index may have at most, so that the number of a row has 32 bits.
 pub const ROW_LIMIT: u32 = 4_294_967_295;
 
-/// How many blocks one move may take back: none, until moves back are made.
-pub const MAX_BACK: u32 = 0;
+/// How many blocks one move may take back.
+pub const MAX_BACK: u32 = 100;
 
 /// How many blocks one move may put in.
 pub const MAX_FORWARD: usize = 16;

@@ -1,5 +1,5 @@
 // The plain ledger.
-ghost use Rattle.std.specs.Prelude.{◌≡◌, ◌≢◌, ◌⊎◌, List, ℕ, [], ◌∷◌, ◌++◌, None, Some, IfOk, IfErr, OnOk, OnErr, MatchOption, Ok, Err, ◌≤◌, ◌<◌, ◌^◌, length};
+ghost use Rattle.std.specs.Prelude.{◌≡◌, ◌≢◌, ◌⊎◌, List, ℕ, [], ◌∷◌, ◌++◌, None, Some, IfOk, IfErr, OnOk, OnErr, MatchOption, Ok, Err, ◌≤◌, ◌<◌, ◌^◌, ◌-◌, length, drop};
 ghost use Rattle.el_block.specs.Blocks.{HasBlockEncoding};
 ghost use Rattle.el_chain.specs.Chains.{tip};
 ghost use Rattle.std.specs.List.{AllByRecursion};
@@ -11,18 +11,18 @@ ghost use Rattle.el_chain.specs.declared.coin.Coin as coin_shape;
 ghost use Rattle.std.specs.Prelude.{find, filter};
 ghost use Rattle.std.specs.Str.{bytes_eq};
 ghost use Rattle.el_chain.specs.Touches.{Touch};
-ghost use Rattle.el_chain.specs.Moves.{AreOf, AreNextBlocks, FaultInAt};
+ghost use Rattle.el_chain.specs.Moves.{AreOf, AreNextBlocks, FaultInAt, shorter};
 ghost use Rattle.el_chain.specs.Records.{IsNode};
 ghost use Rattle.el_chain.specs.History.{history};
 
 use crate::balance::balance_of;
 use crate::coin::Coin;
 use crate::coins::{CoinTable, add_block};
-use crate::drafts::add_all;
 use crate::entry::Entry;
 use crate::fault::ConnectFault;
 use crate::history::history_of;
 use crate::moves::MoveFault;
+use crate::moving::move_all;
 use crate::node::Node;
 use crate::placed::Placed;
 use crate::tally::Tally;
@@ -156,28 +156,37 @@ impl PlainChain {
         self.blocks.as_slice()
     }
 
-    /// Adds the blocks of the nodes, which these bytes encode, or none, and gives the script hashes that they
-    /// touch.
+    /// Takes the last `back` blocks back and puts the blocks of the nodes in their place, which these bytes
+    /// encode, all of it or nothing. Gives the script hashes that all of these blocks touch.
     ///
     /// # Errors
     ///
-    /// `MoveFault::BadBlock` or `MoveFault::Refused` for the first block in their order that has a fault, or
-    /// `MoveFault::Memory` where memory runs out. Then nothing has changed.
-    pub fn extend_all(&mut self, nodes: &[Node], texts: &[Bytes]) -> Result<Touched, MoveFault>
+    /// `MoveFault::BadBlock` or `MoveFault::Refused` for the first block of the nodes in their order that has
+    /// a fault after the blocks that stay, or `MoveFault::Memory` where memory runs out. Then nothing has
+    /// changed.
+    pub fn move_all(
+        &mut self,
+        back: u32,
+        nodes: &[Node],
+        texts: &[Bytes],
+    ) -> Result<Touched, MoveFault>
+        requires within { back ≤ length self.old }
         requires nodes { AllByRecursion IsNode nodes.now }
         requires of { AreOf nodes.now texts.now }
-        requires linked { AreLinked (tip self.old) nodes.now }
-        ensures ok { IfOk result (λ touched. (fresh : Chain) × (self.new ≡ self.old ++ fresh)
-            × AreNextBlocks self.old nodes.now texts.now fresh × Touch touched (coins self.old) fresh) }
+        requires linked { AreLinked (tip (shorter back self.old)) nodes.now }
+        ensures ok { IfOk result (λ touched. (fresh : Chain) × (self.new ≡ shorter back self.old ++ fresh)
+            × AreNextBlocks (shorter back self.old) nodes.now texts.now fresh
+            × Touch touched (coins (shorter back self.old)) (drop (length self.old - back) self.old ++ fresh)) }
         ensures err { OnErr result (self.new ≡ self.old) }
         ensures first_fault { IfErr result (λ e. (e ≡ MoveFault.Memory)
-            ⊎ FaultInAt self.old nodes.now texts.now e) }
+            ⊎ FaultInAt (shorter back self.old) nodes.now texts.now e) }
     {
-        add_all(
+        move_all(
             *self.blocks.allocator(),
             &mut self.blocks,
             &mut self.coins,
             &mut self.tally,
+            back,
             nodes,
             texts,
         )

@@ -1,5 +1,5 @@
-// The script hashes that blocks touch which are put after a chain.
-ghost use Rattle.std.specs.Prelude.{◌≡◌, ◌<◌, ◌^◌, ◌||◌, List, [], length, IfOk, OnOk};
+// The script hashes that a move touches.
+ghost use Rattle.std.specs.Prelude.{◌≡◌, ◌<◌, ◌^◌, ◌||◌, ◌++◌, List, [], length, IfOk, OnOk};
 ghost use Rattle.std.specs.List.{AllByRecursion, list_any};
 ghost use Rattle.el_base.specs.declared.hash.Hash32 as shape;
 ghost use Rattle.el_tx.specs.declared.types.TxIn as input_shape;
@@ -149,19 +149,39 @@ fn touch_all(
     Ok(())
 }
 
-/// The script hashes that these blocks touch, which are put after the chain whose coins the base has.
-pub fn touched_by(
+// Adds those that blocks touch.
+fn touch_blocks(
     alloc: Global,
     base: &CoinTable,
     blocks: &[Placed],
-) -> Result<Touched, OutOfMemory>
+    touched: &mut Touched,
+) -> Result<(), OutOfMemory>
     requires { AllByRecursion HasFitting blocks.now }
+    ensures { IfCoins base.now (λ coins s. OnOk result
+        (list_any (same_hash s) touched.new ≡ (list_any (same_hash s) touched.old
+        || touches_any s.0 coins blocks.now))) }
+{
+    for placed in blocks {
+        touch_all(alloc, base, placed.block.txs.as_slice(), touched)?;
+    }
+    Ok(())
+}
+
+/// The script hashes that a move touches, which takes some blocks back and puts others in their place. The
+/// base has the coins after the blocks that stay.
+pub fn touched_by(
+    alloc: Global,
+    base: &CoinTable,
+    gone: &[Placed],
+    fresh: &[Placed],
+) -> Result<Touched, OutOfMemory>
+    requires gone_fit { AllByRecursion HasFitting gone.now }
+    requires fresh_fit { AllByRecursion HasFitting fresh.now }
     ensures { IfCoins base.now (λ coins s. IfOk result
-        (λ touched. list_any (same_hash s) touched ≡ touches_any s.0 coins blocks.now)) }
+        (λ touched. list_any (same_hash s) touched ≡ touches_any s.0 coins (gone.now ++ fresh.now))) }
 {
     let mut touched = Touched::new(alloc);
-    for placed in blocks {
-        touch_all(alloc, base, placed.block.txs.as_slice(), &mut touched)?;
-    }
+    touch_blocks(alloc, base, gone, &mut touched)?;
+    touch_blocks(alloc, base, fresh, &mut touched)?;
     Ok(touched)
 }

@@ -314,7 +314,7 @@ touched_numbers : (m : ℕ) (scripts ss : List Hash32) (es : List ListedEntry) �
 touched_numbers m scripts [] es h = h
 touched_numbers m scripts (s ∷ ss) es h = touched_numbers m (add_script s scripts) ss (append_entry m (script_number s scripts) es) (touch_numbers scripts es s m h)
 
-positions_numbered : (ps : List Position) → IsNumbered (scripts_of ps) (entries_from (scripts_of ps) 0 ps)
+pub positions_numbered : (ps : List Position) → IsNumbered (scripts_of ps) (entries_from (scripts_of ps) 0 ps)
 positions_numbered ps = from_front (λ (qs : List Position). IsNumbered (scripts_of qs) (entries_from (scripts_of qs) 0 qs)) (record { once = tt; order = tt; all = refl }) (λ qs q h. grow qs q h) ps
   where
     grow : (qs : List Position) (q : Position) → IsNumbered (scripts_of qs) (entries_from (scripts_of qs) 0 qs)

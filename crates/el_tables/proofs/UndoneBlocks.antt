@@ -25,7 +25,7 @@ use Rattle.el_tables.proofs.Disconnects.{disconnects_one}
 
 -- 1. Transactions
 
-disconnects_txs : (ts : List Tx) (height index start : ℕ) (ps : List Position) → first_fault ps (positions_in height index start ts (coins_of (outputs ps))) ≡ None
+pub disconnects_txs : (ts : List Tx) (height index start : ℕ) (ps : List Position) → first_fault ps (positions_in height index start ts (coins_of (outputs ps))) ≡ None
     → times (length ts) disconnect_tx (lists_of (ps ++ positions_in height index start ts (coins_of (outputs ps)))) ≡ lists_of ps
 disconnects_txs [] height index start ps none = ap lists_of (append-nil ps)
 disconnects_txs (t ∷ ts) height index start ps none =
@@ -44,7 +44,7 @@ disconnects_txs (t ∷ ts) height index start ps none =
 
 -- 2. Good chains
 
-good_front : (before front : Chain) (b : Placed) → AreNext before (front ++ b ∷ []) → AreNext before front × IsNext (before ++ front) b.block
+pub good_front : (before front : Chain) (b : Placed) → AreNext before (front ++ b ∷ []) → AreNext before front × IsNext (before ++ front) b.block
 good_front before [] b h = (tt, subst (λ (l : Chain). IsNext l b.block) (sym (append-nil before)) h.0)
 good_front before (x ∷ xs) b h =
     let rest = good_front (before ++ x ∷ []) xs b h.1 in

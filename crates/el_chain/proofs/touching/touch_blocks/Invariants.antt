@@ -13,7 +13,7 @@ use Rattle.el_chain.specs.History.{has_own}
 use Rattle.el_chain.specs.Touches.{touches}
 use Rattle.el_chain.specs.within.CoinTables.{FitsBlock, HasFitting}
 use Rattle.el_chain.specs.within.Touching.{IfCoins}
-use Rattle.el_chain.proofs.touching.touched_by.Given as goal
+use Rattle.el_chain.proofs.touching.touch_blocks.Given as goal
 
 abbrev pub invariant-loop-placed : goal.invariant-loop-placed
-invariant-loop-placed l = record { fit : AllByRecursion HasFitting (drop l.placed-index l.blocks); each : IfCoins l.base (λ coins s. (list_any (same_hash s) l.touched || list_any (λ (b : Placed). list_any (touches s.0 coins) b.block.txs) (drop l.placed-index l.blocks)) ≡ list_any (λ (b : Placed). list_any (touches s.0 coins) b.block.txs) l.blocks) }
+invariant-loop-placed l = record { fit : AllByRecursion HasFitting (drop l.placed-index l.blocks); each : IfCoins l.base (λ coins s. (list_any (same_hash s) l.touched || list_any (λ (b : Placed). list_any (touches s.0 coins) b.block.txs) (drop l.placed-index l.blocks)) ≡ (list_any (same_hash s) l.initial.touched || list_any (λ (b : Placed). list_any (touches s.0 coins) b.block.txs) l.blocks)) }

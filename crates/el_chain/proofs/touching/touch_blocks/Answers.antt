@@ -3,7 +3,7 @@ use Rattle.std.specs.List.{list_any}
 use Rattle.el_chain.specs.declared.placed.Placed.{Placed}
 use Rattle.el_chain.specs.Touches.{touches}
 use Rattle.el_chain.proofs.TouchLemmas.{any_ends}
-use Rattle.el_chain.proofs.touching.touched_by.Goals as goal
+use Rattle.el_chain.proofs.touching.touch_blocks.Goals as goal
 
 pub returns : goal.returns
 returns c = λ coins h s. any_ends (λ (b : Placed). list_any (touches s.0 coins) b.block.txs) c.args.blocks.now c.loop-placed.placed-index _ _
