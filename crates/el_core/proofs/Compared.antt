@@ -41,39 +41,66 @@ drop_nodes P path rest h end = rw end.1 (all_after P end.0 path h)
 same_is : (a b : Hash32) → same_hash a b ≡ true → a ≡ b
 same_is a b h = ap (λ (l : List ℕ). record { 0 = l }) (search rules)
 
-common_linked : (before : Hash32) (chain : Chain) (path : List Node) → AreLinked before path → length chain ≤ common chain path
-    → AreLinked (tip_after before chain) (drop (common chain path) path)
-common_linked before [] path h le = h
-common_linked before (b ∷ bs) [] h le = absurd (omega arith)
-common_linked before (b ∷ bs) (n ∷ ns) h le = by (same_hash (block_hash b.block.header) n.hash) refl (λ few. common_linked n.hash bs ns h.1 few)
+common_linked : (before : Hash32) (chain : Chain) (path : List Node) → AreLinked before path
+    → AreLinked (tip_after before (take (common chain path) chain)) (drop (common chain path) path)
+common_linked before [] path h = h
+common_linked before (b ∷ bs) [] h = tt
+common_linked before (b ∷ bs) (n ∷ ns) h = by (same_hash (block_hash b.block.header) n.hash) refl (common_linked n.hash bs ns h.1)
   where
-    by : (s : Bool) → same_hash (block_hash b.block.header) n.hash ≡ s → (length bs ≤ common bs ns → AreLinked (tip_after n.hash bs) (drop (common bs ns) ns))
-        → AreLinked (tip_after (block_hash b.block.header) bs) (drop (common (b ∷ bs) (n ∷ ns)) (n ∷ ns))
+    by : (s : Bool) → same_hash (block_hash b.block.header) n.hash ≡ s → AreLinked (tip_after n.hash (take (common bs ns) bs)) (drop (common bs ns) ns)
+        → AreLinked (tip_after before (take (common (b ∷ bs) (n ∷ ns)) (b ∷ bs))) (drop (common (b ∷ bs) (n ∷ ns)) (n ∷ ns))
     by true e go =
         let is = same_is (block_hash b.block.header) n.hash e in
-        let few : length bs ≤ common bs ns = let l = rw e at le in omega arith in
-        rw (e, is) (go few)
-    by false e go = let l = rw e at le in absurd (omega arith)
+        let here : AreLinked (tip_after (block_hash b.block.header) (take (common bs ns) bs)) (drop (common bs ns) ns) = rw is go in
+        rw e here
+    by false e go = rw e h
 
--- the plan of a path fits the chain where few enough blocks are to be taken back
-pub rest_fits : (chain : Chain) (path rest : List Node) (back : ℕ) → back ≤ max_back → back ≡ back_of chain path → rest ≡ rest_of chain path → AreLinked zero_hash path
+common_within : (chain : Chain) (path : List Node) → common chain path ≤ length chain
+common_within [] path = omega arith
+common_within (b ∷ bs) [] = omega arith
+common_within (b ∷ bs) (n ∷ ns) = by (same_hash (block_hash b.block.header) n.hash) refl (common_within bs ns)
+  where
+    by : (s : Bool) → same_hash (block_hash b.block.header) n.hash ≡ s → common bs ns ≤ length bs → common (b ∷ bs) (n ∷ ns) ≤ suc (length bs)
+    by true e le = rw e (omega (arith, le))
+    by false e le = rw e (omega arith)
+
+-- the plan of a path fits the chain
+pub rest_fits : (chain : Chain) (path rest : List Node) (back : ℕ) → back ≡ back_of chain path → rest ≡ rest_of chain path → AreLinked zero_hash path
     → (back ≤ length chain) × AreLinked (tip (shorter back chain)) rest
-rest_fits chain path rest back few is rest_is linked =
-    let none : back ≡ 0 = omega arith in
-    let all : length chain ≤ common chain path = omega arith in
-    let whole : shorter back chain ≡ chain = rw none (ap (λ n. take n chain) (let e : length chain - 0 ≡ length chain = omega arith in e) ∙ take_all (length chain) chain (omega arith)) in
-    let fits : AreLinked (tip (shorter back chain)) rest = rw (whole, rest_is) (common_linked zero_hash chain path linked all) in
-    (omega arith, fits)
+rest_fits chain path rest back is rest_is linked =
+    let within = common_within chain path in
+    let staying : length chain - back ≡ common chain path = omega (arith, is, within) in
+    let whole : shorter back chain ≡ take (common chain path) chain = ap (λ n. take n chain) staying in
+    let fits : AreLinked (tip (shorter back chain)) rest = rw (whole, rest_is) (common_linked zero_hash chain path linked) in
+    (omega (arith, is), fits)
+
+-- whether there are none
+pub nil_if : (xs : List Node) (b : Bool) → b ≡ true → b ≡ (length xs == 0) → xs ≡ []
+nil_if [] b yes_b is = refl
+nil_if (x ∷ xs) b yes_b is = absurd (let e = eqb-true (length (x ∷ xs)) 0 (sym is ∙ yes_b) in omega arith)
+
+pub some_if : (xs : List Node) (b : Bool) → b ≡ false → b ≡ (length xs == 0) → xs ≡ [] → ⊥
+some_if xs b no_b is none =
+    let e = sym no_b ∙ is ∙ eq-eqb (length xs) 0 (ap (λ (l : List Node). length l) none) in
+    cc
 
 pub moving_any : (b : ℕ) (ns : List Node) → (ns ≡ [] → ⊥) → IsMoving b ns
 moving_any zero [] some = absurd (some refl)
 moving_any zero (n ∷ ns) some = tt
 moving_any (suc b) ns some = tt
 
+pub moving_back : (b : ℕ) (ns : List Node) → (b ≡ 0 → ⊥) → IsMoving b ns
+moving_back zero ns some = absurd (some refl)
+moving_back (suc b) ns some = tt
+
+-- whether something is to be moved
+pub moving_by : (b : ℕ) (ns : List Node) (none : Bool) → none ≡ (length ns == 0) → none ≡ false → IsMoving b ns
+moving_by b ns none is off = moving_any b ns (some_if ns none off is)
+
 pub along_moves : (tells : Type 0) (files : ℕ → List ℕ) (chain : Chain) (path rest left : List Node) (back : ℕ) (stands : Chain → Type 0) (rose : ℕ → Type 0) (text : List ℕ) → back ≤ max_back
-    → back ≡ back_of chain path → rest ≡ rest_of chain path → (rest ≡ [] → ⊥) → MoveTurn tells files chain back rest stands left rose text → PathTurn tells files chain path stands left rose text
-along_moves tells files chain path rest left back stands rose text few is rest_is some turn =
-    moves (rw (← is) few) (rw (← rest_is) (moving_any (back_of chain path) rest some)) (rw (is, rest_is) at turn)
+    → back ≡ back_of chain path → rest ≡ rest_of chain path → IsMoving back rest → MoveTurn tells files chain back rest stands left rose text → PathTurn tells files chain path stands left rose text
+along_moves tells files chain path rest left back stands rose text few is rest_is moving turn =
+    moves (rw (← is) few) (rw (is, rest_is) at moving) (rw (is, rest_is) at turn)
 
 pub along_failed : (tells : Type 0) (files : ℕ → List ℕ) (chain : Chain) (path rest : List Node) (back : ℕ) (leads leaves : Chain → Type 0) (e : StepFault)
     → back ≡ back_of chain path → rest ≡ rest_of chain path → MoveFailed tells files chain back rest leads leaves e → PathFailed tells files chain path leads leaves e
@@ -229,16 +256,6 @@ move_map tells files chain back rest left P Q rose text gives (failed led none t
 pub failed_map : (tells : Type 0) (files : ℕ → List ℕ) (chain : Chain) (back : ℕ) (rest : List Node) (P Q R S : Chain → Type 0) (e : StepFault)
     → ((next : Chain) → P next → Q next) → ((next : Chain) → R next → S next) → MoveFailed tells files chain back rest P R e → MoveFailed tells files chain back rest Q S e
 failed_map tells files chain back rest P Q R S e leads leaves f = record { next = f.next; flight = f.flight; crash = leaves f.next f.crash; stood = λ m. leads f.next (f.stood m) }
-
--- whether there are none
-pub nil_if : (xs : List Node) (b : Bool) → b ≡ true → b ≡ (length xs == 0) → xs ≡ []
-nil_if [] b yes_b is = refl
-nil_if (x ∷ xs) b yes_b is = absurd (let e = eqb-true (length (x ∷ xs)) 0 (sym is ∙ yes_b) in omega arith)
-
-pub some_if : (xs : List Node) (b : Bool) → b ≡ false → b ≡ (length xs == 0) → xs ≡ [] → ⊥
-some_if xs b no_b is none =
-    let e = sym no_b ∙ is ∙ eq-eqb (length xs) 0 (ap (λ (l : List Node). length l) none) in
-    cc
 
 pub at_is : (t u : Option Hash32) (h i : Option ℕ) → t ≡ u → h ≡ i → at_answer t h ≡ at_answer u i
 at_is t u h i same same' = rw (same, same') refl

@@ -8,7 +8,8 @@ use Rattle.el_outside.specs.Files.{AllGrow}
 use Rattle.el_chain.specs.Chains.{Chain}
 use Rattle.el_model.specs.Lines.{LineEvent, line, too_long, lines}
 use Rattle.el_model.specs.NodeAnswers.{node_limit}
-use Rattle.el_model.specs.Replies.{Asks, replies, listed, too_large}
+use Rattle.el_model.specs.declared.method.Method.{Method}
+use Rattle.el_model.specs.Replies.{Asks, replies, answered, too_large}
 use Rattle.el_model.specs.Sessions.{Session}
 use Rattle.el_model.specs.World.{World, Event, joins, says, orders, leaves, Takes, Outs, reply_to, nothing, closes_long, closes_surplus, is_client, is_peer, with_session, without_client, line_limit}
 use Rattle.el_model.specs.Run as run
@@ -23,12 +24,13 @@ use Rattle.el_core.proofs.Moved.{rose_still}
 use Rattle.el_core.proofs.Sessions.{said_all, void_all, one_client, one_found, one_gone, left_first, left_none, ordered, left_void, all_met}
 
 -- the reply to a request
-pub reply_text : (chain : Chain) (bytes id script : List ℕ) (rose : ℕ → Type 0) (text : List ℕ) → Asks bytes id script → RequestText chain id script rose text → ReplyText chain bytes rose text
-reply_text chain bytes id script rose text asks (shows_list (inl few) still) =
-    replied (λ session. listed id script asks few.0 (ap (λ (t : List ℕ). replies session t) few.1)) still
-reply_text chain bytes id script rose text asks (shows_list (inr many) still) =
-    replied (λ session. too_large id script asks many.0 (ap (λ (t : List ℕ). replies session t) many.1)) still
-reply_text chain bytes id script rose text asks (device_failed is rose_one) = failed id script asks is rose_one
+pub reply_text : (chain : Chain) (m : Method) (bytes id script : List ℕ) (rose : ℕ → Type 0) (text : List ℕ) → Asks bytes m id script → RequestText chain m id script rose text
+    → ReplyText chain bytes rose text
+reply_text chain m bytes id script rose text asks (shows_list (inl few) still) =
+    replied (λ session. answered m id script asks few.0 (ap (λ (t : List ℕ). replies session t) few.1)) still
+reply_text chain m bytes id script rose text asks (shows_list (inr many) still) =
+    replied (λ session. too_large m id script asks many.0 (ap (λ (t : List ℕ). replies session t) many.1)) still
+reply_text chain m bytes id script rose text asks (device_failed is rose_one) = failed m id script asks is rose_one
 
 -- a session that stays as it was
 one_same : (world : World) (p : ℕ) (heard : List ℕ) → world.sessions ≡ record { peer = p; heard = heard } ∷ [] → world ≡ with_session p (record { peer = p; heard = heard }) world
@@ -163,12 +165,12 @@ module _ {G C : Type 0} (stands : G → Chain → Type 0) (tells_crash : Type 0)
       (rw (one_found world c.peer are.heard are.alone) (replies session text, reply session, is, one_same world c.peer are.heard are.alone)) refl)
       (rw (client, surplus) (record { heard = are.heard; alone = are.alone; limit = limit ∙ are.limit; leaves_left = in_order (n.given + 1) kept n.at n.few refl }))
       (rw is (inr (one_client world c.peer are.heard are.alone, surplus), tt)) refl refl rose
-  reply_step old new world left files ab db da o r c b bytes text are kept limit gives (failed id script asks text_is rose) is client surplus =
+  reply_step old new world left files ab db da o r c b bytes text are kept limit gives (failed m id script asks text_is rose) is client surplus =
       let n = next_event c b (line bytes) are.heard r.stood.said kept are.limit are.leaves_left gives in
       built old new world left files ab db da o r world.sessions (says c.peer (line bytes) ∷ []) (map (says c.peer) (drop (n.given + 1) (lines line_limit are.heard))) (run.disk ∷ [])
       (left_said old new world left files r ∙ n.first)
       (run.fails run.disk
-      (run.in_request c.peer bytes id script r.still (one_client world c.peer are.heard are.alone) asks refl refl (is ∙ ap (reply_to c.peer) text_is) refl) refl)
+      (run.in_request c.peer m bytes id script r.still (one_client world c.peer are.heard are.alone) asks refl refl (is ∙ ap (reply_to c.peer) text_is) refl) refl)
       (rw (client, surplus) (record { heard = are.heard; alone = are.alone; limit = limit ∙ are.limit; leaves_left = in_order (n.given + 1) kept n.at n.few refl }))
       (rw is (inr (one_client world c.peer are.heard are.alone, surplus), tt)) refl refl rose
 

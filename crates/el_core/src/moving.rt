@@ -63,7 +63,6 @@ pub fn move_next<G: Ledger, A: Archive, L: Counts + Send>(
     requires live { G.is_live ledger.old }
     requires back { back ≤ max_back }
     requires nodes { AllByRecursion IsNode rest }
-    requires some { rest ≢ [] }
     requires linked { (before : hash_shape.Hash32) × AreLinked before rest }
     requires fits { (chain : Chain) → G.stands ledger.old chain
         → (back ≤ length chain) × AreLinked (tip (shorter back chain)) rest }
@@ -76,10 +75,10 @@ pub fn move_next<G: Ledger, A: Archive, L: Counts + Send>(
         (LeadsTo G.stands G.tells_crash G.means G.moment G.left_since ledger.old ledger.new chain)
         (λ next. G.tells_crash
         → LeavesOnly G.moment G.left_since ledger.old ledger.new (Either G.means chain next)) e) }
-    ensures some { rest ≢ [] }
     ensures live { OnOk result (G.is_live ledger.new) }
     ensures still_live { IsErrOf result StepFault.Memory → G.is_live ledger.new }
-    ensures fewer { IfOk result (λ s. length s.left < length rest) }
+    ensures no_more { IfOk result (λ s. length s.left ≤ length rest) }
+    ensures fewer { IfOk result (λ s. rest ≢ [] → length s.left < length rest) }
     ensures nodes { IfOk result (λ s. AllByRecursion IsNode s.left) }
     ensures linked { IfOk result (λ s. AreLinked (named (G.tip ledger.new)) s.left) }
     ensures keeps { A.tells → AllGrow (A.bytes archive.old) (A.bytes archive.new) }

@@ -17,7 +17,7 @@ ghost use Rattle.el_core.specs.within.Moving.{BlockTurn, NodeTurn, PathTurn, Tip
 ghost use Rattle.el_core.specs.within.Linked.{named};
 
 use crate::ahead::Ahead;
-use crate::comparing::{Way, compare};
+use crate::comparing::{Way, compare, is_there};
 use crate::fault::StepFault;
 use crate::moving::{Step, move_next};
 use el_base::{Bytes, Hash32, OutOfMemory, Steps};
@@ -126,7 +126,7 @@ fn move_along<G: Ledger, A: Archive, L: Counts + Send>(
         let text = deep_refused(alloc, back)?;
         return Ok(only_text(alloc, text));
     }
-    if rest.is_empty() {
+    if is_there(back, &rest) {
         let text = at_answer(alloc, ledger.tip(), ledger.height())?;
         return Ok(only_text(alloc, text));
     }

@@ -22,13 +22,17 @@ use std::marker::Brand;
 use std::sync::ledger::{Blank, Ledger as Counts};
 use std::test::Fail;
 
-// Hashes that another program computed: of the blocks of heights 0, 15 and 16 that `chain_file` makes, of a
-// second block without one before it, and of blocks that break one rule each.
+// Hashes that another program computed: of the blocks of heights 0, 1, 15, 16 and 101 that `chain_file` makes,
+// of a second block without one before it, and of blocks that break one rule each.
 const FIRST: &str = "e24fc0cd4b74e58d1bcfa1d15b2c35345824b4e3e6e3959659d662c2ce011688";
+
+const SECOND: &str = "d04c10b4051cb3be0e4acc10529633d10728be1bec817b5958931293c3c5088d";
 
 const LAST_BUT_ONE: &str = "ec64e2e04433bcc77d518d46c9fe3b92839d51043760ddf71cd149c52fe41bda";
 
 const LAST: &str = "30a80381768f75991a5cfe1345761eda0014bc5e9af7ca751b273b50e4374da5";
+
+const LAST_OF_MANY: &str = "d3f30d4789aae297d5b77f8db53c8747e7c8a3ac3402427c0e9282e15bd2a580";
 
 const OTHER_FIRST: &str = "b724ccbf1211321ad26fe98e9c5e2d67a9f5134e654c9c97fcfe1b9b2977883c";
 
@@ -69,8 +73,10 @@ fn spelled(alloc: Global, text: &str) -> Result<String, Fail> {
         match letter {
             'A' => whole.push_str(FIRST)?,
             'B' => whole.push_str(BLOCK_1_HASH)?,
+            'C' => whole.push_str(SECOND)?,
             'E' => whole.push_str(EMPTY_SCRIPT_HASH)?,
             'G' => whole.push_str(GENESIS_HASH)?,
+            'L' => whole.push_str(LAST_OF_MANY)?,
             'O' => whole.push_str(OTHER_FIRST)?,
             'S' => whole.push_str(GENESIS_SCRIPT_HASH)?,
             'U' => whole.push_str(UNKNOWN)?,
@@ -342,11 +348,13 @@ fn coinbase_block(alloc: Global, previous: Hash32, height: u32, branch: u8) -> R
     Ok(block(alloc, previous, height, branch, txs)?)
 }
 
-// The records of seventeen blocks, each on the one before, and of another block without one before it.
-fn chain_file(alloc: Global) -> Result<Vec<u8>, Fail> {
+// The records of so many blocks, each on the one before, and of another block without one before it.
+fn chain_file(alloc: Global, count: u32) -> Result<Vec<u8>, Fail>
+    requires { count ≤ 1000 }
+{
     let mut file = Vec::new(alloc);
     let mut previous = ZERO;
-    for height in 0..17 {
+    for height in 0..count {
         let made = coinbase_block(alloc, previous, height, 0)?;
         add_record(block_bytes(alloc, &made)?.as_slice(), &mut file)?;
         previous = block_hash(&encode_header(&made.header));
@@ -356,10 +364,12 @@ fn chain_file(alloc: Global) -> Result<Vec<u8>, Fail> {
     Ok(file)
 }
 
-// The lines by which the node tells the seventeen blocks.
-fn telling_lines(alloc: Global) -> Result<String, Fail> {
+// The lines by which the node tells them.
+fn telling_lines(alloc: Global, count: u32) -> Result<String, Fail>
+    requires { count ≤ 1000 }
+{
     let mut lines = String::new(alloc);
-    for height in 0..17u32 {
+    for height in 0..count {
         lines.push_str(format!(in alloc; "block 0 {}\n", 160 * height)?.as_str())?;
     }
     Ok(lines)
@@ -368,14 +378,14 @@ fn telling_lines(alloc: Global) -> Result<String, Fail> {
 #[test]
 fn tips_move_the_ledger(rt: HostRuntime) -> Result<(), Fail> {
     let alloc = rt.alloc();
-    let file = chain_file(alloc)?;
-    let lines = telling_lines(alloc)?;
+    let file = chain_file(alloc, 17)?;
+    let lines = telling_lines(alloc, 17)?;
     let table: [(&str, &str, u32); 6] = [
         ("tip Z\n", "at Y 15\nat Z 16\n", 16),
         ("tip Z\ntip Z\n", "at Y 15\nat Z 16\nat Z 16\n", 16),
         ("tip A\ntip Z\n", "at A 0\nat Z 16\n", 16),
-        ("tip Y\ntip A\n", "at Y 15\nrefused deep 15\n", 15),
-        ("tip Z\ntip Y\n", "at Y 15\nat Z 16\nrefused deep 1\n", 16),
+        ("tip Y\ntip A\n", "at Y 15\nat A 0\n", 0),
+        ("tip Z\ntip Y\n", "at Y 15\nat Z 16\nat Y 15\n", 15),
         (
             "block 0 2720\ntip A\nblock 0 0\n",
             "refused genesis O\nat A 0\nblock A\n",
@@ -385,6 +395,30 @@ fn tips_move_the_ledger(rt: HostRuntime) -> Result<(), Fail> {
     for (said, wanted, height) in table {
         let run = [
             Step::Says(0, lines.as_str()),
+            Step::Forget,
+            Step::Says(0, said),
+        ];
+        let is_shown = shows(alloc, file.as_slice(), run.as_slice(), wanted, Some(height))?;
+        assert!(rt; is_shown, "{wanted}");
+    }
+    Ok(())
+}
+
+// A hundred blocks are taken back in one move, and no more.
+#[test]
+fn tips_take_a_hundred_back(rt: HostRuntime) -> Result<(), Fail> {
+    let alloc = rt.alloc();
+    let file = chain_file(alloc, 102)?;
+    let lines = telling_lines(alloc, 102)?;
+    let table: [(&str, &str, u32); 3] = [
+        ("tip C\n", "at C 1\n", 1),
+        ("tip A\n", "refused deep 101\n", 101),
+        ("tip C\ntip Y\n", "at C 1\nat Y 15\n", 15),
+    ];
+    for (said, wanted, height) in table {
+        let run = [
+            Step::Says(0, lines.as_str()),
+            Step::Says(0, "tip L\n"),
             Step::Forget,
             Step::Says(0, said),
         ];
@@ -525,6 +559,19 @@ const ASKS_FIRST: &str =
 
 const ONE: &str = "{\"id\":7,\"jsonrpc\":\"2.0\",\"result\":[{\"height\":0,\"tx_hash\":\"X\"}]}\n";
 
+const ASKS_COINS: &str =
+    "{\"id\":8,\"method\":\"blockchain.scripthash.get_balance\",\"params\":[\"S\"]}\n\
+    {\"id\":9,\"method\":\"blockchain.scripthash.listunspent\",\"params\":[\"S\"]}\n";
+
+const NO_COINS: &str =
+    "{\"id\":8,\"jsonrpc\":\"2.0\",\"result\":{\"confirmed\":0,\"unconfirmed\":0}}\n\
+    {\"id\":9,\"jsonrpc\":\"2.0\",\"result\":[]}\n";
+
+const ONE_COIN: &str =
+    "{\"id\":8,\"jsonrpc\":\"2.0\",\"result\":{\"confirmed\":5000000000,\"unconfirmed\":0}}\n\
+    {\"id\":9,\"jsonrpc\":\"2.0\",\"result\":[\
+    {\"height\":0,\"tx_hash\":\"X\",\"tx_pos\":0,\"value\":5000000000}]}\n";
+
 const INVALID: &str =
     "{\"error\":{\"code\":-32600,\"message\":\"invalid request\"},\"id\":null,\"jsonrpc\":\"2.0\"}\n";
 
@@ -532,8 +579,18 @@ const INVALID: &str =
 fn client_lines(rt: HostRuntime) -> Result<(), Fail> {
     let file = first_file(rt.alloc())?;
     let told = Step::Says(0, "block 0 0\ntip G\n");
-    let table: [(&[Step<'_>], &str); 6] = [
+    let table: [(&[Step<'_>], &str); 8] = [
         (&[Step::Opens(1), Step::Says(1, ASKS_EMPTY)], NONE),
+        (&[Step::Opens(1), Step::Says(1, ASKS_COINS)], NO_COINS),
+        (
+            &[
+                told,
+                Step::Forget,
+                Step::Opens(1),
+                Step::Says(1, ASKS_COINS),
+            ],
+            ONE_COIN,
+        ),
         (
             &[Step::Opens(1), Step::Says(1, "{}"), Step::Says(1, "\n")],
             INVALID,

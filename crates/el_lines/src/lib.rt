@@ -12,7 +12,7 @@ mod node_line;
 mod number;
 mod request;
 
-pub use answer::{disk_reply, history_reply, too_large_reply};
+pub use answer::{balance_reply, disk_reply, history_reply, too_large_reply, unspent_reply};
 pub use laws::{cuts_do_not_matter, node_line_says_one_thing};
 pub use line_buffer::{LineBuffer, LineEvent};
 pub use node_answer::{

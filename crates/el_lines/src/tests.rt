@@ -1,15 +1,17 @@
 // What no contract says: printed texts, lines from outside, and that each call succeeds where memory is
 // ample.
 use crate::{
-    LineBuffer, LineEvent, NodeLine, NodeLineFault, archive_refused, at_answer, block_answer,
-    cuts_do_not_matter, deep_refused, disk_reply, genesis_refused, history_reply, line_refused,
-    long_refused, move_refused, node_line_says_one_thing, place_refused, read_node_line,
-    request_of, too_large_reply, unconnected_refused, unknown_refused,
+    LineBuffer, LineEvent, NodeLine, NodeLineFault, archive_refused, at_answer, balance_reply,
+    block_answer, cuts_do_not_matter, deep_refused, disk_reply, genesis_refused, history_reply,
+    line_refused, long_refused, move_refused, node_line_says_one_thing, place_refused,
+    read_node_line, request_of, too_large_reply, unconnected_refused, unknown_refused,
+    unspent_reply,
 };
 use el_base::{Bytes, CompactFault, Hash32, OutOfMemory};
 use el_block::{BlockFault, decode_block};
-use el_chain::{ConnectFault, Entry, MoveFault};
-use el_model::{LINE_LIMIT, NODE_LINE_LIMIT};
+use el_chain::{Coin, ConnectFault, Entry, MoveFault};
+use el_model::{LINE_LIMIT, Method, NODE_LINE_LIMIT};
+use el_tx::Outpoint;
 use std::alloc::Global;
 use std::test::Fail;
 
@@ -244,10 +246,21 @@ fn printed_faults(rt: HostRuntime) -> Result<(), Fail> {
     Ok(())
 }
 
-// The line that asks for a history.
-fn asks(alloc: Global, id: &str, shown: &str) -> Result<Vec<u8>, Fail> {
-    let method = ",\"method\":\"blockchain.scripthash.get_history\",\"params\":[\"";
-    joined(alloc, &["{\"id\":", id, method, shown, "\"]}"])
+// The line that asks by that method.
+fn asks(alloc: Global, id: &str, method: &str, shown: &str) -> Result<Vec<u8>, Fail> {
+    let head = ",\"method\":\"blockchain.scripthash.";
+    joined(
+        alloc,
+        &[
+            "{\"id\":",
+            id,
+            head,
+            method,
+            "\",\"params\":[\"",
+            shown,
+            "\"]}",
+        ],
+    )
 }
 
 #[test]
@@ -263,7 +276,7 @@ fn requests(rt: HostRuntime) -> Result<(), Fail> {
         ("1", "00", false),
         ("1", "", false),
     ] {
-        let line = asks(rt.alloc(), id, shown)?;
+        let line = asks(rt.alloc(), id, "get_history", shown)?;
         match request_of(&line) {
             Some(request) => {
                 assert_eq!(rt; request.id, id.as_bytes());
@@ -272,6 +285,25 @@ fn requests(rt: HostRuntime) -> Result<(), Fail> {
             }
             None => assert!(rt; !is_request),
         }
+    }
+    Ok(())
+}
+
+#[test]
+fn methods(rt: HostRuntime) -> Result<(), Fail> {
+    for (name, method) in [
+        ("get_balance", Some(Method::Balance)),
+        ("get_history", Some(Method::History)),
+        ("listunspent", Some(Method::Unspent)),
+        ("get_mempool", None),
+        ("get_histor", None),
+        ("", None),
+    ] {
+        let line = asks(rt.alloc(), "7", name, SHOWN[0])?;
+        assert!(rt;
+            request_of(&line).map(|request| request.method) == method,
+            "{name}"
+        );
     }
     Ok(())
 }
@@ -309,6 +341,40 @@ fn replies(rt: HostRuntime) -> Result<(), Fail> {
     assert_eq!(rt; reply.as_slice(), TOO_LARGE.as_bytes());
     let reply = disk_reply(rt.alloc(), b"7")?;
     assert_eq!(rt; reply.as_slice(), DISK_FAILED.as_bytes());
+    Ok(())
+}
+
+const COINS: &str = "{\"id\":7,\"jsonrpc\":\"2.0\",\"result\":[\
+    {\"height\":0,\"tx_hash\":\"000000000019d6689c085ae165831e934ff763ae46a2a6c172b3f1b60a8ce26f\",\
+    \"tx_pos\":0,\"value\":5000000000},\
+    {\"height\":840000,\"tx_hash\":\"000000000019d6689c085ae165831e934ff763ae46a2a6c172b3f1b60a8ce26f\",\
+    \"tx_pos\":4294967295,\"value\":2100000000000000}]}\n";
+
+const BALANCE: &str =
+    "{\"id\":7,\"jsonrpc\":\"2.0\",\"result\":{\"confirmed\":5000000000,\"unconfirmed\":0}}\n";
+
+#[test]
+fn coins_and_balances(rt: HostRuntime) -> Result<(), Fail> {
+    let coins = [
+        (0, 0, 5_000_000_000),
+        (840_000, 4_294_967_295, 2_100_000_000_000_000),
+    ]
+    .map(|(height, index, value)| Coin {
+        outpoint: Outpoint {
+            txid: Hash32(HASH),
+            index,
+        },
+        value,
+        script: Hash32([0; 32]),
+        height,
+    });
+    let reply = unspent_reply(rt.alloc(), b"7", &coins)?;
+    assert_eq!(rt; reply.as_slice(), COINS.as_bytes());
+    let reply = unspent_reply(rt.alloc(), b"7", &[])?;
+    let none = joined(rt.alloc(), &[REPLY_HEAD, "]}\n"])?;
+    assert_eq!(rt; reply.as_slice(), none.as_slice());
+    let reply = balance_reply(rt.alloc(), b"7", 5_000_000_000)?;
+    assert_eq!(rt; reply.as_slice(), BALANCE.as_bytes());
     Ok(())
 }
 

@@ -2,7 +2,6 @@
 use Rattle.std.proofs.Common.{◌≡◌, ℕ, ◌-◌, List, [], ◌∷◌, ◌++◌, length, drop, Some, Result, Ok, Err, refl, sym, ap, ◌∙◌, arith}
 use Rattle.std.specs.List.{AllByRecursion}
 use Rattle.std.specs.Result.{IfOk, IfErr, IsErrOf}
-use Rattle.std.proofs.lemmas.List.{drop_all}
 use Rattle.el_base.specs.declared.hash.Hash32.{Hash32}
 use Rattle.el_block.specs.Blocks.{AllDiffer, block_hash}
 use Rattle.el_chain.specs.declared.moves.Plan.{Plan}
@@ -20,19 +19,18 @@ use Rattle.el_model.specs.Queries.{tip_of}
 use Rattle.el_chain.specs.Coins.{coins}
 use Rattle.el_chain.specs.Moves.{IsPlan, AreRead, AreOf, AreBlocks, AreNextBlocks, Moves, target, shorter, last_hash}
 use Rattle.el_chain.specs.Touches.{Touch, AreTouched}
-use Rattle.el_model.proofs.RunLemmas.{shorter_none}
 
-pub plain_moved : (tells : Type 0) (files : ℕ → List ℕ) (old new : Chain) (p : Plan) (texts : List (List ℕ)) (nodes : List Node) (scripts : List Hash32) → IsPlan p → nodes ≡ p.forward
-    → AreRead tells files nodes texts → (fresh : Chain) × (new ≡ old ++ fresh) × AreNextBlocks old nodes texts fresh × Touch scripts (coins old) fresh → AllDiffer scripts
+pub plain_moved : (tells : Type 0) (files : ℕ → List ℕ) (old new : Chain) (p : Plan) (texts : List (List ℕ)) (nodes : List Node) (scripts : List Hash32) → nodes ≡ p.forward
+    → AreRead tells files nodes texts
+    → (fresh : Chain) × (new ≡ shorter p.back old ++ fresh) × AreNextBlocks (shorter p.back old) nodes texts fresh
+    × Touch scripts (coins (shorter p.back old)) (drop (length old - p.back) old ++ fresh) → AllDiffer scripts
     → (blocks : Chain) × Moves tells files old p blocks × (new ≡ target p old blocks) × AreTouched p old blocks scripts
-plain_moved tells files old new p texts nodes scripts plan same read (fresh, is, next, touch) once =
-    let none : shorter p.back old ≡ old = shorter_none p.back old plan.back in
-    let gone : drop (length old - p.back) old ≡ [] = drop_all (length old - p.back) old (omega (arith, plan.back)) in (
-      fresh,
-      record { texts = texts; read = rw same at read; blocks_are = rw (none, ← same) next },
-      is ∙ ap (λ (l : Chain). l ++ fresh) (sym none),
-      record { each = rw (none, gone) touch; once = once },
-    )
+plain_moved tells files old new p texts nodes scripts same read (fresh, is, next, touch) once = (
+  fresh,
+  record { texts = texts; read = rw same at read; blocks_are = rw same at next },
+  is,
+  record { each = touch; once = once },
+)
 
 tip_joined : (before : Hash32) (a b : Chain) → tip_after before (a ++ b) ≡ tip_after (tip_after before a) b
 tip_joined before [] b = refl
@@ -64,14 +62,14 @@ none_joined (n ∷ ns) (t ∷ ts) [] (b ∷ bs) are some e = cc
 none_joined (n ∷ ns) (t ∷ ts) (x ∷ a) (b ∷ bs) are some e = cc
 
 -- the tip is then the last node's
-pub plain_last : (tells : Type 0) (files : ℕ → List ℕ) (old new : Chain) (p : Plan) (texts : List (List ℕ)) (nodes : List Node) (scripts : List Hash32) → IsPlan p → nodes ≡ p.forward
-    → AreRead tells files nodes texts → (fresh : Chain) × (new ≡ old ++ fresh) × AreNextBlocks old nodes texts fresh × Touch scripts (coins old) fresh → (p.forward ≡ [] → ⊥)
+pub plain_last : (tells : Type 0) (files : ℕ → List ℕ) (base new : Chain) (p : Plan) (texts : List (List ℕ)) (nodes : List Node) (P : Chain → Type 0) → IsPlan p → nodes ≡ p.forward
+    → AreRead tells files nodes texts → (fresh : Chain) × (new ≡ base ++ fresh) × AreNextBlocks base nodes texts fresh × P fresh → (p.forward ≡ [] → ⊥)
     → tip_of new ≡ Some (last_hash zero_hash p.forward)
-plain_last tells files old new p texts nodes scripts plan same read (fresh, is, next, touch) some =
+plain_last tells files base new p texts nodes P plan same read (fresh, is, next, touch) some =
     let of = rw same at read.of in
     let are = rw same at next.are in
-    rw is (some_tip (old ++ fresh) (none_joined p.forward texts old fresh are some)
-    ∙ ap Some (tip_joined zero_hash old fresh ∙ blocks_tip (tip old) p.forward texts fresh plan.nodes of are ∙ last_any (tip old) zero_hash p.forward some))
+    rw is (some_tip (base ++ fresh) (none_joined p.forward texts base fresh are some)
+    ∙ ap Some (tip_joined zero_hash base fresh ∙ blocks_tip (tip base) p.forward texts fresh plan.nodes of are ∙ last_any (tip base) zero_hash p.forward some))
 
 -- what it stands for then
 pub plain_went : (X : Chain → Chain → Type 0) (r : Result Moved MoveFault) (tells : Type 0) (files : ℕ → List ℕ) (old new : Chain) (p : Plan) → IsGood new

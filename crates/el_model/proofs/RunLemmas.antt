@@ -3,14 +3,14 @@ use Rattle.std.proofs.Common.{◌≡◌, ◌<◌, ◌+◌, ℕ, List, [], ◌∷
 use Rattle.std.proofs.lemmas.List.{take_more, get_or_default}
 use Rattle.std.proofs.lemmas.Option.{slice_get-get_or}
 use Rattle.std.proofs.Common.{◌≤◌, ◌⊎◌, ◌≢◌, drop}
-use Rattle.std.specs.Prelude.{Option}
+use Rattle.std.specs.Prelude.{Option, None}
 use Rattle.el_base.specs.declared.hash.Hash32.{Hash32}
 use Rattle.el_base.proofs.Lists.{left_at}
 use Rattle.el_chain.specs.Chains.{tip, zero_hash}
 use Rattle.el_chain.specs.Headers.{AreLinked}
-use Rattle.el_chain.specs.Moves.{IsPlan, FitsChain, InFlight, shorter, max_back, last_hash}
+use Rattle.el_chain.specs.Moves.{IsPlan, FitsChain, InFlight, shorter, last_hash}
 use Rattle.el_chain.specs.declared.node.Node.{Node}
-use Rattle.el_model.specs.Going.{named, FollowOn}
+use Rattle.el_model.specs.Going.{FollowOn, AreMovesOf}
 use Rattle.std.proofs.Common.{◌-◌}
 use Rattle.el_outside.specs.Moments.{LeavesOnly}
 use Rattle.el_outside.proofs.Moments.{started, joined, weaker}
@@ -118,41 +118,54 @@ pub refused_either : {S C : Type 0} (means : C → Chain → Type 0) (moment : S
 refused_either means moment left_since old new chain run = weaker moment left_since old new (λ c. means c chain) (Either means chain chain) (λ c m. inl m) run
 
 -- with nothing to take back the chain is whole
-pub shorter_none : (back : ℕ) (chain : Chain) → back ≤ max_back → shorter back chain ≡ chain
+shorter_none : (back : ℕ) (chain : Chain) → back ≡ 0 → shorter back chain ≡ chain
 shorter_none back chain h = ap (λ n. take n chain) (let e : length chain - back ≡ length chain = omega (arith, h) in e) ∙ take_all (length chain) chain (omega arith)
 
 -- what the next move is
-pub record Follows (before : Hash32) (plans : List Plan) (i : ℕ) (p : Plan) : Type 0 where
+pub record Follows (stands : Chain → Type 0) (plans : List Plan) (i : ℕ) (p : Plan) : Type 0 where
   pub plan : IsPlan p
-  pub some : p.forward ≢ []
-  pub linked : AreLinked before p.forward
-  pub rest : FollowOn (last_hash before p.forward) (drop (i + 1) plans)
+  pub fits : (chain : Chain) → stands chain → FitsChain p chain
+  pub last : p.forward ≡ [] → drop (i + 1) plans ≡ []
+  pub rest : FollowOn (last_hash zero_hash p.forward) (drop (i + 1) plans)
 
-pub follows : (before : Hash32) (plans : List Plan) (i : ℕ) (p d : Plan) → FollowOn before (drop i plans) → i < length plans → p ≡ get_or plans i d → Follows before plans i p
-follows before plans i p d h lt is' =
+pub follows : (stands : Chain → Type 0) (plans : List Plan) (i : ℕ) (p d : Plan) → AreMovesOf stands (drop i plans) → i < length plans → p ≡ get_or plans i d → Follows stands plans i p
+follows stands plans i p d h lt is' =
     let is : p ≡ get_or plans i p = is' ∙ get_or_default plans i d p lt in
     let all = rw (left_at plans i p lt is) at h in
-    record { plan = all.0; some = all.1; linked = all.2; rest = all.3 }
+    record { plan = all.0; fits = all.1; last = all.2; rest = all.3 }
 
-pub named_tip : (chain : Chain) → named (tip_of chain) ≡ tip chain
-named_tip [] = refl
-named_tip (b ∷ bs) = refl
-
--- a move that follows fits each chain with that tip
-pub fits : (before : Option Hash32) (plans : List Plan) (i : ℕ) (p : Plan) (chain : Chain) → Follows (named before) plans i p → before ≡ tip_of chain → FitsChain p chain
-fits before plans i p chain h is =
-    let none = shorter_none p.back chain h.plan.back in
-    let hash : named before ≡ tip chain = ap named is ∙ named_tip chain in
-    record { within = omega (arith, h.plan.back); linked = rw (none, ← hash) h.linked }
+-- each chain with a tip has that hash
+tip_named : (chain : Chain) (h : Hash32) → tip_of chain ≡ Some h → tip chain ≡ h
+tip_named [] h is = absurd (let e : None ≡ Some h = is in cc)
+tip_named (b ∷ bs) h is = cc
 
 last_any : (a b : Hash32) (ns : List Node) → (ns ≡ [] → ⊥) → last_hash a ns ≡ last_hash b ns
 last_any a b [] some = absurd (some refl)
 last_any a b (n ∷ ns) some = refl
 
--- after it the next follows
-pub follow_on : (before after : Option Hash32) (plans : List Plan) (i : ℕ) (p : Plan) → Follows (named before) plans i p → after ≡ Some (last_hash zero_hash p.forward)
-    → FollowOn (named after) (drop (i + 1) plans)
-follow_on before after plans i p h is = rw (ap named is ∙ last_any zero_hash (named before) p.forward h.some) h.rest
+-- moves that follow on are moves of each chain with that tip
+next_moves : (stands : Chain → Type 0) (before : Hash32) (ps : List Plan) → ((chain : Chain) → stands chain → tip_of chain ≡ Some before) → FollowOn before ps → AreMovesOf stands ps
+next_moves stands before [] tips h = tt
+next_moves stands before (p ∷ ps) tips h = (
+  h.0,
+  (λ chain stood.
+      let none = shorter_none p.back chain h.1 in
+      let hash = tip_named chain before (tips chain stood) in
+      record { within = omega (arith, h.1); linked = rw (none, hash) h.3 }),
+  (λ e. absurd (h.2 e)),
+  rw (last_any zero_hash before p.forward h.2) h.4,
+)
+
+-- after the next move the others are moves of what it leaves
+pub move_on : (old new : Chain → Type 0) (after : Option Hash32) (plans : List Plan) (i : ℕ) (p : Plan) → Follows old plans i p → (p.forward ≢ [] → after ≡ Some (last_hash zero_hash p.forward))
+    → ((chain : Chain) → new chain → after ≡ tip_of chain) → AreMovesOf new (drop (i + 1) plans)
+move_on old new after plans i p h last tips = by p.forward refl
+  where
+    by : (ns : List Node) → p.forward ≡ ns → AreMovesOf new (drop (i + 1) plans)
+    by [] is = rw (h.last is) tt
+    by (n ∷ ns) is =
+        let some : p.forward ≢ [] = λ e. (let bad : n ∷ ns ≡ [] = sym is ∙ e in cc) in
+        next_moves new (last_hash zero_hash p.forward) (drop (i + 1) plans) (λ chain stood. sym (tips chain stood) ∙ last some) h.rest
 
 -- what a move has in flight, by what the block files have
 pub in_flight : (tells : Type 0) (files : ℕ → List ℕ) (chain : Chain) (p : Plan) (next : Chain) → InFlight tells files chain p next → (next ≡ chain) ⊎ Leads tells p chain next

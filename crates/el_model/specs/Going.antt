@@ -5,23 +5,25 @@ use Rattle.el_chain.specs.declared.moves.Plan.{Plan}
 use Rattle.el_chain.specs.declared.moves.MoveFault.{MoveFault}
 use Rattle.el_chain.specs.Chains.{Chain, zero_hash}
 use Rattle.el_chain.specs.Headers.{AreLinked}
-use Rattle.el_chain.specs.Moves.{IsPlan, Moves, target, last_hash}
+use Rattle.el_chain.specs.Moves.{IsPlan, FitsChain, Moves, target, last_hash}
 use Rattle.el_model.specs.Queries.{height_of, tip_of}
 use Rattle.el_model.specs.Keeping.{Either}
 use Rattle.el_model.specs.declared.going.Mark.{Mark}
 use Rattle.el_model.specs.declared.going.Mark.TheVariants as mark
 
--- the hash that a block after the tip names; where there is no block it is the zero hash
-abbrev pub named : Option Hash32 → Hash32
-named None = zero_hash
-named (Some h) = h
-
--- Each of these moves puts blocks in, the first of them after a block with that hash and each next after
--- those of the one before.
+-- Each of these moves takes no block back and puts blocks in, the first of them after a block with that hash
+-- and each next after those of the one before.
 abbrev pub FollowOn : Hash32 → List Plan → Type 0
 FollowOn before [] = ⊤
-FollowOn before (p ∷ ps) = IsPlan p × (p.forward ≢ []) × AreLinked before p.forward
+FollowOn before (p ∷ ps) = IsPlan p × (p.back ≡ 0) × (p.forward ≢ []) × AreLinked before p.forward
     × FollowOn (last_hash before p.forward) ps
+
+-- The first of these moves fits each of the chains, and may take blocks back. The others follow on; there are
+-- none where the first puts no block in.
+abbrev pub AreMovesOf : (Chain → Type 0) → List Plan → Type 0
+AreMovesOf stands [] = ⊤
+AreMovesOf stands (p ∷ ps) = IsPlan p × ((chain : Chain) → stands chain → FitsChain p chain)
+    × (p.forward ≡ [] → ps ≡ []) × FollowOn (last_hash zero_hash p.forward) ps
 
 -- the move leads from the chain to that one, by what the block files had when it was made
 abbrev pub Leads : Type 0 → Plan → Chain → Chain → Type 0

@@ -13,6 +13,7 @@ use Rattle.el_model.specs.NodeLines.{ReadsNodeLine, block, tip}
 use Rattle.el_model.specs.NodeAnswers.{archive_refused}
 use Rattle.el_model.specs.Plans.{back_of, rest_of, IsMoving}
 use Rattle.el_model.specs.Replies.{Asks, disk_text}
+use Rattle.el_model.specs.declared.method.Method.{Method}
 use Rattle.el_model.specs.World.{World, Event, says, orders, Outs, Takes, Works, IsBusy, to_node, reply_to, events, after_hearing, is_client, without_client}
 
 -- A call of a device failed, and this was answered or closed for it: of the link, for which a client is
@@ -67,8 +68,8 @@ pub data Fails (tells : Type 0) (world : World) (done : List Event) (loss : Loss
       → (tells → AllGrow world.files files) → outs ≡ to_node archive_refused
       → next ≡ record world { ahead = []; files = files } → Fails tells world done loss outs next
   -- in a request
-  in_request : (p : ℕ) (bytes id script_hash : List ℕ) → world.ahead ≡ [] → is_client p world ≡ true
-      → Asks bytes id script_hash → done ≡ says p (line bytes) ∷ [] → loss ≡ disk
+  in_request : (p : ℕ) (m : Method) (bytes id script_hash : List ℕ) → world.ahead ≡ []
+      → is_client p world ≡ true → Asks bytes m id script_hash → done ≡ says p (line bytes) ∷ [] → loss ≡ disk
       → outs ≡ reply_to p (disk_text id) → next ≡ world → Fails tells world done loss outs next
 
 -- this client is closed as out of memory

@@ -1,7 +1,7 @@
 // Moves, one after the other, as a server makes them.
 ghost use Rattle.std.specs.Prelude.{◌≡◌, ℕ, List, [], length, OnOk};
 ghost use Rattle.el_chain.specs.Chains.{Chain};
-ghost use Rattle.el_model.specs.Going.{FollowOn, IsSafe, WasSafe, named};
+ghost use Rattle.el_model.specs.Going.{AreMovesOf, IsSafe, WasSafe};
 ghost use Rattle.el_outside.specs.Moments.{LeavesOnly};
 ghost use Rattle.el_model.specs.declared.going.Stop.TheVariants as stop;
 
@@ -47,7 +47,7 @@ impl From<OutOfMemory> for Stop {
 }
 
 /// Makes the moves, up to the first that is refused, and tells of each once it is made: the law of what a
-/// crash leaves of a run of moves, for every ledger. At its end, and at every moment of it, all that a crash
+/// crash leaves of a run of moves, for every ledger. The first may take blocks back. At its end, and at every moment of it, all that a crash
 /// may leave stands for the last chain that was told or for the one in flight.
 pub fn go_on<G: Ledger, A: Archive, L: Counts + Send>(
     alloc: Global,
@@ -58,7 +58,7 @@ pub fn go_on<G: Ledger, A: Archive, L: Counts + Send>(
     steps: &mut Steps<L>,
 ) -> Result<(), Stop>
     requires live { G.is_live ledger.old }
-    requires follow { FollowOn (named (G.tip ledger.old)) plans.now }
+    requires follow { AreMovesOf (G.stands ledger.old) plans.now }
     requires none { sent.old ≡ [] }
     ensures crash { (chain : Chain) → G.stands ledger.old chain
         → IsSafe A.tells G.tells_crash G.means (G.left_since ledger.new (G.moment ledger.new)) plans.now

@@ -8,6 +8,7 @@ mod going;
 mod laws;
 mod ledger;
 mod limits;
+mod method;
 mod own_coins;
 mod plain_calls;
 mod plain_ledger;
@@ -20,8 +21,12 @@ pub use going::{Mark, Stop, go_on};
 pub use laws::{moves_are_the_plan, pieces_do_not_matter};
 pub use ledger::Ledger;
 pub use limits::{CLIENT_LIMIT, ENTRY_LIMIT, LINE_LIMIT, NODE_LINE_LIMIT};
+pub use method::Method;
 pub use plain_ledger::PlainLedger;
+pub use reading::read_all;
 
+#[cfg(test)]
+mod back_tests;
 #[cfg(test)]
 mod move_tests;
 #[cfg(test)]

@@ -1,11 +1,11 @@
 // What no contract says of moves: a few blocks each, with what they lead to or the fault that stops them, and
 // that each move succeeds where memory is ample.
-ghost use Rattle.std.specs.Prelude.{◌≡◌, ◌<◌, ◌≢◌, [], IfOk};
-ghost use Rattle.el_chain.specs.Chains.{zero_hash};
+ghost use Rattle.std.specs.Prelude.{◌≡◌, ◌<◌, ◌≤◌, ◌≢◌, [], IfOk, IfSome, length};
+ghost use Rattle.el_chain.specs.Chains.{zero_hash, tip};
 ghost use Rattle.el_chain.specs.Headers.{AreLinked};
-ghost use Rattle.el_chain.specs.Moves.{IsPlan, last_hash};
-ghost use Rattle.el_model.specs.Going.{named, FollowOn};
-ghost use Rattle.el_model.specs.Queries.{tip_of};
+ghost use Rattle.el_chain.specs.Moves.{IsPlan, shorter, last_hash};
+ghost use Rattle.el_model.specs.Going.{AreMovesOf};
+ghost use Rattle.el_model.specs.Plain.{IsPlain};
 
 use crate::tests::{
     BLOCK_0, BLOCK_1, COINBASE_0, HALVES, NO_HASH, SCRIPT_1, SCRIPT_100, SCRIPT_101, add, halves,
@@ -14,9 +14,10 @@ use crate::tests::{
 use crate::{Ledger, Mark, PlainLedger, QueryFault, Stop, go_on};
 use el_base::{Bytes, Hash32, Listed, OutOfMemory, Steps};
 use el_block::BlockFault;
-use el_chain::{ConnectFault, MoveFault, Moved, PlainChain, Plan};
+use el_chain::{ConnectFault, MoveFault, Moved, Placed, PlainChain, Plan};
 use el_fakes::MemArchive;
 use el_outside::{Archive, DiskFailed};
+use el_tx::{block_hash, encode_header};
 use std::alloc::{AllocError, AllocFailed, Global};
 use std::marker::Brand;
 use std::process::Abort;
@@ -52,22 +53,22 @@ const COINBASES_15: &str = "ec64e2e04433bcc77d518d46c9fe3b92839d51043760ddf71cd1
 
 const COINBASES_16: &str = "30a80381768f75991a5cfe1345761eda0014bc5e9af7ca751b273b50e4374da5";
 
-// What is wrong with blocks: whether the third spends a coin that isn't there; of which block the Merkle root
-// has another byte; of which one the nonce is another in the file, since its header was found; by how many
-// bytes the last file is too short; and which call of the block files fails, from 1 on. 99 is no block.
+/// What is wrong with blocks: whether the third spends a coin that isn't there; of which block the Merkle root
+/// has another byte; of which one the nonce is another in the file, since its header was found; by how many
+/// bytes the last file is too short; and which call of the block files fails, from 1 on. 999 is no block.
 #[derive(Clone, Copy)]
-struct Wrong {
-    missing: bool,
-    root_of: usize,
-    nonce_of: usize,
-    short: usize,
-    failing: u64,
+pub struct Wrong {
+    pub missing: bool,
+    pub root_of: usize,
+    pub nonce_of: usize,
+    pub short: usize,
+    pub failing: u64,
 }
 
-const NONE_WRONG: Wrong = Wrong {
+pub const NONE_WRONG: Wrong = Wrong {
     missing: false,
-    root_of: 99,
-    nonce_of: 99,
+    root_of: 999,
+    nonce_of: 999,
     short: 0,
     failing: 0,
 };
@@ -89,8 +90,8 @@ fn spoil_root(alloc: Global, records: &mut Vec<Bytes>) -> Result<(), Fail> {
     Ok(())
 }
 
-// Four blocks: a coinbase, its coin in two halves, one of these spent, and a coinbase.
-fn four(alloc: Global, wrong: Wrong) -> Result<Vec<Bytes>, Fail> {
+/// Four blocks: a coinbase, its coin in two halves, one of these spent, and a coinbase.
+pub fn four(alloc: Global, wrong: Wrong) -> Result<Vec<Bytes>, Fail> {
     let mut records = Vec::new(alloc);
     add(alloc, &mut records, 0, None)?;
     add(alloc, &mut records, 1, Some(halves(alloc)?))?;
@@ -107,8 +108,8 @@ fn four(alloc: Global, wrong: Wrong) -> Result<Vec<Bytes>, Fail> {
     Ok(records)
 }
 
-// The files of the records: each in a file of its own.
-fn archive_of(alloc: Global, records: &[Bytes], wrong: Wrong) -> Result<MemArchive, Fail> {
+/// The files of the records: each in a file of its own.
+pub fn archive_of(alloc: Global, records: &[Bytes], wrong: Wrong) -> Result<MemArchive, Fail> {
     let mut files = Vec::new(alloc);
     for (file, record) in records.iter().enumerate() {
         // The nonce begins with byte 76 of a block.
@@ -129,26 +130,52 @@ fn archive_of(alloc: Global, records: &[Bytes], wrong: Wrong) -> Result<MemArchi
 }
 
 // What a next block names as the one before.
-fn before(ledger: &PlainLedger) -> Hash32
-    ensures { result ≡ named (tip_of ledger.now) }
+fn tip_hash(blocks: &[Placed]) -> Hash32
+    ensures { result ≡ tip blocks.now }
 {
-    match ledger.tip() {
-        Some(hash) => hash,
-        None => NO_HASH,
+    match blocks {
+        [] => NO_HASH,
+        [.., last] => block_hash(&encode_header(&last.block.header)),
     }
 }
 
-// Puts in the blocks of the records from one number to before another.
-fn put_in<A: Archive, L: Counts + Send>(
+// What a next block names after so many blocks were taken back; None where there are fewer.
+fn before(ledger: &PlainLedger, back: u32) -> Option<Hash32>
+    ensures { IfSome result (λ hash. (back ≤ length ledger.now) × (hash ≡ tip (shorter back ledger.now))) }
+{
+    let blocks = ledger.blocks();
+    if blocks.len() < back as usize {
+        return None;
+    }
+    Some(tip_hash(&blocks[..blocks.len() - back as usize]))
+}
+
+/// Takes so many blocks back and puts in the blocks of the records from one number to before another.
+pub fn move_in<A: Archive, L: Counts + Send>(
+    alloc: Global,
+    ledger: &mut PlainLedger,
+    back: u32,
+    records: (&[Bytes], usize, usize),
+    archive: &mut A,
+    steps: &mut Steps<L>,
+) -> Result<Result<Moved, MoveFault>, Fail> {
+    let (records, from, to) = records;
+    let Some(hash) = before(ledger, back) else {
+        return Err(Fail::new("too few blocks"));
+    };
+    let (plan, _) = plan_of(alloc, back, records, from, to, hash)?;
+    Ok(ledger.go(alloc, &plan, archive, steps))
+}
+
+/// Puts in the blocks of the records from one number to before another.
+pub fn put_in<A: Archive, L: Counts + Send>(
     alloc: Global,
     ledger: &mut PlainLedger,
     records: (&[Bytes], usize, usize),
     archive: &mut A,
     steps: &mut Steps<L>,
 ) -> Result<Result<Moved, MoveFault>, Fail> {
-    let (records, from, to) = records;
-    let (plan, _) = plan_of(alloc, records, from, to, before(ledger))?;
-    Ok(ledger.go(alloc, &plan, archive, steps))
+    move_in(alloc, ledger, 0, records, archive, steps)
 }
 
 // A ledger of the first block.
@@ -163,8 +190,8 @@ fn first_alone<L: Counts + Send>(
     Ok(ledger)
 }
 
-// The ledger stands at that block, and these script hashes have so many entries and so much of satoshi.
-fn stands_at<R: Abort, L: Counts + Send>(
+/// The ledger stands at that block, and these script hashes have so many entries and so much of satoshi.
+pub fn stands_at<R: Abort, L: Counts + Send>(
     rt: &R,
     alloc: Global,
     ledger: &mut PlainLedger,
@@ -389,10 +416,10 @@ fn refuses_what_is_wrong(rt: HostRuntime) -> Result<(), Fail> {
 
 // Two moves, the first of so many blocks and the other of the rest, from no blocks on.
 fn two_moves(alloc: Global, records: &[Bytes], first: usize) -> Result<[Plan; 2], Fail>
-    ensures { IfOk result (FollowOn zero_hash) }
+    ensures { IfOk result (AreMovesOf (IsPlain [])) }
 {
-    let (one, next) = plan_of(alloc, records, 0, first, NO_HASH)?;
-    let (two, _) = plan_of(alloc, records, first, records.len(), next)?;
+    let (one, next) = plan_of(alloc, 0, records, 0, first, NO_HASH)?;
+    let (two, _) = plan_of(alloc, 0, records, first, records.len(), next)?;
     if one.forward.is_empty() || two.forward.is_empty() {
         return Err(Fail::new("a move of no blocks"));
     }
@@ -451,8 +478,8 @@ fn marks_of(told: Told<'_>) -> Result<[Mark; 2], Fail> {
     Ok([at(told.one)?, two])
 }
 
-// So many blocks of a coinbase alone.
-fn coinbases(alloc: Global, count: u32) -> Result<Vec<Bytes>, Fail> {
+/// So many blocks of a coinbase alone.
+pub fn coinbases(alloc: Global, count: u32) -> Result<Vec<Bytes>, Fail> {
     let mut records = Vec::new(alloc);
     for height in 0..count {
         add(alloc, &mut records, height, None)?;

@@ -99,9 +99,9 @@ impl PlainLedger {
         &self.chain
     }
 
-    // One move: the blocks of `forward` are put after the last, all of them or none. The first of them that
-    // has a fault is the one that is told, after a failure of the block files and a block that has changed.
-    // Memory may run out in place of any fault.
+    // One move: `back` blocks are taken back and the blocks of `forward` are put in their place, all of it or
+    // nothing. The first of them that has a fault is the one that is told, after a failure of the block files
+    // and a block that has changed. Memory may run out in place of any fault.
     pub(crate) fn make_move<A: Archive>(
         &mut self,
         alloc: Global,
@@ -125,7 +125,7 @@ impl PlainLedger {
     {
         let nodes = plan.forward.as_slice();
         let texts = read_all(alloc, archive, nodes)?;
-        let touched = self.chain.extend_all(nodes, texts.as_slice())?;
+        let touched = self.chain.move_all(plan.back, nodes, texts.as_slice())?;
         // The list says that no script hash stands twice.
         let _listed = touched.list();
         Ok(Moved {

@@ -11,7 +11,7 @@ ghost use Rattle.el_chain.specs.Records.{IsNode};
 
 use crate::{moves_are_the_plan, pieces_do_not_matter};
 use el_base::{Bytes, Hash32, Listed, sha256d};
-use el_chain::{MAX_FORWARD, Node, Plan};
+use el_chain::{MAX_BACK, MAX_FORWARD, Node, Plan};
 use el_gen::{block, block_record, coinbase, spend};
 use el_outside::Place;
 use el_tx::{Outpoint, Tx, block_hash, decode_header, encode_header};
@@ -152,16 +152,18 @@ fn linked_to(before: Hash32, nodes: &[Node]) -> Option<Hash32>
     linked_to(node.hash, rest)
 }
 
-/// The move that puts in the blocks of the records from one number to before another, after a block with that
-/// hash; and the hash of the last of them.
+/// The move that takes so many blocks back and puts in the blocks of the records from one number to before
+/// another, after a block with that hash; and the hash of the last of them.
 pub fn plan_of(
     alloc: Global,
+    back: u32,
     records: &[Bytes],
     from: usize,
     to: usize,
     before: Hash32,
 ) -> Result<(Plan, Hash32), Fail>
     ensures plan { IfOk result (λ r. IsPlan r.0) }
+    ensures back { IfOk result (λ r. r.0.back ≡ back) }
     ensures linked { IfOk result (λ r. AreLinked before r.0.forward) }
     ensures last { IfOk result (λ r. r.1 ≡ last_hash before r.0.forward) }
 {
@@ -172,7 +174,9 @@ pub fn plan_of(
     let last = linked_to(before, nodes.as_slice());
     let forward = Listed::from_vec(nodes);
     match last {
-        Some(hash) if forward.len() <= MAX_FORWARD => Ok((Plan { back: 0, forward }, hash)),
+        Some(hash) if back <= MAX_BACK && forward.len() <= MAX_FORWARD => {
+            Ok((Plan { back, forward }, hash))
+        }
         _ => Err(Fail::new("no plan")),
     }
 }

@@ -1,10 +1,9 @@
 -- What the server's parts do with its client.
 use Rattle.std.specs.Prelude.{◌≡◌, ◌⊎◌, ◌==◌, ℕ, ◌+◌, ◌≤◌, ◌<◌, true, false, List, [], ◌++◌, length, Option, Some, None, MatchBool, slice_get}
-use Rattle.el_chain.specs.declared.entry.Entry.{Entry}
 use Rattle.el_chain.specs.Chains.{Chain}
-use Rattle.el_chain.specs.History.{history}
 use Rattle.el_model.specs.Lines.{LineEvent, line, lines}
-use Rattle.el_model.specs.Replies.{IsReply, replies, Asks, disk_text, history_text, too_large_text, entry_limit}
+use Rattle.el_model.specs.declared.method.Method.{Method}
+use Rattle.el_model.specs.Replies.{IsReply, replies, Asks, disk_text, answer_text, too_large_text, entry_count, entry_limit}
 use Rattle.el_model.specs.Run.{closes_memory}
 use Rattle.el_model.specs.Sessions.{Session}
 use Rattle.el_model.specs.World as model
@@ -57,26 +56,26 @@ abbrev pub NextIsLine : LineState → Type 0
 NextIsLine b = (fed : List ℕ) (given : ℕ) → IsAt b fed given → given ≤ length (lines b.limit fed)
     → (bytes : List ℕ) × (slice_get (lines b.limit fed) given ≡ Some (line bytes))
 
--- the reply with these entries, or that they are too many
-abbrev pub IsListing : List ℕ → List Entry → List ℕ → Type 0
-IsListing id found text =
-    ((length found ≤ entry_limit) × (text ≡ history_text id found))
-    ⊎ ((entry_limit < length found) × (text ≡ too_large_text id))
+-- the reply with a list of so many entries, or that they are too many
+abbrev pub IsListing : List ℕ → ℕ → List ℕ → List ℕ → Type 0
+IsListing id count whole text =
+    ((count ≤ entry_limit) × (text ≡ whole)) ⊎ ((entry_limit < count) × (text ≡ too_large_text id))
 
--- What a client gets for a request under this id: the history of the script hash, or that the index's device
--- failed. `rose` says by how much the count of that device's failures rose.
-pub data RequestText (chain : Chain) (id script_hash : List ℕ) (rose : ℕ → Type 0) (text : List ℕ)
-    : Type 0 where
-  listed : IsListing id (history chain script_hash) text → rose 0 → RequestText chain id script_hash rose text
-  failed : text ≡ disk_text id → rose 1 → RequestText chain id script_hash rose text
+-- What a client gets for a request under this id: what the method says of the script hash, or that the
+-- index's device failed. `rose` says by how much the count of that device's failures rose.
+pub data RequestText (chain : Chain) (m : Method) (id script_hash : List ℕ) (rose : ℕ → Type 0)
+    (text : List ℕ) : Type 0 where
+  listed : IsListing id (entry_count chain m script_hash) (answer_text chain m id script_hash) text → rose 0
+      → RequestText chain m id script_hash rose text
+  failed : text ≡ disk_text id → rose 1 → RequestText chain m id script_hash rose text
 
 -- What a client gets for a line: its reply, or that the index's device failed. `rose` says by how much the
 -- count of that device's failures rose.
 pub data ReplyText (chain : Chain) (bytes : List ℕ) (rose : ℕ → Type 0) (text : List ℕ) : Type 0 where
   replied : ((session : Session) → IsReply chain session bytes (replies session text)) → rose 0
       → ReplyText chain bytes rose text
-  failed : (id script_hash : List ℕ) → Asks bytes id script_hash → text ≡ disk_text id → rose 1
-      → ReplyText chain bytes rose text
+  failed : (m : Method) (id script_hash : List ℕ) → Asks bytes m id script_hash → text ≡ disk_text id
+      → rose 1 → ReplyText chain bytes rose text
 
 -- this goes to the client for a line
 abbrev pub SendsReply : Chain → List ℕ → (ℕ → Type 0) → ℕ → model.Outs → Type 0

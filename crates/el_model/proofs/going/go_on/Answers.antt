@@ -1,7 +1,7 @@
 use Rattle.std.proofs.Common.{rules, ◌+◌, refl, inl, inr, [], ap, Err, sym, ◌∙◌}
 use Rattle.std.proofs.lemmas.List.{append-nil}
 use Rattle.el_chain.specs.Moves.{target}
-use Rattle.el_model.proofs.RunLemmas.{told_at, told_refused, safe_in_flight, safe_at_rest, failed_flies, none_told, one_each_more, ever_more, ever_begins, refused_either, in_flight, follows, follow_on}
+use Rattle.el_model.proofs.RunLemmas.{told_at, told_refused, safe_in_flight, safe_at_rest, failed_flies, none_told, one_each_more, ever_more, ever_begins, refused_either, in_flight, follows, move_on}
 use Rattle.el_model.proofs.going.go_on.Goals as goal
 
 pub loop-plan-init : goal.loop-plan-init
@@ -96,7 +96,8 @@ loop-plan-preserved g c = record {
   one_each = one_each_more c.loop-plan.sent c.push.new.self _ c.loop-plan.plan-index c.loop-plan.invariant.one_each c.in_ok-push-in-Ok.ensures.ok;
   follow =
       let next = follows _ c.args.plans.now c.loop-plan.plan-index c.plan-item.result _ c.loop-plan.invariant.follow c.loop-plan-test.true c.plan-item.is in
-      follow_on (g.G.Ledger.tip c.loop-plan.ledger) (g.G.Ledger.tip c.go.new.self) c.args.plans.now c.loop-plan.plan-index c.plan-item.result next (c.in-Ok.ensures.last next.some);
+      move_on (g.G.Ledger.stands c.loop-plan.ledger) (g.G.Ledger.stands c.go.new.self) (g.G.Ledger.tip c.go.new.self) c.args.plans.now c.loop-plan.plan-index c.plan-item.result next c.in-Ok.ensures.last
+      (g.met.G.Ledger.tip_is c.go.new.self);
   told = λ start stands.
       let was = c.loop-plan.invariant.told start stands in
       let moved = c.in-Ok.ensures.moved was.0 was.2 in
@@ -113,3 +114,12 @@ loop-plan-preserved g c = record {
       ever_more g.A.Archive.tells start c.args.plans.now c.loop-plan.plan-index c.loop-plan.sent was.0 c.plan-item.result _ c.loop-plan-test.true c.plan-item.is was.1
       l.means l.moment l.left_since c.args.ledger.now c.loop-plan.ledger c.go.new.self c.push.new.self _ (target c.plan-item.result was.0 moved.0) c.loop-plan.invariant.one_each c.in_ok-push-in-Ok.ensures.ok (inr (_, moved.0, moved.1, refl)) (c.loop-plan.invariant.ever start stands tells) (moved.4 tells);
 }
+
+-- the next move fits each chain that the ledger stands for
+pub go-requires-clause-fits : goal.go-requires-clause-fits
+go-requires-clause-fits g c =
+    let next = follows _ c.args.plans.now c.loop-plan.plan-index c.plan-item.result _ c.loop-plan.invariant.follow c.loop-plan-test.true c.plan-item.is in next.fits
+
+pub go-requires-clause-plan : goal.go-requires-clause-plan
+go-requires-clause-plan g c =
+    let next = follows _ c.args.plans.now c.loop-plan.plan-index c.plan-item.result _ c.loop-plan.invariant.follow c.loop-plan-test.true c.plan-item.is in next.plan

@@ -1,6 +1,6 @@
 use Rattle.std.proofs.Common.{◌≡◌, length, take, drop}
 use Rattle.el_chain.specs.Chains.{Chain}
-use Rattle.el_model.specs.Going.{Told, WasSafe, FollowOn, named}
+use Rattle.el_model.specs.Going.{Told, WasSafe, AreMovesOf}
 use Rattle.el_outside.specs.Moments.{LeavesOnly}
 use Rattle.el_model.proofs.going.go_on.Given as goal
 
@@ -8,7 +8,7 @@ abbrev pub invariant-loop-plan : goal.invariant-loop-plan
 invariant-loop-plan g l = record {
   live : g.G.Ledger.is_live l.ledger;
   one_each : length l.sent ≡ l.plan-index;
-  follow : FollowOn (named (g.G.Ledger.tip l.ledger)) (drop l.plan-index l.plans);
+  follow : AreMovesOf (g.G.Ledger.stands l.ledger) (drop l.plan-index l.plans);
   told : (chain : Chain) → g.G.Ledger.stands l.fn.ledger chain → (acked : Chain) × Told g.A.Archive.tells chain (take l.plan-index l.plans) l.sent acked × g.G.Ledger.stands l.ledger acked;
   ever : (chain : Chain) → g.G.Ledger.stands l.fn.ledger chain → g.G.Ledger.tells_crash
       → LeavesOnly g.G.Ledger.moment g.G.Ledger.left_since l.fn.ledger l.ledger (WasSafe g.A.Archive.tells g.G.Ledger.means l.plans chain l.sent);

@@ -1,12 +1,20 @@
+use Rattle.std.proofs.Common.{List, length, drop, ◌++◌, ◌-◌}
+use Rattle.el_chain.specs.Chains.{Chain}
+use Rattle.el_chain.specs.Coins.{coins}
+use Rattle.el_chain.specs.Moves.{shorter}
+use Rattle.el_chain.specs.Touches.{Touch}
 use Rattle.el_model.proofs.PlainMoves.{plain_moved, plain_last}
 use Rattle.el_model.proofs.plain_ledger.PlainLedger.make_move.Goals as goal
 
 pub returns-clause-moved : goal.returns-clause-moved
 returns-clause-moved g c =
-    rw (← c.self.view_is) (plain_moved g.A.Archive.tells (g.A.Archive.bytes c.read_all.new.archive) c.self.inside.chain c.extend_all.new.self c.args.plan.now c.in_ok-texts.texts.items c.as_slice-nodes.result.now c.in_ok-touched.touched
-    c.requires.plan c.as_slice-nodes.ensures c.in_ok-texts.ensures.read (rw c.as_slice.ensures.value at c.in_ok-touched.ensures.ok) c.list-listed.ensures.once)
+    rw (← c.self.view_is) (plain_moved g.A.Archive.tells (g.A.Archive.bytes c.read_all.new.archive) c.self.inside.chain c.move_all.new.self c.args.plan.now c.in_ok-texts.texts.items c.as_slice-nodes.result.now c.in_ok-touched.touched
+    c.as_slice-nodes.ensures c.in_ok-texts.ensures.read (rw c.as_slice.ensures.value at c.in_ok-touched.ensures.ok) c.list-listed.ensures.once)
 
 pub returns-clause-last : goal.returns-clause-last
 returns-clause-last g c = λ some.
-    plain_last g.A.Archive.tells (g.A.Archive.bytes c.read_all.new.archive) c.self.inside.chain c.extend_all.new.self c.args.plan.now c.in_ok-texts.texts.items c.as_slice-nodes.result.now c.in_ok-touched.touched
+    let old = c.self.inside.chain in
+    let back = c.args.plan.now.back in
+    plain_last g.A.Archive.tells (g.A.Archive.bytes c.read_all.new.archive) (shorter back old) c.move_all.new.self c.args.plan.now c.in_ok-texts.texts.items c.as_slice-nodes.result.now
+    (λ (fresh : Chain). Touch c.in_ok-touched.touched (coins (shorter back old)) (drop (length old - back) old ++ fresh))
     c.requires.plan c.as_slice-nodes.ensures c.in_ok-texts.ensures.read (rw c.as_slice.ensures.value at c.in_ok-touched.ensures.ok) some
