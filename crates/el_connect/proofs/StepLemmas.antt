@@ -1,0 +1,277 @@
+-- What the steps of a transaction do to lengths, to the sum of all coins, and to the room that is left.
+use Rattle.std.proofs.Common.{◌≡◌, ◌⊎◌, inl, inr, ℕ, zero, suc, ◌+◌, ◌-◌, ◌<◌, ◌≤◌, ◌^◌, Bool, true, false, List, [], ◌∷◌, ◌++◌, length, take, drop, get_or, Option, None, Some, Ok, Err, refl, ap, sym, subst, ◌∙◌, arith, length-append, if◌then◌else◌, min, unwrap_or}
+use Rattle.std.specs.Option.{option_or}
+use Rattle.std.proofs.lemmas.Bool.{cases_lt, lt-ltb, le-ltb}
+use Rattle.std.proofs.lemmas.List.{take_at, drop_all}
+use Rattle.el_base.specs.declared.hash.Hash32.{Hash32}
+use Rattle.el_base.proofs.Lists.{left_at}
+use Rattle.el_tx.specs.declared.types.Outpoint.{Outpoint}
+use Rattle.el_tx.specs.Encoding.{max_money}
+use Rattle.el_chain.specs.Faults.{money_fault, full}
+use Rattle.el_chain.specs.RowCounts.{has_script, add_script}
+use Rattle.el_chain.specs.declared.fault.ConnectFault.{ConnectFault}
+use Rattle.el_chain.specs.declared.fault.ConnectFault.TheVariants as refusal
+use Rattle.el_chain.specs.declared.limits.TheConstants.{ROW_LIMIT}
+use Rattle.el_tables.specs.ChainLists.{ListedBlock}
+use Rattle.el_tables.specs.Connecting.{spend_all, spend_coin, fund, fund_all, bounds_by, script_of_output}
+use Rattle.el_tables.specs.Edits.{no_out}
+use Rattle.el_tables.specs.Fits.{Fits}
+use Rattle.el_tables.specs.Lists.{State, Lists, ListedTx, ListedOut, ListedEntry, script_number, is_tx, last_tx_of, append_entry, add_entry, add_output, spend_output, with_state, script_at, output_number, coin_number, spend, replaced, bury, unspent_sum, txid_at}
+use Rattle.el_tables.specs.Tables.{HeadCounts}
+use Rattle.el_tables.proofs.FitLemmas.{touch_fits, take_out_fits, add_out_fits}
+use Rattle.el_tables.proofs.OutEdits.{is_there}
+use Rattle.el_tables.proofs.Sums.{balance_within}
+use Rattle.el_tables.proofs.RunningSums.{spent_less, alone_more, buries_more}
+use Rattle.el_tables.proofs.Scripts.{once_has, number_within}
+use Rattle.el_rows.specs.Tables as held
+use Rattle.el_rows.specs.declared.table.Table.{Table}
+use Rattle.el_rows.specs.declared.table.Table.TheVariants as table
+use Rattle.el_buckets.specs.Faults.{NotAdded}
+use Rattle.el_buckets.specs.Rows.{Hold}
+use Rattle.el_buckets.proofs.Held.{count_txs}
+use Rattle.el_script.proofs.ScriptSteps.{many_scripts, many_entries}
+use Rattle.el_spend.specs.Outputs.{BalancesFit}
+use Rattle.el_connect.specs.within.Parts.{Reached, HasRoom, values, SpentBy, value_of}
+
+-- 1. Lengths
+
+pub state_long : (s : State) (k : ℕ) (xs : List ListedOut) → length (with_state s k xs) ≡ length xs
+state_long s k [] = refl
+state_long s zero (x ∷ xs) = refl
+state_long s (suc k) (x ∷ xs) = ap (λ n. suc n) (state_long s k xs)
+
+script_long : (s : Hash32) (xs : List Hash32) → length (add_script s xs) ≤ length xs + 1
+script_long s xs = by (has_script s xs)
+  where
+    by : (b : Bool) → length (if b then xs else xs ++ s ∷ []) ≤ length xs + 1
+    by true = omega arith
+    by false = let long = length-append xs (s ∷ []) in omega arith
+
+entry_long : (tx n : ℕ) (es : List ListedEntry) → length (append_entry tx n es) ≤ length es + 1
+entry_long tx n es = by (is_tx tx (last_tx_of n es))
+  where
+    by : (b : Bool) → length (if b then es else es ++ record { tx = tx; script = n } ∷ []) ≤ length es + 1
+    by true = omega arith
+    by false = let long = length-append es (record { tx = tx; script = n } ∷ []) in omega arith
+
+pub bury_long : (by : ℕ) (r : Option ℕ) (xs : List ListedOut) → length (bury by r xs) ≡ length xs
+bury_long by None xs = refl
+bury_long by (Some k) xs = state_long (State.Buried by) k xs
+
+-- 2. An input
+
+pub room_spent : (by k m n : ℕ) (l : Lists) → HasRoom l (m + 1) n → HasRoom (spend_coin by k l) m n
+room_spent by k m n l room =
+    let s = script_of_output k l in
+    let ins = length-append l.ins (k ∷ []) in
+    let outs = state_long (State.Spent by) k l.outs in
+    let scripts = script_long s l.scripts in
+    let entries = entry_long by (script_number s l.scripts) l.entries in
+    let a = room.ins in
+    let b = room.outs in
+    let c = room.scripts in
+    let d = room.entries in
+    record { ins = omega arith; outs = omega arith; scripts = omega arith; entries = omega arith }
+
+pub script_stays : (s : State) (j k : ℕ) (xs : List ListedOut) → script_at k (with_state s j xs) ≡ script_at k xs
+script_stays s j k [] = refl
+script_stays s zero zero (x ∷ xs) = refl
+script_stays s zero (suc k) (x ∷ xs) = refl
+script_stays s (suc j) zero (x ∷ xs) = refl
+script_stays s (suc j) (suc k) (x ∷ xs) = script_stays s j k xs
+
+pub value_stays : (s : State) (j k : ℕ) (xs : List ListedOut) → (get_or (with_state s j xs) k no_out).value ≡ (get_or xs k no_out).value
+value_stays s j k [] = refl
+value_stays s zero zero (x ∷ xs) = refl
+value_stays s zero (suc k) (x ∷ xs) = refl
+value_stays s (suc j) zero (x ∷ xs) = refl
+value_stays s (suc j) (suc k) (x ∷ xs) = value_stays s j k xs
+
+-- the inputs that are left, where one has no coin, and where one has
+pub input_missing : (by at : ℕ) (os : List Outpoint) (o : Outpoint) (l : Lists) → at < length os → o ≡ get_or os at o → coin_number o l.txs l.outs ≡ None
+    → spend_all by at (drop at os) l ≡ Err at
+input_missing by at os o l lt is none = let left = left_at os at o lt is in rw (left, none) refl
+
+pub input_spent : (by at k : ℕ) (os : List Outpoint) (o : Outpoint) (l : Lists) → at < length os → o ≡ get_or os at o → coin_number o l.txs l.outs ≡ Some k
+    → spend_all by at (drop at os) l ≡ spend_all by (at + 1) (drop (at + 1) os) (spend_coin by k l)
+input_spent by at k os o l lt is some = let left = left_at os at o lt is in rw (left, some) refl
+
+pub inputs_end : (by at : ℕ) (os : List Outpoint) (l : Lists) → length os ≤ at → spend_all by at (drop at os) l ≡ Ok l
+inputs_end by at os l le = let none = drop_all at os le in rw none refl
+
+-- 3. An output
+
+pub room_funded : (tx index n : ℕ) (o : ℕ × Hash32) (l : Lists) → HasRoom l 0 (n + 1) → HasRoom (fund tx index o l) 0 n
+room_funded tx index n o l room =
+    let e = add_entry o.1 tx l in
+    let x : ListedOut = record { tx = tx; value = o.0; script = script_number o.1 e.scripts; state = State.Unspent } in
+    let buried = bury_long tx (replaced tx index e) l.outs in
+    let outs = length-append (bury tx (replaced tx index e) l.outs) (x ∷ []) in
+    let scripts = script_long o.1 l.scripts in
+    let entries = entry_long tx (script_number o.1 l.scripts) l.entries in
+    let a = room.ins in
+    let b = room.outs in
+    let c = room.scripts in
+    let d = room.entries in
+    record { ins = omega arith; outs = omega arith; scripts = omega arith; entries = omega arith }
+
+-- the sum falls by what is buried, and rises by the value
+pub funded_sum : (l : Lists) (tx index value script : ℕ)
+    → unspent_sum (add_output tx index value script l).outs + value_of (replaced tx index l) l.outs ≡ unspent_sum l.outs + value
+funded_sum l tx index value script = by (replaced tx index l) refl
+  where
+    by : (r : Option ℕ) → replaced tx index l ≡ r → unspent_sum (add_output tx index value script l).outs + value_of r l.outs ≡ unspent_sum l.outs + value
+    by None is = let e = alone_more l tx index value script is in omega arith
+    by (Some k) is = buries_more l tx index value script k is
+
+pub funded_at_most : (l : Lists) (tx index value script : ℕ) → unspent_sum (add_output tx index value script l).outs ≤ unspent_sum l.outs + value
+funded_at_most l tx index value script = let e = funded_sum l tx index value script in omega arith
+
+-- what is buried is a part of the sum
+pub gone_within : (l : Lists) (tx index : ℕ) → value_of (replaced tx index l) l.outs ≤ unspent_sum l.outs
+gone_within l tx index = let e = funded_sum l tx index 0 0 in omega arith
+
+-- the script hash's number is one of those that there are then
+pub entered_within : (s : Hash32) (xs : List Hash32) → script_number s (add_script s xs) < length (add_script s xs)
+entered_within s xs = number_within s (add_script s xs) (once_has s xs).0
+
+pub entered_number : (s : Hash32) (xs : List Hash32) → script_number s (add_script s xs) ≡ script_number s xs
+entered_number s xs = (once_has s xs).1
+
+pub fund_fits : (tx index : ℕ) (o : ℕ × Hash32) (l : Lists) → Fits l → Fits (fund tx index o l)
+fund_fits tx index o l fits =
+    let e = add_entry o.1 tx l in
+    add_out_fits e tx index o.0 (script_number o.1 e.scripts) (touch_fits l o.1 tx fits) (entered_within o.1 l.scripts)
+
+pub fund_txs : (tx index : ℕ) (os : List (ℕ × Hash32)) (l : Lists) → (fund_all tx index os l).txs ≡ l.txs
+fund_txs tx index [] l = refl
+fund_txs tx index (o ∷ os) l = fund_txs tx (index + 1) os (fund tx index o l)
+
+pub room_all : (tx index : ℕ) (os : List (ℕ × Hash32)) (l : Lists) → HasRoom l 0 (length os) → HasRoom (fund_all tx index os l) 0 0
+room_all tx index [] l room = room
+room_all tx index (o ∷ os) l room =
+    let more : HasRoom l 0 (length os + 1) = (let e : length (o ∷ os) ≡ length os + 1 = omega arith in subst (HasRoom l 0) e room) in
+    room_all tx (index + 1) os (fund tx index o l) (room_funded tx index (length os) o l more)
+
+-- the outputs that are left
+pub output_funded : (tx at : ℕ) (os : List (ℕ × Hash32)) (o : ℕ × Hash32) (l : Lists) → at < length os → o ≡ get_or os at o
+    → fund_all tx at (drop at os) l ≡ fund_all tx (at + 1) (drop (at + 1) os) (fund tx at o l)
+output_funded tx at os o l lt is = let left = left_at os at o lt is in rw left refl
+
+pub outputs_end : (tx at : ℕ) (os : List (ℕ × Hash32)) (l : Lists) → length os ≤ at → fund_all tx at (drop at os) l ≡ l
+outputs_end tx at os l le = let none = drop_all at os le in rw none refl
+
+pub values_left : (at : ℕ) (os : List (ℕ × Hash32)) (o : ℕ × Hash32) → at < length os → o ≡ get_or os at o → values (drop at os) ≡ o.0 + values (drop (at + 1) os)
+values_left at os o lt is = let left = left_at os at o lt is in rw left refl
+
+-- 4. A transaction that was listed
+
+pub last_txid : (txs : List ListedTx) (t : ListedTx) → txid_at (length txs) (txs ++ t ∷ []) ≡ t.txid
+last_txid [] t = refl
+last_txid (u ∷ us) t = last_txid us t
+
+pub before_last : (txs : List ListedTx) (t : ListedTx) → take (length txs) (txs ++ t ∷ []) ≡ txs
+before_last txs t = take_at txs (t ∷ []) (length txs) refl
+
+-- 5. Faults
+
+pub full_none : (table rows : ℕ) → rows ≤ ROW_LIMIT → full table rows ≡ None
+full_none table rows le = let e = le-ltb ROW_LIMIT rows le in rw e refl
+
+-- with room, only money can be too much
+pub bounds_are : (height : ℕ) (l : Lists) → height < ROW_LIMIT → length l.txs ≤ ROW_LIMIT → HasRoom l 0 0 → bounds_by height l ≡ money_fault (unspent_sum l.outs)
+bounds_are height l low txs room =
+    let one = full_none 1 (height + 1) (omega arith) in
+    let two = full_none 2 (length l.txs) txs in
+    let a = room.ins in
+    let b = room.outs in
+    let c = room.scripts in
+    let d = room.entries in
+    let four = full_none 4 (length l.outs) (omega arith) in
+    let five = full_none 5 (length l.ins) (omega arith) in
+    let six = full_none 6 (length l.scripts) (omega arith) in
+    let eight = full_none 8 (length l.entries) (omega arith) in
+    rw (one, two, four, five, six, eight) (by (money_fault (unspent_sum l.outs)))
+  where
+    by : (r : Option ConnectFault) → option_or r None ≡ r
+    by None = refl
+    by (Some e) = refl
+
+pub money_fits : (sum : ℕ) → money_fault sum ≡ None → sum ≤ max_money
+money_fits sum e = by (cases_lt max_money sum)
+  where
+    by : (max_money < sum) ⊎ (sum ≤ max_money) → sum ≤ max_money
+    by (inr le) = le
+    by (inl lt) = absurd (wrong (sym (let t = lt-ltb max_money sum lt in rw t refl) ∙ e))
+      where
+        wrong : Some (refusal.Money sum) ≡ None → ⊥
+        wrong h = cc
+
+-- 6. Rows and the sum after a step
+
+pub spent_lists : (o : Outpoint) (by k : ℕ) (l : Lists) → coin_number o l.txs l.outs ≡ Some k → unwrap_or (spend o by l) l ≡ spend_output by k l
+spent_lists o by k l is = rw is refl
+
+pub input_reached : (counts : HeadCounts) (bs : List ListedBlock) (l : Lists) (before rows : held.Tables) (sum by k v : ℕ) (o : Outpoint) (h : Hash32) → Reached counts bs l before sum
+    → coin_number o l.txs l.outs ≡ Some k → v ≡ (get_or (spend_output by k l).outs k no_out).value → h ≡ script_of_output k l
+    → Hold counts bs (add_entry h by (spend_output by k l)) rows → SpentBy counts bs l rows sum o by (Some v)
+input_reached counts bs l before rows sum by k v o h reached is value script hold =
+    let there = is_there l.outs (output_number o l.txs) k is in
+    let less = spent_less l by k there in
+    let same = value_stays (State.Spent by) k k l.outs in
+    let sum_was = reached.sum_is in
+    record {
+      coin = k;
+      is = is;
+      less = omega arith;
+      reached = record {
+        hold = subst (λ (x : Hash32). Hold counts bs (add_entry x by (spend_output by k l)) rows) script hold;
+        fits = touch_fits (spend_output by k l) (script_of_output k l) by (take_out_fits l by k reached.fits);
+        tx_heads = reached.tx_heads;
+        script_heads = reached.script_heads;
+        sum_is = omega arith;
+      };
+    }
+
+pub balances_fit : (outs : List ListedOut) → unspent_sum outs < 2 ^ 64 → BalancesFit outs
+balances_fit outs fit = λ s. let part = balance_within s outs in omega arith
+
+pub output_reached : (counts : HeadCounts) (bs : List ListedBlock) (l : Lists) (before rows : held.Tables) (sum tx index gone after : ℕ) (o : ℕ × Hash32) → Reached counts bs l before sum
+    → unspent_sum l.outs + o.0 < 2 ^ 64 → gone ≡ value_of (replaced tx index (add_entry o.1 tx l)) l.outs → after ≡ min (sum - gone + o.0) 18446744073709551615
+    → Hold counts bs (fund tx index o l) rows → Reached counts bs (fund tx index o l) rows after
+output_reached counts bs l before rows sum tx index gone after o reached fit buried is hold =
+    let e = add_entry o.1 tx l in
+    let sums = funded_sum e tx index o.0 (script_number o.1 e.scripts) in
+    let part = gone_within e tx index in
+    let sum_was = reached.sum_is in
+    let more : sum - gone + o.0 ≡ unspent_sum (fund tx index o l).outs = omega arith in
+    let all : unspent_sum (fund tx index o l).outs ≤ 18446744073709551615 = omega arith in
+    record {
+      hold = hold;
+      fits = fund_fits tx index o l reached.fits;
+      tx_heads = reached.tx_heads;
+      script_heads = reached.script_heads;
+      sum_is = omega (arith, is, more, all);
+    }
+
+-- 7. Faults of calls where there is room
+
+pub not_added : (t : Table) (n : ℕ) (e : ConnectFault) → n < ROW_LIMIT → NotAdded t n e → e ≡ refusal.Memory
+not_added t n e lt (inl full) = absurd (let at = full.0 in omega arith)
+not_added t n e lt (inr memory) = memory.1
+
+pub touch_refused : (counts : HeadCounts) (bs : List ListedBlock) (l : Lists) (rows : held.Tables) (e : ConnectFault) → Hold counts bs l rows
+    → length l.scripts < ROW_LIMIT → length l.entries < ROW_LIMIT
+    → (e ≡ refusal.DiskFailed) ⊎ (NotAdded table.Scripts (length (rows table.Scripts)) e ⊎ NotAdded table.Entries (length (rows table.Entries)) e)
+    → (e ≡ refusal.DiskFailed) ⊎ (e ≡ refusal.Memory)
+touch_refused counts bs l rows e hold scripts entries (inl disk) = inl disk
+touch_refused counts bs l rows e hold scripts entries (inr (inl why)) =
+    inr (not_added table.Scripts (length (rows table.Scripts)) e (let many = many_scripts counts bs l rows hold in omega arith) why)
+touch_refused counts bs l rows e hold scripts entries (inr (inr why)) =
+    inr (not_added table.Entries (length (rows table.Entries)) e (let many = many_entries counts bs l rows hold in omega arith) why)
+
+pub tx_added_refused : (counts : HeadCounts) (bs : List ListedBlock) (l : Lists) (rows : held.Tables) (e : ConnectFault) → Hold counts bs l rows → length l.txs < ROW_LIMIT
+    → (e ≡ refusal.DiskFailed) ⊎ NotAdded table.Txs (length (rows table.Txs)) e → (e ≡ refusal.DiskFailed) ⊎ (e ≡ refusal.Memory)
+tx_added_refused counts bs l rows e hold few (inl disk) = inl disk
+tx_added_refused counts bs l rows e hold few (inr why) =
+    inr (not_added table.Txs (length (rows table.Txs)) e (let many = count_txs counts bs l rows hold in omega arith) why)

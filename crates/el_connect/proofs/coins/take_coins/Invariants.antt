@@ -1,0 +1,25 @@
+use Rattle.std.proofs.Common.{◌≡◌, ◌≤◌, ◌<◌, List, [], drop}
+use Rattle.el_rows.specs.Transaction.{tables_in, OnlyReads}
+use Rattle.el_rows.specs.declared.table.Table.TheVariants as table
+use Rattle.el_tables.specs.ChainLists.{ListedBlock}
+use Rattle.el_tables.specs.Connecting.{spend_all}
+use Rattle.el_tables.specs.Lists.{Lists, unspent_sum}
+use Rattle.el_tables.specs.Tables.{HeadCounts}
+use Rattle.el_buckets.specs.Rows.{Hold}
+use Rattle.el_connect.specs.within.Full.{TakingOn}
+use Rattle.el_connect.proofs.coins.take_coins.Given as goal
+
+-- the inputs that are left complete the whole
+abbrev pub invariant-loop-input : goal.invariant-loop-input
+invariant-loop-input g l =
+    let shown = tables_in {G = g.R.Rows} l.fn.t in
+    record {
+      taken : (counts : HeadCounts) (bs : List ListedBlock) (now before : Lists) → g.R.Rows.tells → Hold counts bs now shown → 0 < counts.txs → now.txs ≡ before.txs → now.outs ≡ before.outs
+          → now.ins ≡ [] → l.fn.sum ≡ unspent_sum before.outs
+          → TakingOn counts bs before (tables_in {G = g.R.Rows} l.t) l.left l.fn.sum l.input (λ real. spend_all l.by 0 l.inputs before ≡ spend_all l.by l.input (drop l.input l.inputs) real);
+      blocks : tables_in {G = g.R.Rows} l.t table.Blocks ≡ shown table.Blocks;
+      reads : OnlyReads {G = g.R.Rows} l.fn.t l.t;
+      name : l.t.rows.ghost_name ≡ l.fn.t.rows.ghost_name;
+      uncounted : g.R.Rows.faults l.t.rows.now ≡ g.R.Rows.faults l.fn.t.rows.now;
+      ticked : l.fn.steps ≤ l.steps;
+    }

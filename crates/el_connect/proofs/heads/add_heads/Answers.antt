@@ -1,0 +1,8 @@
+use Rattle.std.proofs.Common.{◌≡◌, ℕ, replicate, None, ap, ◌∙◌, arith}
+use Rattle.el_rows.specs.RowBytes.{link_bytes}
+use Rattle.el_connect.proofs.heads.add_heads.Goals as goal
+
+pub returns-clause-none : goal.returns-clause-none
+returns-clause-none g c empty =
+    let all : c.loop.counter ≡ 65536 = omega (arith, c.loop-test.false, c.loop.auto.counter-end) in
+    c.loop.invariant.rows ∙ ap (λ (n : ℕ). replicate n (link_bytes None)) all

@@ -1,0 +1,35 @@
+use Rattle.std.proofs.Common.{◌<◌, ◌+◌, ◌^◌, ℕ, length, min, refl, ap, sym, subst, ◌∙◌, arith}
+use Rattle.std.proofs.lemmas.Result.{err_from_is_err_and}
+use Rattle.el_chain.proofs.CoinSteps.{err_passed}
+use Rattle.el_chain.specs.declared.limits.TheConstants.{ROW_LIMIT}
+use Rattle.el_rows.specs.Tables as held
+use Rattle.el_rows.specs.Transaction.{tables_in}
+use Rattle.el_tables.specs.Lists.{add_entry, add_output, unspent_sum}
+use Rattle.el_buckets.specs.Rows.{Hold}
+use Rattle.el_connect.proofs.LoopLemmas.{same_maker}
+use Rattle.el_connect.proofs.StepLemmas.{touch_refused, entered_number, balances_fit, funded_at_most, output_reached}
+use Rattle.el_connect.proofs.outputs.fund_output.Goals as goal
+
+pub returns-in_err-script-clause-refused : goal.returns-in_err-script-clause-refused
+returns-in_err-script-clause-refused g c counts bs l n told reached room =
+    let e = c.in_err-script.field-0.0 in
+    let scripts : length l.scripts < ROW_LIMIT = omega (arith, room.scripts) in
+    let entries : length l.entries < ROW_LIMIT = omega (arith, room.entries) in
+    err_passed c.from_residual.result _ e (err_from_is_err_and c.from_residual.result c.from_residual.ensures.1)
+    (touch_refused counts bs l (tables_in {G = g.R.Rows} c.args.t.now) e reached.hold scripts entries c.in_err-script.ensures.fault)
+
+pub returns-clause-funded : goal.returns-clause-funded
+returns-clause-funded g c counts bs l told reached is fit =
+    let m = c.args.maker.now in
+    let o = c.args.output.now in
+    let e = add_entry o.1 m.number l in
+    let touched = c.in_ok-script.ensures.lists counts bs l told reached.hold reached.fits reached.script_heads in
+    let number = c.in_ok-script.ensures.number counts bs l told reached.hold reached.fits reached.script_heads ∙ sym (entered_number o.1 l.scripts) in
+    let gone = c.in_ok-gone.ensures.value counts bs e told touched reached.tx_heads (same_maker m l e refl is) in
+    let before = subst (λ (T : held.Tables). Hold counts bs e T) (sym c.value_replaced.ensures.tables) touched in
+    let most = funded_at_most e m.number c.args.index o.0 c.in_ok-script.script in
+    let fits : unspent_sum (add_output m.number c.args.index o.0 c.in_ok-script.script e).outs < 2 ^ 64 = omega arith in
+    let added = c.in_ok-add_out.ensures.lists counts bs e told before reached.tx_heads (balances_fit _ fits) in
+    let hold = subst (λ (j : ℕ). Hold counts bs (add_output m.number c.args.index o.0 j e) (tables_in {G = g.R.Rows} c.add_out.new.t)) number added in
+    output_reached counts bs l (tables_in {G = g.R.Rows} c.args.t.now) (tables_in {G = g.R.Rows} c.add_out.new.t) c.args.sum m.number c.args.index c.in_ok-gone.gone c.saturating_add.result o reached fit gone
+    (c.saturating_add.ensures ∙ ap (λ (s : ℕ). min (s + o.0) 18446744073709551615) c.saturating_sub.ensures) hold

@@ -1,0 +1,168 @@
+-- Parts of the work on a block: what rows and a running sum stand for between the steps, and the steps on the
+-- lists with what is prepared of a block.
+use Rattle.std.specs.Prelude.{◌≡◌, ℕ, ◌+◌, ◌-◌, ◌<◌, ◌≤◌, ◌^◌, List, [], ◌∷◌, length, get_or, take, Option, None, Some, Result, Ok}
+use Rattle.el_base.specs.declared.hash.Hash32.{Hash32}
+use Rattle.el_tx.specs.Encoding.{max_money}
+use Rattle.el_tx.specs.declared.types.Outpoint.{Outpoint}
+use Rattle.el_chain.specs.declared.fault.ConnectFault.{ConnectFault}
+use Rattle.el_chain.specs.declared.limits.TheConstants.{ROW_LIMIT}
+use Rattle.el_prepare.specs.declared.prepared.PreparedTx.{PreparedTx}
+use Rattle.el_tables.specs.ChainLists.{ListedBlock}
+use Rattle.el_tables.specs.Connecting as listed
+use Rattle.el_tables.specs.Connecting.{◌>>=◌, connect_tx, missing_at, ok_unless, bounds_by, spend_coin}
+use Rattle.el_tables.specs.Edits.{no_out}
+use Rattle.el_tables.specs.Fits.{Fits}
+use Rattle.el_tables.specs.Lists.{Lists, ListedOut, ListedTx, coin_number, unspent_sum, txid_at, newest_tx}
+use Rattle.el_tables.specs.Tables.{HeadCounts}
+use Rattle.el_rows.specs.Tables as held
+use Rattle.el_buckets.specs.Rows.{Hold}
+use Rattle.el_connect.specs.declared.outputs.Maker.{Maker}
+
+-- 1. Between the steps
+
+-- The rows hold blocks and lists that fit together, with some heads, and the sum is what all unspent outputs
+-- hold.
+pub record Reached (counts : HeadCounts) (bs : List ListedBlock) (l : Lists) (rows : held.Tables)
+    (sum : ℕ) : Type 0 where
+  pub hold : Hold counts bs l rows
+  pub fits : Fits l
+  pub tx_heads : 0 < counts.txs
+  pub script_heads : 0 < counts.scripts
+  pub sum_is : sum ≡ unspent_sum l.outs
+
+-- there is room for so many inputs and outputs more, whatever their script hashes
+pub record HasRoom (l : Lists) (inputs outputs : ℕ) : Type 0 where
+  pub ins : length l.ins + inputs ≤ ROW_LIMIT
+  pub outs : length l.outs + outputs ≤ ROW_LIMIT
+  pub scripts : length l.scripts + (inputs + outputs) ≤ ROW_LIMIT
+  pub entries : length l.entries + (inputs + outputs) ≤ ROW_LIMIT
+
+-- 2. What is prepared of a transaction
+
+-- it is that of the lists
+abbrev pub as_listed : PreparedTx → listed.PreparedTx
+as_listed p = record {
+  txid = p.txid;
+  start = p.start;
+  len = p.len;
+  inputs = p.inputs;
+  outputs = p.outputs;
+}
+
+-- the values of outputs together, in satoshi
+abbrev pub values : List (ℕ × Hash32) → ℕ
+values [] = 0
+values (o ∷ os) = o.0 + values os
+
+-- Its fields fit a row of a transaction, and its outputs together hold no more than all money.
+pub record IsSmall (p : PreparedTx) : Type 0 where
+  pub txid : length p.txid.0 ≡ 32
+  pub start : p.start < 2 ^ 32
+  pub len : p.len < 2 ^ 32
+  pub inputs : length p.inputs < 2 ^ 32
+  pub outputs : length p.outputs < 2 ^ 32
+  pub money : values p.outputs ≤ max_money
+
+-- The tables of blocks, transactions, outputs and inputs have room for it, in a block of that height.
+pub record IsCounted (height : ℕ) (p : PreparedTx) (l : Lists) : Type 0 where
+  pub block : height < ROW_LIMIT
+  pub txs : length l.txs < ROW_LIMIT
+  pub outs : length l.outs + length p.outputs ≤ ROW_LIMIT
+  pub ins : length l.ins + length p.inputs ≤ ROW_LIMIT
+
+-- 3. Steps
+
+-- the steps of a transaction of a block of that height, which has that index in it: the lists after it, or
+-- its first fault
+abbrev pub connect_next : ℕ → ℕ → PreparedTx → Lists → Result Lists ConnectFault
+connect_next height index p l =
+    missing_at index (connect_tx height (as_listed p) l) >>= (λ m. ok_unless (bounds_by height m) m)
+
+-- those of transactions, of which the first has that index
+abbrev pub connect_all : ℕ → ℕ → List PreparedTx → Lists → Result Lists ConnectFault
+connect_all height index [] l = Ok l
+connect_all height index (p ∷ ps) l =
+    connect_next height index p l >>= (λ m. connect_all height (index + 1) ps m)
+
+-- steps have led to lists, which the rows hold
+pub record LedTo {E : Type 0} (counts : HeadCounts) (bs : List ListedBlock) (rows : held.Tables) (sum : ℕ)
+    (r : Result Lists E) : Type 0 where
+  pub lists : Lists
+  pub led : r ≡ Ok lists
+  pub reached : Reached counts bs lists rows sum
+
+-- an outpoint's coin was spent, which held that value, or there was none
+abbrev pub SpentBy : HeadCounts → List ListedBlock → Lists → held.Tables → ℕ → Outpoint → ℕ → Option ℕ
+    → Type 0
+SpentBy counts bs l rows sum o by None = coin_number o l.txs l.outs ≡ None
+SpentBy counts bs l rows sum o by (Some value) = record {
+  coin : ℕ;
+  is : coin_number o l.txs l.outs ≡ Some coin;
+  less : value ≤ sum;
+  reached : Reached counts bs (spend_coin by coin l) rows (sum - value);
+}
+
+-- what the output of that number holds, and 0 for none
+abbrev pub value_of : Option ℕ → List ListedOut → ℕ
+value_of None outs = 0
+value_of (Some k) outs = (get_or outs k no_out).value
+
+-- what the coin of the outpoint holds, among the first transactions, so many
+abbrev pub coin_value : Outpoint → ℕ → Lists → ℕ
+coin_value o count l = value_of (coin_number o (take count l.txs) l.outs) l.outs
+
+-- A transaction's inputs have led to lists, which the rows hold: the transactions are still these, and there
+-- is room for so many inputs and outputs more.
+pub record Spending {E : Type 0} (counts : HeadCounts) (bs : List ListedBlock) (rows : held.Tables)
+    (sum most : ℕ) (txs : List ListedTx) (inputs outputs : ℕ) (r : Result Lists E) : Type 0 where
+  pub lists : Lists
+  pub led : r ≡ Ok lists
+  pub reached : Reached counts bs lists rows sum
+  pub room : HasRoom lists inputs outputs
+  pub same : lists.txs ≡ txs
+  pub fell : sum ≤ most
+
+-- The transaction of that number has that txid, and the newest one before it with the same has this number.
+pub record IsMaker (m : Maker) (l : Lists) : Type 0 where
+  pub txid : txid_at m.number l.txs ≡ m.txid
+  pub older : m.older ≡ newest_tx m.txid (take m.number l.txs)
+
+-- A transaction's steps from those lists have led to others, which the rows hold: they are one transaction
+-- longer, and no table has too many rows.
+pub record PutBy {E : Type 0} (counts : HeadCounts) (bs : List ListedBlock) (rows : held.Tables) (sum : ℕ)
+    (before : Lists) (r : Result Lists E) : Type 0 where
+  pub lists : Lists
+  pub led : r ≡ Ok lists
+  pub reached : Reached counts bs lists rows sum
+  pub room : HasRoom lists 0 0
+  pub longer : length lists.txs ≡ length before.txs + 1
+
+-- Lists that the rows hold and of which this holds: the transactions are still these, and there is room for
+-- so many inputs and outputs more.
+pub record SpendingOn (counts : HeadCounts) (bs : List ListedBlock) (rows : held.Tables) (sum most : ℕ)
+    (txs : List ListedTx) (inputs outputs : ℕ) (P : Lists → Type 0) : Type 0 where
+  pub lists : Lists
+  pub left : P lists
+  pub reached : Reached counts bs lists rows sum
+  pub room : HasRoom lists inputs outputs
+  pub same : lists.txs ≡ txs
+  pub fell : sum ≤ most
+
+-- Lists that the rows hold and of which this holds: the transactions are still these, there is room for so
+-- many outputs more, and these may hold so much more.
+pub record FundingOn (counts : HeadCounts) (bs : List ListedBlock) (rows : held.Tables) (sum : ℕ)
+    (txs : List ListedTx) (outputs more : ℕ) (P : Lists → Type 0) : Type 0 where
+  pub lists : Lists
+  pub left : P lists
+  pub reached : Reached counts bs lists rows sum
+  pub room : HasRoom lists 0 outputs
+  pub same : lists.txs ≡ txs
+  pub fit : unspent_sum lists.outs + more < 2 ^ 64
+
+-- Lists that the rows hold and of which this holds; all coins hold no more than all money.
+pub record LeadingOn (counts : HeadCounts) (bs : List ListedBlock) (rows : held.Tables) (sum : ℕ)
+    (P : Lists → Type 0) : Type 0 where
+  pub lists : Lists
+  pub left : P lists
+  pub reached : Reached counts bs lists rows sum
+  pub within : sum ≤ max_money

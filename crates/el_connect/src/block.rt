@@ -1,0 +1,129 @@
+// A block.
+ghost use Rattle.std.specs.Prelude.{◌≡◌, ◌≢◌, ◌⊎◌, ◌<◌, ◌≤◌, ◌+◌, ◌^◌, ◌∷◌, ◌++◌, [], ℕ, List, length, None, Some, OnOk, OnErr, IfOk, IfErr};
+ghost use Rattle.el_block.specs.Blocks.{HasBlockEncoding};
+ghost use Rattle.el_block.specs.declared.block.Block as shape;
+ghost use Rattle.el_chain.specs.Chains.{Chain, tip};
+ghost use Rattle.el_chain.specs.Faults.{fault};
+ghost use Rattle.el_outside.specs.Counts.{CountsOnly};
+ghost use Rattle.el_prepare.specs.Prepared.{prepared};
+ghost use Rattle.el_rows.specs.RowBytes.{FitsBlockRow};
+ghost use Rattle.el_rows.specs.Transaction.{tables_in, OnlyReads};
+ghost use Rattle.el_rows.specs.declared.table.Table.{Table};
+ghost use Rattle.el_buckets.specs.Faults.{NotAdded};
+ghost use Rattle.el_buckets.specs.Rows.{Hold, block_fields};
+ghost use Rattle.el_tables.specs.ChainLists.{ListedBlock};
+ghost use Rattle.el_tables.specs.Lists.{Lists};
+ghost use Rattle.el_tables.specs.Tables.{HeadCounts};
+ghost use Rattle.el_stands.specs.Standing.{StandFor};
+
+use crate::heads::add_all_heads;
+use crate::reading::last_sum;
+use crate::transaction::connect_txs;
+use el_base::Steps;
+use el_buckets::not_appended;
+use el_chain::ConnectFault;
+use el_outside::Place;
+use el_prepare::Prepared;
+use el_rows::{BlockRow, Rows, Table, Txn};
+use std::sync::ledger::Ledger;
+
+// The row of a block: its header's bytes, its place by file, offset and length, the number of its first
+// transaction, how many it has, and what all coins hold after it.
+fn row_of(
+    header: &[u8; 80],
+    file: u32,
+    offset: u64,
+    len: u32,
+    first_tx: u64,
+    txs: u32,
+    sum: u64,
+) -> BlockRow
+    requires header { length header.now ≡ 80 }
+    requires first_tx { first_tx < 2 ^ 32 }
+    ensures fits { FitsBlockRow result }
+    ensures is { result ≡ record {
+      header = header.now;
+      place = record { file = file; offset = offset; len = len };
+      first_tx = first_tx;
+      txs = txs;
+      sum = sum;
+    } }
+{
+    BlockRow {
+        header: *header,
+        place: Place { file, offset, len },
+        first_tx,
+        txs,
+        sum,
+    }
+}
+
+// Adds a block after the last, and answers its height. After a fault nothing has changed.
+fn append_block<R: Rows>(t: &mut Txn<'_, R>, row: &BlockRow) -> Result<u64, ConnectFault>
+    requires fits { FitsBlockRow row.now }
+    ensures appended { (counts : HeadCounts) (bs : List ListedBlock) (l : Lists) (b : ListedBlock) →
+        Hold counts bs l (tables_in t.old) → row.now ≡ block_fields b
+        → OnOk result (Hold counts (bs ++ b ∷ []) l (tables_in t.new)) }
+    ensures more { OnOk result (length (tables_in t.new Table.Blocks)
+        ≡ length (tables_in t.old Table.Blocks) + 1) }
+    ensures fault { IfErr result (NotAdded Table.Blocks (length (tables_in t.old Table.Blocks))) }
+    ensures rows { t.new.rows.now ≡ t.old.rows.now }
+    ensures name { t.new.rows.ghost_name ≡ t.old.rows.ghost_name }
+{
+    let mut bytes = [0; 112];
+    row.write(&mut bytes);
+    let height = t.count(Table::Blocks);
+    match t.append(Table::Blocks, &bytes) {
+        Ok(_) => Ok(height),
+        Err(fault) => Err(not_appended(fault)),
+    }
+}
+
+/// Puts a block after the last of the chain that the rows stand for, or tells the first fault that it has
+/// there. Before the first block each table of heads gets its rows. After a fault the transaction of rows may
+/// hold a part of the block.
+///
+/// # Errors
+///
+/// The block's first fault. `ConnectFault::DiskFailed` comes where the device failed, and
+/// `ConnectFault::Memory` where no memory was found; both may come in place of a fault, and where there is
+/// none. `Memory` also stands for the answer where the tables of script hashes and of entries might have no
+/// room for all inputs and outputs of a transaction.
+pub fn connect<R: Rows, L: Ledger>(
+    t: &mut Txn<'_, R>,
+    b: &Prepared,
+    place: Place,
+    steps: &mut Steps<L>,
+) -> Result<(), ConnectFault>
+    requires live { R.is_live t.old.rows.now }
+    requires prepared { (block : shape.Block) × HasBlockEncoding block × (b.now ≡ prepared block) }
+    // A block without a fault is put after the chain, and no other is.
+    ensures connected { (chain : Chain) (block : shape.Block) → R.tells → StandFor (tables_in t.old) chain
+        → HasBlockEncoding block → b.now ≡ prepared block → block.header.previous ≡ tip chain
+        → OnOk result ((fault chain block ≡ None)
+        × StandFor (tables_in t.new) (chain ++ record { block = block; place = place } ∷ [])) }
+    // A refused block has that fault, unless the device or memory failed.
+    ensures refused { (chain : Chain) (block : shape.Block) → R.tells → StandFor (tables_in t.old) chain
+        → HasBlockEncoding block → b.now ≡ prepared block → block.header.previous ≡ tip chain
+        → IfErr result (λ e. (e ≡ ConnectFault.DiskFailed)
+        ⊎ ((e ≡ ConnectFault.Memory) ⊎ (fault chain block ≡ Some e))) }
+    // What follows holds over any rows.
+    ensures more { OnOk result (length (tables_in t.new Table.Blocks)
+        ≡ length (tables_in t.old Table.Blocks) + 1) }
+    ensures reads { OnlyReads t.old t.new }
+    ensures name { t.new.rows.ghost_name ≡ t.old.rows.ghost_name }
+    ensures ticked { steps.old ≤ steps.new }
+    ensures cause { CountsOnly (R.faults t.old.rows.now) (R.faults t.new.rows.now) ConnectFault.DiskFailed
+        result }
+{
+    let height = t.count(Table::Blocks);
+    let first_tx = t.count(Table::Txs);
+    let before = last_sum(t, steps)?;
+    add_all_heads(t)?;
+    let sum = connect_txs(t, height as u32, b.txs.as_slice(), before, steps)?;
+    let txs = b.txs.len() as u32;
+    let Place { file, offset, len } = place;
+    let row = row_of(&b.header, file, offset, len, first_tx, txs, sum);
+    append_block(t, &row)?;
+    Ok(())
+}

@@ -1,0 +1,179 @@
+// The coins and the money of a transaction for whose rows there is no room.
+ghost use Rattle.std.specs.Prelude.{◌≡◌, ◌⊎◌, ◌<◌, ◌≤◌, ◌+◌, ◌^◌, ℕ, List, [], length, None, Some, Ok, Err, OnOk, IfOk, IfErr};
+ghost use Rattle.el_chain.specs.Faults.{money_fault};
+ghost use Rattle.el_chain.specs.declared.limits.TheConstants.{ROW_LIMIT};
+ghost use Rattle.el_outside.specs.Counts.{CountsOnly};
+ghost use Rattle.el_rows.specs.Transaction.{tables_in, OnlyReads};
+ghost use Rattle.el_rows.specs.declared.table.Table.{Table};
+ghost use Rattle.el_tables.specs.ChainLists.{ListedBlock};
+ghost use Rattle.el_tables.specs.Connecting.{spend_all, missing_at};
+ghost use Rattle.el_tables.specs.Lists.{Lists, newest_tx, unspent_sum};
+ghost use Rattle.el_tables.specs.Tables.{HeadCounts};
+ghost use Rattle.el_tx.specs.Encoding.{max_money};
+ghost use Rattle.el_buckets.specs.Rows.{Hold};
+ghost use Rattle.el_connect.specs.within.Parts.{Reached, IsSmall, values, connect_next};
+ghost use Rattle.el_connect.specs.within.Full.{TakenBy, TakingOn, FineCoins};
+
+use crate::reading::value_and_script;
+use el_base::{Hash32, Steps};
+use el_chain::ConnectFault;
+use el_outside::DiskFailed;
+use el_position::newest;
+use el_prepare::PreparedTx;
+use el_rows::{Rows, Table, Txn};
+use el_spend::spend;
+use el_tx::{MAX_MONEY, Outpoint};
+use std::sync::ledger::Ledger;
+
+// The transaction of that number spends the outpoint's coin, and its script hash gets no entry. It answers
+// what the coin held, and none where there is no coin.
+fn take_coin<R: Rows, L: Ledger>(
+    t: &mut Txn<'_, R>,
+    o: &Outpoint,
+    by: u64,
+    steps: &mut Steps<L>,
+) -> Result<Option<u64>, ConnectFault>
+    requires live { R.is_live t.old.rows.now }
+    requires by { by < 2 ^ 32 }
+    ensures taken { (counts : HeadCounts) (bs : List ListedBlock) (l : Lists) → R.tells
+        → Hold counts bs l (tables_in t.old) → 0 < counts.txs
+        → IfOk result (λ value. TakenBy counts bs l (tables_in t.new) o.now by value) }
+    ensures refused { (counts : HeadCounts) (bs : List ListedBlock) (l : Lists) → R.tells
+        → Hold counts bs l (tables_in t.old) → length l.ins < ROW_LIMIT
+        → IfErr result (λ e. (e ≡ ConnectFault.DiskFailed) ⊎ (e ≡ ConnectFault.Memory)) }
+    ensures blocks { tables_in t.new Table.Blocks ≡ tables_in t.old Table.Blocks }
+    ensures reads { OnlyReads t.old t.new }
+    ensures name { t.new.rows.ghost_name ≡ t.old.rows.ghost_name }
+    ensures ticked { steps.old ≤ steps.new }
+    ensures cause { CountsOnly (R.faults t.old.rows.now) (R.faults t.new.rows.now) ConnectFault.DiskFailed
+        result }
+{
+    match spend(t, o, by, steps)? {
+        None => Ok(None),
+        Some(coin) => {
+            let (value, _) = value_and_script(t, coin, steps)?;
+            Ok(Some(value))
+        }
+    }
+}
+
+// The transaction of that number, with that index in its block, spends the coins of these outpoints, in
+// order. It answers what all coins hold then.
+fn take_coins<R: Rows, L: Ledger>(
+    t: &mut Txn<'_, R>,
+    index: usize,
+    by: u64,
+    inputs: &[Outpoint],
+    sum: u64,
+    steps: &mut Steps<L>,
+) -> Result<u64, ConnectFault>
+    requires live { R.is_live t.old.rows.now }
+    requires by { by < 2 ^ 32 }
+    requires few { length inputs.now < 2 ^ 32 }
+    ensures taken { (counts : HeadCounts) (bs : List ListedBlock) (now before : Lists) → R.tells
+        → Hold counts bs now (tables_in t.old) → 0 < counts.txs → now.txs ≡ before.txs
+        → now.outs ≡ before.outs → now.ins ≡ [] → sum ≡ unspent_sum before.outs
+        → IfOk result (λ left. TakingOn counts bs before (tables_in t.new) left sum (length inputs.now)
+        (λ real. spend_all by 0 inputs.now before ≡ Ok real)) }
+    ensures missing { (counts : HeadCounts) (bs : List ListedBlock) (now before : Lists) → R.tells
+        → Hold counts bs now (tables_in t.old) → 0 < counts.txs → now.txs ≡ before.txs
+        → now.outs ≡ before.outs → now.ins ≡ [] → sum ≡ unspent_sum before.outs
+        → IfErr result (λ e. (e ≡ ConnectFault.DiskFailed) ⊎ ((e ≡ ConnectFault.Memory)
+        ⊎ (missing_at index (spend_all by 0 inputs.now before) ≡ Err e))) }
+    ensures blocks { tables_in t.new Table.Blocks ≡ tables_in t.old Table.Blocks }
+    ensures reads { OnlyReads t.old t.new }
+    ensures name { t.new.rows.ghost_name ≡ t.old.rows.ghost_name }
+    ensures ticked { steps.old ≤ steps.new }
+    ensures cause { CountsOnly (R.faults t.old.rows.now) (R.faults t.new.rows.now) ConnectFault.DiskFailed
+        result }
+{
+    let mut left = sum;
+    for (input, o) in inputs.iter().enumerate() {
+        match take_coin(t, o, by, steps)? {
+            None => return Err(ConnectFault::MissingCoin { tx: index, input }),
+            Some(value) => left = left.saturating_sub(value),
+        }
+    }
+    Ok(left)
+}
+
+// The values of outputs together.
+fn total(outputs: &[(u64, Hash32)]) -> u64
+    requires { values outputs.now ≤ max_money }
+    ensures { result ≡ values outputs.now }
+{
+    let mut sum: u64 = 0;
+    for output in outputs {
+        sum += output.0;
+    }
+    sum
+}
+
+// Refuses outputs with which all coins hold too much, where they hold that much before. Where they may be too
+// much and a transaction before has the same txid, what they replace is not looked for: `Memory` stands for
+// the answer then.
+fn check_outputs<R: Rows, L: Ledger>(
+    t: &mut Txn<'_, R>,
+    tx: &PreparedTx,
+    left: u64,
+    steps: &mut Steps<L>,
+) -> Result<(), ConnectFault>
+    requires live { R.is_live t.old.rows.now }
+    requires small { IsSmall tx.now }
+    ensures fine { OnOk result (left + values tx.now.outputs ≤ max_money) }
+    ensures wrong { (counts : HeadCounts) (bs : List ListedBlock) (l : Lists) → R.tells
+        → Hold counts bs l (tables_in t.old) → 0 < counts.txs → left ≤ max_money
+        → IfErr result (λ e. (e ≡ ConnectFault.DiskFailed) ⊎ ((e ≡ ConnectFault.Memory)
+        ⊎ ((newest_tx tx.now.txid l.txs ≡ None)
+        × (money_fault (left + values tx.now.outputs) ≡ Some e)))) }
+    ensures tables { tables_in t.new ≡ tables_in t.old }
+    ensures reads { OnlyReads t.old t.new }
+    ensures name { t.new.rows.ghost_name ≡ t.old.rows.ghost_name }
+    ensures ticked { steps.old ≤ steps.new }
+    ensures cause { CountsOnly (R.faults t.old.rows.now) (R.faults t.new.rows.now) ConnectFault.DiskFailed
+        result }
+{
+    let after = left.saturating_add(total(tx.outputs.as_slice()));
+    if after <= MAX_MONEY {
+        return Ok(());
+    }
+    match newest(t, &tx.txid, steps) {
+        Ok(None) => Err(ConnectFault::Money {
+            supply: u128::from(after),
+        }),
+        Ok(Some(_)) => Err(ConnectFault::Memory),
+        Err(DiskFailed) => Err(ConnectFault::DiskFailed),
+    }
+}
+
+// Looks at the coins and the money of a transaction with that index in its block, for whose rows there is no
+// room: its outputs are not added, and the inputs of the chain are forgotten, so that its own have room.
+pub(crate) fn check_coins<R: Rows, L: Ledger>(
+    t: &mut Txn<'_, R>,
+    index: usize,
+    tx: &PreparedTx,
+    sum: u64,
+    steps: &mut Steps<L>,
+) -> Result<(), ConnectFault>
+    requires live { R.is_live t.old.rows.now }
+    requires small { IsSmall tx.now }
+    ensures fine { (counts : HeadCounts) (bs : List ListedBlock) (l : Lists) (height : ℕ) → R.tells
+        → Reached counts bs l (tables_in t.old) sum → sum ≤ max_money
+        → OnOk result (FineCoins height tx.now l) }
+    ensures wrong { (counts : HeadCounts) (bs : List ListedBlock) (l : Lists) (height : ℕ) → R.tells
+        → Reached counts bs l (tables_in t.old) sum → sum ≤ max_money
+        → IfErr result (λ e. (e ≡ ConnectFault.DiskFailed) ⊎ ((e ≡ ConnectFault.Memory)
+        ⊎ (connect_next height index tx.now l ≡ Err e))) }
+    ensures blocks { tables_in t.new Table.Blocks ≡ tables_in t.old Table.Blocks }
+    ensures reads { OnlyReads t.old t.new }
+    ensures name { t.new.rows.ghost_name ≡ t.old.rows.ghost_name }
+    ensures ticked { steps.old ≤ steps.new }
+    ensures cause { CountsOnly (R.faults t.old.rows.now) (R.faults t.new.rows.now) ConnectFault.DiskFailed
+        result }
+{
+    let by = t.count(Table::Txs);
+    t.shrink(Table::Ins, 0);
+    let left = take_coins(t, index, by, tx.inputs.as_slice(), sum, steps)?;
+    check_outputs(t, tx, left, steps)?;
+    Ok(())
+}

@@ -1,0 +1,18 @@
+//! A block is put into the rows of an index.
+#![tactic(auto)]
+
+mod block;
+mod coins;
+mod heads;
+mod inputs;
+mod outputs;
+mod reading;
+mod room;
+mod transaction;
+
+pub use block::connect;
+
+#[cfg(test)]
+mod full_tests;
+#[cfg(test)]
+mod tests;

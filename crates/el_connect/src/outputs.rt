@@ -1,0 +1,147 @@
+// The outputs of a transaction.
+ghost use Rattle.std.specs.Prelude.{◌≡◌, ◌≢◌, ◌⊎◌, ◌<◌, ◌≤◌, ◌+◌, ◌^◌, ℕ, List, length, IfOk, IfErr};
+ghost use Rattle.el_outside.specs.Counts.{CountsOnly};
+ghost use Rattle.el_rows.specs.Transaction.{tables_in, OnlyReads};
+ghost use Rattle.el_rows.specs.declared.table.Table.{Table};
+ghost use Rattle.el_tables.specs.ChainLists.{ListedBlock};
+ghost use Rattle.el_tables.specs.Connecting.{fund, fund_all};
+ghost use Rattle.el_tables.specs.Lists.{Lists, replaced, unspent_sum};
+ghost use Rattle.el_tables.specs.Tables.{HeadCounts};
+ghost use Rattle.el_buckets.specs.Rows.{Hold};
+ghost use Rattle.el_connect.specs.within.Parts.{Reached, HasRoom, IsMaker, value_of, values};
+
+use el_base::{Hash32, Steps};
+use el_chain::ConnectFault;
+use el_outside::DiskFailed;
+use el_rows::{OutRow, Rows, State, Table, Txn};
+use el_script::touch;
+use el_spend::{add_out, named_output};
+use el_tx::Outpoint;
+use std::sync::ledger::Ledger;
+
+// A transaction that makes outputs.
+#[derive(Clone, Copy, Debug, PartialEq, Eq)]
+pub(crate) struct Maker {
+    // Its number.
+    pub number: u64,
+    // Its txid.
+    pub txid: Hash32,
+    // The newest transaction before it with the same txid.
+    pub older: Option<u64>,
+}
+
+// What an output's row holds if it is unspent, and else 0.
+fn unspent_value(row: &OutRow) -> u64
+    ensures unspent { row.now.state ≡ State.Unspent → result ≡ row.now.value }
+    ensures gone { row.now.state ≢ State.Unspent → result ≡ 0 }
+{
+    match row.state {
+        State::Unspent => row.value,
+        _ => 0,
+    }
+}
+
+// What the coin holds that the transaction's output with that index replaces, and 0 where it replaces none.
+// No row is read where no transaction before has the txid.
+fn value_replaced<R: Rows, L: Ledger>(
+    t: &mut Txn<'_, R>,
+    maker: &Maker,
+    index: u32,
+    steps: &mut Steps<L>,
+) -> Result<u64, ConnectFault>
+    requires live { R.is_live t.old.rows.now }
+    ensures value { (counts : HeadCounts) (bs : List ListedBlock) (l : Lists) → R.tells
+        → Hold counts bs l (tables_in t.old) → 0 < counts.txs → IsMaker maker.now l
+        → IfOk result (λ value. value ≡ value_of (replaced maker.now.number index l) l.outs) }
+    ensures tables { tables_in t.new ≡ tables_in t.old }
+    ensures fault { IfErr result (λ e. e ≡ ConnectFault.DiskFailed) }
+    ensures reads { OnlyReads t.old t.new }
+    ensures name { t.new.rows.ghost_name ≡ t.old.rows.ghost_name }
+    ensures ticked { steps.old ≤ steps.new }
+    ensures cause { CountsOnly (R.faults t.old.rows.now) (R.faults t.new.rows.now) ConnectFault.DiskFailed
+        result }
+{
+    if maker.older.is_none() {
+        return Ok(0);
+    }
+    let o = Outpoint {
+        txid: maker.txid,
+        index,
+    };
+    let Ok(found) = named_output(t, &o, maker.number, steps) else {
+        return Err(ConnectFault::DiskFailed);
+    };
+    match found {
+        Some(output) => Ok(unspent_value(&output.row)),
+        None => Ok(0),
+    }
+}
+
+// The transaction makes an output with that index: its script hash has an entry, and it goes after the
+// others. It answers what all coins hold then.
+fn fund_output<R: Rows, L: Ledger>(
+    t: &mut Txn<'_, R>,
+    maker: &Maker,
+    index: u32,
+    output: &(u64, Hash32),
+    sum: u64,
+    steps: &mut Steps<L>,
+) -> Result<u64, ConnectFault>
+    requires live { R.is_live t.old.rows.now }
+    requires number { maker.now.number < 2 ^ 32 }
+    ensures funded { (counts : HeadCounts) (bs : List ListedBlock) (l : Lists) → R.tells
+        → Reached counts bs l (tables_in t.old) sum → IsMaker maker.now l
+        → unspent_sum l.outs + output.now.0 < 2 ^ 64
+        → IfOk result (λ after.
+        Reached counts bs (fund maker.now.number index output.now l) (tables_in t.new) after) }
+    ensures refused { (counts : HeadCounts) (bs : List ListedBlock) (l : Lists) (n : ℕ) → R.tells
+        → Reached counts bs l (tables_in t.old) sum → HasRoom l 0 (n + 1)
+        → IfErr result (λ e. (e ≡ ConnectFault.DiskFailed) ⊎ (e ≡ ConnectFault.Memory)) }
+    ensures blocks { tables_in t.new Table.Blocks ≡ tables_in t.old Table.Blocks }
+    ensures reads { OnlyReads t.old t.new }
+    ensures name { t.new.rows.ghost_name ≡ t.old.rows.ghost_name }
+    ensures ticked { steps.old ≤ steps.new }
+    ensures cause { CountsOnly (R.faults t.old.rows.now) (R.faults t.new.rows.now) ConnectFault.DiskFailed
+        result }
+{
+    let (value, hash) = *output;
+    let script = touch(t, &hash, maker.number, steps)?;
+    let gone = value_replaced(t, maker, index, steps)?;
+    prove!(script < t.count(Table::Scripts));
+    add_out(t, maker.number, index, value, script, steps)?;
+    Ok(sum.saturating_sub(gone).saturating_add(value))
+}
+
+// The transaction makes these outputs, in order. It answers what all coins hold then.
+pub(crate) fn fund_outputs<R: Rows, L: Ledger>(
+    t: &mut Txn<'_, R>,
+    maker: &Maker,
+    outputs: &[(u64, Hash32)],
+    sum: u64,
+    steps: &mut Steps<L>,
+) -> Result<u64, ConnectFault>
+    requires live { R.is_live t.old.rows.now }
+    requires number { maker.now.number < 2 ^ 32 }
+    requires few { length outputs.now < 2 ^ 32 }
+    ensures funded { (counts : HeadCounts) (bs : List ListedBlock) (l : Lists) → R.tells
+        → Reached counts bs l (tables_in t.old) sum → IsMaker maker.now l
+        → HasRoom l 0 (length outputs.now) → unspent_sum l.outs + values outputs.now < 2 ^ 64
+        → IfOk result (λ after.
+        Reached counts bs (fund_all maker.now.number 0 outputs.now l) (tables_in t.new) after) }
+    ensures refused { (counts : HeadCounts) (bs : List ListedBlock) (l : Lists) → R.tells
+        → Reached counts bs l (tables_in t.old) sum → IsMaker maker.now l
+        → HasRoom l 0 (length outputs.now) → unspent_sum l.outs + values outputs.now < 2 ^ 64
+        → IfErr result (λ e. (e ≡ ConnectFault.DiskFailed) ⊎ (e ≡ ConnectFault.Memory)) }
+    ensures blocks { tables_in t.new Table.Blocks ≡ tables_in t.old Table.Blocks }
+    ensures reads { OnlyReads t.old t.new }
+    ensures name { t.new.rows.ghost_name ≡ t.old.rows.ghost_name }
+    ensures ticked { steps.old ≤ steps.new }
+    ensures cause { CountsOnly (R.faults t.old.rows.now) (R.faults t.new.rows.now) ConnectFault.DiskFailed
+        result }
+{
+    let mut after = sum;
+    for (index, output) in outputs.iter().enumerate() {
+        after = fund_output(t, maker, index as u32, output, after, steps)?;
+    }
+    Ok(after)
+}

@@ -1,0 +1,145 @@
+// Rows by their numbers.
+ghost use Rattle.std.specs.Prelude.{◌≡◌, ◌<◌, ◌≤◌, ℕ, List, [], ◌∷◌, ◌++◌, length, get_or, take, OnOk, IfOk, IfErr};
+ghost use Rattle.el_chain.specs.Chains.{zero_hash};
+ghost use Rattle.el_outside.specs.Counts.{CountsOnly};
+ghost use Rattle.el_rows.specs.Tables.{size_of};
+ghost use Rattle.el_rows.specs.Transaction.{tables_in, OnlyReads};
+ghost use Rattle.el_rows.specs.declared.table.Table.{Table};
+ghost use Rattle.el_tables.specs.ChainLists.{ListedBlock};
+ghost use Rattle.el_tables.specs.Edits.{no_out};
+ghost use Rattle.el_tables.specs.Lists.{Lists, script_at, newest_tx, txid_at};
+ghost use Rattle.el_tables.specs.Tables.{HeadCounts};
+ghost use Rattle.el_buckets.specs.Rows.{Hold};
+
+use el_base::{Hash32, Steps};
+use el_chain::ConnectFault;
+use el_outside::DiskFailed;
+use el_rows::{BlockRow, OutRow, Rows, ScriptRow, Table, TxRow, Txn};
+use std::sync::ledger::Ledger;
+
+// Reads a row.
+fn read_row<R: Rows, L: Ledger>(
+    t: &mut Txn<'_, R>,
+    table: Table,
+    n: u64,
+    buf: &mut [u8],
+    steps: &mut Steps<L>,
+) -> Result<(), ConnectFault>
+    requires live { R.is_live t.old.rows.now }
+    requires below { n < length (tables_in t.old table) }
+    requires sized { length buf.old ≡ size_of table }
+    ensures row { R.tells → OnOk result (buf.new ≡ get_or (tables_in t.old table) n []) }
+    ensures tables { tables_in t.new ≡ tables_in t.old }
+    ensures fault { IfErr result (λ e. e ≡ ConnectFault.DiskFailed) }
+    ensures reads { OnlyReads t.old t.new }
+    ensures name { t.new.rows.ghost_name ≡ t.old.rows.ghost_name }
+    ensures ticked { steps.old ≤ steps.new }
+    ensures cause { CountsOnly (R.faults t.old.rows.now) (R.faults t.new.rows.now) ConnectFault.DiskFailed
+        result }
+{
+    match t.get(table, n, buf, steps) {
+        Ok(()) => Ok(()),
+        Err(DiskFailed) => Err(ConnectFault::DiskFailed),
+    }
+}
+
+// The value of the output of that number, and the number of its script hash.
+pub(crate) fn value_and_script<R: Rows, L: Ledger>(
+    t: &mut Txn<'_, R>,
+    k: u64,
+    steps: &mut Steps<L>,
+) -> Result<(u64, u64), ConnectFault>
+    requires live { R.is_live t.old.rows.now }
+    requires below { k < length (tables_in t.old Table.Outs) }
+    ensures value { (counts : HeadCounts) (bs : List ListedBlock) (l : Lists) → R.tells
+        → Hold counts bs l (tables_in t.old) → IfOk result (λ p. p.0 ≡ (get_or l.outs k no_out).value) }
+    ensures script { (counts : HeadCounts) (bs : List ListedBlock) (l : Lists) → R.tells
+        → Hold counts bs l (tables_in t.old) → IfOk result (λ p. p.1 ≡ script_at k l.outs) }
+    ensures tables { tables_in t.new ≡ tables_in t.old }
+    ensures fault { IfErr result (λ e. e ≡ ConnectFault.DiskFailed) }
+    ensures reads { OnlyReads t.old t.new }
+    ensures name { t.new.rows.ghost_name ≡ t.old.rows.ghost_name }
+    ensures ticked { steps.old ≤ steps.new }
+    ensures cause { CountsOnly (R.faults t.old.rows.now) (R.faults t.new.rows.now) ConnectFault.DiskFailed
+        result }
+{
+    let mut bytes = [0; 21];
+    read_row(t, Table::Outs, k, &mut bytes, steps)?;
+    let row = OutRow::read(&bytes);
+    Ok((row.value, row.script))
+}
+
+// The script hash of that number; the zero hash where there is none.
+pub(crate) fn script_hash<R: Rows, L: Ledger>(
+    t: &mut Txn<'_, R>,
+    n: u64,
+    steps: &mut Steps<L>,
+) -> Result<Hash32, ConnectFault>
+    requires live { R.is_live t.old.rows.now }
+    ensures script { (counts : HeadCounts) (bs : List ListedBlock) (l : Lists) → R.tells
+        → Hold counts bs l (tables_in t.old) → IfOk result (λ s. s ≡ get_or l.scripts n zero_hash) }
+    ensures tables { tables_in t.new ≡ tables_in t.old }
+    ensures fault { IfErr result (λ e. e ≡ ConnectFault.DiskFailed) }
+    ensures reads { OnlyReads t.old t.new }
+    ensures name { t.new.rows.ghost_name ≡ t.old.rows.ghost_name }
+    ensures ticked { steps.old ≤ steps.new }
+    ensures cause { CountsOnly (R.faults t.old.rows.now) (R.faults t.new.rows.now) ConnectFault.DiskFailed
+        result }
+{
+    if n >= t.count(Table::Scripts) {
+        return Ok(Hash32([0; 32]));
+    }
+    let mut bytes = [0; 52];
+    read_row(t, Table::Scripts, n, &mut bytes, steps)?;
+    Ok(ScriptRow::read(&bytes).script)
+}
+
+// The newest transaction with the same txid before that of that number.
+pub(crate) fn older_tx<R: Rows, L: Ledger>(
+    t: &mut Txn<'_, R>,
+    n: u64,
+    steps: &mut Steps<L>,
+) -> Result<Option<u64>, ConnectFault>
+    requires live { R.is_live t.old.rows.now }
+    requires below { n < length (tables_in t.old Table.Txs) }
+    ensures older { (counts : HeadCounts) (bs : List ListedBlock) (l : Lists) → R.tells
+        → Hold counts bs l (tables_in t.old)
+        → IfOk result (λ older. older ≡ newest_tx (txid_at n l.txs) (take n l.txs)) }
+    ensures tables { tables_in t.new ≡ tables_in t.old }
+    ensures fault { IfErr result (λ e. e ≡ ConnectFault.DiskFailed) }
+    ensures reads { OnlyReads t.old t.new }
+    ensures name { t.new.rows.ghost_name ≡ t.old.rows.ghost_name }
+    ensures ticked { steps.old ≤ steps.new }
+    ensures cause { CountsOnly (R.faults t.old.rows.now) (R.faults t.new.rows.now) ConnectFault.DiskFailed
+        result }
+{
+    let mut bytes = [0; 68];
+    read_row(t, Table::Txs, n, &mut bytes, steps)?;
+    Ok(TxRow::read(&bytes).older)
+}
+
+// What all coins hold after the last block, and 0 where there is none.
+pub(crate) fn last_sum<R: Rows, L: Ledger>(
+    t: &mut Txn<'_, R>,
+    steps: &mut Steps<L>,
+) -> Result<u64, ConnectFault>
+    requires live { R.is_live t.old.rows.now }
+    ensures none { length (tables_in t.old Table.Blocks) ≡ 0 → IfOk result (λ sum. sum ≡ 0) }
+    ensures sum { (counts : HeadCounts) (bs : List ListedBlock) (b : ListedBlock) (l : Lists) → R.tells
+        → Hold counts (bs ++ b ∷ []) l (tables_in t.old) → IfOk result (λ sum. sum ≡ b.sum) }
+    ensures tables { tables_in t.new ≡ tables_in t.old }
+    ensures fault { IfErr result (λ e. e ≡ ConnectFault.DiskFailed) }
+    ensures reads { OnlyReads t.old t.new }
+    ensures name { t.new.rows.ghost_name ≡ t.old.rows.ghost_name }
+    ensures ticked { steps.old ≤ steps.new }
+    ensures cause { CountsOnly (R.faults t.old.rows.now) (R.faults t.new.rows.now) ConnectFault.DiskFailed
+        result }
+{
+    let count = t.count(Table::Blocks);
+    if count == 0 {
+        return Ok(0);
+    }
+    let mut bytes = [0; 112];
+    read_row(t, Table::Blocks, count - 1, &mut bytes, steps)?;
+    Ok(BlockRow::read(&bytes).sum)
+}

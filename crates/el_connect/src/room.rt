@@ -1,0 +1,80 @@
+// Room in the tables.
+ghost use Rattle.std.specs.Prelude.{◌≡◌, ◌≢◌, ◌<◌, ◌≤◌, ◌+◌, ◌^◌, List, length, Some, OnOk, IfErr, MatchResult};
+ghost use Rattle.el_chain.specs.declared.limits.TheConstants.{ROW_LIMIT};
+ghost use Rattle.el_rows.specs.Tables.{number_of};
+ghost use Rattle.el_rows.specs.Transaction.{tables_in};
+ghost use Rattle.el_rows.specs.declared.table.Table.{Table};
+ghost use Rattle.el_tables.specs.ChainLists.{ListedBlock};
+ghost use Rattle.el_tables.specs.Connecting.{full_by};
+ghost use Rattle.el_tables.specs.Lists.{Lists};
+ghost use Rattle.el_tables.specs.Tables.{HeadCounts};
+ghost use Rattle.el_buckets.specs.Rows.{Hold};
+ghost use Rattle.el_connect.specs.within.Parts.{IsSmall};
+
+use el_chain::{ConnectFault, ROW_LIMIT};
+use el_prepare::PreparedTx;
+use el_rows::{Rows, Table, Txn};
+
+// Refuses more rows than the table may have.
+fn check_table(table: Table, rows: u64) -> Result<(), ConnectFault>
+    ensures { MatchResult result (λ _. rows ≤ ROW_LIMIT)
+        (λ e. (ROW_LIMIT < rows) × (e ≡ ConnectFault.Full (number_of table) ROW_LIMIT)) }
+{
+    if rows > u64::from(ROW_LIMIT) {
+        return Err(ConnectFault::Full {
+            table: table.number(),
+            rows: u64::from(ROW_LIMIT),
+        });
+    }
+    Ok(())
+}
+
+// Refuses a transaction of a block of that height for which the tables of blocks, transactions, outputs and
+// inputs have no room. The fault is that of the first of these.
+pub(crate) fn check_counted<R: Rows>(
+    t: &Txn<'_, R>,
+    height: u32,
+    tx: &PreparedTx,
+) -> Result<(), ConnectFault>
+    requires { IsSmall tx.now }
+    ensures block { OnOk result (height < ROW_LIMIT) }
+    ensures tx { (counts : HeadCounts) (bs : List ListedBlock) (l : Lists)
+        → Hold counts bs l (tables_in t.now) → OnOk result (length l.txs < ROW_LIMIT) }
+    ensures outs { (counts : HeadCounts) (bs : List ListedBlock) (l : Lists)
+        → Hold counts bs l (tables_in t.now)
+        → OnOk result (length l.outs + length tx.now.outputs ≤ ROW_LIMIT) }
+    ensures ins { (counts : HeadCounts) (bs : List ListedBlock) (l : Lists)
+        → Hold counts bs l (tables_in t.now)
+        → OnOk result (length l.ins + length tx.now.inputs ≤ ROW_LIMIT) }
+    ensures full { (counts : HeadCounts) (bs : List ListedBlock) (l after : Lists)
+        → Hold counts bs l (tables_in t.now) → length after.txs ≡ length l.txs + 1
+        → length after.outs ≡ length l.outs + length tx.now.outputs
+        → length after.ins ≡ length l.ins + length tx.now.inputs
+        → IfErr result (λ e. full_by height after ≡ Some e) }
+    ensures other { IfErr result (λ e. e ≢ ConnectFault.DiskFailed) }
+{
+    let inputs = tx.inputs.len() as u64;
+    let outputs = tx.outputs.len() as u64;
+    check_table(Table::Blocks, u64::from(height) + 1)?;
+    check_table(Table::Txs, t.count(Table::Txs) + 1)?;
+    check_table(Table::Outs, t.count(Table::Outs) + outputs)?;
+    check_table(Table::Ins, t.count(Table::Ins) + inputs)?;
+    Ok(())
+}
+
+// Whether the tables of script hashes and entries have room for the transaction, whatever script hashes it
+// has.
+pub(crate) fn check_scripts<R: Rows>(t: &Txn<'_, R>, tx: &PreparedTx) -> Result<(), ConnectFault>
+    requires { IsSmall tx.now }
+    ensures scripts { (counts : HeadCounts) (bs : List ListedBlock) (l : Lists)
+        → Hold counts bs l (tables_in t.now)
+        → OnOk result (length l.scripts + (length tx.now.inputs + length tx.now.outputs) ≤ ROW_LIMIT) }
+    ensures entries { (counts : HeadCounts) (bs : List ListedBlock) (l : Lists)
+        → Hold counts bs l (tables_in t.now)
+        → OnOk result (length l.entries + (length tx.now.inputs + length tx.now.outputs) ≤ ROW_LIMIT) }
+{
+    let most = tx.inputs.len() as u64 + tx.outputs.len() as u64;
+    check_table(Table::Scripts, t.count(Table::Scripts) + most)?;
+    check_table(Table::Entries, t.count(Table::Entries) + most)?;
+    Ok(())
+}

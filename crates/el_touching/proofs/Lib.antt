@@ -1,0 +1,4 @@
+pub mod Law
+pub mod Burials
+pub mod Blocks
+pub mod Walks

@@ -1,0 +1,2 @@
+pub mod TouchedBy
+pub mod within

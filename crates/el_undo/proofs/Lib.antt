@@ -1,0 +1,6 @@
+mod Bounds
+mod Dropped
+mod Entries
+mod LastRows
+mod Undoing
+mod Whole

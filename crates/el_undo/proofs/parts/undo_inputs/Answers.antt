@@ -1,0 +1,26 @@
+use Rattle.std.proofs.Common.{◌∙◌, ◌+◌, subst, sym, arith}
+use Rattle.el_rows.proofs.ReadsLemmas.{read_joined}
+use Rattle.el_rows.specs.Transaction.{tables_in}
+use Rattle.el_tables.specs.Disconnecting.{times, unspend}
+use Rattle.el_tables.specs.Lists.{Lists}
+use Rattle.el_buckets.specs.Rows.{Hold}
+use Rattle.el_spend.specs.Outputs.{BalancesFit}
+use Rattle.el_undo.proofs.Entries.{times_on}
+use Rattle.el_undo.proofs.parts.undo_inputs.Goals as goal
+
+pub loop-done-preserved : goal.loop-done-preserved
+loop-done-preserved g c = record {
+  lists = λ counts bs l told hold fit.
+      let n = c.loop-done.done in
+      let before = c.loop-done.invariant.lists counts bs l told hold fit in
+      let one = times_on n unspend l in
+      let fits = subst (λ (x : Lists). BalancesFit x.outs) (sym one) (fit (n + 1) (omega (arith, c.loop-done-test.true))) in
+      subst (λ (x : Lists). Hold counts bs x (tables_in {G = g.R.Rows} c.unspend.new.t)) one
+      (c.in_ok-unspend.ensures.lists counts bs (times n unspend l) told before fits);
+  others = λ u a b d. c.unspend.ensures.others u a b d ∙ c.loop-done.invariant.others u a b d;
+  reads = read_joined _ _ _ _ _ _ _ c.args.t.now.rows.now c.loop-done.t.rows.now c.unspend.new.t.rows.now c.loop-done.invariant.reads c.unspend.ensures.reads;
+  name = c.unspend.ensures.name ∙ c.loop-done.invariant.name;
+  uncounted = c.in_ok-unspend.ensures.cause.uncounted ∙ c.loop-done.invariant.uncounted;
+  ticked = omega (arith, c.unspend.ensures.ticked, c.loop-done.invariant.ticked);
+  within = omega (arith, c.loop-done-test.true);
+}

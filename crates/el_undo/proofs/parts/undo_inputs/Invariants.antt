@@ -1,0 +1,26 @@
+use Rattle.std.proofs.Common.{◌≡◌, ◌≢◌, ◌<◌, ◌≤◌, ℕ, List}
+use Rattle.el_rows.specs.Transaction.{tables_in, OnlyReads}
+use Rattle.el_rows.specs.declared.table.Table.{Table}
+use Rattle.el_rows.specs.declared.table.Table.TheVariants as table
+use Rattle.el_tables.specs.ChainLists.{ListedBlock}
+use Rattle.el_tables.specs.Disconnecting.{times, unspend}
+use Rattle.el_tables.specs.Lists as lists
+use Rattle.el_tables.specs.Tables.{HeadCounts}
+use Rattle.el_buckets.specs.Rows.{Hold}
+use Rattle.el_undo.specs.within.Undone.{FitAfter}
+use Rattle.el_undo.proofs.parts.undo_inputs.Given as goal
+
+-- so many were taken back
+abbrev pub invariant-loop-done : goal.invariant-loop-done
+invariant-loop-done g l =
+    let shown = tables_in {G = g.R.Rows} l.fn.t in
+    record {
+      lists : (counts : HeadCounts) (bs : List ListedBlock) (ls : lists.Lists) → g.R.Rows.tells → Hold counts bs ls shown
+          → FitAfter l.count unspend ls → Hold counts bs (times l.done unspend ls) (tables_in {G = g.R.Rows} l.t);
+      others : (u : Table) → u ≢ table.Outs → u ≢ table.Ins → u ≢ table.Scripts → tables_in {G = g.R.Rows} l.t u ≡ shown u;
+      reads : OnlyReads {G = g.R.Rows} l.fn.t l.t;
+      name : l.t.rows.ghost_name ≡ l.fn.t.rows.ghost_name;
+      uncounted : g.R.Rows.faults l.t.rows.now ≡ g.R.Rows.faults l.fn.t.rows.now;
+      ticked : l.fn.steps ≤ l.steps;
+      within : l.done ≤ l.count;
+    }

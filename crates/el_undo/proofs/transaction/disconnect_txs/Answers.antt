@@ -1,0 +1,23 @@
+use Rattle.std.proofs.Common.{◌∙◌, ◌+◌, subst, arith}
+use Rattle.el_rows.proofs.ReadsLemmas.{read_joined}
+use Rattle.el_rows.specs.Transaction.{tables_in}
+use Rattle.el_tables.specs.Disconnecting.{times, disconnect_tx}
+use Rattle.el_tables.specs.Lists.{Lists}
+use Rattle.el_buckets.specs.Rows.{Hold}
+use Rattle.el_undo.proofs.Entries.{times_on}
+use Rattle.el_undo.proofs.transaction.disconnect_txs.Goals as goal
+
+pub loop-done-preserved : goal.loop-done-preserved
+loop-done-preserved g c = record {
+  lists = λ counts bs l can told hold some.
+      let n = c.loop-done.done in
+      let before = c.loop-done.invariant.lists counts bs l can told hold some in
+      subst (λ (x : Lists). Hold counts bs x (tables_in {G = g.R.Rows} c.disconnect_tx.new.t)) (times_on n disconnect_tx l)
+      (c.in_ok-disconnect_tx.ensures.lists counts bs (times n disconnect_tx l) (can n (omega (arith, c.loop-done-test.true))) told before some);
+  blocks = c.disconnect_tx.ensures.blocks ∙ c.loop-done.invariant.blocks;
+  reads = read_joined _ _ _ _ _ _ _ c.args.t.now.rows.now c.loop-done.t.rows.now c.disconnect_tx.new.t.rows.now c.loop-done.invariant.reads c.disconnect_tx.ensures.reads;
+  name = c.disconnect_tx.ensures.name ∙ c.loop-done.invariant.name;
+  uncounted = c.in_ok-disconnect_tx.ensures.cause.uncounted ∙ c.loop-done.invariant.uncounted;
+  ticked = omega (arith, c.disconnect_tx.ensures.ticked, c.loop-done.invariant.ticked);
+  within = omega (arith, c.loop-done-test.true);
+}

@@ -1,0 +1,35 @@
+-- What has to fit where transactions are taken back step by step.
+use Rattle.std.specs.Prelude.{◌≡◌, ◌<◌, ◌≤◌, ◌++◌, ◌∷◌, [], ℕ, Some}
+use Rattle.el_chain.specs.Chains.{Chain}
+use Rattle.el_chain.specs.Faults.{IsGood}
+use Rattle.el_chain.specs.declared.placed.Placed.{Placed}
+use Rattle.el_tables.specs.ChainLists.{lists, listed_blocks}
+use Rattle.el_tables.specs.Disconnecting.{last, times, take_back_output, unspend, disconnect_tx}
+use Rattle.el_tables.specs.Fits.{IsNumbered}
+use Rattle.el_tables.specs.Lists.{ListedTx, Lists}
+use Rattle.el_rows.specs.Tables as held
+use Rattle.el_buckets.specs.Rows.{Hold}
+use Rattle.el_stands.specs.Standing.{heads_in}
+use Rattle.el_spend.specs.Outputs.{BalancesFit}
+
+-- the balances fit 64 bits after each of so many steps
+abbrev pub FitAfter : ℕ → (Lists → Lists) → Lists → Type 0
+FitAfter count step l = (k : ℕ) → k ≤ count → BalancesFit (times k step l).outs
+
+-- The last transaction is this one, and can be taken back step by step: balances fit on the way, and script
+-- hashes are numbered in the order of their first entries.
+pub record CanUndo (l : Lists) : Type 0 where
+  pub tx : ListedTx
+  pub is_last : last l.txs ≡ Some tx
+  pub outputs : FitAfter tx.outs take_back_output l
+  pub inputs : FitAfter tx.ins unspend (times tx.outs take_back_output l)
+  pub numbered : IsNumbered l.scripts l.entries
+
+-- each of the last transactions, so many, can be taken back once those after it are
+abbrev pub CanUndoAll : ℕ → Lists → Type 0
+CanUndoAll count l = (k : ℕ) → k < count → CanUndo (times k disconnect_tx l)
+
+-- The rows hold the blocks of a chain with one more, and the lists of the chain without it.
+pub record LacksTxs (rows : held.Tables) (chain : Chain) (b : Placed) : Type 0 where
+  pub good : IsGood chain
+  pub hold : Hold (heads_in (chain ++ b ∷ [])) (listed_blocks (chain ++ b ∷ [])) (lists chain) rows
