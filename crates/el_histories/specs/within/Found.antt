@@ -1,0 +1,71 @@
+-- What the rows of a script, and those of its entries, tell in the terms of the lists.
+use Rattle.std.specs.Prelude.{ℕ, ◌+◌, ◌*◌, ◌<◌, ◌&&◌, ◌==◌, List, [], ◌∷◌, ◌++◌, length, take, drop, slice_get, Option, None, Some, option_map, option_to_list, if◌then◌else◌}
+use Rattle.el_base.specs.declared.hash.Hash32.{Hash32}
+use Rattle.el_chain.specs.declared.coin.Coin.{Coin}
+use Rattle.el_chain.specs.declared.entry.Entry.{Entry}
+use Rattle.el_tables.specs.Lists.{ListedTx, ListedOut, ListedEntry, Lists, is_unspent}
+use Rattle.el_tables.specs.Queries.{outs_at}
+use Rattle.el_tables.specs.Tables.{HeadCounts, script_row}
+use Rattle.el_buckets.specs.Buckets.{newest_of}
+use Rattle.el_buckets.specs.Rows.{script_fields}
+use Rattle.el_histories.specs.declared.finding.FoundScript.{FoundScript}
+
+-- 1. A script
+
+-- where there is a script, there are heads
+abbrev pub HasHeads : HeadCounts → Lists → Type 0
+HasHeads counts l = 0 < length l.scripts → 0 < counts.scripts
+
+-- the newest script with the hash, with its row
+abbrev pub script_in : Hash32 → HeadCounts → Lists → Option FoundScript
+script_in s counts l =
+    option_map (λ n. record { number = n; row = script_fields (script_row counts.scripts l n s) })
+    (newest_of s l.scripts)
+
+-- 2. Entries
+
+-- what a history shows of the transaction of that number, if it is there
+abbrev pub shown_tx : List ListedTx → ℕ → List Entry
+shown_tx txs tx =
+    option_to_list
+    (option_map (λ (t : ListedTx). record { height = t.height; txid = t.txid }) (slice_get txs tx))
+
+-- 3. Coins
+
+-- an output as a coin of the script hash, where the transaction made it with that index
+abbrev pub coin_shown : Hash32 → ListedTx → ℕ → ListedOut → Coin
+coin_shown s t index x = record {
+  outpoint = record { txid = t.txid; index = index };
+  value = x.value;
+  script = s;
+  height = t.height;
+}
+
+-- that coin, if the output is of the script with that number and unspent
+abbrev pub own_coin : ℕ → Hash32 → ListedTx → ℕ → ListedOut → List Coin
+own_coin script s t index x =
+    if (x.script == script) && is_unspent x.state then coin_shown s t index x ∷ [] else []
+
+-- the coins of the script among outputs of the transaction, of which the first has that index
+abbrev pub own_coins : ℕ → Hash32 → ListedTx → ℕ → List ListedOut → List Coin
+own_coins script s t index [] = []
+own_coins script s t index (x ∷ xs) = own_coin script s t index x ++ own_coins script s t (index + 1) xs
+
+-- the outputs of the transaction
+abbrev pub outs_of : ListedTx → List ListedOut → List ListedOut
+outs_of t outs = take t.outs (drop t.first_out outs)
+
+-- the coins of the script that a transaction made, if it is there
+abbrev pub coins_made_by : ℕ → Hash32 → List ListedOut → Option ListedTx → List Coin
+coins_made_by script s outs None = []
+coins_made_by script s outs (Some t) = own_coins script s t 0 (outs_of t outs)
+
+-- 4. Rows read
+
+-- for an entry: its row and its transaction's
+abbrev pub entry_rows : ListedEntry → ℕ
+entry_rows e = 2
+
+-- for the coins of an entry: those, and the outputs of its transaction
+abbrev pub coin_rows : List ListedTx → ListedEntry → ℕ
+coin_rows txs e = 2 + outs_at e.tx txs

@@ -1,0 +1,5 @@
+pub mod Fronts
+pub mod Heights
+pub mod Spots
+pub mod Outpoints
+pub mod Walked

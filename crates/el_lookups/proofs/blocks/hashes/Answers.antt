@@ -1,0 +1,41 @@
+use Rattle.std.proofs.Common.{◌≡◌, ℕ, suc, ◌+◌, List, [], ◌∷◌, ◌++◌, map, take, refl, ap, ap₂, sym, subst, ◌∙◌, arith}
+use Rattle.el_base.specs.Hashing.{sha256d}
+use Rattle.el_base.specs.declared.hash.Hash32.{Hash32}
+use Rattle.el_rows.specs.Transaction.{tables_in}
+use Rattle.el_stands.proofs.StandingLemmas.{holds}
+use Rattle.el_stands.specs.Standing.{heads_in}
+use Rattle.el_tables.specs.ChainLists.{lists, listed_blocks}
+use Rattle.el_tables.specs.Tables.{tables_of}
+use Rattle.el_rows.specs.declared.block_row.BlockRow.{BlockRow}
+use Rattle.el_rows.proofs.ReadsLemmas.{read_joined}
+use Rattle.el_buckets.specs.Rows.{Encode, block_fields}
+use Rattle.el_lookups.proofs.Fronts.{one_more}
+use Rattle.el_lookups.proofs.Heights.{hash_in, hashes_told}
+use Rattle.el_lookups.proofs.blocks.hashes.Goals as goal
+
+row_hash : BlockRow → Hash32
+row_hash r = record { 0 = sha256d r.header }
+
+pub loop-h-preserved : goal.loop-h-preserved
+unfolding row_hash
+loop-h-preserved g c = record {
+  tables = c.block_row.ensures.tables ∙ c.loop-h.invariant.tables;
+  reads = read_joined _ _ _ _ _ _ _ c.args.t.now.rows.now c.loop-h.t.rows.now c.block_row.new.t.rows.now c.loop-h.invariant.reads c.block_row.ensures.reads;
+  name = c.block_row.ensures.name ∙ c.loop-h.invariant.name;
+  uncounted = c.in_ok-row.ensures.cause.uncounted ∙ c.loop-h.invariant.uncounted;
+  ticked = omega (arith, c.block_row.ensures.ticked, c.loop-h.invariant.ticked);
+  hashes = λ tb told same.
+      let before = subst (λ T. Encode T tb) (sym c.loop-h.invariant.tables) same in
+      let one = one_more block_fields hash_in row_hash (λ b. refl) tb.blocks c.loop-h.h c.in_ok-row.row (c.in_ok-row.ensures.row tb told before) in
+      let hash_is : c.block_hash.result ≡ row_hash c.in_ok-row.row = ap (λ (l : List ℕ). record { 0 = l }) c.block_hash.ensures in
+      let next : suc c.loop-h.h ≡ c.loop-h.h + 1 = omega arith in
+      c.in_ok-push.ensures.items ∙ ap₂ (λ (xs : List Hash32) (h : Hash32). xs ++ h ∷ []) (c.loop-h.invariant.hashes tb told same) hash_is
+      ∙ one ∙ ap (λ (n : ℕ). map hash_in (take n tb.blocks)) next;
+}
+
+pub returns-clause-hashes : goal.returns-clause-hashes
+returns-clause-hashes g c chain told stand =
+    let hold = (holds (tables_in {G = g.R.Rows} c.args.t.now) chain stand).1 in
+    let end : c.loop-h.h ≡ c.args.upto + 1 = omega (arith, c.from-h-end.ensures, c.loop-h-test.false, c.loop-h.auto.h-end) in
+    c.loop-h.invariant.hashes (tables_of (heads_in chain) (listed_blocks chain) (lists chain)) told hold
+    ∙ ap (λ (n : ℕ). map hash_in (take n (listed_blocks chain))) end ∙ hashes_told chain c.args.upto
