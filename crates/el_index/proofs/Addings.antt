@@ -1,0 +1,195 @@
+-- Blocks are put in, one after the other.
+use Rattle.std.proofs.Common.{◌≡◌, ◌≢◌, ◌⊎◌, inl, inr, ⊎_elim, ℕ, zero, suc, ◌+◌, ◌-◌, ◌<◌, ◌≤◌, List, [], ◌∷◌, ◌++◌, length, take, drop, get_or, None, Some, refl, sym, ap, ◌∙◌, append_assoc, append-nil, arith}
+use Rattle.std.specs.List.{AllByRecursion}
+use Rattle.std.proofs.lemmas.List.{take_all, get_or_default}
+use Rattle.el_base.specs.declared.hash.Hash32.{Hash32}
+use Rattle.el_tx.specs.declared.types.Header.{Header}
+use Rattle.el_base.proofs.Lists.{cut_at, left_at, taken_at}
+use Rattle.el_block.specs.declared.block.Block.{Block}
+use Rattle.el_block.specs.declared.fault.BlockFault.{BlockFault}
+use Rattle.el_block.specs.declared.fault.BlockFault.TheVariants as block
+use Rattle.el_block.specs.BlockFaults.{FirstBlockFault}
+use Rattle.el_block.specs.Blocks.{EncodesBlock, block_hash}
+use Rattle.el_outside.specs.declared.archive.Place.{Place}
+use Rattle.el_chain.specs.declared.placed.Placed.{Placed}
+use Rattle.el_chain.specs.declared.node.Node.{Node}
+use Rattle.el_chain.specs.declared.fault.ConnectFault.{ConnectFault}
+use Rattle.el_chain.specs.declared.fault.ConnectFault.TheVariants as refusal
+use Rattle.el_chain.specs.declared.moves.MoveFault.{MoveFault}
+use Rattle.el_chain.specs.declared.moves.MoveFault.TheVariants as stop
+use Rattle.el_chain.specs.declared.moves.Plan.{Plan}
+use Rattle.el_chain.specs.Chains.{Chain, tip, zero_hash}
+use Rattle.el_chain.specs.Coins.{coins}
+use Rattle.el_chain.specs.Faults.{IsGood, IsNext, AreNext, fault}
+use Rattle.el_chain.specs.Headers.{AreLinked}
+use Rattle.el_chain.specs.Moves.{AreOf, AreBlocks, AreNextBlocks, FaultInAt, IsStop, shorter, target}
+use Rattle.el_chain.specs.Records.{IsNode, IsBlockOf}
+use Rattle.el_chain.specs.Touches.{Touch}
+use Rattle.el_chain.proofs.Chains.{tip_last}
+use Rattle.el_chain.proofs.DraftSteps.{header_same, same_length}
+use Rattle.el_chain.proofs.GoodChains.{next_more}
+use Rattle.el_rows.specs.Tables.{Tables}
+use Rattle.el_stands.specs.Standing.{StandFor}
+use Rattle.el_index.specs.within.Adding.{AreAdded, IsAfter, AreAfter, AreMoved, IsOwn}
+use Rattle.el_index.proofs.Touchings.{Law, added_none, added_more, moved_touches, whole}
+
+-- why a block isn't connected
+pub stopped : (chain : Chain) (hash : Hash32) (t : List ℕ) (b : Block) (f : ConnectFault) (e : MoveFault) → EncodesBlock t b
+    → (f ≡ refusal.DiskFailed) ⊎ ((f ≡ refusal.Memory) ⊎ (fault chain b ≡ Some f)) → IsOwn e ⊎ (e ≡ stop.Refused hash f)
+    → (f ≡ refusal.DiskFailed → e ≡ stop.DiskFailed) → (f ≡ refusal.Memory → e ≡ stop.Memory) → IsOwn e ⊎ IsStop chain hash t e
+stopped chain hash t b f e s (inl d) kept device memory = inl (inl (device d))
+stopped chain hash t b f e s (inr (inl m)) kept device memory = inl (inr (memory m))
+stopped chain hash t b f e s (inr (inr is)) (inl own) device memory = inl own
+stopped chain hash t b f e s (inr (inr is)) (inr e_is) device memory = inr (rw e_is (refl, (b, s, is)))
+
+-- the block that was put in
+pub is_after : (chain : Chain) (n : Node) (t : List ℕ) (old new : List Hash32) (connected rows : Tables) (b : Block) → IsNode n → IsBlockOf n t → EncodesBlock t b → b.header.previous ≡ tip chain
+    → (fault chain b ≡ None) × StandFor connected (chain ++ record { block = b; place = n.place } ∷ []) → rows ≡ connected → AreAdded chain (record { block = b; place = n.place } ∷ []) old new
+    → (x : Placed) × IsAfter chain n t old new rows x
+is_after chain n t old new connected rows b node of s names done same touched =
+    let x : Placed = record { block = b; place = n.place } in (
+      x,
+      record {
+        place = refl;
+        encodes = s;
+        next = record { encoded = (t, s); names = names; faultless = done.0 };
+        stand = rw same done.1;
+        hash = tip_last zero_hash chain x ∙ ap block_hash (header_same n t b node of s) ∙ sym node.hash;
+        touched = touched;
+      },
+    )
+
+pub names_tip : (n : Node) (t : List ℕ) (b : Block) (before : Hash32) → IsNode n → IsBlockOf n t → EncodesBlock t b → n.header.previous ≡ before → b.header.previous ≡ before
+names_tip n t b before node of s names = ap (λ (h : Header). h.previous) (header_same n t b node of s) ∙ names
+
+blocks_more : (ns : List Node) (ts : List (List ℕ)) (bs : Chain) (n : Node) (t : List ℕ) (b : Placed) → AreBlocks ns ts bs → b.place ≡ n.place → EncodesBlock t b.block
+    → AreBlocks (ns ++ n ∷ []) (ts ++ t ∷ []) (bs ++ b ∷ [])
+blocks_more [] [] [] n t b h place encodes = (place, encodes, tt)
+blocks_more [] [] (c ∷ bs) n t b h place encodes = absurd h
+blocks_more [] (u ∷ ts) bs n t b h place encodes = absurd h
+blocks_more (m ∷ ns) [] bs n t b h place encodes = absurd h
+blocks_more (m ∷ ns) (u ∷ ts) [] n t b h place encodes = absurd h
+blocks_more (m ∷ ns) (u ∷ ts) (c ∷ bs) n t b h place encodes = (h.0, h.1, blocks_more ns ts bs n t b h.2 place encodes)
+
+-- what is left of the nodes and of their bytes
+pub record Left (nodes : List Node) (texts : List (List ℕ)) (i : ℕ) : Type 0 where
+  pub nodes_left : AllByRecursion IsNode (drop i nodes)
+  pub of : AreOf (drop i nodes) (drop i texts)
+
+-- the next node and its bytes
+pub record NextIs (nodes : List Node) (texts : List (List ℕ)) (i : ℕ) (n : Node) (t : List ℕ) : Type 0 where
+  pub left : drop i nodes ≡ n ∷ drop (i + 1) nodes
+  pub front : take i nodes ++ n ∷ [] ≡ take (i + 1) nodes
+  pub front_texts : take i texts ++ t ∷ [] ≡ take (i + 1) texts
+  pub whole : nodes ≡ take i nodes ++ n ∷ drop (i + 1) nodes
+  pub whole_texts : texts ≡ take i texts ++ t ∷ drop (i + 1) texts
+  pub node : IsNode n
+  pub of : IsBlockOf n t
+  pub rest : Left nodes texts (i + 1)
+
+pub within : (nodes : List Node) (texts : List (List ℕ)) (i : ℕ) → Left nodes texts i → i < length nodes → i < length texts
+within nodes texts i l lt = by i nodes texts l.of lt
+  where
+    by : (i : ℕ) (ns : List Node) (ts : List (List ℕ)) → AreOf (drop i ns) (drop i ts) → i < length ns → i < length ts
+    by i [] ts h lt = absurd (omega arith)
+    by zero (n ∷ ns) [] h lt = absurd h
+    by zero (n ∷ ns) (t ∷ ts) h lt = omega arith
+    by (suc i) (n ∷ ns) [] h lt = absurd (none i ns h (omega arith))
+      where
+        none : (i : ℕ) (ns : List Node) → AreOf (drop i ns) [] → i < length ns → ⊥
+        none i [] h lt = omega arith
+        none zero (n ∷ ns) h lt = h
+        none (suc i) (n ∷ ns) h lt = none i ns h (omega arith)
+    by (suc i) (n ∷ ns) (t ∷ ts) h lt = let r = by i ns ts h (omega arith) in omega arith
+
+pub next_is : (nodes : List Node) (texts : List (List ℕ)) (i : ℕ) (n d : Node) (t : List ℕ) → Left nodes texts i → i < length nodes → n ≡ get_or nodes i d → t ≡ get_or texts i t → NextIs nodes texts i n t
+next_is nodes texts i n d t l lt is' is_text =
+    let is : n ≡ get_or nodes i n = is' ∙ get_or_default nodes i d n lt in
+    let lt' = within nodes texts i l lt in
+    let left = left_at nodes i n lt is in
+    let left_texts = left_at texts i t lt' is_text in
+    let each = rw left at l.nodes_left in
+    let of = rw (left, left_texts) at l.of in
+    record {
+      left = left;
+      front = sym (taken_at nodes i n lt is);
+      front_texts = sym (taken_at texts i t lt' is_text);
+      whole = cut_at nodes i n lt is;
+      whole_texts = cut_at texts i t lt' is_text;
+      node = each.0;
+      of = of.0;
+      rest = record { nodes_left = each.1; of = of.1 };
+    }
+
+-- The blocks of the first nodes stand after the chain, and the nodes that are left go on.
+pub record IsAdding (chain : Chain) (nodes : List Node) (texts : List (List ℕ)) (i : ℕ) (old new : List Hash32) (rows : Tables) (blocks : Chain) : Type 0 where
+  pub after : AreAfter chain (take i nodes) (take i texts) old new rows blocks
+  pub linked : AreLinked (tip (chain ++ blocks)) (drop i nodes)
+
+pub adding_begins : (chain : Chain) (nodes : List Node) (texts : List (List ℕ)) (scripts : List Hash32) (rows : Tables) → StandFor rows chain → AreLinked (tip chain) nodes
+    → (blocks : Chain) × IsAdding chain nodes texts 0 scripts scripts rows blocks
+adding_begins chain nodes texts scripts rows stand linked = (
+  [],
+  record {
+    after = record {
+      next = record { are = tt; next = tt };
+      stand = rw (append-nil chain) stand;
+      touched = added_none chain scripts;
+    };
+    linked = rw (append-nil chain) linked;
+  },
+)
+
+-- the next node names the last block
+pub adding_names : (chain : Chain) (nodes : List Node) (texts : List (List ℕ)) (i : ℕ) (old new : List Hash32) (rows : Tables) (blocks : Chain) (n : Node) (t : List ℕ)
+    → IsAdding chain nodes texts i old new rows blocks → NextIs nodes texts i n t → n.header.previous ≡ tip (chain ++ blocks)
+adding_names chain nodes texts i old new rows blocks n t a is = let l = rw is.left at a.linked in l.0
+
+pub adding_more : (chain : Chain) (nodes : List Node) (texts : List (List ℕ)) (i : ℕ) (old mid new : List Hash32) (rows rows' : Tables) (blocks : Chain) (n : Node) (t : List ℕ) (b : Placed)
+    → IsAdding chain nodes texts i old mid rows blocks → NextIs nodes texts i n t → IsAfter (chain ++ blocks) n t mid new rows' b
+    → IsAdding chain nodes texts (i + 1) old new rows' (blocks ++ b ∷ [])
+adding_more chain nodes texts i old mid new rows rows' blocks n t b a is after =
+    let l = rw is.left at a.linked in
+    let joined : (chain ++ blocks) ++ b ∷ [] ≡ chain ++ (blocks ++ b ∷ []) = append_assoc chain blocks (b ∷ []) in
+    record {
+      after = record {
+        next = record {
+          are = rw (← is.front, ← is.front_texts) (blocks_more (take i nodes) (take i texts) blocks n t b a.after.next.are after.place after.encodes);
+          next = next_more chain blocks b a.after.next.next after.next;
+        };
+        stand = rw (← joined) after.stand;
+        touched = added_more chain blocks b old mid new a.after.touched after.touched;
+      };
+      linked = rw (← joined, after.hash) l.1;
+    }
+
+pub adding_ends : (chain : Chain) (nodes : List Node) (texts : List (List ℕ)) (i : ℕ) (old new : List Hash32) (rows : Tables) (blocks : Chain)
+    → IsAdding chain nodes texts i old new rows blocks → length nodes ≤ i → length nodes ≡ length texts → AreAfter chain nodes texts old new rows blocks
+adding_ends chain nodes texts i old new rows blocks a past same = rw (take_all i nodes past, take_all i texts (omega arith)) at a.after
+
+-- the block that stops the move
+pub adding_stops : (chain : Chain) (nodes : List Node) (texts : List (List ℕ)) (i : ℕ) (old new : List Hash32) (rows : Tables) (blocks : Chain) (n : Node) (t : List ℕ) (e : MoveFault)
+    → IsAdding chain nodes texts i old new rows blocks → NextIs nodes texts i n t → IsOwn e ⊎ IsStop (chain ++ blocks) n.hash t e → IsOwn e ⊎ FaultInAt chain nodes texts e
+adding_stops chain nodes texts i old new rows blocks n t e a is (inl own) = inl own
+adding_stops chain nodes texts i old new rows blocks n t e a is (inr stop) = inr (record {
+  front = take i nodes;
+  node = n;
+  after = drop (i + 1) nodes;
+  whole = is.whole;
+  front_texts = take i texts;
+  text = t;
+  after_texts = drop (i + 1) texts;
+  whole_texts = is.whole_texts;
+  blocks = blocks;
+  before = a.after.next;
+  first_fault = stop;
+})
+
+-- all edits of a move
+pub are_moved : Law → (p : Plan) (chain : Chain) (texts : List (List ℕ)) (old mid new : List Hash32) (rows : Tables) (blocks : Chain) → IsGood chain → old ≡ []
+    → AreAdded (shorter p.back chain) (drop (length chain - p.back) chain) old mid → AreAfter (shorter p.back chain) p.forward texts mid new rows blocks → AreMoved p chain texts new rows blocks
+are_moved law p chain texts old mid new rows blocks good none gone after = record {
+  next = after.next;
+  stand = after.stand;
+  touched = moved_touches law chain (shorter p.back chain) (drop (length chain - p.back) chain) blocks old mid new (whole p.back chain good) after.stand.stand.good none gone after.touched;
+}

@@ -1,0 +1,82 @@
+-- What an index is after rows were read, and what a crash leaves of a move.
+use Rattle.std.specs.Prelude.{MatchOption}
+use Rattle.std.proofs.Common.{◌≡◌, ◌⊎◌, inl, inr, ⊎_elim, ℕ, zero, suc, ◌<◌, ◌≤◌, Option, refl, sym, ap, ◌∙◌, subst, arith}
+use Rattle.el_base.specs.declared.hash.Hash32.{Hash32}
+use Rattle.el_outside.specs.Moments.{LeavesOnly}
+use Rattle.el_outside.proofs.Moments.{joined, weaker, started}
+use Rattle.el_rows.specs.declared.table.Table.{Table}
+use Rattle.el_rows.specs.declared.table.Table.TheVariants as table
+use Rattle.el_rows.specs.Tables.{Tables}
+use Rattle.el_rows.specs.Reads.{OnlyRead, IsEither, Unchanged}
+use Rattle.el_rows.proofs.ReadsLemmas.{read_joined}
+use Rattle.el_chain.specs.Chains.{Chain}
+use Rattle.el_model.specs.Keeping.{Quiet, Either}
+use Rattle.el_stands.specs.Standing.{StandFor}
+use Rattle.el_index.specs.Means.{top, IsIndexOf, Means}
+
+-- a height that is at most the top is below the count
+pub below_top : (n h : ℕ) → MatchOption (top n) ⊥ (λ t. h ≤ t) → h < n
+below_top zero h under = absurd under
+below_top (suc n) h under = omega (arith, under)
+
+module _ {R C : Type 0} (lists : R → Tables) (counts : R → Table → ℕ) (is_live : R → Type 0) (tells_crash : Type 0) (moment : R → ℕ) (left_since : R → ℕ → C → Type 0) (shows : C → Tables → Type 0) where
+  -- E is an index, which holds the rows
+  pub quiet : {E : Type 0} (tells : Type 0) (rows : E → R) (tip : E → Option Hash32) (old new : E) (mid : R) → rows new ≡ mid → tip new ≡ tip old → is_live (rows old)
+      → OnlyRead lists counts is_live tells_crash moment left_since shows (rows old) mid
+      → Quiet (λ e. is_live (rows e)) (λ e. top (counts (rows e) table.Blocks)) tip (λ e. 65536) (λ e chain. IsIndexOf tells (lists (rows e)) (tip e) chain)
+      tells_crash (λ c chain. Means shows c chain) (λ e. moment (rows e)) (λ e t c. left_since (rows e) t c) old new
+  quiet {E} tells rows tip old new mid is kept live reads' =
+      let reads : OnlyRead lists counts is_live tells_crash moment left_since shows (rows old) (rows new) =
+      subst (λ (r : R). OnlyRead lists counts is_live tells_crash moment left_since shows (rows old) r) (sym is) reads' in
+      record {
+        stays = record {
+          still_live = λ l. reads.live;
+          was_live = λ l. live;
+          same_height = ap (λ (f : Table → ℕ). top (f table.Blocks)) reads.count;
+          same_tip = kept;
+          same_buckets = refl;
+          still_stands = λ chain s. record {
+            told = s.told;
+            stand = subst (λ (t : Tables). StandFor t chain) (sym reads.same) s.stand;
+            last = kept ∙ s.last;
+          };
+          stood = λ chain s. record {
+            told = s.told;
+            stand = subst (λ (t : Tables). StandFor t chain) reads.same s.stand;
+            last = sym kept ∙ s.last;
+          };
+        };
+        crash = λ told chain s.
+            let run = weaker moment left_since (rows old) (rows new) (λ c. shows c (lists (rows old))) (λ c. Means shows c chain) (λ c shown. (lists (rows old), shown, s.stand)) (reads.crash told) in
+            record { later = run.later; each = run.each; before = run.before };
+      }
+
+  -- only rows were read: a crash since leaves the old chain
+  pub only_read : (old mid new : R) (chain next : Chain) → OnlyRead lists counts is_live tells_crash moment left_since shows old mid → StandFor (lists old) chain → new ≡ mid → tells_crash
+      → LeavesOnly moment left_since old new (Either (Means shows) chain next)
+  only_read old mid new chain next reads stands is told =
+      subst (λ (r : R). LeavesOnly moment left_since old r (Either (Means shows) chain next)) (sym is)
+      (weaker moment left_since old mid (λ c. shows c (lists old)) (Either (Means shows) chain next) (λ c shown. inl (lists old, shown, stands)) (reads.crash told))
+
+  -- and then a commit was begun: it leaves that or the target
+  pub begun : (old mid new : R) (under : Tables) (chain next : Chain) → OnlyRead lists counts is_live tells_crash moment left_since shows old mid → StandFor (lists old) chain → StandFor under next
+      → LeavesOnly moment left_since mid new (IsEither shows (lists mid) under) → tells_crash → LeavesOnly moment left_since old new (Either (Means shows) chain next)
+  begun old mid new under chain next reads stands target commit told =
+      let P : C → Type 0 = Either (Means shows) chain next in
+      joined moment left_since old mid new P
+      (weaker moment left_since old mid (λ c. shows c (lists old)) P (λ c shown. inl (lists old, shown, stands)) (reads.crash told))
+      (weaker moment left_since mid new (IsEither shows (lists mid) under) P
+      (λ c either. ⊎_elim (λ shown. inl (lists mid, shown, subst (λ (t : Tables). StandFor t chain) (sym reads.same) stands)) (λ shown. inr (under, shown, target)) either) commit)
+
+  -- a commit that found no memory changed nothing
+  pub not_committed : (old mid new : R) → OnlyRead lists counts is_live tells_crash moment left_since shows old mid → Unchanged lists counts is_live mid new
+      → (tells_crash → LeavesOnly moment left_since mid new (λ c. shows c (lists mid))) → OnlyRead lists counts is_live tells_crash moment left_since shows old new
+  not_committed old mid new reads same crash =
+      read_joined lists counts is_live tells_crash moment left_since shows old mid new reads (record { same = same.same; count = same.count; live = same.live; crash = crash })
+
+-- what a crash leaves of the rows it leaves of the index that holds them
+pub lifted : {R C E : Type 0} (moment : R → ℕ) (left_since : R → ℕ → C → Type 0) (rows : E → R) (old new : E) (mid : R) (P : C → Type 0) → rows new ≡ mid → LeavesOnly moment left_since (rows old) mid P
+    → LeavesOnly (λ e. moment (rows e)) (λ e t c. left_since (rows e) t c) old new P
+lifted {R} {C} {E} moment left_since rows old new mid P is run' =
+    let run : LeavesOnly moment left_since (rows old) (rows new) P = subst (λ (r : R). LeavesOnly moment left_since (rows old) r P) (sym is) run' in
+    record { later = run.later; each = run.each; before = run.before }

@@ -1,0 +1,6 @@
+pub mod Kept
+pub mod Touchings
+pub mod Addings
+pub mod LastBlock
+pub mod Targets
+pub mod Fits

@@ -1,0 +1,36 @@
+use Rattle.std.proofs.Common.{◌≡◌, ◌+◌, ◌-◌, length, drop, ◌∙◌, refl, sym, ap, subst, arith}
+use Rattle.el_rows.proofs.ReadsLemmas.{read_none, read_joined}
+use Rattle.el_chain.specs.Chains.{Chain}
+use Rattle.el_chain.specs.Moves.{shorter}
+use Rattle.el_rows.specs.Transaction.{tables_in}
+use Rattle.el_stands.specs.Standing.{StandFor}
+use Rattle.el_index.specs.within.Adding.{AreAdded}
+use Rattle.el_index.proofs.Touchings.{added_none, added_before, last_is, none_taken, none_gone}
+use Rattle.el_index.proofs.blocks_back.take_back.Goals as goal
+
+pub loop-init : goal.loop-init
+loop-init g c = record {
+  reads = read_none _ _ _ _ _ _ _ c.args.t.now.rows.now c.requires.live (λ left told since. g.met.R.Rows.leaves_lists c.args.t.now.rows.now left told c.requires.live since);
+  name = refl;
+  uncounted = refl;
+  ticked = omega arith;
+  back = λ chain told stand fits. rw (none_taken chain) stand;
+  touched = λ chain told stand fits. rw (none_taken chain, none_gone chain) (added_none chain c.args.touched.now);
+}
+
+pub loop-preserved : goal.loop-preserved
+loop-preserved g c = record {
+  reads = read_joined _ _ _ _ _ _ _ c.args.t.now.rows.now c.loop.t.rows.now c.take_back_one.new.t.rows.now c.loop.invariant.reads c.take_back_one.ensures.reads;
+  name = c.take_back_one.ensures.name ∙ c.loop.invariant.name;
+  uncounted = c.in_ok-take_back_one.ensures.cause.uncounted ∙ c.loop.invariant.uncounted;
+  ticked = omega (arith, c.take_back_one.ensures.ticked, c.loop.invariant.ticked);
+  back = λ chain told stand fits.
+      let last = last_is chain c.loop.counter (omega arith) in
+      let here = rw last.1.front at (c.loop.invariant.back chain told stand fits) in
+      c.in_ok-take_back_one.ensures.back (shorter (c.loop.counter + 1) chain) last.0 told here;
+  touched = λ chain told stand fits.
+      let last = last_is chain c.loop.counter (omega arith) in
+      let here = rw last.1.front at (c.loop.invariant.back chain told stand fits) in
+      let so_far = rw last.1.front at (c.loop.invariant.touched chain told stand fits) in
+      rw last.1.back (added_before (shorter (c.loop.counter + 1) chain) (drop (length chain - c.loop.counter) chain) last.0 c.args.touched.now c.loop.touched c.take_back_one.new.touched so_far (c.in_ok-take_back_one.ensures.touched (shorter (c.loop.counter + 1) chain) last.0 told here));
+}

@@ -1,0 +1,18 @@
+use Rattle.std.proofs.Common.{◌≡◌, ◌≤◌}
+use Rattle.el_chain.specs.Chains.{Chain, tip}
+use Rattle.el_chain.specs.Headers.{AreLinked}
+use Rattle.el_rows.specs.Transaction.{tables_in, OnlyReads}
+use Rattle.el_stands.specs.Standing.{StandFor}
+use Rattle.el_index.proofs.Addings.{Left, IsAdding}
+use Rattle.el_index.proofs.blocks_in.add_all.Given as goal
+
+abbrev pub invariant-loop-index : goal.invariant-loop-index
+invariant-loop-index g l = record {
+  reads : OnlyReads {G = g.R.Rows} l.fn.t l.t;
+  name : l.t.rows.ghost_name ≡ l.fn.t.rows.ghost_name;
+  uncounted : g.R.Rows.faults l.t.rows.now ≡ g.R.Rows.faults l.fn.t.rows.now;
+  ticked : l.fn.steps ≤ l.steps;
+  left : Left l.nodes l.texts l.index;
+  adding : (chain : Chain) → g.R.Rows.tells → StandFor (tables_in {G = g.R.Rows} l.fn.t) chain → AreLinked (tip chain) l.nodes
+      → (blocks : Chain) × IsAdding chain l.nodes l.texts l.index l.fn.touched l.touched (tables_in {G = g.R.Rows} l.t) blocks;
+}

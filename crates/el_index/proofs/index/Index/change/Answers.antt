@@ -1,0 +1,61 @@
+use Rattle.std.proofs.Common.{◌≡◌, ◌⊎◌, inl, inr, refl, sym, ap, ◌∙◌}
+use Rattle.std.proofs.lemmas.Result.{err_from_is_err_and}
+use Rattle.el_rows.specs.Changes.{under}
+use Rattle.el_rows.specs.Tables.{Tables}
+use Rattle.el_rows.specs.Transaction.{tables_in}
+use Rattle.el_rows.proofs.ReadsLemmas.{read_joined, read_same}
+use Rattle.el_chain.specs.Moves.{FaultInAt, shorter, target}
+use Rattle.el_chain.proofs.CoinSteps.{err_passed}
+use Rattle.el_index.specs.within.Adding.{IsOwn}
+use Rattle.el_stands.proofs.StandingLemmas.{same_stand}
+use Rattle.el_index.proofs.Kept.{only_read, begun, not_committed}
+use Rattle.el_index.proofs.Targets.{moved_rows, tip_moved}
+use Rattle.el_index.proofs.index.Index.change.Goals as goal
+
+pub returns-in_err-edit-clause-crash_failed : goal.returns-in_err-edit-clause-crash_failed
+returns-in_err-edit-clause-crash_failed g c chain told stand fits failed =
+    let r = g.R.Rows in (
+      chain,
+      inl refl,
+      λ crash. only_read r.lists r.counts r.is_live r.tells_crash r.moment r.left_since r.shows c.args.self.now.rows c.edit.new.t.rows.now _ chain chain
+          (rw c.new-txn.ensures.below at c.edit.ensures.reads) stand c.drop-txn.ensures crash,
+    )
+
+-- the row of the last block wasn't read
+pub returns-in_err-hash-clause-crash_failed : goal.returns-in_err-hash-clause-crash_failed
+returns-in_err-hash-clause-crash_failed g c chain told stand fits failed =
+    let r = g.R.Rows in
+    let reads = read_joined r.lists r.counts r.is_live r.tells_crash r.moment r.left_since r.shows c.args.self.now.rows c.edit.new.t.rows.now c.hash_after.new.t.rows.now (rw c.new-txn.ensures.below at c.edit.ensures.reads) c.hash_after.ensures.reads in
+    (chain, inl refl, λ crash. only_read r.lists r.counts r.is_live r.tells_crash r.moment r.left_since r.shows c.args.self.now.rows c.hash_after.new.t.rows.now _ chain chain reads stand c.drop-txn-in_err-hash.ensures crash)
+
+-- it failed
+pub returns-in-Err-DiskFailed-clause-crash_failed : goal.returns-in-Err-DiskFailed-clause-crash_failed
+returns-in-Err-DiskFailed-clause-crash_failed g c chain told stand fits failed =
+    let r = g.R.Rows in
+    let p = c.args.plan.now in
+    let mid = c.hash_after.new.t.rows.now in
+    let there = under (r.lists mid) c.in_ok-sealed.sealed.counts c.in_ok-sealed.sealed.changes in
+    let reads = read_joined r.lists r.counts r.is_live r.tells_crash r.moment r.left_since r.shows c.args.self.now.rows c.edit.new.t.rows.now mid (rw c.new-txn.ensures.below at c.edit.ensures.reads) c.hash_after.ensures.reads in
+    let done = c.in_ok-edit.ensures.moved chain told (same_stand _ (tables_in {G = r} c.new-txn.result) chain stand (c.new-txn.ensures.tables told)) fits in
+    let sealed = moved_rows p chain c.args.texts.now _ _ there done.0 done.1 (λ t. c.in_ok-sealed.ensures.tables t ∙ ap (λ (T : Tables). T t) c.hash_after.ensures.tables) in (
+      target p chain done.0,
+      inr (done.0, done.1.next, refl),
+      λ crash. begun r.lists r.counts r.is_live r.tells_crash r.moment r.left_since r.shows c.args.self.now.rows mid _ there chain (target p chain done.0) reads stand sealed.stand (rw c.in_ok-sealed.ensures.rows at c.commit.ensures.crash crash) crash,
+    )
+
+-- the move is made
+pub returns-in-Ok-clause-moved : goal.returns-in-Ok-clause-moved
+returns-in-Ok-clause-moved g c chain told stand fits =
+    let r = g.R.Rows in
+    let p = c.args.plan.now in
+    let mid = c.hash_after.new.t.rows.now in
+    let there = under (r.lists mid) c.in_ok-sealed.sealed.counts c.in_ok-sealed.sealed.changes in
+    let reads = read_joined r.lists r.counts r.is_live r.tells_crash r.moment r.left_since r.shows c.args.self.now.rows c.edit.new.t.rows.now mid (rw c.new-txn.ensures.below at c.edit.ensures.reads) c.hash_after.ensures.reads in
+    let done = c.in_ok-edit.ensures.moved chain told (same_stand _ (tables_in {G = r} c.new-txn.result) chain stand (c.new-txn.ensures.tables told)) fits in
+    let sealed = moved_rows p chain c.args.texts.now _ _ there done.0 done.1 (λ t. c.in_ok-sealed.ensures.tables t ∙ ap (λ (T : Tables). T t) c.hash_after.ensures.tables) in (
+      done.0,
+      moved_rows p chain c.args.texts.now _ there _ done.0 sealed (rw c.in_ok-sealed.ensures.rows at c.in-Ok.ensures.lists told),
+      tip_moved p chain c.args.texts.now _ _ done.0 _ done.1 c.requires.plan c.requires.of (rw c.as_slice.ensures at c.in_ok-hash.ensures.last)
+          (λ none. c.in_ok-hash.ensures.tip (target p chain done.0) told done.1.stand (c.as_slice.ensures ∙ none)),
+      λ crash. begun r.lists r.counts r.is_live r.tells_crash r.moment r.left_since r.shows c.args.self.now.rows mid _ there chain (target p chain done.0) reads stand sealed.stand (rw c.in_ok-sealed.ensures.rows at c.commit.ensures.crash crash) crash,
+    )

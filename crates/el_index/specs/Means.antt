@@ -1,0 +1,22 @@
+-- What an index stands for, and what a crash may leave of it.
+use Rattle.std.specs.Prelude.{◌≡◌, ℕ, zero, suc, Option, None, Some}
+use Rattle.el_base.specs.declared.hash.Hash32.{Hash32}
+use Rattle.el_chain.specs.Chains.{Chain}
+use Rattle.el_model.specs.Queries.{tip_of}
+use Rattle.el_rows.specs.Tables.{Tables}
+use Rattle.el_stands.specs.Standing.{StandFor}
+
+-- the height of the last of so many blocks
+abbrev pub top : ℕ → Option ℕ
+top zero = None
+top (suc n) = Some n
+
+-- The store tells its rows, which stand for the chain, and the hash that is kept is that of its last block.
+pub record IsIndexOf (tells : Type 0) (rows : Tables) (kept : Option Hash32) (chain : Chain) : Type 0 where
+  pub told : tells
+  pub stand : StandFor rows chain
+  pub last : kept ≡ tip_of chain
+
+-- what is left shows rows that stand for the chain
+abbrev pub Means : {C : Type 0} → (C → Tables → Type 0) → C → Chain → Type 0
+Means shows left chain = (rows : Tables) × shows left rows × StandFor rows chain

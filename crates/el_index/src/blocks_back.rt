@@ -1,0 +1,65 @@
+// The last blocks are taken back.
+ghost use Rattle.std.specs.Prelude.{◌≡◌, ◌≤◌, ◌-◌, ◌++◌, ◌∷◌, [], length, drop, IfErr, OnOk};
+ghost use Rattle.el_chain.specs.declared.placed.Placed as shape;
+ghost use Rattle.el_chain.specs.Chains.{Chain};
+ghost use Rattle.el_chain.specs.Moves.{shorter};
+ghost use Rattle.el_outside.specs.Counts.{CountsOnly};
+ghost use Rattle.el_rows.specs.Transaction.{tables_in, OnlyReads};
+ghost use Rattle.el_stands.specs.Standing.{StandFor};
+ghost use Rattle.el_index.specs.within.Adding.{AreAdded, IsOwn};
+
+use crate::step_faults::{touch, undo};
+use el_base::Steps;
+use el_chain::{MoveFault, Touched};
+use el_rows::{Rows, Txn};
+use std::sync::ledger::Ledger as Counts;
+
+// Takes the last block back, and adds the script hashes that it touches.
+fn take_back_one<R: Rows, L: Counts>(
+    t: &mut Txn<'_, R>,
+    touched: &mut Touched,
+    steps: &mut Steps<L>,
+) -> Result<(), MoveFault>
+    requires live { R.is_live t.old.rows.now }
+    ensures back { (chain : Chain) (b : shape.Placed) → R.tells
+        → StandFor (tables_in t.old) (chain ++ b ∷ []) → OnOk result (StandFor (tables_in t.new) chain) }
+    ensures touched { (chain : Chain) (b : shape.Placed) → R.tells
+        → StandFor (tables_in t.old) (chain ++ b ∷ [])
+        → OnOk result (AreAdded chain (b ∷ []) touched.old touched.new) }
+    ensures reads { OnlyReads t.old t.new }
+    ensures name { t.new.rows.ghost_name ≡ t.old.rows.ghost_name }
+    ensures ticked { steps.old ≤ steps.new }
+    ensures cause { CountsOnly (R.faults t.old.rows.now) (R.faults t.new.rows.now)
+        MoveFault.DiskFailed result }
+    ensures own { IfErr result IsOwn }
+{
+    touch(t, touched, steps)?;
+    undo(t, steps)?;
+    Ok(())
+}
+
+// Takes so many last blocks back, and adds the script hashes that they touch.
+pub(crate) fn take_back<R: Rows, L: Counts>(
+    t: &mut Txn<'_, R>,
+    back: u32,
+    touched: &mut Touched,
+    steps: &mut Steps<L>,
+) -> Result<(), MoveFault>
+    requires live { R.is_live t.old.rows.now }
+    ensures back { (chain : Chain) → R.tells → StandFor (tables_in t.old) chain → back ≤ length chain
+        → OnOk result (StandFor (tables_in t.new) (shorter back chain)) }
+    ensures touched { (chain : Chain) → R.tells → StandFor (tables_in t.old) chain → back ≤ length chain
+        → OnOk result (AreAdded (shorter back chain) (drop (length chain - back) chain)
+        touched.old touched.new) }
+    ensures reads { OnlyReads t.old t.new }
+    ensures name { t.new.rows.ghost_name ≡ t.old.rows.ghost_name }
+    ensures ticked { steps.old ≤ steps.new }
+    ensures cause { CountsOnly (R.faults t.old.rows.now) (R.faults t.new.rows.now)
+        MoveFault.DiskFailed result }
+    ensures own { IfErr result IsOwn }
+{
+    for _ in 0..back {
+        take_back_one(t, touched, steps)?;
+    }
+    Ok(())
+}

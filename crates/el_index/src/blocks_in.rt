@@ -1,0 +1,163 @@
+// Blocks are put after the last.
+ghost use Rattle.std.specs.Prelude.{◌≡◌, ◌≢◌, ◌⊎◌, ◌≤◌, ◌+◌, ◌++◌, ◌∷◌, ℕ, List, [], length, None, IfOk, IfErr, OnOk};
+ghost use Rattle.std.specs.List.{AllByRecursion};
+ghost use Rattle.el_block.specs.Blocks.{EncodesBlock, HasBlockEncoding};
+ghost use Rattle.el_block.specs.declared.block.Block as shape;
+ghost use Rattle.el_chain.specs.declared.placed.Placed as placed_shape;
+ghost use Rattle.el_chain.specs.Chains.{Chain, tip};
+ghost use Rattle.el_chain.specs.Faults.{fault};
+ghost use Rattle.el_chain.specs.Headers.{AreLinked};
+ghost use Rattle.el_chain.specs.Moves.{AreOf, AreNextBlocks, FaultInAt, IsStop};
+ghost use Rattle.el_chain.specs.Records.{IsNode, IsBlockOf};
+ghost use Rattle.el_outside.specs.Counts.{CountsOnly};
+ghost use Rattle.el_prepare.specs.Prepared as spec;
+ghost use Rattle.el_rows.specs.Transaction.{tables_in, OnlyReads};
+ghost use Rattle.el_stands.specs.Standing.{StandFor};
+ghost use Rattle.el_index.specs.within.Adding.{IsAfter, AreAfter, IsOwn};
+
+use crate::step_faults::touch;
+use el_base::{Bytes, Hash32, Steps};
+use el_block::BlockFault;
+use el_chain::{ConnectFault, MoveFault, Node, Touched};
+use el_connect::connect;
+use el_outside::Place;
+use el_prepare::{Prepared, prepare_one};
+use el_rows::{Rows, Txn};
+use std::alloc::Global;
+use std::sync::ledger::Ledger as Counts;
+
+// The fault of a block of that hash that isn't read.
+fn bad(hash: Hash32, fault: BlockFault) -> MoveFault
+    ensures memory { fault ≡ BlockFault.Memory → result ≡ MoveFault.Memory }
+    ensures kept { (fault ≡ BlockFault.Memory) ⊎ (result ≡ MoveFault.BadBlock hash fault) }
+    ensures no_device { (result ≢ MoveFault.DiskFailed) × (result ≢ MoveFault.ArchiveFailed) }
+{
+    match fault {
+        BlockFault::Memory => MoveFault::Memory,
+        _ => MoveFault::BadBlock { hash, fault },
+    }
+}
+
+// What the rows want of the block of that hash.
+fn prepare_for(alloc: Global, hash: Hash32, text: &[u8]) -> Result<Prepared, MoveFault>
+    ensures read { IfOk result (λ p. (block : shape.Block) × EncodesBlock text.now block
+        × (p ≡ spec.prepared block)) }
+    ensures first_fault { (chain : Chain) → IfErr result (IsStop chain hash text.now) }
+    ensures no_device { IfErr result (λ e. (e ≢ MoveFault.DiskFailed) × (e ≢ MoveFault.ArchiveFailed)) }
+{
+    match prepare_one(alloc, text) {
+        Ok(prepared) => Ok(prepared),
+        Err(fault) => Err(bad(hash, fault)),
+    }
+}
+
+// The fault of a block of that hash that isn't connected.
+fn refused(hash: Hash32, fault: ConnectFault) -> MoveFault
+    ensures device { fault ≡ ConnectFault.DiskFailed → result ≡ MoveFault.DiskFailed }
+    ensures only { result ≡ MoveFault.DiskFailed → fault ≡ ConnectFault.DiskFailed }
+    ensures kept { IsOwn result ⊎ (result ≡ MoveFault.Refused hash fault) }
+    ensures of { fault ≢ ConnectFault.DiskFailed → fault ≢ ConnectFault.Memory
+        → result ≡ MoveFault.Refused hash fault }
+    ensures memory { fault ≡ ConnectFault.Memory → result ≡ MoveFault.Memory }
+    ensures no_archive { result ≢ MoveFault.ArchiveFailed }
+{
+    match fault {
+        ConnectFault::DiskFailed => MoveFault::DiskFailed,
+        ConnectFault::Memory => MoveFault::Memory,
+        _ => MoveFault::Refused { hash, fault },
+    }
+}
+
+// Connects the block of that hash after the last.
+fn connect_for<R: Rows, L: Counts>(
+    t: &mut Txn<'_, R>,
+    hash: Hash32,
+    place: Place,
+    prepared: &Prepared,
+    steps: &mut Steps<L>,
+) -> Result<(), MoveFault>
+    requires live { R.is_live t.old.rows.now }
+    requires prepared { (block : shape.Block) × HasBlockEncoding block × (prepared.now ≡ spec.prepared block) }
+    ensures connected { (chain : Chain) (block : shape.Block) → R.tells → StandFor (tables_in t.old) chain
+        → HasBlockEncoding block → prepared.now ≡ spec.prepared block → block.header.previous ≡ tip chain
+        → OnOk result ((fault chain block ≡ None)
+        × StandFor (tables_in t.new) (chain ++ record { block = block; place = place } ∷ [])) }
+    ensures first_fault { (chain : Chain) (block : shape.Block) (text : List ℕ) → R.tells
+        → StandFor (tables_in t.old) chain → EncodesBlock text block → prepared.now ≡ spec.prepared block
+        → block.header.previous ≡ tip chain
+        → IfErr result (λ e. IsOwn e ⊎ IsStop chain hash text e) }
+    ensures reads { OnlyReads t.old t.new }
+    ensures name { t.new.rows.ghost_name ≡ t.old.rows.ghost_name }
+    ensures ticked { steps.old ≤ steps.new }
+    ensures cause { CountsOnly (R.faults t.old.rows.now) (R.faults t.new.rows.now)
+        MoveFault.DiskFailed result }
+    ensures no_archive { IfErr result (λ e. e ≢ MoveFault.ArchiveFailed) }
+{
+    match connect(t, prepared, place, steps) {
+        Ok(()) => Ok(()),
+        Err(fault) => Err(refused(hash, fault)),
+    }
+}
+
+// Puts the block of the node, which the bytes encode, after the last, and adds the script hashes that it
+// touches.
+fn add_one<R: Rows, L: Counts>(
+    alloc: Global,
+    t: &mut Txn<'_, R>,
+    node: &Node,
+    text: &[u8],
+    touched: &mut Touched,
+    steps: &mut Steps<L>,
+) -> Result<(), MoveFault>
+    requires live { R.is_live t.old.rows.now }
+    requires node { IsNode node.now }
+    requires of { IsBlockOf node.now text.now }
+    ensures added { (chain : Chain) → R.tells → StandFor (tables_in t.old) chain
+        → node.now.header.previous ≡ tip chain → OnOk result ((b : placed_shape.Placed)
+        × IsAfter chain node.now text.now touched.old touched.new (tables_in t.new) b) }
+    ensures first_fault { (chain : Chain) → R.tells → StandFor (tables_in t.old) chain
+        → node.now.header.previous ≡ tip chain
+        → IfErr result (λ e. IsOwn e ⊎ IsStop chain node.now.hash text.now e) }
+    ensures reads { OnlyReads t.old t.new }
+    ensures name { t.new.rows.ghost_name ≡ t.old.rows.ghost_name }
+    ensures ticked { steps.old ≤ steps.new }
+    ensures cause { CountsOnly (R.faults t.old.rows.now) (R.faults t.new.rows.now)
+        MoveFault.DiskFailed result }
+    ensures no_archive { IfErr result (λ e. e ≢ MoveFault.ArchiveFailed) }
+{
+    let prepared = prepare_for(alloc, node.hash, text)?;
+    connect_for(t, node.hash, node.place, &prepared, steps)?;
+    touch(t, touched, steps)?;
+    Ok(())
+}
+
+// Puts the blocks of the nodes after the last, one after the other.
+pub(crate) fn add_all<R: Rows, L: Counts>(
+    alloc: Global,
+    t: &mut Txn<'_, R>,
+    nodes: &[Node],
+    texts: &[Bytes],
+    touched: &mut Touched,
+    steps: &mut Steps<L>,
+) -> Result<(), MoveFault>
+    requires live { R.is_live t.old.rows.now }
+    requires nodes { AllByRecursion IsNode nodes.now }
+    requires of { AreOf nodes.now texts.now }
+    ensures added { (chain : Chain) → R.tells → StandFor (tables_in t.old) chain
+        → AreLinked (tip chain) nodes.now → OnOk result ((blocks : Chain)
+        × AreAfter chain nodes.now texts.now touched.old touched.new (tables_in t.new) blocks) }
+    ensures first_fault { (chain : Chain) → R.tells → StandFor (tables_in t.old) chain
+        → AreLinked (tip chain) nodes.now
+        → IfErr result (λ e. IsOwn e ⊎ FaultInAt chain nodes.now texts.now e) }
+    ensures reads { OnlyReads t.old t.new }
+    ensures name { t.new.rows.ghost_name ≡ t.old.rows.ghost_name }
+    ensures ticked { steps.old ≤ steps.new }
+    ensures cause { CountsOnly (R.faults t.old.rows.now) (R.faults t.new.rows.now)
+        MoveFault.DiskFailed result }
+    ensures no_archive { IfErr result (λ e. e ≢ MoveFault.ArchiveFailed) }
+{
+    for (index, node) in nodes.iter().enumerate() {
+        add_one(alloc, t, node, texts[index].as_slice(), touched, steps)?;
+    }
+    Ok(())
+}

@@ -1,0 +1,140 @@
+// A move, made on the rows.
+ghost use Rattle.std.specs.Prelude.{◌≡◌, ◌≢◌, ◌⊎◌, ◌≤◌, List, ℕ, [], Some, Option, IfOk, IfErr, IsErrOf, OnOk};
+ghost use Rattle.el_chain.specs.Chains.{Chain, zero_hash};
+ghost use Rattle.el_chain.specs.Moves.{AreOf, FaultInAt, FitsChain, IsPlan, last_hash as hash_of_last, shorter, target};
+ghost use Rattle.el_chain.specs.declared.node.Node as node_shape;
+ghost use Rattle.el_model.specs.Keeping.{Either};
+ghost use Rattle.el_model.specs.Queries.{tip_of};
+ghost use Rattle.el_outside.specs.Counts.{CountsOnly};
+ghost use Rattle.el_outside.specs.Moments.{LeavesOnly};
+ghost use Rattle.el_rows.specs.Reads.{OnlyRead};
+ghost use Rattle.el_rows.specs.Transaction.{tables_in, OnlyReads};
+ghost use Rattle.el_stands.specs.Standing.{StandFor};
+ghost use Rattle.el_index.specs.Means.{Means};
+ghost use Rattle.el_index.specs.within.Adding.{AreMoved, FliesTo, IsOwn};
+
+use crate::blocks_back::take_back;
+use crate::blocks_in::add_all;
+use crate::index::Index;
+use crate::last_block::last_hash;
+use el_base::{Bytes, Hash32, Steps};
+use el_chain::{MoveFault, Node, Plan, Touched};
+use el_outside::DiskFailed;
+use el_rows::{CommitFault, Rows, Txn};
+use el_touching::each_block_touches_what_the_move_touches;
+use std::alloc::Global;
+use std::sync::ledger::Ledger as Counts;
+
+// The edits of a move, and the script hashes that it touches.
+fn edit<R: Rows, L: Counts>(
+    alloc: Global,
+    t: &mut Txn<'_, R>,
+    plan: &Plan,
+    texts: &[Bytes],
+    touched: &mut Touched,
+    steps: &mut Steps<L>,
+) -> Result<(), MoveFault>
+    requires live { R.is_live t.old.rows.now }
+    requires plan { IsPlan plan.now }
+    requires of { AreOf plan.now.forward texts.now }
+    requires none { touched.old ≡ [] }
+    ensures moved { (chain : Chain) → R.tells → StandFor (tables_in t.old) chain → FitsChain plan.now chain
+        → OnOk result ((blocks : Chain)
+        × AreMoved plan.now chain texts.now touched.new (tables_in t.new) blocks) }
+    ensures first_fault { (chain : Chain) → R.tells → StandFor (tables_in t.old) chain
+        → FitsChain plan.now chain → IfErr result (λ e. IsOwn e
+        ⊎ FaultInAt (shorter plan.now.back chain) plan.now.forward texts.now e) }
+    ensures reads { OnlyReads t.old t.new }
+    ensures name { t.new.rows.ghost_name ≡ t.old.rows.ghost_name }
+    ensures ticked { steps.old ≤ steps.new }
+    ensures cause { CountsOnly (R.faults t.old.rows.now) (R.faults t.new.rows.now)
+        MoveFault.DiskFailed result }
+    ensures no_archive { IfErr result (λ e. e ≢ MoveFault.ArchiveFailed) }
+{
+    take_back(t, plan.back, touched, steps)?;
+    add_all(alloc, t, plan.forward.as_slice(), texts, touched, steps)?;
+    // What the blocks touch one by one is what the move touches.
+    each_block_touches_what_the_move_touches();
+    Ok(())
+}
+
+// The hash of the last block once these were put in, by the last of them or by its row.
+fn hash_after<R: Rows, L: Counts>(
+    t: &mut Txn<'_, R>,
+    nodes: &[Node],
+    steps: &mut Steps<L>,
+) -> Result<Option<Hash32>, MoveFault>
+    requires live { R.is_live t.old.rows.now }
+    ensures last { IfOk result (λ hash. nodes.now ≢ []
+        → hash ≡ Some (hash_of_last zero_hash nodes.now)) }
+    ensures tip { (chain : Chain) → R.tells → StandFor (tables_in t.old) chain → nodes.now ≡ []
+        → IfOk result (λ hash. hash ≡ tip_of chain) }
+    ensures tables { tables_in t.new ≡ tables_in t.old }
+    ensures reads { OnlyReads t.old t.new }
+    ensures name { t.new.rows.ghost_name ≡ t.old.rows.ghost_name }
+    ensures ticked { steps.old ≤ steps.new }
+    ensures cause { CountsOnly (R.faults t.old.rows.now) (R.faults t.new.rows.now)
+        MoveFault.DiskFailed result }
+    ensures device { IfErr result (λ e. e ≡ MoveFault.DiskFailed) }
+{
+    match nodes {
+        [] => match last_hash(t, steps) {
+            Ok(hash) => Ok(hash),
+            Err(DiskFailed) => Err(MoveFault::DiskFailed),
+        },
+        [.., node] => Ok(Some(node.hash)),
+    }
+}
+
+impl<R: Rows> Index<R> {
+    // Makes a move on the rows, in one commit, and answers the hash of the last block. The hash that is kept
+    // stays.
+    pub(crate) fn change<L: Counts>(
+        &mut self,
+        alloc: Global,
+        plan: &Plan,
+        texts: &[Bytes],
+        touched: &mut Touched,
+        steps: &mut Steps<L>,
+    ) -> Result<Option<Hash32>, MoveFault>
+        requires live { R.is_live self.old.rows }
+        requires plan { IsPlan plan.now }
+        requires of { AreOf plan.now.forward texts.now }
+        requires none { touched.old ≡ [] }
+        ensures moved { (chain : Chain) → R.tells → StandFor (R.lists self.old.rows) chain
+            → FitsChain plan.now chain → IfOk result (λ hash. (blocks : Chain)
+            × AreMoved plan.now chain texts.now touched.new (R.lists self.new.rows) blocks
+            × (hash ≡ tip_of (target plan.now chain blocks))
+            × (R.tells_crash → LeavesOnly R.moment R.left_since self.old.rows self.new.rows
+            (Either (Means R.shows) chain (target plan.now chain blocks)))) }
+        ensures last { IfOk result (λ hash. plan.now.forward ≢ []
+            → hash ≡ Some (hash_of_last zero_hash plan.now.forward)) }
+        ensures live { OnOk result (R.is_live self.new.rows) }
+        ensures kept { self.new.tip ≡ self.old.tip }
+        ensures first_fault { (chain : Chain) → R.tells → StandFor (R.lists self.old.rows) chain
+            → FitsChain plan.now chain → IfErr result (λ e. IsOwn e
+            ⊎ FaultInAt (shorter plan.now.back chain) plan.now.forward texts.now e) }
+        // After any other fault only rows were read.
+        ensures unchanged { IfErr result (λ e. e ≢ MoveFault.DiskFailed
+            → OnlyRead R.lists R.counts R.is_live R.tells_crash R.moment R.left_since R.shows
+            self.old.rows self.new.rows) }
+        ensures crash_failed { (chain : Chain) → R.tells → StandFor (R.lists self.old.rows) chain
+            → FitsChain plan.now chain → IsErrOf result MoveFault.DiskFailed
+            → (next : Chain) × FliesTo plan.now chain texts.now next
+            × (R.tells_crash → LeavesOnly R.moment R.left_since self.old.rows self.new.rows
+            (Either (Means R.shows) chain next)) }
+        ensures cause { CountsOnly (R.faults self.old.rows) (R.faults self.new.rows)
+            MoveFault.DiskFailed result }
+        ensures no_archive { IfErr result (λ e. e ≢ MoveFault.ArchiveFailed) }
+    {
+        let mut txn = Txn::new(alloc, &mut self.rows);
+        edit(alloc, &mut txn, plan, texts, touched, steps)?;
+        let hash = hash_after(&mut txn, plan.forward.as_slice(), steps)?;
+        let sealed = txn.seal()?;
+        match self.rows.commit(&sealed) {
+            Ok(()) => Ok(hash),
+            Err(CommitFault::DiskFailed) => Err(MoveFault::DiskFailed),
+            Err(CommitFault::Memory) => Err(MoveFault::Memory),
+        }
+    }
+}

@@ -1,0 +1,198 @@
+// The index as a ledger.
+ghost use Rattle.std.specs.Prelude.{◌≡◌, ◌≤◌};
+ghost use Rattle.el_rows.specs.Tables.{limit_of};
+ghost use Rattle.el_rows.specs.declared.table.Table.{Table};
+ghost use Rattle.el_rows.specs.declared.table.Table.TheVariants as table;
+ghost use Rattle.el_index.specs.Means.{top, IsIndexOf, Means};
+ghost use Rattle.el_index.specs.within.Laws as laws;
+
+use crate::index::Index;
+use el_base::{Hash32, Steps};
+use el_chain::{Coin, Entry, MoveFault, Moved, Plan, Spot, Touched};
+use el_histories::{balance, history, unspent};
+use el_lookups::{block_txids, coin, find_tx, hashes, header, place, spender};
+use el_model::{Ledger, QueryFault, read_all};
+use el_outside::{Archive, DiskFailed, Place};
+use el_rows::{Rows, Table, Txn};
+use el_tx::Outpoint;
+use std::alloc::Global;
+use std::sync::ledger::Ledger as Counts;
+
+// The height of the last of so many blocks.
+fn top_of(count: u64) -> Option<u32>
+    requires { count ≤ limit_of Table.Blocks }
+    ensures { result ≡ top count }
+{
+    match count {
+        0 => None,
+        n => Some((n - 1) as u32),
+    }
+}
+
+impl<R: Rows> Ledger for Index<R> {
+    ghost stands = { λ l chain. IsIndexOf R.tells (R.lists l.rows) l.tip chain };
+
+    ghost is_live = { λ l. R.is_live l.rows };
+
+    ghost height = { λ l. top (R.counts l.rows table.Blocks) };
+
+    ghost tip = { λ l. l.tip };
+
+    ghost buckets = { λ l. 65536 };
+
+    ghost faults = { λ l. R.faults l.rows };
+
+    ghost tells_crash = { R.tells_crash };
+
+    ghost Left = { R.Left };
+
+    ghost means = { λ left chain. Means R.shows left chain };
+
+    ghost moment = { λ l. R.moment l.rows };
+
+    ghost left_since = { λ l since left. R.left_since l.rows since left };
+
+    ghost height_is = { λ l chain stands. laws.height_is R.tells (R.lists l.rows) l.tip
+        (R.counts l.rows table.Blocks) chain (R.counted l.rows table.Blocks) stands };
+
+    ghost tip_is = { λ l chain stands. laws.tip_is R.tells (R.lists l.rows) l.tip chain stands };
+
+    ghost good = { λ l chain stands. laws.good R.tells (R.lists l.rows) l.tip chain stands };
+
+    ghost earlier = { λ l t u left le since. R.earlier l.rows t u left le since };
+
+    ghost leaves_own = { λ l chain left told live stands since. laws.leaves_own R.shows R.tells
+        (R.lists l.rows) l.tip chain left stands (R.leaves_lists l.rows left told live since) };
+
+    fn height(&self) -> Option<u32> {
+        top_of(self.rows.count(Table::Blocks))
+    }
+
+    fn tip(&self) -> Option<Hash32> {
+        self.tip
+    }
+
+    fn header<L: Counts + Send>(
+        &mut self,
+        h: u32,
+        steps: &mut Steps<L>,
+    ) -> Result<[u8; 80], DiskFailed> {
+        let mut txn = Txn::new(self.alloc, &mut self.rows);
+        let found = header(&mut txn, h, steps)?;
+        Ok(found)
+    }
+
+    fn place<L: Counts + Send>(
+        &mut self,
+        h: u32,
+        steps: &mut Steps<L>,
+    ) -> Result<Place, DiskFailed> {
+        let mut txn = Txn::new(self.alloc, &mut self.rows);
+        let found = place(&mut txn, h, steps)?;
+        Ok(found)
+    }
+
+    fn hashes<L: Counts + Send>(
+        &mut self,
+        alloc: Global,
+        upto: u32,
+        steps: &mut Steps<L>,
+    ) -> Result<Vec<Hash32>, QueryFault> {
+        let mut txn = Txn::new(self.alloc, &mut self.rows);
+        let found = hashes(alloc, &mut txn, upto, steps)?;
+        Ok(found)
+    }
+
+    fn history<L: Counts + Send>(
+        &mut self,
+        alloc: Global,
+        script_hash: &Hash32,
+        steps: &mut Steps<L>,
+    ) -> Result<Vec<Entry>, QueryFault> {
+        let mut txn = Txn::new(self.alloc, &mut self.rows);
+        let found = history(alloc, &mut txn, script_hash, steps)?;
+        Ok(found)
+    }
+
+    fn unspent<L: Counts + Send>(
+        &mut self,
+        alloc: Global,
+        script_hash: &Hash32,
+        steps: &mut Steps<L>,
+    ) -> Result<Vec<Coin>, QueryFault> {
+        let mut txn = Txn::new(self.alloc, &mut self.rows);
+        let found = unspent(alloc, &mut txn, script_hash, steps)?;
+        Ok(found)
+    }
+
+    fn balance<L: Counts + Send>(
+        &mut self,
+        script_hash: &Hash32,
+        steps: &mut Steps<L>,
+    ) -> Result<u64, DiskFailed> {
+        let mut txn = Txn::new(self.alloc, &mut self.rows);
+        let found = balance(&mut txn, script_hash, steps)?;
+        Ok(found)
+    }
+
+    fn find_tx<L: Counts + Send>(
+        &mut self,
+        txid: &Hash32,
+        steps: &mut Steps<L>,
+    ) -> Result<Option<Spot>, DiskFailed> {
+        let mut txn = Txn::new(self.alloc, &mut self.rows);
+        let found = find_tx(&mut txn, txid, steps)?;
+        Ok(found)
+    }
+
+    fn block_txids<L: Counts + Send>(
+        &mut self,
+        alloc: Global,
+        h: u32,
+        steps: &mut Steps<L>,
+    ) -> Result<Vec<Hash32>, QueryFault> {
+        let mut txn = Txn::new(self.alloc, &mut self.rows);
+        let found = block_txids(alloc, &mut txn, h, steps)?;
+        Ok(found)
+    }
+
+    fn coin<L: Counts + Send>(
+        &mut self,
+        o: &Outpoint,
+        steps: &mut Steps<L>,
+    ) -> Result<Option<Coin>, DiskFailed> {
+        let mut txn = Txn::new(self.alloc, &mut self.rows);
+        let found = coin(&mut txn, o, steps)?;
+        Ok(found)
+    }
+
+    fn spender<L: Counts + Send>(
+        &mut self,
+        o: &Outpoint,
+        steps: &mut Steps<L>,
+    ) -> Result<Option<Entry>, DiskFailed> {
+        let mut txn = Txn::new(self.alloc, &mut self.rows);
+        let found = spender(&mut txn, o, steps)?;
+        Ok(found)
+    }
+
+    fn go<A: Archive, L: Counts + Send>(
+        &mut self,
+        alloc: Global,
+        plan: &Plan,
+        archive: &mut A,
+        steps: &mut Steps<L>,
+    ) -> Result<Moved, MoveFault> {
+        let texts = read_all(alloc, archive, plan.forward.as_slice())?;
+        let mut touched = Touched::new(alloc);
+        let tip = self.change(alloc, plan, texts.as_slice(), &mut touched, steps)?;
+        // The list says that no script hash stands twice.
+        let _listed = touched.list();
+        self.tip = tip;
+        Ok(Moved {
+            tip,
+            height: top_of(self.rows.count(Table::Blocks)),
+            touched,
+        })
+    }
+}

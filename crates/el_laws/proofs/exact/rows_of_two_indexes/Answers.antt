@@ -1,0 +1,6 @@
+use Rattle.el_index.specs.Means.{IsIndexOf}
+use Rattle.el_stands.proofs.StandingLemmas.{equal_rows}
+use Rattle.el_laws.proofs.exact.rows_of_two_indexes.Goals as goal
+
+pub returns : goal.returns
+returns g c = record { exact = λ chain a b. rw (c.into_rows.ensures, c.into_rows-2.ensures) (equal_rows _ _ chain a.stand b.stand) }
