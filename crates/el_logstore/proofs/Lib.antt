@@ -1,0 +1,2 @@
+pub mod MakesLemmas
+pub mod StoreLemmas

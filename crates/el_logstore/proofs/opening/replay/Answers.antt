@@ -1,0 +1,33 @@
+use Rattle.std.proofs.Common.{◌<◌, length, sym, ◌∙◌, arith}
+use Rattle.std.proofs.lemmas.Result.{err_from_is_err_and}
+use Rattle.el_rows.specs.Tables.{tables_of}
+use Rattle.el_journal.proofs.Steps.{read_more}
+use Rattle.el_logstore.proofs.MakesLemmas.{makes_next, no_commit_here}
+use Rattle.el_logstore.proofs.opening.replay.Goals as goal
+
+pub returns-in_err-redo-clause-bad : goal.returns-in_err-redo-clause-bad
+returns-in_err-redo-clause-bad g c entries holds =
+    let p = err_from_is_err_and c.from_residual-in_err-redo.result c.from_residual-in_err-redo.ensures.1 in
+    let within : c.loop-i.i < length entries = omega (arith, c.loop-i-test.true, c.len-i-end.ensures, holds.count) in
+    rw p.1 (λ file wanted found is.
+    let bad = c.in_err-redo.ensures.bad file wanted found (sym p.2 ∙ is) in (
+      bad.0,
+      bad.1,
+      no_commit_here c.args.magic entries c.loop-i.i found (tables_of c.loop-i.rows) c.deref.result.now within (c.loop-i.invariant.made entries holds)
+          (c.deref.ensures.value ∙ c.in_ok-body.ensures.entry entries (c.loop-i.invariant.stays entries holds)) bad.2 bad.3,
+    ))
+
+pub loop-i-preserved : goal.loop-i-preserved
+loop-i-preserved g c =
+    let was = c.loop-i.invariant in
+    record {
+      made = λ entries holds.
+          let within : c.loop-i.i < length entries = omega (arith, c.loop-i-test.true, c.len-i-end.ensures, holds.count) in
+          let made = c.in_ok-redo.ensures.made in
+          makes_next c.args.magic entries c.loop-i.i (tables_of c.loop-i.rows) (tables_of c.redo.new.rows) c.deref.result.now made.0 within (was.made entries holds)
+          (c.deref.ensures.value ∙ c.in_ok-body.ensures.entry entries (was.stays entries holds)) made.1 made.2;
+      stays = λ entries holds. c.body_of.ensures.stays entries (was.stays entries holds);
+      count = c.body_of.ensures.count ∙ was.count;
+      read = λ told. read_more g.D.Disk (λ d t u i le left. g.met.D.Disk.earlier d t u i told le left) c.args.journal.now.disk c.loop-i.journal.disk c.body_of.new.journal.disk (was.read told) (c.body_of.ensures.read told);
+      faults = c.in_ok-body.ensures.cause.uncounted ∙ was.faults;
+    }

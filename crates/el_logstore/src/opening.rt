@@ -1,0 +1,155 @@
+// Opening a store.
+ghost use Rattle.std.specs.Prelude.{◌≡◌, ◌≢◌, ◌⊎◌, ◌<◌, ℕ, List, [], length, get_or, OnOk, IfOk, IfErr, MatchResult};
+ghost use Rattle.el_outside.specs.Counts.{CountsOnly};
+ghost use Rattle.el_outside.specs.Disk.{Image};
+ghost use Rattle.el_outside.specs.Moments.{LeavesOnly, LeftNow};
+ghost use Rattle.el_rows.specs.Tables.{Tables, tables_of};
+ghost use Rattle.el_rows.specs.Reads.{Same};
+ghost use Rattle.el_rows.specs.Changes.{Update, under};
+ghost use Rattle.el_journal.specs.declared.mark.TheConstants.{JOURNAL};
+ghost use Rattle.el_journal.specs.Journals.{Holds, IsOnlyRead};
+ghost use Rattle.el_redo.specs.declared.faults.OpenFault.TheVariants as fault;
+ghost use Rattle.el_logstore.specs.Images.{Shows, Makes, Commits, no_rows, HasNoCommitAt, IsBadIndex, ShowsAsBefore};
+ghost use Rattle.el_logstore.specs.Stores.{IsLive, lists_in, magic_of, disk_in, opened, fault_of};
+
+use crate::LogStore;
+use el_journal::{EntryFault, JOURNAL, Journal, JournalFault, open_journal};
+use el_outside::Disk;
+use el_redo::{OpenFault, RedoFault, apply};
+use el_rows::VecRows;
+use std::alloc::Global;
+
+// The entry of that number.
+fn body_of<D: Disk>(journal: &mut Journal<D>, i: u64) -> Result<Vec<u8>, OpenFault>
+    requires { i < journal.old.count }
+    ensures entry { (entries : List (List ℕ)) → Holds ⟦<D as Disk>⟧ journal.old entries
+        → IfOk result (λ bytes. bytes.items ≡ get_or entries i []) }
+    ensures good { IfErr result (λ e. (file wanted found : ℕ) → e ≢ fault.BadIndex file wanted found) }
+    ensures stays { (entries : List (List ℕ)) → Holds ⟦<D as Disk>⟧ journal.old entries
+        → Holds ⟦<D as Disk>⟧ journal.new entries }
+    ensures count { journal.new.count ≡ journal.old.count }
+    ensures read { D.tells → IsOnlyRead ⟦<D as Disk>⟧ journal.old.disk journal.new.disk }
+    ensures cause { CountsOnly (D.faults journal.old.disk) (D.faults journal.new.disk)
+        fault.DiskFailed result }
+{
+    match journal.entry(i) {
+        Ok(body) => Ok(body),
+        Err(EntryFault::DiskFailed) => Err(OpenFault::DiskFailed),
+        Err(EntryFault::Memory) => Err(OpenFault::Memory),
+    }
+}
+
+// Makes the rows those after the body of that number, where it spells a commit.
+fn redo(
+    alloc: Global,
+    rows: &mut VecRows,
+    magic: [u8; 4],
+    body: &[u8],
+    i: u64,
+) -> Result<(), OpenFault>
+    ensures made { OnOk result ((update : Update) × Commits magic (tables_of rows.old) body.now update
+        × Same (under (tables_of rows.old) update.counts update.changes) (tables_of rows.new)) }
+    ensures bad { IfErr result (λ e. (file wanted found : ℕ) → e ≡ fault.BadIndex file wanted found
+        → (file ≡ JOURNAL) × (wanted ≡ 1) × (found ≡ i)
+        × ((update : Update) → Commits magic (tables_of rows.old) body.now update → ⊥)) }
+    ensures no_disk { IfErr result (λ e. e ≢ fault.DiskFailed) }
+{
+    match apply(alloc, rows, magic, body) {
+        Ok(()) => Ok(()),
+        Err(RedoFault::NoCommit) => Err(OpenFault::BadIndex {
+            file: JOURNAL,
+            wanted: 1,
+            found: i,
+        }),
+        Err(RedoFault::Memory) => Err(OpenFault::Memory),
+    }
+}
+
+// Makes the rows those after all entries, read in order, each once.
+fn replay<D: Disk>(
+    alloc: Global,
+    journal: &mut Journal<D>,
+    rows: &mut VecRows,
+    magic: [u8; 4],
+) -> Result<(), OpenFault>
+    requires { Same no_rows (tables_of rows.old) }
+    ensures made { (entries : List (List ℕ)) → Holds ⟦<D as Disk>⟧ journal.old entries
+        → OnOk result (Makes magic no_rows entries (tables_of rows.new)) }
+    ensures bad { (entries : List (List ℕ)) → Holds ⟦<D as Disk>⟧ journal.old entries
+        → IfErr result (λ e. (file wanted found : ℕ) → e ≡ fault.BadIndex file wanted found
+        → (file ≡ JOURNAL) × (wanted ≡ 1) × HasNoCommitAt magic entries found) }
+    ensures stays { (entries : List (List ℕ)) → Holds ⟦<D as Disk>⟧ journal.old entries
+        → Holds ⟦<D as Disk>⟧ journal.new entries }
+    ensures read { D.tells → IsOnlyRead ⟦<D as Disk>⟧ journal.old.disk journal.new.disk }
+    ensures cause { CountsOnly (D.faults journal.old.disk) (D.faults journal.new.disk)
+        fault.DiskFailed result }
+{
+    for i in 0..journal.len() {
+        let body = body_of(journal, i)?;
+        redo(alloc, rows, magic, &body, i)?;
+    }
+    Ok(())
+}
+
+// A fault of the journal's opening.
+fn of_journal(f: JournalFault) -> OpenFault
+    ensures { result ≡ fault_of f }
+{
+    match f {
+        JournalFault::DiskFailed => OpenFault::DiskFailed,
+        JournalFault::BadJournal { place } => OpenFault::BadIndex {
+            file: JOURNAL,
+            wanted: 0,
+            found: place,
+        },
+        JournalFault::Memory => OpenFault::Memory,
+    }
+}
+
+/// Opens the store that a disk keeps for the network with this magic. The disk may be fresh, which stands for
+/// no rows, or as a crash left it. The opening may be stopped at any call, and the disk opened again. Each
+/// byte of the journal's entries is read once.
+///
+/// # Errors
+///
+/// The fault, with the disk as it then stands. `BadIndex` names file 10, the journal: 0 was wanted and a
+/// place found, counted from the file's first byte, where an entry is cut; or 1 was wanted and the number of
+/// an entry found, from 0 on, which is the first that spells no commit, or one for another network.
+pub fn open_log<D: Disk>(
+    alloc: Global,
+    disk: D,
+    magic: [u8; 4],
+) -> Result<LogStore<D>, (OpenFault, D)>
+    ensures live { IfOk result (λ store. IsLive ⟦<D as Disk>⟧ store) }
+    ensures shows { D.tells → IfOk result (λ store. Shows magic (D.seen disk) (lists_in store)) }
+    ensures magic { IfOk result (λ store. magic_of store ≡ magic) }
+    ensures opens { D.tells → (tables : Tables) → Shows magic (D.seen disk) tables
+        → IfErr result (λ e. (e.0 ≡ fault.DiskFailed) ⊎ (e.0 ≡ fault.Memory)) }
+    // `BadIndex` comes exactly where the disk stands for no tables, with the reason.
+    ensures bad_index { D.tells → IfErr result (λ e. (file wanted found : ℕ)
+        → e.0 ≡ fault.BadIndex file wanted found
+        → (file ≡ JOURNAL) × IsBadIndex magic (D.seen disk) wanted found) }
+    ensures is_bad { D.tells → (wanted found : ℕ) → IsBadIndex magic (D.seen disk) wanted found
+        → MatchResult result (λ _. ⊥) (λ e. (e.0 ≡ fault.DiskFailed) ⊎ ((e.0 ≡ fault.Memory)
+        ⊎ (e.0 ≡ fault.BadIndex JOURNAL wanted found))) }
+    // Each image that a crash since the start may leave stands for what one stood for that it might have left
+    // before.
+    ensures crash { D.tells → LeavesOnly D.moment D.left_since disk (disk_in result)
+        (ShowsAsBefore magic (LeftNow D.moment D.left_since disk)) }
+    ensures cause { CountsOnly (D.faults disk) (D.faults (disk_in result)) fault.DiskFailed (opened result) }
+{
+    let mut journal = match open_journal(alloc, disk) {
+        Ok(journal) => journal,
+        Err((fault, disk)) => return Err((of_journal(fault), disk)),
+    };
+    let mut rows = VecRows::new(alloc);
+    match replay(alloc, &mut journal, &mut rows, magic) {
+        Ok(()) => Ok(LogStore {
+            alloc,
+            magic,
+            rows,
+            journal,
+        }),
+        Err(fault) => Err((fault, journal.into_disk())),
+    }
+}

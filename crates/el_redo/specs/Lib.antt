@@ -1,0 +1,2 @@
+pub mod RedoBody
+pub mod within
