@@ -65,9 +65,10 @@ def record(block, magic=MAIN):
 GOOD = record(GENESIS) + record(BLOCK1)
 
 
-def asks(script, number=1):
-    """The line that asks for a history."""
-    return b'{"id":%d,"method":"blockchain.scripthash.get_history","params":["%s"]}\n' % (number, script.encode())
+def asks(script, number=1, method="get_history"):
+    """The line that asks for a history, or by another method."""
+    words = (number, method.encode(), script.encode())
+    return b'{"id":%d,"method":"blockchain.scripthash.%s","params":["%s"]}\n' % words
 
 
 def replies(entries, number=1):
@@ -252,6 +253,30 @@ def many_lines(program):
     return run(program, once("a"), given), (wrote, ENDED)
 
 
+def every_method(program):
+    # what a coinbase pays of the first blocks: 50 bitcoins
+    put("a/blk00000.dat", GOOD)
+    given = (
+        asks(BLOCK1_SCRIPT, 1, "get_balance") + asks(BLOCK1_SCRIPT, 2, "listunspent")
+        + asks("00" * 32, 3, "get_balance") + asks("00" * 32, 4, "listunspent")
+        + asks(BLOCK1_SCRIPT, 5, "get_mempool")
+    )
+    wrote = (
+        b'{"id":1,"jsonrpc":"2.0","result":{"confirmed":5000000000,"unconfirmed":0}}\n'
+        b'{"id":2,"jsonrpc":"2.0","result":[{"height":1,"tx_hash":"%s","tx_pos":0,"value":5000000000}]}\n'
+        b'{"id":3,"jsonrpc":"2.0","result":{"confirmed":0,"unconfirmed":0}}\n'
+        b'{"id":4,"jsonrpc":"2.0","result":[]}\n' % BLOCK1_TXID.encode()
+    )
+    return run(program, once("a"), given), (wrote + INVALID, ENDED)
+
+
+def serves_every_method(program):
+    put("a/blk00000.dat", GOOD)
+    given = ONE + asks(GENESIS_SCRIPT, 2, "get_balance") + asks(GENESIS_SCRIPT, 3, "listunspent")
+    empty = b'{"id":2,"jsonrpc":"2.0","result":{"confirmed":0,"unconfirmed":0}}\n'
+    return run(program, serve("a"), given), (NONE_FOUND + empty + replies([], 3), ENDED)
+
+
 def input_in_pieces(program):
     put("a/blk00000.dat", GOOD)
     started = start(program, once("a"), stdin=subprocess.PIPE, stdout=subprocess.PIPE)
@@ -326,6 +351,7 @@ CASES = [
     other_words_of_serve,
     serves_two_files,
     serves_blocks_in_any_order,
+    serves_every_method,
     serves_no_folder,
     words_that_are_no_text,
     folder_that_is_not_there,
@@ -339,6 +365,7 @@ CASES = [
     record_far_in_the_file,
     second_block_alone,
     many_lines,
+    every_method,
     input_in_pieces,
     input_cut_in_a_line,
     no_input,

@@ -103,11 +103,11 @@ arrival_done stands link_tells tells a world taken later before now still t f =
 
 -- or the run stops in it
 pub arrival_stopped : {G : Type 0} (stands : G → Chain → Type 0) (link_tells tells : Type 0)
-    (a : ArrivalWithBytes) (world : World) (taken : State G) (before now : Seen) (stop : Stop)
+    (leaves : Chain → Chain → Type 0) (a : ArrivalWithBytes) (world : World) (taken : State G) (before now : Seen) (stop : Stop)
     → world.ahead ≡ [] → (t : TookArrival stands a world taken)
-    → Stopped link_tells tells t.next t.left stop before now
-    → StoppedIn link_tells tells world a stop before now
-arrival_stopped stands link_tells tells a world taken before now stop still t f =
+    → Stopped link_tells tells leaves t.next t.left stop before now
+    → StoppedIn link_tells tells leaves world a stop before now
+arrival_stopped stands link_tells tells leaves a world taken before now stop still t f =
     let q = quietly_turns tells (after_hearing a world) t.done t.next (still_after a world ∙ still)
     t.quietly in
     let whole = t.whole ∙ ap (λ (l : List Event). t.done ++ l) f.whole
@@ -122,6 +122,9 @@ arrival_stopped stands link_tells tells a world taken before now stop still t f 
           whole turns f.stops refl refl refl;
       story = f.story;
       rose = f.rose;
+      flight = f.flight;
+      is_flight = f.is_flight;
+      crash = f.crash;
     }
 
 pub on_ok : {T E : Type 0} (P Q : Type 0) (r : Result T E) → (P → Q) → OnOk r P → OnOk r Q
@@ -152,14 +155,18 @@ taken_files stands a world s t = quiet_files (after_hearing a world) t.done t.ne
     ∙ files_after a world
 
 -- no memory was found for the node's bytes
-pub arrival_lost : (link_tells tells : Type 0) (a : Arrival) (bytes : List ℕ) (world : World) (now : Seen)
-    → (n : ℕ) × (a ≡ arrival.Bytes 0 n)
-    → StoppedIn link_tells tells world (with_all_bytes a bytes) by_memory now now
-arrival_lost link_tells tells a bytes world now is = record {
+pub arrival_lost : (link_tells tells : Type 0) (leaves : Chain → Chain → Type 0) (a : Arrival)
+    (bytes : List ℕ) (world : World) (now : Seen) → (n : ℕ) × (a ≡ arrival.Bytes 0 n)
+    → leaves world.chain world.chain
+    → StoppedIn link_tells tells leaves world (with_all_bytes a bytes) by_memory now now
+arrival_lost link_tells tells leaves a bytes world now is crash = record {
   messages = [];
   closings = [];
   losses = [];
   stops = unheard bytes (ap (λ (x : Arrival). with_all_bytes x bytes) is.1) refl refl refl refl;
   story = λ t. goes_none now.story;
   rose = all_rose_none now.faults;
+  flight = world.chain;
+  is_flight = refl;
+  crash = crash;
 }

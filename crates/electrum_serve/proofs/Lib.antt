@@ -1,10 +1,12 @@
-pub mod Openness
-pub mod Sendings
-pub mod Deliveries
-pub mod Turned
-pub mod Progresses
+mod NoBlocks
 pub mod Arrivals
-pub mod Runs
+pub mod Deliveries
 pub mod FileLemmas
+pub mod Flights
 pub mod Openings
+pub mod Openness
+pub mod Progresses
+pub mod Runs
+pub mod Sendings
 pub mod Servings
+pub mod Turned

@@ -16,6 +16,7 @@ use Rattle.electrum_serve.specs.Runs.{Faults, Rose}
 use Rattle.electrum_serve.specs.within.Sending.{StoppedSending}
 use Rattle.electrum_serve.specs.within.Progress.{ClientsAreOpen, CanDeliver, Delivered, Seen, Progress, Finished, Stopped}
 use Rattle.electrum_serve.proofs.Sendings.{link_more}
+use Rattle.electrum_serve.proofs.Flights.{flies}
 use Rattle.electrum_serve.proofs.Turned.{after_turn, still_waiting}
 use Rattle.electrum_serve.proofs.Openness.{some_peer}
 
@@ -228,16 +229,18 @@ finished stands link_tells tells first all' before now later s turned p d unused
     }
 
 -- a turn failed
-pub stopped_turn : {G : Type 0} (stands : G → Chain → Type 0) (is_live : G → Type 0) (leaves : Chain → Chain
-    → Type 0) (link_tells tells : Type 0) (disk_faults : G → ℕ) (first : World)
+pub stopped_turn : {G : Type 0} (stands : G → Chain → Type 0) (is_live : G → Type 0)
+    (passed leaves : Chain → Chain → Type 0) (link_tells tells : Type 0) (disk_faults : G → ℕ) (first : World)
     (all' : List Event) (before now later : Seen) (s turned : State G) (stop : Stop) (e : StepFault)
+    → ((a b : Chain) → passed a b → leaves a b)
     → (p : Progress stands link_tells tells first all' before now s) → now.faults.disk ≡ disk_faults s.ledger
-    → (t : TurnFailed stands is_live leaves tells later.files now.faults.archive later.faults.archive
+    → (t : TurnFailed stands is_live passed tells later.files now.faults.archive later.faults.archive
     (disk_faults s.ledger) later.faults.disk p.world p.left turned.ledger e)
+    → (tells → AllGrow now.files later.files)
     → stop ≡ stop_of e → later.story ≡ now.story → later.faults.link ≡ now.faults.link
-    → Stopped link_tells tells first all' stop before later
-stopped_turn stands is_live leaves link_tells tells disk_faults first all' before now later s turned stop e p
-    disk_is t is same_story same_link = record {
+    → Stopped link_tells tells leaves first all' stop before later
+stopped_turn stands is_live passed leaves link_tells tells disk_faults first all' before now later s turned stop
+    e left p disk_is t grows is same_story same_link = record {
       done = p.done;
       left = p.left;
       whole = p.whole;
@@ -257,10 +260,17 @@ stopped_turn stands is_live leaves link_tells tells disk_faults first all' befor
             archive = t.archive_rose;
             disk = rw disk_is t.disk_rose;
           });
+      flight = t.next;
+      is_flight = (
+        later.files,
+        λ told. all_grow_more p.world.files now.files later.files (p.grown told) (grows told),
+        t.under_way,
+      );
+      crash = left p.world.chain t.next t.crash;
     }
 
 -- an answer to the node was not sent
-pub stopped_sending : {G : Type 0} (stands : G → Chain → Type 0) (ledgers : Chain → Chain → Type 0)
+pub stopped_sending : {G : Type 0} (stands : G → Chain → Type 0) (ledgers leaves : Chain → Chain → Type 0)
     (link_tells tells : Type 0) (disk_faults : G → ℕ) (first : World) (all' : List Event)
     (before now : Seen) (story : Story) (files : ℕ → List ℕ) (of_link of_archive : ℕ)
     (s turned later : State G) (outs : Outs) (stop : Stop)
@@ -268,13 +278,14 @@ pub stopped_sending : {G : Type 0} (stands : G → Chain → Type 0) (ledgers : 
     → (t : TookTurn stands ledgers tells files now.faults.archive of_archive (disk_faults s.ledger)
     (disk_faults turned.ledger) p.world p.left outs turned)
     → StoppedSending link_tells t.next outs.messages stop turned now.story now.faults.link later story of_link
-    → Stopped link_tells tells first all' stop before (record {
+    → leaves p.world.chain t.next.chain
+    → Stopped link_tells tells leaves first all' stop before (record {
       story = story;
       files = files;
       faults = record { link = of_link; archive = of_archive; disk = disk_faults later.ledger };
     })
-stopped_sending stands ledgers link_tells tells disk_faults first all' before now story files of_link
-    of_archive s turned later outs stop p disk_is t d =
+stopped_sending stands ledgers leaves link_tells tells disk_faults first all' before now story files of_link
+    of_archive s turned later outs stop p disk_is t d crash =
     let alone = link_alone t.next d.front None d.sent d.closings d.losses d.next d.delivers in
     let last = last_link stop d.last d.lost in
     record {
@@ -305,4 +316,7 @@ stopped_sending stands ledgers link_tells tells disk_faults first all' before no
           (d.losses ++ d.last) t.no_link refl t.archive_rose (rw disk_is t.disk_rose)
           d.rose (rw (archive_more d.losses d.last, alone.0, last.0) refl)
           (rw (disk_more d.losses d.last, alone.1, last.1) refl) refl (ap disk_faults d.ledger));
+      flight = t.next.chain;
+      is_flight = flies tells p.world p.left t.rest t.done outs t.losses t.next t.whole t.turn;
+      crash = crash;
     }

@@ -81,24 +81,24 @@ going_none stands link_tells tells first node s now dialled stood nobody unused 
 }
 
 -- the run stops in an arrival
-pub told_stopped : {G : Type 0} (stands : G → Chain → Type 0) (link_tells tells : Type 0) (first : World)
-    (node : Bool) (count turns : ℕ) (a : ArrivalWithBytes) (s : State G)
+pub told_stopped : {G : Type 0} (stands : G → Chain → Type 0) (link_tells tells : Type 0)
+    (leaves : Chain → Chain → Type 0) (first : World) (node : Bool) (count turns : ℕ) (a : ArrivalWithBytes) (s : State G)
     (before mid heard now : Seen) (dialled called again : ℕ) (stop : Stop)
     (g : Going stands link_tells tells first node count s before mid dialled called)
     → (link_tells → GoesOn mid.story heard.story (a ∷ []) [] []) → heard.faults ≡ mid.faults
     → RoseBy called again 1 → count < turns
-    → StoppedIn link_tells tells g.world (taken_one node a) stop heard now
+    → StoppedIn link_tells tells leaves g.world (taken_one node a) stop heard now
     → (traffic : Traffic) × (link_tells
     → GoesOn before.story now.story traffic.arrivals traffic.messages traffic.closings)
-    × IsHalted tells first node (record {
+    × IsHalted tells first node leaves (record {
       turns = turns;
       calls_before = dialled;
       calls_after = again;
       faults_before = before.faults;
       faults_after = now.faults;
     }) traffic stop
-told_stopped stands link_tells tells first node count turns a s before mid heard now dialled called again stop
-    g took same one lt f = (
+told_stopped stands link_tells tells leaves first node count turns a s before mid heard now dialled called
+    again stop g took same one lt f = (
       record {
         arrivals = g.arrivals ++ a ∷ [];
         messages = g.messages ++ f.messages;
@@ -137,6 +137,9 @@ told_stopped stands link_tells tells first node count turns a s before mid heard
               (all_rose_more before.faults heard.faults now.faults g.losses f.losses (rw same g.rose) f.rose);
         };
         last = record { front = g.arrivals; last = a; whole = refl; before = g.none_ends };
+        flight = f.flight;
+        is_flight = f.is_flight;
+        crash = f.crash;
       },
     )
 
@@ -218,11 +221,12 @@ going_more stands link_tells tells first node count a s before now dialled calle
 }
 
 -- what a run tells in the end
-abbrev pub Told : Type 0 → Type 0 → World → Bool → ℕ → ℕ → ℕ → Seen → Seen → Status → Type 0
-Told link_tells tells first node turns dialled called before now s =
+abbrev pub Told : Type 0 → Type 0 → World → Bool → (Chain → Chain → Type 0) → ℕ → ℕ → ℕ → Seen → Seen
+    → Status → Type 0
+Told link_tells tells first node leaves turns dialled called before now s =
     (traffic : Traffic) × (link_tells
     → GoesOn before.story now.story traffic.arrivals traffic.messages traffic.closings)
-    × RunEnds tells first node now.files
+    × RunEnds tells first node leaves now.files
     (record {
       turns = turns;
       calls_before = dialled;
@@ -232,12 +236,14 @@ Told link_tells tells first node turns dialled called before now s =
     }) traffic s
 
 -- the last arrival ended the run
-pub told_ended : {G : Type 0} (stands : G → Chain → Type 0) (link_tells tells : Type 0) (first : World)
-    (node : Bool) (count turns : ℕ) (a : ArrivalWithBytes) (s : State G) (before now : Seen)
-    (dialled called : ℕ) → Further stands link_tells tells first node count a s before now dialled called
+pub told_ended : {G : Type 0} (stands : G → Chain → Type 0) (link_tells tells : Type 0)
+    (leaves : Chain → Chain → Type 0) (first : World) (node : Bool) (count turns : ℕ) (a : ArrivalWithBytes)
+    (s : State G) (before now : Seen) (dialled called : ℕ)
+    → ((chain : Chain) → stands s.ledger chain → leaves chain chain)
+    → Further stands link_tells tells first node count a s before now dialled called
     → is_end a ≡ true → count < turns
-    → Told link_tells tells first node turns dialled called before now status.Ended
-told_ended stands link_tells tells first node count turns a s before now dialled called f stop lt = (
+    → Told link_tells tells first node leaves turns dialled called before now status.Ended
+told_ended stands link_tells tells leaves first node count turns a s before now dialled called own f stop lt = (
   record { arrivals = f.front ++ a ∷ []; messages = f.messages; closings = f.closings },
   f.story,
   (
@@ -251,18 +257,20 @@ told_ended stands link_tells tells first node count turns a s before now dialled
         turns = let h = f.counted in simp length-append (omega arith);
         rose = rw (append-nil f.losses) f.rose;
       };
+      crash = own f.world.chain f.stood.chain;
     },
     record { front = f.front; last = a; whole = refl; before = f.none_ends; ends = stop },
   ),
 )
 
 -- the turns are spent
-pub told_spent : {G : Type 0} (stands : G → Chain → Type 0) (link_tells tells : Type 0) (first : World)
-    (node : Bool) (count turns : ℕ) (s : State G) (before now : Seen)
-    (dialled called : ℕ) → Going stands link_tells tells first node count s before now dialled called
-    → count ≡ turns
-    → Told link_tells tells first node turns dialled called before now status.TurnsSpent
-told_spent stands link_tells tells first node count turns s before now dialled called g spent = (
+pub told_spent : {G : Type 0} (stands : G → Chain → Type 0) (link_tells tells : Type 0)
+    (leaves : Chain → Chain → Type 0) (first : World) (node : Bool) (count turns : ℕ) (s : State G)
+    (before now : Seen) (dialled called : ℕ)
+    → ((chain : Chain) → stands s.ledger chain → leaves chain chain)
+    → Going stands link_tells tells first node count s before now dialled called → count ≡ turns
+    → Told link_tells tells first node leaves turns dialled called before now status.TurnsSpent
+told_spent stands link_tells tells leaves first node count turns s before now dialled called own g spent = (
   record { arrivals = g.arrivals; messages = g.messages; closings = g.closings },
   g.story,
   (
@@ -276,6 +284,7 @@ told_spent stands link_tells tells first node count turns s before now dialled c
         turns = let h = g.counted in omega arith;
         rose = rw (append-nil g.losses) g.rose;
       };
+      crash = own g.world.chain g.stood.chain;
     },
     g.none_ends,
     g.counted ∙ spent,
@@ -283,14 +292,15 @@ told_spent stands link_tells tells first node count turns s before now dialled c
 )
 
 -- a call of `next` failed
-pub told_failed : {G : Type 0} (stands : G → Chain → Type 0) (link_tells tells : Type 0) (first : World)
-    (node : Bool) (count turns : ℕ) (s : State G) (before mid now : Seen)
-    (dialled called again : ℕ) → Going stands link_tells tells first node count s before mid dialled called
+pub told_failed : {G : Type 0} (stands : G → Chain → Type 0) (link_tells tells : Type 0)
+    (leaves : Chain → Chain → Type 0) (first : World) (node : Bool) (count turns : ℕ) (s : State G)
+    (before mid now : Seen) (dialled called again : ℕ)
+    → ((chain : Chain) → stands s.ledger chain → leaves chain chain) → Going stands link_tells tells first node count s before mid dialled called
     → (link_tells → now.story ≡ mid.story) → now.files ≡ mid.files
     → Rose mid.faults now.faults next_failed → RoseBy called again 1 → count < turns
-    → Told link_tells tells first node turns dialled again before now status.LinkFailed
-told_failed stands link_tells tells first node count turns s before mid now dialled called again g same
-    same_files rose one lt = (
+    → Told link_tells tells first node leaves turns dialled again before now status.LinkFailed
+told_failed stands link_tells tells leaves first node count turns s before mid now dialled called again own g
+    same same_files rose one lt = (
       record { arrivals = g.arrivals; messages = g.messages; closings = g.closings },
       λ t. rw (same t) (g.story t),
       inl (
@@ -304,6 +314,7 @@ told_failed stands link_tells tells first node count turns s before mid now dial
             turns = let h = g.counted in omega arith;
             rose = all_rose_more before.faults mid.faults now.faults g.losses next_failed g.rose rose;
           };
+          crash = own g.world.chain g.stood.chain;
         },
         g.none_ends,
       ),
@@ -386,18 +397,18 @@ enters link_tells node old world a buf taken' last now before after is are law l
     (names_new a buf last now before (law t) lawful) (took t)
 
 -- how the program then ends
-pub told_halt : (link_tells tells : Type 0) (first : World) (node : Bool) (turns dialled called : ℕ)
-    (before now : Seen) (halt : Halt)
+pub told_halt : (link_tells tells : Type 0) (first : World) (node : Bool) (leaves : Chain → Chain → Type 0)
+    (turns dialled called : ℕ) (before now : Seen) (halt : Halt)
     → ((traffic : Traffic) × (link_tells
     → GoesOn before.story now.story traffic.arrivals traffic.messages traffic.closings)
-    × IsHalted tells first node (record {
+    × IsHalted tells first node leaves (record {
       turns = turns;
       calls_before = dialled;
       calls_after = called;
       faults_before = before.faults;
       faults_after = now.faults;
     }) traffic (stop_of halt))
-    → Told link_tells tells first node turns dialled called before now (status_of halt)
-told_halt link_tells tells first node turns dialled called before now halt.Disk t = t
-told_halt link_tells tells first node turns dialled called before now halt.Link t = (t.0, t.1, inr t.2)
-told_halt link_tells tells first node turns dialled called before now halt.Memory t = t
+    → Told link_tells tells first node leaves turns dialled called before now (status_of halt)
+told_halt link_tells tells first node leaves turns dialled called before now halt.Disk t = t
+told_halt link_tells tells first node leaves turns dialled called before now halt.Link t = (t.0, t.1, inr t.2)
+told_halt link_tells tells first node leaves turns dialled called before now halt.Memory t = t

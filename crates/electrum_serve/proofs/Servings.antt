@@ -1,16 +1,24 @@
 -- How a call of `serve` ends.
-use Rattle.std.proofs.Common.{◌≡◌, inl, inr, ℕ, List, refl, Bool}
+use Rattle.std.proofs.Common.{◌≡◌, inl, inr, ℕ, List, [], ◌++◌, refl, Bool, true, arith}
 use Rattle.std.specs.Prelude.{Err}
-use Rattle.el_outside.specs.Counts.{OnlyReads}
+use Rattle.el_outside.specs.Counts.{RoseBy, OnlyReads, CountsOnly}
+use Rattle.el_outside.specs.Files.{AllGrow}
 use Rattle.el_outside.proofs.Stories.{rose_none}
+use Rattle.el_chain.specs.declared.node.Node.{Node}
+use Rattle.el_chain.specs.Chains.{Chain}
 use Rattle.el_model.specs.World.{World}
+use Rattle.el_model.specs.Run.{Stop, Loss}
 use Rattle.el_words.specs.Words.{IsOnceOf, IsServeOf, network_magic}
 use Rattle.el_words.specs.Commands.{IsServe, IsOnce}
-use Rattle.electrum_serve.specs.Runs.{Counts, Traffic, no_traffic, faults, RunEnds}
-use Rattle.electrum_serve.specs.Ends.{Ends, IsServed, AreCommand, IsBadFile, IsUnserved}
-use Rattle.electrum_serve.specs.within.Unread.{unread_status}
+use Rattle.electrum_serve.specs.Opened.{IsScanned, nodes_of_chain}
+use Rattle.electrum_serve.specs.OtherChain.{is_other_chain}
+use Rattle.electrum_serve.specs.Runs.{Counts, Faults, Rose, IsCounted, Traffic, no_traffic, faults, RunEnds, IsRun, IsHalted}
+use Rattle.electrum_serve.specs.Ends.{IsSilent, ServeEnds, OnceEnds, IsServed, IsServedOnce, IsBadFile, IsUnserved}
+use Rattle.electrum_serve.specs.within.Unread.{unread_status, start_status}
 use Rattle.electrum_serve.specs.declared.file.FileFault.{FileFault}
 use Rattle.electrum_serve.specs.declared.file.FileFault.TheVariants as fault
+use Rattle.electrum_serve.specs.declared.opening.StartFault.{StartFault}
+use Rattle.electrum_serve.specs.declared.opening.StartFault.TheVariants as start
 use Rattle.electrum_serve.specs.declared.status.Status.{Status}
 use Rattle.electrum_serve.specs.declared.status.Status.TheVariants as status
 use Rattle.el_words.specs.declared.words.Command.TheVariants as command
@@ -36,85 +44,249 @@ pub is_once : {words : List (List ℕ)} {folder magic : List ℕ} {network : Net
 is_once {words} {folder} {magic} {network} is magic_is =
     record { folder = folder; of_network = network; is_once = is; magic_is = magic_is }
 
-pub of_serve : (words : List (List ℕ)) (magic : List ℕ) → IsServe words magic → AreCommand words
-of_serve words magic s = (command.Serve s.folder s.index s.of_network s.client_port s.node_port, s.is_serve)
+-- a run told in other words: what a crash leaves, and how often calls failed
+module _ (c : Counts) (of_before of_after : Faults) (rises : (losses : List Loss)
+    → Rose c.faults_before c.faults_after losses → Rose of_before of_after losses)
+    (P Q : Chain → Chain → Type 0) (gives : (a b : Chain) → P a b → Q a b) where
+  abbrev pub told : Counts
+  told = record c { faults_before = of_before; faults_after = of_after }
 
-pub of_once : (words : List (List ℕ)) (magic : List ℕ) → IsOnce words magic → AreCommand words
-of_once words magic s = (command.Once s.folder s.of_network, s.is_once)
+  counted_told : (t : Traffic) (losses failed : List Loss) → IsCounted c t losses failed
+      → IsCounted told t losses failed
+  counted_told t losses failed k =
+      record { calls = k.calls; turns = k.turns; rose = rises (losses ++ failed) k.rose }
 
--- a run serves
-pub run_serves : (tells : Type 0) (first : World) (node : Bool) (files : ℕ → List ℕ) (c : Counts)
-    (t : Traffic) (s : Status) → RunEnds tells first node files c t s → IsUnserved s → ⊥
-run_serves tells first node files c t status.Ended ends un = un
-run_serves tells first node files c t status.Usage ends un = ends
-run_serves tells first node files c t status.ArchiveFailed ends un = ends
-run_serves tells first node files c t status.DiskFailed ends un = un
-run_serves tells first node files c t status.LinkFailed ends un = un
-run_serves tells first node files c t status.OutOfMemory ends un = un
-run_serves tells first node files c t status.TurnsSpent ends un = un
-run_serves tells first node files c t status.BadChain ends un = ends
+  run_told : (tells : Type 0) (first : World) (node : Bool) (files : ℕ → List ℕ) (t : Traffic)
+      (failed : List Loss) → IsRun tells first node P files c t failed
+      → IsRun tells first node Q files told t failed
+  run_told tells first node files t failed r = record {
+    losses = r.losses;
+    world = r.world;
+    run = r.run;
+    grown = r.grown;
+    counted = counted_told t r.losses failed r.counted;
+    crash = gives r.world.chain r.world.chain r.crash;
+  }
 
--- somebody was served
+  halt_told : (tells : Type 0) (first : World) (node : Bool) (t : Traffic) (stop : Stop)
+      → IsHalted tells first node P c t stop → IsHalted tells first node Q told t stop
+  halt_told tells first node t stop h = record {
+    losses = h.losses;
+    halts = h.halts;
+    counted = counted_told t h.losses [] h.counted;
+    last = h.last;
+    flight = h.flight;
+    is_flight = h.is_flight;
+    crash = gives _ h.flight h.crash;
+  }
+
+  pub ends_told : (tells : Type 0) (first : World) (node : Bool) (files : ℕ → List ℕ) (t : Traffic)
+      (s : Status) → RunEnds tells first node P files c t s → RunEnds tells first node Q files told t s
+  ends_told tells first node files t status.Ended r = (run_told tells first node files t _ r.0, r.1)
+  ends_told tells first node files t status.Usage r = r
+  ends_told tells first node files t status.BadIndex r = r
+  ends_told tells first node files t status.ArchiveFailed r = r
+  ends_told tells first node files t status.DiskFailed r = halt_told tells first node t _ r
+  ends_told tells first node files t status.LinkFailed (inl r) =
+      inl (run_told tells first node files t _ r.0, r.1)
+  ends_told tells first node files t status.LinkFailed (inr r) = inr (halt_told tells first node t _ r)
+  ends_told tells first node files t status.OutOfMemory r = halt_told tells first node t _ r
+  ends_told tells first node files t status.TurnsSpent r = (run_told tells first node files t _ r.0, r.1, r.2)
+  ends_told tells first node files t status.OtherChain r = r
+  ends_told tells first node files t status.BadChain r = r
+
+  silent_told : (t : Traffic) (losses : List Loss) → IsSilent c t losses → IsSilent told t losses
+  silent_told t losses k =
+      record { traffic = k.traffic; calls = k.calls; rose = rises losses k.rose }
+
+  served_told : {A : Type 0} (tells : Type 0) (bytes : A → ℕ → List ℕ) (file_count : A → ℕ) (magic : List ℕ)
+      (chain : Chain) (before after : A) (t : Traffic) (s : Status)
+      → IsServed tells bytes file_count magic chain P c before after t s
+      → IsServed tells bytes file_count magic chain Q told before after t s
+  served_told tells bytes file_count magic chain before after t s r = record {
+    now = r.now;
+    nodes = r.nodes;
+    scanned = r.scanned;
+    same = r.same;
+    grows = r.grows;
+    run = ends_told tells _ true (bytes after) t s r.run;
+  }
+
+  pub serve_told : {A : Type 0} (tells : Type 0) (bytes : A → ℕ → List ℕ) (file_count : A → ℕ)
+      (magic : List ℕ) (chain : Chain) (before after : A) (t : Traffic) (s : Status)
+      → ServeEnds tells bytes file_count magic chain P c before after t s
+      → ServeEnds tells bytes file_count magic chain Q told before after t s
+  serve_told tells bytes file_count magic chain before after t status.Ended r =
+      served_told tells bytes file_count magic chain before after t _ r
+  serve_told tells bytes file_count magic chain before after t status.Usage r = r
+  serve_told tells bytes file_count magic chain before after t status.BadIndex r = r
+  serve_told tells bytes file_count magic chain before after t status.ArchiveFailed r =
+      (silent_told t _ r.0, gives chain chain r.1)
+  serve_told tells bytes file_count magic chain before after t status.DiskFailed (inl r) =
+      inl (silent_told t _ r.0, gives chain chain r.1)
+  serve_told tells bytes file_count magic chain before after t status.DiskFailed (inr r) =
+      inr (served_told tells bytes file_count magic chain before after t _ r)
+  serve_told tells bytes file_count magic chain before after t status.LinkFailed r =
+      served_told tells bytes file_count magic chain before after t _ r
+  serve_told tells bytes file_count magic chain before after t status.OutOfMemory (inl r) =
+      inl (silent_told t _ r.0, gives chain chain r.1)
+  serve_told tells bytes file_count magic chain before after t status.OutOfMemory (inr r) =
+      inr (served_told tells bytes file_count magic chain before after t _ r)
+  serve_told tells bytes file_count magic chain before after t status.TurnsSpent r =
+      served_told tells bytes file_count magic chain before after t _ r
+  serve_told tells bytes file_count magic chain before after t status.OtherChain r =
+      (r.0, silent_told t _ r.1, gives chain chain r.2)
+  serve_told tells bytes file_count magic chain before after t status.BadChain r = r
+
+-- a count that stays 0 counts nothing, and another count may stay
+pub stays_still : (d n : ℕ) → RoseBy 0 0 n → RoseBy d d n
+stays_still d n r = omega arith
+
+-- a node and clients were served
 pub served_ends : {A : Type 0} (tells : Type 0) (bytes : A → ℕ → List ℕ) (file_count : A → ℕ)
-    (words : List (List ℕ)) (c : Counts) (before after : A) (t : Traffic) (s : Status)
-    → (IsUnserved s → ⊥) → IsServed tells bytes file_count words c before after t s
-    → Ends tells bytes file_count words c before after t s
-served_ends tells bytes file_count words c before after t status.Ended none served = served
-served_ends tells bytes file_count words c before after t status.Usage none served = absurd (none tt)
-served_ends tells bytes file_count words c before after t status.ArchiveFailed none served = absurd (none tt)
-served_ends tells bytes file_count words c before after t status.DiskFailed none served = served
-served_ends tells bytes file_count words c before after t status.LinkFailed none served = served
-served_ends tells bytes file_count words c before after t status.OutOfMemory none served = inr served
-served_ends tells bytes file_count words c before after t status.TurnsSpent none served = served
-served_ends tells bytes file_count words c before after t status.BadChain none served = absurd (none tt)
+    (magic : List ℕ) (chain : Chain) (leaves : Chain → Chain → Type 0) (c : Counts) (before after : A)
+    (t : Traffic) (s : Status)
+    → (IsUnserved s → ⊥) → IsServed tells bytes file_count magic chain leaves c before after t s
+    → ServeEnds tells bytes file_count magic chain leaves c before after t s
+served_ends tells bytes file_count magic chain leaves c before after t status.Ended none served = served
+served_ends tells bytes file_count magic chain leaves c before after t status.Usage none served = absurd (none tt)
+served_ends tells bytes file_count magic chain leaves c before after t status.BadIndex none served = absurd (none tt)
+served_ends tells bytes file_count magic chain leaves c before after t status.ArchiveFailed none served = absurd (none tt)
+served_ends tells bytes file_count magic chain leaves c before after t status.DiskFailed none served = inr served
+served_ends tells bytes file_count magic chain leaves c before after t status.LinkFailed none served = served
+served_ends tells bytes file_count magic chain leaves c before after t status.OutOfMemory none served = inr served
+served_ends tells bytes file_count magic chain leaves c before after t status.TurnsSpent none served = served
+served_ends tells bytes file_count magic chain leaves c before after t status.OtherChain none served = absurd (none tt)
+served_ends tells bytes file_count magic chain leaves c before after t status.BadChain none served = absurd (none tt)
 
--- the block files can't be read
-pub unread_ends : {A T : Type 0} (tells : Type 0) (bytes : A → ℕ → List ℕ) (file_count : A → ℕ)
-    (words : List (List ℕ)) (turns calls of_link low high : ℕ) (before after : A) (e : FileFault)
-    → AreCommand words → OnlyReads {T = T} tells (bytes before) (bytes after) low high fault.Failed (Err e)
-    → (e ≡ fault.Bad → IsBadFile tells words (bytes before) (bytes after))
-    → Ends tells bytes file_count words (record {
+-- nobody was served from an index that is open
+pub start_ends : {A T : Type 0} (tells : Type 0) (bytes : A → ℕ → List ℕ) (file_count : A → ℕ)
+    (magic : List ℕ) (chain : Chain) (leaves : Chain → Chain → Type 0)
+    (turns calls of_link low high of_disk now : ℕ) (before after : A) (e : StartFault)
+    → OnlyReads {T = T} tells (bytes before) (bytes after) low high start.ArchiveFailed (Err e)
+    → CountsOnly {T = T} of_disk now start.DiskFailed (Err e)
+    → (e ≡ start.OtherChain → (nodes : List Node)
+    × IsScanned tells bytes file_count magic before after nodes
+    × (is_other_chain (nodes_of_chain chain) nodes ≡ true))
+    → leaves chain chain
+    → ServeEnds tells bytes file_count magic chain leaves (record {
       turns = turns;
       calls_before = calls;
       calls_after = calls;
-      faults_before = faults of_link low 0;
-      faults_after = faults of_link high 0;
+      faults_before = faults of_link low of_disk;
+      faults_after = faults of_link high now;
     })
-    before after no_traffic (unread_status e)
-unread_ends tells bytes file_count words turns calls of_link low high before after fault.Failed command reads
-    bad = (
-      command,
-      record {
-        traffic = refl;
-        calls = refl;
-        rose = record { link = rose_none of_link; archive = reads.counted refl; disk = rose_none 0 };
-      },
-    )
-unread_ends tells bytes file_count words turns calls of_link low high before after fault.Memory command reads
-    bad =
+    before after no_traffic (start_status e)
+start_ends tells bytes file_count magic chain leaves turns calls of_link low high of_disk now before after
+    start.DiskFailed reads counts other left =
     inl (
-      command,
-      record {
-        traffic = refl;
-        calls = refl;
-        rose = record {
-          link = rose_none of_link;
-          archive = rw (reads.others_uncounted (λ e. cc))
-              (rose_none low);
-          disk = rose_none 0;
-        };
-      },
-    )
-unread_ends tells bytes file_count words turns calls of_link low high before after fault.Bad command reads
-    bad = (
-      bad refl,
       record {
         traffic = refl;
         calls = refl;
         rose = record {
           link = rose_none of_link;
           archive = rw (reads.others_uncounted (λ e. cc)) (rose_none low);
-          disk = rose_none 0;
+          disk = counts.counted refl;
         };
       },
+      left,
     )
+start_ends tells bytes file_count magic chain leaves turns calls of_link low high of_disk now before after
+    start.ArchiveFailed reads counts other left = (
+      record {
+        traffic = refl;
+        calls = refl;
+        rose = record {
+          link = rose_none of_link;
+          archive = reads.counted refl;
+          disk = rw (counts.others_uncounted (λ e. cc)) (rose_none of_disk);
+        };
+      },
+      left,
+    )
+start_ends tells bytes file_count magic chain leaves turns calls of_link low high of_disk now before after
+    start.OtherChain reads counts other left =
+    let o = other refl in (
+      record { nodes = o.0; scanned = o.1; other = o.2 },
+      record {
+        traffic = refl;
+        calls = refl;
+        rose = record {
+          link = rose_none of_link;
+          archive = rw (reads.others_uncounted (λ e. cc)) (rose_none low);
+          disk = rw (counts.others_uncounted (λ e. cc)) (rose_none of_disk);
+        };
+      },
+      left,
+    )
+start_ends tells bytes file_count magic chain leaves turns calls of_link low high of_disk now before after
+    start.Memory reads counts other left =
+    inl (
+      record {
+        traffic = refl;
+        calls = refl;
+        rose = record {
+          link = rose_none of_link;
+          archive = rw (reads.others_uncounted (λ e. cc)) (rose_none low);
+          disk = rw (counts.others_uncounted (λ e. cc)) (rose_none of_disk);
+        };
+      },
+      left,
+    )
+
+-- clients were served without a node
+pub served_once : (tells : Type 0) (magic : List ℕ) (c : Counts) (before after : ℕ → List ℕ)
+    (t : Traffic) (s : Status)
+    → (IsUnserved s → ⊥) → IsServedOnce tells magic c before after t s
+    → OnceEnds tells magic c before after t s
+served_once tells magic c before after t status.Ended none served = served
+served_once tells magic c before after t status.Usage none served = absurd (none tt)
+served_once tells magic c before after t status.BadIndex none served = absurd (none tt)
+served_once tells magic c before after t status.ArchiveFailed none served = absurd (none tt)
+served_once tells magic c before after t status.DiskFailed none served = served
+served_once tells magic c before after t status.LinkFailed none served = served
+served_once tells magic c before after t status.OutOfMemory none served = inr served
+served_once tells magic c before after t status.TurnsSpent none served = served
+served_once tells magic c before after t status.OtherChain none served = absurd (none tt)
+served_once tells magic c before after t status.BadChain none served = absurd (none tt)
+
+-- the block files can't be read
+pub unread_ends : {T : Type 0} (tells : Type 0) (magic : List ℕ) (turns calls of_link low high of_disk : ℕ)
+    (before after : ℕ → List ℕ) (e : FileFault)
+    → OnlyReads {T = T} tells before after low high fault.Failed (Err e)
+    → (e ≡ fault.Bad → IsBadFile tells magic before after)
+    → OnceEnds tells magic (record {
+      turns = turns;
+      calls_before = calls;
+      calls_after = calls;
+      faults_before = faults of_link low of_disk;
+      faults_after = faults of_link high of_disk;
+    })
+    before after no_traffic (unread_status e)
+unread_ends tells magic turns calls of_link low high of_disk before after fault.Failed reads bad = record {
+  traffic = refl;
+  calls = refl;
+  rose = record { link = rose_none of_link; archive = reads.counted refl; disk = rose_none of_disk };
+}
+unread_ends tells magic turns calls of_link low high of_disk before after fault.Memory reads bad =
+    inl (record {
+      traffic = refl;
+      calls = refl;
+      rose = record {
+        link = rose_none of_link;
+        archive = rw (reads.others_uncounted (λ e. cc)) (rose_none low);
+        disk = rose_none of_disk;
+      };
+    })
+unread_ends tells magic turns calls of_link low high of_disk before after fault.Bad reads bad = (
+  bad refl,
+  record {
+    traffic = refl;
+    calls = refl;
+    rose = record {
+      link = rose_none of_link;
+      archive = rw (reads.others_uncounted (λ e. cc)) (rose_none low);
+      disk = rose_none of_disk;
+    };
+  },
+)

@@ -11,7 +11,7 @@ use Rattle.el_chain.specs.Chains.{Chain}
 use Rattle.el_model.specs.Lines.{LineEvent, line, too_long}
 use Rattle.el_model.specs.NodeLines.{NodeLine, block, tip, tx, dropped}
 use Rattle.el_model.specs.Sessions.{Session}
-use Rattle.el_model.specs.Replies.{Reply, IsReply, listed, too_large, invalid}
+use Rattle.el_model.specs.Replies.{Reply, IsReply, answered, too_large, invalid}
 use Rattle.el_model.specs.World.{World, Event, joins, leaves, says, orders, Outs, Takes, Orders, Moving, commits, refuses, Tips, unknown, unconnected, along, GoesAlong, deep, there, moves, Replied, is_peer, is_client, without_client, client_limit}
 use Rattle.el_model.specs.Run.{Loss, OneTurn, takes, works, fails, departs, Fails, in_block, in_first_move, in_later_move, in_request}
 use Rattle.el_model.proofs.Cuts.{either}
@@ -72,7 +72,7 @@ by_failure tells world done loss outs next
     record { none = rw are refl; same = rw gone refl }
 by_failure tells world done loss outs next (in_later_move files busy is lost grows are gone) =
     record { none = rw are refl; same = rw gone refl }
-by_failure tells world done loss outs next (in_request p bytes id script still client asks is lost are gone) =
+by_failure tells world done loss outs next (in_request p m bytes id script still client asks is lost are gone) =
     record { none = rw are refl; same = rw gone refl }
 
 -- a client is closed
@@ -87,8 +87,8 @@ shut story world p reason outs next client is gone are = record {
 -- today each reply leaves the session as it was, and closes nobody
 replied_so : (chain : Chain) (session : Session) (bytes : List ℕ) (reply : Reply)
     → IsReply chain session bytes reply → (reply.session ≡ session) × (reply.closes ≡ false)
-replied_so chain session bytes reply (listed id script asks few is) = rw is (refl, refl)
-replied_so chain session bytes reply (too_large id script asks many is) = rw is (refl, refl)
+replied_so chain session bytes reply (answered m id script asks few is) = rw is (refl, refl)
+replied_so chain session bytes reply (too_large m id script asks many is) = rw is (refl, refl)
 replied_so chain session bytes reply (invalid none is) = rw is (refl, refl)
 
 by_line : (story : Story) (world : World) (p : ℕ) (bytes : List ℕ) (found : Option Session) (outs : Outs)

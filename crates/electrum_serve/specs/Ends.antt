@@ -4,29 +4,14 @@ use Rattle.el_outside.specs.Files.{AllGrow, IsFile}
 use Rattle.el_chain.specs.declared.node.Node.{Node}
 use Rattle.el_chain.specs.Chains.{Chain}
 use Rattle.el_model.specs.World.{quiet_world}
-use Rattle.el_model.specs.Run.{Loss, archive}
-use Rattle.el_words.specs.Commands.{IsCommand, IsNoCommand, IsServe, IsOnce}
+use Rattle.el_model.specs.Run.{Loss, archive, disk}
+use Rattle.el_words.specs.Commands.{IsNoCommand, IsServe, IsOnce}
 use Rattle.electrum_serve.specs.File.{GivesNoChain}
-use Rattle.electrum_serve.specs.Opened.{all_added, IsScanned, IsRead}
+use Rattle.electrum_serve.specs.Opened.{all_added, nodes_of_chain, IsScanned, IsRead}
+use Rattle.electrum_serve.specs.OtherChain.{is_other_chain}
 use Rattle.electrum_serve.specs.Runs.{Counts, Traffic, no_traffic, Rose, RunEnds}
 use Rattle.electrum_serve.specs.declared.status.Status.{Status}
 use Rattle.electrum_serve.specs.declared.status.Status.TheVariants as status
-use Rattle.el_words.specs.declared.words.Command.{Command}
-
--- What was served. `before` and `after` are the archive before the call and after it.
-pub data IsServed {A : Type 0} (tells : Type 0) (bytes : A → ℕ → List ℕ) (file_count : A → ℕ)
-    (words : List (List ℕ)) (c : Counts) (before after : A) (t : Traffic) (s : Status) : Type 0 where
-  -- `serve`: a node and clients, from the empty chain with the headers that the scan of all files found
-  serve : (magic : List ℕ) (now : A) (nodes : List Node) → IsServe words magic
-      → IsScanned tells bytes file_count magic before now nodes → (tells → AllGrow (bytes now) (bytes after))
-      → RunEnds tells (quiet_world [] magic (all_added [] nodes) (bytes now)) true (bytes after) c t s
-      → IsServed tells bytes file_count words c before after t s
-  -- `once`: clients without a node, from the chain that file 0 gives, with its headers
-  once : (magic : List ℕ) (now : A) (nodes : List Node) (chain : Chain) → IsOnce words magic
-      → IsRead tells (bytes before) (bytes now) magic nodes chain
-      → (tells → AllGrow (bytes now) (bytes after))
-      → RunEnds tells (quiet_world chain magic (all_added [] nodes) (bytes now)) false (bytes after) c t s
-      → IsServed tells bytes file_count words c before after t s
 
 -- the link was not called, and these calls failed
 pub record IsSilent (c : Counts) (t : Traffic) (losses : List Loss) : Type 0 where
@@ -34,44 +19,106 @@ pub record IsSilent (c : Counts) (t : Traffic) (losses : List Loss) : Type 0 whe
   pub calls : c.calls_after ≡ c.calls_before
   pub rose : Rose c.faults_before c.faults_after losses
 
--- the words are those of some command
-abbrev pub AreCommand : List (List ℕ) → Type 0
-AreCommand words = (command : Command) × IsCommand words command
+-- A node and clients were served, from the chain that the index had, with the headers of its blocks and then
+-- those that the scan of all block files found. `before` and `after` are the archive before the call and
+-- after it.
+pub record IsServed {A : Type 0} (tells : Type 0) (bytes : A → ℕ → List ℕ) (file_count : A → ℕ)
+    (magic : List ℕ) (chain : Chain) (leaves : Chain → Chain → Type 0) (c : Counts) (before after : A)
+    (t : Traffic) (s : Status) : Type 0 where
+  pub now : A
+  pub nodes : List Node
+  pub scanned : IsScanned tells bytes file_count magic before now nodes
+  pub same : is_other_chain (nodes_of_chain chain) nodes ≡ false
+  pub grows : tells → AllGrow (bytes now) (bytes after)
+  pub run : RunEnds tells
+      (quiet_world chain magic (all_added (all_added [] (nodes_of_chain chain)) nodes) (bytes now)) true
+      leaves (bytes after) c t s
+
+-- the block files are those of another chain than the index's
+pub record IsOtherChain {A : Type 0} (tells : Type 0) (bytes : A → ℕ → List ℕ) (file_count : A → ℕ)
+    (magic : List ℕ) (chain : Chain) (before after : A) : Type 0 where
+  pub nodes : List Node
+  pub scanned : IsScanned tells bytes file_count magic before after nodes
+  pub other : is_other_chain (nodes_of_chain chain) nodes ≡ true
+
+-- How a call with the words of `serve` ends, once the index is open and has this chain. `leaves` says of two
+-- chains that all that a crash may leave in the end stands for the one or for the other.
+abbrev pub ServeEnds : {A : Type 0} → Type 0 → (A → ℕ → List ℕ) → (A → ℕ) → List ℕ → Chain
+    → (Chain → Chain → Type 0) → Counts → A → A → Traffic → Status → Type 0
+ServeEnds tells bytes file_count magic chain leaves c before after t status.Ended =
+    IsServed tells bytes file_count magic chain leaves c before after t status.Ended
+ServeEnds tells bytes file_count magic chain leaves c before after t status.LinkFailed =
+    IsServed tells bytes file_count magic chain leaves c before after t status.LinkFailed
+ServeEnds tells bytes file_count magic chain leaves c before after t status.TurnsSpent =
+    IsServed tells bytes file_count magic chain leaves c before after t status.TurnsSpent
+-- a call of the block files failed before the first arrival
+ServeEnds tells bytes file_count magic chain leaves c before after t status.ArchiveFailed =
+    IsSilent c t (archive ∷ []) × leaves chain chain
+ServeEnds tells bytes file_count magic chain leaves c before after t status.OtherChain =
+    IsOtherChain tells bytes file_count magic chain before after × IsSilent c t [] × leaves chain chain
+-- a call of the index's device failed before the first arrival, or in the run
+ServeEnds tells bytes file_count magic chain leaves c before after t status.DiskFailed =
+    (IsSilent c t (disk ∷ []) × leaves chain chain)
+    ⊎ IsServed tells bytes file_count magic chain leaves c before after t status.DiskFailed
+-- out of memory before the first arrival, or in the run
+ServeEnds tells bytes file_count magic chain leaves c before after t status.OutOfMemory =
+    (IsSilent c t [] × leaves chain chain)
+    ⊎ IsServed tells bytes file_count magic chain leaves c before after t status.OutOfMemory
+ServeEnds tells bytes file_count magic chain leaves c before after t other = ⊥
+
+-- Clients were served without a node, from the chain that file 0 gives, with its headers. No crash is spoken
+-- of.
+pub record IsServedOnce (tells : Type 0) (magic : List ℕ) (c : Counts) (before after : ℕ → List ℕ)
+    (t : Traffic) (s : Status) : Type 0 where
+  pub now : ℕ → List ℕ
+  pub nodes : List Node
+  pub chain : Chain
+  pub read : IsRead tells before now magic nodes chain
+  pub grows : tells → AllGrow now after
+  pub run : RunEnds tells (quiet_world chain magic (all_added [] nodes) now) false (λ acked flight. Unit {0})
+      after c t s
 
 -- file 0, as it was when its size was told, gives no chain
-pub record IsBadFile (tells : Type 0) (words : List (List ℕ)) (before after : ℕ → List ℕ) : Type 0 where
-  pub magic : List ℕ
-  pub once : IsOnce words magic
-  pub of_file : tells → (file : List ℕ) × IsFile (before 0) file (after 0) × GivesNoChain magic file
+abbrev pub IsBadFile : Type 0 → List ℕ → (ℕ → List ℕ) → (ℕ → List ℕ) → Type 0
+IsBadFile tells magic before after =
+    tells → (file : List ℕ) × IsFile (before 0) file (after 0) × GivesNoChain magic file
 
--- Each status has its cause.
-abbrev pub Ends : {A : Type 0} → Type 0 → (A → ℕ → List ℕ) → (A → ℕ) → List (List ℕ) → Counts → A → A
-    → Traffic
-    → Status → Type 0
-Ends tells bytes file_count words c before after t status.Ended =
-    IsServed tells bytes file_count words c before after t status.Ended
-Ends tells bytes file_count words c before after t status.LinkFailed =
-    IsServed tells bytes file_count words c before after t status.LinkFailed
-Ends tells bytes file_count words c before after t status.TurnsSpent =
-    IsServed tells bytes file_count words c before after t status.TurnsSpent
-Ends tells bytes file_count words c before after t status.DiskFailed =
-    IsServed tells bytes file_count words c before after t status.DiskFailed
--- out of memory before the first arrival, or in the run
-Ends tells bytes file_count words c before after t status.OutOfMemory =
-    (AreCommand words × IsSilent c t [])
-    ⊎ IsServed tells bytes file_count words c before after t status.OutOfMemory
--- the words are others
-Ends tells bytes file_count words c before after t status.Usage = IsNoCommand words × IsSilent c t []
+-- How a call with the words of `once` ends.
+abbrev pub OnceEnds : Type 0 → List ℕ → Counts → (ℕ → List ℕ) → (ℕ → List ℕ) → Traffic → Status → Type 0
+OnceEnds tells magic c before after t status.Ended = IsServedOnce tells magic c before after t status.Ended
+OnceEnds tells magic c before after t status.LinkFailed =
+    IsServedOnce tells magic c before after t status.LinkFailed
+OnceEnds tells magic c before after t status.TurnsSpent =
+    IsServedOnce tells magic c before after t status.TurnsSpent
+OnceEnds tells magic c before after t status.DiskFailed =
+    IsServedOnce tells magic c before after t status.DiskFailed
 -- a call of the block files failed before the first arrival
-Ends tells bytes file_count words c before after t status.ArchiveFailed =
-    AreCommand words × IsSilent c t (archive ∷ [])
+OnceEnds tells magic c before after t status.ArchiveFailed = IsSilent c t (archive ∷ [])
+-- out of memory before the first arrival, or in the run
+OnceEnds tells magic c before after t status.OutOfMemory =
+    IsSilent c t [] ⊎ IsServedOnce tells magic c before after t status.OutOfMemory
 -- file 0 gives no chain
-Ends tells bytes file_count words c before after t status.BadChain =
-    IsBadFile tells words (bytes before) (bytes after) × IsSilent c t []
+OnceEnds tells magic c before after t status.BadChain = IsBadFile tells magic before after × IsSilent c t []
+OnceEnds tells magic c before after t other = ⊥
 
 -- the statuses with which nobody was served
 abbrev pub IsUnserved : Status → Type 0
 IsUnserved status.Usage = Unit {0}
+IsUnserved status.BadIndex = Unit {0}
 IsUnserved status.ArchiveFailed = Unit {0}
+IsUnserved status.OtherChain = Unit {0}
 IsUnserved status.BadChain = Unit {0}
 IsUnserved other = ⊥
+
+-- How a call ends. The words of `serve` ask for an index, which has this chain.
+pub data Ends {A : Type 0} (tells : Type 0) (bytes : A → ℕ → List ℕ) (file_count : A → ℕ)
+    (words : List (List ℕ)) (chain : Chain) (leaves : Chain → Chain → Type 0) (c : Counts) (before after : A)
+    (t : Traffic) (s : Status) : Type 0 where
+  usage : IsNoCommand words → s ≡ status.Usage → IsSilent c t []
+      → Ends tells bytes file_count words chain leaves c before after t s
+  serve : (magic : List ℕ) → IsServe words magic
+      → ServeEnds tells bytes file_count magic chain leaves c before after t s
+      → Ends tells bytes file_count words chain leaves c before after t s
+  once : (magic : List ℕ) → IsOnce words magic
+      → OnceEnds tells magic c (bytes before) (bytes after) t s
+      → Ends tells bytes file_count words chain leaves c before after t s

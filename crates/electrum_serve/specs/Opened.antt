@@ -1,8 +1,10 @@
 -- What the program knows before the first arrival.
-use Rattle.std.specs.Prelude.{◌≡◌, ℕ, List, [], ◌∷◌}
+use Rattle.std.specs.Prelude.{◌≡◌, ℕ, List, [], ◌∷◌, map}
 use Rattle.std.specs.List.{AllByRecursion}
 use Rattle.el_outside.specs.Files.{AllGrow, IsFile}
+use Rattle.el_block.specs.Blocks.{block_hash}
 use Rattle.el_chain.specs.declared.node.Node.{Node}
+use Rattle.el_chain.specs.declared.placed.Placed.{Placed}
 use Rattle.el_chain.specs.Chains.{Chain}
 use Rattle.el_chain.specs.Faults.{IsGood}
 use Rattle.el_chain.specs.Headers.{added}
@@ -13,6 +15,14 @@ use Rattle.el_files.specs.Scanning.{AllFiles}
 abbrev pub all_added : List Node → List Node → List Node
 all_added found [] = found
 all_added found (n ∷ ns) = all_added (added found n) ns
+
+-- what is known of a block of a chain: its hash, its header, and the place of its record
+abbrev pub node_of_block : Placed → Node
+node_of_block b = record { hash = block_hash b.block.header; header = b.block.header; place = b.place }
+
+-- the nodes of the chain's blocks, in their order
+abbrev pub nodes_of_chain : Chain → List Node
+nodes_of_chain chain = map node_of_block chain
 
 -- The nodes are those of all records of all block files, each file as it was when its size was told, in the
 -- order of their places. `now` is the archive after that scan.

@@ -4,8 +4,10 @@ use Rattle.std.specs.List.{AllByRecursion}
 use Rattle.el_outside.specs.Counts.{RoseBy}
 use Rattle.el_outside.specs.Files.{AllGrow}
 use Rattle.el_outside.specs.Story.{ArrivalWithBytes, opened, brought, closed, quiet, ended, Message, Closing}
+use Rattle.el_chain.specs.Chains.{Chain}
 use Rattle.el_model.specs.World.{World, without_node}
 use Rattle.el_model.specs.Run.{Run, Halts, Stop, by_disk, by_link, by_memory, Loss, link, link_losses, archive_losses, disk_losses}
+use Rattle.electrum_serve.specs.Crash.{acked, MayBeInFlight}
 use Rattle.electrum_serve.specs.declared.status.Status.{Status}
 use Rattle.electrum_serve.specs.declared.status.Status.TheVariants as status
 
@@ -87,39 +89,45 @@ taken true arrivals = arrivals
 taken false arrivals = map without_node arrivals
 
 -- The traffic is that of a run from the first world, all turns of which were made. `tells` is whether the
--- block files tell their bytes, and `files` are those as they are in the end.
-pub record IsRun (tells : Type 0) (first : World) (node : Bool) (files : ℕ → List ℕ) (c : Counts)
-    (t : Traffic)
-    (failed : List Loss) : Type 0 where
+-- block files tell their bytes, and `files` are those as they are in the end. `leaves` says of two chains
+-- that all that a crash may leave in the end stands for the one, which is acknowledged, or for the other,
+-- which is in flight.
+pub record IsRun (tells : Type 0) (first : World) (node : Bool) (leaves : Chain → Chain → Type 0)
+    (files : ℕ → List ℕ) (c : Counts) (t : Traffic) (failed : List Loss) : Type 0 where
   pub losses : List Loss
   pub world : World
   pub run : Run tells first (taken node t.arrivals) t.messages t.closings losses world
   pub grown : tells → AllGrow world.files files
   pub counted : IsCounted c t losses failed
+  pub crash : leaves world.chain world.chain
 
 -- The traffic is that of a run that stopped so in its last arrival.
-pub record IsHalted (tells : Type 0) (first : World) (node : Bool) (c : Counts) (t : Traffic) (stop : Stop)
-    : Type 0 where
+pub record IsHalted (tells : Type 0) (first : World) (node : Bool) (leaves : Chain → Chain → Type 0)
+    (c : Counts) (t : Traffic) (stop : Stop) : Type 0 where
   pub losses : List Loss
   pub halts : Halts tells first stop (taken node t.arrivals) t.messages t.closings losses
   pub counted : IsCounted c t losses []
   pub last : NoneEndsBefore t.arrivals
+  pub flight : Chain
+  pub is_flight : MayBeInFlight halts.stops flight
+  pub crash : leaves (acked halts.stops) flight
 
 -- How a run ends.
-abbrev pub RunEnds : Type 0 → World → Bool → (ℕ → List ℕ) → Counts → Traffic → Status → Type 0
+abbrev pub RunEnds : Type 0 → World → Bool → (Chain → Chain → Type 0) → (ℕ → List ℕ) → Counts → Traffic
+    → Status → Type 0
 -- nothing comes any more, or peer 0 left
-RunEnds tells first node files c t status.Ended = IsRun tells first node files c t [] × LastEnds t.arrivals
+RunEnds tells first node leaves files c t status.Ended =
+    IsRun tells first node leaves files c t [] × LastEnds t.arrivals
 -- the last call of `next` failed, or an answer to the node couldn't be sent
-RunEnds tells first node files c t status.LinkFailed =
-    (IsRun tells first node files c t next_failed × NoneEnds t.arrivals)
-    ⊎ IsHalted tells first node c t by_link
+RunEnds tells first node leaves files c t status.LinkFailed =
+    (IsRun tells first node leaves files c t next_failed × NoneEnds t.arrivals)
+    ⊎ IsHalted tells first node leaves c t by_link
 -- all calls of `next` were made, and none ended the run
-RunEnds tells first node files c t status.TurnsSpent =
-    IsRun tells first node files c t [] × NoneEnds t.arrivals × (length t.arrivals ≡ c.turns)
+RunEnds tells first node leaves files c t status.TurnsSpent =
+    IsRun tells first node leaves files c t [] × NoneEnds t.arrivals × (length t.arrivals ≡ c.turns)
 -- a call of the index's device failed in a turn of the node
-RunEnds tells first node files c t status.DiskFailed = IsHalted tells first node c t by_disk
+RunEnds tells first node leaves files c t status.DiskFailed = IsHalted tells first node leaves c t by_disk
 -- no memory was found for bytes of the node, in a turn of it, or for an answer to it
-RunEnds tells first node files c t status.OutOfMemory = IsHalted tells first node c t by_memory
-RunEnds tells first node files c t status.Usage = ⊥
-RunEnds tells first node files c t status.ArchiveFailed = ⊥
-RunEnds tells first node files c t status.BadChain = ⊥
+RunEnds tells first node leaves files c t status.OutOfMemory = IsHalted tells first node leaves c t by_memory
+-- it ends in no other way
+RunEnds tells first node leaves files c t other = ⊥

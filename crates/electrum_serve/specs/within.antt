@@ -1,4 +1,3 @@
-pub mod Paths
 pub mod Devices
 pub mod Sending
 pub mod Progress

@@ -1,17 +1,17 @@
 //! An Electrum server over block files.
 #![tactic(auto)]
 
-mod devices;
 mod file;
+mod index_headers;
 mod opening;
+mod other_chain;
 mod program;
 mod running;
 mod serving;
+mod starting;
 mod status;
 
-pub use devices::block_files::BlockFiles;
-pub use devices::nobody::{NoFiles, NoLink};
-pub use devices::standard_link::StandardLink;
+pub use el_net::{BlockFiles, NoFiles, NoLink, StandardLink};
 pub use el_words::{Command, Network, OnceWords, ServeWords, once_of, read_words, serve_of};
 use program::{serve_all, tell_end};
 pub use serving::serve;

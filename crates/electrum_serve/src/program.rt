@@ -6,12 +6,10 @@ ghost use Rattle.el_words.specs.Commands.{IsNoCommand};
 ghost use Rattle.electrum_serve.specs.within.Devices.{folder_of};
 ghost use Rattle.electrum_serve.specs.Statuses.{code_of};
 
-use crate::devices::block_files::BlockFiles;
-use crate::devices::nobody::{NoFiles, NoLink};
-use crate::devices::standard_link::StandardLink;
 use crate::serving::serve;
 use crate::status::Status;
 use el_base::OutOfMemory;
+use el_net::{BlockFiles, NoFiles, NoLink, StandardLink};
 use el_words::{Command, read_words};
 use std::alloc::Global;
 use std::process::ExitCode;

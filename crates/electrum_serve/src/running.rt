@@ -9,6 +9,8 @@ ghost use Rattle.el_core.specs.State.{State, Stands, IsIdle, work};
 ghost use Rattle.el_core.specs.Arrivals.{with_all_bytes, IsAfterArrival};
 ghost use Rattle.el_core.specs.Turn as turn;
 ghost use Rattle.el_core.specs.Turn.{messages_of, closing_of, outs_of};
+ghost use Rattle.electrum_serve.specs.Crash.{LeavesEither};
+ghost use Rattle.electrum_serve.specs.Ends.{IsUnserved};
 ghost use Rattle.electrum_serve.specs.Runs.{Traffic, faults, RunEnds, is_end};
 ghost use Rattle.electrum_serve.specs.within.Sending.{Sent, Unsent, CanSend, SentAll, StoppedSending, closing_left, first_some, Closes, LossOf, stop_of, status_of};
 ghost use Rattle.electrum_serve.specs.within.Progress.{CanDeliver, Delivered, ClientsAreOpen, Finished, Stopped, StoppedIn, seen, taken_one};
@@ -34,7 +36,8 @@ pub enum Halt {
 impl Halt {
     // How the program then ends.
     pub fn status(self) -> Status
-        ensures { result ≡ status_of self }
+        ensures value { result ≡ status_of self }
+        ensures serves { IsUnserved result → ⊥ }
     {
         match self {
             Halt::Disk => Status::DiskFailed,
@@ -202,7 +205,8 @@ fn work_off<G: Ledger, A: Archive, K: Link, L: Counts + Send>(
     ensures stopped { (world : World) (all : List Event) → Stands G.stands server.old world all
         → (A.tells → AllGrow world.files (A.bytes archive.old))
         → (K.tells → ClientsAreOpen server.old world (K.story link.old))
-        → IfErr result (λ halt. Stopped K.tells A.tells world all (stop_of halt)
+        → IfErr result (λ halt. Stopped K.tells A.tells
+        (LeavesEither G.tells_crash G.means G.moment G.left_since server.new.ledger) world all (stop_of halt)
         (seen (K.story link.old) (A.bytes archive.old) (K.faults link.old) (A.faults archive.old)
         (G.faults server.old.ledger))
         (seen (K.story link.new) (A.bytes archive.new) (K.faults link.new) (A.faults archive.new)
@@ -284,7 +288,9 @@ fn serve_arrival<G: Ledger, A: Archive, K: Link, L: Counts + Send>(
         → IsAfterArrival (with_all_bytes arrival bytes.now) world next s.surplus
         → ClientsAreOpen s next (K.story link.old))
         → IfErr result (λ halt.
-        StoppedIn K.tells A.tells world (with_all_bytes arrival bytes.now) (stop_of halt)
+        StoppedIn K.tells A.tells
+        (LeavesEither G.tells_crash G.means G.moment G.left_since server.new.ledger)
+        world (with_all_bytes arrival bytes.now) (stop_of halt)
         (seen (K.story link.old) (A.bytes archive.old) (K.faults link.old) (A.faults archive.old)
         (G.faults server.old.ledger)) (seen (K.story link.new) (A.bytes archive.new) (K.faults link.new)
         (A.faults archive.new) (G.faults server.new.ledger))) }
@@ -315,13 +321,16 @@ pub fn run<G: Ledger, A: Archive, K: Link, L: Counts + Send>(
         → (traffic : Traffic)
         × (K.tells → GoesOn (K.story link.old) (K.story link.new)
         traffic.arrivals traffic.messages traffic.closings)
-        × RunEnds A.tells first node (A.bytes archive.new) (record {
+        × RunEnds A.tells first node
+        (LeavesEither G.tells_crash G.means G.moment G.left_since server.new.ledger)
+        (A.bytes archive.new) (record {
           turns = turns;
           calls_before = K.calls link.old;
           calls_after = K.calls link.new;
           faults_before = faults (K.faults link.old) (A.faults archive.old) (G.faults server.old.ledger);
           faults_after = faults (K.faults link.new) (A.faults archive.new) (G.faults server.new.ledger);
         }) traffic result }
+    ensures serves { IsUnserved result → ⊥ }
     ensures keeps { A.tells → AllGrow (A.bytes archive.old) (A.bytes archive.new) }
 {
     let mut buf = [0u8; BUFFER_SIZE];

@@ -9,6 +9,8 @@ pub enum Status {
     Ended,
     /// The words are not those of a command.
     Usage,
+    /// What is on the index's device is no index of the network.
+    BadIndex,
     /// The block files failed.
     ArchiveFailed,
     /// A call of the index's device failed.
@@ -19,6 +21,8 @@ pub enum Status {
     OutOfMemory,
     /// All turns were made.
     TurnsSpent,
+    /// The block files are those of another chain than the index's.
+    OtherChain,
     /// File 0 is no chain.
     BadChain,
 }
@@ -31,11 +35,13 @@ impl Status {
         match self {
             Status::Ended => 0,
             Status::Usage => 2,
+            Status::BadIndex => 3,
             Status::ArchiveFailed => 4,
             Status::DiskFailed => 5,
             Status::LinkFailed => 6,
             Status::OutOfMemory => 7,
             Status::TurnsSpent => 8,
+            Status::OtherChain => 9,
             Status::BadChain => 10,
         }
     }
@@ -47,11 +53,13 @@ impl Status {
         match self {
             Status::Ended => "electrum_serve: ended\n",
             Status::Usage => "electrum_serve: usage\n",
+            Status::BadIndex => "electrum_serve: bad index\n",
             Status::ArchiveFailed => "electrum_serve: block files failed\n",
             Status::DiskFailed => "electrum_serve: index device failed\n",
             Status::LinkFailed => "electrum_serve: link failed\n",
             Status::OutOfMemory => "electrum_serve: out of memory\n",
             Status::TurnsSpent => "electrum_serve: turns spent\n",
+            Status::OtherChain => "electrum_serve: other chain\n",
             Status::BadChain => "electrum_serve: bad chain\n",
         }
     }

@@ -6,6 +6,7 @@ mod calls;
 mod changing_file;
 mod ends;
 mod failing_calls;
+mod indexed;
 mod names;
 mod refused_blocks;
 mod runs;

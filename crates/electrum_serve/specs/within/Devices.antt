@@ -1,28 +1,7 @@
--- What contracts see of the program's own devices.
-use Rattle.std.specs.Prelude.{◌≡◌, ◌==◌, ℕ, Bool, if◌then◌else◌, List, Result, Ok, Err, IsErr}
-use Rattle.el_outside.specs.declared.link.Arrival.{Arrival}
-use Rattle.el_outside.specs.declared.link.Arrival.TheVariants as arrival
-use Rattle.el_outside.specs.declared.link.LinkFailed.{LinkFailed}
+-- The devices that a command asks for.
+use Rattle.std.specs.Prelude.{ℕ, List}
 use Rattle.el_words.specs.declared.words.Command.{Command}
 use Rattle.el_words.specs.declared.words.Command.TheVariants as command
-
--- block files: their folder, and how often a call has failed
-pub record FolderFiles : Type 0 where
-  pub folder : List ℕ
-  pub faults : ℕ
-
--- a link: the last client that came, or 0, how often `next` was called, and how often a call has failed
-pub record LinkCounts : Type 0 where
-  pub last : ℕ
-  pub calls : ℕ
-  pub faults : ℕ
-
--- What a read of the one client's bytes brings: at the end of input nothing comes any more, bytes of a
--- client that was closed are thrown away, and a read that failed is a failure of the link.
-abbrev pub IsArrivalOf : {E : Type 0} → Result ℕ E → Bool → Result Arrival LinkFailed → Type 0
-IsArrivalOf (Ok n) is_closed result =
-    result ≡ Ok (if n == 0 then arrival.Ended else (if is_closed then arrival.Quiet else arrival.Bytes 1 n))
-IsArrivalOf (Err e) is_closed result = IsErr result
 
 -- the folder of block files that a command asks for
 abbrev pub folder_of : Command → List ℕ

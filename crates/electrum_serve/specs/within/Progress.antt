@@ -7,6 +7,7 @@ use Rattle.el_chain.specs.Chains.{Chain}
 use Rattle.el_model.specs.World.{World, Event, is_client, without_node, Outs}
 use Rattle.el_model.specs.Run.{Stop, Loss, link_losses, Turns, Stops, StopsIn, Delivers, Run}
 use Rattle.el_core.specs.State.{State, Stands}
+use Rattle.electrum_serve.specs.Crash.{IsInFlight, acked, MayBeInFlight}
 use Rattle.electrum_serve.specs.Runs.{Faults, faults, Rose, NoneEnds, taken}
 use Rattle.electrum_serve.specs.within.Sending.{AllOpen, CanSend}
 
@@ -88,10 +89,10 @@ pub record Finished {G : Type 0} (stands : G → Chain → Type 0) (link_tells t
   pub rose : Rose before.faults now.faults losses
   pub grown : tells → AllGrow world.files now.files
 
--- The run stops among the turns for these events.
-pub record Stopped (link_tells tells : Type 0) (first : World) (all : List Event) (stop : Stop)
-    (before now : Seen)
-    : Type 0 where
+-- The run stops among the turns for these events. `leaves` says of two chains that what a crash leaves stands
+-- for the one or for the other.
+pub record Stopped (link_tells tells : Type 0) (leaves : Chain → Chain → Type 0) (first : World)
+    (all : List Event) (stop : Stop) (before now : Seen) : Type 0 where
   pub done : List Event
   pub left : List Event
   pub whole : all ≡ done ++ left
@@ -106,16 +107,22 @@ pub record Stopped (link_tells tells : Type 0) (first : World) (all : List Event
   pub stops : Stops tells world left stop sent closed lost
   pub story : link_tells → GoesOn before.story now.story [] (messages ++ sent) (closings ++ closed)
   pub rose : Rose before.faults now.faults (losses ++ lost)
+  pub flight : Chain
+  pub is_flight : IsInFlight tells world left flight
+  pub crash : leaves world.chain flight
 
 -- The run stops in this arrival.
-pub record StoppedIn (link_tells tells : Type 0) (world : World) (arrival : ArrivalWithBytes) (stop : Stop)
-    (before now : Seen) : Type 0 where
+pub record StoppedIn (link_tells tells : Type 0) (leaves : Chain → Chain → Type 0) (world : World)
+    (arrival : ArrivalWithBytes) (stop : Stop) (before now : Seen) : Type 0 where
   pub messages : List Message
   pub closings : List Closing
   pub losses : List Loss
   pub stops : StopsIn tells world arrival stop messages closings losses
   pub story : link_tells → GoesOn before.story now.story [] messages closings
   pub rose : Rose before.faults now.faults losses
+  pub flight : Chain
+  pub is_flight : MayBeInFlight stops flight
+  pub crash : leaves (acked stops) flight
 
 -- an arrival as it is taken, with a node or without one
 abbrev pub taken_one : Bool → ArrivalWithBytes → ArrivalWithBytes

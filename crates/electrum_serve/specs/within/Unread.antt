@@ -1,10 +1,33 @@
--- How the program ends where the block files can't be read.
+-- How the program ends where it can't read what it begins with.
 use Rattle.electrum_serve.specs.declared.file.FileFault.{FileFault}
 use Rattle.electrum_serve.specs.declared.file.FileFault.TheVariants as fault
+use Rattle.electrum_serve.specs.declared.opening.StartFault.{StartFault}
+use Rattle.electrum_serve.specs.declared.opening.StartFault.TheVariants as start
 use Rattle.electrum_serve.specs.declared.status.Status.{Status}
 use Rattle.electrum_serve.specs.declared.status.Status.TheVariants as status
+use Rattle.el_model.specs.declared.fault.QueryFault.{QueryFault}
+use Rattle.el_model.specs.declared.fault.QueryFault.TheVariants as query
 
+-- of file 0
 abbrev pub unread_status : FileFault → Status
 unread_status fault.Failed = status.ArchiveFailed
 unread_status fault.Memory = status.OutOfMemory
 unread_status fault.Bad = status.BadChain
+
+-- of the index's headers
+abbrev pub index_fault : QueryFault → StartFault
+index_fault query.DiskFailed = start.DiskFailed
+index_fault query.Memory = start.Memory
+
+-- of all block files; a scan tells of no bad file
+abbrev pub start_fault : FileFault → StartFault
+start_fault fault.Failed = start.ArchiveFailed
+start_fault fault.Memory = start.Memory
+start_fault fault.Bad = start.Memory
+
+-- of an index that is open
+abbrev pub start_status : StartFault → Status
+start_status start.DiskFailed = status.DiskFailed
+start_status start.ArchiveFailed = status.ArchiveFailed
+start_status start.OtherChain = status.OtherChain
+start_status start.Memory = status.OutOfMemory

@@ -57,7 +57,7 @@ const RUNS: [(&str, Files, &[Step<'static>], &str); 17] = [
         &[Says(0, "tip {a16}\ntip {a16}\n")],
         "0 at {a15} 15\n0 at {a16} 16\n0 at {a16} 16\n",
     ),
-    // no block is taken back, and a refused line leads nowhere
+    // the last block is taken back, and a refused line leads nowhere
     (
         SERVE,
         Files::Branch(17),
@@ -66,8 +66,7 @@ const RUNS: [(&str, Files, &[Step<'static>], &str); 17] = [
             Says(0, "tip {a0}\ntip {a16}\ntip {a15}\ntip {twos}\n"),
             Says(1, "{asks}{script16}{asked}\n"),
         ],
-        "0 at {a0} 0\n0 at {a16} 16\n0 refused deep 1\n0 refused unknown {twos}\n\
-         1 {lists}{entry16}{listed}\n",
+        "0 at {a0} 0\n0 at {a16} 16\n0 at {a15} 15\n0 refused unknown {twos}\n1 {none}\n",
     ),
     // a second block with no parent is not kept; one whose parent nobody has is
     (
@@ -78,7 +77,7 @@ const RUNS: [(&str, Files, &[Step<'static>], &str); 17] = [
             "block 1 0\ntip {b0}\ntip {lost}\ntip {b1}\ntip {a1}\ntip {a0}\nblock 0 0\n",
         )],
         "0 refused genesis {b0}\n0 refused unknown {b0}\n0 refused unconnected {lost}\n0 at {b1} 1\n\
-         0 refused deep 1\n0 refused deep 1\n0 block {a0}\n",
+         0 at {a1} 1\n0 at {a0} 0\n0 block {a0}\n",
     ),
     // all files are looked at
     (

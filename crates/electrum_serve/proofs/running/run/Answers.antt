@@ -1,4 +1,4 @@
-use Rattle.std.proofs.Common.{refl, sym, ◌∙◌, arith, ap}
+use Rattle.std.proofs.Common.{inl, refl, sym, ◌∙◌, arith, ap}
 use Rattle.el_outside.specs.Story.{with_bytes}
 use Rattle.el_outside.proofs.Stories.{all_grow_none, all_grow_more, rose_none}
 use Rattle.electrum_serve.proofs.Runs.{going_none, one_further, going_more, told_ended, told_spent, told_failed, told_stopped, told_halt, enters}
@@ -19,8 +19,10 @@ loop-turn-init g c = record {
 
 pub returns-clause-ends : goal.returns-clause-ends
 returns-clause-ends g c = λ first stood nobody files.
-    told_spent g.G.Ledger.stands g.K.Link.tells g.A.Archive.tells first c.args.node c.loop-turn._turn
+    told_spent g.G.Ledger.stands g.K.Link.tells g.A.Archive.tells _ first c.args.node c.loop-turn._turn
     c.args.turns c.loop-turn.server _ _ _ _
+    (λ chain stood told left now. inl (g.met.G.Ledger.leaves_own c.loop-turn.server.ledger chain left told
+    c.loop-turn.invariant.live stood now))
     (c.loop-turn.invariant.going first stood nobody files) (let h = c.loop-turn-test.false in
     let k = c.loop-turn.auto._turn-end in omega arith)
 
@@ -38,8 +40,10 @@ returns-in_default-clause-keeps g c = c.loop-turn.invariant.keeps
 
 pub returns-in_default-clause-ends : goal.returns-in_default-clause-ends
 returns-in_default-clause-ends g c = λ first stood nobody files.
-    told_failed g.G.Ledger.stands g.K.Link.tells g.A.Archive.tells first c.args.node c.loop-turn._turn
+    told_failed g.G.Ledger.stands g.K.Link.tells g.A.Archive.tells _ first c.args.node c.loop-turn._turn
     c.args.turns c.loop-turn.server _ _ _ _ _ _
+    (λ chain stood told left now. inl (g.met.G.Ledger.leaves_own c.loop-turn.server.ledger chain left told
+    c.loop-turn.invariant.live stood now))
     (c.loop-turn.invariant.going first stood nobody files) c.in_default.ensures.none_taken refl
     (record { link = c.in_default.ensures.cause.counted; archive = rose_none _; disk = rose_none _ })
     c.next.ensures.called c.loop-turn-test.true
@@ -53,7 +57,7 @@ returns-in-Err-clause-ends g c = λ first stood nobody files.
     is going.are_open (λ t p lt. g.met.K.Link.greater_is_new c.loop-turn.link p t lt) c.in-Ok.ensures.lawful
     c.in-Ok.ensures.took in
     let stopped = c.in-Err.ensures.stopped going.world going.stood going.grown are in
-    rw c.status.ensures (told_halt g.K.Link.tells g.A.Archive.tells first c.args.node c.args.turns _ _
+    rw c.status.ensures.value (told_halt g.K.Link.tells g.A.Archive.tells first c.args.node _ c.args.turns _ _
     (seen (g.K.Link.story c.args.link.now) (g.A.Archive.bytes c.args.archive.now)
     (g.K.Link.faults c.args.link.now)
     (g.A.Archive.faults c.args.archive.now) (g.G.Ledger.faults c.args.server.now.ledger))
@@ -61,7 +65,7 @@ returns-in-Err-clause-ends g c = λ first stood nobody files.
     (g.K.Link.faults c.serve_arrival.new.link)
     (g.A.Archive.faults c.serve_arrival.new.archive) (g.G.Ledger.faults c.serve_arrival.new.server.ledger))
     c.in-Err.halt
-    (told_stopped g.G.Ledger.stands g.K.Link.tells g.A.Archive.tells first c.args.node c.loop-turn._turn
+    (told_stopped g.G.Ledger.stands g.K.Link.tells g.A.Archive.tells _ first c.args.node c.loop-turn._turn
     c.args.turns (with_bytes c.in-Ok.arrival c.next.new.buf) c.loop-turn.server
     _ _ _ _ _ _ _ (stop_of c.in-Err.halt) going c.in-Ok.ensures.took (rw c.in-Ok.ensures.cause.uncounted refl)
     (c.serve_arrival.ensures.same_calls ∙ c.next.ensures.called)
@@ -80,9 +84,11 @@ returns-then-ends-clause-ends g c = λ first stood nobody files.
     is going.are_open (λ t p lt. g.met.K.Link.greater_is_new c.loop-turn.link p t lt) c.in-Ok.ensures.lawful
     c.in-Ok.ensures.took in
     let done = c.in_default-serve_arrival.ensures.served going.world going.stood going.grown are in
-    told_ended g.G.Ledger.stands g.K.Link.tells g.A.Archive.tells first c.args.node c.loop-turn._turn
+    told_ended g.G.Ledger.stands g.K.Link.tells g.A.Archive.tells _ first c.args.node c.loop-turn._turn
     c.args.turns (with_bytes c.in-Ok.arrival c.next.new.buf) c.serve_arrival.new.server
     _ _ _ _
+    (λ chain stood told left now. inl (g.met.G.Ledger.leaves_own c.serve_arrival.new.server.ledger chain left
+    told c.in_default-serve_arrival.ensures.live stood now))
     (one_further g.G.Ledger.stands g.K.Link.tells g.A.Archive.tells first c.args.node c.loop-turn._turn
     (with_bytes c.in-Ok.arrival c.next.new.buf) c.loop-turn.server c.serve_arrival.new.server
     _ _ _ _ _ _ _ going c.in-Ok.ensures.took (rw c.in-Ok.ensures.cause.uncounted refl)

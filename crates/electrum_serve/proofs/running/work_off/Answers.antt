@@ -1,4 +1,4 @@
-use Rattle.std.proofs.Common.{refl, ◌∙◌}
+use Rattle.std.proofs.Common.{inr, refl, ◌∙◌}
 use Rattle.el_outside.proofs.Stories.{all_grow_none, all_grow_more}
 use Rattle.el_core.specs.Turn.{outs_of}
 use Rattle.electrum_serve.proofs.Progresses.{begins, can_deliver, progress_more, finished, stopped_turn, stopped_sending}
@@ -33,12 +33,14 @@ pub returns-in-Err-deliver-clause-stopped : goal.returns-in-Err-deliver-clause-s
 returns-in-Err-deliver-clause-stopped g c = λ world all stood grown are.
     let p = c.loop-outs.invariant.progress world all stood grown are in
     let t = rw c.in-Ok-Some.field-0-is at (c.in-Ok-Some.ensures.step p.world p.left p.stood p.grown) in
-    stopped_sending g.G.Ledger.stands _ g.K.Link.tells g.A.Archive.tells g.G.Ledger.faults world all _ _ _ _ _
+    stopped_sending g.G.Ledger.stands _ _ g.K.Link.tells g.A.Archive.tells g.G.Ledger.faults world all _ _ _ _ _
     _ c.loop-outs.server c.turn.new.self c.deliver.new.server
     (outs_of c.in-Ok-Some.outs) _ p refl t
     (c.in-Err-deliver.ensures.undelivered t.next t.rest
     (can_deliver g.G.Ledger.stands _ g.K.Link.tells g.A.Archive.tells _ _ _ _ _ p.world p.left
     (outs_of c.in-Ok-Some.outs) c.loop-outs.server c.turn.new.self _ p.stood t p.are_open))
+    (λ told left now. inr (g.met.G.Ledger.leaves_own c.turn.new.self.ledger t.next.chain left told
+    c.in-Ok-Some.ensures.live t.stood.chain (rw c.in-Err-deliver.ensures.same_ledger at now)))
 
 pub returns-in-Err-deliver-clause-keeps : goal.returns-in-Err-deliver-clause-keeps
 returns-in-Err-deliver-clause-keeps g c =
@@ -61,9 +63,12 @@ returns-in-Ok-None-clause-keeps g c =
 pub returns-in-Err-clause-stopped : goal.returns-in-Err-clause-stopped
 returns-in-Err-clause-stopped g c = λ world all stood grown are.
     let p = c.loop-outs.invariant.progress world all stood grown are in
-    stopped_turn g.G.Ledger.stands _ _ g.K.Link.tells g.A.Archive.tells g.G.Ledger.faults world all _ _ _
-    c.loop-outs.server c.turn.new.self _ c.in-Err.fault p refl
-    (c.in-Err.ensures.failed p.world p.left p.stood p.grown) c.halt_of.ensures refl refl
+    stopped_turn g.G.Ledger.stands _ _ _ g.K.Link.tells g.A.Archive.tells g.G.Ledger.faults world all _ _ _
+    c.loop-outs.server c.turn.new.self _ c.in-Err.fault
+    (λ a b run told left now. let over = run told in over.each left (g.met.G.Ledger.earlier
+    c.turn.new.self.ledger _ _ left over.later now))
+    p refl (c.in-Err.ensures.failed p.world p.left p.stood p.grown) c.in-Err.ensures.keeps
+    c.halt_of.ensures refl refl
 
 pub returns-in-Err-clause-keeps : goal.returns-in-Err-clause-keeps
 returns-in-Err-clause-keeps g c =

@@ -1,0 +1,41 @@
+// Files that may be there, and what they have.
+ghost use Rattle.std.specs.Prelude.{◌≡◌, ◌≢◌, ◌≤◌, length, IfOk, IfErr, IsErr, None, Ok, Some};
+ghost use Rattle.std.specs.IoError.{error_kind};
+
+use std::fs::File;
+use std::io;
+use std::io::ErrorKind;
+use std::os::unix::fs::FileExt;
+
+/// Fills the front of the buffer from the place on, until it is full or the file ends.
+pub fn read_at(file: &File, at: u64, buf: &mut [u8]) -> io::Result<usize>
+    ensures { IfOk result (λ n. n ≤ length buf.old) }
+{
+    let mut done = 0usize;
+    for _ in 0..u64::MAX {
+        if done >= buf.len() {
+            return Ok(done);
+        }
+        match file.read_at(&mut buf[done..], at.saturating_add(done as u64)) {
+            Ok(0) => return Ok(done),
+            Ok(n) => done += n,
+            Err(e) if e.kind() == ErrorKind::Interrupted => {}
+            Err(e) => return Err(e),
+        }
+    }
+    Ok(done)
+}
+
+/// The file that a call of `open` found: none where no file has that name, and a failure where it was
+/// refused for another cause.
+pub fn found(opened: io::Result<File>) -> io::Result<Option<File>>
+    ensures present { IfOk opened (λ file. result ≡ Ok (Some file)) }
+    ensures absent { IfErr opened (λ e. error_kind e ≡ ErrorKind.NotFound → result ≡ Ok None) }
+    ensures refused { IfErr opened (λ e. error_kind e ≢ ErrorKind.NotFound → IsErr result) }
+{
+    match opened {
+        Ok(file) => Ok(Some(file)),
+        Err(e) if e.kind() == ErrorKind::NotFound => Ok(None),
+        Err(e) => Err(e),
+    }
+}

@@ -1,0 +1,8 @@
+use Rattle.std.proofs.Common.{refl}
+use Rattle.electrum_serve.proofs.starting.serve_from.Goals as goal
+
+pub returns-clause-ends : goal.returns-clause-ends
+returns-clause-ends g c = λ chain stood.
+    let r = c.run-status.ensures.ends _
+    (c.new-server.ensures.stands chain (g.A.Archive.bytes c.args.archive.now) stood) refl refl in
+    rw c.into_ledger.ensures (rw c.new-server.ensures.ledger at r)

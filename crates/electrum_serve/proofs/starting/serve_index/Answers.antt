@@ -1,0 +1,40 @@
+use Rattle.std.proofs.Common.{ap, Err, inl}
+use Rattle.el_outside.proofs.Stories.{goes_none, all_grow_more}
+use Rattle.electrum_serve.specs.Runs.{no_traffic}
+use Rattle.electrum_serve.proofs.Servings.{served_ends, start_ends}
+use Rattle.electrum_serve.proofs.starting.serve_index.Goals as goal
+
+pub returns-in-Ok-clause-ends : goal.returns-in-Ok-clause-ends
+returns-in-Ok-clause-ends g c = λ chain stood.
+    let o = c.in-Ok.ensures.opened chain stood in
+    let here = c.in-Ok.ensures.quiet.stays.still_stands chain stood in
+    let r = rw (o.2, c.in-Ok.ensures.only_reads.uncounted, c.in-Ok.ensures.cause.uncounted) at
+    (c.serve_from.ensures.ends chain here) in (
+      r.0,
+      r.1,
+      served_ends g.A.Archive.tells g.A.Archive.bytes g.A.Archive.file_count c.args.magic chain _ _ _ _ r.0 _
+          c.serve_from.ensures.serves (record {
+            now = c.open_headers.new.archive;
+            nodes = o.0;
+            scanned = o.1;
+            same = o.3;
+            grows = c.serve_from.ensures.keeps;
+            run = r.2;
+          }),
+    )
+
+pub returns-in-Ok-clause-keeps : goal.returns-in-Ok-clause-keeps
+returns-in-Ok-clause-keeps g c = λ t. all_grow_more _ _ _ (c.in-Ok.ensures.only_reads.keeps t)
+    (c.serve_from.ensures.keeps t)
+
+pub returns-in-Err-clause-ends : goal.returns-in-Err-clause-ends
+returns-in-Err-clause-ends g c = λ chain stood. (
+  no_traffic,
+  λ t. goes_none _,
+  rw c.status_of.ensures (start_ends g.A.Archive.tells g.A.Archive.bytes g.A.Archive.file_count c.args.magic
+      chain _ _ _ _ _ _ _ _ _ _ c.in-Err.fault c.in-Err.ensures.only_reads c.in-Err.ensures.cause
+      (λ e. c.in-Err.ensures.other chain stood (ap Err e))
+      (λ told left now. inl (g.met.G.Ledger.leaves_own c.open_headers.new.ledger chain left told
+      (c.in-Err.ensures.quiet.stays.still_live c.requires.live)
+      (c.in-Err.ensures.quiet.stays.still_stands chain stood) now))),
+)

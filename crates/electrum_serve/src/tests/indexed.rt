@@ -1,0 +1,161 @@
+// Calls over a ledger that already has a chain, as an index of an earlier life has.
+ghost use Rattle.std.specs.Prelude.{◌≡◌, ◌≤◌, ◌<◌};
+
+use crate::file::read_chain;
+use crate::starting::serve_index;
+use crate::status::Status;
+use crate::tests::block_files::Part::Block;
+use crate::tests::block_files::{Files, MAIN, REGTEST, files_of};
+use crate::tests::bringing::Step::{Opens, Says};
+use crate::tests::bringing::{Step, coming, transcript};
+use crate::tests::calls::TURNS;
+use crate::tests::names::named;
+use el_base::Steps;
+use el_fakes::{SteadyArchive, SteadyLink};
+use el_gen::{BLOCK_1, GENESIS};
+use el_model::PlainLedger;
+use std::alloc::Global;
+use std::marker::Brand;
+use std::sync::ledger::{Blank, Ledger as Counts};
+use std::test::Fail;
+
+// A ledger with the first blocks of the first branch.
+fn ledger_of(alloc: Global, count: u32) -> Result<PlainLedger, Fail> {
+    let files = files_of(alloc, Files::Branch(count))?;
+    let mut archive = SteadyArchive::new(files).ok_or("no such files")?;
+    match read_chain(alloc, &mut archive, REGTEST) {
+        Ok((_, chain)) => Ok(PlainLedger::over(chain)),
+        Err(_) => Err(Fail::new("no chain")),
+    }
+}
+
+// How a call over such a ledger ends, and what is sent and closed.
+fn call_counted<L: Counts + Send>(
+    alloc: Global,
+    count: u32,
+    files: Files,
+    magic: [u8; 4],
+    steps: &[Step<'_>],
+    blank: Blank,
+) -> Result<(Status, String), Fail>
+    requires name { blank.name ≡ L.name }
+    requires parts { blank.parts ≡ L.parts }
+    requires some { 0 < blank.parts }
+{
+    let mut rows = Steps::<L>::new(blank);
+    let ledger = ledger_of(alloc, count)?;
+    let mut archive = SteadyArchive::new(files_of(alloc, files)?).ok_or("no such files")?;
+    let mut link = SteadyLink::new(alloc, coming(alloc, steps, 1_000)?)?;
+    let (status, _) = serve_index(
+        alloc,
+        ledger,
+        magic,
+        &mut archive,
+        &mut link,
+        TURNS,
+        &mut rows,
+    );
+    Ok((status, transcript(alloc, link.sent(), link.closed())?))
+}
+
+fn call(
+    alloc: Global,
+    count: u32,
+    files: Files,
+    magic: [u8; 4],
+    steps: &[Step<'_>],
+) -> Result<(Status, String), Fail> {
+    call_counted::<Brand>(alloc, count, files, magic, steps, Blank::new(1))
+}
+
+const TIP: &[Step<'static>] = &[
+    Says(0, "tip {a1}\n"),
+    Opens(1),
+    Says(1, "{asks}{script1}{asked}\n"),
+];
+
+const NEXT: &[Step<'static>] = &[Says(0, "tip {a16}\n")];
+
+// How many blocks the ledger has; the files and their magic; what comes; how the call ends, and what is sent.
+const CALLS: [(u32, Files, [u8; 4], &[Step<'static>], Status, &str); 8] = [
+    // the index alone leads there and answers
+    (
+        2,
+        Files::Parts(&[]),
+        REGTEST,
+        TIP,
+        Status::Ended,
+        "0 at {a1} 1\n1 {lists}{entry1}{listed}\n",
+    ),
+    (
+        0,
+        Files::Parts(&[]),
+        REGTEST,
+        TIP,
+        Status::Ended,
+        "0 refused unknown {a1}\n1 {none}\n",
+    ),
+    // it goes on from the index's tip
+    (
+        2,
+        Files::Branch(17),
+        REGTEST,
+        NEXT,
+        Status::Ended,
+        "0 at {a16} 16\n",
+    ),
+    // one of two first blocks is the index's
+    (
+        2,
+        Files::Others,
+        REGTEST,
+        TIP,
+        Status::Ended,
+        "0 at {a1} 1\n1 {lists}{entry1}{listed}\n",
+    ),
+    // the only first block is another
+    (
+        2,
+        Files::Parts(&[Block(GENESIS)]),
+        MAIN,
+        TIP,
+        Status::OtherChain,
+        "",
+    ),
+    (
+        2,
+        Files::Parts(&[Block(BLOCK_1), Block(GENESIS)]),
+        MAIN,
+        TIP,
+        Status::OtherChain,
+        "",
+    ),
+    // no first block, and no index
+    (
+        2,
+        Files::Parts(&[Block(BLOCK_1)]),
+        MAIN,
+        &[],
+        Status::Ended,
+        "",
+    ),
+    (
+        0,
+        Files::Parts(&[Block(GENESIS)]),
+        MAIN,
+        &[],
+        Status::Ended,
+        "",
+    ),
+];
+
+#[test]
+fn an_index_that_has_blocks(rt: HostRuntime) -> Result<(), Fail> {
+    let alloc = rt.alloc();
+    for (count, files, magic, steps, status, text) in CALLS {
+        let found = call(alloc, count, files, magic, steps)?;
+        assert_eq!(rt; found.0, status, "{count} {text}");
+        assert_eq!(rt; found.1.as_str(), named(alloc, text)?.as_str());
+    }
+    Ok(())
+}
