@@ -32,9 +32,9 @@ pub struct NamedOutput {
     pub row: OutRow,
 }
 
-/// The output that the outpoint names among the transactions below that number, with its row: it is one of the
-/// newest of them with the txid and more outputs than the index. There is none exactly where no such output is
-/// there. It takes no memory and changes nothing.
+/// The output that the outpoint names among the transactions below that number, with its row: it is one of
+/// the newest of them with the txid and more outputs than the index. There is none exactly where no such
+/// output is there. It takes no memory and changes nothing.
 pub fn named_output<R: Rows, L: Ledger>(
     t: &mut Txn<'_, R>,
     o: &Outpoint,

@@ -53,7 +53,8 @@ fn leave_balance<R: Rows, L: Ledger>(
     }
 }
 
-// Takes the last output away, which has that number and row. If it was unspent it leaves its script's balance.
+// Takes the last output away, which has that number and row. If it was unspent it leaves its script's
+// balance.
 fn drop_output<R: Rows, L: Ledger>(
     t: &mut Txn<'_, R>,
     last: u64,
@@ -110,7 +111,8 @@ fn named_before<R: Rows, L: Ledger>(
     named_output(t, &Outpoint { txid, index }, tx, steps)
 }
 
-// What an output buried is unspent again. The output was of that transaction; it had that number, and is gone.
+// What an output buried is unspent again. The output was of that transaction; it had that number, and is
+// gone.
 fn unbury<R: Rows, L: Ledger>(
     t: &mut Txn<'_, R>,
     tx: u64,
@@ -162,7 +164,8 @@ pub fn take_back_out<R: Rows, L: Ledger>(
     ensures lists { (counts : HeadCounts) (bs : List ListedBlock) (l : lists.Lists) → R.tells
         → Hold counts bs l (tables_in t.old) → 0 < counts.txs → BalancesFit (back.take_back_output l).outs
         → OnOk result (Hold counts bs (back.take_back_output l) (tables_in t.new)) }
-    // Beside the look-up it reads the output, its transaction and its script, and the script of what it buried.
+    // Beside the look-up it reads the output, its transaction and its script, and the script of what it
+    // buried.
     ensures steps { (counts : HeadCounts) (bs : List ListedBlock) (l : lists.Lists) (x : lists.ListedOut) →
         R.tells → Hold counts bs l (tables_in t.old) → 0 < counts.txs → back.last l.outs ≡ Some x
         → steps.new ≤ steps.old + rows_to_find counts.txs (lists.txid_at x.tx l.txs) l + 4 }

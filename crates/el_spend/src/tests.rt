@@ -1,5 +1,5 @@
-// What no contract says: that each call succeeds where memory is ample, rows that stand for nothing, and a long
-// run beside plain lists.
+// What no contract says: that each call succeeds where memory is ample, rows that stand for nothing, and a
+// long run beside plain lists.
 ghost use Rattle.std.specs.Prelude.{◌≡◌, ◌<◌, ◌^◌, ◌+◌, [], refl};
 ghost use Rattle.el_rows.specs.RowBytes.{FitsTxRow, FitsScriptRow};
 ghost use Rattle.el_rows.specs.Tables.{limit_of};
@@ -570,8 +570,8 @@ fn check_odd<A: Abort, L: Ledger>(
     Ok(())
 }
 
-// Sums stay at their type's end: a script's balance, the value of an output, and what the balance is after the
-// output was added, spent, given back and taken back.
+// Sums stay at their type's end: a script's balance, the value of an output, and what the balance is after
+// the output was added, spent, given back and taken back.
 const SUMS: [(u64, u64, [u64; 4]); 3] = [
     (0, 5, [5, 0, 5, 0]),
     (

@@ -1,5 +1,5 @@
-// What no contract says: that blocks are taken back where memory is ample, and that the call returns over rows
-// that stand for nothing and over a device that fails.
+// What no contract says: that blocks are taken back where memory is ample, and that the call returns over
+// rows that stand for nothing and over a device that fails.
 ghost use Rattle.std.specs.Prelude.{◌≡◌, ◌<◌, ◌^◌, length};
 ghost use Rattle.el_rows.specs.RowBytes.{FitsTxRow};
 

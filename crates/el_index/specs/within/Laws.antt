@@ -16,28 +16,45 @@ use Rattle.el_buckets.specs.Rows.{block_fields}
 use Rattle.el_stands.specs.Standing.{StandFor}
 use Rattle.el_index.specs.Means.{top, IsIndexOf, Means}
 
-listed : (height first : ℕ) (chain : Chain) (coins : List Coin) → length (listed_blocks_from height first chain coins) ≡ length chain
+-- each block of a chain is listed
+listed : (height first : ℕ) (chain : Chain) (coins : List Coin)
+    → length (listed_blocks_from height first chain coins) ≡ length chain
 listed height first [] coins = refl
-listed height first (b ∷ bs) coins = ap suc (listed (height + 1) (first + length b.block.txs) bs (coins_after_all height b.block.txs coins))
+listed height first (b ∷ bs) coins =
+    ap suc (listed (height + 1) (first + length b.block.txs) bs (coins_after_all height b.block.txs coins))
 
 -- rows that stand for a chain have a row for each of its blocks
-pub block_rows : (rows : Tables) (chain : Chain) → StandFor rows chain → length (rows table.Blocks) ≡ length chain
+pub block_rows : (rows : Tables) (chain : Chain) → StandFor rows chain
+    → length (rows table.Blocks) ≡ length chain
 block_rows rows chain stand =
-    ap length (stand.encode.each table.Blocks) ∙ length-map stand.tables.blocks (λ b. block_row_bytes (block_fields b))
+    ap length (stand.encode.each table.Blocks)
+    ∙ length-map stand.tables.blocks (λ b. block_row_bytes (block_fields b))
     ∙ ap length stand.stand.blocks ∙ listed 0 0 chain []
 
+-- the height is that of the last block
 top_is : (chain : Chain) → top (length chain) ≡ height_of chain
 top_is [] = refl
 top_is (b ∷ bs) = refl
 
-pub height_is : (tells : Type 0) (rows : Tables) (kept : Option Hash32) (count : ℕ) (chain : Chain) → (tells → length (rows table.Blocks) ≡ count) → IsIndexOf tells rows kept chain → top count ≡ height_of chain
-height_is tells rows kept count chain counted stands = ap top (sym (counted stands.told) ∙ block_rows rows chain stands.stand) ∙ top_is chain
+-- where the store counts its blocks, their number gives the chain's height
+pub height_is : (tells : Type 0) (rows : Tables) (kept : Option Hash32) (count : ℕ) (chain : Chain)
+    → (tells → length (rows table.Blocks) ≡ count) → IsIndexOf tells rows kept chain
+    → top count ≡ height_of chain
+height_is tells rows kept count chain counted stands =
+    ap top (sym (counted stands.told) ∙ block_rows rows chain stands.stand) ∙ top_is chain
 
-pub tip_is : (tells : Type 0) (rows : Tables) (kept : Option Hash32) (chain : Chain) → IsIndexOf tells rows kept chain → kept ≡ tip_of chain
+-- the hash that is kept is that of the chain's last block
+pub tip_is : (tells : Type 0) (rows : Tables) (kept : Option Hash32) (chain : Chain)
+    → IsIndexOf tells rows kept chain → kept ≡ tip_of chain
 tip_is tells rows kept chain stands = stands.last
 
-pub good : (tells : Type 0) (rows : Tables) (kept : Option Hash32) (chain : Chain) → IsIndexOf tells rows kept chain → IsGood chain
+-- an index stands for good chains alone
+pub good : (tells : Type 0) (rows : Tables) (kept : Option Hash32) (chain : Chain)
+    → IsIndexOf tells rows kept chain → IsGood chain
 good tells rows kept chain stands = stands.stand.stand.good
 
-pub leaves_own : {C : Type 0} → (shows : C → Tables → Type 0) (tells : Type 0) (rows : Tables) (kept : Option Hash32) (chain : Chain) (left : C) → IsIndexOf tells rows kept chain → shows left rows → Means shows left chain
+-- what is left that shows the index's rows stands for its chain
+pub leaves_own : {C : Type 0} → (shows : C → Tables → Type 0) (tells : Type 0) (rows : Tables)
+    (kept : Option Hash32) (chain : Chain) (left : C) → IsIndexOf tells rows kept chain
+    → shows left rows → Means shows left chain
 leaves_own shows tells rows kept chain left stands shown = (rows, shown, stands.stand)
