@@ -6,7 +6,7 @@ use Rattle.el_outside.specs.Disk.{Image}
 use Rattle.el_rows.specs.Tables.{Tables, tables_of}
 use Rattle.el_journal.specs.declared.mark.TheConstants.{JOURNAL}
 use Rattle.el_journal.specs.Entries.{EndsAfter}
-use Rattle.el_journal.specs.Journals.{Holds}
+use Rattle.el_journal.specs.Journals.{JournalState, Holds}
 use Rattle.el_journal.specs.declared.fault.JournalFault.{JournalFault}
 use Rattle.el_journal.specs.declared.fault.JournalFault.TheVariants as journal_fault
 use Rattle.el_redo.specs.declared.faults.OpenFault.{OpenFault}
@@ -15,52 +15,51 @@ use Rattle.el_logstore.specs.declared.store.LogStore.{LogStore}
 use Rattle.el_logstore.specs.Images.{no_rows, Makes, Shows}
 
 -- the rows of a store
-abbrev pub lists_in : {D : Type 0} → LogStore D → Tables
+abbrev pub lists_in : {D N : Type 0} → LogStore D N → Tables
 lists_in store = tables_of store.rows
 
 -- the disk below it
-abbrev pub disk_below : {D : Type 0} → LogStore D → D
+abbrev pub disk_below : {D N : Type 0} → LogStore D N → D
 disk_below store = store.journal.disk
 
--- the magic of its network
-abbrev pub magic_of : {D : Type 0} → LogStore D → List ℕ
-magic_of store = store.magic
-
--- the journal has entries that make the store's rows
-pub record IsKept {D : Type 0} (G : disk.Ghosts D) (store : LogStore D) : Type 0 where
+-- the journal has entries that make the store's rows, for the network with this magic
+pub record IsKept {D N : Type 0} (G : disk.Ghosts D) (magic : List ℕ) (store : LogStore D N) : Type 0 where
   pub entries : List (List ℕ)
   pub holds : Holds G store.journal entries
-  pub made : Makes store.magic no_rows entries (tables_of store.rows)
+  pub made : Makes magic no_rows entries (tables_of store.rows)
 
 -- a store over a disk that tells has what its journal has
-abbrev pub IsLive : {D : Type 0} → disk.Ghosts D → LogStore D → Type 0
-IsLive G store = G.tells → IsKept G store
+abbrev pub IsLive : {D N : Type 0} → disk.Ghosts D → List ℕ → LogStore D N → Type 0
+IsLive G magic store = G.tells → IsKept G magic store
 
--- what is left: the magic, and an image of the disk
-abbrev pub Left : Type 0
-Left = List ℕ × Image
+-- what a crash since the moment might have left: an image of the disk
+abbrev pub IsLeft : {D N : Type 0} → disk.Ghosts D → LogStore D N → ℕ → Image → Type 0
+IsLeft G store t image = G.tells × G.left_since store.journal.disk t image
 
--- what a crash since the moment might have left
-abbrev pub IsLeft : {D : Type 0} → disk.Ghosts D → LogStore D → ℕ → Left → Type 0
-IsLeft G store t left = (left.0 ≡ store.magic) × G.tells × G.left_since store.journal.disk t left.1
-
--- between calls it stands for the store's rows
-pub kept_shows : {D : Type 0} (G : disk.Ghosts D) (store : LogStore D) (left : Left) → IsKept G store
-    → IsLeft G store (G.moment store.journal.disk) left → Shows left.0 left.1 (tables_of store.rows)
-kept_shows G store left kept is = record {
-  entries = kept.entries;
-  journal = inl (subst (λ (file : List ℕ). EndsAfter kept.entries file)
-      (sym (kept.holds.on_disk left.1 is.2)) kept.holds.file);
-  made = subst (λ (magic : List ℕ). Makes magic no_rows kept.entries (tables_of store.rows)) (sym is.0)
-      kept.made;
+-- an image that a crash now may leave of a journal's disk stands for what the entries make
+pub held_shows : {D : Type 0} (G : disk.Ghosts D) (magic : List ℕ) (journal : JournalState D)
+    (entries : List (List ℕ)) (tables : Tables) (image : Image) → Holds G journal entries
+    → Makes magic no_rows entries tables → G.left_since journal.disk (G.moment journal.disk) image
+    → Shows magic image tables
+held_shows G magic journal entries tables image holds made left = record {
+  entries = entries;
+  journal = inl (subst (λ (file : List ℕ). EndsAfter entries file) (sym (holds.on_disk image left)) holds.file);
+  made = made;
 }
 
+-- between calls it stands for the store's rows
+pub kept_shows : {D N : Type 0} (G : disk.Ghosts D) (magic : List ℕ) (store : LogStore D N) (image : Image)
+    → IsKept G magic store → G.left_since store.journal.disk (G.moment store.journal.disk) image
+    → Shows magic image (tables_of store.rows)
+kept_shows G magic store image kept left =
+    held_shows G magic store.journal kept.entries (tables_of store.rows) image kept.holds kept.made left
+
 -- what an opening gives back: the disk, also where it is refused, and the fault alone
-abbrev pub disk_in : {D : Type 0} → Result (LogStore D) (OpenFault × D) → D
+abbrev pub disk_in : {D N : Type 0} → Result (LogStore D N) (OpenFault × D) → D
 disk_in (Ok store) = store.journal.disk
 disk_in (Err refused) = refused.1
 
-abbrev pub opened : {D : Type 0} → Result (LogStore D) (OpenFault × D) → Result (LogStore D) OpenFault
+abbrev pub opened : {D N : Type 0} → Result (LogStore D N) (OpenFault × D) → Result (LogStore D N) OpenFault
 opened (Ok store) = Ok store
 opened (Err refused) = Err refused.0
 

@@ -10,14 +10,15 @@ ghost use Rattle.el_journal.specs.declared.mark.TheConstants.{JOURNAL};
 ghost use Rattle.el_journal.specs.Journals.{Holds, IsOnlyRead};
 ghost use Rattle.el_redo.specs.declared.faults.OpenFault.TheVariants as fault;
 ghost use Rattle.el_logstore.specs.Images.{Shows, Makes, Commits, no_rows, HasNoCommitAt, IsBadIndex, ShowsAsBefore};
-ghost use Rattle.el_logstore.specs.Stores.{IsLive, lists_in, magic_of, disk_in, opened, fault_of};
+ghost use Rattle.el_logstore.specs.Stores.{IsLive, lists_in, disk_below, disk_in, opened, fault_of};
 
 use crate::LogStore;
 use el_journal::{EntryFault, JOURNAL, Journal, JournalFault, open_journal};
 use el_outside::Disk;
-use el_redo::{OpenFault, RedoFault, apply};
+use el_redo::{NetworkMagic, OpenFault, RedoFault, apply};
 use el_rows::VecRows;
 use std::alloc::Global;
+use std::marker::PhantomData;
 
 // The entry of that number.
 fn body_of<D: Disk>(journal: &mut Journal<D>, i: u64) -> Result<Vec<u8>, OpenFault>
@@ -106,8 +107,8 @@ fn of_journal(f: JournalFault) -> OpenFault
     }
 }
 
-/// Opens the store that a disk keeps for the network with this magic. The disk may be fresh, which stands for
-/// no rows, or as a crash left it. The opening may be stopped at any call, and the disk opened again. Each
+/// Opens the store that a disk keeps for the network that the type names. The disk may be fresh, which stands
+/// for no rows, or as a crash left it. The opening may be stopped at any call, and the disk opened again. Each
 /// byte of the journal's entries is read once.
 ///
 /// # Errors
@@ -115,27 +116,27 @@ fn of_journal(f: JournalFault) -> OpenFault
 /// The fault, with the disk as it then stands. `BadIndex` names file 10, the journal: 0 was wanted and a
 /// place found, counted from the file's first byte, where an entry is cut; or 1 was wanted and the number of
 /// an entry found, from 0 on, which is the first that spells no commit, or one for another network.
-pub fn open_log<D: Disk>(
+pub fn open_log<D: Disk, N: NetworkMagic>(
     alloc: Global,
     disk: D,
-    magic: [u8; 4],
-) -> Result<LogStore<D>, (OpenFault, D)>
-    ensures live { IfOk result (λ store. IsLive ⟦<D as Disk>⟧ store) }
-    ensures shows { D.tells → IfOk result (λ store. Shows magic (D.seen disk) (lists_in store)) }
-    ensures magic { IfOk result (λ store. magic_of store ≡ magic) }
-    ensures opens { D.tells → (tables : Tables) → Shows magic (D.seen disk) tables
+) -> Result<LogStore<D, N>, (OpenFault, D)>
+    ensures live { IfOk result (λ store. IsLive ⟦<D as Disk>⟧ N.magic store) }
+    ensures shows { D.tells → IfOk result (λ store. Shows N.magic (D.seen disk) (lists_in store)) }
+    ensures leaves { D.tells → IfOk result (λ store. (image : Image)
+        → LeftNow D.moment D.left_since (disk_below store) image → Shows N.magic image (lists_in store)) }
+    ensures opens { D.tells → (tables : Tables) → Shows N.magic (D.seen disk) tables
         → IfErr result (λ e. (e.0 ≡ fault.DiskFailed) ⊎ (e.0 ≡ fault.Memory)) }
     // `BadIndex` comes exactly where the disk stands for no tables, with the reason.
     ensures bad_index { D.tells → IfErr result (λ e. (file wanted found : ℕ)
         → e.0 ≡ fault.BadIndex file wanted found
-        → (file ≡ JOURNAL) × IsBadIndex magic (D.seen disk) wanted found) }
-    ensures is_bad { D.tells → (wanted found : ℕ) → IsBadIndex magic (D.seen disk) wanted found
+        → (file ≡ JOURNAL) × IsBadIndex N.magic (D.seen disk) wanted found) }
+    ensures is_bad { D.tells → (wanted found : ℕ) → IsBadIndex N.magic (D.seen disk) wanted found
         → MatchResult result (λ _. ⊥) (λ e. (e.0 ≡ fault.DiskFailed) ⊎ ((e.0 ≡ fault.Memory)
         ⊎ (e.0 ≡ fault.BadIndex JOURNAL wanted found))) }
     // Each image that a crash since the start may leave stands for what one stood for that it might have left
     // before.
     ensures crash { D.tells → LeavesOnly D.moment D.left_since disk (disk_in result)
-        (ShowsAsBefore magic (LeftNow D.moment D.left_since disk)) }
+        (ShowsAsBefore N.magic (LeftNow D.moment D.left_since disk)) }
     ensures cause { CountsOnly (D.faults disk) (D.faults (disk_in result)) fault.DiskFailed (opened result) }
 {
     let mut journal = match open_journal(alloc, disk) {
@@ -143,10 +144,10 @@ pub fn open_log<D: Disk>(
         Err((fault, disk)) => return Err((of_journal(fault), disk)),
     };
     let mut rows = VecRows::new(alloc);
-    match replay(alloc, &mut journal, &mut rows, magic) {
+    match replay(alloc, &mut journal, &mut rows, N::magic()) {
         Ok(()) => Ok(LogStore {
             alloc,
-            magic,
+            network: PhantomData,
             rows,
             journal,
         }),

@@ -1,37 +1,45 @@
 // A store of commits in a journal.
-ghost use Rattle.std.specs.Prelude.{◌≡◌, refl, length};
+ghost use Rattle.std.specs.Prelude.{◌≡◌, ◌↔◌, ℕ, refl, length};
 ghost use Rattle.el_outside.specs.Disk.{Image};
-ghost use Rattle.el_rows.specs.Tables.{tables_of};
+ghost use Rattle.el_rows.specs.Tables.{Tables, tables_of};
 ghost use Rattle.el_logstore.specs.Images.{Shows};
-ghost use Rattle.el_logstore.specs.Stores.{Left, IsLeft, IsLive, kept_shows, disk_below};
+ghost use Rattle.el_logstore.specs.Stores.{IsLeft, IsLive, kept_shows, disk_below};
 
 use el_base::Steps;
 use el_journal::Journal;
 use el_outside::{Disk, DiskFailed};
-use el_redo::redo_body;
+use el_redo::{NetworkMagic, redo_body};
 use el_rows::{CommitFault, Rows, Sealed, Table, VecRows};
 use std::alloc::Global;
+use std::marker::PhantomData;
 use std::sync::ledger::Ledger;
 
 /// Tables in memory, with the commits that made them in a journal over a disk: each commit is one entry, the
-/// body of a redo record for the network's magic. Rows are read from memory. After a commit that met a disk
-/// fault the store is no longer live, and the disk is opened again.
+/// body of a redo record for the network that its type names. Rows are read from memory. After a commit that
+/// met a disk fault the store is no longer live, and the disk is opened again.
 #[derive(Drop)]
-pub struct LogStore<D: Disk> {
+pub struct LogStore<D: Disk, N: NetworkMagic> {
     pub(crate) alloc: Global,
-    pub(crate) magic: [u8; 4],
+    pub(crate) network: PhantomData<N>,
     pub(crate) rows: VecRows,
     pub(crate) journal: Journal<D>,
 }
 
-impl<D: Disk> LogStore<D> {
-    /// The disk, as it stands, also after a failure.
+impl<D: Disk, N: NetworkMagic> LogStore<D, N> {
+    /// The disk, as it stands, also after a failure. What a crash leaves of the store is what it leaves of the
+    /// disk.
     pub fn into_disk(self) -> D
-        ensures { result ≡ disk_below self }
+        ensures disk { result ≡ disk_below self }
+        ensures moment { ⟦<LogStore<D, N> as Rows>⟧.moment self ≡ D.moment result }
+        ensures left { D.tells → (t : ℕ) (image : Image)
+            → ⟦<LogStore<D, N> as Rows>⟧.left_since self t image ↔ D.left_since result t image }
+        ensures shows { (image : Image) (tables : Tables)
+            → ⟦<LogStore<D, N> as Rows>⟧.shows image tables ↔ Shows N.magic image tables }
+        ensures faults { ⟦<LogStore<D, N> as Rows>⟧.faults self ≡ D.faults result }
     {
         let LogStore {
             alloc: _,
-            magic: _,
+            network: _,
             rows: _,
             journal,
         } = self;
@@ -39,7 +47,7 @@ impl<D: Disk> LogStore<D> {
     }
 }
 
-impl<D: Disk> Rows for LogStore<D> {
+impl<D: Disk, N: NetworkMagic> Rows for LogStore<D, N> {
     ghost tells = { D.tells };
 
     ghost tells_crash = { D.tells };
@@ -48,24 +56,25 @@ impl<D: Disk> Rows for LogStore<D> {
 
     ghost counts = { λ s t. length (tables_of s.rows t) };
 
-    ghost is_live = { λ s. IsLive ⟦<D as Disk>⟧ s };
+    ghost is_live = { λ s. IsLive ⟦<D as Disk>⟧ N.magic s };
 
     ghost moment = { λ s. D.moment s.journal.disk };
 
-    ghost Left = { Left };
+    ghost Left = { Image };
 
-    ghost shows = { λ left tables. Shows left.0 left.1 tables };
+    ghost shows = { λ image tables. Shows N.magic image tables };
 
-    ghost left_since = { λ s t left. IsLeft ⟦<D as Disk>⟧ s t left };
+    ghost left_since = { λ s t image. IsLeft ⟦<D as Disk>⟧ s t image };
 
     ghost faults = { λ s. D.faults s.journal.disk };
 
     ghost counted = { λ s t told. refl };
 
-    ghost earlier = { λ s t u c le left.
-        (left.0, left.1, D.earlier s.journal.disk t u c.1 left.1 le left.2) };
+    ghost earlier = { λ s t u image le left.
+        (left.0, D.earlier s.journal.disk t u image left.0 le left.1) };
 
-    ghost leaves_lists = { λ s c told live left. kept_shows ⟦<D as Disk>⟧ s c (live told) left };
+    ghost leaves_lists = { λ s image told live left.
+        kept_shows ⟦<D as Disk>⟧ N.magic s image (live told) left.1 };
 
     fn count(&self, t: Table) -> u64 {
         self.rows.count(t)
@@ -82,7 +91,7 @@ impl<D: Disk> Rows for LogStore<D> {
     }
 
     fn commit(&mut self, sealed: &Sealed) -> Result<(), CommitFault> {
-        let body = redo_body(self.alloc, self.magic, sealed)?;
+        let body = redo_body(self.alloc, N::magic(), sealed)?;
         self.rows.commit(sealed)?;
         self.journal.append(body.as_slice())?;
         Ok(())

@@ -7,15 +7,13 @@ use el_base::{OutOfMemory, Steps};
 use el_journal::{JOURNAL, open_journal};
 use el_mem_disk::{FailingCalls, MemDisk, Residue, SilentDisk};
 use el_outside::Disk;
-use el_redo::OpenFault;
+use el_redo::{Mainnet, OpenFault};
 use el_rows::{CommitFault, Rows, Table, Txn};
 use std::alloc::Global;
 use std::marker::Brand;
 use std::process::Abort;
 use std::sync::ledger::{Blank, Ledger};
 use std::test::Fail;
-
-const MAGIC: [u8; 4] = *b"main";
 
 // How many heads and inputs there are at first, after one commit, and after both.
 const NONE: (u64, u64) = (0, 0);
@@ -61,10 +59,20 @@ fn second<R: Rows>(alloc: Global, rows: &mut R) -> Result<Result<(), CommitFault
     Ok(rows.commit(&sealed))
 }
 
+// Opens the main network's store.
+fn open(
+    alloc: Global,
+    disk: MemDisk,
+) -> Result<LogStore<SilentDisk, Mainnet>, (OpenFault, SilentDisk)>
+    ensures live { IfOk result (λ store. ⟦<LogStore<SilentDisk, Mainnet> as Rows>⟧.is_live store) }
+{
+    open_log::<SilentDisk, Mainnet>(alloc, SilentDisk::new(disk))
+}
+
 // Opens a fresh disk and commits twice, up to the first failure; answers how many commits were made, and the
 // disk.
 fn run(alloc: Global, failing: FailingCalls) -> Result<(u64, MemDisk), Fail> {
-    let mut store = match open_log(alloc, SilentDisk::new(MemDisk::new(alloc, failing)), MAGIC) {
+    let mut store = match open(alloc, MemDisk::new(alloc, failing)) {
         Ok(store) => store,
         Err((_, disk)) => return Ok((0, disk.into_disk())),
     };
@@ -81,7 +89,7 @@ fn run(alloc: Global, failing: FailingCalls) -> Result<(u64, MemDisk), Fail> {
 
 // What an opening finds: how many heads and inputs, or the fault.
 fn opened(alloc: Global, disk: MemDisk) -> Result<(u64, u64), OpenFault> {
-    match open_log(alloc, SilentDisk::new(disk), MAGIC) {
+    match open(alloc, disk) {
         Ok(store) => Ok((store.count(Table::TxHeads), store.count(Table::Ins))),
         Err((fault, _)) => Err(fault),
     }
@@ -96,7 +104,7 @@ fn come_back<A: Abort, L: Ledger>(rt: &A, alloc: Global, blank: Blank) -> Result
     let mut steps = Steps::<L>::new(blank);
     let (made, disk) = run(alloc, all_fail_from(alloc, None))?;
     assert_eq!(rt; made, 2);
-    let Ok(mut store) = open_log(alloc, SilentDisk::new(disk), MAGIC) else {
+    let Ok(mut store) = open(alloc, disk) else {
         return Err(Fail::new("the store was not opened"));
     };
     let mut head = [0; 4];
@@ -167,7 +175,7 @@ fn finds(
 
 // The disk after an opening that was stopped.
 fn stopped(alloc: Global, disk: MemDisk) -> MemDisk {
-    match open_log(alloc, SilentDisk::new(disk), MAGIC) {
+    match open(alloc, disk) {
         Ok(store) => store.into_disk().into_disk(),
         Err((_, disk)) => disk.into_disk(),
     }
@@ -225,16 +233,16 @@ fn a_cut_journal_is_told(rt: HostRuntime) -> Result<(), Fail> {
 }
 
 // One head, for this network and for another; and a head that is changed, which needs one.
-const HEAD: &[u8] =
-    b"ELIX\x01\0\0\0main\0\0\0\0\0\0\0\0\0\0\0\0\0\0\0\0\x01\0\0\0\0\0\0\0\0\0\0\0\0\0\0\0\
+const HEAD: &[u8] = b"ELIX\x01\0\0\0\xf9\xbe\xb4\xd9\
+\0\0\0\0\0\0\0\0\0\0\0\0\0\0\0\0\x01\0\0\0\0\0\0\0\0\0\0\0\0\0\0\0\
 \0\0\0\0\0\0\0\0\0\0\0\0\0\0\0\0\0\0\0\0\0\0\0\0\0\0\0\0\0\0\0\0\x03\0\0\0\0\0\0\0\0head";
 
-const OTHER: &[u8] =
-    b"ELIX\x01\0\0\0test\0\0\0\0\0\0\0\0\0\0\0\0\0\0\0\0\x01\0\0\0\0\0\0\0\0\0\0\0\0\0\0\0\
+const OTHER: &[u8] = b"ELIX\x01\0\0\0\x0b\x11\x09\x07\
+\0\0\0\0\0\0\0\0\0\0\0\0\0\0\0\0\x01\0\0\0\0\0\0\0\0\0\0\0\0\0\0\0\
 \0\0\0\0\0\0\0\0\0\0\0\0\0\0\0\0\0\0\0\0\0\0\0\0\0\0\0\0\0\0\0\0\x03\0\0\0\0\0\0\0\0head";
 
-const KEPT: &[u8] =
-    b"ELIX\x01\0\0\0main\0\0\0\0\0\0\0\0\0\0\0\0\0\0\0\0\x01\0\0\0\0\0\0\0\0\0\0\0\0\0\0\0\
+const KEPT: &[u8] = b"ELIX\x01\0\0\0\xf9\xbe\xb4\xd9\
+\0\0\0\0\0\0\0\0\0\0\0\0\0\0\0\0\x01\0\0\0\0\0\0\0\0\0\0\0\0\0\0\0\
 \0\0\0\0\0\0\0\0\0\0\0\0\0\0\0\0\0\0\0\0\0\0\0\0\0\0\0\0\0\0\0\0";
 
 // Entries, and what an opening answers, or the number of the entry that it names.

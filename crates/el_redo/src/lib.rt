@@ -6,6 +6,7 @@ mod faults;
 mod head;
 mod laws;
 mod laying;
+mod network;
 mod reading;
 mod writing;
 
@@ -13,6 +14,7 @@ pub use applying::apply;
 pub use faults::{OpenFault, RedoFault};
 pub use head::FORMAT;
 pub use laws::a_body_spells_one_commit;
+pub use network::{Mainnet, NetworkMagic, Regtest, Testnet3};
 pub use writing::redo_body;
 
 #[cfg(test)]

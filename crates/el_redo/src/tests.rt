@@ -1,6 +1,6 @@
 // That calls succeed where memory is ample, bytes written by hand, and bodies that spell no commit, one by
 // each check.
-use crate::{OpenFault, RedoFault, apply, redo_body};
+use crate::{Mainnet, NetworkMagic, OpenFault, RedoFault, Regtest, Testnet3, apply, redo_body};
 use el_rows::{Rows, Sealed, Table, Txn, VecRows};
 use std::alloc::Global;
 use std::process::Abort;
@@ -103,6 +103,20 @@ fn other_bodies_spell_no_commit(rt: HostRuntime) -> Result<(), Fail> {
     let mut longer = Vec::from_slice(alloc, BODY)?;
     longer.push(0)?;
     assert_eq!(rt; applied(alloc, longer.as_slice()), Err(RedoFault::NoCommit));
+    Ok(())
+}
+
+#[test]
+fn magics_are_bitcoins(rt: HostRuntime) -> Result<(), Fail> {
+    let magics = [Mainnet::magic(), Testnet3::magic(), Regtest::magic()];
+    assert_eq!(rt;
+        magics,
+        [
+            *b"\xf9\xbe\xb4\xd9",
+            *b"\x0b\x11\x09\x07",
+            *b"\xfa\xbf\xb5\xda"
+        ]
+    );
     Ok(())
 }
 
