@@ -43,7 +43,8 @@ pub held_shows : {D : Type 0} (G : disk.Ghosts D) (magic : List ℕ) (journal : 
     → Shows magic image tables
 held_shows G magic journal entries tables image holds made left = record {
   entries = entries;
-  journal = inl (subst (λ (file : List ℕ). EndsAfter entries file) (sym (holds.on_disk image left)) holds.file);
+  journal = inl (subst (λ (file : List ℕ). EndsAfter entries file) (sym (holds.on_disk image left))
+      holds.file);
   made = made;
 }
 

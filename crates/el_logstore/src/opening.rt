@@ -107,9 +107,9 @@ fn of_journal(f: JournalFault) -> OpenFault
     }
 }
 
-/// Opens the store that a disk keeps for the network that the type names. The disk may be fresh, which stands
-/// for no rows, or as a crash left it. The opening may be stopped at any call, and the disk opened again. Each
-/// byte of the journal's entries is read once.
+/// Opens the store that a disk keeps for the network that the type names. The disk may be fresh, which
+/// stands for no rows, or as a crash left it. The opening may be stopped at any call, and the disk opened
+/// again. Each byte of the journal's entries is read once.
 ///
 /// # Errors
 ///

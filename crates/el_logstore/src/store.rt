@@ -26,8 +26,8 @@ pub struct LogStore<D: Disk, N: NetworkMagic> {
 }
 
 impl<D: Disk, N: NetworkMagic> LogStore<D, N> {
-    /// The disk, as it stands, also after a failure. What a crash leaves of the store is what it leaves of the
-    /// disk.
+    /// The disk, as it stands, also after a failure. What a crash leaves of the store is what it leaves of
+    /// the disk.
     pub fn into_disk(self) -> D
         ensures disk { result ≡ disk_below self }
         ensures moment { ⟦<LogStore<D, N> as Rows>⟧.moment self ≡ D.moment result }
