@@ -163,6 +163,7 @@ fn answer<G: Ledger, L: Counts + Send>(
         (λ n. RoseBy (G.faults ledger.old) (G.faults ledger.new) n) client met (outs_of result.0) result.1 }
     ensures quiet { Quiet G.is_live G.height G.tip G.buckets G.stands G.tells_crash
         G.means G.moment G.left_since ledger.old ledger.new }
+    ensures disk_more { G.faults ledger.old ≤ G.faults ledger.new }
     ensures no_more { work_of_client result.1 ≤ work_of_client (Some client) }
 {
     let peer = client.peer();
@@ -188,6 +189,7 @@ pub fn client_turn<G: Ledger, L: Counts + Send>(
     ensures quiet { Quiet G.is_live G.height G.tip G.buckets G.stands G.tells_crash
         G.means G.moment G.left_since ledger.old ledger.new }
     ensures still { IfNone result.0 (G.faults ledger.new ≡ G.faults ledger.old) }
+    ensures disk_more { G.faults ledger.old ≤ G.faults ledger.new }
     ensures less { OnSome result.0 (work_of_client result.1 < work_of_client (Some client)) }
     ensures done { IfNone result.0 (HasNoWork result.1) }
 {

@@ -215,6 +215,7 @@ impl<G: Ledger> Server<G> {
         ensures live { OnOk result (G.is_live self.new.ledger) }
         ensures still_live { IsErrOf result StepFault.Memory → G.is_live self.new.ledger }
         ensures keeps { A.tells → AllGrow (A.bytes archive.old) (A.bytes archive.new) }
+        ensures archive_more { A.faults archive.old ≤ A.faults archive.new }
         ensures archive_rose { IfErr result (λ e.
             RoseWith e (λ n. RoseBy (A.faults archive.old) (A.faults archive.new) n)) }
         ensures disk_rose { CountsOnly (G.faults self.old.ledger) (G.faults self.new.ledger)
@@ -267,6 +268,7 @@ impl<G: Ledger> Server<G> {
         ensures live { OnOk result (G.is_live self.new.ledger) }
         ensures still_live { IsErrOf result StepFault.Memory → G.is_live self.new.ledger }
         ensures keeps { A.tells → AllGrow (A.bytes archive.old) (A.bytes archive.new) }
+        ensures archive_more { A.faults archive.old ≤ A.faults archive.new }
         ensures archive_rose { IfErr result (λ e.
             RoseWith e (λ n. RoseBy (A.faults archive.old) (A.faults archive.new) n)) }
         ensures disk_rose { CountsOnly (G.faults self.old.ledger) (G.faults self.new.ledger)
@@ -309,6 +311,7 @@ impl<G: Ledger> Server<G> {
         ensures quiet { Quiet G.is_live G.height G.tip G.buckets G.stands G.tells_crash
             G.means G.moment G.left_since self.old.ledger self.new.ledger }
         ensures still { IfNone result (G.faults self.new.ledger ≡ G.faults self.old.ledger) }
+        ensures disk_more { G.faults self.old.ledger ≤ G.faults self.new.ledger }
         ensures same { self.new ≡ record self.old { ledger = self.new.ledger; client = self.new.client } }
         ensures less { OnSome result (work_of_client self.new.client < work_of_client self.old.client) }
         ensures done { IfNone result (HasNoWork self.new.client) }
@@ -347,6 +350,7 @@ impl<G: Ledger> Server<G> {
         ensures quiet { Quiet G.is_live G.height G.tip G.buckets G.stands G.tells_crash
             G.means G.moment G.left_since self.old.ledger self.new.ledger }
         ensures still { IfNone result (G.faults self.new.ledger ≡ G.faults self.old.ledger) }
+        ensures disk_more { G.faults self.old.ledger ≤ G.faults self.new.ledger }
         ensures same { self.new ≡ record self.old {
           ledger = self.new.ledger;
           client = self.new.client;
@@ -417,6 +421,11 @@ impl<G: Ledger> Server<G> {
         ensures idle { IfOk result (λ found. IfNone found (IsIdle self.new)) }
         ensures live { OnOk result (G.is_live self.new.ledger) }
         ensures keeps { A.tells → AllGrow (A.bytes archive.old) (A.bytes archive.new) }
+        // Also over a ledger that stands for no chain, and also where it fails.
+        ensures archive_more { A.faults archive.old ≤ A.faults archive.new }
+        ensures disk_more { G.faults self.old.ledger ≤ G.faults self.new.ledger }
+        ensures disk_counted { IsErrOf result StepFault.DiskFailed
+            → RoseBy (G.faults self.old.ledger) (G.faults self.new.ledger) 1 }
     {
         if !self.ahead.is_empty() {
             return match self.turn_ahead(archive, steps) {
