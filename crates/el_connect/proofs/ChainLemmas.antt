@@ -37,8 +37,9 @@ use Rattle.el_rows.specs.Tables as held
 use Rattle.el_rows.specs.declared.table.Table.TheVariants as table
 use Rattle.el_buckets.specs.Rows.{Hold, block_fields}
 use Rattle.el_stands.specs.Standing.{StandFor, HoldChain, heads_in}
-use Rattle.el_connect.specs.within.Parts.{Reached, LedTo, as_listed, values, IsSmall, connect_all}
+use Rattle.el_connect.specs.within.Parts.{Reached, IsBetween, LedTo, as_listed, values, IsSmall, connect_next, connect_all}
 use Rattle.el_connect.proofs.StepLemmas.{money_fits}
+use Rattle.el_connect.proofs.MadeLemmas.{between_next}
 use Rattle.el_chain.specs.declared.fault.ConnectFault.TheVariants as refusal
 use Rattle.el_tables.proofs.FitLemmas.{chain_fits}
 use Rattle.el_tx.specs.Headers.{header_encoding}
@@ -198,11 +199,34 @@ sum_within (p ∷ ps) height index l m led le =
     by (Err f) rest e = absurd (wrong f e)
     by (Ok c) rest e = inner rest (bounds_by height c) c refl e
 
+-- the lists of a chain stand between transactions
+between_all : (ps : List PreparedTx) (height index : ℕ) (l m : Lists) → connect_all height index ps l ≡ Ok m → IsBetween l → IsBetween m
+between_all [] height index l m led between = (let same : l ≡ m = cc in subst IsBetween same between)
+between_all (p ∷ ps) height index l m led between = by (λ c. between_all ps height (index + 1) c m) (connect_next height index p l) refl led
+  where
+    wrong : (f : ConnectFault) → Err f ≡ Ok m → ⊥
+    wrong f h = cc
+
+    by : ((c : Lists) → connect_all height (index + 1) ps c ≡ Ok m → IsBetween c → IsBetween m)
+        → (r : Result Lists ConnectFault) → connect_next height index p l ≡ r → (r >>= (λ (x : Lists). connect_all height (index + 1) ps x)) ≡ Ok m → IsBetween m
+    by later (Err f) is e = absurd (wrong f e)
+    by later (Ok c) is e = later c e (between_next height index p l c is between)
+
 -- the last block of a good chain had no fault
 last_next : (before chain : Chain) (b : Placed) → AreNext before (chain ++ b ∷ []) → IsNext (before ++ chain) b.block
 last_next before [] b next = let same = Rattle.std.proofs.Common.append-nil before in subst (λ (c : Chain). IsNext c b.block) (sym same) next.0
 last_next before (x ∷ xs) b next =
     subst (λ (c : Chain). IsNext c b.block) (Rattle.std.proofs.Common.append_assoc before (x ∷ []) xs) (last_next (before ++ x ∷ []) xs b next.1)
+
+pub between_of_good : (chain : Chain) → IsGood chain → IsBetween (lists chain)
+between_of_good chain = from_front (λ (c : Chain). IsGood c → IsBetween (lists c)) (λ good. record { outs = refl; scripts = omega arith; entries = omega arith }) more chain
+  where
+    more : (c : Chain) (b : Placed) → (IsGood c → IsBetween (lists c)) → IsGood (c ++ b ∷ []) → IsBetween (lists (c ++ b ∷ []))
+    more c b before good =
+        let was = good_before c b good in
+        let none = (last_next [] c b good.each).faultless in
+        between_all (prepared b.block).txs (length c) 0 (lists c) (lists (c ++ b ∷ []))
+        (block_leads c b was ∙ ap (λ (f : Option ConnectFault). ok_unless f (lists (c ++ b ∷ []))) none) (before was)
 
 pub sum_of_good : (chain : Chain) → IsGood chain → unspent_sum (lists chain).outs ≤ max_money
 sum_of_good chain = from_front (λ (c : Chain). IsGood c → unspent_sum (lists c).outs ≤ max_money) (λ good. omega arith) more chain

@@ -1,6 +1,10 @@
 pub mod StepLemmas
 pub mod RowLemmas
 pub mod CoinLemmas
+pub mod TouchLemmas
+pub mod MadeLemmas
+pub mod MoneyLemmas
+pub mod ScriptLemmas
 pub mod ChainLemmas
 pub mod HeadLemmas
 pub mod LoopLemmas

@@ -14,10 +14,11 @@ use Rattle.el_tables.proofs.OutEdits.{script_is}
 use Rattle.el_tables.proofs.RowLists.{rows_at}
 use Rattle.el_rows.specs.Changes.{OnTable}
 use Rattle.el_rows.specs.Tables as held
-use Rattle.el_rows.specs.RowBytes.{block_row_bytes, out_row_bytes, in_row_bytes, tx_row_bytes, script_row_bytes, FitsBlockRow, FitsOutRow, FitsTxRow, FitsScriptRow}
+use Rattle.el_rows.specs.RowBytes.{block_row_bytes, out_row_bytes, in_row_bytes, tx_row_bytes, script_row_bytes, FitsBlockRow, FitsInRow, FitsOutRow, FitsTxRow, FitsScriptRow}
 use Rattle.el_rows.specs.declared.table.Table.{Table}
 use Rattle.el_rows.specs.declared.table.Table.TheVariants as table
 use Rattle.el_rows.specs.declared.block_row.BlockRow.{BlockRow}
+use Rattle.el_rows.specs.declared.in_row.InRow.{InRow}
 use Rattle.el_rows.specs.declared.out_row.OutRow.{OutRow}
 use Rattle.el_rows.specs.declared.tx_row.TxRow.{TxRow}
 use Rattle.el_rows.specs.declared.script_row.ScriptRow.{ScriptRow}
@@ -39,6 +40,13 @@ module _ (counts : HeadCounts) (bs : List ListedBlock) (l : Lists) (rows : held.
   value_read k r buf lt is only =
       let found = read_at out_row_bytes out_fields FitsOutRow l.outs (rows table.Outs) k r buf (hold.each table.Outs) hold.fit.outs lt is only in
       ap (λ (x : OutRow). x.value) (found_at out_fields l.outs k edit.no_out r found)
+
+  -- an input's row
+  pub in_read : (n : ℕ) (r : InRow) (buf : List ℕ) → n < length (rows table.Ins) → buf ≡ get_or (rows table.Ins) n []
+      → ((s : InRow) → FitsInRow s → in_row_bytes s ≡ buf → s ≡ r) → r.out ≡ get_or l.ins n 0
+  in_read n r buf lt is only =
+      let found = read_at in_row_bytes in_fields FitsInRow l.ins (rows table.Ins) n r buf (hold.each table.Ins) hold.fit.ins lt is only in
+      ap (λ (x : InRow). x.out) (found_at in_fields l.ins n 0 r found)
 
   -- a script's row
   pub hash_read : (n : ℕ) (r : ScriptRow) (buf : List ℕ) → n < length (rows table.Scripts) → buf ≡ get_or (rows table.Scripts) n []

@@ -1,27 +1,25 @@
 -- What the steps of a transaction do to lengths, to the sum of all coins, and to the room that is left.
-use Rattle.std.proofs.Common.{◌≡◌, ◌⊎◌, inl, inr, ℕ, zero, suc, ◌+◌, ◌-◌, ◌<◌, ◌≤◌, ◌^◌, Bool, true, false, List, [], ◌∷◌, ◌++◌, length, take, drop, get_or, Option, None, Some, Ok, Err, refl, ap, sym, subst, ◌∙◌, arith, length-append, if◌then◌else◌, min, unwrap_or}
-use Rattle.std.specs.Option.{option_or}
-use Rattle.std.proofs.lemmas.Bool.{cases_lt, lt-ltb, le-ltb}
+use Rattle.std.proofs.Common.{◌≡◌, ◌⊎◌, inl, inr, ℕ, zero, suc, ◌+◌, ◌-◌, ◌<◌, ◌≤◌, ◌^◌, List, [], ◌∷◌, ◌++◌, length, take, drop, get_or, Option, None, Some, Ok, Err, refl, ap, sym, ◌∙◌, arith, min, unwrap_or}
+use Rattle.std.proofs.lemmas.Bool.{cases_lt, lt-ltb}
 use Rattle.std.proofs.lemmas.List.{take_at, drop_all}
 use Rattle.el_base.specs.declared.hash.Hash32.{Hash32}
 use Rattle.el_base.proofs.Lists.{left_at}
 use Rattle.el_tx.specs.declared.types.Outpoint.{Outpoint}
 use Rattle.el_tx.specs.Encoding.{max_money}
-use Rattle.el_chain.specs.Faults.{money_fault, full}
-use Rattle.el_chain.specs.RowCounts.{has_script, add_script}
+use Rattle.el_chain.specs.Faults.{money_fault}
+use Rattle.el_chain.specs.RowCounts.{add_script}
 use Rattle.el_chain.specs.declared.fault.ConnectFault.{ConnectFault}
 use Rattle.el_chain.specs.declared.fault.ConnectFault.TheVariants as refusal
 use Rattle.el_chain.specs.declared.limits.TheConstants.{ROW_LIMIT}
 use Rattle.el_tables.specs.ChainLists.{ListedBlock}
-use Rattle.el_tables.specs.Connecting.{spend_all, spend_coin, fund, fund_all, bounds_by, script_of_output}
+use Rattle.el_tables.specs.Connecting.{spend_all, spend_coin, fund, fund_all}
 use Rattle.el_tables.specs.Edits.{no_out}
 use Rattle.el_tables.specs.Fits.{Fits}
-use Rattle.el_tables.specs.Lists.{State, Lists, ListedTx, ListedOut, ListedEntry, script_number, is_tx, last_tx_of, append_entry, add_entry, add_output, spend_output, with_state, script_at, output_number, coin_number, spend, replaced, bury, unspent_sum, txid_at}
+use Rattle.el_tables.specs.Lists.{State, Lists, ListedTx, ListedOut, script_number, add_entry, add_output, spend_output, with_state, script_at, coin_number, spend, replaced, bury, unspent_sum, txid_at}
 use Rattle.el_tables.specs.Tables.{HeadCounts}
-use Rattle.el_tables.proofs.FitLemmas.{touch_fits, take_out_fits, add_out_fits}
-use Rattle.el_tables.proofs.OutEdits.{is_there}
+use Rattle.el_tables.proofs.FitLemmas.{touch_fits, add_out_fits}
 use Rattle.el_tables.proofs.Sums.{balance_within}
-use Rattle.el_tables.proofs.RunningSums.{spent_less, alone_more, buries_more}
+use Rattle.el_tables.proofs.RunningSums.{alone_more, buries_more}
 use Rattle.el_tables.proofs.Scripts.{once_has, number_within}
 use Rattle.el_rows.specs.Tables as held
 use Rattle.el_rows.specs.declared.table.Table.{Table}
@@ -29,9 +27,8 @@ use Rattle.el_rows.specs.declared.table.Table.TheVariants as table
 use Rattle.el_buckets.specs.Faults.{NotAdded}
 use Rattle.el_buckets.specs.Rows.{Hold}
 use Rattle.el_buckets.proofs.Held.{count_txs}
-use Rattle.el_script.proofs.ScriptSteps.{many_scripts, many_entries}
 use Rattle.el_spend.specs.Outputs.{BalancesFit}
-use Rattle.el_connect.specs.within.Parts.{Reached, HasRoom, values, SpentBy, value_of}
+use Rattle.el_connect.specs.within.Parts.{Reached, values, value_of}
 
 -- 1. Lengths
 
@@ -40,38 +37,11 @@ state_long s k [] = refl
 state_long s zero (x ∷ xs) = refl
 state_long s (suc k) (x ∷ xs) = ap (λ n. suc n) (state_long s k xs)
 
-script_long : (s : Hash32) (xs : List Hash32) → length (add_script s xs) ≤ length xs + 1
-script_long s xs = by (has_script s xs)
-  where
-    by : (b : Bool) → length (if b then xs else xs ++ s ∷ []) ≤ length xs + 1
-    by true = omega arith
-    by false = let long = length-append xs (s ∷ []) in omega arith
-
-entry_long : (tx n : ℕ) (es : List ListedEntry) → length (append_entry tx n es) ≤ length es + 1
-entry_long tx n es = by (is_tx tx (last_tx_of n es))
-  where
-    by : (b : Bool) → length (if b then es else es ++ record { tx = tx; script = n } ∷ []) ≤ length es + 1
-    by true = omega arith
-    by false = let long = length-append es (record { tx = tx; script = n } ∷ []) in omega arith
-
 pub bury_long : (by : ℕ) (r : Option ℕ) (xs : List ListedOut) → length (bury by r xs) ≡ length xs
 bury_long by None xs = refl
 bury_long by (Some k) xs = state_long (State.Buried by) k xs
 
 -- 2. An input
-
-pub room_spent : (by k m n : ℕ) (l : Lists) → HasRoom l (m + 1) n → HasRoom (spend_coin by k l) m n
-room_spent by k m n l room =
-    let s = script_of_output k l in
-    let ins = length-append l.ins (k ∷ []) in
-    let outs = state_long (State.Spent by) k l.outs in
-    let scripts = script_long s l.scripts in
-    let entries = entry_long by (script_number s l.scripts) l.entries in
-    let a = room.ins in
-    let b = room.outs in
-    let c = room.scripts in
-    let d = room.entries in
-    record { ins = omega arith; outs = omega arith; scripts = omega arith; entries = omega arith }
 
 pub script_stays : (s : State) (j k : ℕ) (xs : List ListedOut) → script_at k (with_state s j xs) ≡ script_at k xs
 script_stays s j k [] = refl
@@ -100,20 +70,6 @@ pub inputs_end : (by at : ℕ) (os : List Outpoint) (l : Lists) → length os �
 inputs_end by at os l le = let none = drop_all at os le in rw none refl
 
 -- 3. An output
-
-pub room_funded : (tx index n : ℕ) (o : ℕ × Hash32) (l : Lists) → HasRoom l 0 (n + 1) → HasRoom (fund tx index o l) 0 n
-room_funded tx index n o l room =
-    let e = add_entry o.1 tx l in
-    let x : ListedOut = record { tx = tx; value = o.0; script = script_number o.1 e.scripts; state = State.Unspent } in
-    let buried = bury_long tx (replaced tx index e) l.outs in
-    let outs = length-append (bury tx (replaced tx index e) l.outs) (x ∷ []) in
-    let scripts = script_long o.1 l.scripts in
-    let entries = entry_long tx (script_number o.1 l.scripts) l.entries in
-    let a = room.ins in
-    let b = room.outs in
-    let c = room.scripts in
-    let d = room.entries in
-    record { ins = omega arith; outs = omega arith; scripts = omega arith; entries = omega arith }
 
 -- the sum falls by what is buried, and rises by the value
 pub funded_sum : (l : Lists) (tx index value script : ℕ)
@@ -147,12 +103,6 @@ pub fund_txs : (tx index : ℕ) (os : List (ℕ × Hash32)) (l : Lists) → (fun
 fund_txs tx index [] l = refl
 fund_txs tx index (o ∷ os) l = fund_txs tx (index + 1) os (fund tx index o l)
 
-pub room_all : (tx index : ℕ) (os : List (ℕ × Hash32)) (l : Lists) → HasRoom l 0 (length os) → HasRoom (fund_all tx index os l) 0 0
-room_all tx index [] l room = room
-room_all tx index (o ∷ os) l room =
-    let more : HasRoom l 0 (length os + 1) = (let e : length (o ∷ os) ≡ length os + 1 = omega arith in subst (HasRoom l 0) e room) in
-    room_all tx (index + 1) os (fund tx index o l) (room_funded tx index (length os) o l more)
-
 -- the outputs that are left
 pub output_funded : (tx at : ℕ) (os : List (ℕ × Hash32)) (o : ℕ × Hash32) (l : Lists) → at < length os → o ≡ get_or os at o
     → fund_all tx at (drop at os) l ≡ fund_all tx (at + 1) (drop (at + 1) os) (fund tx at o l)
@@ -175,28 +125,6 @@ before_last txs t = take_at txs (t ∷ []) (length txs) refl
 
 -- 5. Faults
 
-pub full_none : (table rows : ℕ) → rows ≤ ROW_LIMIT → full table rows ≡ None
-full_none table rows le = let e = le-ltb ROW_LIMIT rows le in rw e refl
-
--- with room, only money can be too much
-pub bounds_are : (height : ℕ) (l : Lists) → height < ROW_LIMIT → length l.txs ≤ ROW_LIMIT → HasRoom l 0 0 → bounds_by height l ≡ money_fault (unspent_sum l.outs)
-bounds_are height l low txs room =
-    let one = full_none 1 (height + 1) (omega arith) in
-    let two = full_none 2 (length l.txs) txs in
-    let a = room.ins in
-    let b = room.outs in
-    let c = room.scripts in
-    let d = room.entries in
-    let four = full_none 4 (length l.outs) (omega arith) in
-    let five = full_none 5 (length l.ins) (omega arith) in
-    let six = full_none 6 (length l.scripts) (omega arith) in
-    let eight = full_none 8 (length l.entries) (omega arith) in
-    rw (one, two, four, five, six, eight) (by (money_fault (unspent_sum l.outs)))
-  where
-    by : (r : Option ConnectFault) → option_or r None ≡ r
-    by None = refl
-    by (Some e) = refl
-
 pub money_fits : (sum : ℕ) → money_fault sum ≡ None → sum ≤ max_money
 money_fits sum e = by (cases_lt max_money sum)
   where
@@ -211,27 +139,6 @@ money_fits sum e = by (cases_lt max_money sum)
 
 pub spent_lists : (o : Outpoint) (by k : ℕ) (l : Lists) → coin_number o l.txs l.outs ≡ Some k → unwrap_or (spend o by l) l ≡ spend_output by k l
 spent_lists o by k l is = rw is refl
-
-pub input_reached : (counts : HeadCounts) (bs : List ListedBlock) (l : Lists) (before rows : held.Tables) (sum by k v : ℕ) (o : Outpoint) (h : Hash32) → Reached counts bs l before sum
-    → coin_number o l.txs l.outs ≡ Some k → v ≡ (get_or (spend_output by k l).outs k no_out).value → h ≡ script_of_output k l
-    → Hold counts bs (add_entry h by (spend_output by k l)) rows → SpentBy counts bs l rows sum o by (Some v)
-input_reached counts bs l before rows sum by k v o h reached is value script hold =
-    let there = is_there l.outs (output_number o l.txs) k is in
-    let less = spent_less l by k there in
-    let same = value_stays (State.Spent by) k k l.outs in
-    let sum_was = reached.sum_is in
-    record {
-      coin = k;
-      is = is;
-      less = omega arith;
-      reached = record {
-        hold = subst (λ (x : Hash32). Hold counts bs (add_entry x by (spend_output by k l)) rows) script hold;
-        fits = touch_fits (spend_output by k l) (script_of_output k l) by (take_out_fits l by k reached.fits);
-        tx_heads = reached.tx_heads;
-        script_heads = reached.script_heads;
-        sum_is = omega arith;
-      };
-    }
 
 pub balances_fit : (outs : List ListedOut) → unspent_sum outs < 2 ^ 64 → BalancesFit outs
 balances_fit outs fit = λ s. let part = balance_within s outs in omega arith
@@ -259,16 +166,6 @@ output_reached counts bs l before rows sum tx index gone after o reached fit bur
 pub not_added : (t : Table) (n : ℕ) (e : ConnectFault) → n < ROW_LIMIT → NotAdded t n e → e ≡ refusal.Memory
 not_added t n e lt (inl full) = absurd (let at = full.0 in omega arith)
 not_added t n e lt (inr memory) = memory.1
-
-pub touch_refused : (counts : HeadCounts) (bs : List ListedBlock) (l : Lists) (rows : held.Tables) (e : ConnectFault) → Hold counts bs l rows
-    → length l.scripts < ROW_LIMIT → length l.entries < ROW_LIMIT
-    → (e ≡ refusal.DiskFailed) ⊎ (NotAdded table.Scripts (length (rows table.Scripts)) e ⊎ NotAdded table.Entries (length (rows table.Entries)) e)
-    → (e ≡ refusal.DiskFailed) ⊎ (e ≡ refusal.Memory)
-touch_refused counts bs l rows e hold scripts entries (inl disk) = inl disk
-touch_refused counts bs l rows e hold scripts entries (inr (inl why)) =
-    inr (not_added table.Scripts (length (rows table.Scripts)) e (let many = many_scripts counts bs l rows hold in omega arith) why)
-touch_refused counts bs l rows e hold scripts entries (inr (inr why)) =
-    inr (not_added table.Entries (length (rows table.Entries)) e (let many = many_entries counts bs l rows hold in omega arith) why)
 
 pub tx_added_refused : (counts : HeadCounts) (bs : List ListedBlock) (l : Lists) (rows : held.Tables) (e : ConnectFault) → Hold counts bs l rows → length l.txs < ROW_LIMIT
     → (e ≡ refusal.DiskFailed) ⊎ NotAdded table.Txs (length (rows table.Txs)) e → (e ≡ refusal.DiskFailed) ⊎ (e ≡ refusal.Memory)

@@ -1,27 +1,31 @@
 -- A transaction in rows, and transactions one after the other.
-use Rattle.std.proofs.Common.{◌≡◌, ◌⊎◌, inl, inr, ℕ, ◌+◌, ◌<◌, ◌≤◌, ◌^◌, List, [], ◌∷◌, length, take, drop, get_or, Option, None, Some, Result, Ok, Err, refl, ap, sym, subst, ◌∙◌, arith, length-append}
+use Rattle.std.proofs.Common.{◌≡◌, ◌⊎◌, inl, inr, ℕ, ◌+◌, ◌<◌, ◌≤◌, ◌^◌, List, [], ◌∷◌, length, take, drop, get_or, Option, Result, Ok, Err, IfErr, IfOk, OnOk, refl, ap, sym, subst, ◌∙◌, arith, length-append}
+use Rattle.std.proofs.Math.Seq.{drop-append_seam}
 use Rattle.std.proofs.lemmas.List.{drop_all}
 use Rattle.std.specs.List.{AllByRecursion}
+use Rattle.std.specs.Option.{option_or}
 use Rattle.el_base.specs.declared.hash.Hash32.{Hash32}
 use Rattle.el_base.proofs.Lists.{left_at}
 use Rattle.el_tx.specs.declared.types.Outpoint.{Outpoint}
 use Rattle.el_tx.specs.Encoding.{max_money}
-use Rattle.el_chain.specs.Faults.{money_fault}
+use Rattle.el_chain.specs.Faults.{full}
 use Rattle.el_chain.specs.declared.fault.ConnectFault.{ConnectFault}
 use Rattle.el_chain.specs.declared.fault.ConnectFault.TheVariants as refusal
 use Rattle.el_chain.specs.declared.limits.TheConstants.{ROW_LIMIT}
 use Rattle.el_prepare.specs.declared.prepared.PreparedTx.{PreparedTx}
 use Rattle.el_tables.specs.ChainLists.{ListedBlock}
-use Rattle.el_tables.specs.Connecting.{◌>>=◌, spend_all, fund_all, listed_after, connect_tx, missing_at, ok_unless, bounds_by}
-use Rattle.el_tables.specs.Lists.{Lists, ListedTx, add_tx, unspent_sum, txid_at, newest_tx}
+use Rattle.el_tables.specs.Connecting.{◌>>=◌, spend_all, fund_all, listed_after, connect_tx, missing_at, ok_unless, bounds_by, full_by}
+use Rattle.el_tables.specs.Lists.{Lists, ListedTx, ListedOut, ListedEntry, add_tx, unspent_sum, txid_at, newest_tx}
 use Rattle.el_tables.specs.Tables.{HeadCounts}
 use Rattle.el_tables.proofs.FitLemmas.{tx_fits}
 use Rattle.el_rows.specs.Tables as held
-use Rattle.el_rows.specs.declared.tx_row.TxRow.{TxRow}
-use Rattle.el_buckets.specs.Rows.{Hold, listed_tx}
+use Rattle.el_buckets.specs.Rows.{Hold}
 use Rattle.el_connect.specs.declared.outputs.Maker.{Maker}
-use Rattle.el_connect.specs.within.Parts.{Reached, HasRoom, IsMaker, IsSmall, IsCounted, LedTo, LeadingOn, Spending, PutBy, values, as_listed, connect_next, connect_all}
-use Rattle.el_connect.proofs.StepLemmas.{room_all, fund_txs, last_txid, bounds_are, money_fits}
+use Rattle.el_connect.specs.within.Full.{ReadyCoins}
+use Rattle.el_connect.specs.within.Parts.{Reached, HasRoom, IsBetween, IsMaker, IsSmall, IsCounted, LedTo, LeadingOn, Overflows, TouchingOn, as_listed, connect_next, connect_all, made_by, touch_coins, values}
+use Rattle.el_connect.proofs.StepLemmas.{last_txid}
+use Rattle.el_connect.proofs.TouchLemmas.{full_last, full_none, full_some, fund_more, refused_later, touch_txs, touch_outs, touch_ins}
+use Rattle.el_connect.proofs.MadeLemmas.{between_next, made_txs, made_outs, made_ins, money_none, tx_leads}
 
 -- 1. A transaction is listed
 
@@ -32,58 +36,30 @@ pub record Listed (counts : HeadCounts) (bs : List ListedBlock) (l : Lists) (row
   pub room : HasRoom l 0 (length os)
   pub fit : unspent_sum l.outs + values os < 2 ^ 64
 
-module _ (counts : HeadCounts) (bs : List ListedBlock) (l : Lists) (height : ℕ) (p : PreparedTx) (rows : held.Tables) (left sum by : ℕ) (count : by ≡ length l.txs) (most : sum ≤ max_money) (small : IsSmall p)
-    (spent : Spending counts bs rows left sum l.txs 0 (length p.outputs) (spend_all by 0 p.inputs l)) where
-  -- the lists with the transaction
-  abbrev pub with_tx : Lists
-  with_tx = add_tx (listed_after height (as_listed p) l) spent.lists
+pub tx_listed : (counts : HeadCounts) (bs : List ListedBlock) (l : Lists) (t : ListedTx) (before added new : held.Tables) (left number : ℕ) (older : Option ℕ) (os : List (ℕ × Hash32))
+    → Reached counts bs l before left → HasRoom l 0 (length os) → unspent_sum l.outs + values os < 2 ^ 64
+    → Hold counts bs (add_tx t l) added → number ≡ length l.txs → new ≡ added
+    → ((x : Lists) → Hold counts bs x added → older ≡ newest_tx (txid_at number x.txs) (take number x.txs))
+    → Listed counts bs (add_tx t l) new left (record { number = number; txid = t.txid; older = older }) os
+tx_listed counts bs l t before added new left number older os reached room fit hold numbered same finds =
+    let with_tx = add_tx t l in
+    let sum_was = reached.sum_is in
+    let id : txid_at number with_tx.txs ≡ t.txid = ap (λ (n : ℕ). txid_at n with_tx.txs) numbered ∙ last_txid l.txs t in
+    record {
+      reached = record {
+        hold = subst (λ (T : held.Tables). Hold counts bs with_tx T) (sym same) hold;
+        fits = tx_fits l t reached.fits;
+        tx_heads = reached.tx_heads;
+        script_heads = reached.script_heads;
+        sum_is = sum_was;
+      };
+      maker = record { txid = id; older = finds with_tx hold ∙ ap (λ (h : Hash32). newest_tx h (take number with_tx.txs)) id };
+      room = record { ins = room.ins; outs = room.outs; scripts = room.scripts; entries = room.entries };
+      fit = fit;
+    }
 
-  pub tx_listed : (added new : held.Tables) (row : TxRow) (number : ℕ) (older : Option ℕ) → listed_tx row ≡ listed_after height (as_listed p) l
-      → Hold counts bs (add_tx (listed_tx row) spent.lists) added → number ≡ length spent.lists.txs → new ≡ added
-      → ((x : Lists) → Hold counts bs x added → older ≡ newest_tx (txid_at number x.txs) (take number x.txs))
-      → Listed counts bs with_tx new left (record { number = number; txid = p.txid; older = older }) p.outputs
-  tx_listed added new row number older is hold numbered same finds =
-      let t = listed_after height (as_listed p) l in
-      let has = subst (λ (u : ListedTx). Hold counts bs (add_tx u spent.lists) added) is hold in
-      let sum_was = spent.reached.sum_is in
-      let fell = spent.fell in
-      let money = small.money in
-      let id : txid_at number with_tx.txs ≡ p.txid = ap (λ (n : ℕ). txid_at n with_tx.txs) numbered ∙ last_txid spent.lists.txs t in
-      let r = spent.room in
-      record {
-        reached = record {
-          hold = subst (λ (T : held.Tables). Hold counts bs with_tx T) (sym same) has;
-          fits = tx_fits spent.lists t spent.reached.fits;
-          tx_heads = spent.reached.tx_heads;
-          script_heads = spent.reached.script_heads;
-          sum_is = sum_was;
-        };
-        maker = record { txid = id; older = finds with_tx has ∙ ap (λ (h : Hash32). newest_tx h (take number with_tx.txs)) id };
-        room = record { ins = r.ins; outs = r.outs; scripts = r.scripts; entries = r.entries };
-        fit = omega arith;
-      }
-
-  -- and with its outputs
-  pub tx_put : (new : held.Tables) (number after : ℕ) → number ≡ length spent.lists.txs → Reached counts bs (fund_all number 0 p.outputs with_tx) new after
-      → PutBy counts bs new after l (connect_tx height (as_listed p) l)
-  tx_put new number after numbered reached =
-      let n = length l.txs in
-      let t = listed_after height (as_listed p) l in
-      let at : number ≡ n = numbered ∙ ap length spent.same in
-      let led = spent.led in
-      let from : spend_all n 0 p.inputs l ≡ Ok spent.lists = subst (λ (k : ℕ). spend_all k 0 p.inputs l ≡ Ok spent.lists) count led in
-      let r = spent.room in
-      let txs = fund_txs n 0 p.outputs with_tx in
-      let long = length-append spent.lists.txs (t ∷ []) in
-      let same = ap (λ (ts : List ListedTx). length ts) spent.same in
-      let all = ap (λ (ts : List ListedTx). length ts) txs in
-      record {
-        lists = fund_all n 0 p.outputs with_tx;
-        led = ap (λ (q : Result Lists ℕ). q >>= (λ (x : Lists). Ok (fund_all n 0 p.outputs (add_tx t x)))) from;
-        reached = subst (λ (k : ℕ). Reached counts bs (fund_all k 0 p.outputs with_tx) new after) at reached;
-        room = room_all n 0 p.outputs with_tx (record { ins = r.ins; outs = r.outs; scripts = r.scripts; entries = r.entries });
-        longer = omega arith;
-      }
+pub made_at : (l : Lists) (t : ListedTx) (os : List (ℕ × Hash32)) (number : ℕ) → number ≡ length l.txs → fund_all number 0 os (add_tx t l) ≡ made_by t os l
+made_at l t os number is = ap (λ (k : ℕ). fund_all k 0 os (add_tx t l)) is
 
 -- an input without a coin is the transaction's fault
 pub tx_missing : (index height by : ℕ) (p : PreparedTx) (l : Lists) (e : ConnectFault) → by ≡ length l.txs → missing_at {A = Lists} index (spend_all by 0 p.inputs l) ≡ Err e
@@ -111,32 +87,161 @@ pub counted_of : (height : ℕ) (p : PreparedTx) (l : Lists) → height < ROW_LI
     → IsCounted height p l
 counted_of height p l a b c d = record { block = a; txs = b; outs = c; ins = d }
 
-pub room_of : (l : Lists) (inputs outputs : ℕ) → length l.ins + inputs ≤ ROW_LIMIT → length l.outs + outputs ≤ ROW_LIMIT → length l.scripts + (inputs + outputs) ≤ ROW_LIMIT
-    → length l.entries + (inputs + outputs) ≤ ROW_LIMIT → HasRoom l inputs outputs
-room_of l inputs outputs a b c d = record { ins = a; outs = b; scripts = c; entries = d }
+-- what an outcome tells, told on
+pub ok_joined : {P Q : ℕ → Type 0} {A : Type 0} (r : Result ℕ ConnectFault) → IfOk r P → OnOk r A → ((n : ℕ) → P n → A → Q n) → IfOk r Q
+ok_joined (Ok n) p a f = f n p a
+ok_joined (Err e) p a f = tt
+
+pub err_mapped : {P Q : ConnectFault → Type 0} (r : Result ℕ ConnectFault) → IfErr r P → ((e : ConnectFault) → P e → Q e) → IfErr r Q
+err_mapped (Ok n) p f = tt
+err_mapped (Err e) p f = f e p
 
 -- 2. With its bounds
 
-module _ (counts : HeadCounts) (bs : List ListedBlock) (l : Lists) (height index : ℕ) (p : PreparedTx) (rows : held.Tables) (after : ℕ) (low : height < ROW_LIMIT) (txs : length l.txs < ROW_LIMIT)
-    (put : PutBy counts bs rows after l (connect_tx height (as_listed p) l)) where
-  bounded : bounds_by height put.lists ≡ money_fault after
-  bounded =
-      let long = put.longer in
-      bounds_are height put.lists low (omega arith) put.room ∙ ap money_fault (sym put.reached.sum_is)
+module _ (counts : HeadCounts) (bs : List ListedBlock) (l : Lists) (height index : ℕ) (p : PreparedTx) (ready_rows : held.Tables) (left : ℕ) (counted : IsCounted height p l) (between : IsBetween l)
+    (ready : ReadyCoins counts bs ready_rows left height p l) where
+  abbrev t : ListedTx
+  t = listed_after height (as_listed p) l
 
-  next_is : connect_next height index p l ≡ ok_unless (money_fault after) put.lists
-  next_is =
-      ap (λ (r : Result Lists ℕ). missing_at index r >>= (λ (m : Lists). ok_unless (bounds_by height m) m)) put.led
-      ∙ ap (λ (b : Option ConnectFault). ok_unless b put.lists) bounded
+  abbrev end : Lists
+  end = made_by t p.outputs ready.real
 
-  pub tx_led : money_fault after ≡ None → LedTo counts bs rows after (connect_next height index p l) × (after ≤ max_money)
-  tx_led none = (
-    record { lists = put.lists; led = next_is ∙ ap (λ (b : Option ConnectFault). ok_unless b put.lists) none; reached = put.reached },
-    money_fits after none,
-  )
+  real_txs : ready.real.txs ≡ l.txs
+  real_txs = ap (λ (x : Lists). x.txs) ready.touched ∙ touch_txs (length l.txs) ready.coins ready.now ∙ ready.txs
 
-  pub tx_too_much : (e : ConnectFault) → money_fault after ≡ Some e → connect_next height index p l ≡ Err e
-  tx_too_much e some = next_is ∙ ap (λ (b : Option ConnectFault). ok_unless b put.lists) some
+  real_outs : ready.real.outs ≡ ready.now.outs
+  real_outs = ap (λ (x : Lists). x.outs) ready.touched ∙ touch_outs (length l.txs) ready.coins ready.now
+
+  real_ins : ready.real.ins ≡ ready.now.ins
+  real_ins = ap (λ (x : Lists). x.ins) ready.touched ∙ touch_ins (length l.txs) ready.coins ready.now
+
+  leads : connect_tx height (as_listed p) l ≡ Ok end
+  leads = tx_leads height p l ready.real ready.led real_txs
+
+  -- there is room for what comes
+  pub room_ready : HasRoom ready.now 0 (length p.outputs)
+  room_ready =
+      let ins = ap (λ (xs : List ℕ). length xs) ready.ins in
+      let joined = length-append l.ins ready.coins in
+      let many = ready.many in
+      let outs = ready.outs in
+      let a = counted.ins in
+      let b = counted.outs in
+      let c = between.scripts in
+      let d = between.entries in
+      let e = ap (λ (xs : List Hash32). length xs) ready.scripts in
+      let f = ap (λ (xs : List ListedEntry). length xs) ready.entries in
+      record { ins = omega arith; outs = omega arith; scripts = omega arith; entries = omega arith }
+
+  pub coins_at : (first : ℕ) → first ≡ length l.ins → drop first ready.now.ins ≡ ready.coins
+  coins_at first is =
+      ap (λ (n : ℕ). drop n ready.now.ins) is ∙ ap (drop (length l.ins)) ready.ins ∙ drop-append_seam l.ins ready.coins
+
+  end_txs : length end.txs ≡ length l.txs + 1
+  end_txs =
+      let made = ap (λ (ts : List ListedTx). length ts) (made_txs t p.outputs ready.real) in
+      let one = length-append ready.real.txs (t ∷ []) in
+      let same = ap (λ (ts : List ListedTx). length ts) real_txs in
+      omega arith
+
+  end_outs : length end.outs ≤ ROW_LIMIT
+  end_outs =
+      let made = made_outs t p.outputs ready.real in
+      let same = ap (λ (xs : List ListedOut). length xs) real_outs in
+      let outs = ready.outs in
+      let b = counted.outs in
+      omega arith
+
+  end_ins : length end.ins ≤ ROW_LIMIT
+  end_ins =
+      let made = ap (λ (xs : List ℕ). length xs) (made_ins t p.outputs ready.real) in
+      let same = ap (λ (xs : List ℕ). length xs) real_ins in
+      let ins = ap (λ (xs : List ℕ). length xs) ready.ins in
+      let joined = length-append l.ins ready.coins in
+      let many = ready.many in
+      let a = counted.ins in
+      omega arith
+
+  full_end : full_by height end ≡ full 8 (length end.entries)
+  full_end =
+      let txs = end_txs in
+      let few = counted.txs in
+      let low = counted.block in
+      full_last height end (omega arith) (omega arith) end_outs end_ins ready.few
+
+  next_end : connect_next height index p l ≡ ok_unless (full 8 (length end.entries)) end
+  next_end =
+      let fine = money_none (unspent_sum end.outs) ready.money in
+      let bounds : bounds_by height end ≡ full 8 (length end.entries) = ap (λ (r : Option ConnectFault). option_or r (full_by height end)) fine ∙ full_end in
+      ap (λ (r : Result Lists ℕ). missing_at index r >>= (λ (m : Lists). ok_unless (bounds_by height m) m)) leads
+      ∙ ap (λ (b : Option ConnectFault). ok_unless b end) bounds
+
+  -- the table of entries is full
+  overflowed : (e : ConnectFault) → Overflows end e → connect_next height index p l ≡ Err e
+  overflowed e over =
+      next_end ∙ ap (λ (b : Option ConnectFault). ok_unless b end) (full_some 8 (length end.entries) over.1) ∙ ap (λ (f : ConnectFault). Err f) (sym over.0)
+
+  -- after the script hashes of its coins have their entries
+  module _ (by : ℕ) (row : ListedTx) (os : List (ℕ × Hash32)) (rows : held.Tables) (is : by ≡ length l.txs) (row_is : row ≡ listed_after height (as_listed p) l) (os_are : os ≡ p.outputs)
+      (touching : TouchingOn counts bs rows left ready.now (length p.outputs) (λ now. touch_coins by ready.coins ready.now ≡ now)) where
+    real_is : touching.lists ≡ ready.real
+    real_is = sym touching.left ∙ ap (λ (n : ℕ). touch_coins n ready.coins ready.now) is ∙ sym ready.touched
+
+    end_is : made_by row os touching.lists ≡ end
+    end_is =
+        ap (λ (u : ListedTx). made_by u os touching.lists) row_is ∙ ap (λ (xs : List (ℕ × Hash32)). made_by (listed_after height (as_listed p) l) xs touching.lists) os_are
+        ∙ ap (made_by (listed_after height (as_listed p) l) p.outputs) real_is
+
+    pub fit_ready : IsSmall p → unspent_sum touching.lists.outs + values os < 2 ^ 64
+    fit_ready small =
+        let was = touching.reached.sum_is in
+        let low = ready.low in
+        let money = small.money in
+        let same = ap values os_are in
+        omega arith
+
+    pub room_touching : HasRoom touching.lists 0 (length os)
+    room_touching = subst (λ (xs : List (ℕ × Hash32)). HasRoom touching.lists 0 (length xs)) (sym os_are) touching.room
+
+    pub few_txs : length touching.lists.txs < ROW_LIMIT
+    few_txs =
+        let same = ap (λ (ts : List ListedTx). length ts) (touching.txs ∙ ready.txs) in
+        let few = counted.txs in
+        omega arith
+
+    pub few_scripts : length (made_by row os touching.lists).scripts ≤ ROW_LIMIT
+    few_scripts = subst (λ (x : Lists). length x.scripts ≤ ROW_LIMIT) (sym end_is) ready.few
+
+    pub tx_led : (new : held.Tables) (after : ℕ) → Reached counts bs (made_by row os touching.lists) new after → HasRoom (made_by row os touching.lists) 0 0
+        → LedTo counts bs new after (connect_next height index p l) × (after ≤ max_money)
+    tx_led new after reached room =
+        let few = subst (λ (x : Lists). length x.entries ≤ ROW_LIMIT) end_is room.entries in
+        let none = full_none 8 (length end.entries) few in
+        let there = subst (λ (x : Lists). Reached counts bs x new after) end_is reached in
+        let sum = there.sum_is in
+        let money = ready.money in
+        (record { lists = end; led = next_end ∙ ap (λ (b : Option ConnectFault). ok_unless b end) none; reached = there }, omega arith)
+
+    pub outputs_refused : (e : ConnectFault) → (e ≡ refusal.DiskFailed) ⊎ ((e ≡ refusal.Memory) ⊎ Overflows (made_by row os touching.lists) e)
+        → (e ≡ refusal.DiskFailed) ⊎ ((e ≡ refusal.Memory) ⊎ (connect_next height index p l ≡ Err e))
+    outputs_refused e why = refused_later (made_by row os touching.lists) end e (let n = ap (λ (x : Lists). length x.entries) end_is in omega arith) (overflowed e) why
+
+  pub inputs_refused : (by : ℕ) (e : ConnectFault) → by ≡ length l.txs → (e ≡ refusal.DiskFailed) ⊎ ((e ≡ refusal.Memory) ⊎ Overflows (touch_coins by ready.coins ready.now) e)
+      → (e ≡ refusal.DiskFailed) ⊎ ((e ≡ refusal.Memory) ⊎ (connect_next height index p l ≡ Err e))
+  inputs_refused by e is why =
+      let real = ap (λ (n : ℕ). touch_coins n ready.coins ready.now) is ∙ sym ready.touched in
+      let same = ap (λ (x : Lists). length x.entries) real in
+      let more = (fund_more (length ready.real.txs) 0 p.outputs (add_tx t ready.real)).1 in
+      refused_later (touch_coins by ready.coins ready.now) end e (omega arith) (overflowed e) why
+
+  -- its script hashes have room so far
+  pub few_touched : (by : ℕ) → by ≡ length l.txs → length (touch_coins by ready.coins ready.now).scripts ≤ ROW_LIMIT
+  few_touched by is =
+      let real = ap (λ (n : ℕ). touch_coins n ready.coins ready.now) is ∙ sym ready.touched in
+      let same = ap (λ (x : Lists). length x.scripts) real in
+      let more = (fund_more (length ready.real.txs) 0 p.outputs (add_tx t ready.real)).0 in
+      let few = ready.few in
+      omega arith
 
 pub tx_refused : (height index : ℕ) (p : PreparedTx) (l : Lists) (e : ConnectFault)
     → (e ≡ refusal.DiskFailed) ⊎ ((e ≡ refusal.Memory) ⊎ (missing_at index (connect_tx height (as_listed p) l) ≡ Err e))
@@ -159,21 +264,21 @@ module _ (counts : HeadCounts) (bs : List ListedBlock) (before : Lists) (height 
   Txs rows sum at = LeadingOn counts bs rows sum (λ now. connect_all height 0 ps before ≡ connect_all height at (drop at ps) now)
 
   pub txs_more : (rows new : held.Tables) (sum after at : ℕ) (p : PreparedTx) → at < length ps → p ≡ get_or ps at p → Txs rows sum at
-      → ((now : Lists) → Reached counts bs now rows sum → sum ≤ max_money → LedTo counts bs new after (connect_next height at p now) × (after ≤ max_money))
+      → ((now : Lists) → Reached counts bs now rows sum → sum ≤ max_money → IsBetween now → LedTo counts bs new after (connect_next height at p now) × (after ≤ max_money))
       → Txs new after (at + 1)
   txs_more rows new sum after at p lt is inv leads =
       let now = inv.lists in
-      let next = leads now inv.reached inv.within in
+      let next = leads now inv.reached inv.within inv.between in
       let left = left_at ps at p lt is in
       let led = next.0.led in
       let step : connect_all height at (drop at ps) now ≡ connect_all height (at + 1) (drop (at + 1) ps) next.0.lists = rw (left, led) refl in
-      record { lists = next.0.lists; left = inv.left ∙ step; reached = next.0.reached; within = next.1 }
+      record { lists = next.0.lists; left = inv.left ∙ step; reached = next.0.reached; between = between_next height at p now next.0.lists led inv.between; within = next.1 }
 
   pub txs_refused : (rows : held.Tables) (sum at : ℕ) (p : PreparedTx) (e : ConnectFault) → at < length ps → p ≡ get_or ps at p → Txs rows sum at
-      → ((now : Lists) → Reached counts bs now rows sum → sum ≤ max_money
+      → ((now : Lists) → Reached counts bs now rows sum → sum ≤ max_money → IsBetween now
       → (e ≡ refusal.DiskFailed) ⊎ ((e ≡ refusal.Memory) ⊎ (connect_next height at p now ≡ Err e)))
       → (e ≡ refusal.DiskFailed) ⊎ ((e ≡ refusal.Memory) ⊎ (connect_all height 0 ps before ≡ Err e))
-  txs_refused rows sum at p e lt is inv refused = by (refused inv.lists inv.reached inv.within)
+  txs_refused rows sum at p e lt is inv refused = by (refused inv.lists inv.reached inv.within inv.between)
     where
       by : (e ≡ refusal.DiskFailed) ⊎ ((e ≡ refusal.Memory) ⊎ (connect_next height at p inv.lists ≡ Err e))
           → (e ≡ refusal.DiskFailed) ⊎ ((e ≡ refusal.Memory) ⊎ (connect_all height 0 ps before ≡ Err e))

@@ -87,8 +87,7 @@ fn append_block<R: Rows>(t: &mut Txn<'_, R>, row: &BlockRow) -> Result<u64, Conn
 ///
 /// The block's first fault. `ConnectFault::DiskFailed` comes where the device failed, and
 /// `ConnectFault::Memory` where no memory was found; both may come in place of a fault, and where there is
-/// none. `Memory` also stands for the answer where the tables of script hashes and of entries might have no
-/// room for all inputs and outputs of a transaction.
+/// none.
 pub fn connect<R: Rows, L: Ledger>(
     t: &mut Txn<'_, R>,
     b: &Prepared,

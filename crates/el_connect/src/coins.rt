@@ -1,28 +1,27 @@
-// The coins and the money of a transaction for whose rows there is no room.
-ghost use Rattle.std.specs.Prelude.{◌≡◌, ◌⊎◌, ◌<◌, ◌≤◌, ◌+◌, ◌^◌, ℕ, List, [], length, None, Some, Ok, Err, OnOk, IfOk, IfErr};
-ghost use Rattle.el_chain.specs.Faults.{money_fault};
+// The coins that a transaction takes, and its faults before it is listed.
+ghost use Rattle.std.specs.Prelude.{◌≡◌, ◌⊎◌, ◌<◌, ◌≤◌, ◌+◌, ◌^◌, ℕ, List, [], length, Ok, Err, OnOk, IfOk, IfErr};
 ghost use Rattle.el_chain.specs.declared.limits.TheConstants.{ROW_LIMIT};
 ghost use Rattle.el_outside.specs.Counts.{CountsOnly};
 ghost use Rattle.el_rows.specs.Transaction.{tables_in, OnlyReads};
 ghost use Rattle.el_rows.specs.declared.table.Table.{Table};
 ghost use Rattle.el_tables.specs.ChainLists.{ListedBlock};
 ghost use Rattle.el_tables.specs.Connecting.{spend_all, missing_at};
-ghost use Rattle.el_tables.specs.Lists.{Lists, newest_tx, unspent_sum};
+ghost use Rattle.el_tables.specs.Lists.{Lists, unspent_sum};
 ghost use Rattle.el_tables.specs.Tables.{HeadCounts};
 ghost use Rattle.el_tx.specs.Encoding.{max_money};
 ghost use Rattle.el_buckets.specs.Rows.{Hold};
-ghost use Rattle.el_connect.specs.within.Parts.{Reached, IsSmall, values, connect_next};
-ghost use Rattle.el_connect.specs.within.Full.{TakenBy, TakingOn, FineCoins};
+ghost use Rattle.el_connect.specs.within.Parts.{Reached, IsSmall, IsBetween, IsCounted, connect_next};
+ghost use Rattle.el_connect.specs.within.Full.{TakenBy, TakingOn, FineCoins, ReadyCoins};
 
-use crate::reading::value_and_script;
-use el_base::{Hash32, Steps};
+use crate::money::check_outputs;
+use crate::reading::output_value;
+use crate::scripts::check_scripts;
+use el_base::Steps;
 use el_chain::ConnectFault;
-use el_outside::DiskFailed;
-use el_position::newest;
 use el_prepare::PreparedTx;
 use el_rows::{Rows, Table, Txn};
 use el_spend::spend;
-use el_tx::{MAX_MONEY, Outpoint};
+use el_tx::Outpoint;
 use std::sync::ledger::Ledger;
 
 // The transaction of that number spends the outpoint's coin, and its script hash gets no entry. It answers
@@ -51,7 +50,7 @@ fn take_coin<R: Rows, L: Ledger>(
     match spend(t, o, by, steps)? {
         None => Ok(None),
         Some(coin) => {
-            let (value, _) = value_and_script(t, coin, steps)?;
+            let value = output_value(t, coin, steps)?;
             Ok(Some(value))
         }
     }
@@ -69,15 +68,15 @@ fn take_coins<R: Rows, L: Ledger>(
 ) -> Result<u64, ConnectFault>
     requires live { R.is_live t.old.rows.now }
     requires by { by < 2 ^ 32 }
-    requires few { length inputs.now < 2 ^ 32 }
-    ensures taken { (counts : HeadCounts) (bs : List ListedBlock) (now before : Lists) → R.tells
-        → Hold counts bs now (tables_in t.old) → 0 < counts.txs → now.txs ≡ before.txs
-        → now.outs ≡ before.outs → now.ins ≡ [] → sum ≡ unspent_sum before.outs
-        → IfOk result (λ left. TakingOn counts bs before (tables_in t.new) left sum (length inputs.now)
-        (λ real. spend_all by 0 inputs.now before ≡ Ok real)) }
-    ensures missing { (counts : HeadCounts) (bs : List ListedBlock) (now before : Lists) → R.tells
-        → Hold counts bs now (tables_in t.old) → 0 < counts.txs → now.txs ≡ before.txs
-        → now.outs ≡ before.outs → now.ins ≡ [] → sum ≡ unspent_sum before.outs
+    ensures taken { (counts : HeadCounts) (bs : List ListedBlock) (start before : Lists) → R.tells
+        → Hold counts bs start (tables_in t.old) → 0 < counts.txs → start.txs ≡ before.txs
+        → start.outs ≡ before.outs → sum ≡ unspent_sum before.outs
+        → IfOk result (λ left. TakingOn counts bs by start before (tables_in t.new) left sum
+        (length inputs.now) (λ real. spend_all by 0 inputs.now before ≡ Ok real)) }
+    ensures missing { (counts : HeadCounts) (bs : List ListedBlock) (start before : Lists) → R.tells
+        → Hold counts bs start (tables_in t.old) → 0 < counts.txs → start.txs ≡ before.txs
+        → start.outs ≡ before.outs → sum ≡ unspent_sum before.outs
+        → length start.ins + length inputs.now ≤ ROW_LIMIT
         → IfErr result (λ e. (e ≡ ConnectFault.DiskFailed) ⊎ ((e ≡ ConnectFault.Memory)
         ⊎ (missing_at index (spend_all by 0 inputs.now before) ≡ Err e))) }
     ensures blocks { tables_in t.new Table.Blocks ≡ tables_in t.old Table.Blocks }
@@ -97,53 +96,38 @@ fn take_coins<R: Rows, L: Ledger>(
     Ok(left)
 }
 
-// The values of outputs together.
-fn total(outputs: &[(u64, Hash32)]) -> u64
-    requires { values outputs.now ≤ max_money }
-    ensures { result ≡ values outputs.now }
-{
-    let mut sum: u64 = 0;
-    for output in outputs {
-        sum += output.0;
-    }
-    sum
-}
-
-// Refuses outputs with which all coins hold too much, where they hold that much before. Where they may be too
-// much and a transaction before has the same txid, what they replace is not looked for: `Memory` stands for
-// the answer then.
-fn check_outputs<R: Rows, L: Ledger>(
+// A transaction with that index in its block spends its coins, where the tables of inputs and outputs have
+// room for it. It answers what all coins hold then. Each of its faults is told but a full table of entries.
+pub(crate) fn take_inputs<R: Rows, L: Ledger>(
     t: &mut Txn<'_, R>,
+    index: usize,
     tx: &PreparedTx,
-    left: u64,
+    sum: u64,
     steps: &mut Steps<L>,
-) -> Result<(), ConnectFault>
+) -> Result<u64, ConnectFault>
     requires live { R.is_live t.old.rows.now }
     requires small { IsSmall tx.now }
-    ensures fine { OnOk result (left + values tx.now.outputs ≤ max_money) }
-    ensures wrong { (counts : HeadCounts) (bs : List ListedBlock) (l : Lists) → R.tells
-        → Hold counts bs l (tables_in t.old) → 0 < counts.txs → left ≤ max_money
+    ensures ready { (counts : HeadCounts) (bs : List ListedBlock) (l : Lists) (height : ℕ) → R.tells
+        → Reached counts bs l (tables_in t.old) sum → sum ≤ max_money → IsBetween l
+        → IsCounted height tx.now l
+        → IfOk result (λ left. ReadyCoins counts bs (tables_in t.new) left height tx.now l) }
+    ensures refused { (counts : HeadCounts) (bs : List ListedBlock) (l : Lists) (height : ℕ) → R.tells
+        → Reached counts bs l (tables_in t.old) sum → sum ≤ max_money → IsBetween l
+        → IsCounted height tx.now l
         → IfErr result (λ e. (e ≡ ConnectFault.DiskFailed) ⊎ ((e ≡ ConnectFault.Memory)
-        ⊎ ((newest_tx tx.now.txid l.txs ≡ None)
-        × (money_fault (left + values tx.now.outputs) ≡ Some e)))) }
-    ensures tables { tables_in t.new ≡ tables_in t.old }
+        ⊎ (connect_next height index tx.now l ≡ Err e))) }
+    ensures blocks { tables_in t.new Table.Blocks ≡ tables_in t.old Table.Blocks }
     ensures reads { OnlyReads t.old t.new }
     ensures name { t.new.rows.ghost_name ≡ t.old.rows.ghost_name }
     ensures ticked { steps.old ≤ steps.new }
     ensures cause { CountsOnly (R.faults t.old.rows.now) (R.faults t.new.rows.now) ConnectFault.DiskFailed
         result }
 {
-    let after = left.saturating_add(total(tx.outputs.as_slice()));
-    if after <= MAX_MONEY {
-        return Ok(());
-    }
-    match newest(t, &tx.txid, steps) {
-        Ok(None) => Err(ConnectFault::Money {
-            supply: u128::from(after),
-        }),
-        Ok(Some(_)) => Err(ConnectFault::Memory),
-        Err(DiskFailed) => Err(ConnectFault::DiskFailed),
-    }
+    let by = t.count(Table::Txs);
+    let left = take_coins(t, index, by, tx.inputs.as_slice(), sum, steps)?;
+    check_outputs(t, tx, by, left, steps)?;
+    check_scripts(t, tx.outputs.as_slice(), steps)?;
+    Ok(left)
 }
 
 // Looks at the coins and the money of a transaction with that index in its block, for whose rows there is no
@@ -158,10 +142,10 @@ pub(crate) fn check_coins<R: Rows, L: Ledger>(
     requires live { R.is_live t.old.rows.now }
     requires small { IsSmall tx.now }
     ensures fine { (counts : HeadCounts) (bs : List ListedBlock) (l : Lists) (height : ℕ) → R.tells
-        → Reached counts bs l (tables_in t.old) sum → sum ≤ max_money
+        → Reached counts bs l (tables_in t.old) sum → sum ≤ max_money → IsBetween l
         → OnOk result (FineCoins height tx.now l) }
     ensures wrong { (counts : HeadCounts) (bs : List ListedBlock) (l : Lists) (height : ℕ) → R.tells
-        → Reached counts bs l (tables_in t.old) sum → sum ≤ max_money
+        → Reached counts bs l (tables_in t.old) sum → sum ≤ max_money → IsBetween l
         → IfErr result (λ e. (e ≡ ConnectFault.DiskFailed) ⊎ ((e ≡ ConnectFault.Memory)
         ⊎ (connect_next height index tx.now l ≡ Err e))) }
     ensures blocks { tables_in t.new Table.Blocks ≡ tables_in t.old Table.Blocks }
@@ -174,6 +158,6 @@ pub(crate) fn check_coins<R: Rows, L: Ledger>(
     let by = t.count(Table::Txs);
     t.shrink(Table::Ins, 0);
     let left = take_coins(t, index, by, tx.inputs.as_slice(), sum, steps)?;
-    check_outputs(t, tx, left, steps)?;
+    check_outputs(t, tx, by, left, steps)?;
     Ok(())
 }

@@ -1,77 +1,67 @@
-// The inputs of a transaction.
-ghost use Rattle.std.specs.Prelude.{◌≡◌, ◌⊎◌, ◌<◌, ◌≤◌, ◌+◌, ◌^◌, ℕ, List, length, Ok, Err, IfOk, IfErr};
+// The script hashes of the coins that a transaction takes.
+ghost use Rattle.std.specs.Prelude.{◌≡◌, ◌⊎◌, ◌<◌, ◌≤◌, ◌+◌, ◌^◌, ℕ, List, length, drop, get_or, OnOk, IfOk, IfErr};
+ghost use Rattle.el_chain.specs.declared.limits.TheConstants.{ROW_LIMIT};
 ghost use Rattle.el_outside.specs.Counts.{CountsOnly};
 ghost use Rattle.el_rows.specs.Transaction.{tables_in, OnlyReads};
 ghost use Rattle.el_rows.specs.declared.table.Table.{Table};
 ghost use Rattle.el_tables.specs.ChainLists.{ListedBlock};
-ghost use Rattle.el_tables.specs.Connecting.{spend_all, missing_at};
-ghost use Rattle.el_tables.specs.Lists.{Lists};
+ghost use Rattle.el_tables.specs.Connecting.{script_of_output};
+ghost use Rattle.el_tables.specs.Lists.{Lists, add_entry};
 ghost use Rattle.el_tables.specs.Tables.{HeadCounts};
-ghost use Rattle.el_connect.specs.within.Parts.{Reached, HasRoom, SpentBy, Spending};
+ghost use Rattle.el_buckets.specs.Rows.{Hold};
+ghost use Rattle.el_connect.specs.within.Parts.{Reached, HasRoom, Overflows, TouchingOn, touch_coins};
 
-use crate::reading::{script_hash, value_and_script};
-use el_base::Steps;
+use crate::reading::{input_coin, script_hash, script_number};
+use el_base::{Hash32, Steps};
 use el_chain::ConnectFault;
 use el_rows::{Rows, Txn};
 use el_script::touch;
-use el_spend::spend;
-use el_tx::Outpoint;
 use std::sync::ledger::Ledger;
 
-// The transaction of that number spends the outpoint's coin, and has an entry with its script hash. It
-// answers what the coin held, and none where there is no coin; then nothing has changed.
-fn spend_input<R: Rows, L: Ledger>(
+// The script hash of the coin that the input of that number takes.
+fn coin_script<R: Rows, L: Ledger>(
     t: &mut Txn<'_, R>,
-    o: &Outpoint,
-    by: u64,
+    n: u64,
     steps: &mut Steps<L>,
-) -> Result<Option<u64>, ConnectFault>
+) -> Result<Hash32, ConnectFault>
     requires live { R.is_live t.old.rows.now }
-    requires by { by < 2 ^ 32 }
-    ensures spent { (counts : HeadCounts) (bs : List ListedBlock) (l : Lists) (sum : ℕ) → R.tells
-        → Reached counts bs l (tables_in t.old) sum
-        → IfOk result (λ value. SpentBy counts bs l (tables_in t.new) sum o.now by value) }
-    ensures refused { (counts : HeadCounts) (bs : List ListedBlock) (l : Lists) (sum m n : ℕ) → R.tells
-        → Reached counts bs l (tables_in t.old) sum → HasRoom l (m + 1) n
-        → IfErr result (λ e. (e ≡ ConnectFault.DiskFailed) ⊎ (e ≡ ConnectFault.Memory)) }
-    ensures blocks { tables_in t.new Table.Blocks ≡ tables_in t.old Table.Blocks }
+    ensures script { (counts : HeadCounts) (bs : List ListedBlock) (l : Lists) → R.tells
+        → Hold counts bs l (tables_in t.old) → IfOk result (λ s. s ≡ script_of_output (get_or l.ins n 0) l) }
+    ensures tables { tables_in t.new ≡ tables_in t.old }
+    ensures fault { IfErr result (λ e. e ≡ ConnectFault.DiskFailed) }
     ensures reads { OnlyReads t.old t.new }
     ensures name { t.new.rows.ghost_name ≡ t.old.rows.ghost_name }
     ensures ticked { steps.old ≤ steps.new }
     ensures cause { CountsOnly (R.faults t.old.rows.now) (R.faults t.new.rows.now) ConnectFault.DiskFailed
         result }
 {
-    match spend(t, o, by, steps)? {
-        None => Ok(None),
-        Some(coin) => {
-            let (value, script) = value_and_script(t, coin, steps)?;
-            let hash = script_hash(t, script, steps)?;
-            touch(t, &hash, by, steps)?;
-            Ok(Some(value))
-        }
-    }
+    let coin = input_coin(t, n, steps)?;
+    let script = script_number(t, coin, steps)?;
+    script_hash(t, script, steps)
 }
 
-// The transaction of that number, with that index in its block, spends the coins of these outpoints, in
-// order. It answers what all coins hold then.
-pub(crate) fn spend_inputs<R: Rows, L: Ledger>(
+// The input of that number was made by the transaction of that number, which gets an entry with the script
+// hash of the coin.
+fn touch_coin<R: Rows, L: Ledger>(
     t: &mut Txn<'_, R>,
-    index: usize,
+    n: u64,
     by: u64,
-    inputs: &[Outpoint],
-    sum: u64,
     steps: &mut Steps<L>,
-) -> Result<u64, ConnectFault>
+) -> Result<(), ConnectFault>
     requires live { R.is_live t.old.rows.now }
     requires by { by < 2 ^ 32 }
-    ensures spent { (counts : HeadCounts) (bs : List ListedBlock) (l : Lists) (n : ℕ) → R.tells
-        → Reached counts bs l (tables_in t.old) sum → HasRoom l (length inputs.now) n
-        → IfOk result (λ left. Spending counts bs (tables_in t.new) left sum l.txs 0 n
-        (spend_all by 0 inputs.now l)) }
-    ensures missing { (counts : HeadCounts) (bs : List ListedBlock) (l : Lists) (n : ℕ) → R.tells
-        → Reached counts bs l (tables_in t.old) sum → HasRoom l (length inputs.now) n
+    ensures touched { (counts : HeadCounts) (bs : List ListedBlock) (l : Lists) (sum : ℕ) → R.tells
+        → Reached counts bs l (tables_in t.old) sum
+        → OnOk result (Reached counts bs (add_entry (script_of_output (get_or l.ins n 0) l) by l)
+        (tables_in t.new) sum) }
+    ensures room { (counts : HeadCounts) (bs : List ListedBlock) (l : Lists) (sum k : ℕ) → R.tells
+        → Reached counts bs l (tables_in t.old) sum → HasRoom l 0 k
+        → OnOk result (HasRoom (add_entry (script_of_output (get_or l.ins n 0) l) by l) 0 k) }
+    ensures refused { (counts : HeadCounts) (bs : List ListedBlock) (l : Lists) (sum : ℕ) → R.tells
+        → Reached counts bs l (tables_in t.old) sum
+        → length (add_entry (script_of_output (get_or l.ins n 0) l) by l).scripts ≤ ROW_LIMIT
         → IfErr result (λ e. (e ≡ ConnectFault.DiskFailed) ⊎ ((e ≡ ConnectFault.Memory)
-        ⊎ (missing_at index (spend_all by 0 inputs.now l) ≡ Err e))) }
+        ⊎ Overflows (add_entry (script_of_output (get_or l.ins n 0) l) by l) e)) }
     ensures blocks { tables_in t.new Table.Blocks ≡ tables_in t.old Table.Blocks }
     ensures reads { OnlyReads t.old t.new }
     ensures name { t.new.rows.ghost_name ≡ t.old.rows.ghost_name }
@@ -79,12 +69,43 @@ pub(crate) fn spend_inputs<R: Rows, L: Ledger>(
     ensures cause { CountsOnly (R.faults t.old.rows.now) (R.faults t.new.rows.now) ConnectFault.DiskFailed
         result }
 {
-    let mut left = sum;
-    for (input, o) in inputs.iter().enumerate() {
-        match spend_input(t, o, by, steps)? {
-            None => return Err(ConnectFault::MissingCoin { tx: index, input }),
-            Some(value) => left = left.saturating_sub(value),
-        }
+    let hash = coin_script(t, n, steps)?;
+    touch(t, &hash, by, steps)?;
+    Ok(())
+}
+
+// The transaction of that number gets an entry with the script hash of each coin that it took, in order: the
+// coins of the inputs from that number on, so many.
+pub(crate) fn touch_inputs<R: Rows, L: Ledger>(
+    t: &mut Txn<'_, R>,
+    first: u64,
+    count: u64,
+    by: u64,
+    steps: &mut Steps<L>,
+) -> Result<(), ConnectFault>
+    requires live { R.is_live t.old.rows.now }
+    requires by { by < 2 ^ 32 }
+    requires few { first + count < 2 ^ 64 }
+    ensures touched { (counts : HeadCounts) (bs : List ListedBlock) (l : Lists) (coins : List ℕ) (sum k : ℕ)
+        → R.tells → Reached counts bs l (tables_in t.old) sum → HasRoom l 0 k
+        → drop first l.ins ≡ coins → length coins ≡ count
+        → OnOk result (TouchingOn counts bs (tables_in t.new) sum l k
+        (λ now. touch_coins by coins l ≡ now)) }
+    ensures refused { (counts : HeadCounts) (bs : List ListedBlock) (l : Lists) (coins : List ℕ) (sum k : ℕ)
+        → R.tells → Reached counts bs l (tables_in t.old) sum → HasRoom l 0 k
+        → drop first l.ins ≡ coins → length coins ≡ count
+        → length (touch_coins by coins l).scripts ≤ ROW_LIMIT
+        → IfErr result (λ e. (e ≡ ConnectFault.DiskFailed) ⊎ ((e ≡ ConnectFault.Memory)
+        ⊎ Overflows (touch_coins by coins l) e)) }
+    ensures blocks { tables_in t.new Table.Blocks ≡ tables_in t.old Table.Blocks }
+    ensures reads { OnlyReads t.old t.new }
+    ensures name { t.new.rows.ghost_name ≡ t.old.rows.ghost_name }
+    ensures ticked { steps.old ≤ steps.new }
+    ensures cause { CountsOnly (R.faults t.old.rows.now) (R.faults t.new.rows.now) ConnectFault.DiskFailed
+        result }
+{
+    for input in 0..count {
+        touch_coin(t, first + input, by, steps)?;
     }
-    Ok(left)
+    Ok(())
 }

@@ -4,10 +4,13 @@
 mod block;
 mod coins;
 mod heads;
+mod held;
 mod inputs;
+mod money;
 mod outputs;
 mod reading;
 mod room;
+mod scripts;
 mod transaction;
 
 pub use block::connect;

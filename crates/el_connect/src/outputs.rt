@@ -1,5 +1,6 @@
 // The outputs of a transaction.
-ghost use Rattle.std.specs.Prelude.{◌≡◌, ◌≢◌, ◌⊎◌, ◌<◌, ◌≤◌, ◌+◌, ◌^◌, ℕ, List, length, IfOk, IfErr};
+ghost use Rattle.std.specs.Prelude.{◌≡◌, ◌⊎◌, ◌<◌, ◌≤◌, ◌+◌, ◌^◌, ℕ, List, length, OnOk, IfOk, IfErr};
+ghost use Rattle.el_chain.specs.declared.limits.TheConstants.{ROW_LIMIT};
 ghost use Rattle.el_outside.specs.Counts.{CountsOnly};
 ghost use Rattle.el_rows.specs.Transaction.{tables_in, OnlyReads};
 ghost use Rattle.el_rows.specs.declared.table.Table.{Table};
@@ -8,14 +9,14 @@ ghost use Rattle.el_tables.specs.Connecting.{fund, fund_all};
 ghost use Rattle.el_tables.specs.Lists.{Lists, replaced, unspent_sum};
 ghost use Rattle.el_tables.specs.Tables.{HeadCounts};
 ghost use Rattle.el_buckets.specs.Rows.{Hold};
-ghost use Rattle.el_connect.specs.within.Parts.{Reached, HasRoom, IsMaker, value_of, values};
+ghost use Rattle.el_connect.specs.within.Parts.{Reached, HasRoom, IsMaker, Overflows, value_of, values};
 
+use crate::held::coin_held;
 use el_base::{Hash32, Steps};
 use el_chain::ConnectFault;
-use el_outside::DiskFailed;
-use el_rows::{OutRow, Rows, State, Table, Txn};
+use el_rows::{Rows, Table, Txn};
 use el_script::touch;
-use el_spend::{add_out, named_output};
+use el_spend::add_out;
 use el_tx::Outpoint;
 use std::sync::ledger::Ledger;
 
@@ -28,17 +29,6 @@ pub(crate) struct Maker {
     pub txid: Hash32,
     // The newest transaction before it with the same txid.
     pub older: Option<u64>,
-}
-
-// What an output's row holds if it is unspent, and else 0.
-fn unspent_value(row: &OutRow) -> u64
-    ensures unspent { row.now.state ≡ State.Unspent → result ≡ row.now.value }
-    ensures gone { row.now.state ≢ State.Unspent → result ≡ 0 }
-{
-    match row.state {
-        State::Unspent => row.value,
-        _ => 0,
-    }
 }
 
 // What the coin holds that the transaction's output with that index replaces, and 0 where it replaces none.
@@ -68,13 +58,7 @@ fn value_replaced<R: Rows, L: Ledger>(
         txid: maker.txid,
         index,
     };
-    let Ok(found) = named_output(t, &o, maker.number, steps) else {
-        return Err(ConnectFault::DiskFailed);
-    };
-    match found {
-        Some(output) => Ok(unspent_value(&output.row)),
-        None => Ok(0),
-    }
+    coin_held(t, &o, maker.number, steps)
 }
 
 // The transaction makes an output with that index: its script hash has an entry, and it goes after the
@@ -94,9 +78,14 @@ fn fund_output<R: Rows, L: Ledger>(
         → unspent_sum l.outs + output.now.0 < 2 ^ 64
         → IfOk result (λ after.
         Reached counts bs (fund maker.now.number index output.now l) (tables_in t.new) after) }
+    ensures room { (counts : HeadCounts) (bs : List ListedBlock) (l : Lists) (n : ℕ) → R.tells
+        → Reached counts bs l (tables_in t.old) sum → HasRoom l 0 (n + 1)
+        → OnOk result (HasRoom (fund maker.now.number index output.now l) 0 n) }
     ensures refused { (counts : HeadCounts) (bs : List ListedBlock) (l : Lists) (n : ℕ) → R.tells
         → Reached counts bs l (tables_in t.old) sum → HasRoom l 0 (n + 1)
-        → IfErr result (λ e. (e ≡ ConnectFault.DiskFailed) ⊎ (e ≡ ConnectFault.Memory)) }
+        → length (fund maker.now.number index output.now l).scripts ≤ ROW_LIMIT
+        → IfErr result (λ e. (e ≡ ConnectFault.DiskFailed) ⊎ ((e ≡ ConnectFault.Memory)
+        ⊎ Overflows (fund maker.now.number index output.now l) e)) }
     ensures blocks { tables_in t.new Table.Blocks ≡ tables_in t.old Table.Blocks }
     ensures reads { OnlyReads t.old t.new }
     ensures name { t.new.rows.ghost_name ≡ t.old.rows.ghost_name }
@@ -128,10 +117,16 @@ pub(crate) fn fund_outputs<R: Rows, L: Ledger>(
         → HasRoom l 0 (length outputs.now) → unspent_sum l.outs + values outputs.now < 2 ^ 64
         → IfOk result (λ after.
         Reached counts bs (fund_all maker.now.number 0 outputs.now l) (tables_in t.new) after) }
+    ensures room { (counts : HeadCounts) (bs : List ListedBlock) (l : Lists) → R.tells
+        → Reached counts bs l (tables_in t.old) sum → IsMaker maker.now l
+        → HasRoom l 0 (length outputs.now) → unspent_sum l.outs + values outputs.now < 2 ^ 64
+        → OnOk result (HasRoom (fund_all maker.now.number 0 outputs.now l) 0 0) }
     ensures refused { (counts : HeadCounts) (bs : List ListedBlock) (l : Lists) → R.tells
         → Reached counts bs l (tables_in t.old) sum → IsMaker maker.now l
         → HasRoom l 0 (length outputs.now) → unspent_sum l.outs + values outputs.now < 2 ^ 64
-        → IfErr result (λ e. (e ≡ ConnectFault.DiskFailed) ⊎ (e ≡ ConnectFault.Memory)) }
+        → length (fund_all maker.now.number 0 outputs.now l).scripts ≤ ROW_LIMIT
+        → IfErr result (λ e. (e ≡ ConnectFault.DiskFailed) ⊎ ((e ≡ ConnectFault.Memory)
+        ⊎ Overflows (fund_all maker.now.number 0 outputs.now l) e)) }
     ensures blocks { tables_in t.new Table.Blocks ≡ tables_in t.old Table.Blocks }
     ensures reads { OnlyReads t.old t.new }
     ensures name { t.new.rows.ghost_name ≡ t.old.rows.ghost_name }

@@ -14,7 +14,7 @@ ghost use Rattle.el_buckets.specs.Rows.{Hold};
 use el_base::{Hash32, Steps};
 use el_chain::ConnectFault;
 use el_outside::DiskFailed;
-use el_rows::{BlockRow, OutRow, Rows, ScriptRow, Table, TxRow, Txn};
+use el_rows::{BlockRow, InRow, OutRow, Rows, ScriptRow, Table, TxRow, Txn};
 use std::sync::ledger::Ledger;
 
 // Reads a row.
@@ -43,18 +43,16 @@ fn read_row<R: Rows, L: Ledger>(
     }
 }
 
-// The value of the output of that number, and the number of its script hash.
-pub(crate) fn value_and_script<R: Rows, L: Ledger>(
+// The value of the output of that number.
+pub(crate) fn output_value<R: Rows, L: Ledger>(
     t: &mut Txn<'_, R>,
     k: u64,
     steps: &mut Steps<L>,
-) -> Result<(u64, u64), ConnectFault>
+) -> Result<u64, ConnectFault>
     requires live { R.is_live t.old.rows.now }
     requires below { k < length (tables_in t.old Table.Outs) }
     ensures value { (counts : HeadCounts) (bs : List ListedBlock) (l : Lists) → R.tells
-        → Hold counts bs l (tables_in t.old) → IfOk result (λ p. p.0 ≡ (get_or l.outs k no_out).value) }
-    ensures script { (counts : HeadCounts) (bs : List ListedBlock) (l : Lists) → R.tells
-        → Hold counts bs l (tables_in t.old) → IfOk result (λ p. p.1 ≡ script_at k l.outs) }
+        → Hold counts bs l (tables_in t.old) → IfOk result (λ v. v ≡ (get_or l.outs k no_out).value) }
     ensures tables { tables_in t.new ≡ tables_in t.old }
     ensures fault { IfErr result (λ e. e ≡ ConnectFault.DiskFailed) }
     ensures reads { OnlyReads t.old t.new }
@@ -65,8 +63,57 @@ pub(crate) fn value_and_script<R: Rows, L: Ledger>(
 {
     let mut bytes = [0; 21];
     read_row(t, Table::Outs, k, &mut bytes, steps)?;
-    let row = OutRow::read(&bytes);
-    Ok((row.value, row.script))
+    Ok(OutRow::read(&bytes).value)
+}
+
+// The number of the output that the input of that number takes; 0 where there is no such input.
+pub(crate) fn input_coin<R: Rows, L: Ledger>(
+    t: &mut Txn<'_, R>,
+    n: u64,
+    steps: &mut Steps<L>,
+) -> Result<u64, ConnectFault>
+    requires live { R.is_live t.old.rows.now }
+    ensures coin { (counts : HeadCounts) (bs : List ListedBlock) (l : Lists) → R.tells
+        → Hold counts bs l (tables_in t.old) → IfOk result (λ k. k ≡ get_or l.ins n 0) }
+    ensures tables { tables_in t.new ≡ tables_in t.old }
+    ensures fault { IfErr result (λ e. e ≡ ConnectFault.DiskFailed) }
+    ensures reads { OnlyReads t.old t.new }
+    ensures name { t.new.rows.ghost_name ≡ t.old.rows.ghost_name }
+    ensures ticked { steps.old ≤ steps.new }
+    ensures cause { CountsOnly (R.faults t.old.rows.now) (R.faults t.new.rows.now) ConnectFault.DiskFailed
+        result }
+{
+    if n >= t.count(Table::Ins) {
+        return Ok(0);
+    }
+    let mut bytes = [0; 4];
+    read_row(t, Table::Ins, n, &mut bytes, steps)?;
+    Ok(InRow::read(&bytes).out)
+}
+
+// The number of the script hash of the output of that number; 0 where there is no such output.
+pub(crate) fn script_number<R: Rows, L: Ledger>(
+    t: &mut Txn<'_, R>,
+    k: u64,
+    steps: &mut Steps<L>,
+) -> Result<u64, ConnectFault>
+    requires live { R.is_live t.old.rows.now }
+    ensures script { (counts : HeadCounts) (bs : List ListedBlock) (l : Lists) → R.tells
+        → Hold counts bs l (tables_in t.old) → IfOk result (λ n. n ≡ script_at k l.outs) }
+    ensures tables { tables_in t.new ≡ tables_in t.old }
+    ensures fault { IfErr result (λ e. e ≡ ConnectFault.DiskFailed) }
+    ensures reads { OnlyReads t.old t.new }
+    ensures name { t.new.rows.ghost_name ≡ t.old.rows.ghost_name }
+    ensures ticked { steps.old ≤ steps.new }
+    ensures cause { CountsOnly (R.faults t.old.rows.now) (R.faults t.new.rows.now) ConnectFault.DiskFailed
+        result }
+{
+    if k >= t.count(Table::Outs) {
+        return Ok(0);
+    }
+    let mut bytes = [0; 21];
+    read_row(t, Table::Outs, k, &mut bytes, steps)?;
+    Ok(OutRow::read(&bytes).script)
 }
 
 // The script hash of that number; the zero hash where there is none.

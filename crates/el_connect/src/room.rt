@@ -16,7 +16,7 @@ use el_prepare::PreparedTx;
 use el_rows::{Rows, Table, Txn};
 
 // Refuses more rows than the table may have.
-fn check_table(table: Table, rows: u64) -> Result<(), ConnectFault>
+pub(crate) fn check_table(table: Table, rows: u64) -> Result<(), ConnectFault>
     ensures { MatchResult result (λ _. rows ≤ ROW_LIMIT)
         (λ e. (ROW_LIMIT < rows) × (e ≡ ConnectFault.Full (number_of table) ROW_LIMIT)) }
 {
@@ -59,22 +59,5 @@ pub(crate) fn check_counted<R: Rows>(
     check_table(Table::Txs, t.count(Table::Txs) + 1)?;
     check_table(Table::Outs, t.count(Table::Outs) + outputs)?;
     check_table(Table::Ins, t.count(Table::Ins) + inputs)?;
-    Ok(())
-}
-
-// Whether the tables of script hashes and entries have room for the transaction, whatever script hashes it
-// has.
-pub(crate) fn check_scripts<R: Rows>(t: &Txn<'_, R>, tx: &PreparedTx) -> Result<(), ConnectFault>
-    requires { IsSmall tx.now }
-    ensures scripts { (counts : HeadCounts) (bs : List ListedBlock) (l : Lists)
-        → Hold counts bs l (tables_in t.now)
-        → OnOk result (length l.scripts + (length tx.now.inputs + length tx.now.outputs) ≤ ROW_LIMIT) }
-    ensures entries { (counts : HeadCounts) (bs : List ListedBlock) (l : Lists)
-        → Hold counts bs l (tables_in t.now)
-        → OnOk result (length l.entries + (length tx.now.inputs + length tx.now.outputs) ≤ ROW_LIMIT) }
-{
-    let most = tx.inputs.len() as u64 + tx.outputs.len() as u64;
-    check_table(Table::Scripts, t.count(Table::Scripts) + most)?;
-    check_table(Table::Entries, t.count(Table::Entries) + most)?;
     Ok(())
 }

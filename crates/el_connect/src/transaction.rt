@@ -1,32 +1,29 @@
 // A transaction.
-ghost use Rattle.std.specs.Prelude.{◌≡◌, ◌⊎◌, ◌<◌, ◌≤◌, ◌+◌, ◌^◌, ℕ, List, length, None, Some, Ok, Err, IfOk, IfErr, MatchResult};
+ghost use Rattle.std.specs.Prelude.{◌≡◌, ◌⊎◌, ◌<◌, ◌≤◌, ◌+◌, ◌^◌, ℕ, List, length, Ok, Err, OnOk, IfOk, IfErr};
 ghost use Rattle.std.specs.List.{AllByRecursion};
-ghost use Rattle.el_chain.specs.Faults.{money_fault};
 ghost use Rattle.el_chain.specs.declared.limits.TheConstants.{ROW_LIMIT};
 ghost use Rattle.el_outside.specs.Counts.{CountsOnly};
 ghost use Rattle.el_rows.specs.Transaction.{tables_in, OnlyReads};
 ghost use Rattle.el_rows.specs.declared.table.Table.{Table};
 ghost use Rattle.el_tables.specs.ChainLists.{ListedBlock};
-ghost use Rattle.el_tables.specs.Connecting.{listed_after, missing_at};
+ghost use Rattle.el_tables.specs.Connecting.{listed_after};
 ghost use Rattle.el_rows.specs.RowBytes.{FitsTxRow};
 ghost use Rattle.el_buckets.specs.Rows.{listed_tx};
-ghost use Rattle.el_tables.specs.Connecting as steps_of;
-ghost use Rattle.el_tables.specs.Lists.{Lists};
+ghost use Rattle.el_tables.specs.Lists.{Lists, unspent_sum};
 ghost use Rattle.el_tables.specs.Tables.{HeadCounts};
 ghost use Rattle.el_tx.specs.Encoding.{max_money};
-ghost use Rattle.el_connect.specs.within.Parts.{Reached, HasRoom, IsSmall, IsCounted, LedTo, PutBy, as_listed, connect_next, connect_all};
+ghost use Rattle.el_connect.specs.within.Parts.{Reached, HasRoom, IsSmall, IsBetween, IsCounted, LedTo, Overflows, as_listed, connect_next, connect_all, made_by, values};
 
-use crate::coins::check_coins;
-use crate::inputs::spend_inputs;
+use crate::coins::{check_coins, take_inputs};
+use crate::inputs::touch_inputs;
 use crate::outputs::{Maker, fund_outputs};
 use crate::reading::older_tx;
-use crate::room::{check_counted, check_scripts};
-use el_base::Steps;
+use crate::room::check_counted;
+use el_base::{Hash32, Steps};
 use el_chain::ConnectFault;
 use el_position::add_tx;
 use el_prepare::PreparedTx;
 use el_rows::{Rows, Table, TxRow, Txn};
-use el_tx::MAX_MONEY;
 use std::sync::ledger::Ledger;
 
 // The row of a transaction of a block of that height, with the numbers of its first output and its first
@@ -53,8 +50,54 @@ fn row_of(tx: &PreparedTx, height: u32, first_out: u64, first_in: u64) -> TxRow
     }
 }
 
-// A transaction of a block of that height, and with that index in it: it spends, then it is listed, then it
-// makes its outputs. It answers what all coins hold then. There is room for all its rows.
+// A transaction with that row is listed, and then it makes these outputs. It answers what all coins hold
+// then.
+fn make_outputs<R: Rows, L: Ledger>(
+    t: &mut Txn<'_, R>,
+    row: &TxRow,
+    outputs: &[(u64, Hash32)],
+    left: u64,
+    steps: &mut Steps<L>,
+) -> Result<u64, ConnectFault>
+    requires live { R.is_live t.old.rows.now }
+    requires fits { FitsTxRow row.now }
+    requires few { length outputs.now < 2 ^ 32 }
+    ensures made { (counts : HeadCounts) (bs : List ListedBlock) (l : Lists) → R.tells
+        → Reached counts bs l (tables_in t.old) left → HasRoom l 0 (length outputs.now)
+        → unspent_sum l.outs + values outputs.now < 2 ^ 64
+        → IfOk result (λ after.
+        Reached counts bs (made_by (listed_tx row.now) outputs.now l) (tables_in t.new) after) }
+    ensures room { (counts : HeadCounts) (bs : List ListedBlock) (l : Lists) → R.tells
+        → Reached counts bs l (tables_in t.old) left → HasRoom l 0 (length outputs.now)
+        → unspent_sum l.outs + values outputs.now < 2 ^ 64
+        → OnOk result (HasRoom (made_by (listed_tx row.now) outputs.now l) 0 0) }
+    ensures refused { (counts : HeadCounts) (bs : List ListedBlock) (l : Lists) → R.tells
+        → Reached counts bs l (tables_in t.old) left → HasRoom l 0 (length outputs.now)
+        → unspent_sum l.outs + values outputs.now < 2 ^ 64 → length l.txs < ROW_LIMIT
+        → length (made_by (listed_tx row.now) outputs.now l).scripts ≤ ROW_LIMIT
+        → IfErr result (λ e. (e ≡ ConnectFault.DiskFailed) ⊎ ((e ≡ ConnectFault.Memory)
+        ⊎ Overflows (made_by (listed_tx row.now) outputs.now l) e)) }
+    ensures blocks { tables_in t.new Table.Blocks ≡ tables_in t.old Table.Blocks }
+    ensures reads { OnlyReads t.old t.new }
+    ensures name { t.new.rows.ghost_name ≡ t.old.rows.ghost_name }
+    ensures ticked { steps.old ≤ steps.new }
+    ensures cause { CountsOnly (R.faults t.old.rows.now) (R.faults t.new.rows.now) ConnectFault.DiskFailed
+        result }
+{
+    let number = add_tx(t, row, steps)?;
+    let older = older_tx(t, number, steps)?;
+    let maker = Maker {
+        number,
+        txid: row.txid,
+        older,
+    };
+    fund_outputs(t, &maker, outputs, left, steps)
+}
+
+// Connects a transaction of a block of that height, and with that index in it, or tells its first fault,
+// where the tables of blocks, transactions, outputs and inputs have room for it: it spends, its coins' script
+// hashes get their entries, it is listed, and then it makes its outputs. So a full table of entries is told
+// where no other fault is left. It answers what all coins hold after it.
 fn put_tx<R: Rows, L: Ledger>(
     t: &mut Txn<'_, R>,
     height: u32,
@@ -65,69 +108,14 @@ fn put_tx<R: Rows, L: Ledger>(
 ) -> Result<u64, ConnectFault>
     requires live { R.is_live t.old.rows.now }
     requires small { IsSmall tx.now }
-    ensures put { (counts : HeadCounts) (bs : List ListedBlock) (l : Lists) → R.tells
-        → Reached counts bs l (tables_in t.old) sum → HasRoom l (length tx.now.inputs) (length tx.now.outputs)
-        → sum ≤ max_money
-        → IfOk result (λ after. PutBy counts bs (tables_in t.new) after l
-        (steps_of.connect_tx height (as_listed tx.now) l)) }
-    ensures refused { (counts : HeadCounts) (bs : List ListedBlock) (l : Lists) → R.tells
-        → Reached counts bs l (tables_in t.old) sum → HasRoom l (length tx.now.inputs) (length tx.now.outputs)
-        → length l.txs < ROW_LIMIT → sum ≤ max_money
-        → IfErr result (λ e. (e ≡ ConnectFault.DiskFailed) ⊎ ((e ≡ ConnectFault.Memory)
-        ⊎ (missing_at index (steps_of.connect_tx height (as_listed tx.now) l) ≡ Err e))) }
-    ensures blocks { tables_in t.new Table.Blocks ≡ tables_in t.old Table.Blocks }
-    ensures reads { OnlyReads t.old t.new }
-    ensures name { t.new.rows.ghost_name ≡ t.old.rows.ghost_name }
-    ensures ticked { steps.old ≤ steps.new }
-    ensures cause { CountsOnly (R.faults t.old.rows.now) (R.faults t.new.rows.now) ConnectFault.DiskFailed
-        result }
-{
-    let row = row_of(tx, height, t.count(Table::Outs), t.count(Table::Ins));
-    let by = t.count(Table::Txs);
-    let left = spend_inputs(t, index, by, tx.inputs.as_slice(), sum, steps)?;
-    let number = add_tx(t, &row, steps)?;
-    let older = older_tx(t, number, steps)?;
-    let maker = Maker {
-        number,
-        txid: tx.txid,
-        older,
-    };
-    let after = fund_outputs(t, &maker, tx.outputs.as_slice(), left, steps)?;
-    Ok(after)
-}
-
-// Refuses more money than there can be.
-fn check_money(sum: u64) -> Result<(), ConnectFault>
-    ensures { MatchResult result (λ _. money_fault sum ≡ None) (λ e. money_fault sum ≡ Some e) }
-{
-    if sum > MAX_MONEY {
-        return Err(ConnectFault::Money {
-            supply: u128::from(sum),
-        });
-    }
-    Ok(())
-}
-
-// Connects a transaction of a block of that height, and with that index in it, or tells its first fault,
-// where the tables of blocks, transactions, outputs and inputs have room for it. It answers what all coins
-// hold after it. Where the tables of script hashes and entries may have no room, `Memory` stands for the
-// answer.
-fn connect_counted<R: Rows, L: Ledger>(
-    t: &mut Txn<'_, R>,
-    height: u32,
-    index: usize,
-    tx: &PreparedTx,
-    sum: u64,
-    steps: &mut Steps<L>,
-) -> Result<u64, ConnectFault>
-    requires live { R.is_live t.old.rows.now }
-    requires small { IsSmall tx.now }
     ensures connected { (counts : HeadCounts) (bs : List ListedBlock) (l : Lists) → R.tells
-        → Reached counts bs l (tables_in t.old) sum → sum ≤ max_money → IsCounted height tx.now l
+        → Reached counts bs l (tables_in t.old) sum → sum ≤ max_money → IsBetween l
+        → IsCounted height tx.now l
         → IfOk result (λ after. LedTo counts bs (tables_in t.new) after (connect_next height index tx.now l)
         × (after ≤ max_money)) }
     ensures refused { (counts : HeadCounts) (bs : List ListedBlock) (l : Lists) → R.tells
-        → Reached counts bs l (tables_in t.old) sum → sum ≤ max_money → IsCounted height tx.now l
+        → Reached counts bs l (tables_in t.old) sum → sum ≤ max_money → IsBetween l
+        → IsCounted height tx.now l
         → IfErr result (λ e. (e ≡ ConnectFault.DiskFailed) ⊎ ((e ≡ ConnectFault.Memory)
         ⊎ (connect_next height index tx.now l ≡ Err e))) }
     ensures blocks { tables_in t.new Table.Blocks ≡ tables_in t.old Table.Blocks }
@@ -137,12 +125,12 @@ fn connect_counted<R: Rows, L: Ledger>(
     ensures cause { CountsOnly (R.faults t.old.rows.now) (R.faults t.new.rows.now) ConnectFault.DiskFailed
         result }
 {
-    let Ok(()) = check_scripts(t, tx) else {
-        return Err(ConnectFault::Memory);
-    };
-    let after = put_tx(t, height, index, tx, sum, steps)?;
-    check_money(after)?;
-    Ok(after)
+    let first_in = t.count(Table::Ins);
+    let row = row_of(tx, height, t.count(Table::Outs), first_in);
+    let by = t.count(Table::Txs);
+    let left = take_inputs(t, index, tx, sum, steps)?;
+    touch_inputs(t, first_in, tx.inputs.len() as u64, by, steps)?;
+    make_outputs(t, &row, tx.outputs.as_slice(), left, steps)
 }
 
 // Connects a transaction of a block of that height, and with that index in it, or tells its first fault. It
@@ -158,11 +146,11 @@ fn connect_tx<R: Rows, L: Ledger>(
     requires live { R.is_live t.old.rows.now }
     requires small { IsSmall tx.now }
     ensures connected { (counts : HeadCounts) (bs : List ListedBlock) (l : Lists) → R.tells
-        → Reached counts bs l (tables_in t.old) sum → sum ≤ max_money
+        → Reached counts bs l (tables_in t.old) sum → sum ≤ max_money → IsBetween l
         → IfOk result (λ after. LedTo counts bs (tables_in t.new) after (connect_next height index tx.now l)
         × (after ≤ max_money)) }
     ensures refused { (counts : HeadCounts) (bs : List ListedBlock) (l : Lists) → R.tells
-        → Reached counts bs l (tables_in t.old) sum → sum ≤ max_money
+        → Reached counts bs l (tables_in t.old) sum → sum ≤ max_money → IsBetween l
         → IfErr result (λ e. (e ≡ ConnectFault.DiskFailed) ⊎ ((e ≡ ConnectFault.Memory)
         ⊎ (connect_next height index tx.now l ≡ Err e))) }
     ensures blocks { tables_in t.new Table.Blocks ≡ tables_in t.old Table.Blocks }
@@ -173,7 +161,7 @@ fn connect_tx<R: Rows, L: Ledger>(
         result }
 {
     match check_counted(t, height, tx) {
-        Ok(()) => connect_counted(t, height, index, tx, sum, steps),
+        Ok(()) => put_tx(t, height, index, tx, sum, steps),
         Err(full) => {
             check_coins(t, index, tx, sum, steps)?;
             Err(full)
@@ -193,11 +181,11 @@ pub(crate) fn connect_txs<R: Rows, L: Ledger>(
     requires live { R.is_live t.old.rows.now }
     requires small { AllByRecursion IsSmall txs.now }
     ensures connected { (counts : HeadCounts) (bs : List ListedBlock) (l : Lists) → R.tells
-        → Reached counts bs l (tables_in t.old) sum → sum ≤ max_money
+        → Reached counts bs l (tables_in t.old) sum → sum ≤ max_money → IsBetween l
         → IfOk result (λ after. LedTo counts bs (tables_in t.new) after (connect_all height 0 txs.now l)
         × (after ≤ max_money)) }
     ensures refused { (counts : HeadCounts) (bs : List ListedBlock) (l : Lists) → R.tells
-        → Reached counts bs l (tables_in t.old) sum → sum ≤ max_money
+        → Reached counts bs l (tables_in t.old) sum → sum ≤ max_money → IsBetween l
         → IfErr result (λ e. (e ≡ ConnectFault.DiskFailed) ⊎ ((e ≡ ConnectFault.Memory)
         ⊎ (connect_all height 0 txs.now l ≡ Err e))) }
     ensures blocks { tables_in t.new Table.Blocks ≡ tables_in t.old Table.Blocks }

@@ -1,18 +1,19 @@
 -- Parts of the work on a block: what rows and a running sum stand for between the steps, and the steps on the
 -- lists with what is prepared of a block.
-use Rattle.std.specs.Prelude.{◌≡◌, ℕ, ◌+◌, ◌-◌, ◌<◌, ◌≤◌, ◌^◌, List, [], ◌∷◌, length, get_or, take, Option, None, Some, Result, Ok}
+use Rattle.std.specs.Prelude.{◌≡◌, ℕ, ◌+◌, ◌<◌, ◌≤◌, ◌^◌, List, [], ◌∷◌, length, get_or, take, Option, None, Some, Result, Ok}
 use Rattle.el_base.specs.declared.hash.Hash32.{Hash32}
 use Rattle.el_tx.specs.Encoding.{max_money}
 use Rattle.el_tx.specs.declared.types.Outpoint.{Outpoint}
 use Rattle.el_chain.specs.declared.fault.ConnectFault.{ConnectFault}
+use Rattle.el_chain.specs.declared.fault.ConnectFault.TheVariants as refusal
 use Rattle.el_chain.specs.declared.limits.TheConstants.{ROW_LIMIT}
 use Rattle.el_prepare.specs.declared.prepared.PreparedTx.{PreparedTx}
 use Rattle.el_tables.specs.ChainLists.{ListedBlock}
 use Rattle.el_tables.specs.Connecting as listed
-use Rattle.el_tables.specs.Connecting.{◌>>=◌, connect_tx, missing_at, ok_unless, bounds_by, spend_coin}
+use Rattle.el_tables.specs.Connecting.{◌>>=◌, connect_tx, missing_at, ok_unless, bounds_by, script_of_output, fund_all}
 use Rattle.el_tables.specs.Edits.{no_out}
 use Rattle.el_tables.specs.Fits.{Fits}
-use Rattle.el_tables.specs.Lists.{Lists, ListedOut, ListedTx, coin_number, unspent_sum, txid_at, newest_tx}
+use Rattle.el_tables.specs.Lists.{Lists, ListedOut, ListedTx, add_entry, add_tx, coin_number, unspent_sum, txid_at, newest_tx}
 use Rattle.el_tables.specs.Tables.{HeadCounts}
 use Rattle.el_rows.specs.Tables as held
 use Rattle.el_buckets.specs.Rows.{Hold}
@@ -30,12 +31,30 @@ pub record Reached (counts : HeadCounts) (bs : List ListedBlock) (l : Lists) (ro
   pub script_heads : 0 < counts.scripts
   pub sum_is : sum ≡ unspent_sum l.outs
 
--- there is room for so many inputs and outputs more, whatever their script hashes
+-- There is room for so many inputs and outputs more, and no table of script hashes or entries has more rows
+-- than a table may have.
 pub record HasRoom (l : Lists) (inputs outputs : ℕ) : Type 0 where
   pub ins : length l.ins + inputs ≤ ROW_LIMIT
   pub outs : length l.outs + outputs ≤ ROW_LIMIT
-  pub scripts : length l.scripts + (inputs + outputs) ≤ ROW_LIMIT
-  pub entries : length l.entries + (inputs + outputs) ≤ ROW_LIMIT
+  pub scripts : length l.scripts ≤ ROW_LIMIT
+  pub entries : length l.entries ≤ ROW_LIMIT
+
+-- the table of entries would need more rows than a table may have for these lists, and that is the fault
+abbrev pub Overflows : Lists → ConnectFault → Type 0
+Overflows l e = (e ≡ refusal.Full 8 ROW_LIMIT) × (ROW_LIMIT < length l.entries)
+
+-- the outputs of transactions stand one after the other, of which the first has that number, and they are so
+-- many in all
+abbrev pub OutsInTurn : ℕ → List ListedTx → ℕ → Type 0
+OutsInTurn first [] count = first ≡ count
+OutsInTurn first (t ∷ ts) count = (t.first_out ≡ first) × OutsInTurn (first + t.outs) ts count
+
+-- What holds before and after a transaction: all outputs stand in turn, and no table of script hashes or
+-- entries has too many rows.
+pub record IsBetween (l : Lists) : Type 0 where
+  pub outs : OutsInTurn 0 l.txs (length l.outs)
+  pub scripts : length l.scripts ≤ ROW_LIMIT
+  pub entries : length l.entries ≤ ROW_LIMIT
 
 -- 2. What is prepared of a transaction
 
@@ -84,23 +103,12 @@ connect_all height index [] l = Ok l
 connect_all height index (p ∷ ps) l =
     connect_next height index p l >>= (λ m. connect_all height (index + 1) ps m)
 
--- steps have led to lists, which the rows hold
+-- Steps have led to lists, which the rows hold.
 pub record LedTo {E : Type 0} (counts : HeadCounts) (bs : List ListedBlock) (rows : held.Tables) (sum : ℕ)
     (r : Result Lists E) : Type 0 where
   pub lists : Lists
   pub led : r ≡ Ok lists
   pub reached : Reached counts bs lists rows sum
-
--- an outpoint's coin was spent, which held that value, or there was none
-abbrev pub SpentBy : HeadCounts → List ListedBlock → Lists → held.Tables → ℕ → Outpoint → ℕ → Option ℕ
-    → Type 0
-SpentBy counts bs l rows sum o by None = coin_number o l.txs l.outs ≡ None
-SpentBy counts bs l rows sum o by (Some value) = record {
-  coin : ℕ;
-  is : coin_number o l.txs l.outs ≡ Some coin;
-  less : value ≤ sum;
-  reached : Reached counts bs (spend_coin by coin l) rows (sum - value);
-}
 
 -- what the output of that number holds, and 0 for none
 abbrev pub value_of : Option ℕ → List ListedOut → ℕ
@@ -111,42 +119,36 @@ value_of (Some k) outs = (get_or outs k no_out).value
 abbrev pub coin_value : Outpoint → ℕ → Lists → ℕ
 coin_value o count l = value_of (coin_number o (take count l.txs) l.outs) l.outs
 
--- A transaction's inputs have led to lists, which the rows hold: the transactions are still these, and there
--- is room for so many inputs and outputs more.
-pub record Spending {E : Type 0} (counts : HeadCounts) (bs : List ListedBlock) (rows : held.Tables)
-    (sum most : ℕ) (txs : List ListedTx) (inputs outputs : ℕ) (r : Result Lists E) : Type 0 where
-  pub lists : Lists
-  pub led : r ≡ Ok lists
-  pub reached : Reached counts bs lists rows sum
-  pub room : HasRoom lists inputs outputs
-  pub same : lists.txs ≡ txs
-  pub fell : sum ≤ most
+-- the transaction of that number has an entry with the script hash of each of these outputs, by their numbers
+abbrev pub touch_coins : ℕ → List ℕ → Lists → Lists
+touch_coins by [] l = l
+touch_coins by (k ∷ ks) l = touch_coins by ks (add_entry (script_of_output k l) by l)
+
+-- the script hashes of outputs
+abbrev pub scripts_of : List (ℕ × Hash32) → List Hash32
+scripts_of [] = []
+scripts_of (o ∷ os) = o.1 ∷ scripts_of os
+
+-- the lists with the transaction and its outputs, after those in which its coins are spent
+abbrev pub made_by : ListedTx → List (ℕ × Hash32) → Lists → Lists
+made_by t os l = fund_all (length l.txs) 0 os (add_tx t l)
 
 -- The transaction of that number has that txid, and the newest one before it with the same has this number.
 pub record IsMaker (m : Maker) (l : Lists) : Type 0 where
   pub txid : txid_at m.number l.txs ≡ m.txid
   pub older : m.older ≡ newest_tx m.txid (take m.number l.txs)
 
--- A transaction's steps from those lists have led to others, which the rows hold: they are one transaction
--- longer, and no table has too many rows.
-pub record PutBy {E : Type 0} (counts : HeadCounts) (bs : List ListedBlock) (rows : held.Tables) (sum : ℕ)
-    (before : Lists) (r : Result Lists E) : Type 0 where
-  pub lists : Lists
-  pub led : r ≡ Ok lists
-  pub reached : Reached counts bs lists rows sum
-  pub room : HasRoom lists 0 0
-  pub longer : length lists.txs ≡ length before.txs + 1
-
 -- Lists that the rows hold and of which this holds: the transactions are still these, and there is room for
--- so many inputs and outputs more.
-pub record SpendingOn (counts : HeadCounts) (bs : List ListedBlock) (rows : held.Tables) (sum most : ℕ)
-    (txs : List ListedTx) (inputs outputs : ℕ) (P : Lists → Type 0) : Type 0 where
+-- so many outputs more.
+pub record TouchingOn (counts : HeadCounts) (bs : List ListedBlock) (rows : held.Tables) (sum : ℕ)
+    (before : Lists) (outputs : ℕ) (P : Lists → Type 0) : Type 0 where
   pub lists : Lists
   pub left : P lists
   pub reached : Reached counts bs lists rows sum
-  pub room : HasRoom lists inputs outputs
-  pub same : lists.txs ≡ txs
-  pub fell : sum ≤ most
+  pub room : HasRoom lists 0 outputs
+  pub txs : lists.txs ≡ before.txs
+  pub outs : lists.outs ≡ before.outs
+  pub ins : lists.ins ≡ before.ins
 
 -- Lists that the rows hold and of which this holds: the transactions are still these, there is room for so
 -- many outputs more, and these may hold so much more.
@@ -159,10 +161,12 @@ pub record FundingOn (counts : HeadCounts) (bs : List ListedBlock) (rows : held.
   pub same : lists.txs ≡ txs
   pub fit : unspent_sum lists.outs + more < 2 ^ 64
 
--- Lists that the rows hold and of which this holds; all coins hold no more than all money.
+-- Lists that the rows hold and of which this holds, between transactions; all coins hold no more than all
+-- money.
 pub record LeadingOn (counts : HeadCounts) (bs : List ListedBlock) (rows : held.Tables) (sum : ℕ)
     (P : Lists → Type 0) : Type 0 where
   pub lists : Lists
   pub left : P lists
   pub reached : Reached counts bs lists rows sum
+  pub between : IsBetween lists
   pub within : sum ≤ max_money

@@ -18,7 +18,7 @@ use Rattle.el_prepare.specs.declared.prepared.PreparedTx.{PreparedTx}
 use Rattle.el_stands.specs.Standing.{HoldChain, heads_in}
 use Rattle.el_stands.proofs.StandingLemmas.{holds}
 use Rattle.el_connect.specs.within.Parts.{IsSmall}
-use Rattle.el_connect.proofs.ChainLemmas.{block_small, few_txs, sum_before, sum_of_good, height_is, begun, block_put, block_refused, block_faultless, room_for_block}
+use Rattle.el_connect.proofs.ChainLemmas.{block_small, few_txs, sum_before, sum_of_good, between_of_good, height_is, begun, block_put, block_refused, block_faultless, room_for_block}
 use Rattle.el_connect.proofs.StepLemmas.{not_added}
 use Rattle.el_connect.proofs.block.connect.Goals as goal
 
@@ -52,7 +52,7 @@ returns-in_err-sum-clause-refused g c chain block told stand encoded is names =
     let tall = c.count-height.ensures.count ∙ height_is shown chain both.1 in
     let txs = c.as_slice.ensures ∙ ap (λ (p : Prepared). p.txs) is in
     err_passed c.from_residual-in_err-sum.result _ e (err_from_is_err_and c.from_residual-in_err-sum.result c.from_residual-in_err-sum.ensures.1)
-    (block_refused chain placed c.count-height.result c.as_slice.result.now both.0 tall txs e (c.in_err-sum.ensures.refused format_1 (listed_blocks chain) (lists chain) told ready most))
+    (block_refused chain placed c.count-height.result c.as_slice.result.now both.0 tall txs e (c.in_err-sum.ensures.refused format_1 (listed_blocks chain) (lists chain) told ready most (between_of_good chain both.0)))
 
 pub returns-in_err-append_block-clause-refused : goal.returns-in_err-append_block-clause-refused
 returns-in_err-append_block-clause-refused g c chain block told stand encoded is names =
@@ -67,7 +67,7 @@ returns-in_err-append_block-clause-refused g c chain block told stand encoded is
     let most = subst (λ (k : ℕ). k ≤ max_money) (sym sum) (sum_of_good chain both.0) in
     let tall = c.count-height.ensures.count ∙ height_is shown chain both.1 in
     let txs = c.as_slice.ensures ∙ ap (λ (p : Prepared). p.txs) is in
-    let led = (c.in_ok-sum.ensures.connected format_1 (listed_blocks chain) (lists chain) told ready most).0 in
+    let led = (c.in_ok-sum.ensures.connected format_1 (listed_blocks chain) (lists chain) told ready most (between_of_good chain both.0)).0 in
     let none = block_faultless chain placed c.count-height.result c.as_slice.result.now both.0 tall txs rows c.in_ok-sum.sum led in
     let low = room_for_block chain block encoded none in
     let same = c.connect_txs.ensures.blocks ∙ c.add_all_heads.ensures.others table.Blocks (λ q. cc) (λ q. cc) ∙ ap (λ (T : held.Tables). T table.Blocks) c.last_sum.ensures.tables in
@@ -87,7 +87,7 @@ returns-clause-connected g c chain block told stand encoded is names =
     let most = subst (λ (k : ℕ). k ≤ max_money) (sym sum) (sum_of_good chain both.0) in
     let tall = c.count-height.ensures.count ∙ height_is shown chain both.1 in
     let txs = c.as_slice.ensures ∙ ap (λ (p : Prepared). p.txs) is in
-    let led = (c.in_ok-sum.ensures.connected format_1 (listed_blocks chain) (lists chain) told ready most).0 in
+    let led = (c.in_ok-sum.ensures.connected format_1 (listed_blocks chain) (lists chain) told ready most (between_of_good chain both.0)).0 in
     let first = c.count-first_tx.ensures.count ∙ count_txs (heads_in chain) (listed_blocks chain) (lists chain) shown both.1 in
     let many = c.len-txs.ensures ∙ ap (λ (p : Prepared). length p.txs) is in
     block_put chain placed c.count-height.result c.as_slice.result.now both.0 tall txs (tables_in {G = g.R.Rows} c.connect_txs.new.t) (tables_in {G = g.R.Rows} c.append_block.new.t) c.in_ok-sum.sum

@@ -1,4 +1,4 @@
-use Rattle.std.proofs.Common.{◌≡◌, ◌≤◌, ◌<◌, List, [], drop}
+use Rattle.std.proofs.Common.{◌≡◌, ◌≤◌, ◌<◌, List, drop}
 use Rattle.el_rows.specs.Transaction.{tables_in, OnlyReads}
 use Rattle.el_rows.specs.declared.table.Table.TheVariants as table
 use Rattle.el_tables.specs.ChainLists.{ListedBlock}
@@ -14,9 +14,9 @@ abbrev pub invariant-loop-input : goal.invariant-loop-input
 invariant-loop-input g l =
     let shown = tables_in {G = g.R.Rows} l.fn.t in
     record {
-      taken : (counts : HeadCounts) (bs : List ListedBlock) (now before : Lists) → g.R.Rows.tells → Hold counts bs now shown → 0 < counts.txs → now.txs ≡ before.txs → now.outs ≡ before.outs
-          → now.ins ≡ [] → l.fn.sum ≡ unspent_sum before.outs
-          → TakingOn counts bs before (tables_in {G = g.R.Rows} l.t) l.left l.fn.sum l.input (λ real. spend_all l.by 0 l.inputs before ≡ spend_all l.by l.input (drop l.input l.inputs) real);
+      taken : (counts : HeadCounts) (bs : List ListedBlock) (start before : Lists) → g.R.Rows.tells → Hold counts bs start shown → 0 < counts.txs → start.txs ≡ before.txs → start.outs ≡ before.outs
+          → l.fn.sum ≡ unspent_sum before.outs
+          → TakingOn counts bs l.by start before (tables_in {G = g.R.Rows} l.t) l.left l.fn.sum l.input (λ real. spend_all l.by 0 l.inputs before ≡ spend_all l.by l.input (drop l.input l.inputs) real);
       blocks : tables_in {G = g.R.Rows} l.t table.Blocks ≡ shown table.Blocks;
       reads : OnlyReads {G = g.R.Rows} l.fn.t l.t;
       name : l.t.rows.ghost_name ≡ l.fn.t.rows.ghost_name;

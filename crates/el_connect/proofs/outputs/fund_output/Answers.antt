@@ -1,22 +1,31 @@
-use Rattle.std.proofs.Common.{◌<◌, ◌+◌, ◌^◌, ℕ, length, min, refl, ap, sym, subst, ◌∙◌, arith}
+use Rattle.std.proofs.Common.{◌<◌, ◌+◌, ◌^◌, ℕ, length, min, Err, refl, ap, sym, subst, ◌∙◌, arith}
 use Rattle.std.proofs.lemmas.Result.{err_from_is_err_and}
 use Rattle.el_chain.proofs.CoinSteps.{err_passed}
-use Rattle.el_chain.specs.declared.limits.TheConstants.{ROW_LIMIT}
+use Rattle.el_chain.specs.declared.fault.ConnectFault.{ConnectFault}
 use Rattle.el_rows.specs.Tables as held
+use Rattle.el_rows.specs.declared.table.Table.TheVariants as table
 use Rattle.el_rows.specs.Transaction.{tables_in}
 use Rattle.el_tables.specs.Lists.{add_entry, add_output, unspent_sum}
 use Rattle.el_buckets.specs.Rows.{Hold}
 use Rattle.el_connect.proofs.LoopLemmas.{same_maker}
-use Rattle.el_connect.proofs.StepLemmas.{touch_refused, entered_number, balances_fit, funded_at_most, output_reached}
+use Rattle.el_connect.proofs.TouchLemmas.{touch_refused, room_funded}
+use Rattle.el_connect.proofs.StepLemmas.{entered_number, balances_fit, funded_at_most, output_reached}
 use Rattle.el_connect.proofs.outputs.fund_output.Goals as goal
 
 pub returns-in_err-script-clause-refused : goal.returns-in_err-script-clause-refused
-returns-in_err-script-clause-refused g c counts bs l n told reached room =
+returns-in_err-script-clause-refused g c counts bs l n told reached room few =
     let e = c.in_err-script.field-0.0 in
-    let scripts : length l.scripts < ROW_LIMIT = omega (arith, room.scripts) in
-    let entries : length l.entries < ROW_LIMIT = omega (arith, room.entries) in
+    let rows = tables_in {G = g.R.Rows} c.args.t.now in
     err_passed c.from_residual.result _ e (err_from_is_err_and c.from_residual.result c.from_residual.ensures.1)
-    (touch_refused counts bs l (tables_in {G = g.R.Rows} c.args.t.now) e reached.hold scripts entries c.in_err-script.ensures.fault)
+    (touch_refused c.args.output.now.1 c.args.maker.now.number (length (rows table.Scripts)) (length (rows table.Entries)) l e few
+    (λ t rows is. c.in_err-script.ensures.full counts bs l told reached.hold reached.fits reached.script_heads t rows (ap (λ (f : ConnectFault). Err f) is))
+    c.in_err-script.ensures.fault)
+
+pub returns-clause-room : goal.returns-clause-room
+returns-clause-room g c counts bs l n told reached room =
+    let m = c.args.maker.now in
+    let o = c.args.output.now in
+    room_funded m.number c.args.index n o l room (c.in_ok-script.ensures.room counts bs l told reached.hold reached.fits reached.script_heads)
 
 pub returns-clause-funded : goal.returns-clause-funded
 returns-clause-funded g c counts bs l told reached is fit =

@@ -3,22 +3,24 @@ use Rattle.std.proofs.lemmas.Result.{err_from_is_err_and}
 use Rattle.el_chain.proofs.CoinSteps.{err_passed}
 use Rattle.el_rows.proofs.ReadsLemmas.{read_joined}
 use Rattle.el_rows.specs.Transaction.{tables_in}
-use Rattle.el_connect.proofs.LoopLemmas.{any_default, no_output, outputs_more, outputs_fail, outputs_done}
+use Rattle.el_connect.proofs.LoopLemmas.{any_default, no_output, outputs_more, outputs_fail, outputs_done, outputs_room}
 use Rattle.el_connect.proofs.outputs.fund_outputs.Goals as goal
 
 pub returns-in_err-after-clause-refused : goal.returns-in_err-after-clause-refused
-returns-in_err-after-clause-refused g c counts bs l told reached is room fit =
+returns-in_err-after-clause-refused g c counts bs l told reached is room fit few =
     let e = c.in_err-after.field-0.0 in
     err_passed c.from_residual.result _ e (err_from_is_err_and c.from_residual.result c.from_residual.ensures.1)
-    (outputs_fail counts bs l c.args.maker.now c.args.outputs.now (tables_in {G = g.R.Rows} c.loop-index.t) c.loop-index.after c.loop-index.index e c.loop-index-test.true
-    (c.loop-index.invariant.funded counts bs l told reached is room fit) (λ now k at has. c.in_err-after.ensures.refused counts bs now k told at has))
+    (outputs_fail counts bs l c.args.maker.now c.args.outputs.now (tables_in {G = g.R.Rows} c.loop-index.t) c.loop-index.after c.loop-index.index (get_or c.args.outputs.now c.loop-index.index no_output) e
+    c.loop-index-test.true (any_default c.args.outputs.now c.loop-index.index no_output _ c.loop-index-test.true)
+    (c.loop-index.invariant.funded counts bs l told reached is room fit) few (λ now k at has short. c.in_err-after.ensures.refused counts bs now k told at has short))
 
 pub loop-index-preserved : goal.loop-index-preserved
 loop-index-preserved g c = record {
   funded = λ counts bs before told reached is room fit.
       outputs_more counts bs before c.args.maker.now c.args.outputs.now (tables_in {G = g.R.Rows} c.loop-index.t) (tables_in {G = g.R.Rows} c.fund_output.new.t) c.loop-index.after c.in_ok-after.after
       c.loop-index.index (get_or c.args.outputs.now c.loop-index.index no_output) c.loop-index-test.true (any_default c.args.outputs.now c.loop-index.index no_output _ c.loop-index-test.true) is
-      (c.loop-index.invariant.funded counts bs before told reached is room fit) (λ now at maker more. c.in_ok-after.ensures.funded counts bs now told at maker more);
+      (c.loop-index.invariant.funded counts bs before told reached is room fit) (λ now at maker more. c.in_ok-after.ensures.funded counts bs now told at maker more)
+      (λ now k at has. c.in_ok-after.ensures.room counts bs now k told at has);
   blocks = c.fund_output.ensures.blocks ∙ c.loop-index.invariant.blocks;
   reads = read_joined _ _ _ _ _ _ _ c.args.t.now.rows.now c.loop-index.t.rows.now c.fund_output.new.t.rows.now c.loop-index.invariant.reads c.fund_output.ensures.reads;
   name = c.fund_output.ensures.name ∙ c.loop-index.invariant.name;
@@ -29,4 +31,9 @@ loop-index-preserved g c = record {
 pub returns-clause-funded : goal.returns-clause-funded
 returns-clause-funded g c counts bs l told reached is room fit =
     outputs_done counts bs l c.args.maker.now c.args.outputs.now (tables_in {G = g.R.Rows} c.loop-index.t) c.loop-index.after c.loop-index.index c.loop-index-test.false
+    (c.loop-index.invariant.funded counts bs l told reached is room fit)
+
+pub returns-clause-room : goal.returns-clause-room
+returns-clause-room g c counts bs l told reached is room fit =
+    outputs_room counts bs l c.args.maker.now c.args.outputs.now (tables_in {G = g.R.Rows} c.loop-index.t) c.loop-index.after c.loop-index.index c.loop-index-test.false
     (c.loop-index.invariant.funded counts bs l told reached is room fit)

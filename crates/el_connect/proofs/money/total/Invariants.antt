@@ -1,6 +1,6 @@
 use Rattle.std.proofs.Common.{◌≡◌, ◌+◌, drop}
 use Rattle.el_connect.specs.within.Parts.{values}
-use Rattle.el_connect.proofs.coins.total.Given as goal
+use Rattle.el_connect.proofs.money.total.Given as goal
 
 -- the values that are left complete the whole
 abbrev pub invariant-loop-output : goal.invariant-loop-output
