@@ -10,4 +10,10 @@ pub use life::moves_over_versions;
 pub use undoing::{connect_and_disconnect, disconnect_and_connect};
 
 #[cfg(test)]
+mod back_tests;
+#[cfg(test)]
+mod table_tests;
+#[cfg(test)]
 mod tests;
+#[cfg(test)]
+mod walk_tests;
