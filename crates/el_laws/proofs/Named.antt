@@ -1,17 +1,15 @@
 -- What a block names that is put in once some of the last blocks are taken back.
-use Rattle.std.proofs.Common.{◌≡◌, ℕ, zero, suc, ◌+◌, ◌-◌, ◌≤◌, List, [], ◌∷◌, length, take, Option, None, Some, refl, ap, sym, ◌∙◌, subst, arith}
+use Rattle.std.proofs.Common.{◌≡◌, ℕ, zero, suc, ◌-◌, ◌≤◌, List, [], ◌∷◌, length, take, Some, refl, ap, sym, ◌∙◌, subst, arith}
 use Rattle.el_base.specs.declared.hash.Hash32.{Hash32}
 use Rattle.el_base.specs.Hashing.{sha256d}
 use Rattle.el_block.specs.Blocks.{block_hash}
 use Rattle.el_chain.specs.declared.moves.Plan.{Plan}
-use Rattle.el_chain.specs.declared.placed.Placed.{Placed}
 use Rattle.el_chain.specs.Chains.{Chain, tip, tip_after, zero_hash}
 use Rattle.el_chain.specs.Headers.{AreLinked}
 use Rattle.el_chain.specs.Moves.{FitsChain, shorter}
 use Rattle.el_chain.proofs.Chains.{hash_is}
 use Rattle.el_model.specs.Plans.{blocks_in}
 use Rattle.el_model.specs.Queries.{header_at, height_of}
-use Rattle.el_tx.specs.Headers.{header_encoding}
 
 pub blocks_are : (chain : Chain) → blocks_in (height_of chain) ≡ length chain
 blocks_are [] = refl

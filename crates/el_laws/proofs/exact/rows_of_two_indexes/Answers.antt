@@ -1,4 +1,3 @@
-use Rattle.el_index.specs.Means.{IsIndexOf}
 use Rattle.el_stands.proofs.StandingLemmas.{equal_rows}
 use Rattle.el_laws.proofs.exact.rows_of_two_indexes.Goals as goal
 

@@ -1,4 +1,4 @@
-use Rattle.std.proofs.Common.{◌≡◌, []}
+use Rattle.std.proofs.Common.{[]}
 use Rattle.el_laws.proofs.Starts.{none_stand, from_none}
 use Rattle.el_laws.proofs.life.moves_over_versions.Goals as goal
 
