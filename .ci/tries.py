@@ -8,6 +8,7 @@ error and its exit status are compared with values that stand here. The blocks a
 The last line is 'N passed, M failed', with the given counts added.
 """
 
+import hashlib
 import os
 import subprocess
 import sys
@@ -52,8 +53,11 @@ INVALID = b'{"error":{"code":-32600,"message":"invalid request"},"id":null,"json
 # How the program ends: its exit status, and its words on standard error.
 ENDED = (0, "ended")
 USAGE = (2, "usage")
+BAD_INDEX = (3, "bad index")
 FILES_FAILED = (4, "block files failed")
+DISK_FAILED = (5, "index device failed")
 LINK_FAILED = (6, "link failed")
+OTHER_CHAIN = (9, "other chain")
 BAD_CHAIN = (10, "bad chain")
 
 
@@ -87,6 +91,63 @@ def put(path, data):
     os.makedirs(os.path.dirname(path) or ".", exist_ok=True)
     with open(path, "wb") as it:
         it.write(data)
+
+
+def held(folder):
+    """The files of a folder, by name."""
+    files = {}
+    for name in os.listdir(folder):
+        with open(os.path.join(folder, name), "rb") as it:
+            files[name] = it.read()
+    return files
+
+
+def number(value, size=4):
+    """A number in that many bytes, the lowest first."""
+    return value.to_bytes(size, "little")
+
+
+def bucket(hash_bytes):
+    """The bucket of a txid or a script hash, by its first two bytes."""
+    return int.from_bytes(hash_bytes[:2], "little")
+
+
+def heads(hashes):
+    """The rows of a table of heads, for hashes of which no two share a bucket."""
+    rows = [number(0)] * 65536
+    for place, hash_bytes in enumerate(hashes):
+        rows[bucket(hash_bytes)] = number(place + 1)
+    return rows
+
+
+def index_of(blocks, magic=MAIN):
+    """The journal of an index, with one commit, of blocks that each have a coinbase with one output alone, in one block
+    file. It is made here by the form of the index's rows, and not by the program."""
+    txids, scripts, tables, offset, supply = [], [], {t: [] for t in range(1, 9)}, 0, 0
+    for height, block in enumerate(blocks):
+        coinbase = block[81:]
+        script_start = 4 + 1 + 36 + 1 + coinbase[41] + 4 + 1 + 8 + 1
+        value = coinbase[script_start - 9:script_start - 1]
+        script = hashlib.sha256(coinbase[script_start:-4]).digest()
+        txids.append(hashlib.sha256(hashlib.sha256(coinbase).digest()).digest())
+        scripts.append(script)
+        supply += int.from_bytes(value, "little")
+        tables[1].append(
+            block[:80] + number(0) + number(offset, 8) + number(len(block)) + number(height) + number(1)
+            + number(supply, 8))
+        tables[2].append(
+            txids[-1] + number(height) + number(81) + number(len(coinbase)) + number(height) + number(1)
+            + number(0) * 2 + number(0) * 2)
+        tables[4].append(number(height) + value + number(height) + number(0, 1) + number(0))
+        tables[6].append(script + number(0) + number(height + 1) + number(1) + value)
+        tables[8].append(number(height) + number(height) + number(0))
+        offset += 8 + len(block)
+    tables[3], tables[7] = heads(txids), heads(scripts)
+    counts = b"".join(number(len(tables[t]), 8) for t in range(1, 9))
+    changes = b"".join(
+        number(t, 1) + number(place, 8) + row for t in range(1, 9) for place, row in enumerate(tables[t]))
+    body = b"ELIX" + number(1) + magic + counts + changes
+    return b"\x01" + number(len(body), 8) + body + b"\x00"
 
 
 def once(folder, network="main"):
@@ -170,6 +231,7 @@ def other_words_of_serve(program):
 
 
 def serves_two_files(program):
+    os.mkdir("index")
     # no node leads the server along the headers that the scan finds, so that the chain stays empty
     put("a/blk00000.dat", record(GENESIS))
     put("a/blk00001.dat", record(BLOCK1))
@@ -177,13 +239,83 @@ def serves_two_files(program):
 
 
 def serves_blocks_in_any_order(program):
+    os.mkdir("index")
     put("a/blk00000.dat", record(BLOCK1))
     put("a/blk00003.dat", record(GENESIS))
     return run(program, serve("a"), ONE), (NONE_FOUND, ENDED)
 
 
 def serves_no_folder(program):
+    os.mkdir("index")
     return run(program, serve("a"), ONE), (b"", FILES_FAILED)
+
+
+def serves_again_over_its_index(program):
+    # the journal of an index without commits is one closed gate
+    put("a/blk00000.dat", GOOD)
+    os.mkdir("index")
+    for _ in range(3):
+        did = run(program, serve("a"), ONE)
+        if did != as_wanted((NONE_FOUND, ENDED)) or held("index") != {"10.idx": b"\0"}:
+            return (did, held("index")), (NONE_FOUND, ENDED)
+    return did, (NONE_FOUND, ENDED)
+
+
+def serves_from_an_index_made_elsewhere(program):
+    # the block files are gone; balance and coins of the second block, history of the first
+    os.mkdir("a")
+    put("index/10.idx", index_of([GENESIS, BLOCK1]))
+    given = ONE + asks(BLOCK1_SCRIPT, 2, "get_balance") + asks(BLOCK1_SCRIPT, 3, "listunspent") + asks("00" * 32, 4)
+    wrote = (
+        b'{"id":2,"jsonrpc":"2.0","result":{"confirmed":5000000000,"unconfirmed":0}}\n'
+        b'{"id":3,"jsonrpc":"2.0","result":[{"height":1,"tx_hash":"%s","tx_pos":0,"value":5000000000}]}\n'
+        % BLOCK1_TXID.encode()
+    )
+    return run(program, serve("a"), given), (FOUND + wrote + replies([], 4), ENDED)
+
+
+def index_of_another_network(program):
+    put("a/blk00000.dat", record(GENESIS))
+    put("index/10.idx", index_of([GENESIS]))
+    return run(program, serve("a", network="testnet3"), ONE), (b"", BAD_INDEX)
+
+
+def index_of_another_chain(program):
+    # another first block stands alone in the block files
+    put("a/blk00000.dat", record(GENESIS[:79] + b"\x00" + GENESIS[80:]))
+    put("index/10.idx", index_of([GENESIS]))
+    return run(program, serve("a"), ONE), (b"", OTHER_CHAIN)
+
+
+def index_without_a_folder(program):
+    put("a/blk00000.dat", GOOD)
+    return run(program, serve("a"), ONE), (b"", DISK_FAILED)
+
+
+def index_that_is_no_folder(program):
+    put("a/blk00000.dat", GOOD)
+    put("index", b"")
+    return run(program, serve("a"), ONE), (b"", DISK_FAILED)
+
+
+def index_that_cannot_be_written(program):
+    put("a/blk00000.dat", GOOD)
+    os.makedirs("index/10.idx")
+    return run(program, serve("a"), ONE), (b"", DISK_FAILED)
+
+
+def index_that_is_cut(program):
+    # an open gate, and two of the eight bytes of a length
+    put("a/blk00000.dat", GOOD)
+    put("index/10.idx", b"\x01\x05\x00")
+    return run(program, serve("a"), ONE), (b"", BAD_INDEX)
+
+
+def index_that_is_none(program):
+    # a whole entry of three bytes, which spell no commit
+    put("a/blk00000.dat", GOOD)
+    put("index/10.idx", b"\x01\x03" + b"\x00" * 7 + b"abc\x00")
+    return run(program, serve("a"), ONE), (b"", BAD_INDEX)
 
 
 def words_that_are_no_text(program):
@@ -271,6 +403,7 @@ def every_method(program):
 
 
 def serves_every_method(program):
+    os.mkdir("index")
     put("a/blk00000.dat", GOOD)
     given = ONE + asks(GENESIS_SCRIPT, 2, "get_balance") + asks(GENESIS_SCRIPT, 3, "listunspent")
     empty = b'{"id":2,"jsonrpc":"2.0","result":{"confirmed":0,"unconfirmed":0}}\n'
@@ -353,6 +486,15 @@ CASES = [
     serves_blocks_in_any_order,
     serves_every_method,
     serves_no_folder,
+    serves_again_over_its_index,
+    serves_from_an_index_made_elsewhere,
+    index_of_another_network,
+    index_of_another_chain,
+    index_without_a_folder,
+    index_that_is_no_folder,
+    index_that_cannot_be_written,
+    index_that_is_cut,
+    index_that_is_none,
     words_that_are_no_text,
     folder_that_is_not_there,
     folder_that_is_a_file,

@@ -55,7 +55,7 @@ pub enum Command {
     Serve {
         /// The folder of the block files.
         blocks: Text,
-        /// The folder of the index, which is not used yet.
+        /// The folder of the index.
         index: Text,
         /// The network whose blocks they are.
         network: Network,

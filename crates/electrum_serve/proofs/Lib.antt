@@ -1,11 +1,13 @@
-mod NoBlocks
 pub mod Arrivals
 pub mod Deliveries
 pub mod FileLemmas
 pub mod Flights
+pub mod IndexDisks
+pub mod LifeLemmas
 pub mod Openings
 pub mod Openness
 pub mod Progresses
+pub mod Rises
 pub mod Runs
 pub mod Sendings
 pub mod Servings

@@ -1,6 +1,6 @@
 -- How a call of `serve` ends.
-use Rattle.std.proofs.Common.{◌≡◌, inl, inr, ℕ, List, [], ◌++◌, refl, Bool, true, arith}
-use Rattle.std.specs.Prelude.{Err}
+use Rattle.std.proofs.Common.{◌≡◌, ◌≢◌, inl, inr, ℕ, List, [], ◌++◌, ◌∙◌, refl, sym, Bool, true, arith}
+use Rattle.std.specs.Prelude.{◌⊎◌, Err}
 use Rattle.el_outside.specs.Counts.{RoseBy, OnlyReads, CountsOnly}
 use Rattle.el_outside.specs.Files.{AllGrow}
 use Rattle.el_outside.proofs.Stories.{rose_none}
@@ -8,12 +8,12 @@ use Rattle.el_chain.specs.declared.node.Node.{Node}
 use Rattle.el_chain.specs.Chains.{Chain}
 use Rattle.el_model.specs.World.{World}
 use Rattle.el_model.specs.Run.{Stop, Loss}
-use Rattle.el_words.specs.Words.{IsOnceOf, IsServeOf, network_magic}
+use Rattle.el_words.specs.Words.{IsOnceOf, IsServeOf, network_magic, network_name}
 use Rattle.el_words.specs.Commands.{IsServe, IsOnce}
 use Rattle.electrum_serve.specs.Opened.{IsScanned, nodes_of_chain}
 use Rattle.electrum_serve.specs.OtherChain.{is_other_chain}
 use Rattle.electrum_serve.specs.Runs.{Counts, Faults, Rose, IsCounted, Traffic, no_traffic, faults, RunEnds, IsRun, IsHalted}
-use Rattle.electrum_serve.specs.Ends.{IsSilent, ServeEnds, OnceEnds, IsServed, IsServedOnce, IsBadFile, IsUnserved}
+use Rattle.electrum_serve.specs.Ends.{Ends, usage, serve, once, IndexEnds, IsSilent, ServeEnds, UnopenedEnds, OnceEnds, IsServed, IsServedOnce, IsBadFile, IsUnserved}
 use Rattle.electrum_serve.specs.within.Unread.{unread_status, start_status}
 use Rattle.electrum_serve.specs.declared.file.FileFault.{FileFault}
 use Rattle.electrum_serve.specs.declared.file.FileFault.TheVariants as fault
@@ -23,6 +23,7 @@ use Rattle.electrum_serve.specs.declared.status.Status.{Status}
 use Rattle.electrum_serve.specs.declared.status.Status.TheVariants as status
 use Rattle.el_words.specs.declared.words.Command.TheVariants as command
 use Rattle.el_words.specs.declared.words.Network.{Network}
+use Rattle.el_words.specs.declared.words.Network.TheVariants as network
 
 -- the words of `serve`, or of `once`, with their network's magic
 pub is_serve : {words : List (List ℕ)} {folder index magic : List ℕ} {network : Network}
@@ -43,6 +44,41 @@ pub is_once : {words : List (List ℕ)} {folder magic : List ℕ} {network : Net
     → IsOnceOf words folder network → magic ≡ network_magic network → IsOnce words magic
 is_once {words} {folder} {magic} {network} is magic_is =
     record { folder = folder; of_network = network; is_once = is; magic_is = magic_is }
+
+-- the words of `serve` are those of one network
+same_magic : (a b : Network) → network_name a ≡ network_name b → network_magic a ≡ network_magic b
+same_magic network.Main network.Main e = refl
+same_magic network.Main network.Testnet3 e = absurd cc
+same_magic network.Main network.Regtest e = absurd cc
+same_magic network.Testnet3 network.Main e = absurd cc
+same_magic network.Testnet3 network.Testnet3 e = refl
+same_magic network.Testnet3 network.Regtest e = absurd cc
+same_magic network.Regtest network.Main e = absurd cc
+same_magic network.Regtest network.Testnet3 e = absurd cc
+same_magic network.Regtest network.Regtest e = refl
+
+pub one_network : {words : List (List ℕ)} {folder index magic : List ℕ} {of_network : Network}
+    {client_port node_port : ℕ}
+    → IsServe words magic → IsServeOf words folder index of_network client_port node_port
+    → magic ≡ network_magic of_network
+one_network {of_network = of_network} is other =
+    is.magic_is ∙ same_magic is.of_network of_network
+    (let a = is.is_serve.words_are in let b = other.words_are in cc)
+
+pub same_networks : {words : List (List ℕ)} {a b : List ℕ} → IsServe words a → IsServe words b → a ≡ b
+same_networks x y = one_network x y.is_serve ∙ sym y.magic_is
+
+-- a call with the words of `serve` ends as such
+pub only_served : {A : Type 0} {tells : Type 0} {bytes : A → ℕ → List ℕ} {file_count : A → ℕ}
+    {words : List (List ℕ)} {was flight chain : Chain} {leaves : List ℕ → Chain → Chain → Type 0} {c : Counts}
+    {before after : A} {t : Traffic} {s : Status} {magic : List ℕ} → IsServe words magic
+    → Ends tells bytes file_count words was flight chain leaves c before after t s
+    → IndexEnds tells bytes file_count magic was flight chain (leaves magic) c before after t s
+only_served is (usage none spent silent) =
+    absurd (none.not_serve is.folder is.index is.of_network is.client_port is.node_port is.is_serve)
+only_served is (serve magic also e) = rw (same_networks also is) at e
+only_served is (once magic other e) =
+    absurd (let a = is.is_serve.words_are in let b = other.is_once.words_are in cc)
 
 -- a run told in other words: what a crash leaves, and how often calls failed
 module _ (c : Counts) (of_before of_after : Faults) (rises : (losses : List Loss)
@@ -233,6 +269,43 @@ start_ends tells bytes file_count magic chain leaves turns calls of_link low hig
       },
       left,
     )
+
+-- the index is not opened
+pub unopened_ends : (was flight : Chain) (leaves : Chain → Chain → Type 0)
+    (turns calls of_link of_archive low high : ℕ) (s : Status) → s ≢ status.BadIndex
+    → (s ≡ status.BadIndex) ⊎ ((s ≡ status.DiskFailed) ⊎ (s ≡ status.OutOfMemory)) → leaves was flight
+    → (s ≡ status.DiskFailed → RoseBy low high 1) → (s ≢ status.DiskFailed → high ≡ low)
+    → UnopenedEnds was flight leaves (record {
+      turns = turns;
+      calls_before = calls;
+      calls_after = calls;
+      faults_before = faults of_link of_archive low;
+      faults_after = faults of_link of_archive high;
+    })
+    no_traffic s
+unopened_ends was flight leaves turns calls of_link of_archive low high s good is left counted uncounted = elim is [
+  | inl bad ↦ absurd (good bad)
+  | inr (inl failed) ↦ rw failed (
+    record {
+      traffic = refl;
+      calls = refl;
+      rose = record { link = rose_none of_link; archive = rose_none of_archive; disk = counted failed };
+    },
+    left,
+  )
+  | inr (inr memory) ↦ rw memory (
+    record {
+      traffic = refl;
+      calls = refl;
+      rose = record {
+        link = rose_none of_link;
+        archive = rose_none of_archive;
+        disk = rw (uncounted (λ e. cc)) (rose_none low);
+      };
+    },
+    left,
+  )
+]
 
 -- clients were served without a node
 pub served_once : (tells : Type 0) (magic : List ℕ) (c : Counts) (before after : ℕ → List ℕ)

@@ -66,6 +66,35 @@ ServeEnds tells bytes file_count magic chain leaves c before after t status.OutO
     ⊎ IsServed tells bytes file_count magic chain leaves c before after t status.OutOfMemory
 ServeEnds tells bytes file_count magic chain leaves c before after t other = ⊥
 
+-- How a call with the words of `serve` ends where the index isn't opened. A crash leaves then what it left
+-- before: the chain that was acknowledged or the one that was in flight.
+abbrev pub UnopenedEnds : Chain → Chain → (Chain → Chain → Type 0) → Counts → Traffic → Status → Type 0
+-- a call of the index's device failed
+UnopenedEnds was flight leaves c t status.DiskFailed = IsSilent c t (disk ∷ []) × leaves was flight
+UnopenedEnds was flight leaves c t status.OutOfMemory = IsSilent c t [] × leaves was flight
+UnopenedEnds was flight leaves c t other = ⊥
+
+-- How a call with the words of `serve` ends, for a disk that reads as an index of one of `chain`: the index is
+-- not opened, or it is, and has this chain.
+abbrev pub IndexEnds : {A : Type 0} → Type 0 → (A → ℕ → List ℕ) → (A → ℕ) → List ℕ → Chain → Chain → Chain
+    → (Chain → Chain → Type 0) → Counts → A → A → Traffic → Status → Type 0
+IndexEnds tells bytes file_count magic was flight chain leaves c before after t s =
+    UnopenedEnds was flight leaves c t s ⊎ ServeEnds tells bytes file_count magic chain leaves c before after t s
+
+-- the statuses with which a call ends whose index is open
+abbrev pub IsOpenedEnd : Status → Type 0
+IsOpenedEnd status.Usage = ⊥
+IsOpenedEnd status.BadIndex = ⊥
+IsOpenedEnd status.BadChain = ⊥
+IsOpenedEnd other = Unit {0}
+
+-- the statuses with which no index is opened
+abbrev pub IsUnopened : Status → Type 0
+IsUnopened status.BadIndex = Unit {0}
+IsUnopened status.DiskFailed = Unit {0}
+IsUnopened status.OutOfMemory = Unit {0}
+IsUnopened other = ⊥
+
 -- Clients were served without a node, from the chain that file 0 gives, with its headers. No crash is spoken
 -- of.
 pub record IsServedOnce (tells : Type 0) (magic : List ℕ) (c : Counts) (before after : ℕ → List ℕ)
@@ -110,15 +139,17 @@ IsUnserved status.OtherChain = Unit {0}
 IsUnserved status.BadChain = Unit {0}
 IsUnserved other = ⊥
 
--- How a call ends. The words of `serve` ask for an index, which has this chain.
+-- How a call ends. The words of `serve` ask for an index on a disk, which reads as one of `chain`; `was` was
+-- acknowledged before, and `flight` in flight. `leaves` says of a magic and two chains that all that a crash
+-- may leave of the disk in the end stands for the one or for the other, as an index of that network.
 pub data Ends {A : Type 0} (tells : Type 0) (bytes : A → ℕ → List ℕ) (file_count : A → ℕ)
-    (words : List (List ℕ)) (chain : Chain) (leaves : Chain → Chain → Type 0) (c : Counts) (before after : A)
-    (t : Traffic) (s : Status) : Type 0 where
+    (words : List (List ℕ)) (was flight chain : Chain) (leaves : List ℕ → Chain → Chain → Type 0) (c : Counts)
+    (before after : A) (t : Traffic) (s : Status) : Type 0 where
   usage : IsNoCommand words → s ≡ status.Usage → IsSilent c t []
-      → Ends tells bytes file_count words chain leaves c before after t s
+      → Ends tells bytes file_count words was flight chain leaves c before after t s
   serve : (magic : List ℕ) → IsServe words magic
-      → ServeEnds tells bytes file_count magic chain leaves c before after t s
-      → Ends tells bytes file_count words chain leaves c before after t s
+      → IndexEnds tells bytes file_count magic was flight chain (leaves magic) c before after t s
+      → Ends tells bytes file_count words was flight chain leaves c before after t s
   once : (magic : List ℕ) → IsOnce words magic
       → OnceEnds tells magic c (bytes before) (bytes after) t s
-      → Ends tells bytes file_count words chain leaves c before after t s
+      → Ends tells bytes file_count words was flight chain leaves c before after t s

@@ -5,4 +5,5 @@ pub mod Runs
 pub mod Opened
 pub mod OtherChain
 pub mod Ends
+pub mod Lives
 pub mod within

@@ -1,7 +1,7 @@
 -- How a run over the link ends.
 use Rattle.std.specs.Prelude.{◌≡◌, ◌⊎◌, ℕ, ◌+◌, ◌≤◌, List, [], ◌∷◌, ◌++◌, length, map, Bool, true, false, ◌==◌}
 use Rattle.std.specs.List.{AllByRecursion}
-use Rattle.el_outside.specs.Counts.{RoseBy}
+use Rattle.el_outside.specs.Counts.{RoseBy, risen}
 use Rattle.el_outside.specs.Files.{AllGrow}
 use Rattle.el_outside.specs.Story.{ArrivalWithBytes, opened, brought, closed, quiet, ended, Message, Closing}
 use Rattle.el_chain.specs.Chains.{Chain}
@@ -131,3 +131,22 @@ RunEnds tells first node leaves files c t status.DiskFailed = IsHalted tells fir
 RunEnds tells first node leaves files c t status.OutOfMemory = IsHalted tells first node leaves c t by_memory
 -- it ends in no other way
 RunEnds tells first node leaves files c t other = ⊥
+
+-- the count rose by one at least, or stands at its greatest
+abbrev pub HasRisen : ℕ → ℕ → Type 0
+HasRisen before after = risen before 1 ≤ after
+
+-- What holds of every call, whatever its devices tell: counts of failed calls never fall, and one that failed
+-- is counted where it ended the call; at most as many calls of `next` were made as may be made, and exactly as
+-- many where they are spent.
+pub record IsCaused (c : Counts) (s : Status) : Type 0 where
+  pub link_more : c.faults_before.link ≤ c.faults_after.link
+  pub archive_more : c.faults_before.archive ≤ c.faults_after.archive
+  pub disk_more : c.faults_before.disk ≤ c.faults_after.disk
+  pub link : s ≡ status.LinkFailed → HasRisen c.faults_before.link c.faults_after.link
+  pub archive : s ≡ status.ArchiveFailed → HasRisen c.faults_before.archive c.faults_after.archive
+  pub disk : s ≡ status.DiskFailed → HasRisen c.faults_before.disk c.faults_after.disk
+  pub calls : ℕ
+  pub called : RoseBy c.calls_before c.calls_after calls
+  pub few : calls ≤ c.turns
+  pub spent : s ≡ status.TurnsSpent → calls ≡ c.turns

@@ -2,7 +2,9 @@
 #![tactic(auto)]
 
 mod file;
+mod index_disk;
 mod index_headers;
+mod lives;
 mod opening;
 mod other_chain;
 mod program;
@@ -11,8 +13,9 @@ mod serving;
 mod starting;
 mod status;
 
-pub use el_net::{BlockFiles, NoFiles, NoLink, StandardLink};
+pub use el_net::{BlockFiles, FileDisk, NoDisk, NoFiles, NoLink, StandardLink};
 pub use el_words::{Command, Network, OnceWords, ServeWords, once_of, read_words, serve_of};
+pub use lives::lives_go_on;
 use program::{serve_all, tell_end};
 pub use serving::serve;
 pub use status::Status;

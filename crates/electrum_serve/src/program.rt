@@ -9,7 +9,8 @@ ghost use Rattle.electrum_serve.specs.Statuses.{code_of};
 use crate::serving::serve;
 use crate::status::Status;
 use el_base::OutOfMemory;
-use el_net::{BlockFiles, NoFiles, NoLink, StandardLink};
+use el_net::{BlockFiles, FileDisk, NoDisk, NoFiles, NoLink, StandardLink};
+use el_outside::Disk;
 use el_words::{Command, read_words};
 use std::alloc::Global;
 use std::process::ExitCode;
@@ -53,7 +54,23 @@ fn files_of(
     BlockFiles::new(rt, alloc, folder.as_str())
 }
 
-// Serves the command of these words over its block files and the standard streams.
+// Serves the words over a disk, the block files of their command and the standard streams.
+fn serve_over<D: Disk + Drop>(
+    rt: &HostRuntime,
+    words: &[String],
+    command: &Command,
+    disk: D,
+) -> Result<Status, OutOfMemory>
+    ensures refused { IsNoCommand (texts words.now) → IfOk result (λ status. status ≡ Status.Usage) }
+    ensures lawful { IfOk result (λ status. status ≡ Status.Usage → IsNoCommand (texts words.now)) }
+{
+    let mut archive = files_of(rt.clone()?, rt.alloc(), command)?;
+    let mut link = StandardLink::new(rt.clone()?);
+    let (status, _) = serve(rt.alloc(), words, disk, &mut archive, &mut link, TURNS);
+    Ok(status)
+}
+
+// Serves the command of these words over its devices: the files of its index, where it has one.
 fn serve_command(
     rt: &HostRuntime,
     words: &[String],
@@ -62,9 +79,13 @@ fn serve_command(
     ensures refused { IsNoCommand (texts words.now) → IfOk result (λ status. status ≡ Status.Usage) }
     ensures lawful { IfOk result (λ status. status ≡ Status.Usage → IsNoCommand (texts words.now)) }
 {
-    let mut archive = files_of(rt.clone()?, rt.alloc(), command)?;
-    let mut link = StandardLink::new(rt.clone()?);
-    Ok(serve(rt.alloc(), words, &mut archive, &mut link, TURNS))
+    match command {
+        Command::Serve { index, .. } => {
+            let disk = FileDisk::new(rt.clone()?, rt.alloc(), index.as_str())?;
+            serve_over(rt, words, command, disk)
+        }
+        Command::Once { .. } => serve_over(rt, words, command, NoDisk { faults: 0 }),
+    }
 }
 
 // Serves words that are no command over devices that have nothing.
@@ -72,13 +93,15 @@ fn serve_nobody(rt: &HostRuntime, words: &[String]) -> Status
     requires { IsNoCommand (texts words.now) }
     ensures { result ≡ Status.Usage }
 {
-    serve(
+    let (status, _) = serve(
         rt.alloc(),
         words,
+        NoDisk { faults: 0 },
         &mut NoFiles,
         &mut NoLink { calls: 0 },
         TURNS,
-    )
+    );
+    status
 }
 
 // Serves the words over the devices that they ask for.

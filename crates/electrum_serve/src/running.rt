@@ -1,5 +1,5 @@
 // The run over the arrivals.
-ghost use Rattle.std.specs.Prelude.{◌≡◌, ◌≤◌, ◌↔◌, ℕ, List, [], ◌∷◌, length, None, Some, OnOk, IfOk, IfErr, IsTrue};
+ghost use Rattle.std.specs.Prelude.{◌≡◌, ◌≢◌, ◌≤◌, ◌↔◌, ℕ, List, [], ◌∷◌, length, None, Some, OnOk, IfOk, IfErr, IsTrue};
 ghost use Rattle.el_outside.specs.Files.{AllGrow};
 ghost use Rattle.el_outside.specs.Story.{GoesOn, with_bytes};
 ghost use Rattle.el_chain.specs.Chains.{Chain};
@@ -11,8 +11,8 @@ ghost use Rattle.el_core.specs.Turn as turn;
 ghost use Rattle.el_core.specs.Turn.{messages_of, closing_of, outs_of};
 ghost use Rattle.electrum_serve.specs.Crash.{LeavesEither};
 ghost use Rattle.electrum_serve.specs.Ends.{IsUnserved};
-ghost use Rattle.electrum_serve.specs.Runs.{Traffic, faults, RunEnds, is_end};
-ghost use Rattle.electrum_serve.specs.within.Sending.{Sent, Unsent, CanSend, SentAll, StoppedSending, closing_left, first_some, Closes, LossOf, stop_of, status_of};
+ghost use Rattle.electrum_serve.specs.Runs.{Traffic, faults, RunEnds, IsCaused, is_end};
+ghost use Rattle.electrum_serve.specs.within.Sending.{Sent, Unsent, CanSend, SentAll, StoppedSending, closing_left, first_some, Closes, LossOf, RisesFor, stop_of, status_of};
 ghost use Rattle.electrum_serve.specs.within.Progress.{CanDeliver, Delivered, ClientsAreOpen, Finished, Stopped, StoppedIn, seen, taken_one};
 
 use crate::status::Status;
@@ -59,7 +59,8 @@ fn halt_of(fault: StepFault) -> Halt
 
 // What it means that a message wasn't sent: for a client why it is closed, for the node why the run stops.
 fn loss_of(fault: SendFault) -> (Why, Halt)
-    ensures { LossOf fault result.0 result.1 }
+    ensures loss { LossOf fault result.0 result.1 }
+    ensures no_disk { result.1 ≢ Halt.Disk }
 {
     match fault {
         SendFault::Gone => (Why::Gone, Halt::Link),
@@ -78,6 +79,8 @@ fn send<G: Ledger, K: Link>(
         server.old (K.story link.old) (K.faults link.old) server.new (K.story link.new) (K.faults link.new)) }
     ensures unsent { IfErr result (λ halt. Unsent K.tells p (stop_of halt)
         server.old (K.story link.old) (K.faults link.old) server.new (K.story link.new) (K.faults link.new)) }
+    ensures counts { RisesFor (K.faults link.old) (K.faults link.new) Halt.Link result }
+    ensures no_disk { IfErr result (λ halt. halt ≢ Halt.Disk) }
     ensures same_ledger { server.new.ledger ≡ server.old.ledger }
     ensures no_more { work server.new ≤ work server.old }
     ensures same_calls { K.calls link.new ≡ K.calls link.old }
@@ -128,6 +131,8 @@ fn send_all<G: Ledger, K: Link>(
         → CanSend G.stands K.tells server.old next rest (K.story link.old) (messages_of sends.now)
         → IfErr result (λ halt. StoppedSending K.tells next (messages_of sends.now) (stop_of halt)
         server.old (K.story link.old) (K.faults link.old) server.new (K.story link.new) (K.faults link.new)) }
+    ensures counts { RisesFor (K.faults link.old) (K.faults link.new) Halt.Link result }
+    ensures no_disk { IfErr result (λ halt. halt ≢ Halt.Disk) }
     ensures same_ledger { server.new.ledger ≡ server.old.ledger }
     ensures no_more { work server.new ≤ work server.old }
     ensures same_calls { K.calls link.new ≡ K.calls link.old }
@@ -173,6 +178,8 @@ fn deliver<G: Ledger, K: Link>(
         → CanDeliver G.stands K.tells server.old next rest (outs_of outs.now) (K.story link.old)
         → IfErr result (λ halt. StoppedSending K.tells next (outs_of outs.now).messages (stop_of halt)
         server.old (K.story link.old) (K.faults link.old) server.new (K.story link.new) (K.faults link.new)) }
+    ensures counts { RisesFor (K.faults link.old) (K.faults link.new) Halt.Link result }
+    ensures no_disk { IfErr result (λ halt. halt ≢ Halt.Disk) }
     ensures same_ledger { server.new.ledger ≡ server.old.ledger }
     ensures no_more { work server.new ≤ work server.old }
     ensures same_calls { K.calls link.new ≡ K.calls link.old }
@@ -215,6 +222,9 @@ fn work_off<G: Ledger, A: Archive, K: Link, L: Counts + Send>(
     ensures live { OnOk result (G.is_live server.new.ledger) }
     ensures keeps { A.tells → AllGrow (A.bytes archive.old) (A.bytes archive.new) }
     ensures same_calls { K.calls link.new ≡ K.calls link.old }
+    ensures link_counts { RisesFor (K.faults link.old) (K.faults link.new) Halt.Link result }
+    ensures archive_more { A.faults archive.old ≤ A.faults archive.new }
+    ensures disk_counts { RisesFor (G.faults server.old.ledger) (G.faults server.new.ledger) Halt.Disk result }
 {
     loop {
         match server.turn(archive, steps) {
@@ -298,6 +308,9 @@ fn serve_arrival<G: Ledger, A: Archive, K: Link, L: Counts + Send>(
     ensures live { OnOk result (G.is_live server.new.ledger) }
     ensures keeps { A.tells → AllGrow (A.bytes archive.old) (A.bytes archive.new) }
     ensures same_calls { K.calls link.new ≡ K.calls link.old }
+    ensures link_counts { RisesFor (K.faults link.old) (K.faults link.new) Halt.Link result }
+    ensures archive_more { A.faults archive.old ≤ A.faults archive.new }
+    ensures disk_counts { RisesFor (G.faults server.old.ledger) (G.faults server.new.ledger) Halt.Disk result }
 {
     match server.take(arrival, bytes) {
         Ok(()) => work_off(server, archive, link, steps),
@@ -330,6 +343,13 @@ pub fn run<G: Ledger, A: Archive, K: Link, L: Counts + Send>(
           faults_before = faults (K.faults link.old) (A.faults archive.old) (G.faults server.old.ledger);
           faults_after = faults (K.faults link.new) (A.faults archive.new) (G.faults server.new.ledger);
         }) traffic result }
+    ensures causes { IsCaused (record {
+      turns = turns;
+      calls_before = K.calls link.old;
+      calls_after = K.calls link.new;
+      faults_before = faults (K.faults link.old) (A.faults archive.old) (G.faults server.old.ledger);
+      faults_after = faults (K.faults link.new) (A.faults archive.new) (G.faults server.new.ledger);
+    }) result }
     ensures serves { IsUnserved result → ⊥ }
     ensures keeps { A.tells → AllGrow (A.bytes archive.old) (A.bytes archive.new) }
 {

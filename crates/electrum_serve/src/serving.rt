@@ -1,28 +1,31 @@
 // The whole of the program.
-ghost use Rattle.std.specs.Prelude.{◌≡◌, ◌<◌, ℕ, List, [], IfOk, IsErrOf};
+ghost use Rattle.std.specs.Prelude.{◌≡◌, ◌≢◌, ◌<◌, ℕ, List, [], IfOk, IsErrOf};
 ghost use Rattle.el_outside.specs.Counts.{OnlyReads};
 ghost use Rattle.el_outside.specs.Files.{AllGrow, IsFile};
 ghost use Rattle.el_outside.specs.Story.{GoesOn};
 ghost use Rattle.el_chain.specs.declared.node.Node as shape;
-ghost use Rattle.el_words.specs.Words.{texts};
-ghost use Rattle.el_words.specs.Commands.{IsNoCommand};
+ghost use Rattle.el_chain.specs.Chains.{Chain};
+ghost use Rattle.el_logstore.specs.Images.{IsBadIndex};
+ghost use Rattle.el_words.specs.Words.{network_magic, texts};
+ghost use Rattle.el_words.specs.Commands.{IsNoCommand, IsServe};
+ghost use Rattle.electrum_serve.specs.Crash.{LeavesOneOf, IsIndexDisk};
 ghost use Rattle.electrum_serve.specs.File.{GivesNoChain};
 ghost use Rattle.electrum_serve.specs.Opened.{IsRead, all_added};
-ghost use Rattle.electrum_serve.specs.Runs.{Traffic, faults};
-ghost use Rattle.electrum_serve.specs.Ends.{Ends, OnceEnds, ServeEnds, IsUnserved};
+ghost use Rattle.electrum_serve.specs.Runs.{Traffic, IsCaused, faults};
+ghost use Rattle.electrum_serve.specs.Ends.{Ends, OnceEnds, IndexEnds, IsUnserved, IsUnopened};
 ghost use Rattle.electrum_serve.specs.within.Unread.{unread_status};
 
 use crate::file::{FileFault, read_chain};
+use crate::index_disk::open_index;
 use crate::opening::tree_of;
 use crate::starting::{serve_from, serve_index};
 use crate::status::Status;
 use el_base::Steps;
 use el_headers::HeaderTree;
-use el_index::Index;
 use el_model::PlainLedger;
-use el_outside::{Archive, Link};
-use el_rows::VecRows;
-use el_words::{once_of, serve_of};
+use el_outside::{Archive, Disk, Link};
+use el_redo::{Mainnet, NetworkMagic, Regtest, Testnet3};
+use el_words::{Network, once_of, serve_of};
 use std::alloc::Global;
 use std::marker::Brand;
 use std::sync::ledger::{Blank, Ledger as Counts};
@@ -62,38 +65,114 @@ fn open_file<A: Archive>(
     }
 }
 
-// `serve`: a node and clients, from an empty index in memory and the headers of all block files.
-fn serve_node<A: Archive, K: Link, L: Counts + Send>(
+// `serve`: a node and clients, from the index on the disk and the headers of all block files.
+fn serve_disk<D: Disk, N: NetworkMagic, A: Archive, K: Link, L: Counts + Send>(
     alloc: Global,
-    magic: [u8; 4],
+    disk: D,
     archive: &mut A,
     link: &mut K,
     turns: u64,
     blank: Blank,
-) -> Status
+) -> (Status, D)
     requires name { blank.name ≡ L.name }
     requires parts { blank.parts ≡ L.parts }
     requires some { 0 < blank.parts }
-    ensures ends { (traffic : Traffic)
+    ensures ends { (was flight chain : Chain) → IsIndexDisk ⟦<D as Disk>⟧ N.magic disk was flight chain
+        → (traffic : Traffic)
         × (K.tells → GoesOn (K.story link.old) (K.story link.new)
         traffic.arrivals traffic.messages traffic.closings)
-        × ServeEnds A.tells A.bytes A.file_count magic [] (λ acked flight. Unit {0}) (record {
+        × IndexEnds A.tells A.bytes A.file_count N.magic was flight chain
+        (LeavesOneOf ⟦<D as Disk>⟧ N.magic result.1) (record {
           turns = turns;
           calls_before = K.calls link.old;
           calls_after = K.calls link.new;
-          faults_before = faults (K.faults link.old) (A.faults archive.old) 0;
-          faults_after = faults (K.faults link.new) (A.faults archive.new) 0;
-        }) archive.old archive.new traffic result }
-    ensures unserved { IsUnserved result → link.new ≡ link.old }
+          faults_before = faults (K.faults link.old) (A.faults archive.old) (D.faults disk);
+          faults_after = faults (K.faults link.new) (A.faults archive.new) (D.faults result.1);
+        }) archive.old archive.new traffic result.0 }
+    ensures bad { D.tells → result.0 ≡ Status.BadIndex
+        → (wanted : ℕ) × (found : ℕ) × IsBadIndex N.magic (D.seen disk) wanted found }
+    ensures is_bad { D.tells → (wanted found : ℕ) → IsBadIndex N.magic (D.seen disk) wanted found
+        → IsUnopened result.0 }
+    ensures causes { IsCaused (record {
+      turns = turns;
+      calls_before = K.calls link.old;
+      calls_after = K.calls link.new;
+      faults_before = faults (K.faults link.old) (A.faults archive.old) (D.faults disk);
+      faults_after = faults (K.faults link.new) (A.faults archive.new) (D.faults result.1);
+    }) result.0 }
+    ensures read { result.0 ≢ Status.Usage }
+    ensures unserved { IsUnserved result.0 → link.new ≡ link.old }
     ensures keeps { A.tells → AllGrow (A.bytes archive.old) (A.bytes archive.new) }
 {
     let mut steps = Steps::<L>::new(blank);
-    match Index::over(alloc, VecRows::new(alloc), &mut steps) {
+    match open_index::<D, N, L>(alloc, disk, &mut steps) {
         Ok(index) => {
-            let (status, _) = serve_index(alloc, index, magic, archive, link, turns, &mut steps);
-            status
+            let (status, index) = serve_index(
+                alloc,
+                index,
+                N::magic(),
+                archive,
+                link,
+                turns,
+                &mut steps,
+            );
+            (status, index.into_rows().into_disk())
         }
-        Err(_) => Status::DiskFailed,
+        Err((status, disk)) => (status, disk),
+    }
+}
+
+// `serve` for a network.
+fn serve_network<D: Disk, A: Archive, K: Link, L: Counts + Send>(
+    alloc: Global,
+    network: Network,
+    disk: D,
+    archive: &mut A,
+    link: &mut K,
+    turns: u64,
+    blank: Blank,
+) -> (Status, D)
+    requires name { blank.name ≡ L.name }
+    requires parts { blank.parts ≡ L.parts }
+    requires some { 0 < blank.parts }
+    ensures ends { (was flight chain : Chain)
+        → IsIndexDisk ⟦<D as Disk>⟧ (network_magic network) disk was flight chain
+        → (traffic : Traffic)
+        × (K.tells → GoesOn (K.story link.old) (K.story link.new)
+        traffic.arrivals traffic.messages traffic.closings)
+        × IndexEnds A.tells A.bytes A.file_count (network_magic network) was flight chain
+        (LeavesOneOf ⟦<D as Disk>⟧ (network_magic network) result.1) (record {
+          turns = turns;
+          calls_before = K.calls link.old;
+          calls_after = K.calls link.new;
+          faults_before = faults (K.faults link.old) (A.faults archive.old) (D.faults disk);
+          faults_after = faults (K.faults link.new) (A.faults archive.new) (D.faults result.1);
+        }) archive.old archive.new traffic result.0 }
+    ensures bad { D.tells → result.0 ≡ Status.BadIndex
+        → (wanted : ℕ) × (found : ℕ) × IsBadIndex (network_magic network) (D.seen disk) wanted found }
+    ensures is_bad { D.tells → (wanted found : ℕ)
+        → IsBadIndex (network_magic network) (D.seen disk) wanted found → IsUnopened result.0 }
+    ensures causes { IsCaused (record {
+      turns = turns;
+      calls_before = K.calls link.old;
+      calls_after = K.calls link.new;
+      faults_before = faults (K.faults link.old) (A.faults archive.old) (D.faults disk);
+      faults_after = faults (K.faults link.new) (A.faults archive.new) (D.faults result.1);
+    }) result.0 }
+    ensures read { result.0 ≢ Status.Usage }
+    ensures unserved { IsUnserved result.0 → link.new ≡ link.old }
+    ensures keeps { A.tells → AllGrow (A.bytes archive.old) (A.bytes archive.new) }
+{
+    match network {
+        Network::Main => serve_disk::<D, Mainnet, A, K, L>(
+            alloc, disk, archive, link, turns, blank,
+        ),
+        Network::Testnet3 => serve_disk::<D, Testnet3, A, K, L>(
+            alloc, disk, archive, link, turns, blank,
+        ),
+        Network::Regtest => serve_disk::<D, Regtest, A, K, L>(
+            alloc, disk, archive, link, turns, blank,
+        ),
     }
 }
 
@@ -119,6 +198,13 @@ fn serve_file<A: Archive, K: Link, L: Counts + Send>(
           faults_before = faults (K.faults link.old) (A.faults archive.old) disk;
           faults_after = faults (K.faults link.new) (A.faults archive.new) disk;
         }) (A.bytes archive.old) (A.bytes archive.new) traffic result }
+    ensures causes { (disk : ℕ) → IsCaused (record {
+      turns = turns;
+      calls_before = K.calls link.old;
+      calls_after = K.calls link.new;
+      faults_before = faults (K.faults link.old) (A.faults archive.old) disk;
+      faults_after = faults (K.faults link.new) (A.faults archive.new) disk;
+    }) result }
     ensures unserved { IsUnserved result → link.new ≡ link.old }
     ensures keeps { A.tells → AllGrow (A.bytes archive.old) (A.bytes archive.new) }
 {
@@ -134,40 +220,61 @@ fn serve_file<A: Archive, K: Link, L: Counts + Send>(
     }
 }
 
-/// Does all that the program does. With the words of `serve` it finds the headers of all block files, and
-/// answers the node and the clients of the link, from the chain to which the node leads it. With those of
-/// `once` it reads file 0, and answers the link's clients from its chain. It ends as the link does, or fails,
-/// and makes at most `turns` calls of `next`.
-pub fn serve<A: Archive, K: Link>(
+/// Does all that the program does. With the words of `serve` it opens the index on the disk, finds the headers
+/// of all block files, and answers the node and the clients of the link, from the chain to which the node leads
+/// it. With those of `once` it reads file 0, and answers the link's clients from its chain, without the disk. It
+/// ends as the link does, or fails, and makes at most `turns` calls of `next`. The disk comes back as it stands.
+pub fn serve<D: Disk, A: Archive, K: Link>(
     alloc: Global,
     words: &[String],
+    disk: D,
     archive: &mut A,
     link: &mut K,
     turns: u64,
-) -> Status
-    // What was sent and closed is a run from what the block files gave, and each status has its cause.
-    ensures ends { (traffic : Traffic)
+) -> (Status, D)
+    // What was sent and closed is a run from what the disk and the block files gave, each status has its cause,
+    // and what a crash may leave in the end is the chain that is acknowledged or the one in flight.
+    ensures ends { (was flight chain : Chain)
+        → ((magic : List ℕ) → IsServe (texts words.now) magic
+        → IsIndexDisk ⟦<D as Disk>⟧ magic disk was flight chain)
+        → (traffic : Traffic)
         × (K.tells → GoesOn (K.story link.old) (K.story link.new)
         traffic.arrivals traffic.messages traffic.closings)
-        × Ends A.tells A.bytes A.file_count (texts words.now) [] (λ acked flight. Unit {0}) (record {
+        × Ends A.tells A.bytes A.file_count (texts words.now) was flight chain
+        (λ magic acked flight. LeavesOneOf ⟦<D as Disk>⟧ magic result.1 acked flight) (record {
           turns = turns;
           calls_before = K.calls link.old;
           calls_after = K.calls link.new;
-          faults_before = faults (K.faults link.old) (A.faults archive.old) 0;
-          faults_after = faults (K.faults link.new) (A.faults archive.new) 0;
-        }) archive.old archive.new traffic result }
+          faults_before = faults (K.faults link.old) (A.faults archive.old) (D.faults disk);
+          faults_after = faults (K.faults link.new) (A.faults archive.new) (D.faults result.1);
+        }) archive.old archive.new traffic result.0 }
+    // The index is bad exactly where the disk stands for no tables of the network.
+    ensures bad { D.tells → result.0 ≡ Status.BadIndex → (magic : List ℕ) → IsServe (texts words.now) magic
+        → (wanted : ℕ) × (found : ℕ) × IsBadIndex magic (D.seen disk) wanted found }
+    ensures is_bad { D.tells → (magic : List ℕ) (wanted found : ℕ) → IsServe (texts words.now) magic
+        → IsBadIndex magic (D.seen disk) wanted found → IsUnopened result.0 }
+    // Whatever the devices tell, each failure that is told was counted.
+    ensures causes { IsCaused (record {
+      turns = turns;
+      calls_before = K.calls link.old;
+      calls_after = K.calls link.new;
+      faults_before = faults (K.faults link.old) (A.faults archive.old) (D.faults disk);
+      faults_after = faults (K.faults link.new) (A.faults archive.new) (D.faults result.1);
+    }) result.0 }
     // Other words are refused, and then no device is called.
-    ensures refused { IsNoCommand (texts words.now) → result ≡ Status.Usage }
-    ensures lawful { result ≡ Status.Usage → IsNoCommand (texts words.now) }
-    ensures unread { result ≡ Status.Usage → archive.new ≡ archive.old }
-    // The link is called only to serve.
-    ensures unserved { IsUnserved result → link.new ≡ link.old }
+    ensures refused { IsNoCommand (texts words.now) → result.0 ≡ Status.Usage }
+    ensures lawful { result.0 ≡ Status.Usage → IsNoCommand (texts words.now) }
+    ensures unread { result.0 ≡ Status.Usage → archive.new ≡ archive.old }
+    // The disk is called only for an index, and the link only to serve.
+    ensures untouched { ((magic : List ℕ) → IsServe (texts words.now) magic → ⊥) → result.1 ≡ disk }
+    ensures unserved { IsUnserved result.0 → link.new ≡ link.old }
     ensures keeps { A.tells → AllGrow (A.bytes archive.old) (A.bytes archive.new) }
 {
     if let Some(serve) = serve_of(words) {
-        return serve_node::<A, K, Brand>(
+        return serve_network::<D, A, K, Brand>(
             alloc,
-            serve.network.magic(),
+            serve.network,
+            disk,
             archive,
             link,
             turns,
@@ -175,14 +282,17 @@ pub fn serve<A: Archive, K: Link>(
         );
     }
     match once_of(words) {
-        Some(once) => serve_file::<A, K, Brand>(
-            alloc,
-            once.network.magic(),
-            archive,
-            link,
-            turns,
-            Blank::new(1),
+        Some(once) => (
+            serve_file::<A, K, Brand>(
+                alloc,
+                once.network.magic(),
+                archive,
+                link,
+                turns,
+                Blank::new(1),
+            ),
+            disk,
         ),
-        None => Status::Usage,
+        None => (Status::Usage, disk),
     }
 }

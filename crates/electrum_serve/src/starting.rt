@@ -5,8 +5,8 @@ ghost use Rattle.el_outside.specs.Story.{GoesOn};
 ghost use Rattle.el_chain.specs.Chains.{Chain};
 ghost use Rattle.el_model.specs.World.{quiet_world};
 ghost use Rattle.electrum_serve.specs.Crash.{LeavesEither};
-ghost use Rattle.electrum_serve.specs.Runs.{Traffic, faults, RunEnds};
-ghost use Rattle.electrum_serve.specs.Ends.{ServeEnds, IsUnserved};
+ghost use Rattle.electrum_serve.specs.Runs.{Traffic, faults, RunEnds, IsCaused};
+ghost use Rattle.electrum_serve.specs.Ends.{ServeEnds, IsUnserved, IsOpenedEnd};
 ghost use Rattle.electrum_serve.specs.within.Unread.{start_status};
 
 use crate::opening::{StartFault, open_headers};
@@ -58,6 +58,13 @@ pub fn serve_from<G: Ledger, A: Archive, K: Link, L: Counts + Send>(
           faults_before = faults (K.faults link.old) (A.faults archive.old) (G.faults ledger);
           faults_after = faults (K.faults link.new) (A.faults archive.new) (G.faults result.1);
         }) traffic result.0 }
+    ensures causes { IsCaused (record {
+      turns = turns;
+      calls_before = K.calls link.old;
+      calls_after = K.calls link.new;
+      faults_before = faults (K.faults link.old) (A.faults archive.old) (G.faults ledger);
+      faults_after = faults (K.faults link.new) (A.faults archive.new) (G.faults result.1);
+    }) result.0 }
     ensures serves { IsUnserved result.0 → ⊥ }
     ensures keeps { A.tells → AllGrow (A.bytes archive.old) (A.bytes archive.new) }
 {
@@ -89,6 +96,14 @@ pub fn serve_index<G: Ledger, A: Archive, K: Link, L: Counts + Send>(
           faults_before = faults (K.faults link.old) (A.faults archive.old) (G.faults ledger);
           faults_after = faults (K.faults link.new) (A.faults archive.new) (G.faults result.1);
         }) archive.old archive.new traffic result.0 }
+    ensures causes { IsCaused (record {
+      turns = turns;
+      calls_before = K.calls link.old;
+      calls_after = K.calls link.new;
+      faults_before = faults (K.faults link.old) (A.faults archive.old) (G.faults ledger);
+      faults_after = faults (K.faults link.new) (A.faults archive.new) (G.faults result.1);
+    }) result.0 }
+    ensures opened { IsOpenedEnd result.0 }
     ensures unserved { IsUnserved result.0 → link.new ≡ link.old }
     ensures keeps { A.tells → AllGrow (A.bytes archive.old) (A.bytes archive.new) }
 {

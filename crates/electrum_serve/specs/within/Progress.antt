@@ -1,5 +1,5 @@
 -- What the server has done of an arrival's events, and what went over the link meanwhile.
-use Rattle.std.specs.Prelude.{◌≡◌, ℕ, false, List, [], ◌++◌, length, IsTrue, Option, None, Some, Bool, if◌then◌else◌}
+use Rattle.std.specs.Prelude.{◌≡◌, ◌≤◌, ℕ, false, List, [], ◌++◌, length, IsTrue, Option, None, Some, Bool, if◌then◌else◌}
 use Rattle.el_outside.specs.Counts.{RoseBy}
 use Rattle.el_outside.specs.Files.{AllGrow}
 use Rattle.el_outside.specs.Story.{Story, ArrivalWithBytes, Message, Closing, GoesOn, is_open}
@@ -146,3 +146,10 @@ pub record Going {G : Type 0} (stands : G → Chain → Type 0) (link_tells tell
   pub calls : RoseBy dialled called (length arrivals)
   pub rose : Rose before.faults now.faults losses
   pub grown : tells → AllGrow world.files now.files
+
+-- So many calls of `next` were made so far, and no count of failed calls fell.
+pub record CountedSoFar (calls calls_before calls_after : ℕ) (before after : Faults) : Type 0 where
+  pub called : RoseBy calls_before calls_after calls
+  pub link_more : before.link ≤ after.link
+  pub archive_more : before.archive ≤ after.archive
+  pub disk_more : before.disk ≤ after.disk

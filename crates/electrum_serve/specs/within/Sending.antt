@@ -1,5 +1,5 @@
 -- What became of the messages of a turn.
-use Rattle.std.specs.Prelude.{◌≡◌, ◌≢◌, ℕ, true, List, [], ◌∷◌, ◌++◌, IsTrue, Option, None, Some}
+use Rattle.std.specs.Prelude.{◌≡◌, ◌≢◌, ◌≤◌, ℕ, true, Result, IsErrOf, List, [], ◌∷◌, ◌++◌, IsTrue, Option, None, Some}
 use Rattle.std.specs.List.{AllByRecursion}
 use Rattle.el_outside.specs.Counts.{RoseBy}
 use Rattle.el_outside.specs.Story.{Story, Message, Closing, GoesOn, is_open}
@@ -13,6 +13,7 @@ use Rattle.el_model.specs.World.{World, Event, is_client, without_client}
 use Rattle.el_model.specs.Run.{Stop, by_disk, by_link, by_memory, Loss, link_losses, lost_by, LostBy, IsDeparture, Delivers, to_others, unless_of}
 use Rattle.el_core.specs.State.{State, Stands}
 use Rattle.el_core.specs.Turn.{GoesTo}
+use Rattle.electrum_serve.specs.Runs.{HasRisen}
 use Rattle.electrum_serve.specs.declared.running.Halt.{Halt}
 use Rattle.electrum_serve.specs.declared.running.Halt.TheVariants as halt
 use Rattle.electrum_serve.specs.declared.status.Status.{Status}
@@ -34,6 +35,11 @@ status_of halt.Memory = status.OutOfMemory
 abbrev pub LossOf : SendFault → Why → Halt → Type 0
 LossOf fault.Gone reason stop = (reason ≡ why.Gone) × (stop ≡ halt.Link)
 LossOf fault.Memory reason stop = (reason ≡ why.Memory) × (stop ≡ halt.Memory)
+
+-- A count of failed calls never falls, and it rose where the run stops for that.
+pub record RisesFor {T : Type 0} (before after : ℕ) (stop : Halt) (result : Result T Halt) : Type 0 where
+  pub more : before ≤ after
+  pub rose : IsErrOf result stop → HasRisen before after
 
 -- The server forgot a client, with all that is left of its bytes.
 pub record Forgets {G : Type 0} (stands : G → Chain → Type 0) (s : State G) (p : ℕ)

@@ -5,6 +5,8 @@ use Rattle.electrum_serve.specs.declared.opening.StartFault.{StartFault}
 use Rattle.electrum_serve.specs.declared.opening.StartFault.TheVariants as start
 use Rattle.electrum_serve.specs.declared.status.Status.{Status}
 use Rattle.electrum_serve.specs.declared.status.Status.TheVariants as status
+use Rattle.el_redo.specs.declared.faults.OpenFault.{OpenFault}
+use Rattle.el_redo.specs.declared.faults.OpenFault.TheVariants as opening
 use Rattle.el_model.specs.declared.fault.QueryFault.{QueryFault}
 use Rattle.el_model.specs.declared.fault.QueryFault.TheVariants as query
 
@@ -13,6 +15,12 @@ abbrev pub unread_status : FileFault → Status
 unread_status fault.Failed = status.ArchiveFailed
 unread_status fault.Memory = status.OutOfMemory
 unread_status fault.Bad = status.BadChain
+
+-- of the index on a disk
+abbrev pub open_status : OpenFault → Status
+open_status opening.DiskFailed = status.DiskFailed
+open_status (opening.BadIndex file wanted found) = status.BadIndex
+open_status opening.Memory = status.OutOfMemory
 
 -- of the index's headers
 abbrev pub index_fault : QueryFault → StartFault

@@ -3,14 +3,15 @@ ghost use Rattle.std.specs.Prelude.{◌≡◌, ◌≤◌, ◌∷◌, [], IfOk};
 ghost use Rattle.std.specs.List.{AllByRecursion};
 ghost use Rattle.el_tx.specs.Encoding.{HasEncoding};
 
+use crate::tests::forks::{deep, forks};
 use el_base::{Bytes, Hash32, OutOfMemory};
 use el_block::Block;
-use el_gen::{block, block_bytes, coinbase};
+use el_gen::{GENESIS, block, block_bytes, coinbase};
 use el_tx::{Tx, block_hash, encode_header};
 use std::alloc::Global;
 use std::test::Fail;
 
-const ZERO: Hash32 = Hash32([0; 32]);
+pub(super) const ZERO: Hash32 = Hash32([0; 32]);
 
 pub(super) const MAIN: [u8; 4] = [0xf9, 0xbe, 0xb4, 0xd9];
 
@@ -38,6 +39,12 @@ pub(super) enum Files {
     Others,
     // Sixteen blocks of the first branch, and one after them that is refused.
     Late,
+    // Blocks that part after the first one, and spend its coin.
+    Forks,
+    // A long branch, and two that part from it near its first block.
+    Deep,
+    // Bitcoin's first block, on regtest.
+    Foreign,
 }
 
 // Adds a record after a file's bytes.
@@ -85,15 +92,35 @@ fn block_at(alloc: Global, previous: Hash32, height: u32, branch: u8) -> Result<
 }
 
 // The hash of a block.
-fn hash_of(block: &Block) -> Hash32 {
+pub(super) fn hash_of(block: &Block) -> Hash32 {
     block_hash(&encode_header(&block.header))
 }
 
 // Adds the record of a made block after a file's bytes.
-fn add_block(alloc: Global, file: &mut Bytes, block: &Block) -> Result<(), OutOfMemory>
+pub(super) fn add_block(alloc: Global, file: &mut Bytes, block: &Block) -> Result<(), OutOfMemory>
     requires { AllByRecursion HasEncoding block.now.txs }
 {
     add_record(file, REGTEST, block_bytes(alloc, block)?.as_slice())
+}
+
+// Adds the blocks of a branch from one height up to another after a block, and answers the hash of the last.
+pub(super) fn add_branch(
+    alloc: Global,
+    file: &mut Bytes,
+    previous: Hash32,
+    from: u32,
+    to: u32,
+    branch: u8,
+) -> Result<Hash32, OutOfMemory>
+    requires { to ≤ 4000000 }
+{
+    let mut last = previous;
+    for height in from..to {
+        let block = block_at(alloc, last, height, branch)?;
+        add_block(alloc, file, &block)?;
+        last = hash_of(&block);
+    }
+    Ok(last)
 }
 
 // The file of the first blocks of the first branch, and the hash of the last of them.
@@ -101,12 +128,7 @@ pub(super) fn branch(alloc: Global, count: u32) -> Result<(Bytes, Hash32), OutOf
     requires { count ≤ 17 }
 {
     let mut file = Bytes::new(alloc);
-    let mut last = ZERO;
-    for height in 0..count {
-        let block = block_at(alloc, last, height, 0)?;
-        add_block(alloc, &mut file, &block)?;
-        last = hash_of(&block);
-    }
+    let last = add_branch(alloc, &mut file, ZERO, 0, count, 0)?;
     Ok((file, last))
 }
 
@@ -151,6 +173,13 @@ fn late(alloc: Global) -> Result<Bytes, OutOfMemory> {
     Ok(file)
 }
 
+// Bitcoin's first block, with the magic of regtest.
+fn foreign(alloc: Global) -> Result<Bytes, Fail> {
+    let mut file = Bytes::new(alloc);
+    add_record(&mut file, REGTEST, hex::decode(alloc, GENESIS)?.as_slice())?;
+    Ok(file)
+}
+
 // One file.
 pub(super) fn only(alloc: Global, file: Bytes) -> Result<Vec<Bytes>, OutOfMemory> {
     let mut files = Vec::new(alloc);
@@ -166,6 +195,9 @@ pub(super) fn files_of(alloc: Global, files: Files) -> Result<Vec<Bytes>, Fail> 
         Files::Apart => apart(alloc)?,
         Files::Others => others(alloc)?,
         Files::Late => only(alloc, late(alloc)?)?,
+        Files::Forks => only(alloc, forks(alloc)?)?,
+        Files::Deep => only(alloc, deep(alloc)?)?,
+        Files::Foreign => only(alloc, foreign(alloc)?)?,
     };
     Ok(made)
 }

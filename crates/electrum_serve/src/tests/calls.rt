@@ -4,7 +4,8 @@ use crate::status::Status;
 use crate::tests::bringing::transcript;
 use el_base::Bytes;
 use el_fakes::{Coming, MemArchive, MemLink, SteadyArchive, SteadyLink};
-use el_outside::{Archive, Link};
+use el_mem_disk::{FailingCalls, MemDisk, Residue};
+use el_outside::{Archive, Disk, Link};
 use std::alloc::{AllocError, Global};
 use std::test::Fail;
 
@@ -21,7 +22,37 @@ pub(super) const ONCE_MAIN: &str = "once --blocks a --network main";
 // More turns than any of these calls makes.
 pub(super) const TURNS: u64 = 1_000_000;
 
+// Each call of a disk from this one on fails.
+pub(super) fn failing_from(alloc: Global, from: Option<u64>) -> FailingCalls {
+    FailingCalls {
+        listed: Vec::new(alloc),
+        from,
+        residue: Residue::Nothing,
+    }
+}
+
+// A disk of which no call fails, with empty files.
+pub(super) fn fresh_disk(alloc: Global) -> MemDisk {
+    MemDisk::new(alloc, failing_from(alloc, None))
+}
+
 // Calls `serve` with the words of the text.
+pub(super) fn serve_on<D: Disk + Drop, A: Archive, K: Link>(
+    alloc: Global,
+    words: &str,
+    disk: D,
+    archive: &mut A,
+    link: &mut K,
+    turns: u64,
+) -> Result<(Status, D), AllocError> {
+    let mut all = Vec::new(alloc);
+    for word in words.split_whitespace() {
+        all.push(String::from_str(alloc, word)?)?;
+    }
+    Ok(serve(alloc, all.as_slice(), disk, archive, link, turns))
+}
+
+// Calls `serve` with the words of the text, over a fresh disk.
 pub(super) fn serve_over<A: Archive, K: Link>(
     alloc: Global,
     words: &str,
@@ -29,11 +60,8 @@ pub(super) fn serve_over<A: Archive, K: Link>(
     link: &mut K,
     turns: u64,
 ) -> Result<Status, AllocError> {
-    let mut all = Vec::new(alloc);
-    for word in words.split_whitespace() {
-        all.push(String::from_str(alloc, word)?)?;
-    }
-    Ok(serve(alloc, all.as_slice(), archive, link, turns))
+    let (status, _) = serve_on(alloc, words, fresh_disk(alloc), archive, link, turns)?;
+    Ok(status)
 }
 
 // How a call over devices of which no call fails ends, and what is sent and closed.

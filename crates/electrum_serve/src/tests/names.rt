@@ -7,15 +7,20 @@ use std::alloc::{AllocError, Global};
 
 // What names stand for, each after its name and a blank: requests and replies; blocks of the first branch on
 // regtest, and of each its coinbase and the script that it pays to; another first block, another second one,
-// one whose parent nobody has, and one at height 16 with another Merkle root; a hash that no block has; and a
-// transaction that spends the coin of Bitcoin's first block, and a script that it pays to. A text has no name
-// but such as come after it.
+// blocks of a branch after the first branch's second block, one whose parent nobody has, and one at height 16
+// with another Merkle root; a hash that no block has; a transaction that spends the coin of Bitcoin's first
+// block, and a script that it pays to; and of the blocks that part and spend, the last one of each branch,
+// the coinbases of Z, and of A1 and D1, the transaction of A1, B2 and C1, that of D1, and the script of 101.
+// A text has no name but such as come after it.
 const NAMES: &str = "\
     {asks} {\"id\":1,\"method\":\"blockchain.scripthash.get_history\",\"params\":[\"\n\
     {asked} \"]}\n\
+    {asks-balance} {\"id\":1,\"method\":\"blockchain.scripthash.get_balance\",\"params\":[\"\n\
     {none} {lists}{listed}\n\
     {lists} {\"id\":1,\"jsonrpc\":\"2.0\",\"result\":[\n\
     {listed} ]}\n\
+    {holds} {\"id\":1,\"jsonrpc\":\"2.0\",\"result\":{\"confirmed\":\n\
+    {held} ,\"unconfirmed\":0}}\n\
     {invalid} {\"error\":{\"code\":-32600,\"message\":\"invalid request\"},\"id\":null,\"jsonrpc\":\"2.0\"}\n\
     {entry0} {\"height\":0,\"tx_hash\":\"{txid0}\"}\n\
     {entry1} {\"height\":1,\"tx_hash\":\"{txid1}\"}\n\
@@ -24,10 +29,22 @@ const NAMES: &str = "\
     {genesis-entry} {\"height\":0,\"tx_hash\":\"{genesis-txid}\"}\n\
     {block1-entry} {\"height\":1,\"tx_hash\":\"{block1-txid}\"}\n\
     {spending-entry} {\"height\":1,\"tx_hash\":\"{spending-txid}\"}\n\
+    {z-entry} {\"height\":0,\"tx_hash\":\"{z-txid}\"}\n\
+    {z1-entry} {\"height\":1,\"tx_hash\":\"{z1-txid}\"}\n\
+    {shared-entry} {\"height\":1,\"tx_hash\":\"{shared-txid}\"}\n\
+    {early-entry} {\"height\":1,\"tx_hash\":\"{halves-txid}\"}\n\
+    {late-entry} {\"height\":2,\"tx_hash\":\"{halves-txid}\"}\n\
     {a0} b6cc409e0218c7efba04708624d2ce4a67586323ce58cad94966c8bdbaacc401\n\
     {a1} ed9baeca366e96afe6116b0259364db174ac75fe93b186b369f3cf8a3f63eb96\n\
+    {a3} 20f2f000ecc4a9e0b2da8b770ff92bb9e38df2b44e2308e25c82452df3e30240\n\
     {a15} bf8db31a3b06ac8698ed68bb8f701f04c5f55c80b79f71615ec2ff03c8873eb8\n\
     {a16} ac5e4656c439bba5a18104fd34b4aa8cc63d6595452db8305d88e628f62d06b8\n\
+    {a31} d023efb7938f6ba59ac148dba55c474610e4c5537cdd123d83232d26a9476385\n\
+    {a47} 2e8ddd5ba30ef5352f831b89d93e13171bec6e39e21b3997e60f805f902ef013\n\
+    {a63} 490a4c7700e493e68bf4520383114fe73ea275024e4118898aaa5ff56222f0b3\n\
+    {a79} 295128421fc5e082d417e48d18ecb85ba1a1d4d6ad794e9ce9b2eb4ce13c2ca1\n\
+    {a95} 62419f307ddb2656b743edf6deb3a83cf59b4d833c0ef45d6ae0325dbaa23886\n\
+    {a101} 1e2e008c07595d13b7bb7ddc8ca2f38f8b945095572ea858a39e3ccd092dcbc5\n\
     {txid0} f01c5cc1585ada377e551bb6f708a8124b8e451a96a0deb61c001c38c2ba4509\n\
     {txid1} d295aaa428b43e10925b25f51016ce6f43e405b248e1f37c468d050f2ad5c3da\n\
     {txid15} 70a29b0524547c8bab67a2df4ee45be0ba21e1277475c66ab21db7506259f11a\n\
@@ -38,10 +55,22 @@ const NAMES: &str = "\
     {script16} 017609f7e9d6f090e13b353d17ba2b80f2e1585c8a5b4d3b748e0095c59bbcf3\n\
     {b0} 2141d190603d158eb4a76a49f5f8036d33baacb5099f240fc168aaf71b2cfb65\n\
     {b1} 1aba0c300b903c71b29a6ab4a559cb08168df6ccec78c08312cc1f13cfff6151\n\
+    {c17} 579dbbc8c70b0c05ad319ff84300ada8d302d8cfbf13684b5c05b1849240ea63\n\
+    {c33} 7e9743d230c82ab8e282c63061746dbe2a670fa4a355cb5603c4a87c98520706\n\
+    {c34} b4e54a33205e90e2c415f44d230cb9d822e4d0910c4239bb1334a98c6861aa4b\n\
     {lost} d33d23d8278af73522f4de92cb0e2f1e55445e5eda7642fb4fc7862059f43837\n\
     {bad16} 8690d9d6eb9f4b82e9d1ddadf5898728e41695dbaff106c553d0476387f6a37f\n\
     {twos} 2222222222222222222222222222222222222222222222222222222222222222\n\
     {spending-txid} 5cba3cbca1fa086bcc8daa648e17b5fe1cb218fd538434eb2a477bf67a4837ea\n\
+    {z-a2} 8c1f0bc779f84fcdeb0596a558621a99915cf8d9dc0ed61e8fd5759480f3fee1\n\
+    {z-b3} 5f79b19a3b7a8b6272ebc8ded37a9fdd910bc3f72a9254e2f3329cc6eea7119b\n\
+    {z-c1} bac15facb735ed103448b52aba8d1e49bb33bc0f84a91b1ebfb3518fbf191c4f\n\
+    {z-d1} 21c2cc8ad7d5fd1444162274996ed89c1a8b604b78c096ef06c7b35c9cdff6cb\n\
+    {z-txid} 30ca4fa99682e9b4551e98f01ae96565af60464e9718d68b13f3c36fbb77cd2d\n\
+    {z1-txid} 9022aeaee5870e7413d80a9d082d27872120356bbb4743c9949396bf32ef30a3\n\
+    {halves-txid} ddddea3fd4937fba3daec6859297a96cdfc726bddec77f464084c1881b1635e3\n\
+    {shared-txid} 8faf866b892c0a89fdc6b0f69ba1861ad111d4a55c04d95354ae3e7e3163a38b\n\
+    {script101} 87db42382cbedc1754986e8d2b98ed07381d67e43bebb313f331acc40b7cecbb\n\
     {program-script} 42506eaeb3302d6f1eb21baefa3037e6c0edadd1d3525f15720645dbd94140b1";
 
 // What names stand for of Bitcoin's first two blocks.

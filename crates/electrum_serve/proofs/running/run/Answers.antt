@@ -2,6 +2,7 @@ use Rattle.std.proofs.Common.{inl, refl, sym, ◌∙◌, arith, ap}
 use Rattle.el_outside.specs.Story.{with_bytes}
 use Rattle.el_outside.proofs.Stories.{all_grow_none, all_grow_more, rose_none}
 use Rattle.electrum_serve.proofs.Runs.{going_none, one_further, going_more, told_ended, told_spent, told_failed, told_stopped, told_halt, enters}
+use Rattle.electrum_serve.proofs.Rises.{counted_none, counted_more, caused_end, caused_next, caused_halt}
 use Rattle.electrum_serve.specs.within.Progress.{taken_one, seen}
 use Rattle.electrum_serve.specs.within.Sending.{stop_of}
 use Rattle.el_core.specs.Arrivals.{with_all_bytes}
@@ -14,6 +15,7 @@ loop-turn-init g c = record {
       stood nobody c.requires.idle.surplus (λ t. rw files (all_grow_none _));
   live = c.requires.live;
   idle = c.requires.idle;
+  counted = counted_none _ _;
   keeps = λ t. all_grow_none _;
 }
 
@@ -119,5 +121,38 @@ loop-turn-preserved g c = record {
       (sym (c.ends.ensures c.next.new.buf) ∙ c.if-ends.false);
   live = c.in_default-serve_arrival.ensures.live;
   idle = c.in_default-serve_arrival.ensures.idle;
+  counted = counted_more _ _ _ _ _ _ _ c.loop-turn.invariant.counted
+      (rw c.serve_arrival.ensures.same_calls c.next.ensures.called)
+      (let a = c.in-Ok.ensures.cause.uncounted in let b = c.serve_arrival.ensures.link_counts.more in omega arith)
+      c.serve_arrival.ensures.archive_more c.serve_arrival.ensures.disk_counts.more;
   keeps = λ t. all_grow_more _ _ _ (c.loop-turn.invariant.keeps t) (c.serve_arrival.ensures.keeps t);
 }
+
+pub returns-in_default-clause-causes : goal.returns-in_default-clause-causes
+returns-in_default-clause-causes g c =
+    caused_next _ _ _ _ _ _ _ _ c.loop-turn.invariant.counted c.loop-turn-test.true c.next.ensures.called
+    c.in_default.ensures.cause.counted refl refl
+
+pub returns-in-Err-clause-causes : goal.returns-in-Err-clause-causes
+returns-in-Err-clause-causes g c =
+    rw c.status.ensures.value (caused_halt _ _ _ _ _ _ _ _ c.in-Err.halt c.serve_arrival.result
+    c.loop-turn.invariant.counted c.loop-turn-test.true
+    (rw c.serve_arrival.ensures.same_calls c.next.ensures.called) c.in-Err.is
+    (rw c.in-Ok.ensures.cause.uncounted at c.serve_arrival.ensures.link_counts)
+    c.serve_arrival.ensures.archive_more c.serve_arrival.ensures.disk_counts)
+
+pub returns-then-ends-clause-causes : goal.returns-then-ends-clause-causes
+returns-then-ends-clause-causes g c =
+    let n = c.loop-turn-test.true in
+    caused_end _ _ _ _ _ _ _ (counted_more _ _ _ _ _ _ _ c.loop-turn.invariant.counted
+    (rw c.serve_arrival.ensures.same_calls c.next.ensures.called)
+    (let a = c.in-Ok.ensures.cause.uncounted in let b = c.serve_arrival.ensures.link_counts.more in omega arith)
+    c.serve_arrival.ensures.archive_more c.serve_arrival.ensures.disk_counts.more) (omega arith)
+    (λ e. cc) (λ e. cc) (λ e. cc) (λ e. absurd cc)
+
+pub returns-clause-causes : goal.returns-clause-causes
+returns-clause-causes g c =
+    let h = c.loop-turn-test.false in
+    let k = c.loop-turn.auto._turn-end in
+    caused_end _ _ _ _ _ _ _ c.loop-turn.invariant.counted (omega arith)
+    (λ e. cc) (λ e. cc) (λ e. cc) (λ e. omega arith)

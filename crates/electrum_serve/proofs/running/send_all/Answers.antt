@@ -1,6 +1,7 @@
 use Rattle.std.proofs.Common.{rules, ◌≡◌, ◌≢◌, Some, refl, ◌∙◌, ◌+◌, arith, take, drop, take_all}
 use Rattle.el_core.specs.Turn.{messages_of, GoesTo}
 use Rattle.electrum_serve.proofs.Sendings.{sent_none, sent_skip, sent_more, stopped_at, more_messages, here_messages, message_goes, message_of}
+use Rattle.electrum_serve.proofs.Rises.{rises_after}
 use Rattle.electrum_serve.proofs.running.send_all.Goals as goal
 
 pub loop-p-init : goal.loop-p-init
@@ -10,6 +11,7 @@ loop-p-init g c = record {
   same_ledger = refl;
   no_more = omega arith;
   same_calls = refl;
+  more = omega arith;
 }
 
 pub loop-p-preserved-then-is_lost : goal.loop-p-preserved-then-is_lost
@@ -25,6 +27,7 @@ loop-p-preserved-then-is_lost g c =
       same_ledger = c.loop-p.invariant.same_ledger;
       no_more = c.loop-p.invariant.no_more;
       same_calls = c.loop-p.invariant.same_calls;
+      more = c.loop-p.invariant.more;
     }
 
 pub returns-in-Err-clause-stopped : goal.returns-in-Err-clause-stopped
@@ -36,6 +39,9 @@ returns-in-Err-clause-stopped g c = λ next rest can.
     c.send.new.server _ _ _ _ _ _ (here_messages c.args.sends.now c.loop-p.p-index c.loop-p-item.result
     c.loop-p-test.true c.loop-p-item.is) refl
     c.in-Err.ensures.unsent (c.loop-p.invariant.sent next rest can)
+
+pub returns-in-Err-clause-counts : goal.returns-in-Err-clause-counts
+returns-in-Err-clause-counts g c = rises_after c.loop-p.invariant.more c.in-Err.ensures.counts
 
 pub loop-p-preserved : goal.loop-p-preserved
 loop-p-preserved g c =
@@ -56,6 +62,7 @@ loop-p-preserved g c =
       same_ledger = c.in-Ok.ensures.same_ledger ∙ c.loop-p.invariant.same_ledger;
       no_more = let a = c.loop-p.invariant.no_more in let b = c.in-Ok.ensures.no_more in omega arith;
       same_calls = c.in-Ok.ensures.same_calls ∙ c.loop-p.invariant.same_calls;
+      more = let a = c.loop-p.invariant.more in let b = c.in-Ok.ensures.counts.more in omega arith;
     }
 
 pub returns-clause-sent : goal.returns-clause-sent

@@ -16,4 +16,5 @@ invariant-loop-p g l = record {
   same_ledger : l.server.ledger ≡ l.initial.server.ledger;
   no_more : work l.server ≤ work l.initial.server;
   same_calls : g.K.Link.calls l.link ≡ g.K.Link.calls l.initial.link;
+  more : g.K.Link.faults l.initial.link ≤ g.K.Link.faults l.link;
 }

@@ -1,7 +1,8 @@
-use Rattle.std.proofs.Common.{inr, refl, ◌∙◌}
+use Rattle.std.proofs.Common.{ap, Err, inr, refl, ◌∙◌, arith}
 use Rattle.el_outside.proofs.Stories.{all_grow_none, all_grow_more}
 use Rattle.el_core.specs.Turn.{outs_of}
 use Rattle.electrum_serve.proofs.Progresses.{begins, can_deliver, progress_more, finished, stopped_turn, stopped_sending}
+use Rattle.electrum_serve.proofs.Rises.{rises_after, rises_other, rises_turn, turn_no_link}
 use Rattle.electrum_serve.proofs.running.work_off.Goals as goal
 
 pub loop-outs-init : goal.loop-outs-init
@@ -11,6 +12,9 @@ loop-outs-init g c = record {
   live = c.requires.live;
   keeps = λ t. all_grow_none _;
   same_calls = refl;
+  link_more = omega arith;
+  archive_more = omega arith;
+  disk_more = omega arith;
 }
 
 pub loop-outs-preserved : goal.loop-outs-preserved
@@ -27,6 +31,11 @@ loop-outs-preserved g c = record {
   live = rw c.in-Ok.ensures.same_ledger c.in-Ok-Some.ensures.live;
   keeps = λ t. all_grow_more _ _ _ (c.loop-outs.invariant.keeps t) (c.in-Ok-Some.ensures.keeps t);
   same_calls = c.in-Ok.ensures.same_calls ∙ c.loop-outs.invariant.same_calls;
+  link_more = let a = c.loop-outs.invariant.link_more in let b = c.in-Ok.ensures.counts.more in omega arith;
+  archive_more = let a = c.loop-outs.invariant.archive_more in let b = c.in-Ok-Some.ensures.archive_more in
+      omega arith;
+  disk_more = let a = c.loop-outs.invariant.disk_more in let b = c.in-Ok-Some.ensures.disk_more in
+      rw c.in-Ok.ensures.same_ledger (omega arith);
 }
 
 pub returns-in-Err-deliver-clause-stopped : goal.returns-in-Err-deliver-clause-stopped
@@ -73,3 +82,22 @@ returns-in-Err-clause-stopped g c = λ world all stood grown are.
 pub returns-in-Err-clause-keeps : goal.returns-in-Err-clause-keeps
 returns-in-Err-clause-keeps g c =
     λ t. all_grow_more _ _ _ (c.loop-outs.invariant.keeps t) (c.in-Err.ensures.keeps t)
+
+pub returns-in-Err-deliver-clause-link_counts : goal.returns-in-Err-deliver-clause-link_counts
+returns-in-Err-deliver-clause-link_counts g c =
+    rises_after c.loop-outs.invariant.link_more c.in-Err-deliver.ensures.counts
+
+pub returns-in-Err-clause-link_counts : goal.returns-in-Err-clause-link_counts
+returns-in-Err-clause-link_counts g c =
+    turn_no_link _ _ c.in-Err.fault _ c.halt_of.ensures c.loop-outs.invariant.link_more
+
+pub returns-in-Err-clause-disk_counts : goal.returns-in-Err-clause-disk_counts
+returns-in-Err-clause-disk_counts g c =
+    rises_turn _ _ _ c.in-Err.fault _ c.halt_of.ensures c.loop-outs.invariant.disk_more c.in-Err.ensures.disk_more
+    (λ e. c.in-Err.ensures.disk_counted (ap Err e))
+
+pub returns-in-Err-deliver-clause-disk_counts : goal.returns-in-Err-deliver-clause-disk_counts
+returns-in-Err-deliver-clause-disk_counts g c =
+    let a = c.loop-outs.invariant.disk_more in
+    let b = c.in-Ok-Some.ensures.disk_more in
+    rw c.in-Err-deliver.ensures.same_ledger (rises_other (omega arith) c.in-Err-deliver.ensures.no_disk)

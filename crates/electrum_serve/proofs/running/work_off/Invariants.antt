@@ -1,4 +1,4 @@
-use Rattle.std.proofs.Common.{◌≡◌, List}
+use Rattle.std.proofs.Common.{◌≡◌, ◌≤◌, List}
 use Rattle.el_outside.specs.Files.{AllGrow}
 use Rattle.el_model.specs.World.{World, Event}
 use Rattle.el_core.specs.State.{Stands, work}
@@ -19,6 +19,9 @@ invariant-loop-outs g l = record {
   live : g.G.Ledger.is_live l.server.ledger;
   keeps : g.A.Archive.tells → AllGrow (g.A.Archive.bytes l.initial.archive) (g.A.Archive.bytes l.archive);
   same_calls : g.K.Link.calls l.link ≡ g.K.Link.calls l.initial.link;
+  link_more : g.K.Link.faults l.initial.link ≤ g.K.Link.faults l.link;
+  archive_more : g.A.Archive.faults l.initial.archive ≤ g.A.Archive.faults l.archive;
+  disk_more : g.G.Ledger.faults l.initial.server.ledger ≤ g.G.Ledger.faults l.server.ledger;
 }
 
 abbrev pub decreases-loop-outs : goal.decreases-loop-outs

@@ -5,28 +5,40 @@ use Rattle.el_words.specs.Commands.{IsNoCommand}
 use Rattle.electrum_serve.specs.Ends.{usage, serve, once}
 use Rattle.electrum_serve.specs.Runs.{no_traffic}
 use Rattle.electrum_serve.proofs.Progresses.{all_rose_none}
-use Rattle.electrum_serve.proofs.Servings.{is_serve, is_once}
+use Rattle.electrum_serve.proofs.Rises.{caused_none}
+use Rattle.electrum_serve.proofs.Servings.{is_serve, is_once, one_network}
 use Rattle.electrum_serve.proofs.serving.serve.Goals as goal
 
 pub returns-in-Some-clause-ends : goal.returns-in-Some-clause-ends
-returns-in-Some-clause-ends g c =
-    let e = c.serve_node.ensures.ends in
-    (e.0, e.1, serve _ (is_serve c.in-Some.ensures.found c.magic.ensures) e.2)
+returns-in-Some-clause-ends g c = λ was flight chain starts.
+    let is = is_serve c.in-Some.ensures.found refl in
+    let e = c.serve_network.ensures.ends was flight chain (starts _ is) in
+    (e.0, e.1, serve _ is e.2)
+
+pub returns-in-Some-clause-bad : goal.returns-in-Some-clause-bad
+returns-in-Some-clause-bad g c = λ told bad magic is.
+    rw (one_network is c.in-Some.ensures.found) (c.serve_network.ensures.bad told bad)
+
+pub returns-in-Some-clause-is_bad : goal.returns-in-Some-clause-is_bad
+returns-in-Some-clause-is_bad g c = λ told magic wanted found is bad.
+    c.serve_network.ensures.is_bad told wanted found (rw (one_network is c.in-Some.ensures.found) at bad)
 
 pub returns-in-Some-clause-unread : goal.returns-in-Some-clause-unread
-returns-in-Some-clause-unread g c = λ usage.
-    let e = c.serve_node.ensures.ends in
-    absurd (rw usage at e.2)
+returns-in-Some-clause-unread g c = λ usage. absurd (c.serve_network.ensures.read usage)
 
 pub returns-in-Some-clause-lawful : goal.returns-in-Some-clause-lawful
-returns-in-Some-clause-lawful g c = λ usage.
-    let e = c.serve_node.ensures.ends in
-    absurd (rw usage at e.2)
+returns-in-Some-clause-lawful g c = λ usage. absurd (c.serve_network.ensures.read usage)
+
+pub returns-in-Some-clause-untouched : goal.returns-in-Some-clause-untouched
+returns-in-Some-clause-untouched g c = λ none. absurd (none _ (is_serve c.in-Some.ensures.found refl))
 
 pub returns-in-Some-once_of-clause-ends : goal.returns-in-Some-once_of-clause-ends
-returns-in-Some-once_of-clause-ends g c =
-    let e = c.serve_file.ensures.ends 0 in
-    (e.0, e.1, once _ (is_once c.in-Some-once_of.ensures.found c.magic-in-Some-once_of.ensures) e.2)
+returns-in-Some-once_of-clause-ends g c = λ was flight chain starts.
+    let e = c.serve_file.ensures.ends (g.D.Disk.faults c.args.disk) in
+    (e.0, e.1, once _ (is_once c.in-Some-once_of.ensures.found c.magic.ensures) e.2)
+
+pub returns-in-Some-once_of-clause-causes : goal.returns-in-Some-once_of-clause-causes
+returns-in-Some-once_of-clause-causes g c = c.serve_file.ensures.causes (g.D.Disk.faults c.args.disk)
 
 pub returns-in-Some-once_of-clause-unread : goal.returns-in-Some-once_of-clause-unread
 returns-in-Some-once_of-clause-unread g c = λ usage.
@@ -39,9 +51,17 @@ returns-in-Some-once_of-clause-lawful g c = λ usage.
     absurd (rw usage at e.2)
 
 pub returns-in-None-clause-ends : goal.returns-in-None-clause-ends
-returns-in-None-clause-ends g c =
+returns-in-None-clause-ends g c = λ was flight chain starts.
     let none : IsNoCommand (texts c.args.words.now) = search rules in (
       no_traffic,
       λ t. goes_none _,
       usage none refl (record { traffic = refl; calls = refl; rose = all_rose_none _ }),
     )
+
+pub returns-in-None-clause-causes : goal.returns-in-None-clause-causes
+returns-in-None-clause-causes g c = caused_none _ _ _
+
+pub returns-in-None-clause-is_bad : goal.returns-in-None-clause-is_bad
+returns-in-None-clause-is_bad g c = λ told magic wanted found is bad.
+    let none : IsNoCommand (texts c.args.words.now) = search rules in
+    none.not_serve is.folder is.index is.of_network is.client_port is.node_port is.is_serve

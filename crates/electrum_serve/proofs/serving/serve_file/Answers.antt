@@ -2,6 +2,7 @@ use Rattle.std.proofs.Common.{ap, refl, Err}
 use Rattle.el_outside.proofs.Stories.{goes_none, all_grow_more}
 use Rattle.el_model.specs.Plain.{IsPlain}
 use Rattle.electrum_serve.specs.Runs.{no_traffic, faults}
+use Rattle.electrum_serve.proofs.Rises.{caused_still, unread_caused}
 use Rattle.electrum_serve.proofs.Servings.{served_once, ends_told, stays_still, unread_ends}
 use Rattle.electrum_serve.proofs.serving.serve_file.Goals as goal
 
@@ -42,3 +43,13 @@ returns-in-Err-clause-ends g c = λ disk. (
   rw c.status_of.ensures (unread_ends g.A.Archive.tells c.args.magic _ _ _ _ _ disk _ _ c.in-Err.fault
       c.in-Err.ensures.only_reads (λ e. c.in-Err.ensures.bad (ap Err e))),
 )
+
+pub returns-in-Ok-clause-causes : goal.returns-in-Ok-clause-causes
+returns-in-Ok-clause-causes g c = λ disk.
+    caused_still _ _ _ _ _ _ _ disk _
+    (rw c.in-Ok.ensures.only_reads.uncounted at c.serve_from-status.ensures.causes)
+
+pub returns-in-Err-clause-causes : goal.returns-in-Err-clause-causes
+returns-in-Err-clause-causes g c = λ disk.
+    rw c.status_of.ensures (unread_caused g.A.Archive.tells _ _ _ _ _ _ _ disk c.in-Err.fault
+    c.in-Err.ensures.only_reads)

@@ -6,3 +6,7 @@ returns-clause-ends g c = λ chain stood.
     let r = c.run-status.ensures.ends _
     (c.new-server.ensures.stands chain (g.A.Archive.bytes c.args.archive.now) stood) refl refl in
     rw c.into_ledger.ensures (rw c.new-server.ensures.ledger at r)
+
+pub returns-clause-causes : goal.returns-clause-causes
+returns-clause-causes g c =
+    rw c.into_ledger.ensures (rw c.new-server.ensures.ledger at c.run-status.ensures.causes)

@@ -1,6 +1,7 @@
 use Rattle.std.proofs.Common.{ap, Err, inl}
 use Rattle.el_outside.proofs.Stories.{goes_none, all_grow_more}
 use Rattle.electrum_serve.specs.Runs.{no_traffic}
+use Rattle.electrum_serve.proofs.Rises.{start_caused, opened_end, start_opened}
 use Rattle.electrum_serve.proofs.Servings.{served_ends, start_ends}
 use Rattle.electrum_serve.proofs.starting.serve_index.Goals as goal
 
@@ -38,3 +39,18 @@ returns-in-Err-clause-ends g c = λ chain stood. (
       (c.in-Err.ensures.quiet.stays.still_live c.requires.live)
       (c.in-Err.ensures.quiet.stays.still_stands chain stood) now))),
 )
+
+pub returns-in-Ok-clause-causes : goal.returns-in-Ok-clause-causes
+returns-in-Ok-clause-causes g c =
+    rw (c.in-Ok.ensures.only_reads.uncounted, c.in-Ok.ensures.cause.uncounted) at c.serve_from.ensures.causes
+
+pub returns-in-Ok-clause-opened : goal.returns-in-Ok-clause-opened
+returns-in-Ok-clause-opened g c = opened_end _ c.serve_from.ensures.serves
+
+pub returns-in-Err-clause-causes : goal.returns-in-Err-clause-causes
+returns-in-Err-clause-causes g c =
+    rw c.status_of.ensures (start_caused g.A.Archive.tells _ _ _ _ _ _ _ _ _ c.in-Err.fault
+    c.in-Err.ensures.only_reads c.in-Err.ensures.cause)
+
+pub returns-in-Err-clause-opened : goal.returns-in-Err-clause-opened
+returns-in-Err-clause-opened g c = rw c.status_of.ensures (start_opened c.in-Err.fault)

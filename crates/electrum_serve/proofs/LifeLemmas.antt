@@ -1,0 +1,225 @@
+-- Lives follow each other.
+use Rattle.std.proofs.Common.{Bool, true, ◌≡◌, inl, inr, ℕ, List, [], ◌∷◌, refl, arith, length}
+use Rattle.std.specs.Prelude.{◌⊎◌}
+use Rattle.std.specs.List.{AllByRecursion}
+use Rattle.el_outside.specs.declared.archive.Archive as archive
+use Rattle.el_outside.specs.declared.disk.Disk as disk
+use Rattle.el_outside.specs.declared.link.Link as link
+use Rattle.el_outside.specs.Disk.{Image}
+use Rattle.el_outside.specs.Moments.{LeftNow}
+use Rattle.el_chain.specs.Chains.{Chain}
+use Rattle.el_journal.specs.declared.mark.TheConstants.{JOURNAL}
+use Rattle.el_model.specs.World.{World}
+use Rattle.el_model.specs.Run.{Loss, Stop}
+use Rattle.el_rows.specs.Reads.{Same}
+use Rattle.el_logstore.specs.Images.{Shows, no_rows}
+use Rattle.el_rows.specs.declared.table.Table.{Table}
+use Rattle.el_rows.specs.declared.table.Table.TheVariants as table
+use Rattle.el_tables.specs.ChainLists.{lists, listed_blocks}
+use Rattle.el_tables.specs.Tables.{tables_of}
+use Rattle.el_buckets.specs.Rows.{bytes_of}
+use Rattle.el_stands.specs.Standing.{StandFor, heads_in}
+use Rattle.el_stands.proofs.StandingLemmas.{stands}
+use Rattle.el_words.specs.Commands.{IsServe, IsNoCommand, IsOnce}
+use Rattle.electrum_serve.specs.Crash.{ImageMeans, LeavesOneOf, IsIndexDisk, acked}
+use Rattle.electrum_serve.specs.Ends.{Ends, usage, serve, once, IndexEnds, UnopenedEnds, ServeEnds, IsServed}
+use Rattle.electrum_serve.specs.Lives.{Life, LifeEnds, IsCall, IsLeftBy, AreLives, GoOn, none, one}
+use Rattle.electrum_serve.specs.Runs.{Counts, Traffic, RunEnds, IsRun, IsHalted}
+use Rattle.electrum_serve.specs.declared.status.Status.{Status}
+use Rattle.electrum_serve.specs.declared.status.Status.TheVariants as status
+use Rattle.electrum_serve.proofs.Servings.{only_served, same_networks}
+
+-- the two chains, and no others
+abbrev pub these : Chain → Chain → Chain → Chain → Type 0
+these acked flight a b = (a ≡ acked) × (b ≡ flight)
+
+-- An end is told of the two chains of which it says what a crash leaves.
+record Pinned (P : Chain → Chain → Type 0) (Q : (Chain → Chain → Type 0) → Type 0) : Type 0 where
+  acked : Chain
+  flight : Chain
+  leaves : P acked flight
+  ends : Q (these acked flight)
+
+module _ (P : Chain → Chain → Type 0) where
+  both : (a b : Chain) → these a b a b
+  both a b = (refl, refl)
+
+  run_pinned : (tells : Type 0) (first : World) (node : Bool) (files : ℕ → List ℕ) (c : Counts) (t : Traffic)
+      (failed : List Loss) → IsRun tells first node P files c t failed
+      → Pinned P (λ Q. IsRun tells first node Q files c t failed)
+  run_pinned tells first node files c t failed r = record {
+    acked = r.world.chain;
+    flight = r.world.chain;
+    leaves = r.crash;
+    ends = record {
+      losses = r.losses;
+      world = r.world;
+      run = r.run;
+      grown = r.grown;
+      counted = r.counted;
+      crash = both r.world.chain r.world.chain;
+    };
+  }
+
+  halt_pinned : (tells : Type 0) (first : World) (node : Bool) (c : Counts) (t : Traffic) (stop : Stop)
+      → IsHalted tells first node P c t stop → Pinned P (λ Q. IsHalted tells first node Q c t stop)
+  halt_pinned tells first node c t stop h = record {
+    acked = acked h.halts.stops;
+    flight = h.flight;
+    leaves = h.crash;
+    ends = record {
+      losses = h.losses;
+      halts = h.halts;
+      counted = h.counted;
+      last = h.last;
+      flight = h.flight;
+      is_flight = h.is_flight;
+      crash = both (acked h.halts.stops) h.flight;
+    };
+  }
+
+  with_more : {Q R : (Chain → Chain → Type 0) → Type 0}
+      → ((X : Chain → Chain → Type 0) → Q X → R X) → Pinned P Q → Pinned P R
+  with_more more k =
+      record { acked = k.acked; flight = k.flight; leaves = k.leaves; ends = more (these k.acked k.flight) k.ends }
+
+  ends_pinned : (tells : Type 0) (first : World) (node : Bool) (files : ℕ → List ℕ) (c : Counts) (t : Traffic)
+      (s : Status) → RunEnds tells first node P files c t s
+      → Pinned P (λ Q. RunEnds tells first node Q files c t s)
+  ends_pinned tells first node files c t status.Ended r =
+      with_more (λ X k. (k, r.1)) (run_pinned tells first node files c t _ r.0)
+  ends_pinned tells first node files c t status.Usage r = absurd r
+  ends_pinned tells first node files c t status.BadIndex r = absurd r
+  ends_pinned tells first node files c t status.ArchiveFailed r = absurd r
+  ends_pinned tells first node files c t status.DiskFailed r = halt_pinned tells first node c t _ r
+  ends_pinned tells first node files c t status.LinkFailed (inl r) =
+      with_more (λ X k. inl (k, r.1)) (run_pinned tells first node files c t _ r.0)
+  ends_pinned tells first node files c t status.LinkFailed (inr r) =
+      with_more (λ X k. inr k) (halt_pinned tells first node c t _ r)
+  ends_pinned tells first node files c t status.OutOfMemory r = halt_pinned tells first node c t _ r
+  ends_pinned tells first node files c t status.TurnsSpent r =
+      with_more (λ X k. (k, r.1, r.2)) (run_pinned tells first node files c t _ r.0)
+  ends_pinned tells first node files c t status.OtherChain r = absurd r
+  ends_pinned tells first node files c t status.BadChain r = absurd r
+
+  module _ {A : Type 0} (tells : Type 0) (bytes : A → ℕ → List ℕ) (file_count : A → ℕ) (magic : List ℕ)
+      (chain : Chain) (c : Counts) (before after : A) (t : Traffic) where
+    served_pinned : (s : Status) → IsServed tells bytes file_count magic chain P c before after t s
+        → Pinned P (λ Q. IsServed tells bytes file_count magic chain Q c before after t s)
+    served_pinned s r = with_more (λ X k. record {
+      now = r.now;
+      nodes = r.nodes;
+      scanned = r.scanned;
+      same = r.same;
+      grows = r.grows;
+      run = k;
+    }) (ends_pinned tells _ true (bytes after) c t s r.run)
+
+    alone : {Q : (Chain → Chain → Type 0) → Type 0} → (a b : Chain) → P a b → Q (these a b) → Pinned P Q
+    alone a b leaves ends = record { acked = a; flight = b; leaves = leaves; ends = ends }
+
+    serve_pinned : (s : Status) → ServeEnds tells bytes file_count magic chain P c before after t s
+        → Pinned P (λ Q. ServeEnds tells bytes file_count magic chain Q c before after t s)
+    serve_pinned status.Ended r = served_pinned _ r
+    serve_pinned status.Usage r = absurd r
+    serve_pinned status.BadIndex r = absurd r
+    serve_pinned status.ArchiveFailed r = alone chain chain r.1 (r.0, both chain chain)
+    serve_pinned status.DiskFailed (inl r) = alone chain chain r.1 (inl (r.0, both chain chain))
+    serve_pinned status.DiskFailed (inr r) = with_more (λ X k. inr k) (served_pinned _ r)
+    serve_pinned status.LinkFailed r = served_pinned _ r
+    serve_pinned status.OutOfMemory (inl r) = alone chain chain r.1 (inl (r.0, both chain chain))
+    serve_pinned status.OutOfMemory (inr r) = with_more (λ X k. inr k) (served_pinned _ r)
+    serve_pinned status.TurnsSpent r = served_pinned _ r
+    serve_pinned status.OtherChain r = alone chain chain r.2 (r.0, r.1, both chain chain)
+    serve_pinned status.BadChain r = absurd r
+
+    unopened_pinned : (was flight : Chain) (s : Status) → UnopenedEnds was flight P c t s
+        → Pinned P (λ Q. UnopenedEnds was flight Q c t s)
+    unopened_pinned was flight status.Ended r = absurd r
+    unopened_pinned was flight status.Usage r = absurd r
+    unopened_pinned was flight status.BadIndex r = absurd r
+    unopened_pinned was flight status.ArchiveFailed r = absurd r
+    unopened_pinned was flight status.DiskFailed r = alone was flight r.1 (r.0, both was flight)
+    unopened_pinned was flight status.LinkFailed r = absurd r
+    unopened_pinned was flight status.OutOfMemory r = alone was flight r.1 (r.0, both was flight)
+    unopened_pinned was flight status.TurnsSpent r = absurd r
+    unopened_pinned was flight status.OtherChain r = absurd r
+    unopened_pinned was flight status.BadChain r = absurd r
+
+    index_pinned : (was flight : Chain) (s : Status)
+        → IndexEnds tells bytes file_count magic was flight chain P c before after t s
+        → Pinned P (λ Q. IndexEnds tells bytes file_count magic was flight chain Q c before after t s)
+    index_pinned was flight s (inl r) = with_more (λ X k. inl k) (unopened_pinned was flight s r)
+    index_pinned was flight s (inr r) = with_more (λ X k. inr k) (serve_pinned s r)
+
+-- 2. Lives
+
+module _ {D A K : Type 0} (of_disk : disk.Ghosts D) (of_files : archive.Ghosts A) (of_link : link.Ghosts K)
+    (magic : List ℕ) where
+  -- how a life ended, and what it left
+  record Ended (l : Life D A K) (was flight chain : Chain) : Type 0 where
+    acked : Chain
+    in_flight : Chain
+    leaves : LeavesOneOf of_disk magic l.disk_after acked in_flight
+    ends : LifeEnds of_disk of_files of_link l was flight chain (λ m a b. these acked in_flight a b)
+
+  ended : (l : Life D A K) (was flight chain : Chain) → IsServe l.words magic
+      → IsIndexDisk of_disk magic l.disk was flight chain → IsCall of_disk of_files of_link l
+      → Ended l was flight chain
+  ended l was flight chain serves is call =
+      let e = call was flight chain (λ m also. rw (same_networks also serves) is) in
+      let only = only_served serves e.2 in
+      let k = index_pinned (LeavesOneOf of_disk magic l.disk_after) of_files.tells of_files.bytes
+      of_files.file_count magic chain _ l.files l.files_after e.0 was flight l.status only in record {
+        acked = k.acked;
+        in_flight = k.flight;
+        leaves = k.leaves;
+        ends = (e.0, e.1, serve magic serves k.ends);
+      }
+
+  pub lives_go : (d : D) (was flight : Chain) (lives : List (Life D A K)) → of_disk.tells
+      → LeavesOneOf of_disk magic d was flight → AreLives of_disk d lives
+      → AllByRecursion (λ (l : Life D A K). IsServe l.words magic) lives
+      → AllByRecursion (IsCall of_disk of_files of_link) lives
+      → GoOn of_disk of_files of_link was flight lives
+  lives_go d was flight [] told left are serve' calls = none was flight
+  lives_go d was flight (l ∷ more) told left are serve' calls =
+      let here : LeavesOneOf of_disk magic l.disk was flight =
+      (λ image now. left image (are.0.images image now)) in
+      elim (left (of_disk.seen l.disk) are.0.reads) [
+        | inl means ↦
+            let e = ended l was flight was serve'.0 (record { told = told; left = here; reads = means }) calls.0 in
+            one was flight l more was e.acked e.in_flight (inl refl) e.ends
+            (lives_go l.disk_after e.acked e.in_flight more told e.leaves are.1 serve'.1 calls.1)
+        | inr means ↦
+            let e = ended l was flight flight serve'.0 (record { told = told; left = here; reads = means })
+            calls.0 in
+            one was flight l more flight e.acked e.in_flight (inr refl) e.ends
+            (lives_go l.disk_after e.acked e.in_flight more told e.leaves are.1 serve'.1 calls.1)
+      ]
+
+-- 3. Empty files
+
+no_rows_stand : StandFor no_rows []
+no_rows_stand = stands no_rows [] (record { each = tt }) (record {
+  each = each;
+  fit = record { blocks = tt; txs = tt; tx_heads = tt; outs = tt; ins = tt; scripts = tt; script_heads = tt; entries = tt };
+})
+  where
+    each : (u : Table) → no_rows u ≡ bytes_of (tables_of (heads_in []) (listed_blocks []) (lists [])) u
+    each table.Blocks = refl
+    each table.Txs = refl
+    each table.TxHeads = refl
+    each table.Outs = refl
+    each table.Ins = refl
+    each table.Scripts = refl
+    each table.ScriptHeads = refl
+    each table.Entries = refl
+
+-- an image whose journal is empty stands for no blocks
+pub empty_means : (magic : List ℕ) (image : Image) → image JOURNAL ≡ [] → ImageMeans magic image []
+empty_means magic image empty = (
+  no_rows,
+  record { entries = []; journal = inr (rw empty (omega arith), refl); made = λ t. refl },
+  no_rows_stand,
+)

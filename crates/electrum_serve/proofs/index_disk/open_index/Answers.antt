@@ -1,0 +1,37 @@
+use Rattle.el_stands.proofs.StandingLemmas.{same_stand}
+use Rattle.electrum_serve.proofs.IndexDisks.{unopened_leaves, unread_leaves, not_bad, told_bad}
+use Rattle.electrum_serve.proofs.index_disk.open_index.Goals as goal
+
+pub returns-in-Err-clause-unopened : goal.returns-in-Err-clause-unopened
+returns-in-Err-clause-unopened g c = λ was flight chain is. (
+  not_bad c.in-Err.fault _ c.status_of.ensures (c.in-Err.ensures.opens is.told is.reads.0 is.reads.1),
+  unopened_leaves g.D.Disk _ c.args.disk c.in-Err.disk was flight
+      (λ t u image le left. g.met.D.Disk.earlier c.in-Err.disk t u image is.told le left)
+      (c.in-Err.ensures.crash is.told) is.left,
+)
+
+pub returns-in-Err-clause-bad : goal.returns-in-Err-clause-bad
+returns-in-Err-clause-bad g c = λ told bad.
+    told_bad c.in-Err.fault _ _ c.status_of.ensures bad (c.in-Err.ensures.bad_index told)
+
+pub returns-in-Ok-over-clause-stands : goal.returns-in-Ok-over-clause-stands
+returns-in-Ok-over-clause-stands g c = λ was flight chain is.
+    c.in-Ok-over.ensures.stands chain is.told (same_stand is.reads.0 _ chain is.reads.2
+    (c.images_stand_in_one_way.ensures.one _ _ is.reads.0 _ (g.met.D.Disk.small c.args.disk _ is.told)
+    is.reads.1 (c.in-Ok.ensures.shows is.told)))
+
+pub returns-in-Err-over-clause-unopened : goal.returns-in-Err-over-clause-unopened
+returns-in-Err-over-clause-unopened g c = λ was flight chain is. (
+  λ e. absurd cc,
+  λ image now.
+      let over = c.in-Err-over.ensures.failed.crash is.told in
+      unread_leaves _ (g.D.Disk.seen c.args.disk) was flight _ image
+      (λ a shows. c.images_stand_in_one_way.ensures.one _ _ a _ (g.met.D.Disk.small c.args.disk _ is.told)
+      shows (c.in-Ok.ensures.shows is.told))
+      (is.left _ (g.met.D.Disk.reads_an_image c.args.disk is.told))
+      (over.each image (
+        is.told,
+        g.met.D.Disk.earlier c.in-Err-over.store.journal.disk _ _ image is.told over.later
+            (rw c.into_disk.ensures.disk at now),
+      )),
+)

@@ -1,0 +1,37 @@
+use Rattle.std.proofs.Common.{◌≡◌, ◌∙◌, inl, inr, ap}
+use Rattle.el_outside.proofs.Stories.{goes_none}
+use Rattle.electrum_serve.specs.Crash.{LeavesOneOf}
+use Rattle.electrum_serve.specs.Runs.{no_traffic}
+use Rattle.electrum_serve.proofs.Servings.{serve_told, unopened_ends}
+use Rattle.electrum_serve.proofs.serving.serve_disk.Goals as goal
+
+pub returns-in-Ok-clause-ends : goal.returns-in-Ok-clause-ends
+returns-in-Ok-clause-ends g c = λ was flight chain is.
+    let r = rw (c.in-Ok.ensures.uncounted, c.magic.ensures) at
+    (c.serve_index-status.ensures.ends chain (c.in-Ok.ensures.stands was flight chain is)) in
+    let same : c.into_disk.result ≡ c.serve_index-status.result.1.rows.journal.disk =
+    c.into_disk.ensures.disk ∙ ap (λ s. s.journal.disk) c.into_rows.ensures in
+    rw same (
+      r.0,
+      r.1,
+      inr (serve_told _ _ _ (λ losses rose. rose) _ _ (λ acked flight' left image now. left is.told image (is.told, now))
+          g.A.Archive.tells g.A.Archive.bytes g.A.Archive.file_count _ chain _ _ r.0 _ r.2),
+    )
+
+pub returns-in-Ok-clause-causes : goal.returns-in-Ok-clause-causes
+returns-in-Ok-clause-causes g c =
+    let same : c.into_disk.result ≡ c.serve_index-status.result.1.rows.journal.disk =
+    c.into_disk.ensures.disk ∙ ap (λ s. s.journal.disk) c.into_rows.ensures in
+    rw same (rw c.in-Ok.ensures.uncounted at c.serve_index-status.ensures.causes)
+
+pub returns-in-Ok-clause-is_bad : goal.returns-in-Ok-clause-is_bad
+returns-in-Ok-clause-is_bad g c = λ told wanted found is. absurd (c.in-Ok.ensures.is_bad told wanted found is)
+
+pub returns-clause-ends : goal.returns-clause-ends
+returns-clause-ends g c = λ was flight chain is.
+    let u = c.in-Err.ensures.unopened was flight chain is in (
+      no_traffic,
+      λ t. goes_none _,
+      inl (unopened_ends was flight (LeavesOneOf g.D.Disk g.N.NetworkMagic.magic c.in-Err.disk) _ _ _ _ _ _ c.in-Err.status u.0 c.in-Err.ensures.status u.1
+          c.in-Err.ensures.counted c.in-Err.ensures.others_uncounted),
+    )

@@ -1,0 +1,69 @@
+// The index on a disk.
+ghost use Rattle.std.specs.Prelude.{◌≡◌, ◌≢◌, ◌⊎◌, ℕ, IfOk, IfErr};
+ghost use Rattle.el_chain.specs.Chains.{Chain};
+ghost use Rattle.el_outside.specs.Counts.{RoseBy};
+ghost use Rattle.el_logstore.specs.Images.{IsBadIndex};
+ghost use Rattle.electrum_serve.specs.Crash.{LeavesOneOf, IsIndexDisk};
+ghost use Rattle.electrum_serve.specs.within.Unread.{open_status};
+
+use crate::status::Status;
+use el_base::Steps;
+use el_index::Index;
+use el_logstore::{LogStore, images_stand_in_one_way, open_log};
+use el_outside::Disk;
+use el_redo::{NetworkMagic, OpenFault};
+use std::alloc::Global;
+use std::sync::ledger::Ledger as Counts;
+
+// How the program ends where the index can't be opened.
+fn status_of(fault: OpenFault) -> Status
+    ensures { result ≡ open_status fault }
+{
+    match fault {
+        OpenFault::DiskFailed => Status::DiskFailed,
+        OpenFault::BadIndex { .. } => Status::BadIndex,
+        OpenFault::Memory => Status::OutOfMemory,
+    }
+}
+
+/// Opens the index that the disk keeps for the network. A disk that was never written is an index of no blocks.
+///
+/// # Errors
+///
+/// How the program then ends, with the disk: `BadIndex` where what is on it is no index of the network,
+/// `DiskFailed` where a call of it failed, `OutOfMemory`.
+pub fn open_index<D: Disk, N: NetworkMagic, L: Counts>(
+    alloc: Global,
+    disk: D,
+    steps: &mut Steps<L>,
+) -> Result<Index<LogStore<D, N>>, (Status, D)>
+    ensures live { IfOk result (λ i. ⟦<Index<LogStore<D, N>> as el_model::Ledger>⟧.is_live i) }
+    // It stands for what the disk stands for as it reads.
+    ensures stands { (was flight chain : Chain) → IsIndexDisk ⟦<D as Disk>⟧ N.magic disk was flight chain
+        → IfOk result (λ i. ⟦<Index<LogStore<D, N>> as el_model::Ledger>⟧.stands i chain) }
+    ensures unopened { (was flight chain : Chain) → IsIndexDisk ⟦<D as Disk>⟧ N.magic disk was flight chain
+        → IfErr result (λ e. (e.0 ≢ Status.BadIndex) × LeavesOneOf ⟦<D as Disk>⟧ N.magic e.1 was flight) }
+    ensures status { IfErr result (λ e. (e.0 ≡ Status.BadIndex)
+        ⊎ ((e.0 ≡ Status.DiskFailed) ⊎ (e.0 ≡ Status.OutOfMemory))) }
+    // It is bad exactly where the disk stands for no tables.
+    ensures bad { D.tells → IfErr result (λ e. e.0 ≡ Status.BadIndex
+        → (wanted : ℕ) × (found : ℕ) × IsBadIndex N.magic (D.seen disk) wanted found) }
+    ensures is_bad { D.tells → (wanted found : ℕ) → IsBadIndex N.magic (D.seen disk) wanted found
+        → IfOk result (λ i. ⊥) }
+    ensures uncounted { IfOk result (λ i. ⟦<Index<LogStore<D, N>> as el_model::Ledger>⟧.faults i
+        ≡ D.faults disk) }
+    ensures counted { IfErr result (λ e. e.0 ≡ Status.DiskFailed
+        → RoseBy (D.faults disk) (D.faults e.1) 1) }
+    ensures others_uncounted { IfErr result (λ e. e.0 ≢ Status.DiskFailed
+        → D.faults e.1 ≡ D.faults disk) }
+{
+    images_stand_in_one_way();
+    let store = match open_log::<D, N>(alloc, disk) {
+        Ok(store) => store,
+        Err((fault, disk)) => return Err((status_of(fault), disk)),
+    };
+    match Index::over(alloc, store, steps) {
+        Ok(index) => Ok(index),
+        Err((_, store)) => Err((Status::DiskFailed, store.into_disk())),
+    }
+}

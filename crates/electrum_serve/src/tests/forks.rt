@@ -1,0 +1,99 @@
+// Blocks that part from others, and blocks that spend.
+ghost use Rattle.std.specs.Prelude.{◌≤◌, length, IfOk};
+ghost use Rattle.std.specs.List.{AllByRecursion};
+ghost use Rattle.el_tx.specs.Encoding.{HasEncoding};
+
+use crate::tests::block_files::{ZERO, add_block, add_branch, hash_of, one};
+use el_base::{Bytes, Hash32, OutOfMemory};
+use el_block::Block;
+use el_gen::{block, coinbase, spend};
+use el_tx::{Outpoint, Tx, txid};
+use std::alloc::Global;
+
+// A block: the number in the table of the block before it, its height and its branch. Its coinbase pays to
+// the script of 101. Where it spends the first block's coin, half of that goes to the script of this number,
+// half to the script of 100.
+type Made = (Option<usize>, u8, u8, Option<u32>);
+
+// Z is the first block. Of three branches on it one has A1 and A2, one B1, B2 and B3, and one C1 alone; the
+// same transaction stands in A1, B2 and C1. D1, on Z too, has another one.
+const FORKS: [Made; 8] = [
+    (None, 0, 0, None),
+    (Some(0), 1, 0, Some(1)),
+    (Some(1), 2, 0, None),
+    (Some(0), 1, 1, None),
+    (Some(3), 2, 1, Some(1)),
+    (Some(4), 3, 1, None),
+    (Some(0), 1, 1, Some(1)),
+    (Some(0), 1, 0, Some(101)),
+];
+
+// The transaction that gives the two halves of the first block's coin, one to the script of this number.
+fn halves(alloc: Global, k: u32) -> Result<Tx, OutOfMemory>
+    ensures { IfOk result HasEncoding }
+{
+    let txid = txid(alloc, &coinbase(alloc, 0, 0, 101)?)?;
+    let coin = Outpoint { txid, index: 0 };
+    let outputs = [(2_500_000_000, k), (2_500_000_000, 100)];
+    spend(alloc, [coin].as_slice(), outputs.as_slice())
+}
+
+// The transactions of a block.
+fn txs_of(alloc: Global, made: Made) -> Result<Vec<Tx>, OutOfMemory>
+    ensures some { IfOk result (λ txs. 1 ≤ length txs.items) }
+    ensures encoded { IfOk result (λ txs. AllByRecursion HasEncoding txs.items) }
+{
+    let (_, height, branch, pays) = made;
+    let mut txs = one(alloc, coinbase(alloc, u32::from(height), branch, 101)?)?;
+    if let Some(k) = pays {
+        txs.push(halves(alloc, k)?)?;
+    }
+    Ok(txs)
+}
+
+// The block after the one with this hash.
+fn block_of(alloc: Global, previous: Hash32, made: Made) -> Result<Block, OutOfMemory>
+    ensures { IfOk result (λ b. AllByRecursion HasEncoding b.txs) }
+{
+    let (_, height, branch, _) = made;
+    block(
+        alloc,
+        previous,
+        u32::from(height),
+        branch,
+        txs_of(alloc, made)?,
+    )
+}
+
+// The hash of the block of that number, and zero for none.
+fn hash_at(hashes: &[Hash32], number: Option<usize>) -> Hash32 {
+    match number {
+        Some(number) => hashes.get(number).copied().unwrap_or(ZERO),
+        None => ZERO,
+    }
+}
+
+// The file of the blocks of the table.
+pub(super) fn forks(alloc: Global) -> Result<Bytes, OutOfMemory> {
+    let mut file = Bytes::new(alloc);
+    let mut hashes = Vec::new(alloc);
+    for made in FORKS {
+        let previous = hash_at(hashes.as_slice(), made.0);
+        let block = block_of(alloc, previous, made)?;
+        add_block(alloc, &mut file, &block)?;
+        hashes.push(hash_of(&block))?;
+    }
+    Ok(file)
+}
+
+// The file of 102 blocks of the first branch; and of another branch 33 blocks after the second one of these,
+// and one block after the first.
+pub(super) fn deep(alloc: Global) -> Result<Bytes, OutOfMemory> {
+    let mut file = Bytes::new(alloc);
+    let first = add_branch(alloc, &mut file, ZERO, 0, 1, 0)?;
+    let second = add_branch(alloc, &mut file, first, 1, 2, 0)?;
+    add_branch(alloc, &mut file, second, 2, 102, 0)?;
+    add_branch(alloc, &mut file, second, 2, 35, 1)?;
+    add_branch(alloc, &mut file, first, 1, 2, 1)?;
+    Ok(file)
+}

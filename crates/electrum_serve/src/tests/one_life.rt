@@ -1,0 +1,59 @@
+// Lives of the program on one disk, and what a crash leaves between them.
+use crate::status::Status;
+use crate::tests::block_files::{Files, files_of};
+use crate::tests::bringing::{Step, coming, transcript};
+use crate::tests::calls::{TURNS, failing_from, serve_on};
+use el_base::OutOfMemory;
+use el_fakes::{SteadyArchive, SteadyLink};
+use el_journal::JOURNAL;
+use el_mem_disk::MemDisk;
+use std::alloc::Global;
+use std::test::Fail;
+
+// Block files that have no file.
+pub(super) const NO_FILES: Files = Files::Parts(&[]);
+
+// How a life ended, what was sent and closed in it, and the disk as it then stands.
+#[derive(Drop)]
+pub(super) struct Life {
+    pub(super) status: Status,
+    pub(super) text: String,
+    pub(super) disk: MemDisk,
+}
+
+// A life on the disk.
+pub(super) fn live(
+    alloc: Global,
+    words: &str,
+    disk: MemDisk,
+    files: Files,
+    steps: &[Step<'_>],
+) -> Result<Life, Fail> {
+    let mut archive = SteadyArchive::new(files_of(alloc, files)?).ok_or("no such files")?;
+    let mut link = SteadyLink::new(alloc, coming(alloc, steps, 1_000)?)?;
+    let (status, disk) = serve_on(alloc, words, disk, &mut archive, &mut link, TURNS)?;
+    let text = transcript(alloc, link.sent(), link.closed())?;
+    Ok(Life { status, text, disk })
+}
+
+// Choices of what a crash leaves: how many bytes the journal has beyond the least, modulo how many it may
+// have; and each byte that may be any. Gates are closed, open and neither, and of what was written there are
+// none, some and all bytes.
+const IMAGES: [(u64, u64); 5] = [(0, 0), (0, 1), (999, 0), (124, 1), (9, 255)];
+
+pub(super) const IMAGE_COUNT: u64 = 5;
+
+// The disk that a crash leaves, in the image of that number, each call of which fails from this one on. The
+// journal has at most 10,000 bytes more than it seems to have.
+pub(super) fn after_crash(
+    alloc: Global,
+    disk: &MemDisk,
+    image: u64,
+    from: Option<u64>,
+) -> Result<MemDisk, OutOfMemory> {
+    let (more, byte) = IMAGES[(image % IMAGE_COUNT) as usize];
+    let len = disk.bytes(JOURNAL).len().saturating_add(10_000);
+    let mut numbers = vec![in alloc; byte; len]?;
+    numbers[JOURNAL as usize] = more;
+    disk.crashed(numbers.as_slice(), failing_from(alloc, from))
+}

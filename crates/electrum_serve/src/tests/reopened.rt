@@ -1,0 +1,107 @@
+// Lives over what a life before left on the disk.
+use crate::status::Status;
+use crate::tests::block_files::Files;
+use crate::tests::bringing::Step;
+use crate::tests::bringing::Step::{Opens, Says};
+use crate::tests::calls::{SERVE, SERVE_MAIN, fresh_disk};
+use crate::tests::names::named;
+use crate::tests::one_life::{NO_FILES, live};
+use std::alloc::Global;
+use std::test::Fail;
+
+// What comes in a life that nobody is served in.
+const UNSERVED: &[Step<'static>] = &[Opens(1), Says(0, "tip {a0}\n"), Says(1, "{}\n")];
+
+// What a client asks, after the node.
+const ASKS: &[Step<'static>] = &[
+    Opens(1),
+    Says(0, "tip {z-d1}\n"),
+    Says(
+        1,
+        "{asks-balance}{script101}{asked}\n{asks}{script101}{asked}\n",
+    ),
+];
+
+// The files of a first life on regtest, and what the node says; the words, the files and what comes in a
+// second one, how that ends, and what is sent; and what the index alone then answers to the first one's node.
+struct Lives {
+    files: Files,
+    first: &'static str,
+    words: &'static str,
+    second: (Files, &'static [Step<'static>]),
+    status: Status,
+    sent: &'static str,
+    kept: &'static str,
+}
+
+const LIVES: [Lives; 4] = [
+    // another network's words
+    Lives {
+        files: Files::Branch(1),
+        first: "tip {a0}\n",
+        words: SERVE_MAIN,
+        second: (Files::Branch(1), UNSERVED),
+        status: Status::BadIndex,
+        sent: "",
+        kept: "0 at {a0} 0\n",
+    },
+    // another first block alone
+    Lives {
+        files: Files::Branch(1),
+        first: "tip {a0}\n",
+        words: SERVE,
+        second: (Files::Foreign, UNSERVED),
+        status: Status::OtherChain,
+        sent: "",
+        kept: "0 at {a0} 0\n",
+    },
+    // an index of no blocks is of no other chain
+    Lives {
+        files: Files::Branch(1),
+        first: "",
+        words: SERVE,
+        second: (Files::Foreign, UNSERVED),
+        status: Status::Ended,
+        sent: "0 refused unknown {a0}\n1 {invalid}\n",
+        kept: "",
+    },
+    // what the coins of a script hold together, and its history, from the index
+    Lives {
+        files: Files::Forks,
+        first: "tip {z-d1}\n",
+        words: SERVE,
+        second: (NO_FILES, ASKS),
+        status: Status::Ended,
+        sent: "0 at {z-d1} 1\n1 {holds}7500000000{held}\n\
+               1 {lists}{z-entry},{z1-entry},{shared-entry}{listed}\n",
+        kept: "0 at {z-d1} 1\n",
+    },
+];
+
+// How the second life ends, and what is sent; and what is sent in the third one.
+fn run(alloc: Global, lives: &Lives) -> Result<(Status, String, String), Fail> {
+    let first = [Says(0, lives.first)];
+    let life = live(
+        alloc,
+        SERVE,
+        fresh_disk(alloc),
+        lives.files,
+        first.as_slice(),
+    )?;
+    let (files, steps) = lives.second;
+    let second = live(alloc, lives.words, life.disk, files, steps)?;
+    let third = live(alloc, SERVE, second.disk, NO_FILES, first.as_slice())?;
+    Ok((second.status, second.text, third.text))
+}
+
+#[test]
+fn an_index_of_an_earlier_life(rt: HostRuntime) -> Result<(), Fail> {
+    let alloc = rt.alloc();
+    for lives in &LIVES {
+        let (status, sent, kept) = run(alloc, lives)?;
+        assert_eq!(rt; status, lives.status);
+        assert_eq!(rt; sent.as_str(), named(alloc, lives.sent)?.as_str());
+        assert_eq!(rt; kept.as_str(), named(alloc, lives.kept)?.as_str());
+    }
+    Ok(())
+}

@@ -1,0 +1,213 @@
+// Moves of a second life that a crash stops at each call of the disk.
+use crate::status::Status;
+use crate::tests::block_files::Files;
+use crate::tests::bringing::Step::Says;
+use crate::tests::calls::{SERVE, failing_from, fresh_disk};
+use crate::tests::names::named;
+use crate::tests::one_life::{IMAGE_COUNT, Life, NO_FILES, after_crash, live};
+use el_mem_disk::MemDisk;
+use std::alloc::Global;
+use std::test::Fail;
+
+// One move in the second of two lives: the files, what the node says in both, and what it is answered in the
+// second; what it asks of the index alone, and what it is answered before the move and after it.
+struct Moving {
+    files: Files,
+    first: &'static str,
+    second: &'static str,
+    told: &'static str,
+    asks: &'static str,
+    old: &'static str,
+    new: &'static str,
+}
+
+// Three blocks forth.
+const EXTENDED: Moving = Moving {
+    files: Files::Branch(4),
+    first: "tip {a0}\n",
+    second: "tip {a3}\n",
+    told: "0 at {a3} 3\n",
+    asks: "tip {a3}\ntip {a0}\n",
+    old: "0 refused unknown {a3}\n0 at {a0} 0\n",
+    new: "0 at {a3} 3\n0 at {a0} 0\n",
+};
+
+// Two blocks back and three forth.
+const TURNED: Moving = Moving {
+    files: Files::Forks,
+    first: "tip {z-a2}\n",
+    second: "tip {z-b3}\n",
+    told: "0 at {z-b3} 3\n",
+    asks: "tip {z-a2}\ntip {z-b3}\n",
+    old: "0 at {z-a2} 2\n0 refused unknown {z-b3}\n",
+    new: "0 refused unknown {z-a2}\n0 at {z-b3} 3\n",
+};
+
+// The disk after the first life, with all that was written synced.
+fn first_life(alloc: Global, moving: &Moving) -> Result<MemDisk, Fail> {
+    let steps = [Says(0, moving.first)];
+    let life = live(
+        alloc,
+        SERVE,
+        fresh_disk(alloc),
+        moving.files,
+        steps.as_slice(),
+    )?;
+    Ok(life.disk)
+}
+
+// The second life, in which each call of the disk fails from this one on.
+fn second_life(
+    alloc: Global,
+    moving: &Moving,
+    disk: &MemDisk,
+    from: Option<u64>,
+) -> Result<Life, Fail> {
+    let disk = disk.crashed(&[], failing_from(alloc, from))?;
+    live(
+        alloc,
+        SERVE,
+        disk,
+        moving.files,
+        [Says(0, moving.second)].as_slice(),
+    )
+}
+
+// How many calls of the disk a second life makes in which none fails.
+fn calls_of(alloc: Global, moving: &Moving, disk: &MemDisk) -> Result<u64, Fail> {
+    Ok(
+        second_life(alloc, moving, disk, None)?
+            .disk
+            .calls()
+            .min(1_000),
+    )
+}
+
+// Whether the second life ended as it must where one of its calls failed, or none.
+fn is_ended(alloc: Global, moving: &Moving, life: &Life, failed: bool) -> Result<bool, Fail> {
+    let (status, told) = if failed {
+        (Status::DiskFailed, "")
+    } else {
+        (Status::Ended, moving.told)
+    };
+    Ok(life.status == status && life.text.as_str() == named(alloc, told)?.as_str())
+}
+
+// Whether the disk has the new chain, or the old one where the new one was not told.
+fn has_either(alloc: Global, moving: &Moving, disk: MemDisk, told: bool) -> Result<bool, Fail> {
+    let life = live(
+        alloc,
+        SERVE,
+        disk,
+        NO_FILES,
+        [Says(0, moving.asks)].as_slice(),
+    )?;
+    let is_new = life.text.as_str() == named(alloc, moving.new)?.as_str();
+    let is_old = life.text.as_str() == named(alloc, moving.old)?.as_str();
+    Ok(life.status == Status::Ended && (is_new || is_old && !told))
+}
+
+// Whether a crash leaves one of the two chains, in so many images.
+fn leaves_either(
+    alloc: Global,
+    moving: &Moving,
+    disk: &MemDisk,
+    told: bool,
+    images: u64,
+) -> Result<bool, Fail> {
+    for image in 0..images {
+        let left = after_crash(alloc, disk, image, None)?;
+        if !has_either(alloc, moving, left, told)? {
+            return Ok(false);
+        }
+    }
+    Ok(true)
+}
+
+// Whether a crash leaves the old chain in one image and the new one in another.
+fn leaves_both(alloc: Global, moving: &Moving, disk: &MemDisk) -> Result<bool, Fail> {
+    let closed = after_crash(alloc, disk, 0, None)?;
+    let open = after_crash(alloc, disk, 1, None)?;
+    Ok(!has_either(alloc, moving, closed, true)? && has_either(alloc, moving, open, true)?)
+}
+
+#[test]
+fn an_extension_stopped_at_each_call(rt: HostRuntime) -> Result<(), Fail> {
+    let alloc = rt.alloc();
+    let disk = first_life(alloc, &EXTENDED)?;
+    let calls = calls_of(alloc, &EXTENDED, &disk)?;
+    // the last call brings the gate of the move's commit to the disk
+    let life = second_life(alloc, &EXTENDED, &disk, Some(calls))?;
+    assert!(rt; leaves_both(alloc, &EXTENDED, &life.disk)?);
+    for call in 1..=calls.saturating_add(1) {
+        let life = second_life(alloc, &EXTENDED, &disk, Some(call))?;
+        let told = calls < call;
+        assert!(rt; is_ended(alloc, &EXTENDED, &life, !told)?, "{call}");
+        // the opening writes nothing, so that all images are one
+        let images = if call <= calls / 2 { 1 } else { IMAGE_COUNT };
+        let is_left = leaves_either(alloc, &EXTENDED, &life.disk, told, images)?;
+        assert!(rt; is_left, "{call}");
+    }
+    Ok(())
+}
+
+// How many calls an opening of two entries makes.
+const OPENING: u64 = 9;
+
+// Whether a crash, in an image that is another one for each call, and then an opening that is stopped at each
+// of its calls leave one of the two chains.
+fn opens_to_either(
+    alloc: Global,
+    moving: &Moving,
+    disk: &MemDisk,
+    told: bool,
+    image: u64,
+) -> Result<bool, Fail> {
+    for stop in 1..=OPENING {
+        let image = image.saturating_add(stop);
+        let left = after_crash(alloc, disk, image, Some(stop))?;
+        let stopped = live(alloc, SERVE, left, NO_FILES, &[])?;
+        if stopped.status == Status::Ended {
+            continue;
+        }
+        let left = after_crash(alloc, &stopped.disk, image.saturating_add(stop), None)?;
+        if !has_either(alloc, moving, left, told)? {
+            return Ok(false);
+        }
+    }
+    Ok(true)
+}
+
+// The first call of the second life at which a stop isn't as it must be, in the first half of its calls or in
+// the second half and where none fails.
+fn first_wrong(alloc: Global, moving: &Moving, is_late: bool) -> Result<Option<u64>, Fail> {
+    let disk = first_life(alloc, moving)?;
+    let calls = calls_of(alloc, moving, &disk)?;
+    let half = calls / 2;
+    let (from, to) = if is_late {
+        (half.saturating_add(1), calls.saturating_add(1))
+    } else {
+        (1, half)
+    };
+    for call in from..=to {
+        let life = second_life(alloc, moving, &disk, Some(call))?;
+        let told = calls < call;
+        let is_ended = is_ended(alloc, moving, &life, !told)?;
+        if !is_ended || !opens_to_either(alloc, moving, &life.disk, told, call)? {
+            return Ok(Some(call));
+        }
+    }
+    Ok(None)
+}
+
+#[test]
+fn a_reorganisation_stopped_early(rt: HostRuntime) -> Result<(), Fail> {
+    assert_eq!(rt; first_wrong(rt.alloc(), &TURNED, false)?, None);
+    Ok(())
+}
+
+#[test]
+fn a_reorganisation_stopped_late(rt: HostRuntime) -> Result<(), Fail> {
+    assert_eq!(rt; first_wrong(rt.alloc(), &TURNED, true)?, None);
+    Ok(())
+}
