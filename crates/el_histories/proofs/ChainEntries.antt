@@ -10,11 +10,10 @@ use Rattle.el_base.specs.declared.hash.Hash32.{Hash32}
 use Rattle.el_chain.specs.Chains.{Chain}
 use Rattle.el_chain.specs.History.{Position, positions, concerns, history}
 use Rattle.el_chain.specs.RowCounts.{has_script, spending_inputs, concerned_scripts, add_scripts}
-use Rattle.el_chain.specs.declared.entry.Entry.{Entry}
 use Rattle.el_model.specs.Queries as asked
 use Rattle.el_tables.specs.ChainLists.{listed_position, txs_from, scripts_of, entry_of, entries_from, lists}
 use Rattle.el_tables.specs.Lists.{ListedTx, ListedEntry, script_number, is_of_script}
-use Rattle.el_tables.specs.Queries.{entry_at, outs_at, listed_history}
+use Rattle.el_tables.specs.Queries.{entry_at, outs_at}
 use Rattle.el_tables.proofs.Listing.{met_is, one_entry, once_gathered, history_is}
 use Rattle.el_tables.proofs.Numbering.{length_txs}
 use Rattle.el_tables.proofs.Scripts.{AllIn, all_from, all_has, all_met, has_more, has_back, gathered, gather_has, gather_only}

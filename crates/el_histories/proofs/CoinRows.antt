@@ -1,5 +1,5 @@
 -- The row of an output as a coin of a script.
-use Rattle.std.proofs.Common.{◌≡◌, ℕ, ◌+◌, ◌-◌, ◌<◌, ◌≤◌, ◌==◌, ◌&&◌, true, false, List, [], ◌∷◌, ◌++◌, length, take, drop, min, get_or, slice_get, Some, None, option_map, refl, ap, sym, ◌∙◌, arith, eq-eqb, ne_eqb, length-drop}
+use Rattle.std.proofs.Common.{◌≡◌, ℕ, ◌+◌, ◌-◌, ◌<◌, ◌==◌, true, false, List, [], ◌∷◌, length, drop, min, get_or, refl, ap, sym, ◌∙◌, eq-eqb, ne_eqb, length-drop}
 use Rattle.std.proofs.lemmas.Bool.{and_left, and_right}
 use Rattle.std.proofs.lemmas.List.{length-take, get_or-take, get_or-drop}
 use Rattle.el_base.specs.declared.hash.Hash32.{Hash32}
@@ -10,7 +10,7 @@ use Rattle.el_tables.specs.Lists.State.{Unspent, Spent, Buried}
 use Rattle.el_rows.specs.declared.out_row.OutRow.{OutRow}
 use Rattle.el_rows.specs.declared.out_row.State.TheVariants as out
 use Rattle.el_buckets.specs.Rows.{out_fields, state_fields}
-use Rattle.el_histories.specs.within.Found.{own_coin, coin_shown, outs_of}
+use Rattle.el_histories.specs.within.Found.{own_coin, outs_of}
 
 unspent_is : (s : listed.State) → state_fields s ≡ out.Unspent → is_unspent s ≡ true
 unspent_is Unspent e = refl

@@ -1,7 +1,7 @@
 -- The coins of a script among the outputs of its entries' transactions.
 use Rattle.std.proofs.Common.{◌≡◌, inl, inr, ℕ, zero, suc, ◌+◌, ◌<◌, ◌≤◌, ◌==◌, ◌&&◌, true, false, List, [], ◌∷◌, ◌++◌, length, map, filter, flat_map, take, drop, min, reverse, get_or, slice_get, Some, refl, ap, ap₂, sym, subst, ◌∙◌, append_assoc, arith, length-append, eqb-true}
-use Rattle.std.proofs.lemmas.Bool.{cases_Bool, cases_lt, and_left, and_right}
-use Rattle.std.proofs.lemmas.List.{map-append, get_or_at, length-map, reverse-append, append-nil, drop_at, take_at}
+use Rattle.std.proofs.lemmas.Bool.{cases_Bool, cases_lt, and_left}
+use Rattle.std.proofs.lemmas.List.{map-append, get_or_at, length-map, reverse-append, drop_at, take_at}
 use Rattle.std.proofs.Math.Seq.{drop-cons}
 use Rattle.std.specs.List.{AllByRecursion}
 use Rattle.el_base.specs.declared.hash.Hash32.{Hash32}
@@ -11,10 +11,10 @@ use Rattle.el_chain.specs.History.{Position, positions}
 use Rattle.el_chain.specs.RowCounts.{has_script, spending_inputs}
 use Rattle.el_chain.specs.declared.coin.Coin.{Coin}
 use Rattle.el_tx.specs.Hashing.{txid}
-use Rattle.el_tables.specs.ChainLists.{Output, output, outputs, outputs_from, listed_out, listed_position, txs_from, scripts_of, lists}
+use Rattle.el_tables.specs.ChainLists.{output, outputs_from, listed_out, listed_position, txs_from, lists}
 use Rattle.el_tables.specs.Edits.{no_out}
-use Rattle.el_tables.specs.Lists.{ListedTx, ListedOut, ListedEntry, Lists, is_unspent, script_number, is_of_script, first_out_at, txid_at}
-use Rattle.el_tables.specs.Queries.{height_at, outs_at, coins_among, coins_at, shown_coin, listed_unspent}
+use Rattle.el_tables.specs.Lists.{ListedTx, ListedOut, ListedEntry, Lists, is_unspent, script_number, is_of_script, first_out_at}
+use Rattle.el_tables.specs.Queries.{height_at, outs_at, coins_among, coins_at, shown_coin}
 use Rattle.el_tables.proofs.FitLemmas.{chain_fits}
 use Rattle.el_tables.proofs.Numbering.{length_made, length_txs}
 use Rattle.el_tables.proofs.Scripts.{number_at}

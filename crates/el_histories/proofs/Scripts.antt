@@ -1,15 +1,15 @@
 -- The script of a hash, and what stands where there is none.
-use Rattle.std.proofs.Common.{◌≡◌, inl, inr, ℕ, zero, suc, ◌+◌, ◌<◌, ◌≤◌, ◌==◌, ◌&&◌, Bool, true, false, cond, List, [], ◌∷◌, length, filter, get_or, take, Option, None, Some, option_map, slice_get, refl, ap, sym, subst, ◌∙◌, arith, ne_eqb}
-use Rattle.std.proofs.lemmas.Bool.{cases_Bool, cases_lt, or_parts, and_left, lt-ltb, le-ltb}
+use Rattle.std.proofs.Common.{◌≡◌, inl, inr, ℕ, zero, suc, ◌<◌, ◌==◌, ◌&&◌, Bool, true, false, List, [], ◌∷◌, length, filter, get_or, take, Option, None, Some, option_map, slice_get, refl, ap, sym, subst, ◌∙◌, arith, ne_eqb}
+use Rattle.std.proofs.lemmas.Bool.{cases_lt, or_parts, and_left, lt-ltb, le-ltb}
 use Rattle.std.proofs.lemmas.List.{length-take-le}
-use Rattle.std.specs.List.{AllByRecursion, list_any}
+use Rattle.std.specs.List.{list_any}
 use Rattle.el_base.specs.declared.hash.Hash32.{Hash32}
 use Rattle.el_chain.specs.Chains.{Chain, zero_hash}
 use Rattle.el_chain.specs.RowCounts.{has_script}
-use Rattle.el_tables.specs.ChainLists.{ListedBlock, lists, listed_blocks}
+use Rattle.el_tables.specs.ChainLists.{lists, listed_blocks}
 use Rattle.el_tables.specs.Edits as edit
 use Rattle.el_tables.specs.Fits.{Fits, OutsWithin}
-use Rattle.el_tables.specs.Lists.{ListedEntry, ListedOut, Lists, script_number, is_of_script, is_unspent, balance_of}
+use Rattle.el_tables.specs.Lists.{ListedOut, Lists, script_number, is_of_script, is_unspent, balance_of}
 use Rattle.el_tables.specs.Tables as typed
 use Rattle.el_tables.specs.Tables.{HeadCounts, format_1, rows_from, script_row, tables_of}
 use Rattle.el_tables.proofs.FitLemmas.{new_has_no_entry}

@@ -1,16 +1,12 @@
 -- Blocks are put in, one after the other.
-use Rattle.std.proofs.Common.{◌≡◌, ◌≢◌, ◌⊎◌, inl, inr, ⊎_elim, ℕ, zero, suc, ◌+◌, ◌-◌, ◌<◌, ◌≤◌, List, [], ◌∷◌, ◌++◌, length, take, drop, get_or, None, Some, refl, sym, ap, ◌∙◌, append_assoc, append-nil, arith}
+use Rattle.std.proofs.Common.{◌≡◌, ◌⊎◌, inl, inr, ℕ, zero, suc, ◌+◌, ◌-◌, ◌<◌, ◌≤◌, List, [], ◌∷◌, ◌++◌, length, take, drop, get_or, None, Some, refl, sym, ap, ◌∙◌, append_assoc, append-nil, arith}
 use Rattle.std.specs.List.{AllByRecursion}
 use Rattle.std.proofs.lemmas.List.{take_all, get_or_default}
 use Rattle.el_base.specs.declared.hash.Hash32.{Hash32}
 use Rattle.el_tx.specs.declared.types.Header.{Header}
 use Rattle.el_base.proofs.Lists.{cut_at, left_at, taken_at}
 use Rattle.el_block.specs.declared.block.Block.{Block}
-use Rattle.el_block.specs.declared.fault.BlockFault.{BlockFault}
-use Rattle.el_block.specs.declared.fault.BlockFault.TheVariants as block
-use Rattle.el_block.specs.BlockFaults.{FirstBlockFault}
 use Rattle.el_block.specs.Blocks.{EncodesBlock, block_hash}
-use Rattle.el_outside.specs.declared.archive.Place.{Place}
 use Rattle.el_chain.specs.declared.placed.Placed.{Placed}
 use Rattle.el_chain.specs.declared.node.Node.{Node}
 use Rattle.el_chain.specs.declared.fault.ConnectFault.{ConnectFault}
@@ -19,14 +15,12 @@ use Rattle.el_chain.specs.declared.moves.MoveFault.{MoveFault}
 use Rattle.el_chain.specs.declared.moves.MoveFault.TheVariants as stop
 use Rattle.el_chain.specs.declared.moves.Plan.{Plan}
 use Rattle.el_chain.specs.Chains.{Chain, tip, zero_hash}
-use Rattle.el_chain.specs.Coins.{coins}
-use Rattle.el_chain.specs.Faults.{IsGood, IsNext, AreNext, fault}
+use Rattle.el_chain.specs.Faults.{IsGood, fault}
 use Rattle.el_chain.specs.Headers.{AreLinked}
-use Rattle.el_chain.specs.Moves.{AreOf, AreBlocks, AreNextBlocks, FaultInAt, IsStop, shorter, target}
+use Rattle.el_chain.specs.Moves.{AreOf, AreBlocks, FaultInAt, IsStop, shorter}
 use Rattle.el_chain.specs.Records.{IsNode, IsBlockOf}
-use Rattle.el_chain.specs.Touches.{Touch}
 use Rattle.el_chain.proofs.Chains.{tip_last}
-use Rattle.el_chain.proofs.DraftSteps.{header_same, same_length}
+use Rattle.el_chain.proofs.DraftSteps.{header_same}
 use Rattle.el_chain.proofs.GoodChains.{next_more}
 use Rattle.el_rows.specs.Tables.{Tables}
 use Rattle.el_stands.specs.Standing.{StandFor}

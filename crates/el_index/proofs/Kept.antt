@@ -1,9 +1,9 @@
 -- What an index is after rows were read, and what a crash leaves of a move.
 use Rattle.std.specs.Prelude.{MatchOption}
-use Rattle.std.proofs.Common.{◌≡◌, ◌⊎◌, inl, inr, ⊎_elim, ℕ, zero, suc, ◌<◌, ◌≤◌, Option, refl, sym, ap, ◌∙◌, subst, arith}
+use Rattle.std.proofs.Common.{◌≡◌, inl, inr, ⊎_elim, ℕ, zero, suc, ◌<◌, ◌≤◌, Option, refl, sym, ap, ◌∙◌, subst, arith}
 use Rattle.el_base.specs.declared.hash.Hash32.{Hash32}
 use Rattle.el_outside.specs.Moments.{LeavesOnly}
-use Rattle.el_outside.proofs.Moments.{joined, weaker, started}
+use Rattle.el_outside.proofs.Moments.{joined, weaker}
 use Rattle.el_rows.specs.declared.table.Table.{Table}
 use Rattle.el_rows.specs.declared.table.Table.TheVariants as table
 use Rattle.el_rows.specs.Tables.{Tables}

@@ -1,11 +1,10 @@
 -- The hash of a chain's last block.
-use Rattle.std.proofs.Common.{◌≡◌, ℕ, zero, suc, ◌+◌, ◌-◌, ◌<◌, List, [], ◌∷◌, length, Option, None, Some, option_map, slice_get, refl, sym, ap, ◌∙◌, arith}
+use Rattle.std.proofs.Common.{◌≡◌, ℕ, zero, suc, ◌-◌, ◌<◌, List, [], ◌∷◌, length, None, Some, refl, ap, ◌∙◌, arith}
 use Rattle.el_base.specs.Hashing.{sha256d}
 use Rattle.el_base.specs.declared.hash.Hash32.{Hash32}
 use Rattle.el_block.specs.Blocks.{block_hash}
 use Rattle.el_tx.specs.Headers.{header_encoding}
-use Rattle.el_chain.specs.declared.placed.Placed.{Placed}
-use Rattle.el_chain.specs.Chains.{Chain, tip, tip_after, zero_hash}
+use Rattle.el_chain.specs.Chains.{Chain, tip_after, zero_hash}
 use Rattle.el_model.specs.Queries.{tip_of, header_at}
 use Rattle.el_rows.specs.Tables.{Tables}
 use Rattle.el_rows.specs.declared.table.Table.TheVariants as table

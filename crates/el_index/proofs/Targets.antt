@@ -1,5 +1,5 @@
 -- What a move of the index has led to, or why it is refused.
-use Rattle.std.proofs.Common.{◌≡◌, ◌≢◌, ◌⊎◌, inl, inr, ℕ, zero, suc, ◌-◌, List, [], ◌∷◌, ◌++◌, length, drop, slice_index_or, Option, Some, refl, sym, ap, ◌∙◌, Result, Err, arith}
+use Rattle.std.proofs.Common.{◌≡◌, ◌≢◌, ◌⊎◌, inl, inr, ℕ, zero, suc, ◌-◌, List, [], ◌∷◌, ◌++◌, length, slice_index_or, Option, Some, refl, sym, ap, ◌∙◌, Result, Err, arith}
 use Rattle.std.specs.List.{AllByRecursion}
 use Rattle.el_base.specs.declared.hash.Hash32.{Hash32}
 use Rattle.el_block.specs.Blocks.{AllDiffer, block_hash}
@@ -8,11 +8,10 @@ use Rattle.el_chain.specs.declared.moves.MoveFault.TheVariants as stop
 use Rattle.el_chain.specs.declared.moves.Plan.{Plan}
 use Rattle.el_chain.specs.declared.node.Node.{Node}
 use Rattle.el_chain.specs.Chains.{Chain, tip, tip_after, zero_hash}
-use Rattle.el_chain.specs.Coins.{coins}
 use Rattle.el_chain.specs.Headers.{last_node}
-use Rattle.el_chain.specs.Moves.{AreOf, AreRead, AreBlocks, AreNextBlocks, FaultInAt, InFlight, IsPlan, IsRefused, Moves, last_hash, shorter, target}
+use Rattle.el_chain.specs.Moves.{AreOf, AreRead, AreBlocks, FaultInAt, InFlight, IsPlan, IsRefused, last_hash, shorter, target}
 use Rattle.el_chain.specs.Records.{IsNode}
-use Rattle.el_chain.specs.Touches.{AreTouched, Touch}
+use Rattle.el_chain.specs.Touches.{AreTouched}
 use Rattle.el_chain.proofs.DraftSteps.{header_same}
 use Rattle.el_model.specs.Queries.{tip_of}
 use Rattle.el_rows.specs.Tables.{Tables}

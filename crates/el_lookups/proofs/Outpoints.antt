@@ -1,22 +1,20 @@
 -- The outputs of a chain, by outpoint.
-use Rattle.std.proofs.Common.{◌≡◌, ◌≢◌, ℕ, zero, suc, ◌+◌, ◌<◌, ◌≤◌, Bool, true, false, List, [], ◌∷◌, ◌++◌, length, map, find, fold, take, get_or, slice_get, Option, None, Some, option_map, option_and_then, refl, ap, ap₂, lit<, Result, IfOk, sym, subst, ◌∙◌, arith, length-append}
+use Rattle.std.proofs.Common.{◌≡◌, ◌≢◌, ℕ, zero, suc, ◌+◌, ◌<◌, ◌≤◌, List, [], ◌∷◌, ◌++◌, length, map, get_or, slice_get, Option, None, Some, option_map, option_and_then, refl, ap, ap₂, lit<, Result, IfOk, sym, subst, ◌∙◌, arith}
 use Rattle.std.proofs.lemmas.List.{get_or-map, take_all}
 use Rattle.std.specs.List.{AllByRecursion}
 use Rattle.el_base.specs.declared.hash.Hash32.{Hash32}
 use Rattle.el_tx.specs.declared.types.Outpoint.{Outpoint}
 use Rattle.el_chain.specs.declared.coin.Coin.{Coin}
-use Rattle.el_chain.specs.declared.entry.Entry.{Entry}
 use Rattle.el_chain.specs.Chains.{Chain, zero_hash}
-use Rattle.el_chain.specs.Coins.{coins}
 use Rattle.el_chain.specs.CoinLaws.{makes}
 use Rattle.el_chain.specs.Faults.{IsGood}
 use Rattle.el_chain.specs.History.{Position, positions}
 use Rattle.el_model.specs.Queries as asked
-use Rattle.el_tables.specs.Lists.{State, ListedTx, ListedOut, Lists, if_unspent, output_number, coin_number}
+use Rattle.el_tables.specs.Lists.{State, ListedTx, ListedOut, Lists, output_number}
 use Rattle.el_tables.specs.Lists.State.{Unspent, Spent, Buried}
-use Rattle.el_tables.specs.ChainLists.{Output, output, outputs_from, listed_out, scripts_of, txs_from, ListedBlock, listed_blocks, lists}
+use Rattle.el_tables.specs.ChainLists.{output, outputs_from, listed_out, scripts_of, ListedBlock, listed_blocks, lists}
 use Rattle.el_tables.specs.Tables.{HeadCounts, rows_from, tx_row, script_row, format_1}
-use Rattle.el_tables.specs.Queries.{height_at, shown_coin, listed_coin, listed_state, listed_spender, spender_by}
+use Rattle.el_tables.specs.Queries.{height_at, shown_coin, listed_coin, listed_state, spender_by}
 use Rattle.el_tables.proofs.Answering.{coin_answers}
 use Rattle.el_tables.proofs.FitLemmas.{chain_fits}
 use Rattle.el_tables.proofs.Numbering.{length_txs}

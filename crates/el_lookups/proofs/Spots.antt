@@ -1,7 +1,6 @@
 -- Where the transactions of a chain stand, by its lists.
-use Rattle.std.proofs.Common.{◌≡◌, inl, inr, ℕ, zero, suc, ◌+◌, ◌-◌, ◌*◌, ◌<◌, ◌≤◌, ◌==◌, Bool, true, false, cond, List, [], ◌∷◌, ◌++◌, length, map, filter, get_or, slice_get, count_by, Option, None, Some, option_map, option_and_then, refl, ap, ap₂, lit<, sym, subst, ◌∙◌, arith}
+use Rattle.std.proofs.Common.{◌≡◌, inl, inr, ℕ, zero, suc, ◌+◌, ◌-◌, ◌<◌, ◌≤◌, List, [], ◌∷◌, ◌++◌, length, map, filter, get_or, slice_get, Option, None, Some, option_map, option_and_then, refl, ap, ap₂, lit<, sym, subst, ◌∙◌, arith}
 use Rattle.std.proofs.lemmas.Bool.{cases_Bool, cases_lt}
-use Rattle.std.proofs.lemmas.List.{length-map}
 use Rattle.std.proofs.lemmas.List.Sums.{length-filter}
 use Rattle.std.specs.Option.{option_or}
 use Rattle.el_base.specs.declared.hash.Hash32.{Hash32}
@@ -14,7 +13,7 @@ use Rattle.el_chain.specs.declared.node.Spot.{Spot}
 use Rattle.el_chain.specs.Chains.{Chain}
 use Rattle.el_chain.specs.Coins.{coins_after, coins_after_all}
 use Rattle.el_chain.specs.Headers.{same_hash}
-use Rattle.el_chain.specs.History.{Position, positions_in, first_start, block_positions, positions_from, positions}
+use Rattle.el_chain.specs.History.{Position, positions_in, first_start, positions_from, positions}
 use Rattle.el_chain.specs.RowCounts.{spending_inputs}
 use Rattle.el_model.specs.Queries as asked
 use Rattle.el_tables.specs.Disconnecting.{last}

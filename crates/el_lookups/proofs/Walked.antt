@@ -1,5 +1,5 @@
 -- The rows of transactions along a bucket.
-use Rattle.std.proofs.Common.{◌≡◌, ℕ, ◌+◌, ◌<◌, List, length, map, take, get_or, slice_get, Option, None, Some, option_map, ap, sym, ◌∙◌, arith}
+use Rattle.std.proofs.Common.{◌≡◌, ℕ, List, length, map, take, get_or, slice_get, Some, option_map, ap, sym, ◌∙◌, arith}
 use Rattle.std.proofs.lemmas.List.{get_or-map, take-map, length-map, length-take-le}
 use Rattle.el_base.specs.declared.hash.Hash32.{Hash32}
 use Rattle.el_chain.specs.Chains.{zero_hash}

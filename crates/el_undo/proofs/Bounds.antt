@@ -1,11 +1,10 @@
 -- The sums on the way back: taking an output back lowers the sum of all coins by no more than the output's
 -- value, and giving an input back doesn't lower it.
-use Rattle.std.proofs.Common.{◌≡◌, inl, inr, ℕ, zero, suc, ◌+◌, ◌-◌, ◌<◌, ◌≤◌, ◌^◌, Bool, true, false, List, [], ◌∷◌, ◌++◌, length, map, sum, Option, None, Some, refl, ap, sym, subst, ◌∙◌, arith}
+use Rattle.std.proofs.Common.{◌≡◌, inl, inr, ℕ, zero, suc, ◌+◌, ◌<◌, ◌≤◌, ◌^◌, List, [], ◌∷◌, Option, None, Some, refl, ap, ◌∙◌, arith}
 use Rattle.std.proofs.lemmas.Bool.{cases_Bool}
-use Rattle.std.proofs.lemmas.List.{map-append}
-use Rattle.el_tables.specs.Lists.{ListedOut, ListedEntry, Lists, State, is_unspent, with_state, unspent_sum, balance_of}
-use Rattle.el_tables.specs.Lists.State.{Unspent, Spent, Buried}
-use Rattle.el_tables.specs.Disconnecting.{but_last, last, times, unbury, give_back, buried_at, spent_at, named_before, without_output, take_back_output, unspend, take_back_tx, take_back_entry, take_back_entries, without_entry, is_entry_of}
+use Rattle.el_tables.specs.Lists.{ListedOut, ListedEntry, Lists, State, is_unspent, with_state, unspent_sum}
+use Rattle.el_tables.specs.Lists.State.{Unspent}
+use Rattle.el_tables.specs.Disconnecting.{but_last, last, times, unbury, give_back, buried_at, spent_at, named_before, without_output, take_back_output, unspend, take_back_entry, take_back_entries, without_entry, is_entry_of}
 use Rattle.el_tables.proofs.Sums.{balance_within}
 use Rattle.el_spend.specs.Outputs.{BalancesFit}
 

@@ -1,21 +1,19 @@
 -- The last block's row goes.
-use Rattle.std.proofs.Common.{◌≡◌, ◌≢◌, ℕ, zero, suc, ◌+◌, List, [], ◌∷◌, ◌++◌, length, map, take, refl, ap, sym, subst, ◌∙◌, arith, length-append}
+use Rattle.std.proofs.Common.{◌≡◌, ◌≢◌, ℕ, suc, ◌+◌, List, [], ◌∷◌, ◌++◌, length, map, take, refl, ap, sym, subst, ◌∙◌, arith, length-append}
 use Rattle.std.proofs.lemmas.List.{length-map, take-map}
 use Rattle.el_chain.specs.Chains.{Chain}
 use Rattle.el_chain.specs.Coins.{coins_after_all}
 use Rattle.el_chain.specs.declared.coin.Coin.{Coin}
 use Rattle.el_chain.specs.declared.placed.Placed.{Placed}
 use Rattle.el_tables.specs.ChainLists.{ListedBlock, lists, listed_blocks, listed_blocks_from}
-use Rattle.el_tables.specs.Disconnecting.{but_last}
-use Rattle.el_tables.specs.Tables as typed
-use Rattle.el_tables.specs.Tables.{tables_of, format_1}
+use Rattle.el_tables.specs.Tables.{tables_of}
 use Rattle.el_tables.proofs.UndoneBlocks.{blocks_less}
 use Rattle.el_rows.specs.Changes.{OnTable}
 use Rattle.el_rows.specs.RowBytes.{block_row_bytes, FitsBlockRow}
 use Rattle.el_rows.specs.Tables as held
 use Rattle.el_rows.specs.declared.table.Table.{Table}
 use Rattle.el_rows.specs.declared.table.Table.TheVariants as table
-use Rattle.el_buckets.specs.Rows.{Encode, bytes_of, block_fields}
+use Rattle.el_buckets.specs.Rows.{bytes_of, block_fields}
 use Rattle.el_buckets.proofs.Held.{all_but_last, but_last_at}
 use Rattle.el_stands.specs.Standing.{StandFor, heads_in}
 use Rattle.el_stands.proofs.StandingLemmas.{stands}

@@ -1,9 +1,9 @@
 -- Entries are taken back one after the other.
-use Rattle.std.proofs.Common.{◌≡◌, ℕ, zero, suc, ◌+◌, ◌-◌, ◌<◌, ◌≤◌, Bool, true, false, List, [], ◌∷◌, length, Option, None, Some, refl, ap, sym, subst, ◌∙◌, arith, add-one}
+use Rattle.std.proofs.Common.{◌≡◌, ℕ, suc, ◌+◌, ◌-◌, ◌<◌, ◌≤◌, true, false, List, refl, ap, sym, ◌∙◌, arith, add-one}
 use Rattle.el_tables.specs.ChainLists.{ListedBlock}
 use Rattle.el_tables.specs.Disconnecting.{last, is_entry_of, take_back_entry, take_back_entries, times}
 use Rattle.el_tables.specs.Fits.{IsNumbered}
-use Rattle.el_tables.specs.Lists.{Lists, ListedEntry}
+use Rattle.el_tables.specs.Lists.{Lists}
 use Rattle.el_tables.specs.Tables.{HeadCounts}
 use Rattle.el_rows.specs.Tables as held
 use Rattle.el_buckets.specs.Rows.{Hold}

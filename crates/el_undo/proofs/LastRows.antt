@@ -1,12 +1,10 @@
 -- The last rows of rows that hold lists.
-use Rattle.std.proofs.Common.{◌≡◌, ℕ, zero, suc, ◌+◌, ◌-◌, ◌<◌, ◌==◌, Bool, false, List, [], ◌∷◌, length, map, get_or, slice_get, Option, None, Some, option_map, refl, ap, sym, subst, ◌∙◌, arith, nat_eq}
+use Rattle.std.proofs.Common.{◌≡◌, ℕ, ◌+◌, ◌<◌, false, List, [], ◌∷◌, length, get_or, None, Some, refl, ap, sym, ◌∙◌, arith, nat_eq}
 use Rattle.std.proofs.lemmas.List.{length-map}
-use Rattle.el_base.specs.declared.hash.Hash32.{Hash32}
 use Rattle.el_tables.specs.ChainLists.{ListedBlock}
 use Rattle.el_tables.specs.Disconnecting.{last, is_entry_of}
 use Rattle.el_tables.specs.Lists.{ListedTx, ListedEntry, Lists}
-use Rattle.el_tables.specs.Tables as typed
-use Rattle.el_tables.specs.Tables.{HeadCounts, rows_from, tx_row, entry_row, tables_of}
+use Rattle.el_tables.specs.Tables.{HeadCounts, rows_from, tx_row, entry_row}
 use Rattle.el_tables.proofs.RowLists.{length_rows, rows_at}
 use Rattle.el_rows.specs.RowBytes.{tx_row_bytes, entry_row_bytes, block_row_bytes, FitsTxRow, FitsEntryRow, FitsBlockRow}
 use Rattle.el_rows.specs.Tables as held
@@ -16,8 +14,8 @@ use Rattle.el_rows.specs.declared.table.Table.TheVariants as table
 use Rattle.el_rows.specs.declared.tx_row.TxRow.{TxRow}
 use Rattle.el_buckets.specs.Rows.{Hold, tx_fields, entry_fields, block_fields, listed_tx}
 use Rattle.el_buckets.proofs.Held.{count_txs, last_at, no_tx}
-use Rattle.el_spend.proofs.OlderWalks.{listed_row, row_within}
-use Rattle.el_spend.proofs.Rows.{read_at, found_at, found_within}
+use Rattle.el_spend.proofs.OlderWalks.{listed_row}
+use Rattle.el_spend.proofs.Rows.{read_at, found_at}
 
 module _ (counts : HeadCounts) (bs : List ListedBlock) (l : Lists) (rows : held.Tables) (hold : Hold counts bs l rows) where
   pub count_entries : length (rows table.Entries) ≡ length l.entries

@@ -1,28 +1,27 @@
 -- The transactions of a good chain's last block can be taken back one after the other.
-use Rattle.std.proofs.Common.{◌≡◌, ◌⊎◌, inl, inr, ℕ, zero, suc, ◌+◌, ◌-◌, ◌<◌, ◌≤◌, ◌^◌, Bool, true, false, List, [], ◌∷◌, ◌++◌, length, map, sum_by, nat_lt, Option, None, Some, refl, ap, sym, subst, ◌∙◌, arith, append_assoc, append-nil}
+use Rattle.std.proofs.Common.{◌≡◌, ◌⊎◌, inl, inr, ℕ, ◌+◌, ◌-◌, ◌<◌, ◌≤◌, ◌^◌, Bool, true, false, List, [], ◌∷◌, ◌++◌, length, map, nat_lt, None, Some, refl, ap, sym, subst, ◌∙◌, arith, append_assoc, append-nil}
 use Rattle.std.specs.List.{AllByRecursion}
-use Rattle.std.proofs.lemmas.Bool.{cases_Bool, cases_lt, ltb-false}
-use Rattle.std.proofs.lemmas.List.{map-append, length-map}
+use Rattle.std.proofs.lemmas.Bool.{cases_lt, ltb-false}
 use Rattle.std.proofs.lemmas.List.Sums.{sum_by-cons}
 use Rattle.el_base.specs.declared.hash.Hash32.{Hash32}
 use Rattle.el_tx.specs.declared.types.Tx.{Tx}
 use Rattle.el_tx.specs.declared.types.TxOut.{TxOut}
-use Rattle.el_tx.specs.Encoding.{max_money, total_value, HasEncoding, IsLawful, Encodes, stripped, with_witness}
+use Rattle.el_tx.specs.Encoding.{max_money, total_value, HasEncoding, stripped, with_witness}
 use Rattle.el_tx.specs.Hashing.{full_encoding, txid}
 use Rattle.el_chain.specs.RowCounts.{spending_inputs}
 use Rattle.el_chain.specs.declared.placed.Placed.{Placed}
 use Rattle.el_chain.specs.declared.coin.Coin.{Coin}
 use Rattle.el_chain.specs.declared.fault.ConnectFault.TheVariants as refusal
 use Rattle.el_chain.specs.Chains.{Chain}
-use Rattle.el_chain.specs.Coins.{coins_after, coins, supply, coin_made}
+use Rattle.el_chain.specs.Coins.{coins_after, supply}
 use Rattle.el_chain.specs.CoinLaws.{makes, coins_made}
-use Rattle.el_chain.specs.Faults.{missing_input, missing_fault, money_fault, full_fault, position_fault, first_fault, IsNext, AreNext, IsGood}
+use Rattle.el_chain.specs.Faults.{missing_input, missing_fault, money_fault, position_fault, first_fault, IsGood}
 use Rattle.el_chain.specs.History.{Position, positions_in, block_positions, positions, first_start}
 use Rattle.el_chain.proofs.GoodChains.{first_none, second_none}
 use Rattle.el_chain.proofs.Tallies.{positions_more}
 use Rattle.el_tables.specs.Lists.{ListedTx, ListedOut, Lists, unspent_sum}
 use Rattle.el_tables.specs.ChainLists.{Output, output, outputs, listed_out, scripts_of, listed_position, txs_from, lists_of, lists}
-use Rattle.el_tables.specs.Disconnecting.{but_last, last, times, take_back_output, unspend, take_back_tx, take_back_entries, disconnect_tx, disconnect_txs}
+use Rattle.el_tables.specs.Disconnecting.{but_last, last, times, take_back_output, unspend, take_back_tx, take_back_entries, disconnect_tx}
 use Rattle.el_tables.proofs.Connects.{next_position}
 use Rattle.el_tables.proofs.Disconnects.{disconnects_one}
 use Rattle.el_tables.proofs.FitLemmas.{positions_numbered}
@@ -31,7 +30,7 @@ use Rattle.el_tables.proofs.Outputs.{coins_of, coins_step, chain_coins, moved_ou
 use Rattle.el_tables.proofs.TakeBack.{last_is}
 use Rattle.el_tables.proofs.UndoneBlocks.{disconnects_txs, good_front, good_before}
 use Rattle.el_tables.proofs.WholeBlocks.{map_none, missing_is, all_held_is}
-use Rattle.el_undo.specs.within.Undone.{FitAfter, CanUndo, CanUndoAll}
+use Rattle.el_undo.specs.within.Undone.{CanUndo, CanUndoAll}
 use Rattle.el_undo.proofs.Bounds.{all_values, outputs_back, outputs_less, inputs_back, inputs_same, entries_keep, fit_below}
 
 -- 1. Values

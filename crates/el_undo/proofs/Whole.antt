@@ -1,14 +1,13 @@
 -- A whole transaction, and a whole block.
-use Rattle.std.proofs.Common.{◌≡◌, ◌≢◌, ℕ, zero, suc, ◌+◌, ◌-◌, ◌<◌, List, [], ◌∷◌, ◌++◌, length, map, Option, None, Some, option_map, refl, ap, sym, subst, ◌∙◌, arith, length-append}
+use Rattle.std.proofs.Common.{◌≡◌, ℕ, zero, suc, ◌+◌, ◌-◌, ◌<◌, List, [], ◌∷◌, ◌++◌, length, Option, None, Some, option_map, refl, ap, sym, subst, ◌∙◌, arith, length-append}
 use Rattle.std.proofs.lemmas.List.{length-map}
-use Rattle.el_base.specs.declared.hash.Hash32.{Hash32}
 use Rattle.el_chain.specs.Chains.{Chain}
 use Rattle.el_chain.specs.Faults.{IsGood}
 use Rattle.el_chain.specs.declared.placed.Placed.{Placed}
-use Rattle.el_tables.specs.ChainLists.{ListedBlock, listed_block, lists, listed_blocks}
+use Rattle.el_tables.specs.ChainLists.{listed_block, lists, listed_blocks}
 use Rattle.el_tables.specs.Disconnecting.{but_last, last, times, take_back_output, unspend, take_back_tx, take_back_entries, disconnect_tx, disconnect_txs, without_output}
 use Rattle.el_tables.specs.Fits.{IsNumbered}
-use Rattle.el_tables.specs.Lists.{ListedTx, ListedOut, ListedEntry, Lists, unspent_sum}
+use Rattle.el_tables.specs.Lists.{ListedTx, ListedOut, Lists, unspent_sum}
 use Rattle.el_tables.specs.Tables.{HeadCounts, format_1}
 use Rattle.el_tables.proofs.TakeBack.{last_is}
 use Rattle.el_tables.proofs.UndoneBlocks.{blocks_more, disconnects, good_before}
@@ -17,7 +16,7 @@ use Rattle.el_rows.specs.declared.table.Table.TheVariants as table
 use Rattle.el_rows.specs.declared.tx_row.TxRow.{TxRow}
 use Rattle.el_rows.specs.RowBytes.{block_row_bytes}
 use Rattle.el_buckets.specs.Rows.{Hold, listed_tx, block_fields}
-use Rattle.el_stands.specs.Standing.{StandFor, heads_in}
+use Rattle.el_stands.specs.Standing.{heads_in}
 use Rattle.el_undo.specs.within.Undone.{LacksTxs}
 use Rattle.el_undo.proofs.Dropped.{blocks_long}
 

@@ -1,22 +1,18 @@
 -- The chain that a turn leaves, as one that is in flight until the turn is told.
-use Rattle.std.proofs.Common.{◌≡◌, inl, inr, ℕ, List, [], ◌∷◌, ◌++◌, refl, ap, ◌∙◌, Option, Some, None, Bool, true, false, nat_lt, length}
+use Rattle.std.proofs.Common.{◌≡◌, inl, inr, ℕ, List, [], ◌∷◌, ◌++◌, refl, ap, Option, Some, None, Bool, true, false, nat_lt, length}
 use Rattle.std.specs.Prelude.{find, MatchBool}
 use Rattle.el_base.specs.declared.hash.Hash32.{Hash32}
-use Rattle.el_outside.specs.Files.{AllGrow}
 use Rattle.el_outside.proofs.Stories.{all_grow_none}
-use Rattle.el_chain.specs.Chains.{Chain}
-use Rattle.el_chain.specs.declared.moves.Plan.{Plan}
 use Rattle.el_chain.specs.declared.node.Node.{Node}
 use Rattle.el_chain.specs.Headers.{IsPath}
-use Rattle.el_chain.specs.Moves.{InFlight}
-use Rattle.el_model.specs.Lines.{LineEvent, line, too_long}
+use Rattle.el_model.specs.Lines.{line, too_long}
 use Rattle.el_model.specs.NodeLines.{NodeLine, ReadsNodeLine, block, tip, tx, dropped}
-use Rattle.el_model.specs.Plans.{plan_of, back_of, rest_of}
+use Rattle.el_model.specs.Plans.{plan_of}
 use Rattle.el_model.specs.Sessions.{Session}
-use Rattle.el_model.specs.World.{World, Event, joins, leaves, says, orders, Outs, Takes, Orders, Moving, commits, refuses, Tips, unknown, unconnected, along, GoesAlong, deep, there, moves, Replied, is_peer, is_client, IsBusy, IsSaid, nothing, with_client, without_client, closes_surplus, closes_long, client_limit}
+use Rattle.el_model.specs.World.{World, Event, joins, leaves, says, orders, Outs, Takes, Orders, Moving, commits, refuses, Tips, unknown, unconnected, along, GoesAlong, deep, there, moves, Replied, is_peer, is_client, IsSaid, nothing, with_client, without_client, closes_surplus, closes_long, client_limit}
 use Rattle.el_model.specs.Run.{Loss, OneTurn, takes, works, fails, departs, Fails, in_block, in_first_move, in_later_move, in_request}
 use Rattle.el_model.proofs.Cuts.{either}
-use Rattle.el_core.specs.Turn.{IsUnderWay, before, in_move, IsMoveOf, later, first}
+use Rattle.el_core.specs.Turn.{before, in_move, IsMoveOf, later, first}
 use Rattle.electrum_serve.specs.Crash.{IsInFlight}
 
 -- the chain stays

@@ -1,18 +1,15 @@
 -- Lives follow each other.
-use Rattle.std.proofs.Common.{Bool, true, ◌≡◌, inl, inr, ℕ, List, [], ◌∷◌, refl, arith, length}
-use Rattle.std.specs.Prelude.{◌⊎◌}
+use Rattle.std.proofs.Common.{Bool, true, ◌≡◌, inl, inr, ℕ, List, [], ◌∷◌, refl, arith}
 use Rattle.std.specs.List.{AllByRecursion}
 use Rattle.el_outside.specs.declared.archive.Archive as archive
 use Rattle.el_outside.specs.declared.disk.Disk as disk
 use Rattle.el_outside.specs.declared.link.Link as link
 use Rattle.el_outside.specs.Disk.{Image}
-use Rattle.el_outside.specs.Moments.{LeftNow}
 use Rattle.el_chain.specs.Chains.{Chain}
 use Rattle.el_journal.specs.declared.mark.TheConstants.{JOURNAL}
 use Rattle.el_model.specs.World.{World}
 use Rattle.el_model.specs.Run.{Loss, Stop}
-use Rattle.el_rows.specs.Reads.{Same}
-use Rattle.el_logstore.specs.Images.{Shows, no_rows}
+use Rattle.el_logstore.specs.Images.{no_rows}
 use Rattle.el_rows.specs.declared.table.Table.{Table}
 use Rattle.el_rows.specs.declared.table.Table.TheVariants as table
 use Rattle.el_tables.specs.ChainLists.{lists, listed_blocks}
@@ -20,10 +17,10 @@ use Rattle.el_tables.specs.Tables.{tables_of}
 use Rattle.el_buckets.specs.Rows.{bytes_of}
 use Rattle.el_stands.specs.Standing.{StandFor, heads_in}
 use Rattle.el_stands.proofs.StandingLemmas.{stands}
-use Rattle.el_words.specs.Commands.{IsServe, IsNoCommand, IsOnce}
+use Rattle.el_words.specs.Commands.{IsServe}
 use Rattle.electrum_serve.specs.Crash.{ImageMeans, LeavesOneOf, IsIndexDisk, acked}
-use Rattle.electrum_serve.specs.Ends.{Ends, usage, serve, once, IndexEnds, UnopenedEnds, ServeEnds, IsServed}
-use Rattle.electrum_serve.specs.Lives.{Life, LifeEnds, IsCall, IsLeftBy, AreLives, GoOn, none, one}
+use Rattle.electrum_serve.specs.Ends.{serve, IndexEnds, UnopenedEnds, ServeEnds, IsServed}
+use Rattle.electrum_serve.specs.Lives.{Life, LifeEnds, IsCall, AreLives, GoOn, none, one}
 use Rattle.electrum_serve.specs.Runs.{Counts, Traffic, RunEnds, IsRun, IsHalted}
 use Rattle.electrum_serve.specs.declared.status.Status.{Status}
 use Rattle.electrum_serve.specs.declared.status.Status.TheVariants as status

@@ -1,6 +1,6 @@
 -- Counts of failed calls, whatever the devices tell.
 use Rattle.std.proofs.Common.{◌≡◌, ◌≢◌, inl, inr, ℕ, ◌+◌, ◌<◌, ◌≤◌, List, refl, arith, Result, Ok, Err}
-use Rattle.std.specs.Prelude.{◌⊎◌, IsErrOf, OnOk}
+use Rattle.std.specs.Prelude.{◌⊎◌, IsErrOf}
 use Rattle.el_outside.specs.Counts.{RoseBy, OnlyReads, CountsOnly}
 use Rattle.el_outside.specs.declared.link.Why.{Why}
 use Rattle.el_outside.specs.declared.link.SendFault.{SendFault}
@@ -9,7 +9,7 @@ use Rattle.el_outside.proofs.Stories.{rose_more}
 use Rattle.el_core.specs.declared.fault.StepFault.{StepFault}
 use Rattle.el_core.specs.declared.fault.StepFault.TheVariants as step
 use Rattle.el_core.specs.Turn as turn
-use Rattle.electrum_serve.specs.Runs.{Counts, Faults, faults, HasRisen, IsCaused}
+use Rattle.electrum_serve.specs.Runs.{Faults, faults, HasRisen, IsCaused}
 use Rattle.electrum_serve.specs.Ends.{IsUnserved, IsOpenedEnd, IsUnopened}
 use Rattle.electrum_serve.specs.declared.file.FileFault.{FileFault}
 use Rattle.electrum_serve.specs.declared.file.FileFault.TheVariants as file

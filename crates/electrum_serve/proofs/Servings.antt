@@ -2,7 +2,6 @@
 use Rattle.std.proofs.Common.{◌≡◌, ◌≢◌, inl, inr, ℕ, List, [], ◌++◌, ◌∙◌, refl, sym, Bool, true, arith}
 use Rattle.std.specs.Prelude.{◌⊎◌, Err}
 use Rattle.el_outside.specs.Counts.{RoseBy, OnlyReads, CountsOnly}
-use Rattle.el_outside.specs.Files.{AllGrow}
 use Rattle.el_outside.proofs.Stories.{rose_none}
 use Rattle.el_chain.specs.declared.node.Node.{Node}
 use Rattle.el_chain.specs.Chains.{Chain}
@@ -21,7 +20,6 @@ use Rattle.electrum_serve.specs.declared.opening.StartFault.{StartFault}
 use Rattle.electrum_serve.specs.declared.opening.StartFault.TheVariants as start
 use Rattle.electrum_serve.specs.declared.status.Status.{Status}
 use Rattle.electrum_serve.specs.declared.status.Status.TheVariants as status
-use Rattle.el_words.specs.declared.words.Command.TheVariants as command
 use Rattle.el_words.specs.declared.words.Network.{Network}
 use Rattle.el_words.specs.declared.words.Network.TheVariants as network
 

@@ -1,5 +1,5 @@
 -- Whether the block files are those of another chain than the index's.
-use Rattle.std.specs.Prelude.{ℕ, List, [], ◌∷◌, Bool, false, not, ◌&&◌}
+use Rattle.std.specs.Prelude.{List, [], ◌∷◌, Bool, false, not, ◌&&◌}
 use Rattle.std.specs.List.{list_any}
 use Rattle.el_base.specs.declared.hash.Hash32.{Hash32}
 use Rattle.el_chain.specs.declared.node.Node.{Node}

@@ -1,5 +1,5 @@
 -- What holds of an index that stands for a chain.
-use Rattle.std.specs.Prelude.{◌≡◌, ℕ, zero, suc, ◌+◌, List, [], ◌∷◌, length, map, Option, None, Some}
+use Rattle.std.specs.Prelude.{◌≡◌, ℕ, suc, ◌+◌, List, [], ◌∷◌, length, Option}
 use Rattle.std.proofs.Common.{ap, sym, ◌∙◌, refl}
 use Rattle.std.proofs.lemmas.List.{length-map}
 use Rattle.el_base.specs.declared.hash.Hash32.{Hash32}
@@ -11,7 +11,7 @@ use Rattle.el_model.specs.Queries.{height_of, tip_of}
 use Rattle.el_rows.specs.Tables.{Tables}
 use Rattle.el_rows.specs.RowBytes.{block_row_bytes}
 use Rattle.el_rows.specs.declared.table.Table.TheVariants as table
-use Rattle.el_tables.specs.ChainLists.{listed_blocks, listed_blocks_from}
+use Rattle.el_tables.specs.ChainLists.{listed_blocks_from}
 use Rattle.el_buckets.specs.Rows.{block_fields}
 use Rattle.el_stands.specs.Standing.{StandFor}
 use Rattle.el_index.specs.Means.{top, IsIndexOf, Means}

@@ -1,4 +1,4 @@
-use Rattle.std.proofs.Common.{◌≡◌, ◌∙◌, ap, sym, arith}
+use Rattle.std.proofs.Common.{◌∙◌, ap, sym, arith}
 use Rattle.el_rows.specs.Transaction.{tables_in}
 use Rattle.el_rows.specs.declared.script_row.ScriptRow.{ScriptRow}
 use Rattle.el_tables.specs.ChainLists.{lists, listed_blocks}

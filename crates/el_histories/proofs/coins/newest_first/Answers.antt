@@ -1,4 +1,4 @@
-use Rattle.std.proofs.Common.{◌≡◌, ◌<◌, ◌≤◌, ◌+◌, ℕ, List, [], Option, Some, None, length, take, filter, get_or, reverse, flat_map, sum_by, slice_get, ap, ap₂, sym, ◌∙◌, refl, subst, arith, eqb-true}
+use Rattle.std.proofs.Common.{◌≡◌, ◌≤◌, ◌+◌, ℕ, List, Option, length, take, filter, get_or, reverse, flat_map, sum_by, slice_get, ap, ap₂, sym, ◌∙◌, refl, subst, arith, eqb-true}
 use Rattle.el_base.specs.declared.hash.Hash32.{Hash32}
 use Rattle.el_chain.specs.declared.coin.Coin.{Coin}
 use Rattle.el_rows.specs.Tables.{Tables}

@@ -10,9 +10,8 @@ use Rattle.el_tables.specs.Lists.{Lists}
 use Rattle.el_tables.specs.Tables.{HeadCounts, tables_of, bucket_in, greatest}
 use Rattle.el_tables.proofs.Scripts.{hash_gives}
 use Rattle.el_buckets.specs.Rows.{Hold}
-use Rattle.el_buckets.specs.Buckets.{share_bucket, newest_of}
+use Rattle.el_buckets.specs.Buckets.{share_bucket}
 use Rattle.el_buckets.proofs.Walks.{IsWalk, end_of, walk_begins, walk_on, walk_found, walk_ends, rows_within, rows_on, in_own_bucket, greatest_passes, end_below}
-use Rattle.el_histories.specs.within.Found.{HasHeads, script_in}
 use Rattle.el_histories.proofs.Scripts.{script_found_at, less_than, in_by_number, in_none}
 use Rattle.el_histories.proofs.finding.found_script.Goals as goal
 

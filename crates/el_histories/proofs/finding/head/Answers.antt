@@ -1,4 +1,4 @@
-use Rattle.std.proofs.Common.{◌≡◌, ◌∙◌, ◌<◌, ap, sym, get_or, [], length, arith}
+use Rattle.std.proofs.Common.{◌∙◌, ◌<◌, ap, get_or, [], length, arith}
 use Rattle.el_rows.specs.Tables.{Tables}
 use Rattle.el_rows.specs.Transaction.{tables_in}
 use Rattle.el_rows.specs.declared.table.Table.TheVariants as table

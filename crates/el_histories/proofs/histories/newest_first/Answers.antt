@@ -1,4 +1,4 @@
-use Rattle.std.proofs.Common.{◌≡◌, ◌<◌, ◌≤◌, ◌+◌, ℕ, List, [], Option, Some, None, length, take, filter, get_or, reverse, flat_map, sum_by, ap, sym, ◌∙◌, refl, subst, arith, eqb-true}
+use Rattle.std.proofs.Common.{◌≡◌, ◌≤◌, ◌+◌, ℕ, List, Option, length, take, filter, get_or, reverse, flat_map, sum_by, ap, sym, ◌∙◌, refl, subst, arith, eqb-true}
 use Rattle.el_rows.specs.Tables.{Tables}
 use Rattle.el_rows.specs.Transaction.{tables_in}
 use Rattle.el_rows.specs.declared.table.Table.TheVariants as table

@@ -1,4 +1,4 @@
-use Rattle.std.proofs.Common.{◌≡◌, ◌∙◌, ◌++◌, List, sym, ap, arith}
+use Rattle.std.proofs.Common.{◌∙◌, ◌++◌, List, sym, ap, arith}
 use Rattle.el_chain.specs.declared.entry.Entry.{Entry}
 use Rattle.el_rows.specs.Transaction.{tables_in}
 use Rattle.el_tables.specs.Tables.{tables_of}

@@ -1,10 +1,6 @@
-use Rattle.std.proofs.Common.{◌≡◌, ◌+◌, ◌-◌, length, drop, ◌∙◌, refl, sym, ap, subst, arith}
+use Rattle.std.proofs.Common.{◌+◌, ◌-◌, length, drop, ◌∙◌, refl, arith}
 use Rattle.el_rows.proofs.ReadsLemmas.{read_none, read_joined}
-use Rattle.el_chain.specs.Chains.{Chain}
 use Rattle.el_chain.specs.Moves.{shorter}
-use Rattle.el_rows.specs.Transaction.{tables_in}
-use Rattle.el_stands.specs.Standing.{StandFor}
-use Rattle.el_index.specs.within.Adding.{AreAdded}
 use Rattle.el_index.proofs.Touchings.{added_none, added_before, last_is, none_taken, none_gone}
 use Rattle.el_index.proofs.blocks_back.take_back.Goals as goal
 

@@ -1,4 +1,4 @@
-use Rattle.std.proofs.Common.{◌≡◌, ◌⊎◌, ◌+◌, ◌++◌, ◌∷◌, [], ◌∙◌, refl, sym, ap, arith}
+use Rattle.std.proofs.Common.{◌⊎◌, ◌++◌, ◌∷◌, [], ◌∙◌, refl, arith}
 use Rattle.std.proofs.lemmas.Result.{err_from_is_err_and}
 use Rattle.el_rows.proofs.ReadsLemmas.{read_none, read_joined}
 use Rattle.el_rows.specs.Transaction.{tables_in}

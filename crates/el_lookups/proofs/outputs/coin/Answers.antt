@@ -3,7 +3,6 @@ use Rattle.el_rows.specs.Transaction.{tables_in}
 use Rattle.el_stands.proofs.StandingLemmas.{holds}
 use Rattle.el_stands.specs.Standing.{heads_in}
 use Rattle.el_tables.specs.ChainLists.{lists, listed_blocks}
-use Rattle.el_tables.specs.Tables.{tables_of}
 use Rattle.el_buckets.specs.Rows.{Hold}
 use Rattle.el_position.proofs.Answered.{if_ok}
 use Rattle.el_lookups.proofs.Outpoints.{coin_told, gone_told, none_told, parts_there}

@@ -1,4 +1,4 @@
-use Rattle.std.proofs.Common.{◌≡◌, ◌≤◌, length, arith}
+use Rattle.std.proofs.Common.{◌≤◌, length, arith}
 use Rattle.el_rows.specs.Transaction.{tables_in}
 use Rattle.el_tables.specs.Tables.{tables_of}
 use Rattle.el_buckets.proofs.Held.{count_txs}

@@ -1,4 +1,4 @@
-use Rattle.std.proofs.Common.{◌≡◌, ap, sym, subst, ◌∙◌}
+use Rattle.std.proofs.Common.{sym, subst, ◌∙◌}
 use Rattle.el_rows.specs.Transaction.{tables_in}
 use Rattle.el_stands.proofs.StandingLemmas.{holds}
 use Rattle.el_stands.specs.Standing.{heads_in}

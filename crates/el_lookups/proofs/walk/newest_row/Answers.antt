@@ -1,11 +1,10 @@
-use Rattle.std.proofs.Common.{◌≡◌, ◌<◌, ◌≤◌, ◌+◌, ◌^◌, ℕ, Option, Some, None, map, take, ap, sym, ◌∙◌, refl, subst, arith, count_by, eqb-true, ◌==◌, option_map}
+use Rattle.std.proofs.Common.{◌≡◌, ◌<◌, ◌≤◌, ◌+◌, ℕ, Option, Some, None, map, take, ap, sym, ◌∙◌, refl, subst, arith, count_by, eqb-true, ◌==◌}
 use Rattle.std.specs.Option.{ForSome}
 use Rattle.el_base.specs.declared.hash.Hash32.{Hash32}
 use Rattle.el_chain.specs.Chains.{zero_hash}
 use Rattle.el_chain.specs.Headers.{same_hash}
 use Rattle.el_rows.specs.Transaction.{tables_in}
 use Rattle.el_rows.proofs.ReadsLemmas.{read_joined}
-use Rattle.el_tables.specs.ChainLists.{ListedBlock}
 use Rattle.el_tables.specs.Lists.{Lists}
 use Rattle.el_tables.specs.Tables.{HeadCounts, bucket_in, greatest, tables_of}
 use Rattle.el_buckets.specs.Rows.{Hold}

@@ -1,6 +1,5 @@
-use Rattle.std.proofs.Common.{◌≡◌, ◌≤◌, ◌+◌, ◌-◌, ◌++◌, ◌∷◌, [], ℕ, length, subst, sym, ap, ◌∙◌, arith}
+use Rattle.std.proofs.Common.{◌++◌, ◌∷◌, [], ℕ, subst, sym, arith}
 use Rattle.el_rows.specs.Transaction.{tables_in}
-use Rattle.el_rows.specs.declared.table.Table.TheVariants as table
 use Rattle.el_tables.specs.ChainLists.{lists, listed_blocks}
 use Rattle.el_buckets.specs.Rows.{Hold}
 use Rattle.el_stands.specs.Standing.{heads_in}

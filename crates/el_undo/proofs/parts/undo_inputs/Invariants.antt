@@ -1,4 +1,4 @@
-use Rattle.std.proofs.Common.{◌≡◌, ◌≢◌, ◌<◌, ◌≤◌, ℕ, List}
+use Rattle.std.proofs.Common.{◌≡◌, ◌≢◌, ◌≤◌, List}
 use Rattle.el_rows.specs.Transaction.{tables_in, OnlyReads}
 use Rattle.el_rows.specs.declared.table.Table.{Table}
 use Rattle.el_rows.specs.declared.table.Table.TheVariants as table

@@ -1,5 +1,4 @@
 use Rattle.std.proofs.Common.{sym, ap, subst}
-use Rattle.el_rows.specs.Transaction.{tables_in}
 use Rattle.el_tables.specs.Lists.{ListedTx}
 use Rattle.el_buckets.specs.Rows.{Hold}
 use Rattle.el_undo.proofs.Whole.{row_is, none_is_not}

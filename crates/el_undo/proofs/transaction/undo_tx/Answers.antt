@@ -1,6 +1,5 @@
-use Rattle.std.proofs.Common.{◌≡◌, ◌≤◌, ◌-◌, ℕ, length, subst, sym, ap, ◌∙◌, arith, OnOk}
+use Rattle.std.proofs.Common.{◌≡◌, ◌-◌, ℕ, length, subst, arith, OnOk}
 use Rattle.el_rows.specs.Transaction.{tables_in}
-use Rattle.el_rows.specs.declared.table.Table.TheVariants as table
 use Rattle.el_tables.specs.Disconnecting.{times, take_back_output, unspend, take_back_entries}
 use Rattle.el_tables.specs.Lists.{Lists}
 use Rattle.el_buckets.specs.Rows.{Hold}

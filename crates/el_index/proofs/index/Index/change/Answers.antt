@@ -1,14 +1,11 @@
-use Rattle.std.proofs.Common.{◌≡◌, ◌⊎◌, inl, inr, refl, sym, ap, ◌∙◌}
-use Rattle.std.proofs.lemmas.Result.{err_from_is_err_and}
+use Rattle.std.proofs.Common.{inl, inr, refl, ap, ◌∙◌}
 use Rattle.el_rows.specs.Changes.{under}
 use Rattle.el_rows.specs.Tables.{Tables}
 use Rattle.el_rows.specs.Transaction.{tables_in}
-use Rattle.el_rows.proofs.ReadsLemmas.{read_joined, read_same}
-use Rattle.el_chain.specs.Moves.{FaultInAt, shorter, target}
-use Rattle.el_chain.proofs.CoinSteps.{err_passed}
-use Rattle.el_index.specs.within.Adding.{IsOwn}
+use Rattle.el_rows.proofs.ReadsLemmas.{read_joined}
+use Rattle.el_chain.specs.Moves.{target}
 use Rattle.el_stands.proofs.StandingLemmas.{same_stand}
-use Rattle.el_index.proofs.Kept.{only_read, begun, not_committed}
+use Rattle.el_index.proofs.Kept.{only_read, begun}
 use Rattle.el_index.proofs.Targets.{moved_rows, tip_moved}
 use Rattle.el_index.proofs.index.Index.change.Goals as goal
 

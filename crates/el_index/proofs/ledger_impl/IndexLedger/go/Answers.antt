@@ -1,11 +1,7 @@
-use Rattle.std.proofs.Common.{◌≡◌, refl, ap, sym, ◌∙◌, Err}
+use Rattle.std.proofs.Common.{refl, ap, ◌∙◌, Err}
 use Rattle.std.proofs.lemmas.Result.{err_from_is_err_and}
-use Rattle.el_outside.proofs.Calls.{has_one, reads_ok, reads_other}
-use Rattle.el_rows.proofs.ReadsLemmas.{read_none}
-use Rattle.el_chain.specs.Moves.{target, IsRefused}
-use Rattle.el_chain.proofs.CoinSteps.{err_passed}
-use Rattle.el_index.proofs.Kept.{quiet, lifted}
-use Rattle.el_index.proofs.Targets.{same_fault, refused_is, flies, touched_once}
+use Rattle.el_index.proofs.Kept.{lifted}
+use Rattle.el_index.proofs.Targets.{same_fault, flies, touched_once}
 use Rattle.el_index.proofs.ledger_impl.IndexLedger.go.Goals as goal
 
 pub returns-in_err-tip-clause-crash_failed : goal.returns-in_err-tip-clause-crash_failed
