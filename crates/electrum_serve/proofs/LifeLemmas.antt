@@ -78,7 +78,8 @@ module _ (P : Chain → Chain → Type 0) where
   with_more : {Q R : (Chain → Chain → Type 0) → Type 0}
       → ((X : Chain → Chain → Type 0) → Q X → R X) → Pinned P Q → Pinned P R
   with_more more k =
-      record { acked = k.acked; flight = k.flight; leaves = k.leaves; ends = more (these k.acked k.flight) k.ends }
+      let ends = more (these k.acked k.flight) k.ends in
+      record { acked = k.acked; flight = k.flight; leaves = k.leaves; ends = ends }
 
   ends_pinned : (tells : Type 0) (first : World) (node : Bool) (files : ℕ → List ℕ) (c : Counts) (t : Traffic)
       (s : Status) → RunEnds tells first node P files c t s
@@ -185,7 +186,8 @@ module _ {D A K : Type 0} (of_disk : disk.Ghosts D) (of_files : archive.Ghosts A
       (λ image now. left image (are.0.images image now)) in
       elim (left (of_disk.seen l.disk) are.0.reads) [
         | inl means ↦
-            let e = ended l was flight was serve'.0 (record { told = told; left = here; reads = means }) calls.0 in
+            let e = ended l was flight was serve'.0 (record { told = told; left = here; reads = means })
+            calls.0 in
             one was flight l more was e.acked e.in_flight (inl refl) e.ends
             (lives_go l.disk_after e.acked e.in_flight more told e.leaves are.1 serve'.1 calls.1)
         | inr means ↦

@@ -9,7 +9,7 @@ use Rattle.el_outside.proofs.Stories.{rose_more}
 use Rattle.el_core.specs.declared.fault.StepFault.{StepFault}
 use Rattle.el_core.specs.declared.fault.StepFault.TheVariants as step
 use Rattle.el_core.specs.Turn as turn
-use Rattle.electrum_serve.specs.Runs.{Faults, faults, HasRisen, IsCaused}
+use Rattle.electrum_serve.specs.Runs.{Faults, counts, faults, HasRisen, IsCaused}
 use Rattle.electrum_serve.specs.Ends.{IsUnserved, IsOpenedEnd, IsUnopened}
 use Rattle.electrum_serve.specs.declared.file.FileFault.{FileFault}
 use Rattle.electrum_serve.specs.declared.file.FileFault.TheVariants as file
@@ -62,7 +62,8 @@ pub rises_ok : {T : Type 0} {a b : ℕ} {h : Halt} {x : T} → a ≤ b → Rises
 rises_ok more = record { more = more; rose = λ is. absurd cc }
 
 -- a turn failed
-pub rises_turn : {T : Type 0} (a b c : ℕ) (e : StepFault) (h : Halt) → stop_of h ≡ turn.stop_of e → a ≤ b → b ≤ c
+pub rises_turn : {T : Type 0} (a b c : ℕ) (e : StepFault) (h : Halt) → stop_of h ≡ turn.stop_of e → a ≤ b
+    → b ≤ c
     → (e ≡ step.DiskFailed → RoseBy b c 1) → RisesFor {T = T} a c halt.Disk (Err h)
 rises_turn a b c step.DiskFailed h is more further failed =
     let r = failed refl in record { more = omega arith; rose = λ e. omega arith }
@@ -108,7 +109,7 @@ counted_more n a b c f g h so_far called link archive disk =
 pub caused_end : (turns n a b : ℕ) (f g : Faults) (s : Status) → CountedSoFar n a b f g → n ≤ turns
     → s ≢ status.LinkFailed → s ≢ status.ArchiveFailed → s ≢ status.DiskFailed
     → (s ≡ status.TurnsSpent → n ≡ turns)
-    → IsCaused (record { turns = turns; calls_before = a; calls_after = b; faults_before = f; faults_after = g }) s
+    → IsCaused (counts turns a b f g) s
 caused_end turns n a b f g s so_far few no_link no_archive no_disk spent = record {
   link_more = so_far.link_more;
   archive_more = so_far.archive_more;
@@ -125,7 +126,7 @@ caused_end turns n a b f g s so_far few no_link no_archive no_disk spent = recor
 -- the last call of `next` failed
 pub caused_next : (turns n a b c : ℕ) (f g h : Faults) → CountedSoFar n a b f g → n < turns → RoseBy b c 1
     → RoseBy g.link h.link 1 → h.archive ≡ g.archive → h.disk ≡ g.disk
-    → IsCaused (record { turns = turns; calls_before = a; calls_after = c; faults_before = f; faults_after = h })
+    → IsCaused (counts turns a c f h)
     status.LinkFailed
 caused_next turns n a b c f g h so_far few called link archive disk =
     let l = so_far.link_more in
@@ -147,7 +148,7 @@ caused_next turns n a b c f g h so_far few called link archive disk =
 pub caused_halt : {T : Type 0} (turns n a b c : ℕ) (f g i : Faults) (h : Halt) (r : Result T Halt)
     → CountedSoFar n a b f g → n < turns → RoseBy b c 1 → r ≡ Err h
     → RisesFor g.link i.link halt.Link r → g.archive ≤ i.archive → RisesFor g.disk i.disk halt.Disk r
-    → IsCaused (record { turns = turns; calls_before = a; calls_after = c; faults_before = f; faults_after = i })
+    → IsCaused (counts turns a c f i)
     (status_of h)
 caused_halt turns n a b c f g i h r so_far few called is link archive disk =
     let l = so_far.link_more in
@@ -194,13 +195,7 @@ unserved_caused : (turns calls : ℕ) (f g : Faults) (s : Status) → f.link ≡
     → f.disk ≤ g.disk → s ≢ status.LinkFailed → s ≢ status.TurnsSpent
     → (s ≡ status.ArchiveFailed → HasRisen f.archive g.archive)
     → (s ≡ status.DiskFailed → HasRisen f.disk g.disk)
-    → IsCaused (record {
-      turns = turns;
-      calls_before = calls;
-      calls_after = calls;
-      faults_before = f;
-      faults_after = g;
-    })
+    → IsCaused (counts turns calls calls f g)
     s
 unserved_caused turns calls f g s link archive disk no_link no_turns by_archive by_disk = record {
   link_more = omega arith;
@@ -226,13 +221,7 @@ still a b e = omega arith
 
 -- the words are refused
 pub caused_none : (turns calls : ℕ) (f : Faults)
-    → IsCaused (record {
-      turns = turns;
-      calls_before = calls;
-      calls_after = calls;
-      faults_before = f;
-      faults_after = f;
-    })
+    → IsCaused (counts turns calls calls f f)
     status.Usage
 caused_none turns calls f =
     unserved_caused turns calls f f status.Usage refl (omega arith) (omega arith) (λ e. cc) (λ e. cc)
@@ -243,13 +232,7 @@ pub start_caused : {S T : Type 0} (tells : Type 0) (files files_now : ℕ → Li
     (turns calls of_link low high of_disk now : ℕ) (e : StartFault)
     → OnlyReads {T = S} tells files files_now low high start.ArchiveFailed (Err e)
     → CountsOnly {T = T} of_disk now start.DiskFailed (Err e)
-    → IsCaused (record {
-      turns = turns;
-      calls_before = calls;
-      calls_after = calls;
-      faults_before = faults of_link low of_disk;
-      faults_after = faults of_link high now;
-    })
+    → IsCaused (counts turns calls calls (faults of_link low of_disk) (faults of_link high now))
     (start_status e)
 start_caused tells files files_now turns calls of_link low high of_disk now start.DiskFailed reads counts =
     let d = counts.counted refl in
@@ -262,22 +245,18 @@ start_caused tells files files_now turns calls of_link low high of_disk now star
     (λ e. absurd cc)
 start_caused tells files files_now turns calls of_link low high of_disk now start.OtherChain reads counts =
     unserved_caused turns calls _ _ _ refl (still low high (reads.others_uncounted (λ e. cc)))
-    (still of_disk now (counts.others_uncounted (λ e. cc))) (λ e. cc) (λ e. cc) (λ e. absurd cc) (λ e. absurd cc)
+    (still of_disk now (counts.others_uncounted (λ e. cc))) (λ e. cc) (λ e. cc) (λ e. absurd cc)
+    (λ e. absurd cc)
 start_caused tells files files_now turns calls of_link low high of_disk now start.Memory reads counts =
     unserved_caused turns calls _ _ _ refl (still low high (reads.others_uncounted (λ e. cc)))
-    (still of_disk now (counts.others_uncounted (λ e. cc))) (λ e. cc) (λ e. cc) (λ e. absurd cc) (λ e. absurd cc)
+    (still of_disk now (counts.others_uncounted (λ e. cc))) (λ e. cc) (λ e. cc) (λ e. absurd cc)
+    (λ e. absurd cc)
 
 -- the index isn't open
 pub unopened_caused : (turns calls of_link of_archive low high : ℕ) (s : Status)
     → (s ≡ status.BadIndex) ⊎ ((s ≡ status.DiskFailed) ⊎ (s ≡ status.OutOfMemory))
     → (s ≡ status.DiskFailed → RoseBy low high 1) → (s ≢ status.DiskFailed → high ≡ low)
-    → IsCaused (record {
-      turns = turns;
-      calls_before = calls;
-      calls_after = calls;
-      faults_before = faults of_link of_archive low;
-      faults_after = faults of_link of_archive high;
-    })
+    → IsCaused (counts turns calls calls (faults of_link of_archive low) (faults of_link of_archive high))
     s
 unopened_caused turns calls of_link of_archive low high s is counted uncounted = elim is [
   | inl bad ↦ rw bad (unserved_caused turns calls _ _ status.BadIndex refl (omega arith)
@@ -293,13 +272,7 @@ unopened_caused turns calls of_link of_archive low high s is counted uncounted =
 pub unread_caused : {T : Type 0} (tells : Type 0) (files files_now : ℕ → List ℕ)
     (turns calls of_link low high of_disk : ℕ) (e : FileFault)
     → OnlyReads {T = T} tells files files_now low high file.Failed (Err e)
-    → IsCaused (record {
-      turns = turns;
-      calls_before = calls;
-      calls_after = calls;
-      faults_before = faults of_link low of_disk;
-      faults_after = faults of_link high of_disk;
-    })
+    → IsCaused (counts turns calls calls (faults of_link low of_disk) (faults of_link high of_disk))
     (unread_status e)
 unread_caused tells files files_now turns calls of_link low high of_disk file.Failed reads =
     let a = reads.counted refl in
@@ -314,21 +287,10 @@ unread_caused tells files files_now turns calls of_link low high of_disk file.Ba
 
 -- a count that stays 0 counts no failure, and another count may stay
 pub caused_still : (turns calls calls_now of_link link_now of_archive archive_now of_disk : ℕ) (s : Status)
-    → IsCaused (record {
-      turns = turns;
-      calls_before = calls;
-      calls_after = calls_now;
-      faults_before = faults of_link of_archive 0;
-      faults_after = faults link_now archive_now 0;
-    })
+    → IsCaused (counts turns calls calls_now (faults of_link of_archive 0) (faults link_now archive_now 0))
     s
-    → IsCaused (record {
-      turns = turns;
-      calls_before = calls;
-      calls_after = calls_now;
-      faults_before = faults of_link of_archive of_disk;
-      faults_after = faults link_now archive_now of_disk;
-    })
+    → IsCaused (counts turns calls calls_now (faults of_link of_archive of_disk)
+    (faults link_now archive_now of_disk))
     s
 caused_still turns calls calls_now of_link link_now of_archive archive_now of_disk s k = record {
   link_more = k.link_more;

@@ -1,17 +1,17 @@
 -- How a call of `serve` ends.
-use Rattle.std.proofs.Common.{◌≡◌, ◌≢◌, inl, inr, ℕ, List, [], ◌++◌, ◌∙◌, refl, sym, Bool, true, arith}
+use Rattle.std.proofs.Common.{◌≡◌, ◌≢◌, inl, inr, ℕ, List, [], ◌∷◌, ◌++◌, ◌∙◌, refl, sym, Bool, true, arith}
 use Rattle.std.specs.Prelude.{◌⊎◌, Err}
 use Rattle.el_outside.specs.Counts.{RoseBy, OnlyReads, CountsOnly}
 use Rattle.el_outside.proofs.Stories.{rose_none}
 use Rattle.el_chain.specs.declared.node.Node.{Node}
 use Rattle.el_chain.specs.Chains.{Chain}
 use Rattle.el_model.specs.World.{World}
-use Rattle.el_model.specs.Run.{Stop, Loss}
+use Rattle.el_model.specs.Run.{Stop, Loss, archive, disk, link_losses, archive_losses, disk_losses}
 use Rattle.el_words.specs.Words.{IsOnceOf, IsServeOf, network_magic, network_name}
 use Rattle.el_words.specs.Commands.{IsServe, IsOnce}
 use Rattle.electrum_serve.specs.Opened.{IsScanned, nodes_of_chain}
 use Rattle.electrum_serve.specs.OtherChain.{is_other_chain}
-use Rattle.electrum_serve.specs.Runs.{Counts, Faults, Rose, IsCounted, Traffic, no_traffic, faults, RunEnds, IsRun, IsHalted}
+use Rattle.electrum_serve.specs.Runs.{Counts, Faults, Rose, IsCounted, Traffic, no_traffic, counts, faults, RunEnds, IsRun, IsHalted}
 use Rattle.electrum_serve.specs.Ends.{Ends, usage, serve, once, IndexEnds, IsSilent, ServeEnds, UnopenedEnds, OnceEnds, IsServed, IsServedOnce, IsBadFile, IsUnserved}
 use Rattle.electrum_serve.specs.within.Unread.{unread_status, start_status}
 use Rattle.electrum_serve.specs.declared.file.FileFault.{FileFault}
@@ -193,6 +193,21 @@ served_ends tells bytes file_count magic chain leaves c before after t status.Tu
 served_ends tells bytes file_count magic chain leaves c before after t status.OtherChain none served = absurd (none tt)
 served_ends tells bytes file_count magic chain leaves c before after t status.BadChain none served = absurd (none tt)
 
+-- a count that is as it was
+as_before : (a b : ℕ) → b ≡ a → RoseBy a b 0
+as_before a b e = omega arith
+
+-- nothing went over the link, and the other counts rose by these losses
+silent : (turns calls of_link low high of_disk now : ℕ) (losses : List Loss) → link_losses losses ≡ 0
+    → RoseBy low high (archive_losses losses) → RoseBy of_disk now (disk_losses losses)
+    → IsSilent (counts turns calls calls (faults of_link low of_disk) (faults of_link high now))
+    no_traffic losses
+silent turns calls of_link low high of_disk now losses none files index = record {
+  traffic = refl;
+  calls = refl;
+  rose = record { link = rw none (rose_none of_link); archive = files; disk = index };
+}
+
 -- nobody was served from an index that is open
 pub start_ends : {A T : Type 0} (tells : Type 0) (bytes : A → ℕ → List ℕ) (file_count : A → ℕ)
     (magic : List ℕ) (chain : Chain) (leaves : Chain → Chain → Type 0)
@@ -203,68 +218,37 @@ pub start_ends : {A T : Type 0} (tells : Type 0) (bytes : A → ℕ → List ℕ
     × IsScanned tells bytes file_count magic before after nodes
     × (is_other_chain (nodes_of_chain chain) nodes ≡ true))
     → leaves chain chain
-    → ServeEnds tells bytes file_count magic chain leaves (record {
-      turns = turns;
-      calls_before = calls;
-      calls_after = calls;
-      faults_before = faults of_link low of_disk;
-      faults_after = faults of_link high now;
-    })
+    → ServeEnds tells bytes file_count magic chain leaves
+    (counts turns calls calls (faults of_link low of_disk) (faults of_link high now))
     before after no_traffic (start_status e)
 start_ends tells bytes file_count magic chain leaves turns calls of_link low high of_disk now before after
     start.DiskFailed reads counts other left =
     inl (
-      record {
-        traffic = refl;
-        calls = refl;
-        rose = record {
-          link = rose_none of_link;
-          archive = rw (reads.others_uncounted (λ e. cc)) (rose_none low);
-          disk = counts.counted refl;
-        };
-      },
+      silent turns calls of_link low high of_disk now (disk ∷ []) refl
+          (as_before low high (reads.others_uncounted (λ e. cc))) (counts.counted refl),
       left,
     )
 start_ends tells bytes file_count magic chain leaves turns calls of_link low high of_disk now before after
     start.ArchiveFailed reads counts other left = (
-      record {
-        traffic = refl;
-        calls = refl;
-        rose = record {
-          link = rose_none of_link;
-          archive = reads.counted refl;
-          disk = rw (counts.others_uncounted (λ e. cc)) (rose_none of_disk);
-        };
-      },
+      silent turns calls of_link low high of_disk now (archive ∷ []) refl (reads.counted refl)
+          (as_before of_disk now (counts.others_uncounted (λ e. cc))),
       left,
     )
 start_ends tells bytes file_count magic chain leaves turns calls of_link low high of_disk now before after
     start.OtherChain reads counts other left =
     let o = other refl in (
       record { nodes = o.0; scanned = o.1; other = o.2 },
-      record {
-        traffic = refl;
-        calls = refl;
-        rose = record {
-          link = rose_none of_link;
-          archive = rw (reads.others_uncounted (λ e. cc)) (rose_none low);
-          disk = rw (counts.others_uncounted (λ e. cc)) (rose_none of_disk);
-        };
-      },
+      silent turns calls of_link low high of_disk now [] refl
+          (as_before low high (reads.others_uncounted (λ e. cc)))
+          (as_before of_disk now (counts.others_uncounted (λ e. cc))),
       left,
     )
 start_ends tells bytes file_count magic chain leaves turns calls of_link low high of_disk now before after
     start.Memory reads counts other left =
     inl (
-      record {
-        traffic = refl;
-        calls = refl;
-        rose = record {
-          link = rose_none of_link;
-          archive = rw (reads.others_uncounted (λ e. cc)) (rose_none low);
-          disk = rw (counts.others_uncounted (λ e. cc)) (rose_none of_disk);
-        };
-      },
+      silent turns calls of_link low high of_disk now [] refl
+          (as_before low high (reads.others_uncounted (λ e. cc)))
+          (as_before of_disk now (counts.others_uncounted (λ e. cc))),
       left,
     )
 
@@ -273,34 +257,19 @@ pub unopened_ends : (was flight : Chain) (leaves : Chain → Chain → Type 0)
     (turns calls of_link of_archive low high : ℕ) (s : Status) → s ≢ status.BadIndex
     → (s ≡ status.BadIndex) ⊎ ((s ≡ status.DiskFailed) ⊎ (s ≡ status.OutOfMemory)) → leaves was flight
     → (s ≡ status.DiskFailed → RoseBy low high 1) → (s ≢ status.DiskFailed → high ≡ low)
-    → UnopenedEnds was flight leaves (record {
-      turns = turns;
-      calls_before = calls;
-      calls_after = calls;
-      faults_before = faults of_link of_archive low;
-      faults_after = faults of_link of_archive high;
-    })
+    → UnopenedEnds was flight leaves
+    (counts turns calls calls (faults of_link of_archive low) (faults of_link of_archive high))
     no_traffic s
 unopened_ends was flight leaves turns calls of_link of_archive low high s good is left counted uncounted = elim is [
   | inl bad ↦ absurd (good bad)
   | inr (inl failed) ↦ rw failed (
-    record {
-      traffic = refl;
-      calls = refl;
-      rose = record { link = rose_none of_link; archive = rose_none of_archive; disk = counted failed };
-    },
+    silent turns calls of_link of_archive of_archive low high (disk ∷ []) refl (rose_none of_archive)
+        (counted failed),
     left,
   )
   | inr (inr memory) ↦ rw memory (
-    record {
-      traffic = refl;
-      calls = refl;
-      rose = record {
-        link = rose_none of_link;
-        archive = rose_none of_archive;
-        disk = rw (uncounted (λ e. cc)) (rose_none low);
-      };
-    },
+    silent turns calls of_link of_archive of_archive low high [] refl (rose_none of_archive)
+        (as_before low high (uncounted (λ e. cc))),
     left,
   )
 ]
@@ -326,38 +295,17 @@ pub unread_ends : {T : Type 0} (tells : Type 0) (magic : List ℕ) (turns calls 
     (before after : ℕ → List ℕ) (e : FileFault)
     → OnlyReads {T = T} tells before after low high fault.Failed (Err e)
     → (e ≡ fault.Bad → IsBadFile tells magic before after)
-    → OnceEnds tells magic (record {
-      turns = turns;
-      calls_before = calls;
-      calls_after = calls;
-      faults_before = faults of_link low of_disk;
-      faults_after = faults of_link high of_disk;
-    })
+    → OnceEnds tells magic
+    (counts turns calls calls (faults of_link low of_disk) (faults of_link high of_disk))
     before after no_traffic (unread_status e)
-unread_ends tells magic turns calls of_link low high of_disk before after fault.Failed reads bad = record {
-  traffic = refl;
-  calls = refl;
-  rose = record { link = rose_none of_link; archive = reads.counted refl; disk = rose_none of_disk };
-}
+unread_ends tells magic turns calls of_link low high of_disk before after fault.Failed reads bad =
+    silent turns calls of_link low high of_disk of_disk (archive ∷ []) refl (reads.counted refl)
+    (rose_none of_disk)
 unread_ends tells magic turns calls of_link low high of_disk before after fault.Memory reads bad =
-    inl (record {
-      traffic = refl;
-      calls = refl;
-      rose = record {
-        link = rose_none of_link;
-        archive = rw (reads.others_uncounted (λ e. cc)) (rose_none low);
-        disk = rose_none of_disk;
-      };
-    })
+    inl (silent turns calls of_link low high of_disk of_disk [] refl
+    (as_before low high (reads.others_uncounted (λ e. cc))) (rose_none of_disk))
 unread_ends tells magic turns calls of_link low high of_disk before after fault.Bad reads bad = (
   bad refl,
-  record {
-    traffic = refl;
-    calls = refl;
-    rose = record {
-      link = rose_none of_link;
-      archive = rw (reads.others_uncounted (λ e. cc)) (rose_none low);
-      disk = rose_none of_disk;
-    };
-  },
+  silent turns calls of_link low high of_disk of_disk [] refl
+      (as_before low high (reads.others_uncounted (λ e. cc))) (rose_none of_disk),
 )

@@ -1,6 +1,6 @@
--- What a crash may leave before a call and when it ends. Acknowledged is the chain of the world before the turn in which a
--- run stops, since all that earlier turns gave was sent; in flight is the target of a move of that turn, if
--- there is one.
+-- What a crash may leave before a call and when it ends. Acknowledged is the chain of the world before the
+-- turn in which a run stops, since all that earlier turns gave was sent; in flight is the target of a move of
+-- that turn, if there is one.
 use Rattle.std.specs.Prelude.{◌≡◌, ℕ, List}
 use Rattle.el_outside.specs.declared.disk.Disk as disk
 use Rattle.el_outside.specs.Disk.{Image}
@@ -31,8 +31,8 @@ LeavesOneOf G magic d acked flight =
     (image : Image) → LeftNow G.moment G.left_since d image → Either (ImageMeans magic) acked flight image
 
 -- The disk tells what it holds, and is an index of the network with this magic: as it reads it stands for
--- `chain`, and each image that an earlier life may have left stands for `was`, which that acknowledged, or for
--- `flight`, which was in flight.
+-- `chain`, and each image that an earlier life may have left stands for `was`, which that life acknowledged,
+-- or for `flight`, which was in flight.
 pub record IsIndexDisk {D : Type 0} (G : disk.Ghosts D) (magic : List ℕ) (d : D) (was flight chain : Chain)
     : Type 0 where
   pub told : G.tells

@@ -74,12 +74,13 @@ UnopenedEnds was flight leaves c t status.DiskFailed = IsSilent c t (disk ∷ []
 UnopenedEnds was flight leaves c t status.OutOfMemory = IsSilent c t [] × leaves was flight
 UnopenedEnds was flight leaves c t other = ⊥
 
--- How a call with the words of `serve` ends, for a disk that reads as an index of one of `chain`: the index is
--- not opened, or it is, and has this chain.
+-- How a call with the words of `serve` ends, for a disk that reads as an index of `chain`: the index is not
+-- opened, or it is, and has this chain.
 abbrev pub IndexEnds : {A : Type 0} → Type 0 → (A → ℕ → List ℕ) → (A → ℕ) → List ℕ → Chain → Chain → Chain
     → (Chain → Chain → Type 0) → Counts → A → A → Traffic → Status → Type 0
 IndexEnds tells bytes file_count magic was flight chain leaves c before after t s =
-    UnopenedEnds was flight leaves c t s ⊎ ServeEnds tells bytes file_count magic chain leaves c before after t s
+    UnopenedEnds was flight leaves c t s
+    ⊎ ServeEnds tells bytes file_count magic chain leaves c before after t s
 
 -- the statuses with which a call ends whose index is open
 abbrev pub IsOpenedEnd : Status → Type 0
@@ -139,9 +140,9 @@ IsUnserved status.OtherChain = Unit {0}
 IsUnserved status.BadChain = Unit {0}
 IsUnserved other = ⊥
 
--- How a call ends. The words of `serve` ask for an index on a disk, which reads as one of `chain`; `was` was
--- acknowledged before, and `flight` in flight. `leaves` says of a magic and two chains that all that a crash
--- may leave of the disk in the end stands for the one or for the other, as an index of that network.
+-- How a call ends. The words of `serve` ask for an index on a disk, which reads as that of `chain`; `was`
+-- was acknowledged before, and `flight` was in flight. `leaves` says of a magic and two chains that all that
+-- a crash may leave of the disk in the end stands for the one or for the other, as an index of that network.
 pub data Ends {A : Type 0} (tells : Type 0) (bytes : A → ℕ → List ℕ) (file_count : A → ℕ)
     (words : List (List ℕ)) (was flight chain : Chain) (leaves : List ℕ → Chain → Chain → Type 0) (c : Counts)
     (before after : A) (t : Traffic) (s : Status) : Type 0 where

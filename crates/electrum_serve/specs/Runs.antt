@@ -62,6 +62,16 @@ pub record Counts : Type 0 where
   pub faults_before : Faults
   pub faults_after : Faults
 
+-- the counts of a call that may make so many calls of `next`
+abbrev pub counts : ℕ → ℕ → ℕ → Faults → Faults → Counts
+counts turns calls_before calls_after faults_before faults_after = record {
+  turns = turns;
+  calls_before = calls_before;
+  calls_after = calls_after;
+  faults_before = faults_before;
+  faults_after = faults_after;
+}
+
 -- What went over the link in a call: what was taken, sent and closed.
 pub record Traffic : Type 0 where
   pub arrivals : List ArrivalWithBytes
@@ -136,9 +146,9 @@ RunEnds tells first node leaves files c t other = ⊥
 abbrev pub HasRisen : ℕ → ℕ → Type 0
 HasRisen before after = risen before 1 ≤ after
 
--- What holds of every call, whatever its devices tell: counts of failed calls never fall, and one that failed
--- is counted where it ended the call; at most as many calls of `next` were made as may be made, and exactly as
--- many where they are spent.
+-- What holds of every call, whatever its devices tell: counts of failed calls never fall, and a device that
+-- failed is counted where that ended the call; at most as many calls of `next` were made as may be made, and
+-- exactly as many where they are spent.
 pub record IsCaused (c : Counts) (s : Status) : Type 0 where
   pub link_more : c.faults_before.link ≤ c.faults_after.link
   pub archive_more : c.faults_before.archive ≤ c.faults_after.archive

@@ -26,7 +26,8 @@ fn status_of(fault: OpenFault) -> Status
     }
 }
 
-/// Opens the index that the disk keeps for the network. A disk that was never written is an index of no blocks.
+/// Opens the index that the disk keeps for the network. A disk that was never written is an index of no
+/// blocks.
 ///
 /// # Errors
 ///

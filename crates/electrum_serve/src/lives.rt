@@ -10,9 +10,9 @@ ghost use Rattle.electrum_serve.specs.Lives.{Life, IsCall, AreLives, GoOn};
 
 use el_outside::{Archive, Disk, Link};
 
-/// Lives that follow each other on one disk, each a call of `serve`, however each ended: each is a run from the
-/// chain that its opening found, and that is the one that the life before acknowledged last, or the one that
-/// then was in flight. The first life finds empty files, which stand for no blocks.
+/// Lives that follow each other on one disk, each a call of `serve`, however each ended: each is a run from
+/// the chain that its opening found, and that is the one that the life before acknowledged last, or the one
+/// that then was in flight. The first life finds empty files, which stand for no blocks.
 pub fn lives_go_on<D: Disk, A: Archive, K: Link>()
     ensures empty { (magic : List ℕ) (image : Image) → image JOURNAL ≡ [] → ImageMeans magic image [] }
     ensures go_on { (magic : List ℕ) (disk : D) (was flight : Chain) (lives : List (Life D A K)) → D.tells

@@ -11,7 +11,7 @@ ghost use Rattle.el_core.specs.Turn as turn;
 ghost use Rattle.el_core.specs.Turn.{messages_of, closing_of, outs_of};
 ghost use Rattle.electrum_serve.specs.Crash.{LeavesEither};
 ghost use Rattle.electrum_serve.specs.Ends.{IsUnserved};
-ghost use Rattle.electrum_serve.specs.Runs.{Traffic, faults, RunEnds, IsCaused, is_end};
+ghost use Rattle.electrum_serve.specs.Runs.{Traffic, counts, faults, RunEnds, IsCaused, is_end};
 ghost use Rattle.electrum_serve.specs.within.Sending.{Sent, Unsent, CanSend, SentAll, StoppedSending, closing_left, first_some, Closes, LossOf, RisesFor, stop_of, status_of};
 ghost use Rattle.electrum_serve.specs.within.Progress.{CanDeliver, Delivered, ClientsAreOpen, Finished, Stopped, StoppedIn, seen, taken_one};
 
@@ -224,7 +224,8 @@ fn work_off<G: Ledger, A: Archive, K: Link, L: Counts + Send>(
     ensures same_calls { K.calls link.new ≡ K.calls link.old }
     ensures link_counts { RisesFor (K.faults link.old) (K.faults link.new) Halt.Link result }
     ensures archive_more { A.faults archive.old ≤ A.faults archive.new }
-    ensures disk_counts { RisesFor (G.faults server.old.ledger) (G.faults server.new.ledger) Halt.Disk result }
+    ensures disk_counts { RisesFor (G.faults server.old.ledger) (G.faults server.new.ledger)
+        Halt.Disk result }
 {
     loop {
         match server.turn(archive, steps) {
@@ -310,7 +311,8 @@ fn serve_arrival<G: Ledger, A: Archive, K: Link, L: Counts + Send>(
     ensures same_calls { K.calls link.new ≡ K.calls link.old }
     ensures link_counts { RisesFor (K.faults link.old) (K.faults link.new) Halt.Link result }
     ensures archive_more { A.faults archive.old ≤ A.faults archive.new }
-    ensures disk_counts { RisesFor (G.faults server.old.ledger) (G.faults server.new.ledger) Halt.Disk result }
+    ensures disk_counts { RisesFor (G.faults server.old.ledger) (G.faults server.new.ledger)
+        Halt.Disk result }
 {
     match server.take(arrival, bytes) {
         Ok(()) => work_off(server, archive, link, steps),
@@ -336,20 +338,12 @@ pub fn run<G: Ledger, A: Archive, K: Link, L: Counts + Send>(
         traffic.arrivals traffic.messages traffic.closings)
         × RunEnds A.tells first node
         (LeavesEither G.tells_crash G.means G.moment G.left_since server.new.ledger)
-        (A.bytes archive.new) (record {
-          turns = turns;
-          calls_before = K.calls link.old;
-          calls_after = K.calls link.new;
-          faults_before = faults (K.faults link.old) (A.faults archive.old) (G.faults server.old.ledger);
-          faults_after = faults (K.faults link.new) (A.faults archive.new) (G.faults server.new.ledger);
-        }) traffic result }
-    ensures causes { IsCaused (record {
-      turns = turns;
-      calls_before = K.calls link.old;
-      calls_after = K.calls link.new;
-      faults_before = faults (K.faults link.old) (A.faults archive.old) (G.faults server.old.ledger);
-      faults_after = faults (K.faults link.new) (A.faults archive.new) (G.faults server.new.ledger);
-    }) result }
+        (A.bytes archive.new) (counts turns (K.calls link.old) (K.calls link.new)
+        (faults (K.faults link.old) (A.faults archive.old) (G.faults server.old.ledger))
+        (faults (K.faults link.new) (A.faults archive.new) (G.faults server.new.ledger))) traffic result }
+    ensures causes { IsCaused (counts turns (K.calls link.old) (K.calls link.new)
+        (faults (K.faults link.old) (A.faults archive.old) (G.faults server.old.ledger))
+        (faults (K.faults link.new) (A.faults archive.new) (G.faults server.new.ledger))) result }
     ensures serves { IsUnserved result → ⊥ }
     ensures keeps { A.tells → AllGrow (A.bytes archive.old) (A.bytes archive.new) }
 {

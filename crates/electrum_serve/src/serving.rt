@@ -11,7 +11,7 @@ ghost use Rattle.el_words.specs.Commands.{IsNoCommand, IsServe};
 ghost use Rattle.electrum_serve.specs.Crash.{LeavesOneOf, IsIndexDisk};
 ghost use Rattle.electrum_serve.specs.File.{GivesNoChain};
 ghost use Rattle.electrum_serve.specs.Opened.{IsRead, all_added};
-ghost use Rattle.electrum_serve.specs.Runs.{Traffic, IsCaused, faults};
+ghost use Rattle.electrum_serve.specs.Runs.{Traffic, IsCaused, counts, faults};
 ghost use Rattle.electrum_serve.specs.Ends.{Ends, OnceEnds, IndexEnds, IsUnserved, IsUnopened};
 ghost use Rattle.electrum_serve.specs.within.Unread.{unread_status};
 
@@ -82,24 +82,17 @@ fn serve_disk<D: Disk, N: NetworkMagic, A: Archive, K: Link, L: Counts + Send>(
         × (K.tells → GoesOn (K.story link.old) (K.story link.new)
         traffic.arrivals traffic.messages traffic.closings)
         × IndexEnds A.tells A.bytes A.file_count N.magic was flight chain
-        (LeavesOneOf ⟦<D as Disk>⟧ N.magic result.1) (record {
-          turns = turns;
-          calls_before = K.calls link.old;
-          calls_after = K.calls link.new;
-          faults_before = faults (K.faults link.old) (A.faults archive.old) (D.faults disk);
-          faults_after = faults (K.faults link.new) (A.faults archive.new) (D.faults result.1);
-        }) archive.old archive.new traffic result.0 }
+        (LeavesOneOf ⟦<D as Disk>⟧ N.magic result.1) (counts turns (K.calls link.old) (K.calls link.new)
+        (faults (K.faults link.old) (A.faults archive.old) (D.faults disk))
+        (faults (K.faults link.new) (A.faults archive.new) (D.faults result.1)))
+        archive.old archive.new traffic result.0 }
     ensures bad { D.tells → result.0 ≡ Status.BadIndex
         → (wanted : ℕ) × (found : ℕ) × IsBadIndex N.magic (D.seen disk) wanted found }
     ensures is_bad { D.tells → (wanted found : ℕ) → IsBadIndex N.magic (D.seen disk) wanted found
         → IsUnopened result.0 }
-    ensures causes { IsCaused (record {
-      turns = turns;
-      calls_before = K.calls link.old;
-      calls_after = K.calls link.new;
-      faults_before = faults (K.faults link.old) (A.faults archive.old) (D.faults disk);
-      faults_after = faults (K.faults link.new) (A.faults archive.new) (D.faults result.1);
-    }) result.0 }
+    ensures causes { IsCaused (counts turns (K.calls link.old) (K.calls link.new)
+        (faults (K.faults link.old) (A.faults archive.old) (D.faults disk))
+        (faults (K.faults link.new) (A.faults archive.new) (D.faults result.1))) result.0 }
     ensures read { result.0 ≢ Status.Usage }
     ensures unserved { IsUnserved result.0 → link.new ≡ link.old }
     ensures keeps { A.tells → AllGrow (A.bytes archive.old) (A.bytes archive.new) }
@@ -141,24 +134,18 @@ fn serve_network<D: Disk, A: Archive, K: Link, L: Counts + Send>(
         × (K.tells → GoesOn (K.story link.old) (K.story link.new)
         traffic.arrivals traffic.messages traffic.closings)
         × IndexEnds A.tells A.bytes A.file_count (network_magic network) was flight chain
-        (LeavesOneOf ⟦<D as Disk>⟧ (network_magic network) result.1) (record {
-          turns = turns;
-          calls_before = K.calls link.old;
-          calls_after = K.calls link.new;
-          faults_before = faults (K.faults link.old) (A.faults archive.old) (D.faults disk);
-          faults_after = faults (K.faults link.new) (A.faults archive.new) (D.faults result.1);
-        }) archive.old archive.new traffic result.0 }
+        (LeavesOneOf ⟦<D as Disk>⟧ (network_magic network) result.1)
+        (counts turns (K.calls link.old) (K.calls link.new)
+        (faults (K.faults link.old) (A.faults archive.old) (D.faults disk))
+        (faults (K.faults link.new) (A.faults archive.new) (D.faults result.1)))
+        archive.old archive.new traffic result.0 }
     ensures bad { D.tells → result.0 ≡ Status.BadIndex
         → (wanted : ℕ) × (found : ℕ) × IsBadIndex (network_magic network) (D.seen disk) wanted found }
     ensures is_bad { D.tells → (wanted found : ℕ)
         → IsBadIndex (network_magic network) (D.seen disk) wanted found → IsUnopened result.0 }
-    ensures causes { IsCaused (record {
-      turns = turns;
-      calls_before = K.calls link.old;
-      calls_after = K.calls link.new;
-      faults_before = faults (K.faults link.old) (A.faults archive.old) (D.faults disk);
-      faults_after = faults (K.faults link.new) (A.faults archive.new) (D.faults result.1);
-    }) result.0 }
+    ensures causes { IsCaused (counts turns (K.calls link.old) (K.calls link.new)
+        (faults (K.faults link.old) (A.faults archive.old) (D.faults disk))
+        (faults (K.faults link.new) (A.faults archive.new) (D.faults result.1))) result.0 }
     ensures read { result.0 ≢ Status.Usage }
     ensures unserved { IsUnserved result.0 → link.new ≡ link.old }
     ensures keeps { A.tells → AllGrow (A.bytes archive.old) (A.bytes archive.new) }
@@ -191,20 +178,13 @@ fn serve_file<A: Archive, K: Link, L: Counts + Send>(
     ensures ends { (disk : ℕ) → (traffic : Traffic)
         × (K.tells → GoesOn (K.story link.old) (K.story link.new)
         traffic.arrivals traffic.messages traffic.closings)
-        × OnceEnds A.tells magic (record {
-          turns = turns;
-          calls_before = K.calls link.old;
-          calls_after = K.calls link.new;
-          faults_before = faults (K.faults link.old) (A.faults archive.old) disk;
-          faults_after = faults (K.faults link.new) (A.faults archive.new) disk;
-        }) (A.bytes archive.old) (A.bytes archive.new) traffic result }
-    ensures causes { (disk : ℕ) → IsCaused (record {
-      turns = turns;
-      calls_before = K.calls link.old;
-      calls_after = K.calls link.new;
-      faults_before = faults (K.faults link.old) (A.faults archive.old) disk;
-      faults_after = faults (K.faults link.new) (A.faults archive.new) disk;
-    }) result }
+        × OnceEnds A.tells magic (counts turns (K.calls link.old) (K.calls link.new)
+        (faults (K.faults link.old) (A.faults archive.old) disk)
+        (faults (K.faults link.new) (A.faults archive.new) disk))
+        (A.bytes archive.old) (A.bytes archive.new) traffic result }
+    ensures causes { (disk : ℕ) → IsCaused (counts turns (K.calls link.old) (K.calls link.new)
+        (faults (K.faults link.old) (A.faults archive.old) disk)
+        (faults (K.faults link.new) (A.faults archive.new) disk)) result }
     ensures unserved { IsUnserved result → link.new ≡ link.old }
     ensures keeps { A.tells → AllGrow (A.bytes archive.old) (A.bytes archive.new) }
 {
@@ -220,10 +200,11 @@ fn serve_file<A: Archive, K: Link, L: Counts + Send>(
     }
 }
 
-/// Does all that the program does. With the words of `serve` it opens the index on the disk, finds the headers
-/// of all block files, and answers the node and the clients of the link, from the chain to which the node leads
-/// it. With those of `once` it reads file 0, and answers the link's clients from its chain, without the disk. It
-/// ends as the link does, or fails, and makes at most `turns` calls of `next`. The disk comes back as it stands.
+/// Does all that the program does. With the words of `serve` it opens the index on the disk, finds the
+/// headers of all block files, and answers the node and the clients of the link, from the chain to which the
+/// node leads it. With those of `once` it reads file 0, and answers the link's clients from its chain,
+/// without the disk. It ends as the link does, or fails, and makes at most `turns` calls of `next`. The disk
+/// comes back as it stands.
 pub fn serve<D: Disk, A: Archive, K: Link>(
     alloc: Global,
     words: &[String],
@@ -232,8 +213,8 @@ pub fn serve<D: Disk, A: Archive, K: Link>(
     link: &mut K,
     turns: u64,
 ) -> (Status, D)
-    // What was sent and closed is a run from what the disk and the block files gave, each status has its cause,
-    // and what a crash may leave in the end is the chain that is acknowledged or the one in flight.
+    // What was sent and closed is a run from what the disk and the block files gave, each status has its
+    // cause, and what a crash may leave in the end is the chain that is acknowledged or the one in flight.
     ensures ends { (was flight chain : Chain)
         → ((magic : List ℕ) → IsServe (texts words.now) magic
         → IsIndexDisk ⟦<D as Disk>⟧ magic disk was flight chain)
@@ -241,26 +222,20 @@ pub fn serve<D: Disk, A: Archive, K: Link>(
         × (K.tells → GoesOn (K.story link.old) (K.story link.new)
         traffic.arrivals traffic.messages traffic.closings)
         × Ends A.tells A.bytes A.file_count (texts words.now) was flight chain
-        (λ magic acked flight. LeavesOneOf ⟦<D as Disk>⟧ magic result.1 acked flight) (record {
-          turns = turns;
-          calls_before = K.calls link.old;
-          calls_after = K.calls link.new;
-          faults_before = faults (K.faults link.old) (A.faults archive.old) (D.faults disk);
-          faults_after = faults (K.faults link.new) (A.faults archive.new) (D.faults result.1);
-        }) archive.old archive.new traffic result.0 }
+        (λ magic acked flight. LeavesOneOf ⟦<D as Disk>⟧ magic result.1 acked flight)
+        (counts turns (K.calls link.old) (K.calls link.new)
+        (faults (K.faults link.old) (A.faults archive.old) (D.faults disk))
+        (faults (K.faults link.new) (A.faults archive.new) (D.faults result.1)))
+        archive.old archive.new traffic result.0 }
     // The index is bad exactly where the disk stands for no tables of the network.
     ensures bad { D.tells → result.0 ≡ Status.BadIndex → (magic : List ℕ) → IsServe (texts words.now) magic
         → (wanted : ℕ) × (found : ℕ) × IsBadIndex magic (D.seen disk) wanted found }
     ensures is_bad { D.tells → (magic : List ℕ) (wanted found : ℕ) → IsServe (texts words.now) magic
         → IsBadIndex magic (D.seen disk) wanted found → IsUnopened result.0 }
     // Whatever the devices tell, each failure that is told was counted.
-    ensures causes { IsCaused (record {
-      turns = turns;
-      calls_before = K.calls link.old;
-      calls_after = K.calls link.new;
-      faults_before = faults (K.faults link.old) (A.faults archive.old) (D.faults disk);
-      faults_after = faults (K.faults link.new) (A.faults archive.new) (D.faults result.1);
-    }) result.0 }
+    ensures causes { IsCaused (counts turns (K.calls link.old) (K.calls link.new)
+        (faults (K.faults link.old) (A.faults archive.old) (D.faults disk))
+        (faults (K.faults link.new) (A.faults archive.new) (D.faults result.1))) result.0 }
     // Other words are refused, and then no device is called.
     ensures refused { IsNoCommand (texts words.now) → result.0 ≡ Status.Usage }
     ensures lawful { result.0 ≡ Status.Usage → IsNoCommand (texts words.now) }

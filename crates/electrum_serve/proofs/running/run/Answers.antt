@@ -123,7 +123,8 @@ loop-turn-preserved g c = record {
   idle = c.in_default-serve_arrival.ensures.idle;
   counted = counted_more _ _ _ _ _ _ _ c.loop-turn.invariant.counted
       (rw c.serve_arrival.ensures.same_calls c.next.ensures.called)
-      (let a = c.in-Ok.ensures.cause.uncounted in let b = c.serve_arrival.ensures.link_counts.more in omega arith)
+      (let a = c.in-Ok.ensures.cause.uncounted in
+      let b = c.serve_arrival.ensures.link_counts.more in omega arith)
       c.serve_arrival.ensures.archive_more c.serve_arrival.ensures.disk_counts.more;
   keeps = λ t. all_grow_more _ _ _ (c.loop-turn.invariant.keeps t) (c.serve_arrival.ensures.keeps t);
 }
@@ -146,7 +147,8 @@ returns-then-ends-clause-causes g c =
     let n = c.loop-turn-test.true in
     caused_end _ _ _ _ _ _ _ (counted_more _ _ _ _ _ _ _ c.loop-turn.invariant.counted
     (rw c.serve_arrival.ensures.same_calls c.next.ensures.called)
-    (let a = c.in-Ok.ensures.cause.uncounted in let b = c.serve_arrival.ensures.link_counts.more in omega arith)
+    (let a = c.in-Ok.ensures.cause.uncounted in
+    let b = c.serve_arrival.ensures.link_counts.more in omega arith)
     c.serve_arrival.ensures.archive_more c.serve_arrival.ensures.disk_counts.more) (omega arith)
     (λ e. cc) (λ e. cc) (λ e. cc) (λ e. absurd cc)
 

@@ -93,7 +93,8 @@ returns-in-Err-clause-link_counts g c =
 
 pub returns-in-Err-clause-disk_counts : goal.returns-in-Err-clause-disk_counts
 returns-in-Err-clause-disk_counts g c =
-    rises_turn _ _ _ c.in-Err.fault _ c.halt_of.ensures c.loop-outs.invariant.disk_more c.in-Err.ensures.disk_more
+    rises_turn _ _ _ c.in-Err.fault _ c.halt_of.ensures c.loop-outs.invariant.disk_more
+    c.in-Err.ensures.disk_more
     (λ e. c.in-Err.ensures.disk_counted (ap Err e))
 
 pub returns-in-Err-deliver-clause-disk_counts : goal.returns-in-Err-deliver-clause-disk_counts

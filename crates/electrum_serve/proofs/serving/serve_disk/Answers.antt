@@ -14,7 +14,8 @@ returns-in-Ok-clause-ends g c = λ was flight chain is.
     rw same (
       r.0,
       r.1,
-      inr (serve_told _ _ _ (λ losses rose. rose) _ _ (λ acked flight' left image now. left is.told image (is.told, now))
+      inr (serve_told _ _ _ (λ losses rose. rose) _ _
+          (λ acked flight' left image now. left is.told image (is.told, now))
           g.A.Archive.tells g.A.Archive.bytes g.A.Archive.file_count _ chain _ _ r.0 _ r.2),
     )
 
@@ -32,6 +33,7 @@ returns-clause-ends g c = λ was flight chain is.
     let u = c.in-Err.ensures.unopened was flight chain is in (
       no_traffic,
       λ t. goes_none _,
-      inl (unopened_ends was flight (LeavesOneOf g.D.Disk g.N.NetworkMagic.magic c.in-Err.disk) _ _ _ _ _ _ c.in-Err.status u.0 c.in-Err.ensures.status u.1
+      inl (unopened_ends was flight (LeavesOneOf g.D.Disk g.N.NetworkMagic.magic c.in-Err.disk) _ _ _ _ _ _
+          c.in-Err.status u.0 c.in-Err.ensures.status u.1
           c.in-Err.ensures.counted c.in-Err.ensures.others_uncounted),
     )
