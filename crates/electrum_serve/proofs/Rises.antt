@@ -1,6 +1,6 @@
 -- Counts of failed calls, whatever the devices tell.
-use Rattle.std.proofs.Common.{◌≡◌, ◌≢◌, inl, inr, ℕ, ◌+◌, ◌<◌, ◌≤◌, List, refl, arith, Result, Ok, Err}
-use Rattle.std.specs.Prelude.{◌⊎◌, IsErrOf}
+use Rattle.std.proofs.Common.{◌≡◌, ◌≢◌, ℕ, ◌+◌, ◌<◌, ◌≤◌, List, refl, arith, Result, Ok, Err}
+use Rattle.std.specs.Prelude.{IsErrOf}
 use Rattle.el_outside.specs.Counts.{RoseBy, OnlyReads, CountsOnly}
 use Rattle.el_outside.specs.declared.link.Why.{Why}
 use Rattle.el_outside.specs.declared.link.SendFault.{SendFault}
@@ -10,7 +10,7 @@ use Rattle.el_core.specs.declared.fault.StepFault.{StepFault}
 use Rattle.el_core.specs.declared.fault.StepFault.TheVariants as step
 use Rattle.el_core.specs.Turn as turn
 use Rattle.electrum_serve.specs.Runs.{Faults, counts, faults, HasRisen, IsCaused}
-use Rattle.electrum_serve.specs.Ends.{IsUnserved, IsOpenedEnd, IsUnopened}
+use Rattle.electrum_serve.specs.Ends.{IsUnserved, IsOpenedEnd}
 use Rattle.electrum_serve.specs.declared.file.FileFault.{FileFault}
 use Rattle.electrum_serve.specs.declared.file.FileFault.TheVariants as file
 use Rattle.electrum_serve.specs.declared.opening.StartFault.{StartFault}
@@ -57,9 +57,6 @@ rises_after {a = a} {b = b} {c = c} more rises = let m = rises.more in record {
 -- another stop than that for which the count rises
 pub rises_other : {T : Type 0} {a b : ℕ} {h e : Halt} → a ≤ b → e ≢ h → RisesFor {T = T} a b h (Err e)
 rises_other {h = h} {e = e} more other = record { more = more; rose = λ is. absurd (other cc) }
-
-pub rises_ok : {T : Type 0} {a b : ℕ} {h : Halt} {x : T} → a ≤ b → RisesFor {T = T} a b h (Ok x)
-rises_ok more = record { more = more; rose = λ is. absurd cc }
 
 -- a turn failed
 pub rises_turn : {T : Type 0} (a b c : ℕ) (e : StepFault) (h : Halt) → stop_of h ≡ turn.stop_of e → a ≤ b
@@ -252,22 +249,6 @@ start_caused tells files files_now turns calls of_link low high of_disk now star
     (still of_disk now (counts.others_uncounted (λ e. cc))) (λ e. cc) (λ e. cc) (λ e. absurd cc)
     (λ e. absurd cc)
 
--- the index isn't open
-pub unopened_caused : (turns calls of_link of_archive low high : ℕ) (s : Status)
-    → (s ≡ status.BadIndex) ⊎ ((s ≡ status.DiskFailed) ⊎ (s ≡ status.OutOfMemory))
-    → (s ≡ status.DiskFailed → RoseBy low high 1) → (s ≢ status.DiskFailed → high ≡ low)
-    → IsCaused (counts turns calls calls (faults of_link of_archive low) (faults of_link of_archive high))
-    s
-unopened_caused turns calls of_link of_archive low high s is counted uncounted = elim is [
-  | inl bad ↦ rw bad (unserved_caused turns calls _ _ status.BadIndex refl (omega arith)
-      (still low high (uncounted (λ e. cc))) (λ e. cc) (λ e. cc) (λ e. absurd cc) (λ e. absurd cc))
-  | inr (inl failed) ↦ rw failed (unserved_caused turns calls _ _ status.DiskFailed refl (omega arith)
-      (one_more low high (counted failed)) (λ e. cc) (λ e. cc) (λ e. absurd cc)
-      (λ e. one_risen low high (counted failed)))
-  | inr (inr memory) ↦ rw memory (unserved_caused turns calls _ _ status.OutOfMemory refl (omega arith)
-      (still low high (uncounted (λ e. cc))) (λ e. cc) (λ e. cc) (λ e. absurd cc) (λ e. absurd cc))
-]
-
 -- file 0 can't be read
 pub unread_caused : {T : Type 0} (tells : Type 0) (files files_now : ℕ → List ℕ)
     (turns calls of_link low high of_disk : ℕ) (e : FileFault)
@@ -323,15 +304,3 @@ start_opened start.DiskFailed = tt
 start_opened start.ArchiveFailed = tt
 start_opened start.OtherChain = tt
 start_opened start.Memory = tt
-
-pub not_opened : (s : Status)
-    → (s ≡ status.BadIndex) ⊎ ((s ≡ status.DiskFailed) ⊎ (s ≡ status.OutOfMemory)) → IsUnopened s
-not_opened s (inl is) = rw is tt
-not_opened s (inr (inl is)) = rw is tt
-not_opened s (inr (inr is)) = rw is tt
-
-pub not_usage : (s : Status)
-    → (s ≡ status.BadIndex) ⊎ ((s ≡ status.DiskFailed) ⊎ (s ≡ status.OutOfMemory)) → s ≢ status.Usage
-not_usage s (inl is) = λ e. cc
-not_usage s (inr (inl is)) = λ e. cc
-not_usage s (inr (inr is)) = λ e. cc
