@@ -1,9 +1,9 @@
 -- Tables in memory.
-use Rattle.std.proofs.Common.{◌≡◌, ◌≢◌, ◌<◌, ◌≤◌, ◌+◌, ◌-◌, ℕ, suc, List, [], ◌∷◌, ◌++◌, Bool, false, cond, Option, Some, None, length, get_or, take, drop, unwrap_or, ap, sym, ◌∙◌, refl, arith, subst, ⊎_elim, length-append, drop-cons}
+use Rattle.std.proofs.Common.{◌≡◌, ◌≢◌, ◌<◌, ◌≤◌, ◌+◌, ℕ, suc, List, [], ◌∷◌, Bool, false, cond, Option, Some, None, length, get_or, take, drop, unwrap_or, ap, sym, ◌∙◌, refl, arith, subst, ⊎_elim, drop-cons}
 use Rattle.std.specs.Prelude.{slice_get, Result, Ok, Err, OnErr}
 use Rattle.std.proofs.Math.Path.{fun_ext}
 use Rattle.std.proofs.Math.ListN.{set, length-set}
-use Rattle.std.proofs.lemmas.List.{get_or_append_left, get_or-append_right, get_or-set_same, get_or-set_other, get_or-take, length-take-le, ext_get_or, drop_all}
+use Rattle.std.proofs.lemmas.List.{get_or-set_same, get_or-set_other, get_or-take, get_or_default, length-take-le, ext_get_or}
 use Rattle.std.proofs.lemmas.Bool.{cases_lt, cases_eq}
 use Rattle.std.proofs.lemmas.Map.Entries.{lookup_from_place}
 use Rattle.std.proofs.lemmas.Map.Keys.{IsDistinct-from_sorted}
@@ -14,31 +14,29 @@ use Rattle.std.specs.Map.{keys_of}
 use Rattle.el_rows.specs.declared.table.Table.{Table}
 use Rattle.el_rows.specs.declared.table.Table.TheVariants as table
 use Rattle.el_rows.specs.declared.table.RowKey.{RowKey}
-use Rattle.el_rows.specs.Tables.{Tables, tables_of, listed, index_of, size_of, row_cmp}
+use Rattle.el_rows.specs.Tables.{Tables, tables_of, listed, index_of, row_cmp}
 use Rattle.el_rows.specs.Changes.{Changes, IsMadeFrom, key, changed_at, count_at, under}
-use Rattle.el_rows.specs.within.InMemory.{HasGrown, shown_rows, AreSized, HasRoom, AreKept, AllGrown, AreWritten}
+use Rattle.el_rows.specs.within.SizedRows.{SizedRows}
+use Rattle.el_rows.specs.within.InMemory.{HasGrown, no_list, list_of, kept_of, shown_rows, AreSized, HasRoom, AreKept, AllGrown, AreWritten}
 use Rattle.el_rows.proofs.Keys.{keys_total, same_table, same_index, other_key}
 use Rattle.el_rows.proofs.UnderLemmas.{is_under}
 
-pub not_grown : (size : ℕ) (old : List (List ℕ)) → HasGrown size old old
+-- a list that was read
+pub is_read : (kept : List SizedRows) (t : Table) (i : ℕ) (list : SizedRows) → i < length kept → i ≡ index_of t → get_or kept i list ≡ list_of kept t
+is_read kept t i list lt at = get_or_default kept i list no_list lt ∙ ap (λ (n : ℕ). get_or kept n no_list) at
+
+-- one list was set
+set_at : (kept : List SizedRows) (t : Table) (list : SizedRows) → index_of t < length kept → list_of (set kept (index_of t) list) t ≡ list
+set_at kept t list lt = get_or-set_same kept (index_of t) list no_list lt
+
+set_beside : (kept : List SizedRows) (t u : Table) (list : SizedRows) → u ≢ t → list_of (set kept (index_of t) list) u ≡ list_of kept u
+set_beside kept t u list ne = get_or-set_other kept (index_of t) (index_of u) list no_list (λ e. ne (same_index u t e))
+
+not_grown : (size : ℕ) (old : List (List ℕ)) → HasGrown size old old
 not_grown size old = record { longer = omega arith; before = λ i lt. refl; sized = λ i le lt. absurd (omega (arith, le, lt)) }
 
--- one row more
-pub grown_more : (size : ℕ) (old mid : List (List ℕ)) (row : List ℕ) → HasGrown size old mid → length row ≡ size → HasGrown size old (mid ++ row ∷ [])
-grown_more size old mid row grown is = record {
-  longer = omega (arith, grown.longer, length-append mid (row ∷ []));
-  before = λ i lt. get_or_append_left mid (row ∷ []) [] i (omega (arith, lt, grown.longer)) ∙ grown.before i lt;
-  sized = λ i le lt. ⊎_elim
-      (λ less. ap length (get_or_append_left mid (row ∷ []) [] i less) ∙ grown.sized i le less)
-      (λ last. ap length (new_row i (omega (arith, last, lt, length-append mid (row ∷ [])))) ∙ is)
-      (cases_lt i (length mid));
-}
-  where
-    new_row : (i : ℕ) → i ≡ length mid → get_or (mid ++ row ∷ []) i [] ≡ row
-    new_row i is = get_or-append_right mid (row ∷ []) i i [] (sym is) (omega arith) ∙ ap (λ n. get_or (row ∷ []) n []) (let e : i - i ≡ 0 = omega arith in e)
-
 -- two growths
-pub grown_twice : (size : ℕ) (a b c : List (List ℕ)) → HasGrown size a b → HasGrown size b c → HasGrown size a c
+grown_twice : (size : ℕ) (a b c : List (List ℕ)) → HasGrown size a b → HasGrown size b c → HasGrown size a c
 grown_twice size a b c first second = record {
   longer = omega (arith, first.longer, second.longer);
   before = λ i lt. second.before i (omega (arith, lt, first.longer)) ∙ first.before i lt;
@@ -48,50 +46,76 @@ grown_twice size a b c first second = record {
       (cases_lt i (length b));
 }
 
--- one table was set
-pub set_at : (kept : List (List (List ℕ))) (t : Table) (rows : List (List ℕ)) → index_of t < length kept → tables_of (set kept (index_of t) rows) t ≡ rows
-set_at kept t rows lt = get_or-set_same kept (index_of t) rows [] lt
-
-pub set_beside : (kept : List (List (List ℕ))) (t u : Table) (rows : List (List ℕ)) → u ≢ t → tables_of (set kept (index_of t) rows) u ≡ tables_of kept u
-set_beside kept t u rows ne = get_or-set_other kept (index_of t) (index_of u) rows [] (λ e. ne (same_index u t e))
-
--- one table has grown
-pub one_grown : (old new : List (List (List ℕ))) (t : Table) (rows : List (List ℕ)) → new ≡ set old (index_of t) rows → index_of t < length old → HasGrown (size_of t) (tables_of old t) rows → AllGrown old new
-one_grown old new t rows is lt grown u = ⊎_elim
-    (λ (e : u ≡ t). subst (λ (v : Table). HasGrown (size_of v) (tables_of old v) (tables_of new v)) (sym e)
-    (subst (λ (r : List (List ℕ)). HasGrown (size_of t) (tables_of old t) r) (sym (ap (λ (k : List (List (List ℕ))). tables_of k t) is ∙ set_at old t rows lt)) grown))
-    (λ (ne : u ≢ t). subst (λ (r : List (List ℕ)). HasGrown (size_of u) (tables_of old u) r) (sym (ap (λ (k : List (List (List ℕ))). tables_of k u) is ∙ set_beside old t u rows ne)) (not_grown (size_of u) (tables_of old u)))
-    (same_table u t)
-
-pub grown_sized : (old new : List (List (List ℕ))) → AllGrown old new → AreSized old → AreSized new
-grown_sized old new grown sized t i lt = ⊎_elim
-    (λ less. ap length ((grown t).before i less) ∙ sized t i less)
-    (λ more. (grown t).sized i more lt)
-    (cases_lt i (length (tables_of old t)))
-
--- what is shown stays while spare rows come
-pub shown_grown : (old new : List (List (List ℕ))) (counts : List ℕ) → AllGrown old new → HasRoom old counts → shown_rows new counts ≡ shown_rows old counts
-shown_grown old new counts grown room = fun_ext (λ t.
-    let n = count_at counts t in
-    let in_new : n ≤ length (tables_of new t) = omega (arith, room t, (grown t).longer) in
-    let long : length (take n (tables_of new t)) ≡ n = length-take-le n (tables_of new t) in_new in
-    ext_get_or [] (take n (tables_of new t)) (take n (tables_of old t)) (long ∙ sym (length-take-le n (tables_of old t) (room t)))
-    (λ i lt. let below : i < n = omega (arith, lt, long) in
-    get_or-take n (tables_of new t) i [] below ∙ (grown t).before i (omega (arith, below, room t)) ∙ sym (get_or-take n (tables_of old t) i [] below)))
-
-pub grown_kept : (old new : List (List (List ℕ))) (counts : List ℕ) → AllGrown old new → AreKept old counts → AreKept new counts
-grown_kept old new counts grown were = record {
-  sized = grown_sized old new grown were.sized;
-  room = λ t. omega (arith, were.room t, (grown t).longer);
-  limited = were.limited;
+pub all_grown_twice : (a b c : List SizedRows) → AllGrown a b → AllGrown b c → AllGrown a c
+all_grown_twice a b c first second = record {
+  sizes = λ t. second.sizes t ∙ first.sizes t;
+  rows = λ t. grown_twice (list_of a t).size (kept_of a t) (kept_of b t) (kept_of c t) (first.rows t)
+      (subst (λ (n : ℕ). HasGrown n (kept_of b t) (kept_of c t)) (first.sizes t) (second.rows t));
 }
 
+-- the tables in their order
+abbrev all_tables : List Table
+all_tables = table.Blocks ∷ table.Txs ∷ table.TxHeads ∷ table.Outs ∷ table.Ins ∷ table.Scripts ∷ table.ScriptHeads ∷ table.Entries ∷ []
+
+table_at : (t : Table) → get_or all_tables (index_of t) table.Blocks ≡ t
+table_at t = elim t as (λ u. get_or all_tables (index_of u) table.Blocks ≡ u) [
+  | table.Blocks ↦ refl
+  | table.Txs ↦ refl
+  | table.TxHeads ↦ refl
+  | table.Outs ↦ refl
+  | table.Ins ↦ refl
+  | table.Scripts ↦ refl
+  | table.ScriptHeads ↦ refl
+  | table.Entries ↦ refl
+]
+
+-- one table more has room
+pub room_more : (old new : List SizedRows) (counts : List ℕ) (i : ℕ) → ((t : Table) → index_of t < i → count_at counts t ≤ length (kept_of old t)) → AllGrown old new
+    → (let t = get_or all_tables i table.Blocks in count_at counts t ≤ length (kept_of new t)) → (t : Table) → index_of t < i + 1 → count_at counts t ≤ length (kept_of new t)
+room_more old new counts i room grown here t lt = ⊎_elim
+    (λ (less : index_of t < i). omega (arith, room t less, (grown.rows t).longer))
+    (λ more. let last : i ≡ index_of t = omega (arith, more, lt) in
+    subst (λ (u : Table). count_at counts u ≤ length (kept_of new u)) (ap (λ (n : ℕ). get_or all_tables n table.Blocks) last ∙ table_at t) here)
+    (cases_lt (index_of t) i)
+
+-- one list has grown
+module _ (old new : List SizedRows) (t : Table) (list : SizedRows) (is : new ≡ set old (index_of t) list) (lt : index_of t < length old)
+    (grown : HasGrown (list_of old t).size (kept_of old t) list.rows) (same : list.size ≡ (list_of old t).size) where
+  list_here : list_of new t ≡ list
+  list_here = ap (λ (kept : List SizedRows). list_of kept t) is ∙ set_at old t list lt
+
+  list_beside : (u : Table) → u ≢ t → list_of new u ≡ list_of old u
+  list_beside u ne = ap (λ (kept : List SizedRows). list_of kept u) is ∙ set_beside old t u list ne
+
+  pub one_grown : AllGrown old new
+  one_grown = record {
+    sizes = λ u. ⊎_elim
+        (λ (e : u ≡ t). subst (λ (v : Table). (list_of new v).size ≡ (list_of old v).size) (sym e) (ap (λ (l : SizedRows). l.size) list_here ∙ same))
+        (λ (ne : u ≢ t). ap (λ (l : SizedRows). l.size) (list_beside u ne))
+        (same_table u t);
+    rows = λ u. ⊎_elim
+        (λ (e : u ≡ t). subst (λ (v : Table). HasGrown (list_of old v).size (kept_of old v) (kept_of new v)) (sym e)
+        (subst (λ (l : SizedRows). HasGrown (list_of old t).size (kept_of old t) l.rows) (sym list_here) grown))
+        (λ (ne : u ≢ t). subst (λ (l : SizedRows). HasGrown (list_of old u).size (kept_of old u) l.rows) (sym (list_beside u ne)) (not_grown (list_of old u).size (kept_of old u)))
+        (same_table u t);
+  }
+
+-- what is shown stays while spare rows come
+pub shown_grown : (old new : List SizedRows) (counts : List ℕ) → AllGrown old new → HasRoom old counts → shown_rows new counts ≡ shown_rows old counts
+shown_grown old new counts grown room = fun_ext (λ t.
+    let n = count_at counts t in
+    let in_new : n ≤ length (kept_of new t) = omega (arith, room t, (grown.rows t).longer) in
+    let long : length (take n (kept_of new t)) ≡ n = length-take-le n (kept_of new t) in_new in
+    ext_get_or [] (take n (kept_of new t)) (take n (kept_of old t)) (long ∙ sym (length-take-le n (kept_of old t) (room t)))
+    (λ i lt. let below : i < n = omega (arith, lt, long) in
+    get_or-take n (kept_of new t) i [] below ∙ (grown.rows t).before i (omega (arith, below, room t)) ∙ sym (get_or-take n (kept_of old t) i [] below)))
+
 -- the changed rows of some of the changes are written, the others are still to be written
-pub record AreWriting (old new : List (List (List ℕ))) (changes : Changes) (k : ℕ) : Type 0 where
-  pub long : (t : Table) → length (tables_of new t) ≡ length (tables_of old t)
+pub record AreWriting (old new : List SizedRows) (changes : Changes) (k : ℕ) : Type 0 where
   pub tables : length new ≡ length old
-  pub sized : AreSized new
-  pub each : (t : Table) (i : ℕ) → i < length (tables_of old t) → changed_at (drop k changes) t i ≡ None → get_or (tables_of new t) i [] ≡ unwrap_or (changed_at changes t i) (get_or (tables_of old t) i [])
+  pub sizes : (t : Table) → (list_of new t).size ≡ (list_of old t).size
+  pub long : (t : Table) → length (kept_of new t) ≡ length (kept_of old t)
+  pub each : (t : Table) (i : ℕ) → i < length (kept_of old t) → changed_at (drop k changes) t i ≡ None → get_or (kept_of new t) i [] ≡ unwrap_or (changed_at changes t i) (get_or (kept_of old t) i [])
 
 -- the change of that number is what is changed at its row
 pub change_at : (base : Table → ℕ) (counts : List ℕ) (changes : Changes) (k : ℕ) (t : Table) (i : ℕ) (row : List ℕ) → IsMadeFrom base counts changes → slice_get changes k ≡ Some (key t i, row) → changed_at changes t i ≡ Some row
@@ -105,44 +129,53 @@ if_not : (b : Bool) (row rest : Option (List ℕ)) → b ≡ false → cond b ro
 if_not b row rest is = ap (λ c. cond c row rest) is
 
 -- one change more
-module _ (base : Table → ℕ) (counts : List ℕ) (changes : Changes) (old mid : List (List (List ℕ))) (k : ℕ) (t : Table) (i : ℕ) (row : List ℕ)
-    (made : IsMadeFrom base counts changes) (room : HasRoom old counts) (so_far : AreWriting old mid changes k) (is : slice_get changes k ≡ Some (key t i, row)) where
+module _ (base : Table → ℕ) (counts : List ℕ) (changes : Changes) (old mid : List SizedRows) (k : ℕ) (t : Table) (i : ℕ) (row : List ℕ)
+    (made : IsMadeFrom base counts changes) (room : HasRoom old counts) (sized : AreSized old) (so_far : AreWriting old mid changes k) (is : slice_get changes k ≡ Some (key t i, row)) where
   found : changed_at changes t i ≡ Some row
   found = change_at base counts changes k t i row made is
 
-  pub in_mid : i < length (tables_of mid t)
-  in_mid = let few : i < count_at counts t = made.within t i (rw found refl) in let in_old : i < length (tables_of old t) = omega (arith, few, room t) in rw (so_far.long t) in_old
+  pub in_mid : i < length (kept_of mid t)
+  in_mid = let few : i < count_at counts t = made.within t i (rw found refl) in let in_old : i < length (kept_of old t) = omega (arith, few, room t) in rw (so_far.long t) in_old
 
-  pub same_size : length row ≡ length (get_or (tables_of mid t) i [])
-  same_size = made.sized t i row found ∙ sym (so_far.sized t i in_mid)
+  pub same_size : length row ≡ (list_of mid t).size
+  same_size = made.sized t i row found ∙ sym (so_far.sizes t ∙ sized t)
 
 -- and what it leaves
-module _ (base : Table → ℕ) (counts : List ℕ) (changes : Changes) (old mid new : List (List (List ℕ))) (k : ℕ) (t : Table) (i : ℕ) (row : List ℕ)
-    (made : IsMadeFrom base counts changes) (room : HasRoom old counts) (so_far : AreWriting old mid changes k)
-    (is : slice_get changes k ≡ Some (key t i, row)) (set_is : new ≡ set mid (index_of t) (set (tables_of mid t) i row)) (within : index_of t < length mid) where
-  here : tables_of new t ≡ set (tables_of mid t) i row
-  here = ap (λ (x : List (List (List ℕ))). tables_of x t) set_is ∙ set_at mid t (set (tables_of mid t) i row) within
+abbrev set_row : List SizedRows → Table → ℕ → List ℕ → SizedRows
+set_row kept t i row = record { size = (list_of kept t).size; rows = set (kept_of kept t) i row }
 
-  beside : (u : Table) → u ≢ t → tables_of new u ≡ tables_of mid u
-  beside u ne = ap (λ (x : List (List (List ℕ))). tables_of x u) set_is ∙ set_beside mid t u (set (tables_of mid t) i row) ne
+module _ (base : Table → ℕ) (counts : List ℕ) (changes : Changes) (old mid new : List SizedRows) (k : ℕ) (t : Table) (i : ℕ) (row : List ℕ)
+    (made : IsMadeFrom base counts changes) (room : HasRoom old counts) (sized : AreSized old) (so_far : AreWriting old mid changes k) (is : slice_get changes k ≡ Some (key t i, row))
+    (set_is : new ≡ set mid (index_of t) (set_row mid t i row)) (within : index_of t < length mid) where
+  here : list_of new t ≡ set_row mid t i row
+  here = ap (λ (kept : List SizedRows). list_of kept t) set_is ∙ set_at mid t (set_row mid t i row) within
+
+  beside : (u : Table) → u ≢ t → list_of new u ≡ list_of mid u
+  beside u ne = ap (λ (kept : List SizedRows). list_of kept u) set_is ∙ set_beside mid t u (set_row mid t i row) ne
 
   change_is : changed_at changes t i ≡ Some row
-  change_is = found base counts changes old mid k t i row made room so_far is
+  change_is = found base counts changes old mid k t i row made room sized so_far is
 
-  same_long : (u : Table) → length (tables_of new u) ≡ length (tables_of mid u)
-  same_long u = ⊎_elim
-      (λ (e : u ≡ t). subst (λ (v : Table). length (tables_of new v) ≡ length (tables_of mid v)) (sym e) (ap length here ∙ length-set (tables_of mid t) i row))
-      (λ (ne : u ≢ t). ap length (beside u ne))
+  same_sizes : (u : Table) → (list_of new u).size ≡ (list_of mid u).size
+  same_sizes u = ⊎_elim
+      (λ (e : u ≡ t). subst (λ (v : Table). (list_of new v).size ≡ (list_of mid v).size) (sym e) (ap (λ (l : SizedRows). l.size) here))
+      (λ (ne : u ≢ t). ap (λ (l : SizedRows). l.size) (beside u ne))
       (same_table u t)
 
-  new_here : get_or (tables_of new t) i [] ≡ row
-  new_here = ap (λ (r : List (List ℕ)). get_or r i []) here ∙ get_or-set_same (tables_of mid t) i row [] (in_mid base counts changes old mid k t i row made room so_far is)
+  same_long : (u : Table) → length (kept_of new u) ≡ length (kept_of mid u)
+  same_long u = ⊎_elim
+      (λ (e : u ≡ t). subst (λ (v : Table). length (kept_of new v) ≡ length (kept_of mid v)) (sym e) (ap (λ (l : SizedRows). length l.rows) here ∙ length-set (kept_of mid t) i row))
+      (λ (ne : u ≢ t). ap (λ (l : SizedRows). length l.rows) (beside u ne))
+      (same_table u t)
 
-  new_beside : (u : Table) (j : ℕ) → (u ≡ t → j ≡ i → ⊥) → get_or (tables_of new u) j [] ≡ get_or (tables_of mid u) j []
+  new_here : get_or (kept_of new t) i [] ≡ row
+  new_here = ap (λ (l : SizedRows). get_or l.rows i []) here ∙ get_or-set_same (kept_of mid t) i row [] (in_mid base counts changes old mid k t i row made room sized so_far is)
+
+  new_beside : (u : Table) (j : ℕ) → (u ≡ t → j ≡ i → ⊥) → get_or (kept_of new u) j [] ≡ get_or (kept_of mid u) j []
   new_beside u j apart = ⊎_elim
-      (λ (e : u ≡ t). subst (λ (v : Table). get_or (tables_of new v) j [] ≡ get_or (tables_of mid v) j []) (sym e)
-      (ap (λ (r : List (List ℕ)). get_or r j []) here ∙ get_or-set_other (tables_of mid t) i j row [] (λ same. apart e same)))
-      (λ (ne : u ≢ t). ap (λ (r : List (List ℕ)). get_or r j []) (beside u ne))
+      (λ (e : u ≡ t). subst (λ (v : Table). get_or (kept_of new v) j [] ≡ get_or (kept_of mid v) j []) (sym e)
+      (ap (λ (l : SizedRows). get_or l.rows j []) here ∙ get_or-set_other (kept_of mid t) i j row [] (λ same. apart e same)))
+      (λ (ne : u ≢ t). ap (λ (l : SizedRows). get_or l.rows j []) (beside u ne))
       (same_table u t)
 
   -- a row is the one that was written or another
@@ -161,48 +194,32 @@ module _ (base : Table → ℕ) (counts : List ℕ) (changes : Changes) (old mid
 
   pub write_more : AreWriting old new changes (k + 1)
   write_more = record {
+    tables = ap length set_is ∙ length-set mid (index_of t) (set_row mid t i row) ∙ so_far.tables;
+    sizes = λ u. same_sizes u ∙ so_far.sizes u;
     long = λ u. same_long u ∙ so_far.long u;
-    tables = ap length set_is ∙ length-set mid (index_of t) (set (tables_of mid t) i row) ∙ so_far.tables;
-    sized = one_row (λ u j. j < length (tables_of new u) → length (get_or (tables_of new u) j []) ≡ size_of u)
-        (λ _. ap length new_here ∙ made.sized t i row change_is)
-        (λ u j apart lt. ap length (new_beside u j apart) ∙ so_far.sized u j (rw (same_long u) at lt));
-    each = one_row (λ u j. j < length (tables_of old u) → changed_at (drop (k + 1) changes) u j ≡ None → get_or (tables_of new u) j [] ≡ unwrap_or (changed_at changes u j) (get_or (tables_of old u) j []))
-        (λ _ _. new_here ∙ sym (ap (λ (o : Option (List ℕ)). unwrap_or o (get_or (tables_of old t) i [])) change_is))
+    each = one_row (λ u j. j < length (kept_of old u) → changed_at (drop (k + 1) changes) u j ≡ None → get_or (kept_of new u) j [] ≡ unwrap_or (changed_at changes u j) (get_or (kept_of old u) j []))
+        (λ _ _. new_here ∙ sym (ap (λ (o : Option (List ℕ)). unwrap_or o (get_or (kept_of old t) i [])) change_is))
         (λ u j apart lt none. new_beside u j apart ∙ so_far.each u j lt (none_before u j apart none));
   }
 
-pub none_written : (old : List (List (List ℕ))) (changes : Changes) → AreSized old → AreWriting old old changes 0
-none_written old changes sized = record {
-  long = λ t. refl;
-  tables = refl;
-  sized = sized;
-  each = λ t i lt none. ap (λ (o : Option (List ℕ)). unwrap_or o (get_or (tables_of old t) i [])) (sym none);
-}
-
-pub all_written : (old new : List (List (List ℕ))) (changes : Changes) (k : ℕ) → length changes ≤ k → AreWriting old new changes k → AreWritten old new changes
-all_written old new changes k le done = record {
-  long = done.long;
-  each = λ t i lt. done.each t i lt (ap (λ (c : Changes). changed_at c t i) (drop_all k changes le));
-}
-
 -- what is shown after a commit
-module _ (old grown new : List (List (List ℕ))) (counts more : List ℕ) (changes : Changes) (were : AreKept old counts) (grew : AllGrown old grown) (room : HasRoom grown more)
+module _ (old grown new : List SizedRows) (counts more : List ℕ) (changes : Changes) (were : AreKept old counts) (grew : AllGrown old grown) (room : HasRoom grown more)
     (wrote : AreWritten grown new changes) (made : IsMadeFrom (λ t. length (shown_rows old counts t)) more changes) where
   shown_before : (t : Table) → length (shown_rows old counts t) ≡ count_at counts t
-  shown_before t = length-take-le (count_at counts t) (tables_of old t) (were.room t)
+  shown_before t = length-take-le (count_at counts t) (kept_of old t) (were.room t)
 
-  has_room : (t : Table) → count_at more t ≤ length (tables_of new t)
+  has_room : (t : Table) → count_at more t ≤ length (kept_of new t)
   has_room t = omega (arith, room t, wrote.long t)
 
   row_now : (t : Table) (i : ℕ) → i < count_at more t → (o : Option (List ℕ)) → changed_at changes t i ≡ o
-      → unwrap_or o (get_or (tables_of grown t) i []) ≡ unwrap_or o (get_or (shown_rows old counts t) i [])
+      → unwrap_or o (get_or (kept_of grown t) i []) ≡ unwrap_or o (get_or (shown_rows old counts t) i [])
   row_now t i lt (Some row) is = refl
   row_now t i lt None is = let below : i < count_at counts t = subst (λ n. i < n) (shown_before t) (made.covers t i lt is) in
-      (grew t).before i (omega (arith, below, were.room t)) ∙ sym (get_or-take (count_at counts t) (tables_of old t) i [] below)
+      (grew.rows t).before i (omega (arith, below, were.room t)) ∙ sym (get_or-take (count_at counts t) (kept_of old t) i [] below)
 
   pub shown_after : (t : Table) → shown_rows new more t ≡ under (shown_rows old counts) more changes t
-  shown_after t = sym (is_under (shown_rows old counts) more changes t (shown_rows new more t) (length-take-le (count_at more t) (tables_of new t) (has_room t))
-      (λ i lt. get_or-take (count_at more t) (tables_of new t) i [] lt ∙ wrote.each t i (omega (arith, lt, room t)) ∙ row_now t i lt (changed_at changes t i) refl))
+  shown_after t = sym (is_under (shown_rows old counts) more changes t (shown_rows new more t) (length-take-le (count_at more t) (kept_of new t) (has_room t))
+      (λ i lt. get_or-take (count_at more t) (kept_of new t) i [] lt ∙ wrote.each t i (omega (arith, lt, room t)) ∙ row_now t i lt (changed_at changes t i) refl))
 
 -- a list of tables has each at its place
 pub at_table : (tables : Tables) (t : Table) → tables_of (listed tables) t ≡ tables t
@@ -220,20 +237,21 @@ at_table tables t = elim t as (λ u. tables_of (listed tables) u ≡ tables u) [
 pub as_tables : (self : List (List (List ℕ))) (tables : Tables) → listed tables ≡ self → tables_of self ≡ tables
 as_tables self tables is = fun_ext (λ t. ap (λ (x : List (List (List ℕ))). tables_of x t) (sym is) ∙ at_table tables t)
 
+-- a row that is shown is one that is kept
+pub shown_row : (self : List (List (List ℕ))) (kept : List SizedRows) (counts : List ℕ) (t : Table) (i : ℕ) → listed (shown_rows kept counts) ≡ self → HasRoom kept counts → i < length (tables_of self t)
+    → get_or (kept_of kept t) i [] ≡ get_or (tables_of self t) i []
+shown_row self kept counts t i is room lt =
+    let same : tables_of self t ≡ shown_rows kept counts t = ap (λ (tables : Tables). tables t) (as_tables self (shown_rows kept counts) is) in
+    let below : i < count_at counts t = omega (arith, lt, ap (λ (rows : List (List ℕ)). length rows) same, length-take-le (count_at counts t) (kept_of kept t) (room t)) in
+    sym (ap (λ (rows : List (List ℕ)). get_or rows i []) same ∙ get_or-take (count_at counts t) (kept_of kept t) i [] below)
+
 -- the tables after a commit
-pub committed : (self old grown new : List (List (List ℕ))) (counts told more : List ℕ) (changes : Changes) → listed (shown_rows old counts) ≡ self → AreKept old counts → AllGrown old grown → HasRoom grown more
+pub committed : (self : List (List (List ℕ))) (old grown new : List SizedRows) (counts told more : List ℕ) (changes : Changes) → listed (shown_rows old counts) ≡ self → AreKept old counts → AllGrown old grown → HasRoom grown more
     → AreWritten grown new changes → IsMadeFrom (λ t. length (tables_of self t)) more changes → told ≡ more → (t : Table) → tables_of (listed (shown_rows new told)) t ≡ under (tables_of self) more changes t
 committed self old grown new counts told more changes is were grew room wrote made same t =
     let shown : tables_of self ≡ shown_rows old counts = as_tables self (shown_rows old counts) is in
     at_table (shown_rows new told) t ∙ ap (λ (c : List ℕ). shown_rows new c t) same
     ∙ rw shown (shown_after old grown new counts more changes were grew room wrote (subst (λ (l : Tables). IsMadeFrom (λ u. length (l u)) more changes) shown made) t)
-
-pub kept_after : (grown new : List (List (List ℕ))) (told more : List ℕ) (changes : Changes) (base : Table → ℕ) → AreSized new → HasRoom grown more → AreWritten grown new changes → IsMadeFrom base more changes → told ≡ more → AreKept new told
-kept_after grown new told more changes base sized room wrote made same = rw same (record {
-  sized = sized;
-  room = λ t. omega (arith, room t, wrote.long t);
-  limited = made.limited;
-})
 
 -- what a refusal leaves
 pub on_err : {T E P : Type 0} (r : Result T E) → P → OnErr r P

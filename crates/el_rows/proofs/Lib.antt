@@ -1,8 +1,13 @@
 pub mod Keys
 pub mod UnderLemmas
+pub mod EditedLemmas
+pub mod PairedLemmas
+pub mod ShownLemmas
+pub mod SealedLemmas
 pub mod EditsLemmas
 pub mod TableLemmas
 pub mod ReadsLemmas
+pub mod RowListLemmas
 pub mod InMemoryLemmas
 pub mod VersionLemmas
 pub mod RowLemmas

@@ -1,7 +1,7 @@
 -- Changed rows, and tables under them.
 use Rattle.std.specs.Prelude.{◌≡◌, ◌≢◌, ◌<◌, ◌≤◌, ℕ, List, [], Option, None, Some, IsSome, map, unwrap_or, length, cond}
 use Rattle.std.specs.Option.{ForSome}
-use Rattle.std.specs.Prelude.{get_or, filter, nat_lt, Bool}
+use Rattle.std.specs.Prelude.{get_or, nat_lt}
 use Rattle.std.specs.List.{range_with_len}
 use Rattle.std.specs.List.Sorted.{IsStrictlySortedBy}
 use Rattle.std.specs.Map.{lookup, keys_of}
@@ -32,13 +32,6 @@ row_under lists changes t i = unwrap_or (changed_at changes t i) (get_or (lists 
 -- the tables under the changes, with these counts
 unfoldable pub under : Tables → List ℕ → Changes → Tables
 under lists counts changes t = map (row_under lists changes t) (range_with_len 0 (count_at counts t))
-
--- Edits of tables that had the counts `base`: a row that was not changed is one of those below.
-pub record AreEdits (base counts : List ℕ) (changes : Changes) : Type 0 where
-  pub covers : (t : Table) (i : ℕ) → i < count_at counts t → changed_at changes t i ≡ None
-      → i < count_at base t
-  pub sized : (t : Table) (i : ℕ) → ForSome (changed_at changes t i) (λ row. length row ≡ size_of t)
-  pub limited : (t : Table) → count_at counts t ≤ limit_of t
 
 -- What a store takes: edits of its tables, by rising table and row, each of a row that there then is.
 pub record IsMadeFrom (base : Table → ℕ) (counts : List ℕ) (changes : Changes) : Type 0 where
@@ -74,9 +67,6 @@ pub record OnTable (old new : Tables) (t : Table) (rows : List (List ℕ)) : Typ
   pub here : new t ≡ rows
   pub others : (u : Table) → u ≢ t → new u ≡ old u
 
--- the changed rows that are shown under these counts
-abbrev pub is_shown : List ℕ → RowKey → Bool
-is_shown counts k = nat_lt k.row (count_at counts k.table)
-
-abbrev pub shown_of : List ℕ → Changes → Changes
-shown_of counts changes = filter (λ e. is_shown counts e.0) changes
+-- a changed row, where it is shown under these counts
+abbrev pub shown_at : List ℕ → Changes → Table → ℕ → Option (List ℕ)
+shown_at counts changes t i = cond (nat_lt i (count_at counts t)) (changed_at changes t i) None

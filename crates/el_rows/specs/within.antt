@@ -1,2 +1,4 @@
+pub mod SizedRows
+pub mod EditedTables
 pub mod InMemory
 pub mod Versions

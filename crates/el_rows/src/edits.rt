@@ -1,30 +1,17 @@
 // Edits of tables, apart from the rows below them.
-ghost use Rattle.std.specs.Prelude.{◌≡◌, ◌<◌, ◌≤◌, ◌+◌, ℕ, List, [], None, length, OnOk, OnErr, IfOk, Err, IsOkUnless, option_map, IfSome, get_or};
-ghost use Rattle.el_rows.specs.Tables.{number_of, size_of, limit_of};
-ghost use Rattle.el_rows.specs.Changes.{count_at, changed_at, Sets, Counts, shown_of, IsMadeFrom};
-ghost use Rattle.std.specs.BTreeMap.{IsOrdered};
+ghost use Rattle.std.specs.Prelude.{◌≡◌, ◌≢◌, ◌<◌, ◌≤◌, ◌+◌, ◌++◌, ◌&&◌, ℕ, List, [], None, map, length, OnOk, OnErr, IfOk, Err, IsOkUnless, option_map, is_some, nat_eq, nat_lt, IfSome, get_or};
+ghost use Rattle.std.specs.List.{list_any};
+ghost use Rattle.std.specs.List.Sorted.{IsStrictlyIncreasing, IsStrictlySortedBy};
+ghost use Rattle.std.specs.BTreeMap.{is_at};
+ghost use Rattle.el_rows.specs.Tables.{number_of, size_of, limit_of, row_cmp};
+ghost use Rattle.el_rows.specs.Changes.{key, count_at, changed_at, Sets, Counts, shown_at, IsMadeFrom};
+ghost use Rattle.el_rows.specs.within.EditedTables.{edits_of, Writes};
 
+use crate::table_edits::TableEdits;
 use crate::{AppendFault, RowKey, Sealed, TABLES, Table};
-use el_base::{Bytes, OutOfMemory};
+use el_base::OutOfMemory;
 use std::alloc::Global;
-use std::collections::BTreeMap;
 use std::marker::Model;
-
-// Changes a row, or changes it again.
-fn write(
-    alloc: Global,
-    changed: &mut BTreeMap<RowKey, Bytes>,
-    t: Table,
-    i: u64,
-    row: &[u8],
-) -> Result<(), OutOfMemory>
-    ensures ok { OnOk result (Sets changed.old.entries changed.new.entries t i row.now) }
-    ensures err { OnErr result (changed.new.entries ≡ changed.old.entries) }
-{
-    let bytes = Bytes::from_slice(alloc, row)?;
-    changed.insert(RowKey { table: t, row: i }, bytes)?;
-    Ok(())
-}
 
 /// Edits that were made over tables with some counts.
 pub trait Layer {
@@ -32,24 +19,25 @@ pub trait Layer {
     ghost base: { Self → List ℕ };
 }
 
-/// Edits of tables: the counts now and the changed rows. A row after the count may stand among the changed
-/// ones, and is not shown.
+/// Edits of tables: the counts now, and of each table the changed rows. A row after the count may stand among
+/// the changed ones, and is not shown.
 #[derive(Drop)]
 pub struct Edits {
     base: [u64; TABLES],
     counts: [u64; TABLES],
-    changed: BTreeMap<RowKey, Bytes>,
+    tables: [TableEdits; TABLES],
     alloc: Global,
 }
 
 impl Model for Edits {
-    ghost use Rattle.el_rows.specs.Changes.{Edited, AreEdits};
+    ghost use Rattle.el_rows.specs.Changes.{Edited};
+    ghost use Rattle.el_rows.specs.within.EditedTables.{all_changes, AreEdited};
 
     ghost Value = { Edited };
 
-    ghost view = { λ e. record { base = e.base; counts = e.counts; changes = e.changed.entries } };
+    ghost view = { λ e. record { base = e.base; counts = e.counts; changes = all_changes e.base e.tables } };
 
-    ghost invariant = { λ e. AreEdits e.base e.counts e.changed.entries };
+    ghost invariant = { λ e. AreEdited e.base e.counts e.tables };
 }
 
 impl Layer for Edits {
@@ -65,9 +53,25 @@ impl Edits {
         Edits {
             base,
             counts: base,
-            changed: BTreeMap::new(alloc),
+            tables: [
+                TableEdits::new(alloc, Table::Blocks.size()),
+                TableEdits::new(alloc, Table::Txs.size()),
+                TableEdits::new(alloc, Table::TxHeads.size()),
+                TableEdits::new(alloc, Table::Outs.size()),
+                TableEdits::new(alloc, Table::Ins.size()),
+                TableEdits::new(alloc, Table::Scripts.size()),
+                TableEdits::new(alloc, Table::ScriptHeads.size()),
+                TableEdits::new(alloc, Table::Entries.size()),
+            ],
             alloc,
         }
+    }
+
+    /// How many rows each table has now, by its index.
+    pub(crate) fn counts(&self) -> &[u64; TABLES]
+        ensures { result.now ≡ self.now.counts }
+    {
+        &self.counts
     }
 
     /// How many rows the table has now.
@@ -84,10 +88,8 @@ impl Edits {
         ensures sized { IfSome result (λ b. length b.now ≡ size_of t) }
         ensures below { i < count_at self.now.counts t → result ≡ None → i < count_at self.now.base t }
     {
-        match self.changed.get(&RowKey { table: t, row: i }) {
-            Some(row) => Some(row.as_slice()),
-            None => None,
-        }
+        let place = t.index();
+        self.tables[place].get(self.base[place], i)
     }
 
     /// Changes a row that is there.
@@ -99,7 +101,7 @@ impl Edits {
         ensures counts { self.new.counts ≡ self.old.counts }
         ensures base { self.new.base ≡ self.old.base }
     {
-        write(self.alloc, &mut self.changed, t, i, row)
+        write(&self.base, &mut self.tables, t, i, row)
     }
 
     /// Adds a row after the last, whose number it answers.
@@ -122,7 +124,7 @@ impl Edits {
                 rows: i,
             });
         }
-        write(self.alloc, &mut self.changed, t, i, row)?;
+        write(&self.base, &mut self.tables, t, i, row)?;
         self.counts[t.index()] = i + 1;
         Ok(i)
     }
@@ -137,37 +139,70 @@ impl Edits {
         self.counts[t.index()] = n;
     }
 
+    // The numbers of a table's changed rows that are shown, rising.
+    fn shown(&self, t: Table) -> Result<Vec<u64>, OutOfMemory>
+        ensures rising { IfOk result (λ v. IsStrictlyIncreasing v.items) }
+        ensures shown { IfOk result (λ v. (i : ℕ) → list_any (nat_eq i) v.items
+            ≡ (nat_lt i (count_at self.now.counts t) && is_some (changed_at self.now.changes t i))) }
+    {
+        let place = t.index();
+        self.tables[place].shown(self.alloc, self.base[place], self.counts[place])
+    }
+
+    // The keys of the changed rows that are shown, by rising table and row.
+    fn order(&self) -> Result<Vec<RowKey>, OutOfMemory>
+        ensures rising { IfOk result (λ v. IsStrictlySortedBy row_cmp v.items) }
+        ensures shown { IfOk result (λ v. (t : Table) (i : ℕ) → list_any (is_at (row_cmp (key t i))) v.items
+            ≡ (nat_lt i (count_at self.now.counts t) && is_some (changed_at self.now.changes t i))) }
+    {
+        let mut order = Vec::new(self.alloc);
+        for t in Table::ALL {
+            let rows = self.shown(t)?;
+            add_keys(t, &rows, &mut order)?;
+        }
+        Ok(order)
+    }
+
     /// The changed rows that are shown, by rising table and row.
     pub(crate) fn seal(self) -> Result<Sealed, OutOfMemory>
         ensures counts { IfOk result (λ s. s.counts ≡ self.counts) }
-        ensures changes { IfOk result (λ s. s.changes ≡ shown_of self.counts self.changes) }
+        ensures changes { IfOk result (λ s. (t : Table) (i : ℕ)
+            → changed_at s.changes t i ≡ shown_at self.counts self.changes t i) }
         ensures made { IfOk result (λ s. IsMadeFrom (count_at self.base) s.counts s.changes) }
     {
-        let Edits {
-            base: _,
-            counts,
-            changed,
-            alloc,
-        } = self;
-        let changes = shown(alloc, &counts, changed)?;
-        Ok(Sealed::new(counts, changes))
+        let order = self.order()?;
+        Ok(Sealed::new(self, order))
     }
 }
 
-// The changed rows that are shown under these counts.
-fn shown(
-    alloc: Global,
-    counts: &[u64; TABLES],
-    changed: BTreeMap<RowKey, Bytes>,
-) -> Result<Vec<(RowKey, Bytes)>, OutOfMemory>
-    ensures shown { IfOk result (λ v. v.items ≡ shown_of counts.now changed.entries) }
-    ensures ordered { IsOrdered ⟦<RowKey as Ord>⟧.cmp changed }
+// Changes a row of a table, changes it again, or adds one after the last.
+fn write(
+    base: &[u64; TABLES],
+    tables: &mut [TableEdits; TABLES],
+    t: Table,
+    i: u64,
+    row: &[u8],
+) -> Result<(), OutOfMemory>
+    requires next { i ≤ count_at base.now t + length (edits_of tables.old t).added.rows }
+    requires sized { length row.now ≡ (edits_of tables.old t).added.size }
+    ensures ok { OnOk result
+        (Writes (count_at base.now t) (edits_of tables.old t) (edits_of tables.new t) i row.now) }
+    ensures err { OnErr result (tables.new ≡ tables.old) }
+    ensures others { (u : Table) → u ≢ t → edits_of tables.new u ≡ edits_of tables.old u }
 {
-    let mut changes = Vec::with_capacity(alloc, changed.len())?;
-    for (key, bytes) in changed {
-        if key.row < counts[key.table.index()] {
-            changes.push((key, bytes))?;
-        }
+    let place = t.index();
+    tables[place].write(base[place], i, row)
+}
+
+// Adds the keys of these rows of a table.
+fn add_keys(t: Table, rows: &[u64], order: &mut Vec<RowKey>) -> Result<(), OutOfMemory>
+    ensures { OnOk result (order.new.items ≡ order.old.items ++ map (key t) rows.now) }
+{
+    for row in rows {
+        order.push(RowKey {
+            table: t,
+            row: *row,
+        })?;
     }
-    Ok(changes)
+    Ok(())
 }

@@ -15,6 +15,7 @@ mod rows;
 mod script_row;
 mod sealed;
 mod table;
+mod table_edits;
 mod tx_row;
 mod vec_rows;
 mod versioned_rows;

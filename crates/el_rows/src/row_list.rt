@@ -1,112 +1,98 @@
 // The rows of one table, in memory.
-ghost use Rattle.std.specs.Prelude.{◌≡◌, ◌<◌, ◌≤◌, ℕ, List, [], length, get_or, slice_set, OnOk, IfOk};
+ghost use Rattle.std.specs.Prelude.{◌≡◌, ◌<◌, ◌≤◌, [], ◌∷◌, ◌++◌, length, get_or, slice_set, OnOk, OnErr, IfOk};
 ghost use Rattle.el_rows.specs.within.InMemory.{HasGrown};
 
 use el_base::OutOfMemory;
 use std::alloc::Global;
 use std::marker::Model;
 
-/// The bytes of one row, as a list. They may be written over by as many.
-#[derive(Drop)]
-struct Row {
-    bytes: Vec<u8>,
-}
-
-impl Model for Row {
-    ghost Value = { List ℕ };
-
-    ghost view = { λ r. r.bytes.items };
-}
-
-impl Row {
-    // A copy of these bytes.
-    fn from_slice(alloc: Global, bytes: &[u8]) -> Result<Row, OutOfMemory>
-        ensures { IfOk result (λ r. r ≡ bytes.now) }
-    {
-        let bytes = Vec::from_slice(alloc, bytes)?;
-        Ok(Row { bytes })
-    }
-
-    // So many zeros.
-    fn zeros(alloc: Global, size: usize) -> Result<Row, OutOfMemory>
-        ensures { IfOk result (λ r. length r ≡ size) }
-    {
-        let bytes = vec![in alloc; 0; size]?;
-        Ok(Row { bytes })
-    }
-
-    // The bytes, to read.
-    fn as_slice(&self) -> &[u8]
-        ensures { result.now ≡ self.now }
-    {
-        self.bytes.as_slice()
-    }
-
-    // Writes as many bytes over them.
-    fn write(&mut self, bytes: &[u8])
-        requires { length bytes.now ≡ length self.old }
-        ensures { self.new ≡ bytes.now }
-    {
-        self.bytes.copy_from_slice(bytes);
-    }
-}
-
-/// The rows of one table, in order.
+/// Rows of one size, in order, one after another in one piece of memory.
 #[derive(Drop)]
 pub(crate) struct RowList {
-    rows: Vec<Row>,
+    bytes: Vec<u8>,
+    size: usize,
+    count: usize,
 }
 
 impl Model for RowList {
-    ghost use Rattle.std.specs.Prelude.{List, ℕ};
+    ghost use Rattle.std.specs.Prelude.{◌≡◌, ◌*◌, length};
+    ghost use Rattle.el_rows.specs.within.SizedRows.{SizedRows, cut_rows};
 
-    ghost Value = { List (List ℕ) };
+    ghost Value = { SizedRows };
 
-    ghost view = { λ l. l.rows.items };
+    ghost view = { λ l. record { size = l.size; rows = cut_rows l.size l.bytes.items l.count } };
+
+    ghost invariant = { λ l. length l.bytes.items ≡ l.count * l.size };
 }
 
 impl RowList {
-    /// No rows. Takes no memory.
-    pub(crate) fn new(alloc: Global) -> RowList
-        ensures { result ≡ [] }
+    /// No rows, of this size. Takes no memory.
+    pub(crate) fn new(alloc: Global, size: usize) -> RowList
+        ensures { result ≡ record { size = size; rows = [] } }
     {
         RowList {
-            rows: Vec::new(alloc),
+            bytes: Vec::new(alloc),
+            size,
+            count: 0,
         }
     }
 
     /// How many rows there are.
     pub(crate) fn len(&self) -> usize
-        ensures { result ≡ length self.now }
+        ensures { result ≡ length self.now.rows }
     {
-        self.rows.len()
+        self.count
     }
 
     /// A row, to read.
     pub(crate) fn row(&self, i: usize) -> &[u8]
-        requires { i < length self.now }
-        ensures { result.now ≡ get_or self.now i [] }
+        requires { i < length self.now.rows }
+        ensures row { result.now ≡ get_or self.now.rows i [] }
+        ensures sized { length result.now ≡ self.now.size }
     {
-        self.rows[i].as_slice()
+        let at = i * self.size;
+        &self.bytes[at..at + self.size]
     }
 
     /// Writes over a row, in place.
     pub(crate) fn write(&mut self, i: usize, bytes: &[u8])
-        requires within { i < length self.old }
-        requires sized { length bytes.now ≡ length (get_or self.old i []) }
-        ensures { self.new ≡ slice_set self.old i bytes.now }
+        requires within { i < length self.old.rows }
+        requires sized { length bytes.now ≡ self.old.size }
+        ensures { self.new ≡ record { size = self.old.size; rows = slice_set self.old.rows i bytes.now } }
     {
-        self.rows[i].write(bytes);
+        let at = i * self.size;
+        self.bytes[at..at + self.size].copy_from_slice(bytes);
     }
 
-    /// Adds rows of this size until there are n. Where memory runs out some were added.
-    pub(crate) fn grow(&mut self, alloc: Global, n: usize, size: usize) -> Result<(), OutOfMemory>
-        ensures grown { HasGrown size self.old self.new }
-        ensures enough { OnOk result (n ≤ length self.new) }
+    /// Adds a row at the end. Fails only where memory runs out, and then changes nothing.
+    pub(crate) fn push(&mut self, bytes: &[u8]) -> Result<(), OutOfMemory>
+        requires sized { length bytes.now ≡ self.old.size }
+        ensures ok { OnOk result
+            (self.new ≡ record { size = self.old.size; rows = self.old.rows ++ bytes.now ∷ [] }) }
+        ensures err { OnErr result (self.new ≡ self.old) }
     {
-        for _ in self.rows.len()..n {
-            self.rows.push(Row::zeros(alloc, size)?)?;
+        let Some(count) = self.count.checked_add(1) else {
+            return Err(OutOfMemory);
+        };
+        self.bytes.extend_from_slice(bytes)?;
+        self.count = count;
+        Ok(())
+    }
+
+    /// Adds rows of zeros until there are n. Fails only where memory runs out.
+    pub(crate) fn grow(&mut self, n: usize) -> Result<(), OutOfMemory>
+        ensures grown { HasGrown self.old.size self.old.rows self.new.rows }
+        ensures size { self.new.size ≡ self.old.size }
+        ensures enough { OnOk result (n ≤ length self.new.rows) }
+    {
+        if n <= self.count {
+            return Ok(());
         }
+        let Some(total) = n.checked_mul(self.size) else {
+            return Err(OutOfMemory);
+        };
+        self.bytes.resize(total, 0)?;
+        self.count = n;
         Ok(())
     }
 
@@ -114,10 +100,11 @@ impl RowList {
     pub(crate) fn copy(&self, alloc: Global) -> Result<RowList, OutOfMemory>
         ensures { IfOk result (λ l. l ≡ self.now) }
     {
-        let mut rows = Vec::with_capacity(alloc, self.rows.len())?;
-        for row in &self.rows {
-            rows.push(Row::from_slice(alloc, row.as_slice())?)?;
-        }
-        Ok(RowList { rows })
+        let bytes = Vec::from_slice(alloc, self.bytes.as_slice())?;
+        Ok(RowList {
+            bytes,
+            size: self.size,
+            count: self.count,
+        })
     }
 }

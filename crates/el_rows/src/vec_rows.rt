@@ -3,7 +3,7 @@ ghost use Rattle.std.specs.Prelude.{◌≡◌, ◌<◌, ◌≤◌, ℕ, List, []
 ghost use Rattle.el_rows.specs.Tables.{tables_of, size_of, limit_of, index_of};
 ghost use Rattle.el_rows.specs.Changes.{IsMadeFrom, count_at, under};
 ghost use Rattle.el_rows.specs.Reads.{Same};
-ghost use Rattle.el_rows.specs.within.InMemory.{AreSized, AllGrown, HasGrown, HasRoom, AreWritten};
+ghost use Rattle.el_rows.specs.within.InMemory.{list_of, kept_of, AreSized, AllGrown, HasRoom, AreWritten};
 
 use crate::row_list::RowList;
 use crate::{CommitFault, Rows, Sealed, TABLES, Table};
@@ -35,34 +35,30 @@ impl Model for VecRows {
 }
 
 // Makes room for the sealed rows of a table. Where memory runs out, for some of them.
-fn grow_one(
-    alloc: Global,
-    kept: &mut [RowList; TABLES],
-    t: Table,
-    sealed: &Sealed,
-) -> Result<(), OutOfMemory>
+fn grow_one(kept: &mut [RowList; TABLES], t: Table, sealed: &Sealed) -> Result<(), OutOfMemory>
     ensures grown { AllGrown kept.old kept.new }
-    ensures enough { OnOk result (count_at sealed.now.counts t ≤ length (tables_of kept.new t)) }
+    ensures enough { OnOk result (count_at sealed.now.counts t ≤ length (kept_of kept.new t)) }
 {
-    kept[t.index()].grow(alloc, sealed.count(t) as usize, t.size())
+    kept[t.index()].grow(sealed.count(t) as usize)
 }
 
 // Makes room for the sealed rows of all tables.
-fn grow(alloc: Global, kept: &mut [RowList; TABLES], sealed: &Sealed) -> Result<(), OutOfMemory>
+fn grow(kept: &mut [RowList; TABLES], sealed: &Sealed) -> Result<(), OutOfMemory>
     ensures grown { AllGrown kept.old kept.new }
     ensures enough { OnOk result (HasRoom kept.new sealed.now.counts) }
 {
     for t in Table::ALL {
-        grow_one(alloc, kept, t, sealed)?;
+        grow_one(kept, t, sealed)?;
     }
     Ok(())
 }
 
 // Writes over one row, in place.
 fn write_one(kept: &mut [RowList; TABLES], t: Table, i: u64, row: &[u8])
-    requires within { i < length (tables_of kept.old t) }
-    requires sized { length row.now ≡ length (get_or (tables_of kept.old t) i []) }
-    ensures { kept.new ≡ slice_set kept.old (index_of t) (slice_set (tables_of kept.old t) i row.now) }
+    requires within { i < length (kept_of kept.old t) }
+    requires sized { length row.now ≡ (list_of kept.old t).size }
+    ensures { kept.new ≡ slice_set kept.old (index_of t)
+        (record { size = (list_of kept.old t).size; rows = slice_set (kept_of kept.old t) i row.now }) }
 {
     kept[t.index()].write(i as usize, row);
 }
@@ -72,13 +68,28 @@ fn write(kept: &mut [RowList; TABLES], sealed: &Sealed)
     requires made { (base : Table → ℕ) × IsMadeFrom base sealed.now.counts sealed.now.changes }
     requires room { HasRoom kept.old sealed.now.counts }
     requires sized { AreSized kept.old }
-    ensures written { AreWritten kept.old kept.new sealed.now.changes }
-    ensures sized { AreSized kept.new }
+    ensures { AreWritten kept.old kept.new sealed.now.changes }
 {
     for k in 0..sealed.changes() {
         let (t, i, row) = sealed.change(k);
         write_one(kept, t, i, row);
     }
+}
+
+// A copy of all lists.
+fn copy(alloc: Global, kept: &[RowList; TABLES]) -> Result<[RowList; TABLES], OutOfMemory>
+    ensures { IfOk result (λ lists. lists ≡ kept.now) }
+{
+    Ok([
+        kept[0].copy(alloc)?,
+        kept[1].copy(alloc)?,
+        kept[2].copy(alloc)?,
+        kept[3].copy(alloc)?,
+        kept[4].copy(alloc)?,
+        kept[5].copy(alloc)?,
+        kept[6].copy(alloc)?,
+        kept[7].copy(alloc)?,
+    ])
 }
 
 impl VecRows {
@@ -88,14 +99,14 @@ impl VecRows {
     {
         VecRows {
             kept: [
-                RowList::new(alloc),
-                RowList::new(alloc),
-                RowList::new(alloc),
-                RowList::new(alloc),
-                RowList::new(alloc),
-                RowList::new(alloc),
-                RowList::new(alloc),
-                RowList::new(alloc),
+                RowList::new(alloc, Table::Blocks.size()),
+                RowList::new(alloc, Table::Txs.size()),
+                RowList::new(alloc, Table::TxHeads.size()),
+                RowList::new(alloc, Table::Outs.size()),
+                RowList::new(alloc, Table::Ins.size()),
+                RowList::new(alloc, Table::Scripts.size()),
+                RowList::new(alloc, Table::ScriptHeads.size()),
+                RowList::new(alloc, Table::Entries.size()),
             ],
             counts: [0; TABLES],
             alloc,
@@ -118,7 +129,7 @@ impl VecRows {
             (Same (under (tables_of self.old) sealed.now.counts sealed.now.changes) (tables_of self.new)) }
         ensures err { OnErr result (self.new ≡ self.old) }
     {
-        grow(self.alloc, &mut self.kept, sealed)?;
+        grow(&mut self.kept, sealed)?;
         write(&mut self.kept, sealed);
         self.counts = *sealed.counts();
         Ok(())
@@ -129,16 +140,7 @@ impl VecRows {
         ensures { IfOk result (λ s. s ≡ self.now) }
     {
         Ok(VecRows {
-            kept: [
-                self.kept[0].copy(self.alloc)?,
-                self.kept[1].copy(self.alloc)?,
-                self.kept[2].copy(self.alloc)?,
-                self.kept[3].copy(self.alloc)?,
-                self.kept[4].copy(self.alloc)?,
-                self.kept[5].copy(self.alloc)?,
-                self.kept[6].copy(self.alloc)?,
-                self.kept[7].copy(self.alloc)?,
-            ],
+            kept: copy(self.alloc, &self.kept)?,
             counts: self.counts,
             alloc: self.alloc,
         })

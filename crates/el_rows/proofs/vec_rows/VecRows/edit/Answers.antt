@@ -9,4 +9,4 @@ returns-in_err-grow-clause-err c = on_err c.from_residual.result
 
 pub returns-clause-ok : goal.returns-clause-ok
 returns-clause-ok c = committed c.args.self.now c.self.inside.kept c.grow.new.kept c.write.new.kept c.self.inside.counts c.counts.result.now c.args.sealed.now.counts c.args.sealed.now.changes
-    c.self.view_is c.self.invariant c.grow.ensures.grown c.in_ok-grow.ensures.enough c.write.ensures.written c.requires c.counts.ensures
+    c.self.view_is c.self.invariant c.grow.ensures.grown c.in_ok-grow.ensures.enough c.write.ensures c.requires c.counts.ensures
