@@ -1,18 +1,17 @@
 -- What a look-up has found, in the lists.
 use Rattle.std.proofs.Common.{◌≡◌, ◌≢◌, inl, inr, ℕ, zero, suc, ◌+◌, ◌<◌, ◌≤◌, ◌==◌, Bool, true, false, List, [], ◌∷◌, ◌++◌, length, take, get_or, slice_get, Option, None, Some, option_map, option_and_then, refl, ap, sym, subst, ◌∙◌, arith, eq-eqb, if◌then◌else◌}
 use Rattle.std.proofs.lemmas.Bool.{cases_Bool}
-use Rattle.std.proofs.lemmas.List.{get_or_append_left, take_all}
-use Rattle.std.proofs.lemmas.Option.{slice_get-get_or}
+use Rattle.std.proofs.lemmas.List.{take_all}
 use Rattle.el_tx.specs.declared.types.Outpoint.{Outpoint}
-use Rattle.el_tables.specs.Disconnecting.{is_buried_by, buried_at, is_spent, spent_at, last}
+use Rattle.el_tables.specs.Disconnecting.{is_buried_by, buried_at, is_spent, spent_at}
 use Rattle.el_tables.specs.Edits.{no_out}
-use Rattle.el_tables.specs.Lists.{State, ListedTx, ListedOut, Lists, is_unspent, unspent_at, if_unspent, output_number, coin_number}
+use Rattle.el_tables.specs.Lists.{State, ListedTx, ListedOut, Lists, is_unspent, unspent_at, if_unspent, output_number}
 use Rattle.el_tables.specs.Lists.State.{Unspent, Spent, Buried}
 use Rattle.el_tables.proofs.OutEdits.{is_there, buried_is, spent_is}
 use Rattle.el_rows.specs.declared.out_row.OutRow.{OutRow}
 use Rattle.el_rows.specs.declared.out_row.State.TheVariants as out
 use Rattle.el_buckets.specs.Rows.{out_fields, state_fields}
-use Rattle.el_spend.specs.Outputs.{output_at, named_among, coin_among}
+use Rattle.el_spend.specs.Outputs.{output_at, coin_among}
 use Rattle.el_spend.specs.declared.lookup.NamedOutput.{NamedOutput}
 use Rattle.el_spend.proofs.Rows.{found_at, found_within}
 

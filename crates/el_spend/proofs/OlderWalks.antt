@@ -1,20 +1,21 @@
 -- Walks along `older`: from the newest transaction with a txid to the output that an outpoint names among the
 -- first transactions.
-use Rattle.std.proofs.Common.{◌≡◌, inl, inr, ℕ, zero, suc, ◌+◌, ◌<◌, ◌≤◌, Bool, true, false, cond, ◌&&◌, nat_lt, List, [], ◌∷◌, ◌++◌, length, take, get_or, Option, None, Some, option_map, slice_get, refl, ap, sym, subst, ◌∙◌, arith, count_by, length-append}
+use Rattle.std.proofs.Common.{◌≡◌, inl, inr, ℕ, zero, suc, ◌+◌, ◌<◌, ◌≤◌, true, false, cond, nat_lt, List, [], ◌∷◌, ◌++◌, length, take, get_or, Option, None, Some, option_map, slice_get, refl, ap, sym, subst, ◌∙◌, arith, count_by, length-append}
 use Rattle.std.proofs.lemmas.Bool.{cases_Bool, cases_lt, and_left, and_right, lt-ltb, le-ltb}
-use Rattle.std.proofs.lemmas.List.{get_or_at, get_or_append_left, get_or-take, take-take, take_all, take-append-le, length-take, length-take-le}
+use Rattle.std.proofs.lemmas.List.{get_or-map, get_or_at, get_or_append_left, get_or-take, take-take, take_all, take-append-le, length-take, length-take-le}
 use Rattle.std.proofs.lemmas.List.Sums.{count_by_more_yes}
-use Rattle.std.specs.Option.{ForSome}
 use Rattle.el_base.specs.declared.hash.Hash32.{Hash32}
+use Rattle.el_chain.specs.Chains.{zero_hash}
 use Rattle.el_chain.specs.Headers.{same_hash}
 use Rattle.el_tx.specs.declared.types.Outpoint.{Outpoint}
-use Rattle.el_tables.specs.Lists.{ListedTx, has_output, output_number}
+use Rattle.el_tables.specs.Lists.{ListedTx, has_output, output_number, newest_tx, txid_at}
 use Rattle.el_tables.specs.Tables.{greatest, rows_from, tx_row}
 use Rattle.el_tables.proofs.Names.{named_more}
 use Rattle.el_tables.proofs.OlderWalks.{greatest_more, has_txid}
 use Rattle.el_tables.proofs.Outputs.{from_front}
 use Rattle.el_tables.proofs.RowLists.{length_rows, rows_at}
 use Rattle.el_tables.proofs.Scripts.{hash_gives}
+use Rattle.el_tables.proofs.TxEdits.{newest_is}
 use Rattle.el_rows.specs.declared.tx_row.TxRow.{TxRow}
 use Rattle.el_buckets.specs.Rows.{tx_fields}
 use Rattle.el_buckets.specs.Buckets.{below as if_less}
@@ -206,3 +207,13 @@ older_is o below c ts n row walk is =
     let links : row.older ≡ greatest (has_txid o) (take n ts) =
     ap (λ (r : TxRow). r.older) is ∙ ap (λ (h : Hash32). greatest (λ (u : ListedTx). same_hash u.txid h) (take n ts)) id in
     ap (if_less n) links ∙ below_all (has_txid o) no_tx (take n ts) n short
+
+-- where it has none, no transaction before has its txid
+pub none_older : (c : ℕ) (ts : List ListedTx) (n : ℕ) (row : TxRow) → Some row ≡ option_map tx_fields (slice_get (rows_from (tx_row c ts) 0 ts) n)
+    → row.older ≡ None → newest_tx (txid_at n ts) (take n ts) ≡ None
+none_older c ts n row e none =
+    let t = get_or ts n no_tx in
+    let lt = row_within c ts n row e in
+    let id : txid_at n ts ≡ t.txid = get_or-map (λ (u : ListedTx). u.txid) ts n no_tx zero_hash lt in
+    let links = ap (λ (r : TxRow). r.older) (listed_row c ts n row e) in
+    ap (λ (h : Hash32). newest_tx h (take n ts)) id ∙ newest_is 0 t.txid (take n ts) ∙ sym links ∙ none

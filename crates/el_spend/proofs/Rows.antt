@@ -1,21 +1,18 @@
 -- Rows of bytes that are those of tables: reading one, and changing one table.
-use Rattle.std.proofs.Common.{◌≡◌, ◌≢◌, ℕ, zero, suc, ◌+◌, ◌<◌, ◌≤◌, ◌^◌, List, [], ◌∷◌, ◌++◌, set, length, map, take, get_or, slice_get, Option, None, Some, option_map, Result, Ok, Err, OnOk, refl, ap, sym, subst, ◌∙◌, arith}
+use Rattle.std.proofs.Common.{◌≡◌, ◌≢◌, ℕ, zero, suc, ◌+◌, ◌<◌, ◌≤◌, ◌^◌, List, [], ◌∷◌, ◌++◌, set, length, map, take, get_or, slice_get, None, Some, option_map, Result, Ok, Err, OnOk, refl, ap, sym, subst, ◌∙◌, arith}
 use Rattle.std.specs.List.{AllByRecursion}
 use Rattle.std.proofs.lemmas.List.{map-append, map-set, take-map, length-map}
 use Rattle.el_tables.specs.Disconnecting.{but_last}
-use Rattle.el_tables.specs.Edits as edit
-use Rattle.el_tables.specs.Lists.{State, ListedOut}
+use Rattle.el_tables.specs.Lists.{ListedOut}
 use Rattle.el_tables.specs.Tables as typed
 use Rattle.el_rows.specs.Changes.{OnTable}
 use Rattle.el_rows.specs.Tables as held
-use Rattle.el_rows.specs.RowBytes.{out_row_bytes, in_row_bytes, script_row_bytes, state_by, FitsOutRow, FitsInRow, FitsScriptRow}
+use Rattle.el_rows.specs.RowBytes.{out_row_bytes, in_row_bytes, script_row_bytes, FitsOutRow, FitsInRow, FitsScriptRow}
 use Rattle.el_rows.specs.declared.table.Table.{Table}
 use Rattle.el_rows.specs.declared.table.Table.TheVariants as table
-use Rattle.el_rows.specs.declared.out_row.OutRow.{OutRow}
-use Rattle.el_rows.specs.declared.script_row.ScriptRow.{ScriptRow}
-use Rattle.el_buckets.specs.Rows.{Encode, bytes_of, out_fields, in_fields, script_fields, state_fields}
+use Rattle.el_buckets.specs.Rows.{Encode, bytes_of, out_fields, in_fields, script_fields}
 use Rattle.el_buckets.proofs.Held.{all_more, all_set, all_but_last, but_last_at}
-use Rattle.el_spend.specs.within.Parts.{IsOutRow, state_changed, out_appended, out_gone, in_appended, in_gone}
+use Rattle.el_spend.specs.within.Parts.{out_appended, out_gone, in_appended, in_gone}
 
 -- 1. Reading
 

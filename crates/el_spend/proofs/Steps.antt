@@ -1,6 +1,6 @@
 -- The steps on rows of bytes.
-use Rattle.std.proofs.Common.{◌≡◌, ◌≢◌, ◌⊎◌, inl, inr, ℕ, zero, suc, ◌+◌, ◌-◌, ◌<◌, ◌≤◌, ◌^◌, ◌==◌, true, false, List, [], ◌∷◌, ◌++◌, set, length, map, take, get_or, slice_get, Option, None, Some, option_map, option_and_then, unwrap_or, refl, ap, ap₂, sym, subst, ◌∙◌, arith, eq-eqb, if◌then◌else◌}
-use Rattle.std.proofs.lemmas.Bool.{cases_Bool, cases_lt}
+use Rattle.std.proofs.Common.{◌≡◌, ◌⊎◌, inl, inr, ℕ, zero, suc, ◌+◌, ◌-◌, ◌<◌, ◌≤◌, ◌^◌, true, false, List, [], ◌∷◌, ◌++◌, set, length, take, get_or, slice_get, Option, None, Some, option_map, unwrap_or, refl, ap, ap₂, sym, subst, ◌∙◌, arith, eq-eqb}
+use Rattle.std.proofs.lemmas.Bool.{cases_lt}
 use Rattle.std.proofs.lemmas.List.{get_or_append_left, set-append_left, set-get_or}
 use Rattle.el_chain.specs.Chains.{zero_hash}
 use Rattle.el_chain.specs.declared.fault.ConnectFault.{ConnectFault}
@@ -8,8 +8,8 @@ use Rattle.el_chain.specs.declared.fault.ConnectFault.TheVariants as connect
 use Rattle.el_tx.specs.declared.types.Outpoint.{Outpoint}
 use Rattle.el_tables.specs.ChainLists.{ListedBlock}
 use Rattle.el_tables.specs.Disconnecting.{but_last, last, buried_at, unbury, spent_at, give_back, unspend, take_back_output}
-use Rattle.el_tables.specs.Edits.{no_out, no_row, row_of, out_row, more, less, more_at, less_at, set_state, coin_gone, coin_back, buried, new_out, output_added, out_left}
-use Rattle.el_tables.specs.Lists.{State, ListedOut, Lists, is_unspent, unspent_at, with_state, script_at, coin_number, output_number, txid_at, replaced, bury, add_output, spend, spend_output, held, balance_of}
+use Rattle.el_tables.specs.Edits.{no_out, no_row, row_of, out_row, more, less, less_at, coin_gone, coin_back, buried, new_out, out_left}
+use Rattle.el_tables.specs.Lists.{State, ListedOut, Lists, unspent_at, with_state, script_at, coin_number, output_number, txid_at, replaced, bury, add_output, spend, spend_output, held, balance_of}
 use Rattle.el_tables.specs.Lists.State.{Unspent, Spent, Buried}
 use Rattle.el_tables.specs.Tables as typed
 use Rattle.el_tables.specs.Tables.{HeadCounts, tables_of, rows_from, script_row}

@@ -20,8 +20,8 @@ use crate::NamedOutput;
 use crate::balance::raise;
 use crate::coins::take_coin;
 use crate::lookup::coin;
-use crate::reading::listed_at;
-use el_base::Steps;
+use crate::reading::tx_row;
+use el_base::{Hash32, Steps};
 use el_buckets::not_appended;
 use el_chain::ConnectFault;
 use el_outside::DiskFailed;
@@ -29,7 +29,39 @@ use el_rows::{OutRow, Rows, State, Table, Txn};
 use el_tx::Outpoint;
 use std::sync::ledger::Ledger;
 
-// The coin that an output of the transaction of that number and with that index replaces.
+// The txid of the transaction of that number, and none where its row tells that no transaction before has the
+// same. Where there is no such transaction, the zero hash.
+fn txid_made_before<R: Rows, L: Ledger>(
+    t: &mut Txn<'_, R>,
+    tx: u64,
+    steps: &mut Steps<L>,
+) -> Result<Option<Hash32>, DiskFailed>
+    requires live { R.is_live t.old.rows.now }
+    ensures txid { (counts : HeadCounts) (bs : List ListedBlock) (l : lists.Lists) → R.tells
+        → Hold counts bs l (tables_in t.old)
+        → IfOk result (λ r. ForSome r (λ id. id ≡ lists.txid_at tx l.txs)) }
+    ensures new { (counts : HeadCounts) (bs : List ListedBlock) (l : lists.Lists) → R.tells
+        → Hold counts bs l (tables_in t.old)
+        → IfOk result (λ r. r ≡ None → lists.newest_tx (lists.txid_at tx l.txs) (take tx l.txs) ≡ None) }
+    ensures tables { tables_in t.new ≡ tables_in t.old }
+    ensures reads { OnlyReads t.old t.new }
+    ensures name { t.new.rows.ghost_name ≡ t.old.rows.ghost_name }
+    ensures ticked { steps.old ≤ steps.new }
+    ensures tick { steps.new ≤ steps.old + 1 }
+    ensures cause { HasCause (R.faults t.old.rows.now) (R.faults t.new.rows.now) result }
+{
+    if tx >= t.count(Table::Txs) {
+        return Ok(Some(Hash32([0; 32])));
+    }
+    let row = tx_row(t, tx, steps)?;
+    if row.older.is_none() {
+        return Ok(None);
+    }
+    Ok(Some(row.txid))
+}
+
+// The coin that an output of the transaction of that number and with that index replaces. Where no earlier
+// transaction has the txid, only the transaction's own row is read.
 fn replaced<R: Rows, L: Ledger>(
     t: &mut Txn<'_, R>,
     tx: u64,
@@ -52,7 +84,9 @@ fn replaced<R: Rows, L: Ledger>(
     ensures ticked { steps.old ≤ steps.new }
     ensures cause { HasCause (R.faults t.old.rows.now) (R.faults t.new.rows.now) result }
 {
-    let (txid, _) = listed_at(t, tx, steps)?;
+    let Some(txid) = txid_made_before(t, tx, steps)? else {
+        return Ok(None);
+    };
     coin(t, &Outpoint { txid, index }, tx, steps)
 }
 

@@ -3,7 +3,7 @@ use Rattle.std.specs.Prelude.{◌≡◌, ◌-◌, ◌+◌, ◌++◌, ◌∷◌, 
 use Rattle.el_tx.specs.declared.types.Outpoint.{Outpoint}
 use Rattle.el_tables.specs.Lists.{State, ListedOut, Lists, is_unspent, output_number, txid_at, first_out_at}
 use Rattle.el_tables.specs.Tables.{Tables}
-use Rattle.el_tables.specs.Edits.{set_state, more_at, less_at, new_out}
+use Rattle.el_tables.specs.Edits.{set_state, more_at, less_at}
 use Rattle.el_tables.specs.Disconnecting.{but_last, unbury, give_back}
 use Rattle.el_rows.specs.declared.out_row.OutRow.{OutRow}
 use Rattle.el_rows.specs.declared.script_row.ScriptRow.{ScriptRow}

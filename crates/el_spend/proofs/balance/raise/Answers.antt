@@ -1,4 +1,4 @@
-use Rattle.std.proofs.Common.{◌≡◌, ◌+◌, ◌-◌, ◌<◌, ◌≤◌, List, ℕ, length, set, slice_get, Some, min, option_map, ap, sym, subst, ◌∙◌, arith}
+use Rattle.std.proofs.Common.{◌≡◌, ℕ, set, slice_get, Some, option_map, ap, sym, subst, ◌∙◌, arith}
 use Rattle.el_rows.specs.Changes.{OnTable}
 use Rattle.el_rows.specs.Tables.{Tables}
 use Rattle.el_rows.specs.RowBytes.{FitsScriptRow, script_row_bytes}
@@ -8,7 +8,7 @@ use Rattle.el_rows.specs.declared.table.Table.TheVariants as table
 use Rattle.el_buckets.specs.Rows.{script_fields}
 use Rattle.el_position.proofs.Answered.{of_value}
 use Rattle.el_spend.specs.within.Parts.{raised}
-use Rattle.el_spend.proofs.Steps.{raised_here, raised_past}
+use Rattle.el_spend.proofs.Steps.{raised_here}
 use Rattle.el_spend.proofs.balance.raise.Goals as goal
 
 pub returns-clause-raised : goal.returns-clause-raised

@@ -1,6 +1,5 @@
-use Rattle.std.proofs.Common.{OnOk, refl, subst}
+use Rattle.std.proofs.Common.{OnOk, subst}
 use Rattle.el_tables.specs.Edits.{no_out}
-use Rattle.el_tables.specs.Lists.State.{Unspent}
 use Rattle.el_rows.specs.Transaction.{tables_in}
 use Rattle.el_rows.specs.declared.out_row.OutRow.{OutRow}
 use Rattle.el_buckets.specs.Rows.{Encode, out_fields}

@@ -1,6 +1,5 @@
-use Rattle.std.proofs.Common.{Some, take, ap, sym, ◌∙◌}
+use Rattle.std.proofs.Common.{take, sym, ◌∙◌}
 use Rattle.el_tables.specs.Lists.{output_number}
-use Rattle.el_rows.specs.RowBytes.{FitsOutRow}
 use Rattle.el_spend.proofs.Found.{coin_here, coin_gone_here, coin_nowhere}
 use Rattle.el_spend.proofs.lookup.coin.Goals as goal
 

@@ -1,5 +1,4 @@
-use Rattle.std.proofs.Common.{◌≡◌, Option, Some, take, option_and_then, ap, sym, subst, ◌∙◌}
-use Rattle.el_rows.specs.Transaction.{tables_in}
+use Rattle.std.proofs.Common.{◌≡◌, Some, take, option_and_then, ap, sym, subst, ◌∙◌}
 use Rattle.el_tables.specs.Lists as lists
 use Rattle.el_tables.specs.Tables.{tables_of}
 use Rattle.el_buckets.specs.Rows.{Hold}

@@ -1,12 +1,9 @@
-use Rattle.std.proofs.Common.{◌≡◌, ◌<◌, ◌≤◌, ◌+◌, ℕ, List, Option, Some, None, length, map, take, get_or, option_map, slice_get, ap, ap₂, sym, ◌∙◌, refl, subst, arith}
-use Rattle.el_base.specs.declared.hash.Hash32.{Hash32}
-use Rattle.el_chain.specs.Headers.{same_hash}
-use Rattle.el_rows.specs.Tables.{Tables}
+use Rattle.std.proofs.Common.{◌≡◌, ◌<◌, ◌≤◌, ◌+◌, ℕ, List, Option, Some, None, map, take, get_or, ap, ap₂, sym, ◌∙◌, refl, subst, arith}
 use Rattle.el_rows.specs.Transaction.{tables_in}
 use Rattle.el_rows.specs.declared.tx_row.TxRow.{TxRow}
 use Rattle.el_rows.proofs.ReadsLemmas.{read_joined}
 use Rattle.el_tables.specs.ChainLists.{ListedBlock}
-use Rattle.el_tables.specs.Lists.{Lists, ListedTx, newest_tx, has_output}
+use Rattle.el_tables.specs.Lists.{Lists, ListedTx}
 use Rattle.el_tables.specs.Tables.{HeadCounts, tables_of, greatest}
 use Rattle.el_tables.proofs.OlderWalks.{has_txid}
 use Rattle.el_tables.proofs.TxEdits.{newest_is}

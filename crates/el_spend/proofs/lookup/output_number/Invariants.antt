@@ -1,4 +1,4 @@
-use Rattle.std.proofs.Common.{◌≡◌, ◌<◌, ◌≤◌, ◌+◌, ℕ, List, length, map, take, None}
+use Rattle.std.proofs.Common.{◌≡◌, ◌<◌, ◌≤◌, ◌+◌, List, length, map, take, None}
 use Rattle.std.specs.Option.{ForSome}
 use Rattle.el_rows.specs.Transaction.{tables_in, OnlyReads}
 use Rattle.el_rows.specs.declared.table.Table.TheVariants as table

@@ -1,8 +1,7 @@
-use Rattle.std.proofs.Common.{◌≡◌, ◌+◌, ◌<◌, ◌≤◌, ℕ, zero, suc, List, [], ◌∷◌, length, map, get_or, refl, ap, sym, subst, ◌∙◌, arith}
+use Rattle.std.proofs.Common.{◌≡◌, ◌≤◌, ℕ, zero, suc, List, [], ◌∷◌, length, map, get_or, refl, ap, sym, ◌∙◌, arith}
 use Rattle.std.proofs.lemmas.List.{get_or-map}
-use Rattle.el_base.specs.declared.hash.Hash32.{Hash32}
 use Rattle.el_chain.specs.Chains.{zero_hash}
-use Rattle.el_tables.specs.Lists.{ListedTx, txid_at, first_out_at}
+use Rattle.el_tables.specs.Lists.{ListedTx}
 use Rattle.el_tables.specs.Tables.{tables_of}
 use Rattle.el_rows.specs.Transaction.{tables_in}
 use Rattle.el_rows.specs.declared.tx_row.TxRow.{TxRow}

@@ -1,4 +1,4 @@
-use Rattle.std.proofs.Common.{◌≡◌, Option, Some, None, length, refl, ap, sym, subst, ◌∙◌}
+use Rattle.std.proofs.Common.{◌≡◌, Option, Some, refl, sym, subst, ◌∙◌}
 use Rattle.el_rows.specs.RowBytes.{FitsOutRow}
 use Rattle.el_rows.specs.Transaction.{tables_in}
 use Rattle.el_tables.specs.Lists.{output_number}
@@ -10,7 +10,7 @@ use Rattle.el_position.proofs.Answered.{of_value}
 use Rattle.el_spend.specs.Outputs.{coin_among}
 use Rattle.el_spend.specs.declared.lookup.NamedOutput.{NamedOutput}
 use Rattle.el_spend.specs.within.Parts.{in_appended}
-use Rattle.el_spend.proofs.Found.{among_all, coin_by, coin_number_is, coin_number_none}
+use Rattle.el_spend.proofs.Found.{among_all, coin_number_is, coin_number_none}
 use Rattle.el_spend.proofs.Steps.{spent_hold, unspent_hold}
 use Rattle.el_spend.proofs.spending.spend.Goals as goal
 

@@ -1,4 +1,4 @@
-use Rattle.std.proofs.Common.{◌≡◌, ℕ, length}
+use Rattle.std.proofs.Common.{◌≡◌, length}
 use Rattle.el_spend.proofs.tests.undo.Given as goal
 
 abbrev pub invariant-loop-step : goal.invariant-loop-step
