@@ -7,23 +7,20 @@ use Rattle.el_chain.specs.Headers.{same_hash}
 use Rattle.el_tables.specs.ChainLists.{ListedBlock}
 use Rattle.el_tables.specs.Edits as edit
 use Rattle.el_tables.specs.Lists.{Lists, ListedTx, script_at, newest_tx, txid_at}
-use Rattle.el_tables.specs.Tables as typed
-use Rattle.el_tables.specs.Tables.{HeadCounts, tables_of, rows_from, tx_row, script_row, greatest}
+use Rattle.el_tables.specs.Tables.{HeadCounts, tables_of, rows_from, tx_row, greatest}
 use Rattle.el_tables.proofs.TxEdits.{newest_is}
 use Rattle.el_tables.proofs.OutEdits.{script_is}
-use Rattle.el_tables.proofs.RowLists.{rows_at}
 use Rattle.el_rows.specs.Changes.{OnTable}
 use Rattle.el_rows.specs.Tables as held
-use Rattle.el_rows.specs.RowBytes.{block_row_bytes, out_row_bytes, in_row_bytes, tx_row_bytes, script_row_bytes, FitsBlockRow, FitsInRow, FitsOutRow, FitsTxRow, FitsScriptRow}
+use Rattle.el_rows.specs.RowBytes.{block_row_bytes, out_row_bytes, in_row_bytes, tx_row_bytes, FitsBlockRow, FitsInRow, FitsOutRow, FitsTxRow}
 use Rattle.el_rows.specs.declared.table.Table.{Table}
 use Rattle.el_rows.specs.declared.table.Table.TheVariants as table
 use Rattle.el_rows.specs.declared.block_row.BlockRow.{BlockRow}
 use Rattle.el_rows.specs.declared.in_row.InRow.{InRow}
 use Rattle.el_rows.specs.declared.out_row.OutRow.{OutRow}
 use Rattle.el_rows.specs.declared.tx_row.TxRow.{TxRow}
-use Rattle.el_rows.specs.declared.script_row.ScriptRow.{ScriptRow}
-use Rattle.el_buckets.specs.Rows.{Hold, bytes_of, block_fields, out_fields, in_fields, tx_fields, script_fields}
-use Rattle.el_buckets.proofs.Held.{all_more, no_tx, count_scripts}
+use Rattle.el_buckets.specs.Rows.{Hold, bytes_of, block_fields, out_fields, in_fields, tx_fields}
+use Rattle.el_buckets.proofs.Held.{all_more, no_tx}
 use Rattle.el_spend.proofs.OlderWalks.{listed_row, row_within}
 use Rattle.el_spend.proofs.Rows.{read_at, found_at}
 
@@ -47,17 +44,6 @@ module _ (counts : HeadCounts) (bs : List ListedBlock) (l : Lists) (rows : held.
   in_read n r buf lt is only =
       let found = read_at in_row_bytes in_fields FitsInRow l.ins (rows table.Ins) n r buf (hold.each table.Ins) hold.fit.ins lt is only in
       ap (λ (x : InRow). x.out) (found_at in_fields l.ins n 0 r found)
-
-  -- a script's row
-  pub hash_read : (n : ℕ) (r : ScriptRow) (buf : List ℕ) → n < length (rows table.Scripts) → buf ≡ get_or (rows table.Scripts) n []
-      → ((s : ScriptRow) → FitsScriptRow s → script_row_bytes s ≡ buf → s ≡ r) → r.script ≡ get_or l.scripts n zero_hash
-  hash_read n r buf lt is only =
-      let c = counts.scripts in
-      let typed_rows = rows_from (script_row c l) 0 l.scripts in
-      let few : n < length l.scripts = (let many = count_scripts counts bs l rows hold in omega arith) in
-      let found = read_at script_row_bytes script_fields FitsScriptRow typed_rows (rows table.Scripts) n r buf (hold.each table.Scripts) hold.fit.scripts lt is only in
-      let row_is = rows_at (script_row c l) edit.no_row zero_hash 0 n n l.scripts (omega arith) few in
-      ap (λ (x : ScriptRow). x.script) (found_at script_fields typed_rows n edit.no_row r found) ∙ ap (λ (x : typed.ScriptRow). x.script) row_is
 
   -- the `older` of a transaction's row
   pub older_read : (n : ℕ) (r : TxRow) (buf : List ℕ) → n < length (rows table.Txs) → buf ≡ get_or (rows table.Txs) n []

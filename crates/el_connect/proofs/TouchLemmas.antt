@@ -1,13 +1,12 @@
 -- Entries of script hashes, and the room that they need.
-use Rattle.std.proofs.Common.{◌≡◌, ◌⊎◌, inl, inr, ℕ, zero, suc, ◌+◌, ◌<◌, ◌≤◌, Bool, true, false, List, [], ◌∷◌, ◌++◌, length, get_or, drop, Option, None, Some, refl, ap, sym, subst, ◌∙◌, arith, length-append, if◌then◌else◌}
+use Rattle.std.proofs.Common.{◌≡◌, ◌⊎◌, inl, inr, ℕ, zero, suc, ◌+◌, ◌<◌, ◌≤◌, Bool, true, false, List, [], ◌∷◌, ◌++◌, length, get_or, drop, Option, None, Some, Result, Ok, Err, IfErr, refl, ap, sym, subst, ◌∙◌, arith, length-append, if◌then◌else◌}
 use Rattle.std.specs.Option.{option_or}
-use Rattle.std.proofs.lemmas.Bool.{cases_lt, lt-ltb, le-ltb, or_left, or_right}
-use Rattle.std.proofs.lemmas.List.{drop_all}
+use Rattle.std.proofs.lemmas.Bool.{cases_lt, lt-ltb, le-ltb}
+use Rattle.std.proofs.lemmas.List.{drop_all, get_or_past}
 use Rattle.el_base.specs.declared.hash.Hash32.{Hash32}
 use Rattle.el_base.proofs.Lists.{left_at}
 use Rattle.el_chain.specs.Chains.{zero_hash}
 use Rattle.el_chain.specs.Faults.{full}
-use Rattle.el_chain.specs.Headers.{same_hash}
 use Rattle.el_chain.specs.RowCounts.{has_script, add_script, add_scripts}
 use Rattle.el_chain.proofs.GoodChains.{first_none, second_none}
 use Rattle.el_chain.specs.declared.fault.ConnectFault.{ConnectFault}
@@ -19,12 +18,13 @@ use Rattle.el_tables.specs.Lists.{State, Lists, ListedOut, ListedEntry, add_entr
 use Rattle.el_tables.specs.ChainLists.{ListedBlock}
 use Rattle.el_tables.specs.Tables.{HeadCounts}
 use Rattle.el_tables.proofs.FitLemmas.{touch_fits}
-use Rattle.el_tables.proofs.Scripts.{hash_from}
 use Rattle.el_rows.specs.Tables as held
 use Rattle.el_buckets.specs.Rows.{Hold}
 use Rattle.el_buckets.specs.Faults.{NotAdded}
+use Rattle.el_buckets.proofs.Held.{count_scripts}
 use Rattle.el_rows.specs.declared.table.Table.TheVariants as table
 use Rattle.el_script.specs.Touches.{touch_full}
+use Rattle.el_script.proofs.Causes.{hash_there}
 use Rattle.el_connect.specs.within.Parts.{HasRoom, Overflows, Reached, touch_coins, scripts_of}
 use Rattle.el_connect.proofs.StepLemmas.{bury_long, script_stays}
 
@@ -190,12 +190,7 @@ coin_touched by k ks now real is =
     let same : script_of_output k (spend_output by k real) ≡ script_of_output k real = ap (λ (n : ℕ). get_or real.scripts n zero_hash) (script_stays (State.Spent by) k k real.outs) in
     sym (touch_last by k ks (spend_output by k now) ∙ ap (λ (x : Lists). add_entry (script_of_output k x) by x) spent ∙ ap (λ (h : Hash32). add_entry h by (spend_output by k real)) same)
 
--- the script hash of a coin is there already
-has_at : (n : ℕ) (xs : List Hash32) → n < length xs → has_script (get_or xs n zero_hash) xs ≡ true
-has_at n [] lt = absurd (omega arith)
-has_at zero (x ∷ xs) lt = or_left (same_hash x x) (has_script x xs) (hash_from x x refl)
-has_at (suc n) (x ∷ xs) lt = or_right (same_hash x (get_or xs n zero_hash)) (has_script (get_or xs n zero_hash) xs) (has_at n xs (omega arith))
-
+-- the number of a coin's script hash is one of theirs
 script_within : (n k : ℕ) (xs : List ListedOut) → OutsWithin n xs → 0 < length xs → script_at k xs < n
 script_within n k [] h lt = absurd (omega arith)
 script_within n zero (x ∷ xs) h lt = h.0
@@ -207,7 +202,7 @@ touch_scripts by [] l within some = refl
 touch_scripts by (k ∷ ks) l within some =
     let h = script_of_output k l in
     let outs = some (omega arith) in
-    let there = has_at (script_at k l.outs) l.scripts (script_within (length l.scripts) k l.outs within outs) in
+    let there = hash_there (script_at k l.outs) l.scripts (script_within (length l.scripts) k l.outs within outs) in
     let same : add_script h l.scripts ≡ l.scripts = rw there refl in
     touch_scripts by ks (add_entry h by l) (subst (λ (xs : List Hash32). OutsWithin (length xs) l.outs) (sym same) within) (λ lt. outs) ∙ same
 
@@ -238,3 +233,28 @@ pub coin_refused : (s h : Hash32) (tx n m : ℕ) (l : Lists) (e : ConnectFault) 
 coin_refused s h tx n m l e same few tells why =
     subst (λ (x : Hash32). (e ≡ refusal.DiskFailed) ⊎ ((e ≡ refusal.Memory) ⊎ Overflows (add_entry x tx l) e)) same
     (touch_refused s tx n m l e (subst (λ (x : Hash32). length (add_entry x tx l).scripts ≤ ROW_LIMIT) (sym same) few) tells why)
+
+-- 5. The script hash of a coin by its number
+
+pub hash_named : (l : Lists) (coin n : ℕ) → n ≡ script_at coin l.outs → get_or l.scripts n zero_hash ≡ script_of_output coin l
+hash_named l coin n is = ap (λ (k : ℕ). get_or l.scripts k zero_hash) is
+
+-- past all numbers it is the zero hash
+pub hash_past : (counts : HeadCounts) (bs : List ListedBlock) (l : Lists) (rows : held.Tables) (coin n : ℕ) → Hold counts bs l rows → length (rows table.Scripts) ≤ n
+    → n ≡ script_at coin l.outs → zero_hash ≡ script_of_output coin l
+hash_past counts bs l rows coin n hold past is =
+    let none : length l.scripts ≤ n = (let many = count_scripts counts bs l rows hold in omega arith) in
+    sym (get_or_past l.scripts n zero_hash none) ∙ hash_named l coin n is
+
+-- an entry by the number is refused as one by the hash
+pub number_refused : {X : Type 0} (r : Result X ConnectFault) (s h : Hash32) (tx m : ℕ) (l : Lists) → s ≡ h → length (add_entry h tx l).scripts ≤ ROW_LIMIT
+    → ((t rows : ℕ) → r ≡ Err (refusal.Full t rows) → touch_full s tx l ≡ Some (refusal.Full t rows))
+    → IfErr r (λ e. (e ≡ refusal.DiskFailed) ⊎ NotAdded table.Entries m e)
+    → IfErr r (λ e. (e ≡ refusal.DiskFailed) ⊎ ((e ≡ refusal.Memory) ⊎ Overflows (add_entry h tx l) e))
+number_refused (Ok x) s h tx m l same few tells why = tt
+number_refused (Err e) s h tx m l same few tells why =
+    coin_refused s h tx 0 m l e same few (λ t rows is. tells t rows (ap (λ (f : ConnectFault). Err f) is)) (either why)
+  where
+    either : (e ≡ refusal.DiskFailed) ⊎ NotAdded table.Entries m e → (e ≡ refusal.DiskFailed) ⊎ (NotAdded table.Scripts 0 e ⊎ NotAdded table.Entries m e)
+    either (inl disk) = inl disk
+    either (inr at) = inr (inr at)

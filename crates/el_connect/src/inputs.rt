@@ -6,27 +6,27 @@ ghost use Rattle.el_rows.specs.Transaction.{tables_in, OnlyReads};
 ghost use Rattle.el_rows.specs.declared.table.Table.{Table};
 ghost use Rattle.el_tables.specs.ChainLists.{ListedBlock};
 ghost use Rattle.el_tables.specs.Connecting.{script_of_output};
-ghost use Rattle.el_tables.specs.Lists.{Lists, add_entry};
+ghost use Rattle.el_tables.specs.Lists.{Lists, add_entry, script_at};
 ghost use Rattle.el_tables.specs.Tables.{HeadCounts};
 ghost use Rattle.el_buckets.specs.Rows.{Hold};
 ghost use Rattle.el_connect.specs.within.Parts.{Reached, HasRoom, Overflows, TouchingOn, touch_coins};
 
-use crate::reading::{input_coin, script_hash, script_number};
+use crate::reading::{input_coin, script_number};
 use el_base::{Hash32, Steps};
 use el_chain::ConnectFault;
-use el_rows::{Rows, Txn};
-use el_script::touch;
+use el_rows::{Rows, Table, Txn};
+use el_script::{touch, touch_number};
 use std::sync::ledger::Ledger;
 
-// The script hash of the coin that the input of that number takes.
+// The number of the script hash of the coin that the input of that number takes.
 fn coin_script<R: Rows, L: Ledger>(
     t: &mut Txn<'_, R>,
     n: u64,
     steps: &mut Steps<L>,
-) -> Result<Hash32, ConnectFault>
+) -> Result<u64, ConnectFault>
     requires live { R.is_live t.old.rows.now }
     ensures script { (counts : HeadCounts) (bs : List ListedBlock) (l : Lists) → R.tells
-        → Hold counts bs l (tables_in t.old) → IfOk result (λ s. s ≡ script_of_output (get_or l.ins n 0) l) }
+        → Hold counts bs l (tables_in t.old) → IfOk result (λ k. k ≡ script_at (get_or l.ins n 0) l.outs) }
     ensures tables { tables_in t.new ≡ tables_in t.old }
     ensures fault { IfErr result (λ e. e ≡ ConnectFault.DiskFailed) }
     ensures reads { OnlyReads t.old t.new }
@@ -36,8 +36,7 @@ fn coin_script<R: Rows, L: Ledger>(
         result }
 {
     let coin = input_coin(t, n, steps)?;
-    let script = script_number(t, coin, steps)?;
-    script_hash(t, script, steps)
+    script_number(t, coin, steps)
 }
 
 // The input of that number was made by the transaction of that number, which gets an entry with the script
@@ -69,8 +68,12 @@ fn touch_coin<R: Rows, L: Ledger>(
     ensures cause { CountsOnly (R.faults t.old.rows.now) (R.faults t.new.rows.now) ConnectFault.DiskFailed
         result }
 {
-    let hash = coin_script(t, n, steps)?;
-    touch(t, &hash, by, steps)?;
+    let script = coin_script(t, n, steps)?;
+    if script < t.count(Table::Scripts) {
+        return touch_number(t, script, by, steps);
+    }
+    // Lists that fit together then have no outputs, and the script hash of none is the zero hash.
+    touch(t, &Hash32([0; 32]), by, steps)?;
     Ok(())
 }
 

@@ -1,6 +1,5 @@
 // Rows by their numbers.
 ghost use Rattle.std.specs.Prelude.{◌≡◌, ◌<◌, ◌≤◌, ℕ, List, [], ◌∷◌, ◌++◌, length, get_or, take, OnOk, IfOk, IfErr};
-ghost use Rattle.el_chain.specs.Chains.{zero_hash};
 ghost use Rattle.el_outside.specs.Counts.{CountsOnly};
 ghost use Rattle.el_rows.specs.Tables.{size_of};
 ghost use Rattle.el_rows.specs.Transaction.{tables_in, OnlyReads};
@@ -11,10 +10,10 @@ ghost use Rattle.el_tables.specs.Lists.{Lists, script_at, newest_tx, txid_at};
 ghost use Rattle.el_tables.specs.Tables.{HeadCounts};
 ghost use Rattle.el_buckets.specs.Rows.{Hold};
 
-use el_base::{Hash32, Steps};
+use el_base::Steps;
 use el_chain::ConnectFault;
 use el_outside::DiskFailed;
-use el_rows::{BlockRow, InRow, OutRow, Rows, ScriptRow, Table, TxRow, Txn};
+use el_rows::{BlockRow, InRow, OutRow, Rows, Table, TxRow, Txn};
 use std::sync::ledger::Ledger;
 
 // Reads a row.
@@ -114,31 +113,6 @@ pub(crate) fn script_number<R: Rows, L: Ledger>(
     let mut bytes = [0; 21];
     read_row(t, Table::Outs, k, &mut bytes, steps)?;
     Ok(OutRow::read(&bytes).script)
-}
-
-// The script hash of that number; the zero hash where there is none.
-pub(crate) fn script_hash<R: Rows, L: Ledger>(
-    t: &mut Txn<'_, R>,
-    n: u64,
-    steps: &mut Steps<L>,
-) -> Result<Hash32, ConnectFault>
-    requires live { R.is_live t.old.rows.now }
-    ensures script { (counts : HeadCounts) (bs : List ListedBlock) (l : Lists) → R.tells
-        → Hold counts bs l (tables_in t.old) → IfOk result (λ s. s ≡ get_or l.scripts n zero_hash) }
-    ensures tables { tables_in t.new ≡ tables_in t.old }
-    ensures fault { IfErr result (λ e. e ≡ ConnectFault.DiskFailed) }
-    ensures reads { OnlyReads t.old t.new }
-    ensures name { t.new.rows.ghost_name ≡ t.old.rows.ghost_name }
-    ensures ticked { steps.old ≤ steps.new }
-    ensures cause { CountsOnly (R.faults t.old.rows.now) (R.faults t.new.rows.now) ConnectFault.DiskFailed
-        result }
-{
-    if n >= t.count(Table::Scripts) {
-        return Ok(Hash32([0; 32]));
-    }
-    let mut bytes = [0; 52];
-    read_row(t, Table::Scripts, n, &mut bytes, steps)?;
-    Ok(ScriptRow::read(&bytes).script)
 }
 
 // The newest transaction with the same txid before that of that number.

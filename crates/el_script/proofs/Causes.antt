@@ -1,18 +1,21 @@
 -- The number of a script, and when a table has no place for a row.
-use Rattle.std.proofs.Common.{◌≡◌, inl, inr, ℕ, ◌+◌, ◌<◌, ◌≤◌, Bool, true, false, List, [], ◌∷◌, ◌++◌, length, Option, None, Some, refl, ap, ap₂, sym, ◌∙◌, arith, length-append}
+use Rattle.std.proofs.Common.{◌≡◌, inl, inr, ℕ, zero, suc, ◌+◌, ◌<◌, ◌≤◌, Bool, true, false, List, [], ◌∷◌, ◌++◌, length, get_or, if◌then◌else◌, Option, None, Some, refl, ap, ap₂, sym, ◌∙◌, arith, length-append}
 use Rattle.std.specs.Option.{option_or}
-use Rattle.std.proofs.lemmas.Bool.{lt-ltb, le-ltb}
+use Rattle.std.proofs.lemmas.Bool.{cases_Bool, lt-ltb, le-ltb, or_left, or_right}
 use Rattle.el_base.specs.declared.hash.Hash32.{Hash32}
+use Rattle.el_chain.specs.Chains.{zero_hash}
 use Rattle.el_chain.specs.Faults.{full}
+use Rattle.el_chain.specs.Headers.{same_hash}
 use Rattle.el_chain.specs.RowCounts.{has_script}
 use Rattle.el_chain.specs.declared.fault.ConnectFault.{ConnectFault}
 use Rattle.el_chain.specs.declared.fault.ConnectFault.TheVariants as connect
 use Rattle.el_tables.specs.ChainLists.{ListedBlock}
 use Rattle.el_tables.specs.Fits.{Fits, Once}
-use Rattle.el_tables.specs.Lists.{Lists, add_entry, script_number, is_tx, last_tx_of}
+use Rattle.el_tables.specs.Lists.{ListedEntry, Lists, add_entry, script_number, is_tx, last_tx_of}
 use Rattle.el_tables.specs.Tables.{HeadCounts}
 use Rattle.el_tables.proofs.FitLemmas.{new_has_no_entry, script_found}
 use Rattle.el_tables.proofs.ScriptEdits.{touch_new}
+use Rattle.el_tables.proofs.Scripts.{hash_from, hash_gives, number_at}
 use Rattle.el_rows.specs.Tables as held
 use Rattle.el_rows.specs.declared.table.Table.TheVariants as table
 use Rattle.el_buckets.specs.Faults.{NotAdded}
@@ -23,6 +26,24 @@ use Rattle.el_script.specs.within.RowSteps.{IsEntryFault, IsScriptFault}
 use Rattle.el_script.proofs.ScriptSteps.{many_scripts, many_entries}
 
 -- 1. Numbers
+
+-- the script hash of a number is there
+pub hash_there : (n : ℕ) (ss : List Hash32) → n < length ss → has_script (get_or ss n zero_hash) ss ≡ true
+hash_there n [] lt = absurd (omega arith)
+hash_there zero (s ∷ ss) lt = or_left (same_hash s s) (has_script s ss) (hash_from s s refl)
+hash_there (suc n) (s ∷ ss) lt = or_right (same_hash s (get_or ss n zero_hash)) (has_script (get_or ss n zero_hash) ss) (hash_there n ss (omega arith))
+
+-- and has that number where each stands once
+pub hash_number : (n : ℕ) (ss : List Hash32) → Once ss → n < length ss → n ≡ script_number (get_or ss n zero_hash) ss
+hash_number n [] once lt = absurd (omega arith)
+hash_number zero (s ∷ ss) once lt = let same = hash_from s s refl in rw same refl
+hash_number (suc n) (s ∷ ss) once lt = elim (cases_Bool (same_hash s (get_or ss n zero_hash))) [
+  | inl same ↦
+      let here : has_script s ss ≡ true = ap (λ (t : Hash32). has_script t ss) (hash_gives s (get_or ss n zero_hash) same) ∙ hash_there n ss (omega arith) in
+      let twice : true ≡ false = sym here ∙ once.0 in
+      absurd cc
+  | inr apart ↦ let rest = hash_number n ss once.1 (omega arith) in rw apart (ap suc rest)
+]
 
 -- there is no newest where the script isn't there
 pub newest_none : (s : Hash32) (ss : List Hash32) → Once ss → newest_of s ss ≡ None → has_script s ss ≡ false
@@ -40,6 +61,12 @@ newest_some s ss n once some = by (has_script s ss) (sym (script_found s ss once
     by true is = (refl, cc)
     by false is = cc
 
+-- which is that of this script hash
+pub newest_hash : (s : Hash32) (ss : List Hash32) (n : ℕ) → Once ss → newest_of s ss ≡ Some n → get_or ss n zero_hash ≡ s
+newest_hash s ss n once some =
+    let found = newest_some s ss n once some in
+    ap (λ (k : ℕ). get_or ss k zero_hash) found.1 ∙ number_at s zero_hash ss found.0
+
 -- 2. Tables at their limit
 
 full_none : (k n : ℕ) → n ≤ 4294967295 → full k n ≡ None
@@ -54,9 +81,6 @@ same_fault e a b t rows x y = ap (λ (f : ConnectFault). Some f) (sym x ∙ y)
 not_memory : (e : ConnectFault) (t rows : ℕ) → e ≡ connect.Memory → e ≡ connect.Full t rows → ⊥
 not_memory e t rows x y = let both : connect.Memory ≡ connect.Full t rows = sym x ∙ y in cc
 
-pub not_disk : (e : ConnectFault) (t rows : ℕ) → e ≡ connect.DiskFailed → e ≡ connect.Full t rows → ⊥
-not_disk e t rows x y = let both : connect.DiskFailed ≡ connect.Full t rows = sym x ∙ y in cc
-
 -- where all tables are within their limits after the step, none was full
 pub room_left : (counts : HeadCounts) (bs : List ListedBlock) (s : Hash32) (tx : ℕ) (l : Lists) (new : held.Tables) → Hold counts bs (add_entry s tx l) new
     → length (new table.Scripts) ≤ 4294967295 → length (new table.Entries) ≤ 4294967295 → touch_full s tx l ≡ None
@@ -65,6 +89,23 @@ room_left counts bs s tx l new hold a b =
     let c = many_scripts counts bs m new hold in
     let d = many_entries counts bs m new hold in
     ap₂ (λ (x y : Option ConnectFault). option_or x y) (full_none 6 (length m.scripts) (omega arith)) (full_none 8 (length m.entries) (omega arith))
+
+-- nor was one where a script that is there has an entry more
+pub room_known : (counts : HeadCounts) (bs : List ListedBlock) (s : Hash32) (tx : ℕ) (l : Lists) (old : held.Tables) → Hold counts bs l old → has_script s l.scripts ≡ true
+    → length (old table.Scripts) ≤ 4294967295 → length (old table.Entries) < 4294967295 → touch_full s tx l ≡ None
+room_known counts bs s tx l old hold known few room =
+    let c = many_scripts counts bs l old hold in
+    let d = many_entries counts bs l old hold in
+    let same_scripts : length (add_entry s tx l).scripts ≡ length l.scripts = rw known refl in
+    let entries = one_more (is_tx tx (last_tx_of (script_number s l.scripts) l.entries)) in
+    ap₂ (λ (x y : Option ConnectFault). option_or x y) (full_none 6 (length (add_entry s tx l).scripts) (omega arith)) (full_none 8 (length (add_entry s tx l).entries) (omega arith))
+  where
+    more : List ListedEntry
+    more = l.entries ++ record { tx = tx; script = script_number s l.scripts } ∷ []
+
+    one_more : (b : Bool) → length (if b then l.entries else more) ≤ length l.entries + 1
+    one_more true = omega arith
+    one_more false = let long = length-append l.entries (record { tx = tx; script = script_number s l.scripts } ∷ []) in omega arith
 
 -- a script that isn't there, or its first entry, has no place
 pub full_new : (counts : HeadCounts) (bs : List ListedBlock) (s : Hash32) (tx : ℕ) (l : Lists) (old : held.Tables) (e : ConnectFault) (t rows : ℕ) → Hold counts bs l old

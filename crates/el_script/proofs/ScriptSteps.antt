@@ -172,10 +172,11 @@ module _ (counts : HeadCounts) (bs : List ListedBlock) (l : Lists) (old : held.T
   last_found n k row link lt only at link_is =
       link_is ∙ ap (λ (r : ScriptRow). below k r.last) (sym (script_read n row lt only)) ∙ last_below n k (let many = many_scripts in omega arith) at
 
-  pub tx_found : (n tx : ℕ) (link : Option ℕ) (b : Bool) → link ≡ greatest (is_of_script n) l.entries
-      → b ≡ is_tx tx (edit.tx_of_last no_entry l.entries link) → b ≡ is_tx tx (last_tx_of n l.entries)
-  tx_found n tx link b link_is is =
-      is ∙ ap (λ (o : Option ℕ). is_tx tx (edit.tx_of_last no_entry l.entries o)) link_is ∙ ap (is_tx tx) (sym (last_entry_is no_entry n l.entries))
+  pub tx_found : (n tx k : ℕ) (row : ScriptRow) (link : Option ℕ) (b : Bool) → n < length (old table.Scripts)
+      → ((s : ScriptRow) → FitsScriptRow s → script_row_bytes s ≡ get_or (old table.Scripts) n [] → s ≡ row)
+      → k ≡ length (old table.Entries) → link ≡ below k row.last → b ≡ is_tx tx (edit.tx_of_last no_entry l.entries link) → b ≡ is_tx tx (last_tx_of n l.entries)
+  tx_found n tx k row link b lt only at link_is is =
+      is ∙ ap (λ (o : Option ℕ). is_tx tx (edit.tx_of_last no_entry l.entries o)) (last_found n k row link lt only at link_is) ∙ ap (is_tx tx) (sym (last_entry_is no_entry n l.entries))
 
   module _ (new : held.Tables) (others : ThreeStay old new) where
     -- 3. Rows after a step

@@ -9,7 +9,7 @@ mod touching;
 
 pub use lookup::find_script;
 pub use take_back::take_back_entry;
-pub use touching::touch;
+pub use touching::{touch, touch_number};
 
 #[cfg(test)]
 mod limit_tests;

@@ -2,7 +2,7 @@
 ghost use Rattle.std.specs.Prelude.{◌≡◌, ◌<◌, [], max, min};
 ghost use Rattle.el_rows.specs.Tables.{limit_of};
 
-use crate::{find_script, take_back_entry, touch};
+use crate::{find_script, take_back_entry, touch, touch_number};
 use el_base::{Hash32, Steps};
 use el_chain::ConnectFault;
 use el_outside::DiskFailed;
@@ -91,6 +91,8 @@ fn at_the_limit<A: Abort, L: Ledger>(rt: &A, alloc: Global, blank: Blank) -> Res
     let mut txn = Txn::new(alloc, &mut rows);
     let script = Hash32([7; 32]);
     assert!(rt; touch(&mut txn, &script, 5, &mut steps) == Err(full_fault(6)));
+    assert!(rt; 7 < txn.count(Table::Scripts));
+    assert!(rt; touch_number(&mut txn, 7, 5, &mut steps) == Err(full_fault(8)));
     assert!(rt; take_back_entry(&mut txn, &mut steps) == Ok(()));
     assert!(rt; touch(&mut txn, &script, 5, &mut steps) == Ok(4_294_967_294));
     let left = txn.count(Table::Scripts).min(4_294_967_294);
@@ -119,6 +121,8 @@ fn failing<A: Abort, L: Ledger>(rt: &A, alloc: Global, blank: Blank) -> Result<(
     let fault = ConnectFault::DiskFailed;
     assert!(rt; find_script(&mut txn, &script, &mut steps) == Err(DiskFailed));
     assert!(rt; touch(&mut txn, &script, 5, &mut steps) == Err(fault));
+    assert!(rt; 7 < txn.count(Table::Scripts));
+    assert!(rt; touch_number(&mut txn, 7, 5, &mut steps) == Err(fault));
     assert!(rt; take_back_entry(&mut txn, &mut steps) == Err(fault));
     assert!(rt; txn.count(Table::Entries) == 4_294_967_295);
     Ok(())

@@ -1,8 +1,9 @@
 // What no contract says: that each call succeeds where memory is ample, and a long run beside plain lists.
 ghost use Rattle.std.specs.Prelude.{◌≡◌, ◌<◌};
 
-use crate::{find_script, take_back_entry, touch};
+use crate::{find_script, take_back_entry, touch, touch_number};
 use el_base::{Hash32, Steps};
+use el_chain::ConnectFault;
 use el_rows::{EntryRow, Rows, ScriptRow, Table, Txn, VecRows};
 use std::alloc::Global;
 use std::marker::Brand;
@@ -62,9 +63,28 @@ fn entry_at<L: Ledger>(
     Ok(Some((row.tx, row.script, row.before)))
 }
 
+// Touches the script by that number where this is asked and it is there, and else by its script hash. It
+// answers the number.
+fn touch_by<L: Ledger>(
+    txn: &mut Txn<'_, VecRows>,
+    by_number: bool,
+    k: u8,
+    number: u64,
+    tx: u32,
+    steps: &mut Steps<L>,
+) -> Result<u64, ConnectFault>
+    ensures name { txn.new.rows.ghost_name ≡ txn.old.rows.ghost_name }
+{
+    if by_number && number < txn.count(Table::Scripts) {
+        touch_number(txn, number, u64::from(tx), steps)?;
+        return Ok(number);
+    }
+    touch(txn, &script(k), u64::from(tx), steps)
+}
+
 // Touches in two buckets: the script, the transaction, the number that is answered, how many scripts and
 // entries there are after it, and the script's row.
-type Touched = (u8, u64, u64, [u64; 2], (Option<u64>, Option<u64>, u64));
+type Touched = (u8, u32, u64, [u64; 2], (Option<u64>, Option<u64>, u64));
 
 const TOUCHES: [Touched; 8] = [
     (1, 0, 0, [1, 1], (None, Some(0), 1)),
@@ -111,7 +131,12 @@ const BACK: [Back; 6] = [
     ([0, 0], [None, None, None], None),
 ];
 
-fn touch_and_back<A: Abort, L: Ledger>(rt: &A, alloc: Global, blank: Blank) -> Result<(), Fail>
+fn touch_and_back<A: Abort, L: Ledger>(
+    rt: &A,
+    alloc: Global,
+    blank: Blank,
+    by_number: bool,
+) -> Result<(), Fail>
     requires name { blank.name ≡ L.name }
     requires parts { blank.parts ≡ L.parts }
     requires some { 0 < blank.parts }
@@ -121,7 +146,8 @@ fn touch_and_back<A: Abort, L: Ledger>(rt: &A, alloc: Global, blank: Blank) -> R
     let mut txn = Txn::new(alloc, &mut rows);
     add_heads(&mut txn, 2)?;
     for (k, tx, number, counts, row) in &TOUCHES {
-        assert!(rt; touch(&mut txn, &script(*k), *tx, &mut steps) == Ok(*number));
+        let touched = touch_by(&mut txn, by_number, *k, *number, *tx, &mut steps);
+        assert!(rt; touched == Ok(*number));
         assert!(rt; [txn.count(Table::Scripts), txn.count(Table::Entries)] == *counts);
         assert!(rt; script_at(&mut txn, *number, &mut steps)? == Some(*row));
     }
@@ -141,7 +167,12 @@ fn touch_and_back<A: Abort, L: Ledger>(rt: &A, alloc: Global, blank: Blank) -> R
 
 #[test]
 fn touched_and_taken_back(rt: HostRuntime) -> Result<(), Fail> {
-    touch_and_back::<HostRuntime, Brand>(&rt, rt.alloc(), Blank::new(1))
+    touch_and_back::<HostRuntime, Brand>(&rt, rt.alloc(), Blank::new(1), false)
+}
+
+#[test]
+fn touched_by_number(rt: HostRuntime) -> Result<(), Fail> {
+    touch_and_back::<HostRuntime, Brand>(&rt, rt.alloc(), Blank::new(1), true)
 }
 
 // Touches and steps back as plain lists have them.
@@ -219,10 +250,12 @@ fn long_run<A: Abort, L: Ledger>(rt: &A, alloc: Global, blank: Blank) -> Result<
         scripts: Vec::new(alloc),
         entries: Vec::new(alloc),
     };
-    for i in 0..300 {
+    for i in 0..300u32 {
         let k = (i / 2 * 7 % 61) as u8;
-        let number = touch(&mut txn, &script(k), i / 5, &mut steps);
-        touch_plain(&mut plain, k, i / 5)?;
+        let tx = i / 5;
+        let last = place(&plain.scripts, k).unwrap_or(u64::MAX);
+        let number = touch_by(&mut txn, i % 3 == 0, k, last, tx, &mut steps);
+        touch_plain(&mut plain, k, u64::from(tx))?;
         assert!(rt; number.ok() == place(&plain.scripts, k));
         compare(rt, &mut txn, &plain, &mut steps)?;
     }
@@ -347,6 +380,7 @@ fn check_odd<A: Abort, L: Ledger>(
     alloc: Global,
     odd: &Odd,
     answers: &Answers,
+    by_number: bool,
     steps: &mut Steps<L>,
 ) -> Result<(), Fail> {
     let mut rows = VecRows::new(alloc);
@@ -359,7 +393,7 @@ fn check_odd<A: Abort, L: Ledger>(
     assert!(rt; find_script(&mut txn, &script(0), steps) == Ok(answers.0[0]));
     assert!(rt; find_script(&mut txn, &script(1), steps) == Ok(answers.0[1]));
     let (number, row, entry, counts) = answers.1;
-    assert!(rt; touch(&mut txn, &script(1), 5, steps) == Ok(number));
+    assert!(rt; touch_by(&mut txn, by_number, 1, number, 5, steps) == Ok(number));
     assert!(rt; [txn.count(Table::Scripts), txn.count(Table::Entries)] == counts);
     assert!(rt; script_at(&mut txn, number, steps)? == Some(row));
     assert!(rt; entry_at(&mut txn, counts[1].saturating_sub(1), steps)? == Some(entry));
@@ -377,7 +411,8 @@ fn odd_rows<A: Abort, L: Ledger>(rt: &A, alloc: Global, blank: Blank) -> Result<
 {
     let mut steps = Steps::<L>::new(blank);
     for (odd, answers) in &ODD {
-        check_odd(rt, alloc, odd, answers, &mut steps)?;
+        check_odd(rt, alloc, odd, answers, false, &mut steps)?;
+        check_odd(rt, alloc, odd, answers, true, &mut steps)?;
     }
     Ok(())
 }

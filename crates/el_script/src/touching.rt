@@ -1,22 +1,19 @@
 // A transaction of a script.
-ghost use Rattle.std.specs.Prelude.{◌≡◌, ◌≢◌, ◌⊎◌, ◌<◌, ◌≤◌, ◌+◌, ◌^◌, ℕ, List, length, OnOk, IfOk, IfErr, Err, Some, None, true};
+ghost use Rattle.std.specs.Prelude.{◌≡◌, ◌≢◌, ◌⊎◌, ◌<◌, ◌≤◌, ◌+◌, ◌^◌, ℕ, List, length, get_or, OnOk, IfOk, IfErr, Err, Some, None, true};
 ghost use Rattle.std.specs.Option.{ForSome};
-ghost use Rattle.el_base.specs.declared.hash.Hash32 as hash;
-ghost use Rattle.el_chain.specs.RowCounts.{has_script};
+ghost use Rattle.el_chain.specs.Chains.{zero_hash};
 ghost use Rattle.el_outside.specs.Counts.{CountsOnly};
-ghost use Rattle.el_rows.specs.Tables.{limit_of};
 ghost use Rattle.el_rows.specs.Transaction.{tables_in, OnlyReads};
 ghost use Rattle.el_rows.specs.declared.table.Table.{Table};
 ghost use Rattle.el_tables.specs.ChainLists.{ListedBlock};
 ghost use Rattle.el_tables.specs.Edits.{tx_of_last};
 ghost use Rattle.el_tables.specs.Fits.{Fits};
-ghost use Rattle.el_tables.specs.Lists.{ListedEntry, Lists, add_entry, is_tx, last_tx_of, script_number};
+ghost use Rattle.el_tables.specs.Lists.{ListedEntry, Lists, add_entry, is_tx, script_number};
 ghost use Rattle.el_tables.specs.Tables.{HeadCounts};
 ghost use Rattle.el_buckets.specs.Faults.{NotAdded};
 ghost use Rattle.el_buckets.specs.Rows.{Hold};
 ghost use Rattle.el_buckets.specs.Buckets.{bucket_size};
 ghost use Rattle.el_script.specs.Touches.{touch_full};
-ghost use Rattle.el_script.specs.within.RowSteps.{ThreeStay, IsEntryFault};
 
 use crate::adding::{add_known, add_script};
 use crate::row::{entry_row, script_row};
@@ -52,8 +49,11 @@ fn is_entry_of<R: Rows, L: Ledger>(
     }
 }
 
-// Adds an entry of a script that is there, unless its last entry is of that transaction.
-fn touch_known<R: Rows, L: Ledger>(
+/// Adds one entry for the script and the transaction of these numbers, unless the script's last entry is of
+/// that transaction. The script must be there. The fault is `Full` where the table of entries has no place,
+/// `Memory` where memory is short, and `DiskFailed` where a row can't be read. After one the transaction of
+/// rows may hold a part.
+pub fn touch_number<R: Rows, L: Ledger>(
     t: &mut Txn<'_, R>,
     script: u64,
     tx: u64,
@@ -61,27 +61,36 @@ fn touch_known<R: Rows, L: Ledger>(
 ) -> Result<(), ConnectFault>
     requires live { R.is_live t.old.rows.now }
     requires below { script < length (tables_in t.old Table.Scripts) }
-    requires few { script < 2 ^ 32 }
     requires tx { tx < 2 ^ 32 }
-    ensures lists { (counts : HeadCounts) (bs : List ListedBlock) (l : Lists) (s : hash.Hash32) → R.tells
-        → Hold counts bs l (tables_in t.old) → has_script s l.scripts ≡ true
-        → script ≡ script_number s l.scripts
-        → OnOk result (Hold counts bs (add_entry s tx l) (tables_in t.new)) }
-    ensures again { (counts : HeadCounts) (bs : List ListedBlock) (l : Lists) → R.tells
-        → Hold counts bs l (tables_in t.old) → is_tx tx (last_tx_of script l.entries) ≡ true
-        → IfErr result (λ e. e ≡ ConnectFault.DiskFailed) }
+    // It is the step of the lists with the script hash of that number, on all tables.
+    ensures lists { (counts : HeadCounts) (bs : List ListedBlock) (l : Lists) → R.tells
+        → Hold counts bs l (tables_in t.old) → Fits l
+        → OnOk result (Hold counts bs (add_entry (get_or l.scripts script zero_hash) tx l)
+        (tables_in t.new)) }
+    // Where the table of entries has no place for the row, the fault is this table's; and `Full` comes only
+    // there.
+    ensures room { (counts : HeadCounts) (bs : List ListedBlock) (l : Lists) → R.tells
+        → Hold counts bs l (tables_in t.old) → Fits l
+        → OnOk result (touch_full (get_or l.scripts script zero_hash) tx l ≡ None) }
+    ensures full { (counts : HeadCounts) (bs : List ListedBlock) (l : Lists) → R.tells
+        → Hold counts bs l (tables_in t.old) → Fits l
+        → (table rows : ℕ) → result ≡ Err (ConnectFault.Full table rows)
+        → touch_full (get_or l.scripts script zero_hash) tx l ≡ Some (ConnectFault.Full table rows) }
+    // What follows holds over any rows. It reads the script's row and its last entry.
+    ensures steps { steps.new ≤ steps.old + 2 }
     ensures kept { OnOk result (length (tables_in t.new Table.Scripts)
         ≡ length (tables_in t.old Table.Scripts)) }
-    ensures within { OnOk result (length (tables_in t.new Table.Entries) ≤ limit_of Table.Entries) }
-    ensures others { ThreeStay (tables_in t.old) (tables_in t.new) }
-    ensures fault { IfErr result (λ e. (e ≡ ConnectFault.DiskFailed) ⊎ IsEntryFault (tables_in t.old) e) }
+    ensures others { (u : Table) → u ≢ Table.Scripts → u ≢ Table.ScriptHeads → u ≢ Table.Entries
+        → tables_in t.new u ≡ tables_in t.old u }
+    ensures fault { IfErr result (λ e. (e ≡ ConnectFault.DiskFailed)
+        ⊎ NotAdded Table.Entries (length (tables_in t.old Table.Entries)) e) }
     ensures reads { OnlyReads t.old t.new }
     ensures name { t.new.rows.ghost_name ≡ t.old.rows.ghost_name }
     ensures ticked { steps.old ≤ steps.new }
-    ensures tick { steps.new ≤ steps.old + 2 }
     ensures cause { CountsOnly (R.faults t.old.rows.now) (R.faults t.new.rows.now) ConnectFault.DiskFailed
         result }
 {
+    prove!(script < t.count(Table::Scripts));
     let row = script_row(t, script, steps)?;
     let last = if_below(row.last, t.count(Table::Entries));
     if is_entry_of(t, last, tx, steps)? {
@@ -143,7 +152,7 @@ pub fn touch<R: Rows, L: Ledger>(
             Ok(count)
         }
         Some(script) => {
-            touch_known(t, script, tx, steps)?;
+            touch_number(t, script, tx, steps)?;
             Ok(script)
         }
     }

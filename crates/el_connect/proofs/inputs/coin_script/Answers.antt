@@ -1,5 +1,4 @@
-use Rattle.std.proofs.Common.{◌≡◌, ℕ, IfOk, get_or, ap, sym, subst, ◌∙◌}
-use Rattle.el_chain.specs.Chains.{zero_hash}
+use Rattle.std.proofs.Common.{◌≡◌, ℕ, IfOk, sym, subst}
 use Rattle.el_rows.specs.Tables as held
 use Rattle.el_tables.specs.Lists.{script_at}
 use Rattle.el_buckets.specs.Rows.{Hold}
@@ -9,6 +8,4 @@ pub returns-clause-script : goal.returns-clause-script
 returns-clause-script g c counts bs l told hold =
     let coin = c.in_ok-coin.ensures.coin counts bs l told hold in
     let two = subst (λ (T : held.Tables). Hold counts bs l T) (sym c.input_coin.ensures.tables) hold in
-    let script = c.in_ok-script.ensures.script counts bs l told two in
-    let three = subst (λ (T : held.Tables). Hold counts bs l T) (sym c.script_number.ensures.tables) two in
-    subst (λ (j : ℕ). IfOk c.script_hash.result (λ s. s ≡ get_or l.scripts j zero_hash)) (script ∙ ap (λ (k : ℕ). script_at k l.outs) coin) (c.script_hash.ensures.script counts bs l told three)
+    subst (λ (k : ℕ). IfOk c.script_number.result (λ n. n ≡ script_at k l.outs)) coin (c.script_number.ensures.script counts bs l told two)

@@ -1,15 +1,17 @@
-use Rattle.std.proofs.Common.{rules, inl, inr, List, ◌≡◌, ◌∙◌, ◌+◌, ◌≤◌, ℕ, [], ◌∷◌, sym, ap, subst, length, length-append, arith}
-use Rattle.std.proofs.lemmas.Bool.{cases_Bool}
+use Rattle.std.proofs.Common.{rules, List, ◌≡◌, ◌∙◌, ◌+◌, ℕ, Err, None, Some, [], ◌∷◌, sym, ap, subst, length, length-append, arith}
+use Rattle.el_base.specs.declared.hash.Hash32.{Hash32}
+use Rattle.el_chain.specs.declared.fault.ConnectFault.{ConnectFault}
 use Rattle.el_chain.specs.declared.fault.ConnectFault.TheVariants as connect
 use Rattle.el_rows.specs.Tables.{Tables}
 use Rattle.el_rows.specs.Transaction.{tables_in}
 use Rattle.el_rows.specs.declared.table.Table.TheVariants as table
-use Rattle.el_tables.specs.Lists.{is_tx, last_tx_of}
+use Rattle.el_tables.specs.Lists.{add_entry}
 use Rattle.el_tables.proofs.Scripts.{number_next}
 use Rattle.el_buckets.specs.Rows.{Hold}
-use Rattle.el_script.specs.within.RowSteps.{ScriptMore, ThreeStay, IsEntryFault, IsScriptFault}
+use Rattle.el_script.specs.Touches.{touch_full}
+use Rattle.el_script.specs.within.RowSteps.{ScriptMore, ThreeStay, IsScriptFault}
 use Rattle.el_script.proofs.ScriptSteps.{script_grows, many_scripts}
-use Rattle.el_script.proofs.Causes.{newest_none, newest_some, room_left, full_new, full_known, not_disk}
+use Rattle.el_script.proofs.Causes.{newest_hash, newest_none, newest_some, room_left, full_new}
 use Rattle.el_script.proofs.touching.touch.Goals as goal
 
 pub returns-in_ok-add_script-in-None-clause-lists : goal.returns-in_ok-add_script-in-None-clause-lists
@@ -42,26 +44,21 @@ returns-in_ok-add_script-in-None-clause-room g c counts bs l told hold fits some
     let entries : length (after table.Entries) ≡ length (before table.Entries) + 1 = ap (λ (rows : List (List ℕ)). length rows) more.entries ∙ length-append (before table.Entries) (_ ∷ []) in
     room_left counts bs c.args.s.now c.args.tx l after (returns-in_ok-add_script-in-None-clause-lists g c counts bs l told hold fits some) (omega arith) (omega arith)
 
-pub returns-in_ok-touch_known-in-Some-clause-lists : goal.returns-in_ok-touch_known-in-Some-clause-lists
-returns-in_ok-touch_known-in-Some-clause-lists g c counts bs l told hold fits some =
-    let s = c.args.s.now in
-    let n = c.in-Some.script in
-    let found = newest_some s l.scripts n fits.numbered.once (sym (c.in-Ok.ensures.newest counts bs l told hold some) ∙ c.in-Some.is) in
+pub returns-in_ok-touch_number-in-Some-clause-lists : goal.returns-in_ok-touch_number-in-Some-clause-lists
+returns-in_ok-touch_number-in-Some-clause-lists g c counts bs l told hold fits some =
+    let hash = newest_hash c.args.s.now l.scripts c.in-Some.script fits.numbered.once (sym (c.in-Ok.ensures.newest counts bs l told hold some) ∙ c.in-Some.is) in
     let before = subst (λ (T : Tables). Hold counts bs l T) (sym c.find.ensures.tables) hold in
-    c.in_ok-touch_known-in-Some.ensures.lists counts bs l s told before found.0 found.1
+    subst (λ (h : Hash32). Hold counts bs (add_entry h c.args.tx l) (tables_in {G = g.R.Rows} c.touch_number.new.t)) hash (c.in_ok-touch_number-in-Some.ensures.lists counts bs l told before fits)
 
-pub returns-in_ok-touch_known-in-Some-clause-number : goal.returns-in_ok-touch_known-in-Some-clause-number
-returns-in_ok-touch_known-in-Some-clause-number g c counts bs l told hold fits some =
+pub returns-in_ok-touch_number-in-Some-clause-number : goal.returns-in_ok-touch_number-in-Some-clause-number
+returns-in_ok-touch_number-in-Some-clause-number g c counts bs l told hold fits some =
     (newest_some c.args.s.now l.scripts c.in-Some.script fits.numbered.once (sym (c.in-Ok.ensures.newest counts bs l told hold some) ∙ c.in-Some.is)).1
 
-pub returns-in_ok-touch_known-in-Some-clause-room : goal.returns-in_ok-touch_known-in-Some-clause-room
-returns-in_ok-touch_known-in-Some-clause-room g c counts bs l told hold fits some =
-    let after = tables_in {G = g.R.Rows} c.touch_known.new.t in
-    let kept = c.in_ok-touch_known-in-Some.ensures.kept in
-    let count = c.count-count.ensures.count in
-    let limit = c.count-count.ensures.limit in
-    room_left counts bs c.args.s.now c.args.tx l after (returns-in_ok-touch_known-in-Some-clause-lists g c counts bs l told hold fits some)
-    (omega (arith, kept, count, limit)) c.in_ok-touch_known-in-Some.ensures.within
+pub returns-in_ok-touch_number-in-Some-clause-room : goal.returns-in_ok-touch_number-in-Some-clause-room
+returns-in_ok-touch_number-in-Some-clause-room g c counts bs l told hold fits some =
+    let hash = newest_hash c.args.s.now l.scripts c.in-Some.script fits.numbered.once (sym (c.in-Ok.ensures.newest counts bs l told hold some) ∙ c.in-Some.is) in
+    let before = subst (λ (T : Tables). Hold counts bs l T) (sym c.find.ensures.tables) hold in
+    subst (λ (h : Hash32). touch_full h c.args.tx l ≡ None) hash (c.in_ok-touch_number-in-Some.ensures.room counts bs l told before fits)
 
 pub returns-in_err-add_script-in-None-clause-full : goal.returns-in_err-add_script-in-None-clause-full
 returns-in_err-add_script-in-None-clause-full g c counts bs l told hold fits some t rows is =
@@ -72,21 +69,11 @@ returns-in_err-add_script-in-None-clause-full g c counts bs l told hold fits som
     let fresh = newest_none s l.scripts fits.numbered.once (sym (c.in-Ok.ensures.newest counts bs l told hold some) ∙ c.in-None.is) in
     full_new counts bs s c.args.tx l shown e t rows hold fits fresh (subst (λ (T : Tables). IsScriptFault T e) c.find.ensures.tables c.in_err-add_script-in-None.ensures.fault) e_is
 
-pub returns-in_err-touch_known-in-Some-clause-full : goal.returns-in_err-touch_known-in-Some-clause-full
-returns-in_err-touch_known-in-Some-clause-full g c counts bs l told hold fits some t rows is =
-    let shown = tables_in {G = g.R.Rows} c.args.t.now in
-    let e = c.in_err-touch_known-in-Some.field-0.0 in
+pub returns-in_err-touch_number-in-Some-clause-full : goal.returns-in_err-touch_number-in-Some-clause-full
+returns-in_err-touch_number-in-Some-clause-full g c counts bs l told hold fits some t rows is =
+    let e = c.in_err-touch_number-in-Some.field-0.0 in
     let e_is : e ≡ connect.Full t rows = search (rules, is) in
-    let s = c.args.s.now in
-    let n = c.in-Some.script in
-    let found = newest_some s l.scripts n fits.numbered.once (sym (c.in-Ok.ensures.newest counts bs l told hold some) ∙ c.in-Some.is) in
-    let same = c.find.ensures.tables in
-    let before = subst (λ (T : Tables). Hold counts bs l T) (sym same) hold in
-    let few : length (shown table.Scripts) ≤ 4294967295 = (let count = c.count-count.ensures.count ∙ ap (λ (T : Tables). length (T table.Scripts)) same in omega (arith, c.count-count.ensures.limit, count)) in
-    elim (cases_Bool (is_tx c.args.tx (last_tx_of n l.entries))) [
-      | inl again ↦ absurd (not_disk e t rows (c.in_err-touch_known-in-Some.ensures.again counts bs l told before again) e_is)
-      | inr fresh ↦ elim c.in_err-touch_known-in-Some.ensures.fault [
-        | inl disk ↦ absurd (not_disk e t rows disk e_is)
-        | inr why ↦ full_known counts bs s n c.args.tx l shown e t rows hold found.0 found.1 fresh few (subst (λ (T : Tables). IsEntryFault T e) same why) e_is
-      ]
-    ]
+    let hash = newest_hash c.args.s.now l.scripts c.in-Some.script fits.numbered.once (sym (c.in-Ok.ensures.newest counts bs l told hold some) ∙ c.in-Some.is) in
+    let before = subst (λ (T : Tables). Hold counts bs l T) (sym c.find.ensures.tables) hold in
+    subst (λ (h : Hash32). touch_full h c.args.tx l ≡ Some (connect.Full t rows)) hash
+    (c.in_err-touch_number-in-Some.ensures.full counts bs l told before fits t rows (ap (λ (f : ConnectFault). Err f) e_is))
