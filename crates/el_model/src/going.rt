@@ -47,8 +47,8 @@ impl From<OutOfMemory> for Stop {
 }
 
 /// Makes the moves, up to the first that is refused, and tells of each once it is made: the law of what a
-/// crash leaves of a run of moves, for every ledger. The first may take blocks back. At its end, and at every moment of it, all that a crash
-/// may leave stands for the last chain that was told or for the one in flight.
+/// crash leaves of a run of moves, for every ledger. The first may take blocks back. At its end, and at every
+/// moment of it, all that a crash may leave stands for the last chain that was told or for the one in flight.
 pub fn go_on<G: Ledger, A: Archive, L: Counts + Send>(
     alloc: Global,
     ledger: &mut G,

@@ -53,9 +53,9 @@ const COINBASES_15: &str = "ec64e2e04433bcc77d518d46c9fe3b92839d51043760ddf71cd1
 
 const COINBASES_16: &str = "30a80381768f75991a5cfe1345761eda0014bc5e9af7ca751b273b50e4374da5";
 
-/// What is wrong with blocks: whether the third spends a coin that isn't there; of which block the Merkle root
-/// has another byte; of which one the nonce is another in the file, since its header was found; by how many
-/// bytes the last file is too short; and which call of the block files fails, from 1 on. 999 is no block.
+/// What is wrong with blocks: whether the third spends a coin that isn't there; of which block the Merkle
+/// root has another byte; of which one the nonce is another in the file, since its header was found; by how
+/// many bytes the last file is too short; and which call of the block files fails, from 1 on. 999 is no block.
 #[derive(Clone, Copy)]
 pub struct Wrong {
     pub missing: bool,

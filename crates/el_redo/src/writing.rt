@@ -48,8 +48,8 @@ fn put_change(body: &mut Bytes, t: Table, i: u64, row: &[u8]) -> Result<(), OutO
 }
 
 /// The body of a redo record in format 1, little endian: the new meta row of the network with this magic,
-/// whose bytes are in the order in which block files have them, then the changed rows. Fails only where memory
-/// runs out.
+/// whose bytes are in the order in which block files have them, then the changed rows. Fails only where
+/// memory runs out.
 pub fn redo_body(alloc: Global, magic: [u8; 4], sealed: &Sealed) -> Result<Bytes, OutOfMemory>
     ensures { IfOk result (λ b. b ≡ redo_body magic sealed.now) }
 {

@@ -1,5 +1,5 @@
 -- Tables in memory.
-use Rattle.std.proofs.Common.{◌≡◌, ◌≢◌, ◌<◌, ◌≤◌, ◌+◌, ℕ, suc, List, [], ◌∷◌, Bool, false, cond, Option, Some, None, length, get_or, take, drop, unwrap_or, ap, sym, ◌∙◌, refl, arith, subst, ⊎_elim, drop-cons}
+use Rattle.std.proofs.Common.{◌≡◌, ◌≢◌, ◌<◌, ◌≤◌, ◌+◌, ℕ, suc, List, [], ◌∷◌, Option, Some, None, length, get_or, take, drop, unwrap_or, ap, sym, ◌∙◌, refl, arith, subst, ⊎_elim, drop-cons}
 use Rattle.std.specs.Prelude.{slice_get, Result, Ok, Err, OnErr}
 use Rattle.std.proofs.Math.Path.{fun_ext}
 use Rattle.std.proofs.Math.ListN.{set, length-set}
@@ -19,6 +19,7 @@ use Rattle.el_rows.specs.Changes.{Changes, IsMadeFrom, key, changed_at, count_at
 use Rattle.el_rows.specs.within.SizedRows.{SizedRows}
 use Rattle.el_rows.specs.within.InMemory.{HasGrown, no_list, list_of, kept_of, shown_rows, AreSized, HasRoom, AreKept, AllGrown, AreWritten}
 use Rattle.el_rows.proofs.Keys.{keys_total, same_table, same_index, other_key}
+use Rattle.el_rows.proofs.EditedLemmas.{if_false}
 use Rattle.el_rows.proofs.UnderLemmas.{is_under}
 
 -- a list that was read
@@ -125,9 +126,6 @@ first_goes : (changes : Changes) (k : ℕ) (e : RowKey × List ℕ) → slice_ge
 first_goes changes k e is = drop-cons changes k e (slice_get_within changes k e is) ∙ ap (λ (x : RowKey × List ℕ). x ∷ drop (suc k) changes) (get_or_from_slice_get changes k e e is)
     ∙ ap (λ n. e ∷ drop n changes) (let next : suc k ≡ k + 1 = omega arith in next)
 
-if_not : (b : Bool) (row rest : Option (List ℕ)) → b ≡ false → cond b row rest ≡ rest
-if_not b row rest is = ap (λ c. cond c row rest) is
-
 -- one change more
 module _ (base : Table → ℕ) (counts : List ℕ) (changes : Changes) (old mid : List SizedRows) (k : ℕ) (t : Table) (i : ℕ) (row : List ℕ)
     (made : IsMadeFrom base counts changes) (room : HasRoom old counts) (sized : AreSized old) (so_far : AreWriting old mid changes k) (is : slice_get changes k ≡ Some (key t i, row)) where
@@ -190,7 +188,7 @@ module _ (base : Table → ℕ) (counts : List ℕ) (changes : Changes) (old mid
 
   none_before : (u : Table) (j : ℕ) → (u ≡ t → j ≡ i → ⊥) → changed_at (drop (k + 1) changes) u j ≡ None → changed_at (drop k changes) u j ≡ None
   none_before u j apart none = ap (λ (c : Changes). changed_at c u j) (first_goes changes k (key t i, row) is)
-      ∙ if_not (is_at (row_cmp (key u j)) (key t i)) (Some row) (changed_at (drop (k + 1) changes) u j) (other_key u t j i apart) ∙ none
+      ∙ if_false (is_at (row_cmp (key u j)) (key t i)) (Some row) (changed_at (drop (k + 1) changes) u j) (other_key u t j i apart) ∙ none
 
   pub write_more : AreWriting old new changes (k + 1)
   write_more = record {

@@ -3,6 +3,7 @@ use Rattle.std.proofs.Common.{◌≡◌, ◌≢◌, ◌<◌, ◌≤◌, ◌+◌,
 use Rattle.std.specs.Prelude.{nat_lt, nat_eq, slice_get}
 use Rattle.std.specs.List.{position, position_or_len}
 use Rattle.std.specs.Map.{lookup, keys_of}
+use Rattle.std.proofs.lemmas.Option.{slice_get-get_or, slice_get_past}
 use Rattle.std.proofs.lemmas.Bool.{cases_eq, eqb-true}
 use Rattle.std.proofs.lemmas.List.Quantifiers.{position-Some}
 use Rattle.el_rows.specs.within.EditedTables.{EditedTable, edited_at, paired, IsWritten}
@@ -59,9 +60,6 @@ no_place : (b : Bool) (k : ℕ) → cond b (Some k) None ≡ None → b ≡ fals
 no_place true k h = cc
 no_place false k h = refl
 
-lt_is : (m n : ℕ) → nat_lt m n ≡ true → m < n
-lt_is m n h = grind arith
-
 -- the numbers at two places, where they are the same
 one_number : (i j : ℕ) (ns : List ℕ) (p : ℕ) → position (nat_eq i) ns ≡ Some p → position (nat_eq j) ns ≡ Some p → i ≡ j
 one_number i j ns p first second = eqb-true i (get_or ns p 0) (position-Some (nat_eq i) ns p 0 first).1 ∙ sym (eqb-true j (get_or ns p 0) (position-Some (nat_eq j) ns p 0 second).1)
@@ -107,16 +105,6 @@ written_new i ns rows more row le none written j =
     (cases_eq i j)
 
 -- ---- what is read
-some_at : (rows : List (List ℕ)) (k : ℕ) → k < length rows → Some (get_or rows k []) ≡ slice_get rows k
-some_at [] k lt = absurd (omega (arith, lt))
-some_at (row ∷ rows) zero lt = refl
-some_at (row ∷ rows) (suc k) lt = some_at rows k (omega (arith, lt))
-
-none_past : (rows : List (List ℕ)) (k : ℕ) → length rows ≤ k → None ≡ slice_get rows k
-none_past [] k le = refl
-none_past (row ∷ rows) zero le = absurd (omega (arith, le))
-none_past (row ∷ rows) (suc k) le = none_past rows k (omega (arith, le))
-
 module _ (base i : ℕ) (ns : List ℕ) (rows : List (List ℕ)) (added : SizedRows) where
   abbrev here : EditedTable
   here = record { changed = paired ns rows; added = added }
@@ -124,7 +112,7 @@ module _ (base i : ℕ) (ns : List ℕ) (rows : List (List ℕ)) (added : SizedR
   pub read_changed : i < base → length ns ≤ length rows → (p : ℕ) → position (nat_eq i) ns ≡ Some p → p < length rows → Some (get_or rows p []) ≡ edited_at base here i
   read_changed lt le p is within =
       let place = place_is (nat_lt (position_or_len (nat_eq i) ns) (length ns)) (position_or_len (nat_eq i) ns) p is in
-      some_at rows p within ∙ sym (found i ns rows le ∙ if_true _ (slice_get rows (position_or_len (nat_eq i) ns)) None place.0 ∙ ap (λ k. slice_get rows k) place.1)
+      sym (slice_get-get_or rows p [] within) ∙ sym (found i ns rows le ∙ if_true _ (slice_get rows (position_or_len (nat_eq i) ns)) None place.0 ∙ ap (λ k. slice_get rows k) place.1)
       ∙ sym (if_true (nat_lt i base) (lookup (nat_eq i) (paired ns rows)) (slice_get added.rows (i - base)) (let b : nat_lt i base ≡ true = grind (arith, lt) in b))
 
   pub read_none : i < base → length ns ≤ length rows → position (nat_eq i) ns ≡ None → None ≡ edited_at base here i
@@ -135,7 +123,7 @@ module _ (base i : ℕ) (ns : List ℕ) (rows : List (List ℕ)) (added : SizedR
   from_base ge = sym (if_false (nat_lt i base) (lookup (nat_eq i) (paired ns rows)) (slice_get added.rows (i - base)) (let b : nat_lt i base ≡ false = grind (arith, ge) in b))
 
   pub read_added : base ≤ i → i - base < length added.rows → Some (get_or added.rows (i - base) []) ≡ edited_at base here i
-  read_added ge lt = some_at added.rows (i - base) lt ∙ from_base ge
+  read_added ge lt = sym (slice_get-get_or added.rows (i - base) [] lt) ∙ from_base ge
 
   pub read_past : base ≤ i → length added.rows ≤ i - base → None ≡ edited_at base here i
-  read_past ge le = none_past added.rows (i - base) le ∙ from_base ge
+  read_past ge le = sym (slice_get_past added.rows (i - base) le) ∙ from_base ge

@@ -5,9 +5,9 @@ use Rattle.std.specs.List.{list_any, AllByRecursion}
 use Rattle.std.specs.List.Sorted.{IsStrictlySortedBy, IsStrictlyIncreasing}
 use Rattle.std.specs.Map.{lookup, keys_of}
 use Rattle.std.specs.BTreeMap.{is_at}
-use Rattle.std.specs.Ordering.{nat_cmp}
-use Rattle.std.specs.declared.cmp.Ordering.{Ordering}
-use Rattle.std.specs.declared.cmp.Ordering.TheVariants.{Less}
+use Rattle.std.specs.Ordering.{nat_cmp, ordering_then}
+use Rattle.std.specs.declared.cmp.Ordering.TheVariants.{Less, Equal}
+use Rattle.std.proofs.lemmas.Option.{slice_get-get_or}
 use Rattle.std.proofs.lemmas.Bool.{cases_lt}
 use Rattle.std.proofs.lemmas.List.Folds.{list_any-append}
 use Rattle.std.proofs.lemmas.Map.Keys.{sorted_from_strictly_increasing}
@@ -72,9 +72,10 @@ some_of (Some x) h = (x, refl)
 some_of None h = cc
 
 slice_none : (rows : List (List ℕ)) (k : ℕ) → slice_get rows k ≡ None → length rows ≤ k
-slice_none [] k none = omega arith
-slice_none (row ∷ rows) zero none = cc
-slice_none (row ∷ rows) (suc k) none = omega (arith, slice_none rows k none)
+slice_none rows k none = ⊎_elim
+    (λ (lt : k < length rows). absurd (let no : Some (get_or rows k []) ≡ None = sym (slice_get-get_or rows k [] lt) ∙ none in cc))
+    (λ (le : length rows ≤ k). le)
+    (cases_lt k (length rows))
 
 -- what is not edited stands below the base
 pub not_edited : (base counts : List ℕ) (tables : List EditedTable) → AreEdited base counts tables → (t : Table) (i : ℕ) → i < count_at counts t → edited_at (count_at base t) (edits_of tables t) i ≡ None → i < count_at base t
@@ -153,7 +154,7 @@ earlier_table : (t u : Table) (i j : ℕ) → index_of t < index_of u → row_cm
 earlier_table t u i j lt = grind (arith, lt)
 
 earlier_row : (t : Table) (i j : ℕ) → nat_cmp i j ≡ Less → row_cmp (key t i) (key t j) ≡ Less
-earlier_row t i j less = let same : nat_cmp (index_of t) (index_of t) ≡ Rattle.std.specs.declared.cmp.Ordering.TheVariants.Equal = grind arith in ap (λ o. Rattle.std.specs.Ordering.ordering_then o (nat_cmp i j)) same ∙ less
+earlier_row t i j less = let same : nat_cmp (index_of t) (index_of t) ≡ Equal = grind arith in ap (λ o. ordering_then o (nat_cmp i j)) same ∙ less
 
 rising_keys : (t : Table) (rows : List ℕ) → IsStrictlySortedBy nat_cmp rows → IsStrictlySortedBy row_cmp (map (key t) rows)
 unfolding IsStrictlySortedBy

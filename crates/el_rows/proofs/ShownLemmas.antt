@@ -1,10 +1,11 @@
 -- The rows of one table's edits that are shown, rising.
-use Rattle.std.proofs.Common.{◌≡◌, ◌≢◌, ◌<◌, ◌≤◌, ◌+◌, ◌-◌, ℕ, zero, suc, List, [], ◌∷◌, ◌++◌, Bool, true, false, cond, ◌&&◌, ◌||◌, None, Option, refl, ap, sym, ◌∙◌, arith, subst, ⊎_elim, length, get_or, eqb, length-append}
+use Rattle.std.proofs.Common.{◌≡◌, ◌≢◌, ◌<◌, ◌≤◌, ◌+◌, ◌-◌, ℕ, List, [], ◌∷◌, ◌++◌, Bool, true, false, cond, ◌&&◌, ◌||◌, None, Option, refl, ap, sym, ◌∙◌, arith, subst, ⊎_elim, length, get_or, eqb, length-append}
 use Rattle.std.specs.Prelude.{is_some, nat_lt, nat_eq, slice_get}
 use Rattle.std.specs.List.{list_any, filter, AllByRecursion, IsDistinct}
 use Rattle.std.specs.List.Sorted.{IsStrictlyIncreasing, IsSorted, IsPermutation}
 use Rattle.std.specs.Ordering.{nat_cmp}
 use Rattle.std.specs.Map.{lookup, keys_of}
+use Rattle.std.proofs.lemmas.Option.{slice_get-get_or}
 use Rattle.std.proofs.lemmas.Bool.{cases_eq, cases_lt, eqb-true}
 use Rattle.std.proofs.lemmas.List.{get_or_append_left, get_or-append_right}
 use Rattle.std.proofs.lemmas.List.Folds.{list_any-append, list_any_at}
@@ -82,9 +83,7 @@ module _ (base count : ℕ) (e : EditedTable) (below : (i : ℕ) → base ≤ i 
           (cases_lt j base)
 
   slice_some : (rows : List (List ℕ)) (k : ℕ) → k < length rows → is_some (slice_get rows k) ≡ true
-  slice_some [] k lt = absurd (omega (arith, lt))
-  slice_some (row ∷ rows) zero lt = refl
-  slice_some (row ∷ rows) (suc k) lt = slice_some rows k (omega (arith, lt))
+  slice_some rows k lt = ap is_some (slice_get-get_or rows k [] lt)
 
   -- one row more
   pub added_to : (k : ℕ) (rows : List ℕ) → AreShownTo base count e k rows → base ≤ k → k < count → count ≤ base + length e.added.rows → AreShownTo base count e (k + 1) (rows ++ k ∷ [])

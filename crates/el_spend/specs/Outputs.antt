@@ -31,7 +31,8 @@ txs_with id txs = count_by (λ (t : ListedTx). same_hash t.txid id) txs
 -- The most rows that are read to find an output by its txid, where there are so many buckets: a head, the
 -- transactions in the txid's bucket, those with the txid, and the output.
 abbrev pub rows_to_find : ℕ → Hash32 → Lists → ℕ
-rows_to_find count id l = 1 + bucket_size count id (map (λ (t : ListedTx). t.txid) l.txs) + txs_with id l.txs + 1
+rows_to_find count id l =
+    1 + bucket_size count id (map (λ (t : ListedTx). t.txid) l.txs) + txs_with id l.txs + 1
 
 -- the balance of each script fits 64 bits
 abbrev pub BalancesFit : List ListedOut → Type 0

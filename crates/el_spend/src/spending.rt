@@ -46,8 +46,8 @@ fn append_input<R: Rows>(t: &mut Txn<'_, R>, k: u64) -> Result<u64, ConnectFault
     }
 }
 
-/// The transaction of that number spends the outpoint's coin: an input more. It answers the coin's number, and
-/// none exactly where the output that the outpoint names isn't there or isn't unspent; then nothing has
+/// The transaction of that number spends the outpoint's coin: an input more. It answers the coin's number,
+/// and none exactly where the output that the outpoint names isn't there or isn't unspent; then nothing has
 /// changed. After a fault the transaction of rows may hold a part.
 pub fn spend<R: Rows, L: Ledger>(
     t: &mut Txn<'_, R>,
