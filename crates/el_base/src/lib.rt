@@ -24,6 +24,3 @@ pub use memory::OutOfMemory;
 pub use shown::HexFault;
 pub use steps::Steps;
 pub use text::Text;
-
-#[cfg(test)]
-mod tests;

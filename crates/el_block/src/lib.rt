@@ -21,6 +21,3 @@ pub use laws::{
     first_block_fault_is_one, no_block_begins_another, written_is_read,
 };
 pub use limits::MAX_BLOCK_WEIGHT;
-
-#[cfg(test)]
-mod tests;

@@ -13,6 +13,3 @@ pub use fixtures::{
     P2PKH_SCRIPT, P2PKH_SCRIPT_HASH, WITNESS_TX, WITNESS_TXID,
 };
 pub use transactions::{coinbase, locking_script, spend};
-
-#[cfg(test)]
-mod tests;

@@ -12,6 +12,3 @@ pub use laws::{
 };
 pub use tree::{branch, root};
 pub use wallet::climb;
-
-#[cfg(test)]
-mod tests;

@@ -6,6 +6,3 @@ mod prepared;
 
 pub use prepare::prepare_one;
 pub use prepared::{Prepared, PreparedTx};
-
-#[cfg(test)]
-mod tests;

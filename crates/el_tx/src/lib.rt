@@ -25,6 +25,3 @@ pub use laws::{
 };
 pub use size::{Sizes, sizes_of};
 pub use types::{Header, MAX_MONEY, Outpoint, Tx, TxIn, TxOut};
-
-#[cfg(test)]
-mod tests;

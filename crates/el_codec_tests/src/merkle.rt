@@ -1,8 +1,8 @@
-// Values from outside, as users see hashes. They were computed by another program.
+// Merkle trees: values from outside, as users see hashes. They were computed by another program.
 ghost use Rattle.std.specs.Prelude.{◌≡◌, length, IfOk};
 
-use super::{branch, climb, root};
 use el_base::{Hash32, HexFault};
+use el_merkle::{branch, climb, root};
 use std::alloc::{AllocError, Global};
 use std::test::Fail;
 
