@@ -3,12 +3,13 @@ ghost use Rattle.std.specs.Prelude.{◌≡◌, ◌≢◌, ◌+◌, ◌/◌, ◌%
 ghost use Rattle.el_net.specs.Paths.{five_digits, file_path};
 ghost use Rattle.el_outside.specs.Counts.{RoseBy};
 
+use crate::file_names::file_number;
 use crate::paths::{put_digit, put_text};
 use crate::reading::{found, read_at};
 use el_base::OutOfMemory;
 use el_outside::{Archive, ArchiveFailed, MOST_FILES, SIZE_LIMIT};
-use std::alloc::Global;
-use std::fs::{File, OpenOptions, metadata};
+use std::alloc::{AllocGlobal, Global};
+use std::fs::{DirEntry, File, OpenOptions, metadata, read_dir};
 use std::io;
 use std::io::ErrorKind;
 use std::marker::Model;
@@ -58,12 +59,24 @@ fn put_path(path: &mut String, folder: &str, file: u32)
 {
     path.clear();
     put_text(path, folder);
-    put_text(path, "/blk");
+    put_text(path, "/");
+    put_text(path, "blk");
     put_digits(path, file);
     put_text(path, ".dat");
 }
 
-impl<R: Files<File = File> + Drop> BlockFiles<R> {
+// The number of a block file plus 1, and 0 for any other entry of the folder, as one whose name is no text.
+fn count_to<R: Files + Drop>(entry: io::Result<DirEntry<R>>) -> io::Result<u32>
+    ensures { IfOk result (λ n. n ≤ MOST_FILES) }
+{
+    match entry {
+        Ok(entry) => Ok(file_number(entry.file_name()).map_or(0, |number| number + 1)),
+        Err(e) if e.kind() == ErrorKind::InvalidFilename => Ok(0),
+        Err(e) => Err(e),
+    }
+}
+
+impl<R: Files<File = File> + AllocGlobal + Clone + Drop> BlockFiles<R> {
     /// The block files of the folder, and room for their paths: no call takes memory of its own. The folder
     /// is looked for at each call.
     pub fn new(rt: R, alloc: Global, folder: &str) -> Result<BlockFiles<R>, OutOfMemory>
@@ -104,17 +117,15 @@ impl<R: Files<File = File> + Drop> BlockFiles<R> {
         found(options.open(&self.rt, self.path.as_str()))
     }
 
-    // The number of the highest file plus 1, or 0.
-    fn count(&mut self) -> io::Result<u32>
-        ensures few { IfOk result (λ n. n ≤ MOST_FILES) }
-        ensures same { self.new ≡ self.old }
+    // The number of the highest file plus 1, or 0. The folder is read once.
+    fn count(&self) -> io::Result<u32>
+        ensures { IfOk result (λ n. n ≤ MOST_FILES) }
     {
-        for file in (0..MOST_FILES).rev() {
-            if self.open(file)?.is_some() {
-                return Ok(file + 1);
-            }
+        let mut count = 0;
+        for entry in read_dir(&self.rt, self.folder.as_str())? {
+            count = count.max(count_to(entry)?);
         }
-        Ok(0)
+        Ok(count)
     }
 
     // A file's size; 0 for one that isn't there.
@@ -139,7 +150,7 @@ impl<R: Files<File = File> + Drop> BlockFiles<R> {
     }
 }
 
-impl<R: Files<File = File> + Drop> Archive for BlockFiles<R> {
+impl<R: Files<File = File> + AllocGlobal + Clone + Drop> Archive for BlockFiles<R> {
     ghost tells = { ⊥ };
 
     ghost bytes = { λ files n. [] };

@@ -4,8 +4,9 @@ use Rattle.el_net.proofs.block_files.put_path.Goals as goal
 pub returns-clause-path : goal.returns-clause-path
 returns-clause-path c =
     rw (
-      c.put_text-3.ensures.text,
+      c.put_text-4.ensures.text,
       c.put_digits.ensures.digits,
+      c.put_text-3.ensures.text,
       c.put_text-2.ensures.text,
       c.put_text.ensures.text,
       c.clear.ensures.bytes,
