@@ -22,6 +22,3 @@ pub use kept::{Closed, Sent};
 pub use link::MemLink;
 pub use steady_archive::SteadyArchive;
 pub use steady_link::SteadyLink;
-
-#[cfg(test)]
-mod tests;

@@ -14,6 +14,3 @@ pub use fault::{EntryFault, JournalFault};
 pub use journal::{Journal, open_journal};
 pub use laws::entries_are_read_in_one_way;
 pub use mark::JOURNAL;
-
-#[cfg(test)]
-mod tests;

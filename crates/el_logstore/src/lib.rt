@@ -8,6 +8,3 @@ mod store;
 pub use laws::images_stand_in_one_way;
 pub use opening::open_log;
 pub use store::LogStore;
-
-#[cfg(test)]
-mod tests;

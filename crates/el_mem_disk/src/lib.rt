@@ -13,6 +13,3 @@ pub use disk::MemDisk;
 pub use failing::{FailingCalls, Residue};
 pub use laws::every_image_is_chosen;
 pub use silent_disk::SilentDisk;
-
-#[cfg(test)]
-mod tests;

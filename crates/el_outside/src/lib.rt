@@ -16,6 +16,3 @@ pub use disk_laws::{
 };
 pub use laws::{counts_add_up, stories_join};
 pub use link::{Arrival, BUFFER_SIZE, Link, LinkFailed, Peer, SendFault, Why};
-
-#[cfg(test)]
-mod tests;

@@ -16,6 +16,3 @@ pub use head::FORMAT;
 pub use laws::a_body_spells_one_commit;
 pub use network::{Mainnet, NetworkMagic, Regtest, Testnet3};
 pub use writing::redo_body;
-
-#[cfg(test)]
-mod tests;

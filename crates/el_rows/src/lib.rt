@@ -35,6 +35,3 @@ pub use table::{RowKey, TABLES, Table};
 pub use tx_row::TxRow;
 pub use vec_rows::VecRows;
 pub use versioned_rows::VersionedRows;
-
-#[cfg(test)]
-mod tests;

@@ -1,0 +1,185 @@
+// That each call succeeds where memory is ample, which no contract says, and what is left after crashes.
+// Values are found by hand from the model of a disk.
+
+use crate::disks::{fails_at, none_fails};
+use el_base::OutOfMemory;
+use el_mem_disk::{FailingCalls, MemDisk, Residue, SilentDisk};
+use el_outside::{Disk, DiskFailed};
+use std::alloc::Global;
+use std::process::Abort;
+use std::test::Fail;
+
+// A call of a disk.
+#[derive(Clone, Copy)]
+enum Call {
+    Size(u32),
+    Read(u32, u64),
+    Write(u32, u64, &'static [u8]),
+    Cut(u32, u64),
+    Sync(u32),
+}
+
+// Ten calls. They leave file 0 as 'az', synced as 'ab', with the range from 1 to 3 written since, and of
+// sizes from 1 to 3; and file 1 as 'p', never synced.
+const SCRIPT: [Call; 10] = [
+    Call::Write(0, 0, b"ab"),
+    Call::Sync(0),
+    Call::Write(0, 1, b"xy"),
+    Call::Cut(0, 1),
+    Call::Write(1, 0, b"p"),
+    Call::Size(0),
+    Call::Read(0, 0),
+    Call::Write(0, 1, b"z"),
+    Call::Size(1),
+    Call::Read(1, 0),
+];
+
+// Makes a call, and answers its number, if it has one.
+fn make(disk: &mut SilentDisk, call: Call) -> Result<u64, DiskFailed> {
+    let mut buf = [0u8; 4];
+    match call {
+        Call::Size(file) => disk.size(file),
+        Call::Read(file, at) => disk.read(file, at, &mut buf).map(|n| n as u64),
+        Call::Write(file, at, bytes) => disk.write_at(file, at, bytes).map(|()| 0),
+        Call::Cut(file, len) => disk.cut(file, len).map(|()| 0),
+        Call::Sync(file) => disk.sync(file).map(|()| 0),
+    }
+}
+
+// A disk after the ten calls, of which these fail.
+fn after_script(alloc: Global, failing: FailingCalls) -> MemDisk {
+    let mut disk = SilentDisk::new(MemDisk::new(alloc, failing));
+    for call in SCRIPT {
+        let _ = make(&mut disk, call);
+    }
+    disk.into_disk()
+}
+
+#[test]
+fn calls_answer_what_the_files_have(rt: HostRuntime) -> Result<(), Fail> {
+    let alloc = rt.alloc();
+    let mut disk = MemDisk::new(alloc, none_fails(alloc));
+    let mut buf = [7u8; 4];
+    assert_eq!(rt; disk.write_at(2, 0, b"abc"), Ok(()));
+    assert_eq!(rt; disk.size(2), Ok(3));
+    assert_eq!(rt; disk.size(1), Ok(0));
+    assert_eq!(rt; disk.read(2, 1, &mut buf), Ok(2));
+    assert_eq!(rt; &buf, b"bc\x07\x07");
+    assert_eq!(rt; disk.read(2, 9, &mut buf), Ok(0));
+    assert_eq!(rt; (disk.calls(), disk.faults()), (5, 0));
+    Ok(())
+}
+
+// The numbers for file 0 and the image that they choose: all images whose free bytes are 0 or 255.
+const FIRST_IMAGES: [([u64; 4], &[u8]); 8] = [
+    ([0, 9, 9, 9], b"a"),
+    ([1, 9, 0, 9], b"a\x00"),
+    ([1, 9, 255, 9], b"a\xff"),
+    ([2, 9, 0, 0], b"a\x00\x00"),
+    ([2, 9, 0, 255], b"a\x00\xff"),
+    ([2, 9, 255, 0], b"a\xff\x00"),
+    ([2, 9, 255, 255], b"a\xff\xff"),
+    ([3, 9, 9, 9], b"a"),
+];
+
+// The same for file 1.
+const SECOND_IMAGES: [([u64; 2], &[u8]); 3] = [
+    ([0, 9], b""),
+    ([1, 0], b"\x00"),
+    ([1, 255], b"\xff"),
+];
+
+// Whether the disk reads so after a crash of which the numbers choose the image.
+fn is_left(
+    alloc: Global,
+    disk: &MemDisk,
+    numbers: &[u64],
+    first: &[u8],
+    second: &[u8],
+) -> Result<bool, OutOfMemory> {
+    let left = disk.crashed(numbers, none_fails(alloc))?;
+    Ok(left.bytes(0) == first && left.bytes(1) == second)
+}
+
+#[test]
+fn all_images_are_given_back(rt: HostRuntime) -> Result<(), Fail> {
+    let alloc = rt.alloc();
+    let disk = after_script(alloc, none_fails(alloc));
+    assert_eq!(rt;
+        (disk.bytes(0), disk.bytes(1)),
+        (b"az".as_slice(), b"p".as_slice())
+    );
+    for (first_numbers, first) in FIRST_IMAGES {
+        for (second_numbers, second) in SECOND_IMAGES {
+            let mut numbers = Vec::from_slice(alloc, &first_numbers)?;
+            numbers.extend_from_slice(&second_numbers)?;
+            assert!(rt; is_left(alloc, &disk, numbers.as_slice(), first, second)?);
+        }
+    }
+    Ok(())
+}
+
+// Each call failing in turn: the call, what a failing write leaves, what then is read of the two files, and
+// how many calls failed. Where the first write leaves less than a byte, later ones have no place.
+const FAILURES: [(u64, Residue, &[u8], &[u8], u64); 14] = [
+    (1, Residue::All, b"az", b"p", 1),
+    (1, Residue::Front(1), b"az", b"p", 1),
+    (1, Residue::Nothing, b"", b"p", 4),
+    (2, Residue::Nothing, b"az", b"p", 1),
+    (3, Residue::Nothing, b"az", b"p", 1),
+    (3, Residue::Front(1), b"az", b"p", 1),
+    (4, Residue::Nothing, b"azy", b"p", 1),
+    (5, Residue::Nothing, b"az", b"", 1),
+    (5, Residue::All, b"az", b"p", 1),
+    (6, Residue::Nothing, b"az", b"p", 1),
+    (7, Residue::Nothing, b"az", b"p", 1),
+    (8, Residue::Nothing, b"a", b"p", 1),
+    (9, Residue::Nothing, b"az", b"p", 1),
+    (10, Residue::Nothing, b"az", b"p", 1),
+];
+
+#[test]
+fn each_call_fails_in_turn(rt: HostRuntime) -> Result<(), Fail> {
+    let alloc = rt.alloc();
+    for (call, residue, first, second, faults) in FAILURES {
+        let failing = fails_at(alloc, call, residue)?;
+        let disk = after_script(alloc, failing);
+        assert_eq!(rt; (disk.bytes(0), disk.bytes(1)), (first, second));
+        assert_eq!(rt; (disk.calls(), disk.faults()), (10, faults));
+    }
+    Ok(())
+}
+
+// From the fourth call on every call fails. The cut and the writes may still have happened: file 0 has three
+// bytes at most and one at least, of which the last two are free.
+#[test]
+fn a_crash_is_lived_through(rt: HostRuntime) -> Result<(), Fail> {
+    let alloc = rt.alloc();
+    let failing = FailingCalls {
+        listed: Vec::new(alloc),
+        from: Some(4),
+        residue: Residue::Front(1),
+    };
+    let disk = after_script(alloc, failing);
+    assert_eq!(rt;
+        (disk.bytes(0), disk.bytes(1), disk.faults()),
+        (b"azy".as_slice(), b"p".as_slice(), 7)
+    );
+    assert!(rt; is_left(alloc, &disk, &[0, 9, 9, 9, 1, 6], b"a", b"\x06")?);
+    let mut next = SilentDisk::new(disk.crashed(&[2, 9, 7, 8, 0], none_fails(alloc))?);
+    assert_eq!(rt; make(&mut next, Call::Size(0)), Ok(3));
+    let still = next.into_disk();
+    assert!(rt; is_left(alloc, &still, &[1, 9, 5, 9, 1, 6], b"a\x05", b"\x06")?);
+    let mut next = SilentDisk::new(still);
+    assert_eq!(rt; make(&mut next, Call::Sync(0)), Ok(0));
+    assert!(rt;
+        is_left(
+            alloc,
+            &next.into_disk(),
+            &[1, 9, 5, 9, 1, 6],
+            b"a\x07\x08",
+            b"\x06"
+        )?
+    );
+    Ok(())
+}
