@@ -1,0 +1,6 @@
+mod Values
+mod Taking
+mod Batches
+mod Naming
+mod Printable
+mod Pairs

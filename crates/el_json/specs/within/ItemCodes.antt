@@ -1,0 +1,47 @@
+-- How the logic stores the elements of a batch: by the codes of their parts.
+use Rattle.std.proofs.Common.{◌≡◌, ◌⊎◌, ℕ, List, Option, refl, inl, inr}
+use Rattle.std.specs.Coded.{Coded, code_by, coded_ℕ, coded_list, coded_option, coded×, coded⊎}
+use Rattle.serde_json.specs.Data.{Data, Items, Members}
+use Rattle.el_json.specs.declared.params.Params.{Params}
+use Rattle.el_json.specs.declared.params.Params.TheVariants.{Places, Names}
+use Rattle.el_json.specs.declared.request.Request.{Request}
+use Rattle.el_json.specs.declared.request.Item.{Item}
+use Rattle.el_json.specs.declared.request.Item.TheVariants.{Good, Invalid}
+use Rattle.el_json.specs.within.Codes.{coded_data, coded_items, coded_members}
+
+abbrev given_by : Params → Items ⊎ Members
+given_by (Places ds) = inl ds
+given_by (Names ms) = inr ms
+
+abbrev params_by : Items ⊎ Members → Params
+params_by (inl ds) = Places ds
+params_by (inr ms) = Names ms
+
+pub params_back : (ps : Params) → params_by (given_by ps) ≡ ps
+params_back (Places ds) = refl
+params_back (Names ms) = refl
+
+abbrev coded_params : Coded Params
+coded_params = code_by (Items ⊎ Members) (coded⊎ coded_items coded_members) given_by params_by params_back
+
+abbrev coded_request : Coded Request
+coded_request =
+    code_by (Option Data × (List ℕ × Params))
+    (coded× (coded_option coded_data) (coded× (coded_list coded_ℕ) coded_params))
+    (λ r. (r.id, (r.method, r.params))) (λ p. record { id = p.0; method = p.1.0; params = p.1.1 }) (λ _. refl)
+
+abbrev either : Item → Request ⊎ Data
+either (Good r) = inl r
+either (Invalid id) = inr id
+
+abbrev item_by : Request ⊎ Data → Item
+item_by (inl r) = Good r
+item_by (inr id) = Invalid id
+
+pub item_back : (i : Item) → item_by (either i) ≡ i
+item_back (Good r) = refl
+item_back (Invalid id) = refl
+
+abbrev pub coded_list_of_items : Coded (List Item)
+coded_list_of_items =
+    coded_list (code_by (Request ⊎ Data) (coded⊎ coded_request coded_data) either item_by item_back)
