@@ -8,6 +8,3 @@ mod take_back;
 pub use add::add_tx;
 pub use lookup::newest;
 pub use take_back::take_back_tx;
-
-#[cfg(test)]
-mod tests;

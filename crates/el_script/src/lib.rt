@@ -10,8 +10,3 @@ mod touching;
 pub use lookup::find_script;
 pub use take_back::take_back_entry;
 pub use touching::{touch, touch_number};
-
-#[cfg(test)]
-mod limit_tests;
-#[cfg(test)]
-mod tests;

@@ -1,0 +1,202 @@
+// What no contract says: that each call succeeds where memory is ample, and a long run beside a plain list.
+ghost use Rattle.std.specs.Prelude.{◌≡◌, ◌<◌, ◌^◌, ◌+◌, max, min, refl};
+ghost use Rattle.el_rows.specs.RowBytes.{link_number, FitsTxRow};
+
+use crate::failing_rows::FailingRows;
+use crate::fixtures::{add_heads, hash};
+use el_base::Steps;
+use el_chain::ConnectFault;
+use el_outside::DiskFailed;
+use el_position::{add_tx, newest, take_back_tx};
+use el_rows::{Rows, Table, TxRow, Txn, VecRows};
+use std::alloc::Global;
+use std::process::Abort;
+use std::sync::ledger::Ledger;
+use std::test::Fail;
+
+// Links that are set by the call.
+const LINK: Option<u64> = Some(4_294_967_294);
+
+fn tx(k: u8, next: Option<u64>) -> TxRow
+    requires { link_number next < 2 ^ 32 }
+    ensures { FitsTxRow result }
+{
+    TxRow {
+        txid: hash(k),
+        height: 4_294_967_295,
+        start: 81,
+        len: 60,
+        first_out: 4_294_967_295,
+        outs: 1,
+        first_in: 3,
+        ins: 2,
+        older: LINK,
+        next,
+    }
+}
+
+// The greatest place of k in the list.
+fn last_place(list: &[u8], k: u8) -> Option<u64> {
+    let mut found = None;
+    for (i, x) in list.iter().enumerate() {
+        if *x == k {
+            found = Some(i as u64);
+        }
+    }
+    found
+}
+
+// The newest of each txid is that of the list.
+fn compare<A: Abort, L: Ledger>(
+    rt: &A,
+    txn: &mut Txn<'_, VecRows>,
+    list: &[u8],
+    steps: &mut Steps<L>,
+) -> Result<(), Fail>
+    ensures name { txn.new.rows.ghost_name ≡ txn.old.rows.ghost_name }
+{
+    assert_eq!(rt; txn.count(Table::Txs), list.len() as u64);
+    for k in 0..=255 {
+        assert!(rt; newest(txn, &hash(k), steps) == Ok(last_place(list, k)));
+    }
+    Ok(())
+}
+
+fn long_run<A: Abort, L: Ledger>(rt: &A, alloc: Global, steps: &mut Steps<L>) -> Result<(), Fail> {
+    let mut rows = VecRows::new(alloc);
+    let mut txn = Txn::new(alloc, &mut rows);
+    add_heads(&mut txn, 7)?;
+    let mut list = Vec::new(alloc);
+    for i in 0..300 {
+        let k = (i * 7 % 211) as u8;
+        assert!(rt; add_tx(&mut txn, &tx(k, LINK), steps) == Ok(i));
+        list.push(k)?;
+        assert!(rt; newest(&mut txn, &hash(k), steps) == Ok(Some(i)));
+        if i % 20 == 0 {
+            compare(rt, &mut txn, &list, steps)?;
+        }
+    }
+    for i in 0..301 {
+        assert!(rt; take_back_tx(&mut txn, steps) == Ok(()));
+        let k = list.pop().unwrap_or(0);
+        assert!(rt; newest(&mut txn, &hash(k), steps) == Ok(last_place(&list, k)));
+        if i % 20 == 0 {
+            compare(rt, &mut txn, &list, steps)?;
+        }
+    }
+    Ok(())
+}
+
+// A row's bytes, with that link to the next as it is written: the number and 1, or 0 for none.
+fn row_bytes(k: u8, next: u8) -> [u8; 68] {
+    let mut row = [0; 68];
+    row[0] = k;
+    row[31] = 9;
+    row[64] = next;
+    row
+}
+
+// Rows that stand for nothing: the written links of the rows 0 and 1, of those numbers; the one head; the
+// newest of 0, 1 and 2, and those of 0 and 1 after one is taken back.
+type Odd = ([u8; 2], [u8; 4], [Option<u64>; 3], [Option<u64>; 2]);
+
+const ODD: [Odd; 6] = [
+    // row 1 links to itself
+    ([0, 2], [2, 0, 0, 0], [None, Some(1), None], [None, None]),
+    // the two link to each other
+    (
+        [2, 1],
+        [2, 0, 0, 0],
+        [Some(0), Some(1), None],
+        [Some(0), None],
+    ),
+    // row 0 links to itself
+    (
+        [1, 1],
+        [2, 0, 0, 0],
+        [Some(0), Some(1), None],
+        [Some(0), None],
+    ),
+    // row 1 links past the count
+    ([0, 9], [2, 0, 0, 0], [None, Some(1), None], [None, None]),
+    // the head is at the count, and past it
+    ([0, 1], [3, 0, 0, 0], [None, None, None], [Some(0), None]),
+    ([0, 1], [255; 4], [None, None, None], [Some(0), None]),
+];
+
+fn check_odd<A: Abort, L: Ledger>(
+    rt: &A,
+    alloc: Global,
+    odd: &Odd,
+    steps: &mut Steps<L>,
+) -> Result<(), Fail> {
+    let mut rows = VecRows::new(alloc);
+    let mut txn = Txn::new(alloc, &mut rows);
+    txn.append(Table::Txs, &row_bytes(0, odd.0[0]))?;
+    txn.append(Table::Txs, &row_bytes(1, odd.0[1]))?;
+    txn.append(Table::TxHeads, &odd.1)?;
+    for k in 0..3 {
+        assert!(rt; newest(&mut txn, &hash(k), steps) == Ok(odd.2[k as usize]));
+    }
+    assert!(rt; take_back_tx(&mut txn, steps) == Ok(()));
+    for k in 0..2 {
+        assert!(rt; newest(&mut txn, &hash(k), steps) == Ok(odd.3[k as usize]));
+    }
+    Ok(())
+}
+
+fn odd_rows<A: Abort, L: Ledger>(rt: &A, alloc: Global, steps: &mut Steps<L>) -> Result<(), Fail> {
+    for odd in &ODD {
+        check_odd(rt, alloc, odd, steps)?;
+    }
+    Ok(())
+}
+
+fn no_heads<A: Abort, L: Ledger>(rt: &A, alloc: Global, steps: &mut Steps<L>) -> Result<(), Fail> {
+    let mut rows = VecRows::new(alloc);
+    let mut txn = Txn::new(alloc, &mut rows);
+    assert!(rt; add_tx(&mut txn, &tx(5, None), steps) == Ok(0));
+    assert!(rt; newest(&mut txn, &hash(5), steps) == Ok(None));
+    for left in [0, 0] {
+        assert!(rt; take_back_tx(&mut txn, steps) == Ok(()));
+        assert!(rt; txn.count(Table::Txs) == left);
+    }
+    Ok(())
+}
+
+fn at_the_limit<A: Abort, L: Ledger>(
+    rt: &A,
+    alloc: Global,
+    steps: &mut Steps<L>,
+) -> Result<(), Fail> {
+    let mut rows = FailingRows::full(u64::MAX);
+    let mut txn = Txn::new(alloc, &mut rows);
+    let fault = ConnectFault::Full {
+        table: 2,
+        rows: 4_294_967_295,
+    };
+    assert!(rt; add_tx(&mut txn, &tx(1, None), steps) == Err(fault));
+    assert!(rt; take_back_tx(&mut txn, steps) == Ok(()));
+    assert!(rt; add_tx(&mut txn, &tx(1, None), steps) == Ok(4_294_967_294));
+    Ok(())
+}
+
+fn failing<A: Abort, L: Ledger>(rt: &A, alloc: Global, steps: &mut Steps<L>) -> Result<(), Fail> {
+    let mut rows = FailingRows::full(0);
+    let mut txn = Txn::new(alloc, &mut rows);
+    let fault = ConnectFault::DiskFailed;
+    assert!(rt; newest(&mut txn, &hash(1), steps) == Err(DiskFailed));
+    assert!(rt; add_tx(&mut txn, &tx(1, None), steps) == Err(fault));
+    assert!(rt; take_back_tx(&mut txn, steps) == Err(fault));
+    assert!(rt; txn.count(Table::Txs) == 4_294_967_295);
+    Ok(())
+}
+
+/// All of them.
+pub fn all<A: Abort, L: Ledger>(rt: &A, alloc: Global, steps: &mut Steps<L>) -> Result<(), Fail> {
+    long_run(rt, alloc, steps)?;
+    odd_rows(rt, alloc, steps)?;
+    no_heads(rt, alloc, steps)?;
+    at_the_limit(rt, alloc, steps)?;
+    failing(rt, alloc, steps)
+}
