@@ -150,3 +150,13 @@ unchanged {T} f r P Q e c none = rw e (tt, of_fault f c)
     of_fault fault.ArchiveFailed k = tt
     of_fault (fault.Changed wanted found) k = none wanted found k
     of_fault fault.Memory k = tt
+
+-- a change that a check told is told on
+pub changed_on : {T : Type 0} (f : ReadFault) (r : Result T ReadFault) (P Q : Hash32 → Option Hash32 → Type 0) → r ≡ Err f → IfChanged {T = Unit {0}} (Err f) P
+    → ((wanted : Hash32) (found : Option Hash32) → P wanted found → Q wanted found) → IfChanged r Q
+changed_on {T} f r P Q e c more = rw e (of_fault f c)
+  where
+    of_fault : (g : ReadFault) → IfChanged {T = Unit {0}} (Err g) P → IfChanged {T = T} (Err g) Q
+    of_fault fault.ArchiveFailed k = tt
+    of_fault (fault.Changed wanted found) k = more wanted found k
+    of_fault fault.Memory k = tt

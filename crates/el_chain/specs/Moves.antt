@@ -107,15 +107,19 @@ pub record Moves (tells : Type 0) (files : ℕ → List ℕ) (chain : Chain) (p 
   pub read : AreRead tells files p.forward texts
   pub blocks_are : AreNextBlocks (shorter p.back chain) p.forward texts blocks
 
--- the first block whose bytes don't begin with its header
-pub record HasChanged (files : ℕ → List ℕ) (nodes : List Node) (wanted : Hash32)
+-- The first block whose bytes don't begin with its header: those of each block before it were read, and then
+-- other bytes than its own, which are what stands at its place in the files, where they tell.
+pub record HasChanged (tells : Type 0) (files : ℕ → List ℕ) (nodes : List Node) (wanted : Hash32)
     (found : Option Hash32) : Type 0 where
   pub front : List Node
   pub node : Node
   pub after : List Node
   pub whole : nodes ≡ front ++ node ∷ after
-  pub before : AreOf front (map (body_of files) front)
-  pub other : IsOtherBlock node (body_of files node) found
+  pub texts : List (List ℕ)
+  pub before : AreRead tells files front texts
+  pub text : List ℕ
+  pub told : tells → text ≡ body_of files node
+  pub other : IsOtherBlock node text found
   pub is : wanted ≡ node.hash
 
 -- a block of the move can't stand where it is to stand
@@ -129,7 +133,7 @@ pub record IsBad (tells : Type 0) (files : ℕ → List ℕ) (chain : Chain) (p 
 abbrev pub IsRefused : Type 0 → (ℕ → List ℕ) → Chain → Plan → MoveFault → Type 0
 IsRefused tells files chain p stop.DiskFailed = ⊤
 IsRefused tells files chain p stop.ArchiveFailed = ⊤
-IsRefused tells files chain p (stop.Changed w f) = tells → HasChanged files p.forward w f
+IsRefused tells files chain p (stop.Changed w f) = HasChanged tells files p.forward w f
 IsRefused tells files chain p (stop.BadBlock h f) = IsBad tells files chain p (stop.BadBlock h f)
 IsRefused tells files chain p (stop.Refused h f) = IsBad tells files chain p (stop.Refused h f)
 IsRefused tells files chain p stop.Memory = ⊤

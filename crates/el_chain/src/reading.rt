@@ -110,9 +110,10 @@ pub fn read_block<A: Archive>(
     ensures stands { A.tells → IfOk result
         (λ v. v.items ≡ block_at node.now.place (A.bytes archive.new node.now.place.file)) }
     ensures wanted { IfChanged result (λ wanted found. wanted ≡ node.now.hash) }
-    // It has changed where the bytes that stand there are not the block's.
-    ensures changed { A.tells → IfChanged result (λ wanted found.
-        IsOtherBlock node.now (block_at node.now.place (A.bytes archive.new node.now.place.file)) found) }
+    // It has changed where the bytes that were read are not the block's.
+    ensures changed { IfChanged result (λ wanted found. (bytes : List ℕ)
+        × (A.tells → bytes ≡ block_at node.now.place (A.bytes archive.new node.now.place.file))
+        × IsOtherBlock node.now bytes found) }
     // A block whose record stood in the file is read as it stood there, and has never changed.
     ensures stays { A.tells → (magic file : List ℕ) → IsRecordIn magic node.now.place.file file node.now
         → Grows file (A.bytes archive.old node.now.place.file)

@@ -20,7 +20,8 @@ use Rattle.el_model.specs.Run as run
 use Rattle.el_model.specs.Run.{OneTurn, Loss, link_losses, archive_losses, disk_losses, IsNodesTurn, Stops}
 use Rattle.el_lines.specs.LineStates.{LineState}
 use Rattle.el_core.specs.State.{State, NodeLeaves, Stands}
-use Rattle.el_core.specs.Turn.{LeadsTo, TookTurn, TurnFailed, GoesTo, later, first, IsUnderWay, before, in_move}
+use Rattle.el_model.specs.Flights.{later, first, IsUnderWay, before, in_move}
+use Rattle.el_core.specs.Turn.{LeadsTo, TookTurn, TurnFailed, GoesTo}
 use Rattle.el_core.specs.within.Clients.{Gives}
 use Rattle.el_core.specs.within.Moving as part
 use Rattle.el_core.specs.within.Moving.{MoveTurn, PathTurn, TipTurn, BlockTurn, NodeTurn, MoveFailed, PathFailed, TipFailed, LineFailed, RoseWith}
@@ -241,40 +242,47 @@ module _ {G C : Type 0} (stands : G → Chain → Type 0) (tells_crash : Type 0)
 
   failed_so : (is_live : G → Type 0) (old : State G) (ledger : G) (world : World) (left : List Event) (fa : ℕ → List ℕ) (ab aa db da : ℕ) (e : StepFault) → IsNodesTurn world left
       → FailCounts e ab aa db da → (next : Chain) → IsUnderWay tells fa world left next
-      → (tells_crash → LeavesOnly moment left_since old.ledger ledger (Either means world.chain next)) → (e ≡ fault.Memory → stands ledger next × is_live ledger)
+      → (tells_crash → LeavesOnly moment left_since old.ledger ledger (Either means world.chain next)) → (e ≡ fault.Memory → next ≡ world.chain)
+      → (e ≡ fault.Memory → stands ledger world.chain × is_live ledger)
       → TurnFailed stands is_live (λ chain next. tells_crash → LeavesOnly moment left_since old.ledger ledger (Either means chain next)) tells fa ab aa db da world left ledger e
-  failed_so is_live old ledger world left fa ab aa db da fault.DiskFailed nodes counts next way crash stood = record {
+  failed_so is_live old ledger world left fa ab aa db da fault.DiskFailed nodes counts next way crash still stood = record {
     losses = run.disk ∷ [];
     stops = run.disk_failed refl nodes refl refl refl;
+    within = tt;
     no_link = refl;
     archive_rose = counts.archive;
     disk_rose = counts.disk refl;
     next = next;
     under_way = way;
     crash = crash;
+    still = still;
     stood = stood;
   }
-  failed_so is_live old ledger world left fa ab aa db da fault.Memory nodes counts next way crash stood = elim counts.archive [
+  failed_so is_live old ledger world left fa ab aa db da fault.Memory nodes counts next way crash still stood = elim counts.archive [
     | inl none ↦ record {
       losses = [];
       stops = run.no_memory refl nodes refl refl refl;
+      within = tt;
       no_link = refl;
       archive_rose = none;
       disk_rose = rose_still db da (counts.others (λ e. let bad = e in cc));
       next = next;
       under_way = way;
       crash = crash;
+      still = still;
       stood = stood;
     }
     | inr one ↦ record {
       losses = run.archive ∷ [];
       stops = run.untold refl nodes refl refl refl;
+      within = tt;
       no_link = refl;
       archive_rose = one;
       disk_rose = rose_still db da (counts.others (λ e. let bad = e in cc));
       next = next;
       under_way = way;
       crash = crash;
+      still = still;
       stood = stood;
     }
   ]
@@ -294,7 +302,7 @@ module _ {G C : Type 0} (stands : G → Chain → Type 0) (tells_crash : Type 0)
   ahead_failed is_live old ledger world left fa ab aa db da e some counts live f =
       let busy = moving_any 0 world.ahead some in
       failed_so is_live old ledger world left fa ab aa db da e (nodes_busy world left busy) counts f.next (in_move (plan_of 0 world.ahead) (later busy refl) f.flight) f.crash
-      (λ m. ((f.stood m).stood, live m))
+      f.still (λ m. ((f.stood m).stood, live m))
 
   pub line_failed : (is_live : G → Type 0) (old : State G) (ledger : G) (world : World) (left rest : List Event) (fa : ℕ → List ℕ) (ab aa db da : ℕ) (e : StepFault) (said : LineEvent)
       → world.ahead ≡ [] → left ≡ orders said ∷ rest → FailCounts e ab aa db da → (e ≡ fault.Memory → is_live ledger)
@@ -302,11 +310,13 @@ module _ {G C : Type 0} (stands : G → Chain → Type 0) (tells_crash : Type 0)
       (λ next. tells_crash → LeavesOnly moment left_since old.ledger ledger (Either means world.chain next)) e
       → TurnFailed stands is_live (λ chain next. tells_crash → LeavesOnly moment left_since old.ledger ledger (Either means chain next)) tells fa ab aa db da world left ledger e
   line_failed is_live old ledger world left rest fa ab aa db da e said still is counts live (part.unmoved memory leads crash) =
-      failed_so is_live old ledger world left fa ab aa db da e (rw is tt) counts world.chain (before refl) crash (λ m. (leads.stood, live m))
+      failed_so is_live old ledger world left fa ab aa db da e (rw is tt) counts world.chain (before refl) crash (λ m. refl) (λ m. (leads.stood, live m))
   line_failed is_live old ledger world left rest fa ab aa db da e said still is counts live (part.tips bytes h said_is reads (part.unmoved memory leads crash)) =
-      failed_so is_live old ledger world left fa ab aa db da e (rw is tt) counts world.chain (before refl) crash (λ m. (leads.stood, live m))
-  line_failed is_live old ledger world left rest fa ab aa db da e said still is counts live (part.tips bytes h said_is reads (part.along path is_path f)) =
+      failed_so is_live old ledger world left fa ab aa db da e (rw is tt) counts world.chain (before refl) crash (λ m. refl) (λ m. (leads.stood, live m))
+  line_failed is_live old ledger world left rest fa ab aa db da e said still is counts live (part.tips bytes h said_is reads (part.along path is_path (part.unmoved crash leads))) =
+      failed_so is_live old ledger world left fa ab aa db da e (rw is tt) counts world.chain (before refl) crash (λ m. refl) (λ m. ((leads m).stood, live m))
+  line_failed is_live old ledger world left rest fa ab aa db da e said still is counts live (part.tips bytes h said_is reads (part.along path is_path (part.in_move few moving f))) =
       failed_so is_live old ledger world left fa ab aa db da e (rw is tt) counts f.next
       (in_move (plan_of (back_of world.chain path) (rest_of world.chain path))
-      (first bytes h.0 path rest still (is ∙ ap (λ (s : LineEvent). orders s ∷ rest) said_is) reads is_path refl) f.flight) f.crash
-      (λ m. ((f.stood m).stood, live m))
+      (first bytes h.0 path rest still (is ∙ ap (λ (s : LineEvent). orders s ∷ rest) said_is) reads is_path few moving refl) f.flight) f.crash
+      f.still (λ m. ((f.stood m).stood, live m))

@@ -13,7 +13,8 @@ use Rattle.el_model.specs.World.{World, Event, Outs, reply_to}
 use Rattle.el_model.specs.Run.{IsNodesTurn}
 use Rattle.el_lines.specs.LineStates.{held}
 use Rattle.el_core.specs.State.{State, HasGivenAll, HasNoWork, IsIdle, Stands, work, work_of_node, work_of_client, work_of_surplus}
-use Rattle.el_core.specs.Turn.{LeadsTo, TookTurn, TurnFailed, IsDone, outs_of, before}
+use Rattle.el_core.specs.Turn.{LeadsTo, TookTurn, TurnFailed, IsDone, outs_of}
+use Rattle.el_model.specs.Flights.{before}
 use Rattle.el_core.specs.within.Clients.{Gives, NextIsLine, ClientSteps, PeersTurn, has_turn}
 use Rattle.el_core.specs.within.Moving.{MoveTurn, NodeTurn, LineFailed}
 use Rattle.el_core.specs.declared.fault.StepFault.{StepFault}
@@ -22,7 +23,7 @@ use Rattle.el_core.specs.declared.out.Outs as code
 use Rattle.el_model.specs.Run as run
 use Rattle.el_core.proofs.Causes.{nodes_turn}
 use Rattle.el_core.proofs.Moved.{quiet_leads, rose_still}
-use Rattle.el_core.proofs.Compared.{quiet_none}
+use Rattle.el_model.proofs.Quiets.{quiet_none}
 use Rattle.el_core.proofs.Noded.{ahead_step, node_step, next_order, FailCounts, line_failed}
 use Rattle.el_core.proofs.Peers.{peers_step, peers_none, none_ordered}
 
@@ -174,6 +175,7 @@ pub unread_failed : {G C : Type 0} (is_live : G → Type 0) (height : G → Opti
 unread_failed is_live height tip buckets stands tells_crash means moment left_since faults tells old new world left files ab live own same stood line = rw same (record {
   losses = [];
   stops = run.no_memory refl (nodes_turn stands old world left stood line) refl refl refl;
+  within = tt;
   no_link = refl;
   archive_rose = rose_still ab ab refl;
   disk_rose = rose_still (faults old.ledger) (faults old.ledger) refl;
@@ -181,6 +183,7 @@ unread_failed is_live height tip buckets stands tells_crash means moment left_si
   under_way = before refl;
   crash = (quiet_leads is_live height tip buckets stands tells_crash means moment left_since old.ledger old.ledger world.chain
       (quiet_none is_live height tip buckets stands tells_crash means moment left_since old.ledger live own) stood.chain).crash;
+  still = λ m. refl;
   stood = λ m. (stood.chain, live);
 })
 

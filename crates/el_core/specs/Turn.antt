@@ -6,18 +6,13 @@ use Rattle.el_outside.specs.Files.{AllGrow}
 use Rattle.el_outside.specs.Moments.{LeavesOnly}
 use Rattle.el_outside.specs.Story.{Message, Closing}
 use Rattle.el_outside.specs.declared.link.Why.{Why}
-use Rattle.el_chain.specs.declared.moves.Plan.{Plan}
-use Rattle.el_chain.specs.declared.node.Node.{Node}
 use Rattle.el_chain.specs.Chains.{Chain}
-use Rattle.el_chain.specs.Headers.{IsPath}
-use Rattle.el_chain.specs.Moves.{InFlight}
 use Rattle.el_model.specs.Keeping.{Either}
 use Rattle.el_model.specs.Lines.{line}
-use Rattle.el_model.specs.NodeLines.{ReadsNodeLine, tip}
-use Rattle.el_model.specs.Plans.{back_of, rest_of, plan_of}
+use Rattle.el_model.specs.Flights.{IsUnderWay}
 use Rattle.el_model.specs.World as model
-use Rattle.el_model.specs.World.{World, Event, says, orders, is_client, closes_long, IsBusy}
-use Rattle.el_model.specs.Run.{Turns, OneTurn, Loss, link_losses, archive_losses, disk_losses, Stop, by_disk, by_memory, Stops}
+use Rattle.el_model.specs.World.{World, Event, says, is_client, closes_long}
+use Rattle.el_model.specs.Run.{Turns, OneTurn, Loss, link_losses, archive_losses, disk_losses, Stop, by_disk, by_memory, Stops, disk_failed, no_memory, untold, unsent}
 use Rattle.el_core.specs.State.{State, ClientState, Stands}
 use Rattle.el_core.specs.declared.fault.StepFault.{StepFault}
 use Rattle.el_core.specs.declared.fault.StepFault.TheVariants as fault
@@ -89,39 +84,35 @@ pub record IsDone {G : Type 0} (stands : G → Chain → Type 0) (tells : Type 0
   pub still : world.ahead ≡ []
   pub stood : Stands stands s world []
 
--- the move of the turn: the next of the node's last tip line, or the first of a tip line that is next
-pub data IsMoveOf (world : World) (left : List Event) (p : Plan) : Type 0 where
-  later : IsBusy world → p ≡ plan_of 0 world.ahead → IsMoveOf world left p
-  first : (bytes hash : List ℕ) (path : List Node) (rest : List Event) → world.ahead ≡ []
-      → left ≡ orders (line bytes) ∷ rest → ReadsNodeLine bytes (tip hash)
-      → IsPath world.found (record { 0 = hash }) path
-      → p ≡ plan_of (back_of world.chain path) (rest_of world.chain path) → IsMoveOf world left p
-
--- the chain is the one before the turn, or the target of the turn's move
-pub data IsUnderWay (tells : Type 0) (files : ℕ → List ℕ) (world : World) (left : List Event) (next : Chain)
-    : Type 0 where
-  before : next ≡ world.chain → IsUnderWay tells files world left next
-  in_move : (p : Plan) → IsMoveOf world left p → InFlight tells files world.chain p next
-      → IsUnderWay tells files world left next
-
 -- the stop that a fault of a turn is
 abbrev pub stop_of : StepFault → Stop
 stop_of fault.DiskFailed = by_disk
 stop_of fault.Memory = by_memory
 
+-- it stops in the turn itself, and not in sending what that gave
+abbrev pub IsWithin : {tells : Type 0} {world : World} {left : List Event} {stop : Stop} {sent : List Message}
+    {closings : List Closing} {losses : List Loss}
+    → Stops tells world left stop sent closings losses → Type 0
+IsWithin (disk_failed by nodes silent closed lost) = Unit {0}
+IsWithin (no_memory by nodes silent closed lost) = Unit {0}
+IsWithin (untold by nodes silent closed lost) = Unit {0}
+IsWithin (unsent done rest outs failed after front back m lost last next whole turn cut node delivers by all') = ⊥
+
 -- A turn failed, and with it the server stops. A crash since it began leaves the chain that the ledger stood
--- for or the target of the turn's move, `next`; where no memory was found, the ledger is live and stands for
--- the one or for the other.
+-- for or the target of the turn's move, `next`; where no memory was found, it leaves that chain alone, and the
+-- ledger is live and stands for it.
 pub record TurnFailed {G : Type 0} (stands : G → Chain → Type 0) (is_live : G → Type 0)
     (leaves : Chain → Chain → Type 0) (tells : Type 0) (files : ℕ → List ℕ)
     (archive_before archive_after disk_before disk_after : ℕ)
     (world : World) (left : List Event) (ledger : G) (e : StepFault) : Type 0 where
   pub losses : List Loss
   pub stops : Stops tells world left (stop_of e) [] [] losses
+  pub within : IsWithin stops
   pub no_link : link_losses losses ≡ 0
   pub archive_rose : RoseBy archive_before archive_after (archive_losses losses)
   pub disk_rose : RoseBy disk_before disk_after (disk_losses losses)
   pub next : Chain
   pub under_way : IsUnderWay tells files world left next
   pub crash : leaves world.chain next
-  pub stood : e ≡ fault.Memory → stands ledger next × is_live ledger
+  pub still : e ≡ fault.Memory → next ≡ world.chain
+  pub stood : e ≡ fault.Memory → stands ledger world.chain × is_live ledger

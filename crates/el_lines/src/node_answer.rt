@@ -36,37 +36,6 @@ pub fn block_answer(alloc: Global, hash: Hash32) -> Result<Bytes, OutOfMemory>
     hash_line(alloc, b"block ", hash)
 }
 
-// The text of `at H HEIGHT`.
-#[tactic(auto, unfolding(el_model::specs::NodeAnswers::at_answer))]
-fn at_line(alloc: Global, tip: Hash32, height: u32) -> Result<Bytes, OutOfMemory>
-    ensures { IfOk result (λ t. t ≡ answer.at_answer (Some tip) (Some height)) }
-{
-    let height = height.to_string(alloc)?;
-    let mut out = Vec::new(alloc);
-    out.extend_from_slice(b"at ")?;
-    out.extend_from_slice(tip.shown().as_slice())?;
-    out.extend_from_slice(b" ")?;
-    out.extend_from_slice(height.as_bytes())?;
-    out.extend_from_slice(b"\n")?;
-    Ok(Bytes::from_vec(out))
-}
-
-/// `at H HEIGHT`: the chain ends in the block with this hash, in inner order, and of this height. Of no
-/// blocks nothing is said.
-#[tactic(auto, unfolding(el_model::specs::NodeAnswers::at_answer))]
-pub fn at_answer(
-    alloc: Global,
-    tip: Option<Hash32>,
-    height: Option<u32>,
-) -> Result<Bytes, OutOfMemory>
-    ensures { IfOk result (λ t. t ≡ answer.at_answer tip height) }
-{
-    match (tip, height) {
-        (Some(tip), Some(height)) => at_line(alloc, tip, height),
-        _ => Ok(Bytes::new(alloc)),
-    }
-}
-
 /// `refused line`: the line is none of a node.
 #[tactic(auto, unfolding(el_model::specs::NodeAnswers::line_refused))]
 pub fn line_refused(alloc: Global) -> Result<Bytes, OutOfMemory>

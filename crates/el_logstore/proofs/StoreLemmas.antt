@@ -1,5 +1,5 @@
 -- A store, and what a crash leaves of it.
-use Rattle.std.proofs.Common.{◌≡◌, ◌⊎◌, inl, inr, ⊎_elim, ℕ, ◌≤◌, List, [], ◌∷◌, ◌++◌, length, sym, ap, subst, arith}
+use Rattle.std.proofs.Common.{◌≡◌, ◌⊎◌, inl, inr, ⊎_elim, ℕ, ◌≤◌, List, [], ◌∷◌, ◌++◌, length, sym, ap, ◌∙◌, subst, arith}
 use Rattle.el_outside.specs.declared.disk.Disk as disk
 use Rattle.el_outside.specs.Disk.{Image}
 use Rattle.el_outside.specs.Moments.{LeavesOnly, LeftNow}
@@ -13,7 +13,7 @@ use Rattle.el_journal.specs.Entries.{HasEntries, SameJournal}
 use Rattle.el_journal.specs.Journals.{JournalState, Holds, OnlyJournal, IsOnlyRead, HasEither, Reached}
 use Rattle.el_journal.proofs.Steps.{now_in}
 use Rattle.el_logstore.specs.declared.store.LogStore.{LogStore}
-use Rattle.el_logstore.specs.Images.{no_rows, Commits, Makes, Shows, ShowsAsBefore}
+use Rattle.el_logstore.specs.Images.{no_rows, Commits, Makes, Shows}
 use Rattle.el_logstore.specs.Stores.{IsKept, IsLive, IsLeft, kept_shows}
 use Rattle.el_logstore.proofs.MakesLemmas.{makes_more, makes_same}
 
@@ -100,22 +100,15 @@ module _ {D N : Type 0} (G : disk.Ghosts D) (magic : List ℕ) where
 
 -- ---- an opening
 
-module _ {D : Type 0} (G : disk.Ghosts D) where
-  module _ (magic : List ℕ) (old mid : D) (run : OnlyJournal G SameJournal old mid) where
-    pub as_before : LeavesOnly G.moment G.left_since old mid (ShowsAsBefore magic (LeftNow G.moment G.left_since old))
-    as_before = weaker G.moment G.left_since old mid (Reached (LeftNow G.moment G.left_since old) SameJournal) (ShowsAsBefore magic (LeftNow G.moment G.left_since old))
-        (λ c step. (
-          step.0,
-          step.1,
-          λ tables shown. record {
-            entries = shown.entries;
-            journal = step.2.here.entries shown.entries shown.journal;
-            made = shown.made;
-          },
-        )) run.crash
-
-    pub read_as_before : ((d : D) (t u : ℕ) (c : Image) → t ≤ u → G.left_since d u c → G.left_since d t c) → (new : D) → IsOnlyRead G mid new
-        → LeavesOnly G.moment G.left_since old new (ShowsAsBefore magic (LeftNow G.moment G.left_since old))
-    read_as_before earlier new read = joined G.moment G.left_since old mid new (ShowsAsBefore magic (LeftNow G.moment G.left_since old)) as_before
-        (weaker G.moment G.left_since mid new (LeftNow G.moment G.left_since mid) (ShowsAsBefore magic (LeftNow G.moment G.left_since old))
-        (now_in G earlier old mid (ShowsAsBefore magic (LeftNow G.moment G.left_since old)) as_before) read.crash)
+-- a journal that was opened, and then read
+pub journal_read : {D : Type 0} (G : disk.Ghosts D) (old mid new : D)
+    → ((d : D) (t u : ℕ) (c : Image) → t ≤ u → G.left_since d u c → G.left_since d t c)
+    → OnlyJournal G SameJournal old mid → IsOnlyRead G mid new → OnlyJournal G SameJournal old new
+journal_read G old mid new earlier run read =
+    let P : Image → Type 0 = Reached (LeftNow G.moment G.left_since old) SameJournal in
+    record {
+      others = λ f other. ap (λ (seen : Image). seen f) read.seen ∙ run.others f other;
+      crash = joined G.moment G.left_since old mid new P run.crash
+          (weaker G.moment G.left_since mid new (LeftNow G.moment G.left_since mid) P
+          (now_in G earlier old mid P run.crash) read.crash);
+    }

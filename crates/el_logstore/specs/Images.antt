@@ -43,8 +43,3 @@ abbrev pub IsBadIndex : List ℕ → Image → ℕ → ℕ → Type 0
 IsBadIndex magic image wanted found = ((wanted ≡ 0) × IsBad found (image JOURNAL))
     ⊎ ((wanted ≡ 1) × ((entries : List (List ℕ)) × HasEntries (image JOURNAL) entries
     × HasNoCommitAt magic entries found))
-
--- the image stands for what one of those before stood for
-abbrev pub ShowsAsBefore : List ℕ → (Image → Type 0) → Image → Type 0
-ShowsAsBefore magic before image = (old : Image) × before old
-    × ((tables : Tables) → Shows magic old tables → Shows magic image tables)

@@ -2,14 +2,15 @@
 ghost use Rattle.std.specs.Prelude.{◌≡◌, ◌≢◌, ◌⊎◌, ◌<◌, ℕ, List, [], length, get_or, OnOk, IfOk, IfErr, MatchResult};
 ghost use Rattle.el_outside.specs.Counts.{CountsOnly};
 ghost use Rattle.el_outside.specs.Disk.{Image};
-ghost use Rattle.el_outside.specs.Moments.{LeavesOnly, LeftNow};
+ghost use Rattle.el_outside.specs.Moments.{LeftNow};
 ghost use Rattle.el_rows.specs.Tables.{Tables, tables_of};
 ghost use Rattle.el_rows.specs.Reads.{Same};
 ghost use Rattle.el_rows.specs.Changes.{Update, under};
 ghost use Rattle.el_journal.specs.declared.mark.TheConstants.{JOURNAL};
-ghost use Rattle.el_journal.specs.Journals.{Holds, IsOnlyRead};
+ghost use Rattle.el_journal.specs.Entries.{SameJournal};
+ghost use Rattle.el_journal.specs.Journals.{Holds, IsOnlyRead, OnlyJournal};
 ghost use Rattle.el_redo.specs.declared.faults.OpenFault.TheVariants as fault;
-ghost use Rattle.el_logstore.specs.Images.{Shows, Makes, Commits, no_rows, HasNoCommitAt, IsBadIndex, ShowsAsBefore};
+ghost use Rattle.el_logstore.specs.Images.{Shows, Makes, Commits, no_rows, HasNoCommitAt, IsBadIndex};
 ghost use Rattle.el_logstore.specs.Stores.{IsLive, lists_in, disk_below, disk_in, opened, fault_of};
 
 use crate::LogStore;
@@ -133,10 +134,10 @@ pub fn open_log<D: Disk, N: NetworkMagic>(
     ensures is_bad { D.tells → (wanted found : ℕ) → IsBadIndex N.magic (D.seen disk) wanted found
         → MatchResult result (λ _. ⊥) (λ e. (e.0 ≡ fault.DiskFailed) ⊎ ((e.0 ≡ fault.Memory)
         ⊎ (e.0 ≡ fault.BadIndex JOURNAL wanted found))) }
-    // Each image that a crash since the start may leave stands for what one stood for that it might have left
-    // before.
-    ensures crash { D.tells → LeavesOnly D.moment D.left_since disk (disk_in result)
-        (ShowsAsBefore N.magic (LeftNow D.moment D.left_since disk)) }
+    // No file but the journal's is written, and each image that a crash since the start may leave is one that
+    // it might have left before, with the same entries in its journal, or cut at the same place: whatever it
+    // stood for, for this network or another, it stands for.
+    ensures crash { D.tells → OnlyJournal ⟦<D as Disk>⟧ SameJournal disk (disk_in result) }
     ensures cause { CountsOnly (D.faults disk) (D.faults (disk_in result)) fault.DiskFailed (opened result) }
 {
     let mut journal = match open_journal(alloc, disk) {

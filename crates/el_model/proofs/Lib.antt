@@ -1,5 +1,6 @@
 pub mod Cuts
 pub mod RunLemmas
+pub mod Quiets
 pub mod ReadBodies
 pub mod PlainMoves
 pub mod Mapped

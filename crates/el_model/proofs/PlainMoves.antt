@@ -1,5 +1,6 @@
 -- What a plain ledger has moved to.
-use Rattle.std.proofs.Common.{◌≡◌, ℕ, ◌-◌, List, [], ◌∷◌, ◌++◌, length, drop, Some, Result, Ok, Err, refl, sym, ap, ◌∙◌, arith}
+use Rattle.std.proofs.Common.{◌≡◌, ℕ, suc, ◌+◌, ◌-◌, List, [], ◌∷◌, ◌++◌, length, drop, Option, Some, Result, Ok, Err, refl, sym, ap, ap₂, ◌∙◌, arith, length-append}
+use Rattle.std.proofs.lemmas.List.{length-take-le}
 use Rattle.std.specs.List.{AllByRecursion}
 use Rattle.std.specs.Result.{IfOk, IfErr, IsErrOf}
 use Rattle.el_base.specs.declared.hash.Hash32.{Hash32}
@@ -15,7 +16,8 @@ use Rattle.el_chain.specs.Records.{IsNode}
 use Rattle.el_chain.specs.Chains.{Chain, tip, tip_after, zero_hash}
 use Rattle.el_chain.proofs.DraftSteps.{header_same}
 use Rattle.el_model.specs.Plain.{IsPlain}
-use Rattle.el_model.specs.Queries.{tip_of}
+use Rattle.el_model.specs.Plans.{blocks_in}
+use Rattle.el_model.specs.Queries.{tip_of, height_of}
 use Rattle.el_chain.specs.Coins.{coins}
 use Rattle.el_chain.specs.Moves.{IsPlan, AreRead, AreOf, AreBlocks, AreNextBlocks, Moves, target, shorter, last_hash}
 use Rattle.el_chain.specs.Touches.{Touch, AreTouched}
@@ -92,3 +94,24 @@ never_disk r h is = (rw is at h) refl
 pub plain_counts : (r : Result Moved MoveFault) → IfErr r (λ e. e ≡ stop.DiskFailed → ⊥) → CountsOnly 0 0 stop.DiskFailed r
 plain_counts (Ok m) h = record { counted = λ is. absurd (never_disk (Ok m) h is); uncounted = refl; others_uncounted = tt }
 plain_counts (Err e) h = record { counted = λ is. absurd (never_disk (Err e) h is); uncounted = tt; others_uncounted = λ other. refl }
+
+-- how many blocks a chain has
+pub blocks_are : (chain : Chain) → blocks_in (height_of chain) ≡ length chain
+blocks_are [] = refl
+blocks_are (b ∷ bs) = omega arith
+
+as_many : (ns : List Node) (ts : List (List ℕ)) (bs : Chain) → AreBlocks ns ts bs → length bs ≡ length ns
+as_many [] [] [] are = refl
+as_many [] [] (b ∷ bs) are = absurd are
+as_many [] (t ∷ ts) bs are = absurd are
+as_many (n ∷ ns) [] bs are = absurd are
+as_many (n ∷ ns) (t ∷ ts) [] are = absurd are
+as_many (n ∷ ns) (t ∷ ts) (b ∷ bs) are = ap suc (as_many ns ts bs are.2)
+
+-- and how many after a move
+pub plain_top : (old new : Chain) (back : ℕ) (forward : List Node) (texts : List (List ℕ)) (P : Chain → Type 0) (height : Option ℕ)
+    → (fresh : Chain) × (new ≡ shorter back old ++ fresh) × AreNextBlocks (shorter back old) forward texts fresh × P fresh → height ≡ height_of new
+    → blocks_in height ≡ (blocks_in (height_of old) - back) + length forward
+plain_top old new back forward texts P height (fresh, is, next, more) top =
+    ap blocks_in top ∙ blocks_are new ∙ ap length is ∙ length-append (shorter back old) fresh
+    ∙ ap₂ (λ (a b : ℕ). a + b) (length-take-le (length old - back) old (omega arith) ∙ ap (λ n. n - back) (sym (blocks_are old))) (as_many forward texts fresh next.are)

@@ -82,13 +82,19 @@ reading_more tells old new nodes i texts n d t texts' r lt is' grows of told add
 pub unread_at : (tells : Type 0) (old new : ℕ → List ℕ) (nodes : List Node) (i : ℕ) (texts : List (List ℕ)) (n d : Node) (e : MoveFault)
     → Reading tells old nodes i texts → i < length nodes → n ≡ get_or nodes i d → (tells → AllGrow old new) → IsUnreadOne tells new n e → IsUnread tells new nodes e
 unread_at tells old new nodes i texts n d (stop.Changed w f) r lt is' grows unread =
-    let is : n ≡ get_or nodes i n = is' ∙ get_or_default nodes i d n lt in λ tl. record {
+    let is : n ≡ get_or nodes i n = is' ∙ get_or_default nodes i d n lt in record {
       front = take i nodes;
       node = n;
       after = drop (i + 1) nodes;
       whole = cut_at nodes i n lt is;
-      before = rw (← texts_grow old new (take i nodes) texts (grows tl) r.read.of (r.read.told tl)) r.read.of;
-      other = unread.1 tl;
+      texts = texts;
+      before = record {
+        of = r.read.of;
+        told = λ tl. texts_grow old new (take i nodes) texts (grows tl) r.read.of (r.read.told tl);
+      };
+      text = unread.1.0;
+      told = unread.1.1;
+      other = unread.1.2;
       is = unread.0;
     }
 unread_at tells old new nodes i texts n d stop.ArchiveFailed r lt is grows unread = tt

@@ -10,4 +10,5 @@ pub mod Going
 pub mod Replies
 pub mod World
 pub mod Run
+pub mod Flights
 pub mod within

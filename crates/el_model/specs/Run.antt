@@ -198,6 +198,16 @@ pub data Stops (tells : Type 0) (world : World) (left : List Event) (stop : Stop
       → Delivers after front None sent closings lost next → LostBy stop last
       → losses ≡ failed ++ (lost ++ last) → Stops tells world left stop sent closings losses
 
+-- the block files as the turns left them, the last of which is the one in which the run stops, if it was made
+abbrev pub files_at : {tells : Type 0} {world : World} {left : List Event} {stop : Stop} {sent : List Message}
+    {closings : List Closing} {losses : List Loss}
+    → Stops tells world left stop sent closings losses → ℕ → List ℕ
+files_at {world = world} (disk_failed by nodes silent closed lost) = world.files
+files_at {world = world} (no_memory by nodes silent closed lost) = world.files
+files_at {world = world} (untold by nodes silent closed lost) = world.files
+files_at (unsent done rest outs failed after front back m lost last next whole turn cut node delivers by all') =
+    after.files
+
 -- Where in an arrival a run stops, with all that was sent, closed and lost in it.
 pub data StopsIn (tells : Type 0) (world : World) (arrival : ArrivalWithBytes) (stop : Stop)
     (messages : List Message) (closings : List Closing) (losses : List Loss) : Type 0 where
@@ -212,6 +222,14 @@ pub data StopsIn (tells : Type 0) (world : World) (arrival : ArrivalWithBytes) (
       → Stops tells mid left stop sent closed lost
       → messages ≡ past ++ sent → closings ≡ past_closings ++ closed → losses ≡ past_losses ++ lost
       → StopsIn tells world arrival stop messages closings losses
+
+-- the block files as the turns of the arrival left them
+abbrev pub files_left : {tells : Type 0} {world : World} {arrival : ArrivalWithBytes} {stop : Stop}
+    {messages : List Message} {closings : List Closing} {losses : List Loss}
+    → StopsIn tells world arrival stop messages closings losses → ℕ → List ℕ
+files_left {world = world} (unheard bytes is by silent closed lost) = world.files
+files_left (in_turn done left past sent past_closings closed past_losses lost mid whole turns stops a b c) =
+    files_at stops
 
 -- A run that stops in its last arrival.
 pub record Halts (tells : Type 0) (first : World) (stop : Stop) (arrivals : List ArrivalWithBytes)

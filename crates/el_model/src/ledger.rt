@@ -1,5 +1,5 @@
 // The trait of ledgers: a chain that can be asked and moved.
-ghost use Rattle.std.specs.Prelude.{◌≡◌, ◌≢◌, ◌≤◌, ◌+◌, ◌*◌, ℕ, List, [], ◌++◌, length, Some, Option, IfOk, IfErr, IfSome, MatchOption, OnOk, IsErrOf};
+ghost use Rattle.std.specs.Prelude.{◌≡◌, ◌≢◌, ◌≤◌, ◌+◌, ◌-◌, ◌*◌, ℕ, List, [], ◌++◌, length, Some, Option, IfOk, IfErr, IfSome, MatchOption, OnOk, IsErrOf};
 ghost use Rattle.el_base.specs.declared.hash.Hash32 as shape;
 ghost use Rattle.el_outside.specs.Counts.{HasCause, CountsOnly, OnlyReads};
 ghost use Rattle.el_outside.specs.Moments.{LeavesOnly};
@@ -11,6 +11,7 @@ ghost use Rattle.el_model.specs.Queries.{height_of, tip_of, header_at, place_at,
 ghost use Rattle.el_chain.specs.Moves.{target, IsPlan, FitsChain, Moves, IsRefused, InFlight, last_hash};
 ghost use Rattle.el_chain.specs.Touches.{AreTouched};
 ghost use Rattle.el_model.specs.Keeping.{Quiet, Either};
+ghost use Rattle.el_model.specs.Plans.{blocks_in};
 ghost use Rattle.el_chain.specs.declared.moves.MoveFault.TheVariants as stop;
 
 use crate::fault::QueryFault;
@@ -103,6 +104,8 @@ pub trait Ledger {
         requires within { MatchOption (height self.old) ⊥ (λ top. upto ≤ top) }
         ensures hashes { (chain : Chain) → stands self.old chain
             → IfOk result (λ found. found.items ≡ hashes_to chain upto) }
+        // Also where no chain is told.
+        ensures len { IfOk result (λ found. length found.items ≡ upto + 1) }
         ensures quiet { Quiet is_live height tip buckets stands tells_crash means moment left_since
             self.old self.new }
         ensures cause { CountsOnly (faults self.old) (faults self.new) QueryFault.DiskFailed result };
@@ -243,9 +246,12 @@ pub trait Ledger {
             × (tells_crash → LeavesOnly moment left_since self.old self.new
             (Either means chain (target plan.now chain blocks)))) }
         ensures answer { IfOk result (λ m. (m.tip ≡ tip self.new) × (m.height ≡ height self.new)) }
-        // Also where no chain is told.
+        // Also where no chain is told: the hash is that of the last block that was put in, and the height goes
+        // by the numbers of blocks.
         ensures last { IfOk result (λ m. plan.now.forward ≢ []
             → tip self.new ≡ Some (last_hash zero_hash plan.now.forward)) }
+        ensures top { IfOk result (λ m. blocks_in m.height
+            ≡ (blocks_in (height self.old) - plan.now.back) + length plan.now.forward) }
         ensures live { OnOk result (is_live self.new) }
         ensures refused { (chain : Chain) → stands self.old chain
             → IfErr result (IsRefused A.tells (A.bytes archive.new) chain plan.now) }

@@ -40,8 +40,9 @@ fn place_in(blocks: &[Placed], h: u32) -> Place
 
 // The hashes of the blocks.
 fn hashes_of(alloc: Global, blocks: &[Placed]) -> Result<Vec<Hash32>, OutOfMemory>
-    ensures { IfOk result (λ found. found.items
+    ensures hashes { IfOk result (λ found. found.items
         ≡ map (λ (b : placed_shape.Placed). block.block_hash b.block.header) blocks.now) }
+    ensures len { IfOk result (λ found. length found.items ≡ length blocks.now) }
 {
     let mut found = Vec::new(alloc);
     for placed in blocks {

@@ -1,11 +1,12 @@
 // The plain ledger.
-ghost use Rattle.std.specs.Prelude.{◌≡◌, ◌≢◌, ◌⊎◌, ◌++◌, ◌∷◌, [], ◌<◌, ◌^◌, length, None, Some, IfOk, IfErr, OnOk, OnErr};
+ghost use Rattle.std.specs.Prelude.{◌≡◌, ◌≢◌, ◌⊎◌, ◌+◌, ◌-◌, ◌++◌, ◌∷◌, [], ◌<◌, ◌^◌, length, None, Some, IfOk, IfErr, OnOk, OnErr};
 ghost use Rattle.el_outside.specs.Counts.{OnlyReads};
 ghost use Rattle.el_block.specs.Blocks.{HasBlockEncoding};
 ghost use Rattle.el_chain.specs.Chains.{Chain, tip, zero_hash};
 ghost use Rattle.el_chain.specs.Faults.{fault, IsGood};
 ghost use Rattle.el_chain.specs.Moves.{IsPlan, FitsChain, Moves, IsRefused, target, last_hash};
 ghost use Rattle.el_chain.specs.Touches.{AreTouched};
+ghost use Rattle.el_model.specs.Plans.{blocks_in};
 ghost use Rattle.el_model.specs.Queries.{height_of, tip_of};
 
 use crate::reading::read_all;
@@ -116,6 +117,8 @@ impl PlainLedger {
         ensures answer { IfOk result (λ m. (m.tip ≡ tip_of self.new) × (m.height ≡ height_of self.new)) }
         ensures last { IfOk result (λ m. plan.now.forward ≢ []
             → tip_of self.new ≡ Some (last_hash zero_hash plan.now.forward)) }
+        ensures top { IfOk result (λ m. blocks_in m.height
+            ≡ (blocks_in (height_of self.old) - plan.now.back) + length plan.now.forward) }
         ensures refused { IfErr result (IsRefused A.tells (A.bytes archive.new) self.old plan.now) }
         // There is no device of an index that could fail.
         ensures no_disk { IfErr result (λ e. e ≢ MoveFault.DiskFailed) }

@@ -8,7 +8,8 @@ use Rattle.el_chain.specs.Moves.{HasChanged, body_of}
 
 -- why those of one block are not
 abbrev pub IsUnreadOne : Type 0 → (ℕ → List ℕ) → Node → MoveFault → Type 0
-IsUnreadOne tells files n (stop.Changed w f) = (w ≡ n.hash) × (tells → IsOtherBlock n (body_of files n) f)
+IsUnreadOne tells files n (stop.Changed w f) = (w ≡ n.hash) × ((text : List ℕ)
+    × (tells → text ≡ body_of files n) × IsOtherBlock n text f)
 IsUnreadOne tells files n stop.ArchiveFailed = ⊤
 IsUnreadOne tells files n stop.Memory = ⊤
 IsUnreadOne tells files n stop.DiskFailed = ⊥
@@ -17,7 +18,7 @@ IsUnreadOne tells files n (stop.Refused h f) = ⊥
 
 -- why those of some block are not
 abbrev pub IsUnread : Type 0 → (ℕ → List ℕ) → List Node → MoveFault → Type 0
-IsUnread tells files nodes (stop.Changed w f) = tells → HasChanged files nodes w f
+IsUnread tells files nodes (stop.Changed w f) = HasChanged tells files nodes w f
 IsUnread tells files nodes stop.ArchiveFailed = ⊤
 IsUnread tells files nodes stop.Memory = ⊤
 IsUnread tells files nodes stop.DiskFailed = ⊥

@@ -2,7 +2,7 @@ use Rattle.std.proofs.Common.{◌≡◌, List, ℕ, ◌∙◌, ap, Err}
 use Rattle.std.proofs.lemmas.Result.{err_from_is_err_and}
 use Rattle.el_outside.proofs.Stories.{grows_more}
 use Rattle.el_chain.specs.Records.{block_at, IsOtherBlock}
-use Rattle.el_chain.proofs.RecordBytes.{unchanged, block_stays, stands_within, record_block}
+use Rattle.el_chain.proofs.RecordBytes.{unchanged, changed_on, block_stays, stands_within, record_block}
 use Rattle.el_chain.proofs.reading.read_block.Goals as goal
 
 pub returns-in_err-check_block-clause-stays : goal.returns-in_err-check_block-clause-stays
@@ -24,3 +24,10 @@ returns-clause-stays g c = λ t magic file stands grows.
     block_stays file now c.args.node.now.place (grows_more file _ now grows (c.in_ok-body.ensures.only_reads.keeps t c.args.node.now.place.file))
     (stands_within magic file c.args.node.now.place.file c.args.node.now stands) in
     (c.in_ok-body.ensures.part t ∙ same, tt)
+
+pub returns-in_err-check_block-clause-changed : goal.returns-in_err-check_block-clause-changed
+returns-in_err-check_block-clause-changed g c =
+    let p = err_from_is_err_and c.from_residual-in_err-check_block.result c.from_residual-in_err-check_block.ensures.1 in
+    changed_on c.in_err-check_block.field-0.0 c.from_residual-in_err-check_block.result (λ wanted found. IsOtherBlock c.args.node.now c.as_slice.result.now found) _
+    (p.1 ∙ ap Err p.2) c.in_err-check_block.ensures.changed
+    (λ wanted found other. (c.as_slice.result.now, λ t. c.as_slice.ensures.value ∙ c.in_ok-body.ensures.part t, other))

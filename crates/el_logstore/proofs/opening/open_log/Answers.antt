@@ -1,12 +1,11 @@
 use Rattle.std.proofs.Common.{inl, inr, ⊎_elim, ℕ, List, sym, ap, ◌∙◌, subst}
-use Rattle.el_outside.specs.Moments.{LeavesOnly, LeftNow}
 use Rattle.el_rows.specs.Tables.{tables_of}
 use Rattle.el_journal.specs.declared.mark.TheConstants.{JOURNAL}
 use Rattle.el_redo.specs.declared.faults.OpenFault.TheVariants as fault
-use Rattle.el_logstore.specs.Images.{no_rows, Makes, HasNoCommitAt, ShowsAsBefore}
+use Rattle.el_logstore.specs.Images.{no_rows, Makes, HasNoCommitAt}
 use Rattle.el_logstore.specs.Stores.{fault_of, held_shows}
 use Rattle.el_logstore.proofs.MakesLemmas.{no_commit_made, one_no_commit, other_fault, told_fault}
-use Rattle.el_logstore.proofs.StoreLemmas.{as_before, read_as_before}
+use Rattle.el_logstore.proofs.StoreLemmas.{journal_read}
 use Rattle.el_logstore.proofs.opening.open_log.Goals as goal
 
 pub returns-in-Err-clause-opens : goal.returns-in-Err-clause-opens
@@ -20,9 +19,6 @@ returns-in-Err-clause-is_bad g c told wanted found bad = ⊎_elim
     (c.in-Err.ensures.is_bad told found cut.1))
     (λ none. inl (c.of_journal.ensures ∙ ap fault_of (c.in-Err.ensures.has told none.1.0 none.1.1)))
     bad
-
-pub returns-in-Err-clause-crash : goal.returns-in-Err-clause-crash
-returns-in-Err-clause-crash g c told = as_before g.D.Disk g.N.NetworkMagic.magic c.args.disk c.in-Err.disk (c.in-Err.ensures.crash told)
 
 pub returns-in-Ok-replay-clause-leaves : goal.returns-in-Ok-replay-clause-leaves
 returns-in-Ok-replay-clause-leaves g c told image left =
@@ -38,8 +34,8 @@ returns-in-Ok-replay-clause-is_bad g c told wanted found bad = ⊎_elim
     bad
 
 pub returns-in-Ok-replay-clause-crash : goal.returns-in-Ok-replay-clause-crash
-returns-in-Ok-replay-clause-crash g c told = read_as_before g.D.Disk g.N.NetworkMagic.magic c.args.disk c.in-Ok.journal.disk (c.in-Ok.ensures.crash told)
-    (λ d t u i le left. g.met.D.Disk.earlier d t u i told le left) c.replay.new.journal.disk (c.replay.ensures.read told)
+returns-in-Ok-replay-clause-crash g c told = journal_read g.D.Disk c.args.disk c.in-Ok.journal.disk c.replay.new.journal.disk
+    (λ d t u i le left. g.met.D.Disk.earlier d t u i told le left) (c.in-Ok.ensures.crash told) (c.replay.ensures.read told)
 
 pub returns-in-Err-replay-clause-opens : goal.returns-in-Err-replay-clause-opens
 returns-in-Err-replay-clause-opens g c told tables shown =
@@ -69,7 +65,6 @@ returns-in-Err-replay-clause-is_bad g c told wanted n bad = ⊎_elim
     bad
 
 pub returns-in-Err-replay-clause-crash : goal.returns-in-Err-replay-clause-crash
-returns-in-Err-replay-clause-crash g c told =
-    subst (λ (d : g.row.D.Denot). LeavesOnly g.D.Disk.moment g.D.Disk.left_since c.args.disk d (ShowsAsBefore g.N.NetworkMagic.magic (LeftNow g.D.Disk.moment g.D.Disk.left_since c.args.disk))) (sym c.into_disk.ensures)
-    (read_as_before g.D.Disk g.N.NetworkMagic.magic c.args.disk c.in-Ok.journal.disk (c.in-Ok.ensures.crash told)
-    (λ d t u i le left. g.met.D.Disk.earlier d t u i told le left) c.replay.new.journal.disk (c.replay.ensures.read told))
+returns-in-Err-replay-clause-crash g c told = rw c.into_disk.ensures
+    (journal_read g.D.Disk c.args.disk c.in-Ok.journal.disk c.replay.new.journal.disk
+    (λ d t u i le left. g.met.D.Disk.earlier d t u i told le left) (c.in-Ok.ensures.crash told) (c.replay.ensures.read told))
