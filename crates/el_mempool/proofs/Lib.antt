@@ -1,0 +1,14 @@
+pub mod Sifting
+pub mod Confirmed
+pub mod Named
+pub mod Dropping
+pub mod Ordered
+pub mod Picked
+pub mod Changes
+pub mod Unspent
+pub mod Changed
+pub mod Joining
+pub mod Arrivals
+pub mod Departures
+pub mod Moved
+pub mod Sifted

@@ -1,0 +1,13 @@
+//! What is kept of the transactions that no block has yet, as definitions over whole chains and lists of
+//! arrival (`specs/`), with the types that they speak of and the laws of what is kept.
+#![tactic(auto)]
+
+mod entry;
+mod fault;
+mod held;
+mod laws;
+
+pub use entry::{PoolEntry, PoolLimits};
+pub use fault::PoolFault;
+pub use held::{Held, KeptTx, Source};
+pub use laws::{one_more_stands, what_is_kept_stands, what_is_kept_stays};
