@@ -12,4 +12,6 @@ mod position_tests;
 #[cfg(test)]
 mod script_tests;
 #[cfg(test)]
+mod spend_tests;
+#[cfg(test)]
 mod tests;

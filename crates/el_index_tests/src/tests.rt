@@ -2,7 +2,7 @@
 ghost use Rattle.std.specs.Prelude.{◌≡◌, ◌<◌};
 
 use crate::failing_rows::FailingRows;
-use crate::{bucket_tests, position_tests, script_tests};
+use crate::{bucket_tests, position_tests, script_tests, spend_tests};
 use el_base::Steps;
 use el_rows::{AppendFault, Table, Txn};
 use std::alloc::Global;
@@ -17,6 +17,7 @@ enum Subject {
     Buckets,
     Positions,
     Scripts,
+    Spends,
 }
 
 fn counted<A: Abort, L: Ledger + Send>(
@@ -34,6 +35,7 @@ fn counted<A: Abort, L: Ledger + Send>(
         Subject::Buckets => bucket_tests::all(rt, alloc, &mut steps),
         Subject::Positions => position_tests::all(rt, alloc, &mut steps),
         Subject::Scripts => script_tests::all(rt, alloc, &mut steps),
+        Subject::Spends => spend_tests::all(rt, alloc, &mut steps),
     }
 }
 
@@ -54,6 +56,11 @@ fn newest_transaction_is_that_of_a_list(rt: HostRuntime) -> Result<(), Fail> {
 #[test]
 fn scripts_and_entries_are_those_of_lists(rt: HostRuntime) -> Result<(), Fail> {
     test_of(&rt, rt.alloc(), Subject::Scripts)
+}
+
+#[test]
+fn outputs_and_inputs_are_those_of_lists(rt: HostRuntime) -> Result<(), Fail> {
+    test_of(&rt, rt.alloc(), Subject::Spends)
 }
 
 #[test]

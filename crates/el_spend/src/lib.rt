@@ -16,6 +16,3 @@ pub use lookup::{NamedOutput, named_output};
 pub use spending::spend;
 pub use taking_back::take_back_out;
 pub use unspending::unspend;
-
-#[cfg(test)]
-mod tests;

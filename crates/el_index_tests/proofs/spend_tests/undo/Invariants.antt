@@ -1,5 +1,5 @@
 use Rattle.std.proofs.Common.{◌≡◌, length}
-use Rattle.el_spend.proofs.tests.undo.Given as goal
+use Rattle.el_index_tests.proofs.spend_tests.undo.Given as goal
 
 abbrev pub invariant-loop-step : goal.invariant-loop-step
 invariant-loop-step g l = l.txn.rows.ghost_name ≡ l.fn.txn.rows.ghost_name

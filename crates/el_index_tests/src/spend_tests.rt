@@ -1,64 +1,27 @@
 // What no contract says: that each call succeeds where memory is ample, rows that stand for nothing, and a
 // long run beside plain lists.
-ghost use Rattle.std.specs.Prelude.{◌≡◌, ◌<◌, ◌^◌, ◌+◌, [], refl};
-ghost use Rattle.el_rows.specs.RowBytes.{FitsTxRow, FitsScriptRow};
-ghost use Rattle.el_rows.specs.Tables.{limit_of};
+ghost use Rattle.std.specs.Prelude.{◌≡◌, ◌<◌, ◌+◌, refl};
 
-use crate::{add_out, named_output, spend, take_back_out, unspend};
+use crate::failing_rows::FailingRows;
+use crate::fixtures::{add_heads, outpoint, tx_row};
 use el_base::{Hash32, Steps};
 use el_chain::ConnectFault;
 use el_outside::DiskFailed;
 use el_position::{add_tx, take_back_tx};
-use el_rows::{
-    CommitFault, InRow, OutRow, Rows, ScriptRow, Sealed, State, Table, TxRow, Txn, VecRows,
-};
+use el_rows::{InRow, OutRow, Rows, ScriptRow, State, Table, Txn, VecRows};
+use el_spend::{add_out, named_output, spend, take_back_out, unspend};
 use el_tx::Outpoint;
 use std::alloc::Global;
-use std::marker::Brand;
 use std::process::Abort;
-use std::sync::ledger::{Blank, Ledger};
+use std::sync::ledger::Ledger;
 use std::test::Fail;
-
-fn txid(k: u8) -> Hash32 {
-    let mut bytes = [0; 32];
-    bytes[0] = k;
-    bytes[31] = 9;
-    Hash32(bytes)
-}
-
-fn outpoint(k: u8, index: u32) -> Outpoint {
-    Outpoint {
-        txid: txid(k),
-        index,
-    }
-}
-
-fn tx(k: u8, first_out: u64, outs: u32) -> TxRow
-    requires { first_out < 2 ^ 32 }
-    ensures { FitsTxRow result }
-{
-    TxRow {
-        txid: txid(k),
-        height: 7,
-        start: 81,
-        len: 60,
-        first_out,
-        outs,
-        first_in: 3,
-        ins: 2,
-        older: None,
-        next: None,
-    }
-}
 
 // Seven buckets of transactions, and three scripts.
 fn begin<R: Rows>(txn: &mut Txn<'_, R>) -> Result<(), Fail>
     ensures rows { txn.new.rows.now ≡ txn.old.rows.now }
     ensures name { txn.new.rows.ghost_name ≡ txn.old.rows.ghost_name }
 {
-    for _ in 0..7 {
-        txn.append(Table::TxHeads, &[0; 4])?;
-    }
+    add_heads(txn, 7)?;
     for _ in 0..3 {
         txn.append(Table::Scripts, &[0; 52])?;
     }
@@ -237,7 +200,7 @@ fn take_step<A: Abort, L: Ledger>(
     let txs = txn.count(Table::Txs);
     match step {
         Step::Tx(k, outs) => {
-            let row = tx(k, txn.count(Table::Outs), outs);
+            let row = tx_row(k, 7, 81, txn.count(Table::Outs), outs);
             assert!(rt; add_tx(txn, &row, steps) == Ok(txs));
             Ok(true)
         }
@@ -289,12 +252,7 @@ fn step_by(number: u64, left: u32, outs: u32) -> Step {
     }
 }
 
-fn long_run<A: Abort, L: Ledger>(rt: &A, alloc: Global, blank: Blank) -> Result<(), Fail>
-    requires name { blank.name ≡ L.name }
-    requires parts { blank.parts ≡ L.parts }
-    requires some { 0 < blank.parts }
-{
-    let mut steps = Steps::<L>::new(blank);
+fn long_run<A: Abort, L: Ledger>(rt: &A, alloc: Global, steps: &mut Steps<L>) -> Result<(), Fail> {
     let mut rows = VecRows::new(alloc);
     let mut txn = Txn::new(alloc, &mut rows);
     begin(&mut txn)?;
@@ -313,13 +271,13 @@ fn long_run<A: Abort, L: Ledger>(rt: &A, alloc: Global, blank: Blank) -> Result<
             Step::Out(_, _, _) => left = left.saturating_sub(1),
             Step::Spend(_, _) => {}
         }
-        if take_step(rt, &mut txn, step, &mut steps)? {
+        if take_step(rt, &mut txn, step, steps)? {
             done.push(step)?;
         }
         let plain = replay(alloc, &done)?;
-        compare(rt, &mut txn, &plain, &mut steps)?;
+        compare(rt, &mut txn, &plain, steps)?;
     }
-    undo(rt, alloc, &mut txn, &mut done, &mut steps)
+    undo(rt, alloc, &mut txn, &mut done, steps)
 }
 
 // Takes all steps back, the last first.
@@ -338,11 +296,6 @@ fn undo<A: Abort, L: Ledger>(
         compare(rt, txn, &plain, steps)?;
     }
     Ok(())
-}
-
-#[test]
-fn steps_and_their_inverses_are_those_of_lists(rt: HostRuntime) -> Result<(), Fail> {
-    long_run::<HostRuntime, Brand>(&rt, rt.alloc(), Blank::new(1))
 }
 
 // Steps, and after them the state of each output, which inputs there are, and the balances of three scripts.
@@ -484,24 +437,18 @@ fn check_case<A: Abort, L: Ledger>(
     undo(rt, alloc, &mut txn, &mut done, steps)
 }
 
-fn check_cases<A: Abort, L: Ledger>(rt: &A, alloc: Global, blank: Blank) -> Result<(), Fail>
-    requires name { blank.name ≡ L.name }
-    requires parts { blank.parts ≡ L.parts }
-    requires some { 0 < blank.parts }
-{
-    let mut steps = Steps::<L>::new(blank);
+fn check_cases<A: Abort, L: Ledger>(
+    rt: &A,
+    alloc: Global,
+    steps: &mut Steps<L>,
+) -> Result<(), Fail> {
     for case in &TWO_COINBASES {
-        check_case(rt, alloc, case, &mut steps)?;
+        check_case(rt, alloc, case, steps)?;
     }
     for case in &FEWER_OUTPUTS {
-        check_case(rt, alloc, case, &mut steps)?;
+        check_case(rt, alloc, case, steps)?;
     }
     Ok(())
-}
-
-#[test]
-fn the_newest_output_of_an_outpoint_counts(rt: HostRuntime) -> Result<(), Fail> {
-    check_cases::<HostRuntime, Brand>(&rt, rt.alloc(), Blank::new(1))
 }
 
 // The row of an output of transaction 0 and script 0, with that value, and that state and transaction as they
@@ -600,7 +547,7 @@ fn check_sums<A: Abort, L: Ledger>(
     assert!(rt; txn.count(Table::Scripts) == 3);
     txn.put(Table::Scripts, 0, &row)?;
     let wanted = sums.2;
-    assert!(rt; add_tx(&mut txn, &tx(0, 0, 1), steps) == Ok(0));
+    assert!(rt; add_tx(&mut txn, &tx_row(0, 7, 81, 0, 1), steps) == Ok(0));
     assert!(rt; txn.count(Table::Scripts) == 3);
     assert!(rt; add_out(&mut txn, 0, 0, sums.1, 0, steps) == Ok(()));
     assert!(rt; balance(rt, &mut txn, 0, steps)? == wanted[0]);
@@ -613,121 +560,36 @@ fn check_sums<A: Abort, L: Ledger>(
     Ok(())
 }
 
-fn odd_rows<A: Abort, L: Ledger>(rt: &A, alloc: Global, blank: Blank) -> Result<(), Fail>
-    requires name { blank.name ≡ L.name }
-    requires parts { blank.parts ≡ L.parts }
-    requires some { 0 < blank.parts }
-{
-    let mut steps = Steps::<L>::new(blank);
+fn odd_rows<A: Abort, L: Ledger>(rt: &A, alloc: Global, steps: &mut Steps<L>) -> Result<(), Fail> {
     for odd in &ODD {
-        check_odd(rt, alloc, odd, &mut steps)?;
+        check_odd(rt, alloc, odd, steps)?;
     }
     for sums in &SUMS {
-        check_sums(rt, alloc, sums, &mut steps)?;
+        check_sums(rt, alloc, sums, steps)?;
     }
     Ok(())
-}
-
-#[test]
-fn rows_that_stand_for_nothing(rt: HostRuntime) -> Result<(), Fail> {
-    odd_rows::<HostRuntime, Brand>(&rt, rt.alloc(), Blank::new(1))
 }
 
 // Where there is nothing nothing is found, and nothing is taken back.
-fn on_nothing<A: Abort, L: Ledger>(rt: &A, alloc: Global, blank: Blank) -> Result<(), Fail>
-    requires name { blank.name ≡ L.name }
-    requires parts { blank.parts ≡ L.parts }
-    requires some { 0 < blank.parts }
-{
-    let mut steps = Steps::<L>::new(blank);
+fn on_nothing<A: Abort, L: Ledger>(
+    rt: &A,
+    alloc: Global,
+    steps: &mut Steps<L>,
+) -> Result<(), Fail> {
     let mut rows = VecRows::new(alloc);
     let mut txn = Txn::new(alloc, &mut rows);
-    assert!(rt; spend(&mut txn, &outpoint(0, 0), 0, &mut steps) == Ok(None));
-    assert!(rt; unspend(&mut txn, &mut steps) == Ok(()));
-    assert!(rt; take_back_out(&mut txn, &mut steps) == Ok(()));
+    assert!(rt; spend(&mut txn, &outpoint(0, 0), 0, steps) == Ok(None));
+    assert!(rt; unspend(&mut txn, steps) == Ok(()));
+    assert!(rt; take_back_out(&mut txn, steps) == Ok(()));
     Ok(())
 }
 
-#[test]
-fn nothing_is_found_where_nothing_is(rt: HostRuntime) -> Result<(), Fail> {
-    on_nothing::<HostRuntime, Brand>(&rt, rt.alloc(), Blank::new(1))
-}
-
-// A store that is full, and whose device may fail at each row. Each row's bytes are zeros.
-#[derive(Drop)]
-struct Full {
-    fails: bool,
-    faults: u64,
-}
-
-impl Rows for Full {
-    ghost tells = { ⊥ };
-
-    ghost tells_crash = { ⊥ };
-
-    ghost lists = { λ s t. [] };
-
-    ghost counts = { λ s t. limit_of t };
-
-    ghost is_live = { λ s. Unit {0} };
-
-    ghost moment = { λ s. 0 };
-
-    ghost Left = { Unit {0} };
-
-    ghost shows = { λ c lists. ⊥ };
-
-    ghost left_since = { λ s t c. ⊥ };
-
-    ghost faults = { λ s. s.faults };
-
-    ghost counted = { λ s t told. absurd told };
-
-    ghost earlier = { λ s t u c le left. left };
-
-    ghost leaves_lists = { λ s c told live left. absurd told };
-
-    fn count(&self, t: Table) -> u64 {
-        t.limit()
-    }
-
-    fn row<L: Ledger>(
-        &mut self,
-        t: Table,
-        _: u64,
-        buf: &mut [u8],
-        steps: &mut Steps<L>,
-    ) -> Result<(), DiskFailed> {
-        steps.tick();
-        if self.fails {
-            self.faults = self.faults.saturating_add(1);
-            return Err(DiskFailed);
-        }
-        buf.fill(0);
-        if t == Table::TxHeads {
-            buf.fill(1);
-        }
-        if t == Table::Txs {
-            buf.fill(1);
-        }
-        Ok(())
-    }
-
-    fn commit(&mut self, _: &Sealed) -> Result<(), CommitFault> {
-        Err(CommitFault::Memory)
-    }
-}
-
-fn at_the_limit<A: Abort, L: Ledger>(rt: &A, alloc: Global, blank: Blank) -> Result<(), Fail>
-    requires name { blank.name ≡ L.name }
-    requires parts { blank.parts ≡ L.parts }
-    requires some { 0 < blank.parts }
-{
-    let mut steps = Steps::<L>::new(blank);
-    let mut rows = Full {
-        fails: false,
-        faults: 0,
-    };
+fn at_the_limit<A: Abort, L: Ledger>(
+    rt: &A,
+    alloc: Global,
+    steps: &mut Steps<L>,
+) -> Result<(), Fail> {
+    let mut rows = FailingRows::of_outputs();
     let mut txn = Txn::new(alloc, &mut rows);
     let outs = ConnectFault::Full {
         table: 4,
@@ -742,39 +604,31 @@ fn at_the_limit<A: Abort, L: Ledger>(rt: &A, alloc: Global, blank: Blank) -> Res
         index: 0,
     };
     assert!(rt; txn.count(Table::Scripts) == 4_294_967_295);
-    assert!(rt; add_out(&mut txn, 0, 0, 5, 0, &mut steps) == Err(outs));
-    assert!(rt; spend(&mut txn, &every, 0, &mut steps) == Err(ins));
-    assert!(rt; spend(&mut txn, &outpoint(7, 0), 0, &mut steps) == Ok(None));
+    assert!(rt; add_out(&mut txn, 0, 0, 5, 0, steps) == Err(outs));
+    assert!(rt; spend(&mut txn, &every, 0, steps) == Err(ins));
+    assert!(rt; spend(&mut txn, &outpoint(7, 0), 0, steps) == Ok(None));
     Ok(())
 }
 
-#[test]
-fn full_at_the_limit(rt: HostRuntime) -> Result<(), Fail> {
-    at_the_limit::<HostRuntime, Brand>(&rt, rt.alloc(), Blank::new(1))
-}
-
-fn failing<A: Abort, L: Ledger>(rt: &A, alloc: Global, blank: Blank) -> Result<(), Fail>
-    requires name { blank.name ≡ L.name }
-    requires parts { blank.parts ≡ L.parts }
-    requires some { 0 < blank.parts }
-{
-    let mut steps = Steps::<L>::new(blank);
-    let mut rows = Full {
-        fails: true,
-        faults: 0,
-    };
+fn failing<A: Abort, L: Ledger>(rt: &A, alloc: Global, steps: &mut Steps<L>) -> Result<(), Fail> {
+    let mut rows = FailingRows::full(0);
     let mut txn = Txn::new(alloc, &mut rows);
     let fault = ConnectFault::DiskFailed;
     assert!(rt; txn.count(Table::Scripts) == 4_294_967_295);
-    assert!(rt; named_output(&mut txn, &outpoint(1, 0), 5, &mut steps) == Err(DiskFailed));
-    assert!(rt; add_out(&mut txn, 0, 0, 5, 0, &mut steps) == Err(fault));
-    assert!(rt; spend(&mut txn, &outpoint(1, 0), 0, &mut steps) == Err(fault));
-    assert!(rt; unspend(&mut txn, &mut steps) == Err(fault));
-    assert!(rt; take_back_out(&mut txn, &mut steps) == Err(fault));
+    assert!(rt; named_output(&mut txn, &outpoint(1, 0), 5, steps) == Err(DiskFailed));
+    assert!(rt; add_out(&mut txn, 0, 0, 5, 0, steps) == Err(fault));
+    assert!(rt; spend(&mut txn, &outpoint(1, 0), 0, steps) == Err(fault));
+    assert!(rt; unspend(&mut txn, steps) == Err(fault));
+    assert!(rt; take_back_out(&mut txn, steps) == Err(fault));
     Ok(())
 }
 
-#[test]
-fn device_fails(rt: HostRuntime) -> Result<(), Fail> {
-    failing::<HostRuntime, Brand>(&rt, rt.alloc(), Blank::new(1))
+/// All of them.
+pub fn all<A: Abort, L: Ledger>(rt: &A, alloc: Global, steps: &mut Steps<L>) -> Result<(), Fail> {
+    long_run(rt, alloc, steps)?;
+    check_cases(rt, alloc, steps)?;
+    odd_rows(rt, alloc, steps)?;
+    on_nothing(rt, alloc, steps)?;
+    at_the_limit(rt, alloc, steps)?;
+    failing(rt, alloc, steps)
 }
