@@ -11,6 +11,7 @@ use Rattle.el_rows.specs.Reads.{OnlyRead, IsEither, Unchanged}
 use Rattle.el_rows.proofs.ReadsLemmas.{read_joined}
 use Rattle.el_chain.specs.Chains.{Chain}
 use Rattle.el_model.specs.Keeping.{Quiet, Either}
+use Rattle.el_model.specs.Plans.{blocks_in}
 use Rattle.el_stands.specs.Standing.{StandFor}
 use Rattle.el_index.specs.Means.{top, IsIndexOf, Means}
 
@@ -18,6 +19,11 @@ use Rattle.el_index.specs.Means.{top, IsIndexOf, Means}
 pub below_top : (n h : ℕ) → MatchOption (top n) ⊥ (λ t. h ≤ t) → h < n
 below_top zero h under = absurd under
 below_top (suc n) h under = omega (arith, under)
+
+-- the height of the last of so many blocks tells how many there are
+pub blocks_in_top : (n : ℕ) → blocks_in (top n) ≡ n
+blocks_in_top zero = refl
+blocks_in_top (suc n) = omega arith
 
 module _ {R C : Type 0} (lists : R → Tables) (counts : R → Table → ℕ) (is_live : R → Type 0) (tells_crash : Type 0) (moment : R → ℕ) (left_since : R → ℕ → C → Type 0) (shows : C → Tables → Type 0) where
   -- E is an index, which holds the rows
@@ -46,8 +52,9 @@ module _ {R C : Type 0} (lists : R → Tables) (counts : R → Table → ℕ) (i
             last = sym kept ∙ s.last;
           };
         };
-        crash = λ told chain s.
-            let run = weaker moment left_since (rows old) (rows new) (λ c. shows c (lists (rows old))) (λ c. Means shows c chain) (λ c shown. (lists (rows old), shown, s.stand)) (reads.crash told) in
+        crash = λ told.
+            let run = weaker moment left_since (rows old) (rows new) (λ c. shows c (lists (rows old))) (λ c. (chain : Chain) → IsIndexOf tells (lists (rows old)) (tip old) chain → Means shows c chain)
+            (λ c shown chain s. (lists (rows old), shown, s.stand)) (reads.crash told) in
             record { later = run.later; each = run.each; before = run.before };
       }
 

@@ -5,6 +5,7 @@ ghost use Rattle.el_chain.specs.Chains.{Chain};
 ghost use Rattle.el_chain.specs.Moves.{shorter};
 ghost use Rattle.el_outside.specs.Counts.{CountsOnly};
 ghost use Rattle.el_rows.specs.Transaction.{tables_in, OnlyReads};
+ghost use Rattle.el_rows.specs.declared.table.Table.{Table};
 ghost use Rattle.el_stands.specs.Standing.{StandFor};
 ghost use Rattle.el_index.specs.within.Adding.{AreAdded, IsOwn};
 
@@ -26,6 +27,8 @@ fn take_back_one<R: Rows, L: Counts>(
     ensures touched { (chain : Chain) (b : shape.Placed) → R.tells
         → StandFor (tables_in t.old) (chain ++ b ∷ [])
         → OnOk result (AreAdded chain (b ∷ []) touched.old touched.new) }
+    ensures fewer { OnOk result (length (tables_in t.new Table.Blocks)
+        ≡ length (tables_in t.old Table.Blocks) - 1) }
     ensures reads { OnlyReads t.old t.new }
     ensures name { t.new.rows.ghost_name ≡ t.old.rows.ghost_name }
     ensures ticked { steps.old ≤ steps.new }
@@ -51,6 +54,9 @@ pub(crate) fn take_back<R: Rows, L: Counts>(
     ensures touched { (chain : Chain) → R.tells → StandFor (tables_in t.old) chain → back ≤ length chain
         → OnOk result (AreAdded (shorter back chain) (drop (length chain - back) chain)
         touched.old touched.new) }
+    // What follows holds over any rows.
+    ensures fewer { OnOk result (length (tables_in t.new Table.Blocks)
+        ≡ length (tables_in t.old Table.Blocks) - back) }
     ensures reads { OnlyReads t.old t.new }
     ensures name { t.new.rows.ghost_name ≡ t.old.rows.ghost_name }
     ensures ticked { steps.old ≤ steps.new }

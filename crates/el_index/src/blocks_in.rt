@@ -12,6 +12,7 @@ ghost use Rattle.el_chain.specs.Records.{IsNode, IsBlockOf};
 ghost use Rattle.el_outside.specs.Counts.{CountsOnly};
 ghost use Rattle.el_prepare.specs.Prepared as spec;
 ghost use Rattle.el_rows.specs.Transaction.{tables_in, OnlyReads};
+ghost use Rattle.el_rows.specs.declared.table.Table.{Table};
 ghost use Rattle.el_stands.specs.Standing.{StandFor};
 ghost use Rattle.el_index.specs.within.Adding.{IsAfter, AreAfter, IsOwn};
 
@@ -82,6 +83,8 @@ fn connect_for<R: Rows, L: Counts>(
         → HasBlockEncoding block → prepared.now ≡ spec.prepared block → block.header.previous ≡ tip chain
         → OnOk result ((fault chain block ≡ None)
         × StandFor (tables_in t.new) (chain ++ record { block = block; place = place } ∷ [])) }
+    ensures more { OnOk result (length (tables_in t.new Table.Blocks)
+        ≡ length (tables_in t.old Table.Blocks) + 1) }
     ensures first_fault { (chain : Chain) (block : shape.Block) (text : List ℕ) → R.tells
         → StandFor (tables_in t.old) chain → EncodesBlock text block → prepared.now ≡ spec.prepared block
         → block.header.previous ≡ tip chain
@@ -115,6 +118,8 @@ fn add_one<R: Rows, L: Counts>(
     ensures added { (chain : Chain) → R.tells → StandFor (tables_in t.old) chain
         → node.now.header.previous ≡ tip chain → OnOk result ((b : placed_shape.Placed)
         × IsAfter chain node.now text.now touched.old touched.new (tables_in t.new) b) }
+    ensures more { OnOk result (length (tables_in t.new Table.Blocks)
+        ≡ length (tables_in t.old Table.Blocks) + 1) }
     ensures first_fault { (chain : Chain) → R.tells → StandFor (tables_in t.old) chain
         → node.now.header.previous ≡ tip chain
         → IfErr result (λ e. IsOwn e ⊎ IsStop chain node.now.hash text.now e) }
@@ -146,6 +151,8 @@ pub(crate) fn add_all<R: Rows, L: Counts>(
     ensures added { (chain : Chain) → R.tells → StandFor (tables_in t.old) chain
         → AreLinked (tip chain) nodes.now → OnOk result ((blocks : Chain)
         × AreAfter chain nodes.now texts.now touched.old touched.new (tables_in t.new) blocks) }
+    ensures more { OnOk result (length (tables_in t.new Table.Blocks)
+        ≡ length (tables_in t.old Table.Blocks) + length nodes.now) }
     ensures first_fault { (chain : Chain) → R.tells → StandFor (tables_in t.old) chain
         → AreLinked (tip chain) nodes.now
         → IfErr result (λ e. IsOwn e ⊎ FaultInAt chain nodes.now texts.now e) }

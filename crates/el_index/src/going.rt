@@ -1,5 +1,5 @@
 // A move, made on the rows.
-ghost use Rattle.std.specs.Prelude.{◌≡◌, ◌≢◌, ◌⊎◌, ◌≤◌, List, ℕ, [], Some, Option, IfOk, IfErr, IsErrOf, OnOk};
+ghost use Rattle.std.specs.Prelude.{◌≡◌, ◌≢◌, ◌⊎◌, ◌≤◌, ◌+◌, ◌-◌, length, List, ℕ, [], Some, Option, IfOk, IfErr, IsErrOf, OnOk};
 ghost use Rattle.el_chain.specs.Chains.{Chain, zero_hash};
 ghost use Rattle.el_chain.specs.Moves.{AreOf, FaultInAt, FitsChain, IsPlan, last_hash as hash_of_last, shorter, target};
 ghost use Rattle.el_chain.specs.declared.node.Node as node_shape;
@@ -9,6 +9,7 @@ ghost use Rattle.el_outside.specs.Counts.{CountsOnly};
 ghost use Rattle.el_outside.specs.Moments.{LeavesOnly};
 ghost use Rattle.el_rows.specs.Reads.{OnlyRead};
 ghost use Rattle.el_rows.specs.Transaction.{tables_in, OnlyReads};
+ghost use Rattle.el_rows.specs.declared.table.Table.{Table};
 ghost use Rattle.el_stands.specs.Standing.{StandFor};
 ghost use Rattle.el_index.specs.Means.{Means};
 ghost use Rattle.el_index.specs.within.Adding.{AreMoved, FliesTo, IsOwn};
@@ -41,6 +42,9 @@ fn edit<R: Rows, L: Counts>(
     ensures moved { (chain : Chain) → R.tells → StandFor (tables_in t.old) chain → FitsChain plan.now chain
         → OnOk result ((blocks : Chain)
         × AreMoved plan.now chain texts.now touched.new (tables_in t.new) blocks) }
+    // Over any rows the number of blocks goes by the plan.
+    ensures top { OnOk result (length (tables_in t.new Table.Blocks)
+        ≡ (length (tables_in t.old Table.Blocks) - plan.now.back) + length plan.now.forward) }
     ensures first_fault { (chain : Chain) → R.tells → StandFor (tables_in t.old) chain
         → FitsChain plan.now chain → IfErr result (λ e. IsOwn e
         ⊎ FaultInAt (shorter plan.now.back chain) plan.now.forward texts.now e) }
@@ -109,6 +113,8 @@ impl<R: Rows> Index<R> {
             (Either (Means R.shows) chain (target plan.now chain blocks)))) }
         ensures last { IfOk result (λ hash. plan.now.forward ≢ []
             → hash ≡ Some (hash_of_last zero_hash plan.now.forward)) }
+        ensures top { IfOk result (λ hash. R.counts self.new.rows Table.Blocks
+            ≡ (R.counts self.old.rows Table.Blocks - plan.now.back) + length plan.now.forward) }
         ensures live { OnOk result (R.is_live self.new.rows) }
         ensures kept { self.new.tip ≡ self.old.tip }
         ensures first_fault { (chain : Chain) → R.tells → StandFor (R.lists self.old.rows) chain

@@ -60,6 +60,8 @@ pub(crate) fn undo<R: Rows, L: Counts>(
     requires live { R.is_live t.old.rows.now }
     ensures undone { (chain : Chain) (b : shape.Placed) → R.tells
         → StandFor (tables_in t.old) (chain ++ b ∷ []) → OnOk result (StandFor (tables_in t.new) chain) }
+    ensures fewer { OnOk result (length (tables_in t.new Table.Blocks)
+        ≡ length (tables_in t.old Table.Blocks) - 1) }
     ensures reads { OnlyReads t.old t.new }
     ensures name { t.new.rows.ghost_name ≡ t.old.rows.ghost_name }
     ensures ticked { steps.old ≤ steps.new }

@@ -69,6 +69,7 @@ pub fn hashes<R: Rows, L: Ledger>(
     requires within { upto < length (tables_in t.old Table.Blocks) }
     ensures hashes { (chain : Chain) → R.tells → StandFor (tables_in t.old) chain
         → IfOk result (λ found. found.items ≡ hashes_to chain upto) }
+    ensures len { IfOk result (λ found. length found.items ≡ upto + 1) }
     ensures tables { tables_in t.new ≡ tables_in t.old }
     ensures reads { OnlyReads t.old t.new }
     ensures name { t.new.rows.ghost_name ≡ t.old.rows.ghost_name }

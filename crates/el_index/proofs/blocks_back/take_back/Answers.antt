@@ -10,6 +10,7 @@ loop-init g c = record {
   name = refl;
   uncounted = refl;
   ticked = omega arith;
+  fewer = omega arith;
   back = λ chain told stand fits. rw (none_taken chain) stand;
   touched = λ chain told stand fits. rw (none_taken chain, none_gone chain) (added_none chain c.args.touched.now);
 }
@@ -20,6 +21,7 @@ loop-preserved g c = record {
   name = c.take_back_one.ensures.name ∙ c.loop.invariant.name;
   uncounted = c.in_ok-take_back_one.ensures.cause.uncounted ∙ c.loop.invariant.uncounted;
   ticked = omega (arith, c.take_back_one.ensures.ticked, c.loop.invariant.ticked);
+  fewer = omega (arith, c.in_ok-take_back_one.ensures.fewer, c.loop.invariant.fewer);
   back = λ chain told stand fits.
       let last = last_is chain c.loop.counter (omega arith) in
       let here = rw last.1.front at (c.loop.invariant.back chain told stand fits) in

@@ -15,6 +15,7 @@ loop-index-init g c = record {
   name = refl;
   uncounted = refl;
   ticked = omega arith;
+  more = omega arith;
   left = record { nodes_left = c.requires.nodes; of = c.requires.of };
   adding = λ chain told stand linked. adding_begins chain c.args.nodes.now c.args.texts.now c.args.touched.now (tables_in {G = g.R.Rows} c.args.t.now) stand linked;
 }
@@ -46,6 +47,7 @@ loop-index-preserved g c =
       name = c.add_one.ensures.name ∙ c.loop-index.invariant.name;
       uncounted = c.in_ok-add_one.ensures.cause.uncounted ∙ c.loop-index.invariant.uncounted;
       ticked = omega (arith, c.add_one.ensures.ticked, c.loop-index.invariant.ticked);
+      more = omega (arith, c.in_ok-add_one.ensures.more, c.loop-index.invariant.more);
       left = n.rest;
       adding = λ chain told stand linked.
           let was = c.loop-index.invariant.adding chain told stand linked in

@@ -1,6 +1,7 @@
-use Rattle.std.proofs.Common.{◌≡◌, ◌≤◌}
+use Rattle.std.proofs.Common.{◌≡◌, ◌≤◌, ◌+◌, length}
 use Rattle.el_chain.specs.Chains.{Chain, tip}
 use Rattle.el_chain.specs.Headers.{AreLinked}
+use Rattle.el_rows.specs.declared.table.Table.TheVariants as table
 use Rattle.el_rows.specs.Transaction.{tables_in, OnlyReads}
 use Rattle.el_stands.specs.Standing.{StandFor}
 use Rattle.el_index.proofs.Addings.{Left, IsAdding}
@@ -12,6 +13,7 @@ invariant-loop-index g l = record {
   name : l.t.rows.ghost_name ≡ l.fn.t.rows.ghost_name;
   uncounted : g.R.Rows.faults l.t.rows.now ≡ g.R.Rows.faults l.fn.t.rows.now;
   ticked : l.fn.steps ≤ l.steps;
+  more : length (tables_in {G = g.R.Rows} l.t table.Blocks) ≡ length (tables_in {G = g.R.Rows} l.fn.t table.Blocks) + l.index;
   left : Left l.nodes l.texts l.index;
   adding : (chain : Chain) → g.R.Rows.tells → StandFor (tables_in {G = g.R.Rows} l.fn.t) chain → AreLinked (tip chain) l.nodes
       → (blocks : Chain) × IsAdding chain l.nodes l.texts l.index l.fn.touched l.touched (tables_in {G = g.R.Rows} l.t) blocks;

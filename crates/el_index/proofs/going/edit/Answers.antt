@@ -1,4 +1,4 @@
-use Rattle.std.proofs.Common.{◌⊎◌, inl}
+use Rattle.std.proofs.Common.{◌⊎◌, inl, ℕ, ◌+◌, length, ap, ap₂, ◌∙◌}
 use Rattle.std.proofs.lemmas.Result.{err_from_is_err_and}
 use Rattle.el_chain.specs.Moves.{FaultInAt, shorter}
 use Rattle.el_chain.proofs.CoinSteps.{err_passed}
@@ -26,3 +26,6 @@ returns-clause-moved g c chain told stand fits =
       are_moved c.each_block_touches_what_the_move_touches.ensures c.args.plan.now chain c.args.texts.now c.args.touched.now c.take_back.new.touched c.add_all.new.touched _ after.0 stand.stand.good c.requires.none
           (c.in_ok-take_back.ensures.touched chain told stand fits.within) after.1,
     )
+
+pub returns-clause-top : goal.returns-clause-top
+returns-clause-top g c = c.in_ok-add_all.ensures.more ∙ ap₂ (λ (a b : ℕ). a + b) c.in_ok-take_back.ensures.fewer (ap length c.as_slice.ensures)

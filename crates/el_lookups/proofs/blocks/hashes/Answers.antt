@@ -1,4 +1,4 @@
-use Rattle.std.proofs.Common.{◌≡◌, ℕ, suc, ◌+◌, List, [], ◌∷◌, ◌++◌, map, take, refl, ap, ap₂, sym, subst, ◌∙◌, arith}
+use Rattle.std.proofs.Common.{◌≡◌, ℕ, suc, ◌+◌, List, [], ◌∷◌, ◌++◌, map, take, refl, ap, ap₂, sym, subst, ◌∙◌, arith, length, length-append}
 use Rattle.el_base.specs.Hashing.{sha256d}
 use Rattle.el_base.specs.declared.hash.Hash32.{Hash32}
 use Rattle.el_rows.specs.Transaction.{tables_in}
@@ -24,6 +24,7 @@ loop-h-preserved g c = record {
   name = c.block_row.ensures.name ∙ c.loop-h.invariant.name;
   uncounted = c.in_ok-row.ensures.cause.uncounted ∙ c.loop-h.invariant.uncounted;
   ticked = omega (arith, c.block_row.ensures.ticked, c.loop-h.invariant.ticked);
+  len = ap length c.in_ok-push.ensures.items ∙ length-append c.loop-h.found.items _ ∙ ap (λ (n : ℕ). n + 1) c.loop-h.invariant.len;
   hashes = λ tb told same.
       let before = subst (λ T. Encode T tb) (sym c.loop-h.invariant.tables) same in
       let one = one_more block_fields hash_in row_hash (λ b. refl) tb.blocks c.loop-h.h c.in_ok-row.row (c.in_ok-row.ensures.row tb told before) in
@@ -39,3 +40,8 @@ returns-clause-hashes g c chain told stand =
     let end : c.loop-h.h ≡ c.args.upto + 1 = omega (arith, c.from-h-end.ensures, c.loop-h-test.false, c.loop-h.auto.h-end) in
     c.loop-h.invariant.hashes (tables_of (heads_in chain) (listed_blocks chain) (lists chain)) told hold
     ∙ ap (λ (n : ℕ). map hash_in (take n (listed_blocks chain))) end ∙ hashes_told chain c.args.upto
+
+pub returns-clause-len : goal.returns-clause-len
+returns-clause-len g c =
+    let end : c.loop-h.h ≡ c.args.upto + 1 = omega (arith, c.from-h-end.ensures, c.loop-h-test.false, c.loop-h.auto.h-end) in
+    c.loop-h.invariant.len ∙ end

@@ -1,4 +1,4 @@
-use Rattle.std.proofs.Common.{◌≡◌, ◌≤◌, map, take}
+use Rattle.std.proofs.Common.{◌≡◌, ◌≤◌, map, take, length}
 use Rattle.el_rows.specs.Transaction.{tables_in, OnlyReads}
 use Rattle.el_tables.specs.Tables as typed
 use Rattle.el_buckets.specs.Rows.{Encode}
@@ -14,5 +14,6 @@ invariant-loop-h g l =
       name : l.t.rows.ghost_name ≡ l.fn.t.rows.ghost_name;
       uncounted : g.R.Rows.faults l.t.rows.now ≡ g.R.Rows.faults l.fn.t.rows.now;
       ticked : l.fn.steps ≤ l.steps;
+      len : length l.found.items ≡ l.h;
       hashes : (tb : typed.Tables) → g.R.Rows.tells → Encode shown tb → l.found.items ≡ map hash_in (take l.h tb.blocks);
     }

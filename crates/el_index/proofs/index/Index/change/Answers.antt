@@ -1,4 +1,6 @@
-use Rattle.std.proofs.Common.{inl, inr, refl, ap, ◌∙◌}
+use Rattle.std.proofs.Common.{inl, inr, ℕ, ◌+◌, ◌-◌, length, refl, sym, ap, ◌∙◌}
+use Rattle.el_rows.specs.declared.table.Table.TheVariants as table
+use Rattle.el_rows.proofs.UnderLemmas.{length-under}
 use Rattle.el_rows.specs.Changes.{under}
 use Rattle.el_rows.specs.Tables.{Tables}
 use Rattle.el_rows.specs.Transaction.{tables_in}
@@ -56,3 +58,14 @@ returns-in-Ok-clause-moved g c chain told stand fits =
           (λ none. c.in_ok-hash.ensures.tip (target p chain done.0) told done.1.stand (c.as_slice.ensures ∙ none)),
       λ crash. begun r.lists r.counts r.is_live r.tells_crash r.moment r.left_since r.shows c.args.self.now.rows mid _ there chain (target p chain done.0) reads stand sealed.stand (rw c.in_ok-sealed.ensures.rows at c.commit.ensures.crash crash) crash,
     )
+
+-- the number of blocks goes by the plan
+pub returns-in-Ok-clause-top : goal.returns-in-Ok-clause-top
+returns-in-Ok-clause-top g c =
+    let r = g.R.Rows in
+    let p = c.args.plan.now in
+    c.in-Ok.ensures.counts table.Blocks
+    ∙ sym (length-under (r.lists c.hash_after.new.t.rows.now) c.in_ok-sealed.sealed.counts c.in_ok-sealed.sealed.changes table.Blocks)
+    ∙ ap length (c.in_ok-sealed.ensures.tables table.Blocks)
+    ∙ ap (λ (T : Tables). length (T table.Blocks)) c.hash_after.ensures.tables ∙ c.in_ok-edit.ensures.top
+    ∙ ap (λ (n : ℕ). (n - p.back) + length p.forward) (c.new-txn.ensures.counts table.Blocks)

@@ -1,6 +1,8 @@
-use Rattle.std.proofs.Common.{refl, ap, ◌∙◌, Err}
+use Rattle.std.proofs.Common.{ℕ, ◌+◌, ◌-◌, length, refl, sym, ap, ◌∙◌, Err}
 use Rattle.std.proofs.lemmas.Result.{err_from_is_err_and}
-use Rattle.el_index.proofs.Kept.{lifted}
+use Rattle.el_index.proofs.Kept.{lifted, quiet, blocks_in_top}
+use Rattle.el_index.specs.Means.{top}
+use Rattle.el_model.specs.Plans.{blocks_in}
 use Rattle.el_index.proofs.Targets.{same_fault, flies, touched_once}
 use Rattle.el_index.proofs.ledger_impl.IndexLedger.go.Goals as goal
 
@@ -27,3 +29,18 @@ returns-clause-moved g c chain stands =
       touched_once p chain c.in_ok-texts.texts.items c.change.new.touched _ moved.0 moved.1 c.list-listed.ensures.once,
       λ crash. lifted r.moment r.left_since (λ l. l.rows) c.args.self.now _ c.change.new.self.rows _ refl (moved.3 crash),
     )
+
+-- the height goes by the numbers of blocks
+pub returns-clause-top : goal.returns-clause-top
+returns-clause-top g c =
+    let p = c.args.plan.now in
+    ap blocks_in (c.top_of.ensures ∙ ap top c.count.ensures.count) ∙ blocks_in_top _ ∙ c.in_ok-tip.ensures.top
+    ∙ ap (λ (n : ℕ). (n - p.back) + length p.forward) (sym (blocks_in_top _))
+
+-- no move was made, and rows were read at most
+pub returns-in_err-tip-clause-unchanged : goal.returns-in_err-tip-clause-unchanged
+returns-in_err-tip-clause-unchanged g c =
+    let r = g.R.Rows in
+    let p = err_from_is_err_and c.from_residual-in_err-tip.result c.from_residual-in_err-tip.ensures.1 in
+    rw (p.1 ∙ ap Err p.2) (λ other. quiet r.lists r.counts r.is_live r.tells_crash r.moment r.left_since r.shows r.tells (λ l. l.rows) (λ l. l.tip) c.args.self.now c.change.new.self c.change.new.self.rows refl
+    c.in_err-tip.ensures.kept c.requires.live (c.in_err-tip.ensures.unchanged other))
