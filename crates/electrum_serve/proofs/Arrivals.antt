@@ -2,6 +2,7 @@
 use Rattle.std.proofs.Common.{◌≡◌, inl, inr, ℕ, ◌==◌, false, not, List, [], ◌∷◌, ◌++◌, map, None, refl, sym, ap, ◌∙◌, append_assoc, IsTrue}
 use Rattle.std.specs.Prelude.{Result, Ok, Err, OnOk, IfErr}
 use Rattle.std.specs.List.{filter}
+use Rattle.el_outside.specs.Files.{AllGrow}
 use Rattle.el_outside.specs.Story.{Story, ArrivalWithBytes, opened, brought, closed, quiet, ended, GoesOn, is_new, leaves as left_by}
 use Rattle.el_outside.proofs.Stories.{goes_none, arrived_stays_open, new_not_open}
 use Rattle.el_outside.specs.declared.link.Arrival.{Arrival}
@@ -120,6 +121,7 @@ arrival_stopped stands link_tells tells leaves a world taken before now stop sti
       losses = f.losses ++ f.lost;
       stops = in_turn (t.done ++ f.done) f.left f.messages f.sent f.closings f.closed f.losses f.lost f.world
           whole turns f.stops refl refl refl;
+      grown = f.grown;
       story = f.story;
       rose = f.rose;
       flight = f.flight;
@@ -157,13 +159,14 @@ taken_files stands a world s t = quiet_files (after_hearing a world) t.done t.ne
 -- no memory was found for the node's bytes
 pub arrival_lost : (link_tells tells : Type 0) (leaves : Chain → Chain → Type 0) (a : Arrival)
     (bytes : List ℕ) (world : World) (now : Seen) → (n : ℕ) × (a ≡ arrival.Bytes 0 n)
-    → leaves world.chain world.chain
+    → (tells → AllGrow world.files now.files) → leaves world.chain world.chain
     → StoppedIn link_tells tells leaves world (with_all_bytes a bytes) by_memory now now
-arrival_lost link_tells tells leaves a bytes world now is crash = record {
+arrival_lost link_tells tells leaves a bytes world now is grows crash = record {
   messages = [];
   closings = [];
   losses = [];
   stops = unheard bytes (ap (λ (x : Arrival). with_all_bytes x bytes) is.1) refl refl refl refl;
+  grown = grows;
   story = λ t. goes_none now.story;
   rose = all_rose_none now.faults;
   flight = world.chain;

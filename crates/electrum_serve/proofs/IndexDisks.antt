@@ -2,16 +2,17 @@
 use Rattle.std.proofs.Common.{◌≡◌, ◌≢◌, ◌⊎◌, inl, inr, refl, ℕ, ◌≤◌, List}
 use Rattle.el_outside.specs.declared.disk.Disk as disk
 use Rattle.el_outside.specs.Disk.{Image}
-use Rattle.el_outside.specs.Moments.{LeavesOnly, LeftNow}
 use Rattle.el_chain.specs.Chains.{Chain}
 use Rattle.el_rows.specs.Tables.{Tables}
 use Rattle.el_rows.specs.Reads.{Same}
 use Rattle.el_stands.proofs.StandingLemmas.{same_stand}
-use Rattle.el_logstore.specs.Images.{Shows, ShowsAsBefore}
+use Rattle.el_journal.specs.Entries.{SameJournal}
+use Rattle.el_journal.specs.Journals.{OnlyJournal}
+use Rattle.el_logstore.specs.Images.{Shows}
 use Rattle.el_redo.specs.declared.faults.OpenFault.{OpenFault}
 use Rattle.el_redo.specs.declared.faults.OpenFault.TheVariants as fault
 use Rattle.el_journal.specs.declared.mark.TheConstants.{JOURNAL}
-use Rattle.electrum_serve.specs.Crash.{ImageMeans, LeavesOneOf}
+use Rattle.electrum_serve.specs.IndexDisks.{ImageMeans, LeavesAsBefore}
 use Rattle.electrum_serve.specs.declared.status.Status.{Status}
 use Rattle.electrum_serve.specs.declared.status.Status.TheVariants as status
 use Rattle.electrum_serve.specs.within.Unread.{open_status}
@@ -23,17 +24,25 @@ pub means_rows : (magic : List ℕ) (image : Image) (chain : Chain) (rows : Tabl
 means_rows magic image chain rows one means other shows =
     (rows, shows, same_stand means.0 rows chain means.2 (one means.0 means.1))
 
--- an opening that is stopped leaves what was left before
-pub unopened_leaves : {D : Type 0} (G : disk.Ghosts D) (magic : List ℕ) (old new : D) (was flight : Chain)
+-- an opening that is stopped leaves what was left before, as an index of any network
+pub keeps_as : {D : Type 0} (G : disk.Ghosts D) (old new : D)
     → ((t u : ℕ) (c : Image) → t ≤ u → G.left_since new u c → G.left_since new t c)
-    → LeavesOnly G.moment G.left_since old new (ShowsAsBefore magic (LeftNow G.moment G.left_since old))
-    → LeavesOneOf G magic old was flight → LeavesOneOf G magic new was flight
-unopened_leaves G magic old new was flight earlier over left image now =
+    → OnlyJournal G SameJournal old new → LeavesAsBefore G old new
+keeps_as G old new earlier only magic was flight left image now =
+    let over = only.crash in
     let b = over.each image (earlier (G.moment old) (G.moment new) image over.later now) in
     elim (left b.0 b.1) [
-      | inl means ↦ inl (means.0, b.2 means.0 means.1, means.2)
-      | inr means ↦ inr (means.0, b.2 means.0 means.1, means.2)
+      | inl means ↦ inl (means.0, same_shows magic b.0 image means.0 b.2.here means.1, means.2)
+      | inr means ↦ inr (means.0, same_shows magic b.0 image means.0 b.2.here means.1, means.2)
     ]
+  where
+    same_shows : (magic : List ℕ) (a b : Image) (rows : Tables) → SameJournal (a JOURNAL) (b JOURNAL)
+        → Shows magic a rows → Shows magic b rows
+    same_shows magic a b rows same shown = record {
+      entries = shown.entries;
+      journal = same.entries shown.entries shown.journal;
+      made = shown.made;
+    }
 
 -- after an opening each image shows the store's rows, which stand for what the disk stood for as it read
 pub unread_leaves : (magic : List ℕ) (seen : Image) (was flight : Chain) (rows : Tables) (image : Image)

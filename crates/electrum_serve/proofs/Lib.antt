@@ -1,7 +1,6 @@
 pub mod Arrivals
 pub mod Deliveries
 pub mod FileLemmas
-pub mod Flights
 pub mod IndexDisks
 pub mod LifeLemmas
 pub mod Openings

@@ -1,5 +1,5 @@
 -- Lives follow each other.
-use Rattle.std.proofs.Common.{Bool, true, ◌≡◌, inl, inr, ℕ, List, [], ◌∷◌, refl, arith}
+use Rattle.std.proofs.Common.{Bool, true, ◌≡◌, ◌⊎◌, inl, inr, ℕ, List, [], ◌∷◌, refl, arith}
 use Rattle.std.specs.List.{AllByRecursion}
 use Rattle.el_outside.specs.declared.archive.Archive as archive
 use Rattle.el_outside.specs.declared.disk.Disk as disk
@@ -9,6 +9,7 @@ use Rattle.el_chain.specs.Chains.{Chain}
 use Rattle.el_journal.specs.declared.mark.TheConstants.{JOURNAL}
 use Rattle.el_model.specs.World.{World}
 use Rattle.el_model.specs.Run.{Loss, Stop}
+use Rattle.el_model.specs.Flights.{acked}
 use Rattle.el_logstore.specs.Images.{no_rows}
 use Rattle.el_rows.specs.declared.table.Table.{Table}
 use Rattle.el_rows.specs.declared.table.Table.TheVariants as table
@@ -18,9 +19,10 @@ use Rattle.el_buckets.specs.Rows.{bytes_of}
 use Rattle.el_stands.specs.Standing.{StandFor, heads_in}
 use Rattle.el_stands.proofs.StandingLemmas.{stands}
 use Rattle.el_words.specs.Commands.{IsServe}
-use Rattle.electrum_serve.specs.Crash.{ImageMeans, LeavesOneOf, IsIndexDisk, acked}
+use Rattle.electrum_serve.specs.IndexDisks.{ImageMeans, LeavesOneOf, IsIndexDisk, IsCall}
+use Rattle.electrum_serve.specs.Calls.{Call, CallEnds}
 use Rattle.electrum_serve.specs.Ends.{serve, IndexEnds, UnopenedEnds, ServeEnds, IsServed}
-use Rattle.electrum_serve.specs.Lives.{Life, LifeEnds, IsCall, AreLives, GoOn, none, one}
+use Rattle.electrum_serve.specs.Lives.{IsLeftBy, AreLives, GoOn, none, one}
 use Rattle.electrum_serve.specs.Runs.{Counts, Traffic, RunEnds, IsRun, IsHalted}
 use Rattle.electrum_serve.specs.declared.status.Status.{Status}
 use Rattle.electrum_serve.specs.declared.status.Status.TheVariants as status
@@ -58,15 +60,17 @@ module _ (P : Chain → Chain → Type 0) where
     };
   }
 
-  halt_pinned : (tells : Type 0) (first : World) (node : Bool) (c : Counts) (t : Traffic) (stop : Stop)
-      → IsHalted tells first node P c t stop → Pinned P (λ Q. IsHalted tells first node Q c t stop)
-  halt_pinned tells first node c t stop h = record {
+  halt_pinned : (tells : Type 0) (first : World) (node : Bool) (files : ℕ → List ℕ) (c : Counts) (t : Traffic)
+      (stop : Stop) → IsHalted tells first node P files c t stop
+      → Pinned P (λ Q. IsHalted tells first node Q files c t stop)
+  halt_pinned tells first node files c t stop h = record {
     acked = acked h.halts.stops;
     flight = h.flight;
     leaves = h.crash;
     ends = record {
       losses = h.losses;
       halts = h.halts;
+      grown = h.grown;
       counted = h.counted;
       last = h.last;
       flight = h.flight;
@@ -89,12 +93,12 @@ module _ (P : Chain → Chain → Type 0) where
   ends_pinned tells first node files c t status.Usage r = absurd r
   ends_pinned tells first node files c t status.BadIndex r = absurd r
   ends_pinned tells first node files c t status.ArchiveFailed r = absurd r
-  ends_pinned tells first node files c t status.DiskFailed r = halt_pinned tells first node c t _ r
+  ends_pinned tells first node files c t status.DiskFailed r = halt_pinned tells first node files c t _ r
   ends_pinned tells first node files c t status.LinkFailed (inl r) =
       with_more (λ X k. inl (k, r.1)) (run_pinned tells first node files c t _ r.0)
   ends_pinned tells first node files c t status.LinkFailed (inr r) =
-      with_more (λ X k. inr k) (halt_pinned tells first node c t _ r)
-  ends_pinned tells first node files c t status.OutOfMemory r = halt_pinned tells first node c t _ r
+      with_more (λ X k. inr k) (halt_pinned tells first node files c t _ r)
+  ends_pinned tells first node files c t status.OutOfMemory r = halt_pinned tells first node files c t _ r
   ends_pinned tells first node files c t status.TurnsSpent r =
       with_more (λ X k. (k, r.1, r.2)) (run_pinned tells first node files c t _ r.0)
   ends_pinned tells first node files c t status.OtherChain r = absurd r
@@ -155,47 +159,67 @@ module _ (P : Chain → Chain → Type 0) where
 module _ {D A K : Type 0} (of_disk : disk.Ghosts D) (of_files : archive.Ghosts A) (of_link : link.Ghosts K)
     (magic : List ℕ) where
   -- how a life ended, and what it left
-  record Ended (l : Life D A K) (was flight chain : Chain) : Type 0 where
-    acked : Chain
-    in_flight : Chain
-    leaves : LeavesOneOf of_disk magic l.disk_after acked in_flight
-    ends : LifeEnds of_disk of_files of_link l was flight chain (λ m a b. these acked in_flight a b)
+  pub record Ended (l : Call D A K) (was flight chain : Chain) : Type 0 where
+    pub acked : Chain
+    pub in_flight : Chain
+    pub leaves : LeavesOneOf of_disk magic l.after.disk acked in_flight
+    pub ends : CallEnds of_disk of_files of_link l was flight chain (λ m a b. these acked in_flight a b)
 
-  ended : (l : Life D A K) (was flight chain : Chain) → IsServe l.words magic
-      → IsIndexDisk of_disk magic l.disk was flight chain → IsCall of_disk of_files of_link l
+  ended : (l : Call D A K) (was flight chain : Chain) → IsServe l.words magic
+      → IsIndexDisk of_disk magic l.before.disk was flight chain → IsCall of_disk of_files of_link l
       → Ended l was flight chain
   ended l was flight chain serves is call =
       let e = call was flight chain (λ m also. rw (same_networks also serves) is) in
       let only = only_served serves e.2 in
-      let k = index_pinned (LeavesOneOf of_disk magic l.disk_after) of_files.tells of_files.bytes
-      of_files.file_count magic chain _ l.files l.files_after e.0 was flight l.status only in record {
+      let k = index_pinned (LeavesOneOf of_disk magic l.after.disk) of_files.tells of_files.bytes
+      of_files.file_count magic chain _ l.before.files l.after.files e.0 was flight l.status only in record {
         acked = k.acked;
         in_flight = k.flight;
         leaves = k.leaves;
         ends = (e.0, e.1, serve magic serves k.ends);
       }
 
-  pub lives_go : (d : D) (was flight : Chain) (lives : List (Life D A K)) → of_disk.tells
+  -- a life, and those after it, whichever chain it finds
+  one_more : (was flight chain : Chain) (l : Call D A K) (more : List (Call D A K))
+      → (chain ≡ was) ⊎ (chain ≡ flight) → (e : Ended l was flight chain)
+      → GoOn of_disk of_files of_link e.acked e.in_flight more → GoOn of_disk of_files of_link was flight (l ∷ more)
+  one_more was flight chain l more from e then = one was flight l more chain e.acked e.in_flight from e.ends then
+
+  -- how the life ends on a disk that the one before may have left, by the chain that it finds
+  pub record Found (l : Call D A K) (was flight : Chain) : Type 0 where
+    pub chain : Chain
+    pub from : (chain ≡ was) ⊎ (chain ≡ flight)
+    pub end : Ended l was flight chain
+
+  pub found : (d : D) (was flight : Chain) (l : Call D A K) → of_disk.tells → LeavesOneOf of_disk magic d was flight
+      → IsLeftBy of_disk d l.before.disk → IsServe l.words magic → IsCall of_disk of_files of_link l
+      → Found l was flight
+  found d was flight l told left is serves call =
+      let here : LeavesOneOf of_disk magic l.before.disk was flight =
+      (λ image now. left image (is.images image now)) in
+      elim (left (of_disk.seen l.before.disk) is.reads) [
+        | inl means ↦ record {
+          chain = was;
+          from = inl refl;
+          end = ended l was flight was serves (record { told = told; left = here; reads = means }) call;
+        }
+        | inr means ↦ record {
+          chain = flight;
+          from = inr refl;
+          end = ended l was flight flight serves (record { told = told; left = here; reads = means }) call;
+        }
+      ]
+
+  pub lives_go : (d : D) (was flight : Chain) (lives : List (Call D A K)) → of_disk.tells
       → LeavesOneOf of_disk magic d was flight → AreLives of_disk d lives
-      → AllByRecursion (λ (l : Life D A K). IsServe l.words magic) lives
+      → AllByRecursion (λ (l : Call D A K). IsServe l.words magic) lives
       → AllByRecursion (IsCall of_disk of_files of_link) lives
       → GoOn of_disk of_files of_link was flight lives
   lives_go d was flight [] told left are serve' calls = none was flight
   lives_go d was flight (l ∷ more) told left are serve' calls =
-      let here : LeavesOneOf of_disk magic l.disk was flight =
-      (λ image now. left image (are.0.images image now)) in
-      elim (left (of_disk.seen l.disk) are.0.reads) [
-        | inl means ↦
-            let e = ended l was flight was serve'.0 (record { told = told; left = here; reads = means })
-            calls.0 in
-            one was flight l more was e.acked e.in_flight (inl refl) e.ends
-            (lives_go l.disk_after e.acked e.in_flight more told e.leaves are.1 serve'.1 calls.1)
-        | inr means ↦
-            let e = ended l was flight flight serve'.0 (record { told = told; left = here; reads = means })
-            calls.0 in
-            one was flight l more flight e.acked e.in_flight (inr refl) e.ends
-            (lives_go l.disk_after e.acked e.in_flight more told e.leaves are.1 serve'.1 calls.1)
-      ]
+      let f = found d was flight l told left are.0 serve'.0 calls.0 in
+      one_more was flight f.chain l more f.from f.end
+      (lives_go l.after.disk f.end.acked f.end.in_flight more told f.end.leaves are.1 serve'.1 calls.1)
 
 -- 3. Empty files
 

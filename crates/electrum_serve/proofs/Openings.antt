@@ -19,7 +19,7 @@ use Rattle.el_chain.specs.Headers.{added}
 use Rattle.el_chain.specs.Records.{IsNode}
 use Rattle.el_files.specs.Appending.{AppendsOnly}
 use Rattle.el_files.specs.Scanning.{IsFoundBelow}
-use Rattle.el_core.proofs.Compared.{blocks_are}
+use Rattle.el_model.proofs.PlainMoves.{blocks_are}
 use Rattle.electrum_serve.specs.Opened.{all_added, node_of_block, nodes_of_chain}
 
 are_nodes' : (gave : ℕ → ℕ → List ℕ → Type 0) (magic : List ℕ) (count : ℕ) (ns : List Node)

@@ -4,19 +4,20 @@ use Rattle.el_outside.specs.Counts.{RoseBy}
 use Rattle.el_outside.specs.Files.{AllGrow}
 use Rattle.el_outside.specs.Story.{Story, Message, Closing}
 use Rattle.el_outside.specs.declared.link.Why.{Why}
-use Rattle.el_outside.proofs.Stories.{goes_none, goes_more, rose_more, rose_none, all_grow_more}
+use Rattle.el_outside.proofs.Stories.{goes_none, goes_more, rose_more, rose_none, all_grow_none, all_grow_more}
 use Rattle.el_chain.specs.Chains.{Chain}
 use Rattle.el_model.specs.World.{World, Event, Outs, is_client}
 use Rattle.el_model.specs.Sessions.{Session}
-use Rattle.el_model.specs.Run.{Loss, link, archive, disk, link_losses, archive_losses, disk_losses, Turns, none, more, Stop, unsent, Delivers, all, sends, loses, lost_by, IsDeparture, LostBy, by_disk, by_link, by_memory}
+use Rattle.el_model.specs.Run.{Loss, link, archive, disk, link_losses, archive_losses, disk_losses, Turns, none, more, Stop, Stops, disk_failed, no_memory, untold, unsent, files_at, Delivers, all, sends, loses, lost_by, IsDeparture, LostBy, by_disk, by_link, by_memory}
 use Rattle.el_core.specs.State.{State, Stands}
-use Rattle.el_core.specs.Turn.{TookTurn, TurnFailed, IsDone, stop_of}
+use Rattle.el_model.specs.Flights.{FliesAt, IsUnderWay}
+use Rattle.el_core.specs.Turn.{TookTurn, TurnFailed, IsWithin, IsDone, stop_of}
 use Rattle.el_core.specs.declared.fault.StepFault.{StepFault}
+use Rattle.el_core.specs.declared.fault.StepFault.TheVariants as fault
 use Rattle.electrum_serve.specs.Runs.{Faults, Rose}
 use Rattle.electrum_serve.specs.within.Sending.{StoppedSending}
 use Rattle.electrum_serve.specs.within.Progress.{ClientsAreOpen, CanDeliver, Delivered, Seen, Progress, Finished, Stopped}
 use Rattle.electrum_serve.proofs.Sendings.{link_more}
-use Rattle.electrum_serve.proofs.Flights.{flies}
 use Rattle.electrum_serve.proofs.Turned.{after_turn, still_waiting}
 use Rattle.electrum_serve.proofs.Openness.{some_peer}
 
@@ -228,6 +229,32 @@ finished stands link_tells tells first all' before now later s turned p d unused
       grown = λ told. all_grow_more p.world.files now.files later.files (p.grown told) (grows told);
     }
 
+-- the block files where a turn failed, and the chain that is then in flight
+within_files : {tells : Type 0} {world : World} {left : List Event} {stop : Stop} {sent : List Message}
+    {closings : List Closing} {losses : List Loss} (stops : Stops tells world left stop sent closings losses)
+    → IsWithin stops → files_at stops ≡ world.files
+within_files (disk_failed by nodes silent closed lost) within = refl
+within_files (no_memory by nodes silent closed lost) within = refl
+within_files (untold by nodes silent closed lost) within = refl
+within_files (unsent done rest outs failed after front back m lost last next whole turn cut node delivers by all')
+    within = absurd within
+
+for_memory : (e : StepFault) → stop_of e ≡ by_memory → e ≡ fault.Memory
+for_memory fault.DiskFailed by = absurd cc
+for_memory fault.Memory by = refl
+
+within_flies : {tells : Type 0} {world : World} {left : List Event} {sent : List Message}
+    {closings : List Closing} {losses : List Loss} (e : StepFault)
+    (stops : Stops tells world left (stop_of e) sent closings losses) → IsWithin stops → (now : ℕ → List ℕ)
+    (next : Chain) → (tells → AllGrow world.files now) → IsUnderWay tells now world left next
+    → (e ≡ fault.Memory → next ≡ world.chain) → FliesAt stops now next
+within_flies e (disk_failed by nodes silent closed lost) within now next grows way still =
+    (now, λ told. (grows told, all_grow_none now), way)
+within_flies e (no_memory by nodes silent closed lost) within now next grows way still = still (for_memory e by)
+within_flies e (untold by nodes silent closed lost) within now next grows way still = still (for_memory e by)
+within_flies e (unsent done rest outs failed after front back m lost last next' whole turn cut node delivers by all')
+    within now next grows way still = absurd within
+
 -- a turn failed
 pub stopped_turn : {G : Type 0} (stands : G → Chain → Type 0) (is_live : G → Type 0)
     (passed leaves : Chain → Chain → Type 0) (link_tells tells : Type 0) (disk_faults : G → ℕ) (first : World)
@@ -240,7 +267,7 @@ pub stopped_turn : {G : Type 0} (stands : G → Chain → Type 0) (is_live : G �
     → stop ≡ stop_of e → later.story ≡ now.story → later.faults.link ≡ now.faults.link
     → Stopped link_tells tells leaves first all' stop before later
 stopped_turn stands is_live passed leaves link_tells tells disk_faults first all' before now later s turned stop
-    e left p disk_is t grows is same_story same_link = record {
+    e left p disk_is t grows is same_story same_link = rw is (record {
       done = p.done;
       left = p.left;
       whole = p.whole;
@@ -252,7 +279,9 @@ stopped_turn stands is_live passed leaves link_tells tells disk_faults first all
       sent = [];
       closed = [];
       lost = t.losses;
-      stops = rw is t.stops;
+      stops = t.stops;
+      grown = λ told. rw (within_files t.stops t.within)
+          (all_grow_more p.world.files now.files later.files (p.grown told) (grows told));
       story = λ told. rw (same_story, append-nil p.messages, append-nil p.closings) (p.story told);
       rose = all_rose_more before.faults now.faults later.faults p.losses t.losses p.rose
           (record {
@@ -261,13 +290,10 @@ stopped_turn stands is_live passed leaves link_tells tells disk_faults first all
             disk = rw disk_is t.disk_rose;
           });
       flight = t.next;
-      is_flight = (
-        later.files,
-        λ told. all_grow_more p.world.files now.files later.files (p.grown told) (grows told),
-        t.under_way,
-      );
+      is_flight = within_flies e t.stops t.within later.files t.next
+          (λ told. all_grow_more p.world.files now.files later.files (p.grown told) (grows told)) t.under_way t.still;
       crash = left p.world.chain t.next t.crash;
-    }
+    })
 
 -- an answer to the node was not sent
 pub stopped_sending : {G : Type 0} (stands : G → Chain → Type 0) (ledgers leaves : Chain → Chain → Type 0)
@@ -302,6 +328,7 @@ stopped_sending stands ledgers leaves link_tells tells disk_faults first all' be
       lost = t.losses ++ (d.losses ++ d.last);
       stops = unsent t.done t.rest outs t.losses t.next d.front d.more d.m d.losses d.last d.next t.whole
           t.turn d.whole d.node d.delivers d.lost refl;
+      grown = t.told;
       story = λ told. goes_more before.story now.story story [] [] p.messages d.sent p.closings d.closings
           (p.story told) (d.story told);
       rose = all_rose_more before.faults now.faults
@@ -317,6 +344,6 @@ stopped_sending stands ledgers leaves link_tells tells disk_faults first all' be
           d.rose (rw (archive_more d.losses d.last, alone.0, last.0) refl)
           (rw (disk_more d.losses d.last, alone.1, last.1) refl) refl (ap disk_faults d.ledger));
       flight = t.next.chain;
-      is_flight = flies tells p.world p.left t.rest t.done outs t.losses t.next t.whole t.turn;
+      is_flight = refl;
       crash = crash;
     }

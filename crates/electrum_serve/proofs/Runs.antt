@@ -90,7 +90,7 @@ pub told_stopped : {G : Type 0} (stands : G → Chain → Type 0) (link_tells te
     → StoppedIn link_tells tells leaves g.world (taken_one node a) stop heard now
     → (traffic : Traffic) × (link_tells
     → GoesOn before.story now.story traffic.arrivals traffic.messages traffic.closings)
-    × IsHalted tells first node leaves (record {
+    × IsHalted tells first node leaves now.files (record {
       turns = turns;
       calls_before = dialled;
       calls_after = again;
@@ -129,6 +129,7 @@ told_stopped stands link_tells tells leaves first node count turns a s before mi
           closings_are = refl;
           losses_are = refl;
         };
+        grown = f.grown;
         counted = record {
           calls = rw (length-append g.arrivals (a ∷ []), add-zero)
               (rose_more dialled called again (length g.arrivals) 1 g.calls one);
@@ -401,7 +402,7 @@ pub told_halt : (link_tells tells : Type 0) (first : World) (node : Bool) (leave
     (turns dialled called : ℕ) (before now : Seen) (halt : Halt)
     → ((traffic : Traffic) × (link_tells
     → GoesOn before.story now.story traffic.arrivals traffic.messages traffic.closings)
-    × IsHalted tells first node leaves (record {
+    × IsHalted tells first node leaves now.files (record {
       turns = turns;
       calls_before = dialled;
       calls_after = called;

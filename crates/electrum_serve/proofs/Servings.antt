@@ -102,11 +102,12 @@ module _ (c : Counts) (of_before of_after : Faults) (rises : (losses : List Loss
     crash = gives r.world.chain r.world.chain r.crash;
   }
 
-  halt_told : (tells : Type 0) (first : World) (node : Bool) (t : Traffic) (stop : Stop)
-      → IsHalted tells first node P c t stop → IsHalted tells first node Q told t stop
-  halt_told tells first node t stop h = record {
+  halt_told : (tells : Type 0) (first : World) (node : Bool) (files : ℕ → List ℕ) (t : Traffic) (stop : Stop)
+      → IsHalted tells first node P files c t stop → IsHalted tells first node Q files told t stop
+  halt_told tells first node files t stop h = record {
     losses = h.losses;
     halts = h.halts;
+    grown = h.grown;
     counted = counted_told t h.losses [] h.counted;
     last = h.last;
     flight = h.flight;
@@ -120,11 +121,11 @@ module _ (c : Counts) (of_before of_after : Faults) (rises : (losses : List Loss
   ends_told tells first node files t status.Usage r = r
   ends_told tells first node files t status.BadIndex r = r
   ends_told tells first node files t status.ArchiveFailed r = r
-  ends_told tells first node files t status.DiskFailed r = halt_told tells first node t _ r
+  ends_told tells first node files t status.DiskFailed r = halt_told tells first node files t _ r
   ends_told tells first node files t status.LinkFailed (inl r) =
       inl (run_told tells first node files t _ r.0, r.1)
-  ends_told tells first node files t status.LinkFailed (inr r) = inr (halt_told tells first node t _ r)
-  ends_told tells first node files t status.OutOfMemory r = halt_told tells first node t _ r
+  ends_told tells first node files t status.LinkFailed (inr r) = inr (halt_told tells first node files t _ r)
+  ends_told tells first node files t status.OutOfMemory r = halt_told tells first node files t _ r
   ends_told tells first node files t status.TurnsSpent r = (run_told tells first node files t _ r.0, r.1, r.2)
   ends_told tells first node files t status.OtherChain r = r
   ends_told tells first node files t status.BadChain r = r
@@ -277,18 +278,18 @@ unopened_ends was flight leaves turns calls of_link of_archive low high s good i
 -- clients were served without a node
 pub served_once : (tells : Type 0) (magic : List ℕ) (c : Counts) (before after : ℕ → List ℕ)
     (t : Traffic) (s : Status)
-    → (IsUnserved s → ⊥) → IsServedOnce tells magic c before after t s
+    → (IsUnserved s → ⊥) → s ≢ status.DiskFailed → IsServedOnce tells magic c before after t s
     → OnceEnds tells magic c before after t s
-served_once tells magic c before after t status.Ended none served = served
-served_once tells magic c before after t status.Usage none served = absurd (none tt)
-served_once tells magic c before after t status.BadIndex none served = absurd (none tt)
-served_once tells magic c before after t status.ArchiveFailed none served = absurd (none tt)
-served_once tells magic c before after t status.DiskFailed none served = served
-served_once tells magic c before after t status.LinkFailed none served = served
-served_once tells magic c before after t status.OutOfMemory none served = inr served
-served_once tells magic c before after t status.TurnsSpent none served = served
-served_once tells magic c before after t status.OtherChain none served = absurd (none tt)
-served_once tells magic c before after t status.BadChain none served = absurd (none tt)
+served_once tells magic c before after t status.Ended none safe served = served
+served_once tells magic c before after t status.Usage none safe served = absurd (none tt)
+served_once tells magic c before after t status.BadIndex none safe served = absurd (none tt)
+served_once tells magic c before after t status.ArchiveFailed none safe served = absurd (none tt)
+served_once tells magic c before after t status.DiskFailed none safe served = absurd (safe refl)
+served_once tells magic c before after t status.LinkFailed none safe served = served
+served_once tells magic c before after t status.OutOfMemory none safe served = inr served
+served_once tells magic c before after t status.TurnsSpent none safe served = served
+served_once tells magic c before after t status.OtherChain none safe served = absurd (none tt)
+served_once tells magic c before after t status.BadChain none safe served = absurd (none tt)
 
 -- the block files can't be read
 pub unread_ends : {T : Type 0} (tells : Type 0) (magic : List ℕ) (turns calls of_link low high of_disk : ℕ)

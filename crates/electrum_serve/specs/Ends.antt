@@ -120,8 +120,6 @@ OnceEnds tells magic c before after t status.LinkFailed =
     IsServedOnce tells magic c before after t status.LinkFailed
 OnceEnds tells magic c before after t status.TurnsSpent =
     IsServedOnce tells magic c before after t status.TurnsSpent
-OnceEnds tells magic c before after t status.DiskFailed =
-    IsServedOnce tells magic c before after t status.DiskFailed
 -- a call of the block files failed before the first arrival
 OnceEnds tells magic c before after t status.ArchiveFailed = IsSilent c t (archive ∷ [])
 -- out of memory before the first arrival, or in the run

@@ -6,8 +6,8 @@ use Rattle.el_outside.specs.Files.{AllGrow}
 use Rattle.el_outside.specs.Story.{ArrivalWithBytes, opened, brought, closed, quiet, ended, Message, Closing}
 use Rattle.el_chain.specs.Chains.{Chain}
 use Rattle.el_model.specs.World.{World, without_node}
-use Rattle.el_model.specs.Run.{Run, Halts, Stop, by_disk, by_link, by_memory, Loss, link, link_losses, archive_losses, disk_losses}
-use Rattle.electrum_serve.specs.Crash.{acked, MayBeInFlight}
+use Rattle.el_model.specs.Run.{Run, Halts, Stop, by_disk, by_link, by_memory, Loss, link, link_losses, archive_losses, disk_losses, files_left}
+use Rattle.el_model.specs.Flights.{acked, Flies}
 use Rattle.electrum_serve.specs.declared.status.Status.{Status}
 use Rattle.electrum_serve.specs.declared.status.Status.TheVariants as status
 
@@ -111,15 +111,17 @@ pub record IsRun (tells : Type 0) (first : World) (node : Bool) (leaves : Chain 
   pub counted : IsCounted c t losses failed
   pub crash : leaves world.chain world.chain
 
--- The traffic is that of a run that stopped so in its last arrival.
+-- The traffic is that of a run that stopped so in its last arrival. `files` are the block files as they are in
+-- the end: they have all that each turn had of them.
 pub record IsHalted (tells : Type 0) (first : World) (node : Bool) (leaves : Chain → Chain → Type 0)
-    (c : Counts) (t : Traffic) (stop : Stop) : Type 0 where
+    (files : ℕ → List ℕ) (c : Counts) (t : Traffic) (stop : Stop) : Type 0 where
   pub losses : List Loss
   pub halts : Halts tells first stop (taken node t.arrivals) t.messages t.closings losses
+  pub grown : tells → AllGrow (files_left halts.stops) files
   pub counted : IsCounted c t losses []
   pub last : NoneEndsBefore t.arrivals
   pub flight : Chain
-  pub is_flight : MayBeInFlight halts.stops flight
+  pub is_flight : Flies halts.stops files flight
   pub crash : leaves (acked halts.stops) flight
 
 -- How a run ends.
@@ -131,14 +133,16 @@ RunEnds tells first node leaves files c t status.Ended =
 -- the last call of `next` failed, or an answer to the node couldn't be sent
 RunEnds tells first node leaves files c t status.LinkFailed =
     (IsRun tells first node leaves files c t next_failed × NoneEnds t.arrivals)
-    ⊎ IsHalted tells first node leaves c t by_link
+    ⊎ IsHalted tells first node leaves files c t by_link
 -- all calls of `next` were made, and none ended the run
 RunEnds tells first node leaves files c t status.TurnsSpent =
     IsRun tells first node leaves files c t [] × NoneEnds t.arrivals × (length t.arrivals ≡ c.turns)
 -- a call of the index's device failed in a turn of the node
-RunEnds tells first node leaves files c t status.DiskFailed = IsHalted tells first node leaves c t by_disk
+RunEnds tells first node leaves files c t status.DiskFailed =
+    IsHalted tells first node leaves files c t by_disk
 -- no memory was found for bytes of the node, in a turn of it, or for an answer to it
-RunEnds tells first node leaves files c t status.OutOfMemory = IsHalted tells first node leaves c t by_memory
+RunEnds tells first node leaves files c t status.OutOfMemory =
+    IsHalted tells first node leaves files c t by_memory
 -- it ends in no other way
 RunEnds tells first node leaves files c t other = ⊥
 

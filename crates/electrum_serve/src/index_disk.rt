@@ -3,7 +3,7 @@ ghost use Rattle.std.specs.Prelude.{◌≡◌, ◌≢◌, ◌⊎◌, ℕ, IfOk, 
 ghost use Rattle.el_chain.specs.Chains.{Chain};
 ghost use Rattle.el_outside.specs.Counts.{RoseBy};
 ghost use Rattle.el_logstore.specs.Images.{IsBadIndex};
-ghost use Rattle.electrum_serve.specs.Crash.{LeavesOneOf, IsIndexDisk};
+ghost use Rattle.electrum_serve.specs.IndexDisks.{LeavesOneOf, LeavesAsBefore, IsIndexDisk};
 ghost use Rattle.electrum_serve.specs.within.Unread.{open_status};
 
 use crate::status::Status;
@@ -51,6 +51,9 @@ pub fn open_index<D: Disk, N: NetworkMagic, L: Counts>(
         → (wanted : ℕ) × (found : ℕ) × IsBadIndex N.magic (D.seen disk) wanted found) }
     ensures is_bad { D.tells → (wanted found : ℕ) → IsBadIndex N.magic (D.seen disk) wanted found
         → IfOk result (λ i. ⊥) }
+    // Then it is as it was, for this network and every other.
+    ensures kept { D.tells → IfErr result (λ e. e.0 ≡ Status.BadIndex
+        → LeavesAsBefore ⟦<D as Disk>⟧ disk e.1) }
     ensures uncounted { IfOk result (λ i. ⟦<Index<LogStore<D, N>> as el_model::Ledger>⟧.faults i
         ≡ D.faults disk) }
     ensures counted { IfErr result (λ e. e.0 ≡ Status.DiskFailed

@@ -5,8 +5,9 @@ ghost use Rattle.el_chain.specs.Chains.{Chain};
 ghost use Rattle.el_journal.specs.declared.mark.TheConstants.{JOURNAL};
 ghost use Rattle.el_outside.specs.Disk.{Image};
 ghost use Rattle.el_words.specs.Commands.{IsServe};
-ghost use Rattle.electrum_serve.specs.Crash.{ImageMeans, LeavesOneOf};
-ghost use Rattle.electrum_serve.specs.Lives.{Life, IsCall, AreLives, GoOn};
+ghost use Rattle.electrum_serve.specs.Calls.{Call};
+ghost use Rattle.electrum_serve.specs.IndexDisks.{ImageMeans, LeavesOneOf, IsCall};
+ghost use Rattle.electrum_serve.specs.Lives.{AreLives, GoOn};
 
 use el_outside::{Archive, Disk, Link};
 
@@ -15,7 +16,7 @@ use el_outside::{Archive, Disk, Link};
 /// that then was in flight. The first life finds empty files, which stand for no blocks.
 pub fn lives_go_on<D: Disk, A: Archive, K: Link>()
     ensures empty { (magic : List ℕ) (image : Image) → image JOURNAL ≡ [] → ImageMeans magic image [] }
-    ensures go_on { (magic : List ℕ) (disk : D) (was flight : Chain) (lives : List (Life D A K)) → D.tells
+    ensures go_on { (magic : List ℕ) (disk : D) (was flight : Chain) (lives : List (Call D A K)) → D.tells
         → LeavesOneOf ⟦<D as Disk>⟧ magic disk was flight → AreLives ⟦<D as Disk>⟧ disk lives
         → AllByRecursion (λ l. IsServe l.words magic) lives
         → AllByRecursion (IsCall ⟦<D as Disk>⟧ ⟦<A as Archive>⟧ ⟦<K as Link>⟧) lives

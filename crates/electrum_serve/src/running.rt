@@ -4,14 +4,15 @@ ghost use Rattle.el_outside.specs.Files.{AllGrow};
 ghost use Rattle.el_outside.specs.Story.{GoesOn, with_bytes};
 ghost use Rattle.el_chain.specs.Chains.{Chain};
 ghost use Rattle.el_model.specs.World.{World, Event, events, after_hearing};
+ghost use Rattle.el_model.specs.Keeping.{LeavesEither};
 ghost use Rattle.el_model.specs.Run.{OneTurn};
 ghost use Rattle.el_core.specs.State.{State, Stands, IsIdle, work};
 ghost use Rattle.el_core.specs.Arrivals.{with_all_bytes, IsAfterArrival};
 ghost use Rattle.el_core.specs.Turn as turn;
 ghost use Rattle.el_core.specs.Turn.{messages_of, closing_of, outs_of};
-ghost use Rattle.electrum_serve.specs.Crash.{LeavesEither};
+ghost use Rattle.electrum_serve.specs.Calls.{counts_of, devices};
 ghost use Rattle.electrum_serve.specs.Ends.{IsUnserved};
-ghost use Rattle.electrum_serve.specs.Runs.{Traffic, counts, faults, RunEnds, IsCaused, is_end};
+ghost use Rattle.electrum_serve.specs.Runs.{Traffic, RunEnds, IsCaused, is_end};
 ghost use Rattle.electrum_serve.specs.within.Sending.{Sent, Unsent, CanSend, SentAll, StoppedSending, closing_left, first_some, Closes, LossOf, RisesFor, stop_of, status_of};
 ghost use Rattle.electrum_serve.specs.within.Progress.{CanDeliver, Delivered, ClientsAreOpen, Finished, Stopped, StoppedIn, seen, taken_one};
 
@@ -338,12 +339,12 @@ pub fn run<G: Ledger, A: Archive, K: Link, L: Counts + Send>(
         traffic.arrivals traffic.messages traffic.closings)
         × RunEnds A.tells first node
         (LeavesEither G.tells_crash G.means G.moment G.left_since server.new.ledger)
-        (A.bytes archive.new) (counts turns (K.calls link.old) (K.calls link.new)
-        (faults (K.faults link.old) (A.faults archive.old) (G.faults server.old.ledger))
-        (faults (K.faults link.new) (A.faults archive.new) (G.faults server.new.ledger))) traffic result }
-    ensures causes { IsCaused (counts turns (K.calls link.old) (K.calls link.new)
-        (faults (K.faults link.old) (A.faults archive.old) (G.faults server.old.ledger))
-        (faults (K.faults link.new) (A.faults archive.new) (G.faults server.new.ledger))) result }
+        (A.bytes archive.new) (counts_of G.faults ⟦<A as Archive>⟧ ⟦<K as Link>⟧ turns
+        (devices server.old.ledger archive.old link.old)
+        (devices server.new.ledger archive.new link.new)) traffic result }
+    ensures causes { IsCaused (counts_of G.faults ⟦<A as Archive>⟧ ⟦<K as Link>⟧ turns
+        (devices server.old.ledger archive.old link.old)
+        (devices server.new.ledger archive.new link.new)) result }
     ensures serves { IsUnserved result → ⊥ }
     ensures keeps { A.tells → AllGrow (A.bytes archive.old) (A.bytes archive.new) }
 {

@@ -8,11 +8,12 @@ ghost use Rattle.el_chain.specs.Chains.{Chain};
 ghost use Rattle.el_logstore.specs.Images.{IsBadIndex};
 ghost use Rattle.el_words.specs.Words.{network_magic, texts};
 ghost use Rattle.el_words.specs.Commands.{IsNoCommand, IsServe};
-ghost use Rattle.electrum_serve.specs.Crash.{LeavesOneOf, IsIndexDisk};
+ghost use Rattle.electrum_serve.specs.IndexDisks.{LeavesOneOf, LeavesAsBefore, IsIndexDisk, IsCall};
+ghost use Rattle.electrum_serve.specs.Calls.{call, counts_of, devices};
 ghost use Rattle.electrum_serve.specs.File.{GivesNoChain};
 ghost use Rattle.electrum_serve.specs.Opened.{IsRead, all_added};
-ghost use Rattle.electrum_serve.specs.Runs.{Traffic, IsCaused, counts, faults};
-ghost use Rattle.electrum_serve.specs.Ends.{Ends, OnceEnds, IndexEnds, IsUnserved, IsUnopened};
+ghost use Rattle.electrum_serve.specs.Runs.{Traffic, IsCaused};
+ghost use Rattle.electrum_serve.specs.Ends.{OnceEnds, IndexEnds, IsUnserved, IsUnopened};
 ghost use Rattle.electrum_serve.specs.within.Unread.{unread_status};
 
 use crate::file::{FileFault, read_chain};
@@ -82,17 +83,19 @@ fn serve_disk<D: Disk, N: NetworkMagic, A: Archive, K: Link, L: Counts + Send>(
         × (K.tells → GoesOn (K.story link.old) (K.story link.new)
         traffic.arrivals traffic.messages traffic.closings)
         × IndexEnds A.tells A.bytes A.file_count N.magic was flight chain
-        (LeavesOneOf ⟦<D as Disk>⟧ N.magic result.1) (counts turns (K.calls link.old) (K.calls link.new)
-        (faults (K.faults link.old) (A.faults archive.old) (D.faults disk))
-        (faults (K.faults link.new) (A.faults archive.new) (D.faults result.1)))
+        (LeavesOneOf ⟦<D as Disk>⟧ N.magic result.1) (counts_of D.faults ⟦<A as Archive>⟧ ⟦<K as Link>⟧ turns
+        (devices disk archive.old link.old) (devices result.1 archive.new link.new))
         archive.old archive.new traffic result.0 }
     ensures bad { D.tells → result.0 ≡ Status.BadIndex
         → (wanted : ℕ) × (found : ℕ) × IsBadIndex N.magic (D.seen disk) wanted found }
     ensures is_bad { D.tells → (wanted found : ℕ) → IsBadIndex N.magic (D.seen disk) wanted found
         → IsUnopened result.0 }
-    ensures causes { IsCaused (counts turns (K.calls link.old) (K.calls link.new)
-        (faults (K.faults link.old) (A.faults archive.old) (D.faults disk))
-        (faults (K.faults link.new) (A.faults archive.new) (D.faults result.1))) result.0 }
+    // Then the disk is as it was, for this network and every other, and nothing was counted.
+    ensures kept { D.tells → result.0 ≡ Status.BadIndex → LeavesAsBefore ⟦<D as Disk>⟧ disk result.1 }
+    ensures kept_counts { result.0 ≡ Status.BadIndex → D.faults result.1 ≡ D.faults disk }
+    ensures kept_files { result.0 ≡ Status.BadIndex → archive.new ≡ archive.old }
+    ensures causes { IsCaused (counts_of D.faults ⟦<A as Archive>⟧ ⟦<K as Link>⟧ turns
+        (devices disk archive.old link.old) (devices result.1 archive.new link.new)) result.0 }
     ensures read { result.0 ≢ Status.Usage }
     ensures unserved { IsUnserved result.0 → link.new ≡ link.old }
     ensures keeps { A.tells → AllGrow (A.bytes archive.old) (A.bytes archive.new) }
@@ -135,17 +138,19 @@ fn serve_network<D: Disk, A: Archive, K: Link, L: Counts + Send>(
         traffic.arrivals traffic.messages traffic.closings)
         × IndexEnds A.tells A.bytes A.file_count (network_magic network) was flight chain
         (LeavesOneOf ⟦<D as Disk>⟧ (network_magic network) result.1)
-        (counts turns (K.calls link.old) (K.calls link.new)
-        (faults (K.faults link.old) (A.faults archive.old) (D.faults disk))
-        (faults (K.faults link.new) (A.faults archive.new) (D.faults result.1)))
+        (counts_of D.faults ⟦<A as Archive>⟧ ⟦<K as Link>⟧ turns
+        (devices disk archive.old link.old) (devices result.1 archive.new link.new))
         archive.old archive.new traffic result.0 }
     ensures bad { D.tells → result.0 ≡ Status.BadIndex
         → (wanted : ℕ) × (found : ℕ) × IsBadIndex (network_magic network) (D.seen disk) wanted found }
     ensures is_bad { D.tells → (wanted found : ℕ)
         → IsBadIndex (network_magic network) (D.seen disk) wanted found → IsUnopened result.0 }
-    ensures causes { IsCaused (counts turns (K.calls link.old) (K.calls link.new)
-        (faults (K.faults link.old) (A.faults archive.old) (D.faults disk))
-        (faults (K.faults link.new) (A.faults archive.new) (D.faults result.1))) result.0 }
+    // Then the disk is as it was, for this network and every other, and nothing was counted.
+    ensures kept { D.tells → result.0 ≡ Status.BadIndex → LeavesAsBefore ⟦<D as Disk>⟧ disk result.1 }
+    ensures kept_counts { result.0 ≡ Status.BadIndex → D.faults result.1 ≡ D.faults disk }
+    ensures kept_files { result.0 ≡ Status.BadIndex → archive.new ≡ archive.old }
+    ensures causes { IsCaused (counts_of D.faults ⟦<A as Archive>⟧ ⟦<K as Link>⟧ turns
+        (devices disk archive.old link.old) (devices result.1 archive.new link.new)) result.0 }
     ensures read { result.0 ≢ Status.Usage }
     ensures unserved { IsUnserved result.0 → link.new ≡ link.old }
     ensures keeps { A.tells → AllGrow (A.bytes archive.old) (A.bytes archive.new) }
@@ -178,13 +183,11 @@ fn serve_file<A: Archive, K: Link, L: Counts + Send>(
     ensures ends { (disk : ℕ) → (traffic : Traffic)
         × (K.tells → GoesOn (K.story link.old) (K.story link.new)
         traffic.arrivals traffic.messages traffic.closings)
-        × OnceEnds A.tells magic (counts turns (K.calls link.old) (K.calls link.new)
-        (faults (K.faults link.old) (A.faults archive.old) disk)
-        (faults (K.faults link.new) (A.faults archive.new) disk))
+        × OnceEnds A.tells magic (counts_of (λ d. d) ⟦<A as Archive>⟧ ⟦<K as Link>⟧ turns
+        (devices disk archive.old link.old) (devices disk archive.new link.new))
         (A.bytes archive.old) (A.bytes archive.new) traffic result }
-    ensures causes { (disk : ℕ) → IsCaused (counts turns (K.calls link.old) (K.calls link.new)
-        (faults (K.faults link.old) (A.faults archive.old) disk)
-        (faults (K.faults link.new) (A.faults archive.new) disk)) result }
+    ensures causes { (disk : ℕ) → IsCaused (counts_of (λ d. d) ⟦<A as Archive>⟧ ⟦<K as Link>⟧ turns
+        (devices disk archive.old link.old) (devices disk archive.new link.new)) result }
     ensures unserved { IsUnserved result → link.new ≡ link.old }
     ensures keeps { A.tells → AllGrow (A.bytes archive.old) (A.bytes archive.new) }
 {
@@ -204,7 +207,7 @@ fn serve_file<A: Archive, K: Link, L: Counts + Send>(
 /// headers of all block files, and answers the node and the clients of the link, from the chain to which the
 /// node leads it. With those of `once` it reads file 0, and answers the link's clients from its chain,
 /// without the disk. It ends as the link does, or fails, and makes at most `turns` calls of `next`. The disk
-/// comes back as it stands.
+/// comes back as it stands; where it is no index of the network, it is as it was.
 pub fn serve<D: Disk, A: Archive, K: Link>(
     alloc: Global,
     words: &[String],
@@ -215,27 +218,20 @@ pub fn serve<D: Disk, A: Archive, K: Link>(
 ) -> (Status, D)
     // What was sent and closed is a run from what the disk and the block files gave, each status has its
     // cause, and what a crash may leave in the end is the chain that is acknowledged or the one in flight.
-    ensures ends { (was flight chain : Chain)
-        → ((magic : List ℕ) → IsServe (texts words.now) magic
-        → IsIndexDisk ⟦<D as Disk>⟧ magic disk was flight chain)
-        → (traffic : Traffic)
-        × (K.tells → GoesOn (K.story link.old) (K.story link.new)
-        traffic.arrivals traffic.messages traffic.closings)
-        × Ends A.tells A.bytes A.file_count (texts words.now) was flight chain
-        (λ magic acked flight. LeavesOneOf ⟦<D as Disk>⟧ magic result.1 acked flight)
-        (counts turns (K.calls link.old) (K.calls link.new)
-        (faults (K.faults link.old) (A.faults archive.old) (D.faults disk))
-        (faults (K.faults link.new) (A.faults archive.new) (D.faults result.1)))
-        archive.old archive.new traffic result.0 }
+    ensures ends { IsCall ⟦<D as Disk>⟧ ⟦<A as Archive>⟧ ⟦<K as Link>⟧ (call (texts words.now) turns
+        (devices disk archive.old link.old) (devices result.1 archive.new link.new) result.0) }
     // The index is bad exactly where the disk stands for no tables of the network.
     ensures bad { D.tells → result.0 ≡ Status.BadIndex → (magic : List ℕ) → IsServe (texts words.now) magic
         → (wanted : ℕ) × (found : ℕ) × IsBadIndex magic (D.seen disk) wanted found }
     ensures is_bad { D.tells → (magic : List ℕ) (wanted found : ℕ) → IsServe (texts words.now) magic
         → IsBadIndex magic (D.seen disk) wanted found → IsUnopened result.0 }
+    // Then the disk is as it was, for this network and every other, and nothing was counted.
+    ensures kept { D.tells → result.0 ≡ Status.BadIndex → LeavesAsBefore ⟦<D as Disk>⟧ disk result.1 }
+    ensures kept_counts { result.0 ≡ Status.BadIndex → D.faults result.1 ≡ D.faults disk }
+    ensures kept_files { result.0 ≡ Status.BadIndex → archive.new ≡ archive.old }
     // Whatever the devices tell, each failure that is told was counted.
-    ensures causes { IsCaused (counts turns (K.calls link.old) (K.calls link.new)
-        (faults (K.faults link.old) (A.faults archive.old) (D.faults disk))
-        (faults (K.faults link.new) (A.faults archive.new) (D.faults result.1))) result.0 }
+    ensures causes { IsCaused (counts_of D.faults ⟦<A as Archive>⟧ ⟦<K as Link>⟧ turns
+        (devices disk archive.old link.old) (devices result.1 archive.new link.new)) result.0 }
     // Other words are refused, and then no device is called.
     ensures refused { IsNoCommand (texts words.now) → result.0 ≡ Status.Usage }
     ensures lawful { result.0 ≡ Status.Usage → IsNoCommand (texts words.now) }

@@ -3,9 +3,10 @@ ghost use Rattle.std.specs.Prelude.{◌≡◌, [], ℕ, List};
 ghost use Rattle.el_outside.specs.Files.{AllGrow};
 ghost use Rattle.el_outside.specs.Story.{GoesOn};
 ghost use Rattle.el_chain.specs.Chains.{Chain};
+ghost use Rattle.el_model.specs.Keeping.{LeavesEither};
 ghost use Rattle.el_model.specs.World.{quiet_world};
-ghost use Rattle.electrum_serve.specs.Crash.{LeavesEither};
-ghost use Rattle.electrum_serve.specs.Runs.{Traffic, counts, faults, RunEnds, IsCaused};
+ghost use Rattle.electrum_serve.specs.Calls.{counts_of, devices};
+ghost use Rattle.electrum_serve.specs.Runs.{Traffic, RunEnds, IsCaused};
 ghost use Rattle.electrum_serve.specs.Ends.{ServeEnds, IsUnserved, IsOpenedEnd};
 ghost use Rattle.electrum_serve.specs.within.Unread.{start_status};
 
@@ -51,12 +52,10 @@ pub fn serve_from<G: Ledger, A: Archive, K: Link, L: Counts + Send>(
         traffic.arrivals traffic.messages traffic.closings)
         × RunEnds A.tells (quiet_world chain magic tree (A.bytes archive.old)) node
         (LeavesEither G.tells_crash G.means G.moment G.left_since result.1)
-        (A.bytes archive.new) (counts turns (K.calls link.old) (K.calls link.new)
-        (faults (K.faults link.old) (A.faults archive.old) (G.faults ledger))
-        (faults (K.faults link.new) (A.faults archive.new) (G.faults result.1))) traffic result.0 }
-    ensures causes { IsCaused (counts turns (K.calls link.old) (K.calls link.new)
-        (faults (K.faults link.old) (A.faults archive.old) (G.faults ledger))
-        (faults (K.faults link.new) (A.faults archive.new) (G.faults result.1))) result.0 }
+        (A.bytes archive.new) (counts_of G.faults ⟦<A as Archive>⟧ ⟦<K as Link>⟧ turns
+        (devices ledger archive.old link.old) (devices result.1 archive.new link.new)) traffic result.0 }
+    ensures causes { IsCaused (counts_of G.faults ⟦<A as Archive>⟧ ⟦<K as Link>⟧ turns
+        (devices ledger archive.old link.old) (devices result.1 archive.new link.new)) result.0 }
     ensures serves { IsUnserved result.0 → ⊥ }
     ensures keeps { A.tells → AllGrow (A.bytes archive.old) (A.bytes archive.new) }
 {
@@ -81,13 +80,11 @@ pub fn serve_index<G: Ledger, A: Archive, K: Link, L: Counts + Send>(
         traffic.arrivals traffic.messages traffic.closings)
         × ServeEnds A.tells A.bytes A.file_count magic chain
         (LeavesEither G.tells_crash G.means G.moment G.left_since result.1)
-        (counts turns (K.calls link.old) (K.calls link.new)
-        (faults (K.faults link.old) (A.faults archive.old) (G.faults ledger))
-        (faults (K.faults link.new) (A.faults archive.new) (G.faults result.1)))
+        (counts_of G.faults ⟦<A as Archive>⟧ ⟦<K as Link>⟧ turns
+        (devices ledger archive.old link.old) (devices result.1 archive.new link.new))
         archive.old archive.new traffic result.0 }
-    ensures causes { IsCaused (counts turns (K.calls link.old) (K.calls link.new)
-        (faults (K.faults link.old) (A.faults archive.old) (G.faults ledger))
-        (faults (K.faults link.new) (A.faults archive.new) (G.faults result.1))) result.0 }
+    ensures causes { IsCaused (counts_of G.faults ⟦<A as Archive>⟧ ⟦<K as Link>⟧ turns
+        (devices ledger archive.old link.old) (devices result.1 archive.new link.new)) result.0 }
     ensures opened { IsOpenedEnd result.0 }
     ensures unserved { IsUnserved result.0 → link.new ≡ link.old }
     ensures keeps { A.tells → AllGrow (A.bytes archive.old) (A.bytes archive.new) }

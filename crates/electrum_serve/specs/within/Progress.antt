@@ -5,9 +5,9 @@ use Rattle.el_outside.specs.Files.{AllGrow}
 use Rattle.el_outside.specs.Story.{Story, ArrivalWithBytes, Message, Closing, GoesOn, is_open}
 use Rattle.el_chain.specs.Chains.{Chain}
 use Rattle.el_model.specs.World.{World, Event, is_client, without_node, Outs}
-use Rattle.el_model.specs.Run.{Stop, Loss, link_losses, Turns, Stops, StopsIn, Delivers, Run}
+use Rattle.el_model.specs.Run.{Stop, Loss, link_losses, Turns, Stops, files_at, StopsIn, files_left, Delivers, Run}
+use Rattle.el_model.specs.Flights.{acked, FliesAt, Flies}
 use Rattle.el_core.specs.State.{State, Stands}
-use Rattle.electrum_serve.specs.Crash.{IsInFlight, acked, MayBeInFlight}
 use Rattle.electrum_serve.specs.Runs.{Faults, faults, Rose, NoneEnds, taken}
 use Rattle.electrum_serve.specs.within.Sending.{AllOpen, CanSend}
 
@@ -105,10 +105,11 @@ pub record Stopped (link_tells tells : Type 0) (leaves : Chain → Chain → Typ
   pub closed : List Closing
   pub lost : List Loss
   pub stops : Stops tells world left stop sent closed lost
+  pub grown : tells → AllGrow (files_at stops) now.files
   pub story : link_tells → GoesOn before.story now.story [] (messages ++ sent) (closings ++ closed)
   pub rose : Rose before.faults now.faults (losses ++ lost)
   pub flight : Chain
-  pub is_flight : IsInFlight tells world left flight
+  pub is_flight : FliesAt stops now.files flight
   pub crash : leaves world.chain flight
 
 -- The run stops in this arrival.
@@ -118,10 +119,11 @@ pub record StoppedIn (link_tells tells : Type 0) (leaves : Chain → Chain → T
   pub closings : List Closing
   pub losses : List Loss
   pub stops : StopsIn tells world arrival stop messages closings losses
+  pub grown : tells → AllGrow (files_left stops) now.files
   pub story : link_tells → GoesOn before.story now.story [] messages closings
   pub rose : Rose before.faults now.faults losses
   pub flight : Chain
-  pub is_flight : MayBeInFlight stops flight
+  pub is_flight : Flies stops now.files flight
   pub crash : leaves (acked stops) flight
 
 -- an arrival as it is taken, with a node or without one

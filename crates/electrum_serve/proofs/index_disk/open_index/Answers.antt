@@ -1,13 +1,13 @@
 use Rattle.el_stands.proofs.StandingLemmas.{same_stand}
-use Rattle.electrum_serve.proofs.IndexDisks.{unopened_leaves, unread_leaves, not_bad, told_bad}
+use Rattle.electrum_serve.proofs.IndexDisks.{keeps_as, unread_leaves, not_bad, told_bad}
 use Rattle.electrum_serve.proofs.index_disk.open_index.Goals as goal
 
 pub returns-in-Err-clause-unopened : goal.returns-in-Err-clause-unopened
 returns-in-Err-clause-unopened g c = λ was flight chain is. (
   not_bad c.in-Err.fault _ c.status_of.ensures (c.in-Err.ensures.opens is.told is.reads.0 is.reads.1),
-  unopened_leaves g.D.Disk _ c.args.disk c.in-Err.disk was flight
+  keeps_as g.D.Disk c.args.disk c.in-Err.disk
       (λ t u image le left. g.met.D.Disk.earlier c.in-Err.disk t u image is.told le left)
-      (c.in-Err.ensures.crash is.told) is.left,
+      (c.in-Err.ensures.crash is.told) _ was flight is.left,
 )
 
 pub returns-in-Err-clause-bad : goal.returns-in-Err-clause-bad
@@ -35,3 +35,7 @@ returns-in-Err-over-clause-unopened g c = λ was flight chain is. (
             (rw c.into_disk.ensures.disk at now),
       )),
 )
+
+pub returns-in-Err-clause-kept : goal.returns-in-Err-clause-kept
+returns-in-Err-clause-kept g c = λ told bad. keeps_as g.D.Disk c.args.disk c.in-Err.disk
+    (λ t u image le left. g.met.D.Disk.earlier c.in-Err.disk t u image told le left) (c.in-Err.ensures.crash told)

@@ -1,6 +1,6 @@
 use Rattle.std.proofs.Common.{◌≡◌, ◌≤◌, ◌∙◌, ap, sym, length, arith, take_all}
 use Rattle.el_base.proofs.Lists.{all_more}
-use Rattle.el_core.proofs.Compared.{quiet_on}
+use Rattle.el_model.proofs.Quiets.{quiet_on}
 use Rattle.el_model.specs.Plans.{blocks_in}
 use Rattle.electrum_serve.specs.Opened.{nodes_of_chain}
 use Rattle.electrum_serve.proofs.Openings.{one_more, nodes_length}
@@ -31,3 +31,17 @@ returns-clause-of_chain g c = λ chain stood.
     let all' : length (nodes_of_chain chain) ≤ c.loop-h.h =
     (let t = c.loop-h-test.false in omega (arith, count)) in
     c.loop-h.invariant.so_far chain stood ∙ take_all c.loop-h.h (nodes_of_chain chain) all'
+
+pub returns-in_err-node-clause-quiet : goal.returns-in_err-node-clause-quiet
+returns-in_err-node-clause-quiet g c =
+    let d = g.G.Ledger in
+    quiet_on d.is_live d.height d.tip d.buckets d.stands d.tells_crash d.means d.moment d.left_since
+    c.args.ledger.now c.loop-h.ledger c.node_of.new.ledger
+    c.loop-h.invariant.quiet c.in_err-node.ensures.quiet
+
+pub returns-in_err-push-clause-quiet : goal.returns-in_err-push-clause-quiet
+returns-in_err-push-clause-quiet g c =
+    let d = g.G.Ledger in
+    quiet_on d.is_live d.height d.tip d.buckets d.stands d.tells_crash d.means d.moment d.left_since
+    c.args.ledger.now c.loop-h.ledger c.node_of.new.ledger
+    c.loop-h.invariant.quiet c.in_ok-node.ensures.quiet

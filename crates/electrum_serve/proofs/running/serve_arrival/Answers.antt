@@ -27,6 +27,6 @@ returns-in-Ok-clause-stopped g c = λ world stood grown are.
 pub returns-in-Err-clause-stopped : goal.returns-in-Err-clause-stopped
 returns-in-Err-clause-stopped g c = λ world stood grown are.
     rw c.in-Err.ensures.ledger (arrival_lost g.K.Link.tells g.A.Archive.tells _ c.args.arrival c.args.bytes.now
-    world _ c.in-Err.ensures.memory
+    world _ c.in-Err.ensures.memory grown
     (λ told left now. inl (g.met.G.Ledger.leaves_own c.args.server.now.ledger world.chain left told c.requires.live
     stood.chain now)))

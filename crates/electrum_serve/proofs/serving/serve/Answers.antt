@@ -65,3 +65,18 @@ pub returns-in-None-clause-is_bad : goal.returns-in-None-clause-is_bad
 returns-in-None-clause-is_bad g c = λ told magic wanted found is bad.
     let none : IsNoCommand (texts c.args.words.now) = search rules in
     none.not_serve is.folder is.index is.of_network is.client_port is.node_port is.is_serve
+
+pub returns-in-Some-once_of-clause-kept : goal.returns-in-Some-once_of-clause-kept
+returns-in-Some-once_of-clause-kept g c = λ told bad.
+    let e = c.serve_file.ensures.ends 0 in
+    absurd (rw bad at e.2)
+
+pub returns-in-Some-once_of-clause-kept_counts : goal.returns-in-Some-once_of-clause-kept_counts
+returns-in-Some-once_of-clause-kept_counts g c = λ bad.
+    let e = c.serve_file.ensures.ends 0 in
+    absurd (rw bad at e.2)
+
+pub returns-in-Some-once_of-clause-kept_files : goal.returns-in-Some-once_of-clause-kept_files
+returns-in-Some-once_of-clause-kept_files g c = λ bad.
+    let e = c.serve_file.ensures.ends 0 in
+    absurd (rw bad at e.2)

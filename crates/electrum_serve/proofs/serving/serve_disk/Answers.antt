@@ -1,6 +1,6 @@
 use Rattle.std.proofs.Common.{◌≡◌, ◌∙◌, inl, inr, ap}
 use Rattle.el_outside.proofs.Stories.{goes_none}
-use Rattle.electrum_serve.specs.Crash.{LeavesOneOf}
+use Rattle.electrum_serve.specs.IndexDisks.{LeavesOneOf}
 use Rattle.electrum_serve.specs.Runs.{no_traffic}
 use Rattle.electrum_serve.proofs.Servings.{serve_told, unopened_ends}
 use Rattle.electrum_serve.proofs.serving.serve_disk.Goals as goal
@@ -37,3 +37,15 @@ returns-clause-ends g c = λ was flight chain is.
           c.in-Err.status u.0 c.in-Err.ensures.status u.1
           c.in-Err.ensures.counted c.in-Err.ensures.others_uncounted),
     )
+
+pub returns-in-Ok-clause-kept : goal.returns-in-Ok-clause-kept
+returns-in-Ok-clause-kept g c = λ told bad. absurd (rw bad at c.serve_index-status.ensures.opened)
+
+pub returns-in-Ok-clause-kept_counts : goal.returns-in-Ok-clause-kept_counts
+returns-in-Ok-clause-kept_counts g c = λ bad. absurd (rw bad at c.serve_index-status.ensures.opened)
+
+pub returns-in-Ok-clause-kept_files : goal.returns-in-Ok-clause-kept_files
+returns-in-Ok-clause-kept_files g c = λ bad. absurd (rw bad at c.serve_index-status.ensures.opened)
+
+pub returns-clause-kept_counts : goal.returns-clause-kept_counts
+returns-clause-kept_counts g c = λ bad. c.in-Err.ensures.others_uncounted (λ failed. absurd cc)

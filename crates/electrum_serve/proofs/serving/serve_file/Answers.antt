@@ -1,4 +1,4 @@
-use Rattle.std.proofs.Common.{ap, refl, Err}
+use Rattle.std.proofs.Common.{ap, refl, Err, arith}
 use Rattle.el_outside.proofs.Stories.{goes_none, all_grow_more}
 use Rattle.el_model.specs.Plain.{IsPlain}
 use Rattle.electrum_serve.specs.Runs.{no_traffic, faults}
@@ -14,7 +14,8 @@ returns-in-Ok-clause-ends g c = λ disk.
     (c.serve_from-status.ensures.ends c.in-Ok.ledger plain) in (
       r.0,
       r.1,
-      served_once g.A.Archive.tells c.args.magic _ _ _ r.0 _ c.serve_from-status.ensures.serves (record {
+      served_once g.A.Archive.tells c.args.magic _ _ _ r.0 _ c.serve_from-status.ensures.serves
+          (λ failed. let rose = c.serve_from-status.ensures.causes.disk failed in omega arith) (record {
         now = g.A.Archive.bytes c.open_file.new.archive;
         nodes = o.0;
         chain = c.in-Ok.ledger;
