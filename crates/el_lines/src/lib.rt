@@ -18,8 +18,8 @@ pub use chain_end::{AT_SIZE, at_answer, at_answer_in, room_for_at};
 pub use laws::{cuts_do_not_matter, node_line_says_one_thing};
 pub use line_buffer::{LineBuffer, LineEvent};
 pub use node_answer::{
-    archive_refused, block_answer, deep_refused, genesis_refused, line_refused,
-    long_refused, move_refused, place_refused, unconnected_refused, unknown_refused,
+    archive_refused, block_answer, deep_refused, genesis_refused, line_refused, long_refused,
+    move_refused, place_refused, unconnected_refused, unknown_refused,
 };
 pub use node_line::{NodeLine, NodeLineFault, read_node_line};
 pub use number::number_of;

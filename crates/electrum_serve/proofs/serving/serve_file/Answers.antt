@@ -16,21 +16,21 @@ returns-in-Ok-clause-ends g c = λ disk.
       r.1,
       served_once g.A.Archive.tells c.args.magic _ _ _ r.0 _ c.serve_from-status.ensures.serves
           (λ failed. let rose = c.serve_from-status.ensures.causes.disk failed in omega arith) (record {
-        now = g.A.Archive.bytes c.open_file.new.archive;
-        nodes = o.0;
-        chain = c.in-Ok.ledger;
-        read = o.1;
-        grows = c.serve_from-status.ensures.keeps;
-        run = ends_told _ (faults (g.K.Link.faults c.args.link.now) (g.A.Archive.faults c.args.archive.now) disk)
-            (faults (g.K.Link.faults c.serve_from-status.new.link)
-            (g.A.Archive.faults c.serve_from-status.new.archive) disk)
-            (λ losses rose. record {
-              link = rose.link;
-              archive = rose.archive;
-              disk = stays_still disk _ rose.disk;
-            })
-            _ _ (λ acked flight left. tt) g.A.Archive.tells _ _ _ r.0 _ r.2;
-      }),
+            now = g.A.Archive.bytes c.open_file.new.archive;
+            nodes = o.0;
+            chain = c.in-Ok.ledger;
+            read = o.1;
+            grows = c.serve_from-status.ensures.keeps;
+            run = ends_told _ (faults (g.K.Link.faults c.args.link.now) (g.A.Archive.faults c.args.archive.now) disk)
+                (faults (g.K.Link.faults c.serve_from-status.new.link)
+                (g.A.Archive.faults c.serve_from-status.new.archive) disk)
+                (λ losses rose. record {
+                  link = rose.link;
+                  archive = rose.archive;
+                  disk = stays_still disk _ rose.disk;
+                })
+                _ _ (λ acked flight left. tt) g.A.Archive.tells _ _ _ r.0 _ r.2;
+          }),
     )
 
 pub returns-in-Ok-clause-keeps : goal.returns-in-Ok-clause-keeps
