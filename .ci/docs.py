@@ -1,0 +1,333 @@
+#!/usr/bin/env python3
+"""Checks that what README.md and docs/ say of the sources is so.
+
+usage: .ci/docs.py [PASSED FAILED]    checks; the last line is 'N passed, M failed', with the given counts added
+       .ci/docs.py write              writes the lists of docs/STATEMENT.md anew
+
+1. docs/STATEMENT.md lists the files that the claim needs: those of all definitions, traits, types and constants that are
+   reached from the clauses of the functions in CLAIM, by the `use` lines of each file.
+2. Each word of the tables of docs/RULES.md stands in the file that the table names for it.
+3. Each file and crate that a page names is there, and each name in a crate's README.md stands in its sources.
+4. Each crate has a README.md and a comment in crates.txt; no page and no line is too long.
+"""
+
+import os
+import re
+import sys
+
+TOP = os.path.dirname(os.path.dirname(os.path.abspath(__file__)))
+CRATES = os.path.join(TOP, "crates")
+
+# The functions whose clauses are the claim, and the headings of their lists in docs/STATEMENT.md. The second list has what
+# isn't in the first.
+CLAIM = [("lives", ("electrum_serve", "lives_go_on")), ("serve", ("electrum_serve", "serve"))]
+
+README_LINES = 150
+CRATE_README_LINES = 20
+COLUMNS = 120
+
+WORD = re.compile(r"[A-Za-z_][A-Za-z0-9_']*")
+# Where a definition, or a type, trait or constant of a program file, begins, with its name.
+DEFINITION = re.compile(r"^(?:  )?(?:abbrev pub|unfoldable pub|pub record|pub data) ([A-Za-z_][A-Za-z0-9_']*)")
+CONSTRUCTOR = re.compile(r"^  ([A-Za-z_][A-Za-z0-9_']*) :")
+ITEM = re.compile(r"^pub (?:struct|enum|trait|const|type|fn) ([A-Za-z_][A-Za-z0-9_]*)")
+IMPORT = re.compile(r"^\s*(?:pub |ghost )?use ([A-Za-z_0-9.:]+?)(?:\.|::)?(?:\{(.*)\})?(?: as (\w+))?;?$", re.M)
+
+
+def read(*path):
+    with open(os.path.join(TOP, *path), encoding="utf-8") as it:
+        return it.read()
+
+
+def crates():
+    """The crates in the order of crates.txt, each with its line."""
+    lines = [line for line in read("crates.txt").splitlines() if line.strip() and not line.startswith("#")]
+    return {line.split(":")[0].strip(): line for line in lines}
+
+
+class Source:
+    """A file of definitions or of the program: the parts that it has by name, and what its imports name."""
+
+    def __init__(self, path):
+        self.path = path
+        self.text = read("crates", path)
+        self.parts = {}
+        self.names = {}
+        begins = ITEM if path.endswith(".rt") else DEFINITION
+        part = None
+        for line in self.text.splitlines():
+            begun = begins.match(line)
+            if begun:
+                part = begun.group(1)
+                self.parts[part] = ""
+                self.names[part] = part
+            elif path.endswith(".rt") and part and re.match(r"^(\{|impl|#\[|fn |pub\(crate\)|mod )", line):
+                part = None
+            if part:
+                made = CONSTRUCTOR.match(line)
+                if made and path.endswith(".antt"):
+                    self.names.setdefault(made.group(1), part)
+                if not re.match(r"\s*(--|//)", line):
+                    self.parts[part] += line + "\n"
+
+    def about(self):
+        """The first sentence of the comment that the file begins with."""
+        lines = []
+        for line in self.text.splitlines():
+            if not line.startswith(("--", "//")):
+                break
+            lines.append(line[2:].strip())
+        return re.split(r"(?<=[.])\s", " ".join(lines))[0].rstrip(".")
+
+
+class Sources:
+    """All files, read as they are needed."""
+
+    def __init__(self):
+        self.sources = {}
+        self.homes = {}
+
+    def at(self, path):
+        if path not in self.sources:
+            there = os.path.isfile(os.path.join(CRATES, path))
+            self.sources[path] = Source(path) if there else None
+        return self.sources[path]
+
+    def home(self, crate, name):
+        """The program file of the crate that has the public item of that name."""
+        if crate not in self.homes:
+            self.homes[crate] = {}
+            folder = os.path.join(CRATES, crate, "src")
+            for file in sorted(os.listdir(folder)) if os.path.isdir(folder) else []:
+                if file.endswith(".rt"):
+                    path = f"{crate}/src/{file}"
+                    for item in self.at(path).parts:
+                        self.homes[crate].setdefault(item, path)
+        return self.homes[crate].get(name)
+
+    def imports(self, source):
+        """What each word that the file imports names: a file, and the part of it, or None for all of it."""
+        own = source.path.split("/")[0]
+        found = {}
+        for path, names, alias in IMPORT.findall(source.text):
+            words = re.split(r"\.|::", path)
+            names = [name.strip().split(" as ") for name in names.split(",")] if names else []
+            if words[0] == "Rattle" and "specs" in words[1:3]:
+                for word, target in self.of_definitions(words, names, alias):
+                    found[word] = target
+            elif words[0] == "crate" or words[0].startswith("el_"):
+                crate = own if words[0] == "crate" else words[0]
+                for name in names or [[words[-1]]]:
+                    if self.home(crate, name[0]):
+                        found[alias or name[-1]] = (self.home(crate, name[0]), name[0])
+        return found
+
+    def of_definitions(self, words, names, alias):
+        crate, rest = words[1], words[3:]
+        if rest[0] == "declared":
+            path, item = f"{crate}/src/{rest[1]}.rt", rest[2]
+            if item == "TheConstants":
+                return [(name[-1], (path, name[0])) for name in names]
+            return [(word, (path, item)) for word in ([alias] if alias else [name[-1] for name in names])]
+        while rest and not self.at(f"{crate}/specs/{'/'.join(rest)}.antt"):
+            rest = rest[:-1]
+        path = f"{crate}/specs/{'/'.join(rest)}.antt"
+        if not rest:
+            return []
+        return [(alias, (path, None))] if alias else [(name[-1], (path, name[0])) for name in names]
+
+    def named_in(self, source, text):
+        """The parts that a text of this file names."""
+        imports = self.imports(source)
+        for found in re.finditer(r"([A-Za-z_][A-Za-z0-9_']*)(?:\.([A-Za-z_][A-Za-z0-9_']*))?", text):
+            word, member = found.groups()
+            path, name = imports.get(word, (source.path if word in source.names else None, word))
+            if path and self.at(path):
+                name = member if name is None else name
+                part = self.at(path).names.get(name)
+                if part:
+                    yield path, part
+
+    def reached(self, crate, function):
+        """All parts that the clauses of a public function need, as pairs of file and name."""
+        path = self.home(crate, function)
+        if not path:
+            raise SystemExit(f"docs: {crate} has no public function {function}")
+        todo = list(self.named_in(self.at(path), self.at(path).parts[function]))
+        done = {(path, function)}
+        while todo:
+            part = todo.pop()
+            if part not in done:
+                done.add(part)
+                source = self.at(part[0])
+                todo += self.named_in(source, source.parts[part[1]])
+        return done - {(path, function)}
+
+
+def in_reading_order(sources, paths):
+    """The files, the crates in the order of crates.txt, and in a crate each after those that it imports."""
+    order, begun, placed = list(crates()), set(), []
+
+    def place(path):
+        if path in paths and path not in begun:
+            begun.add(path)
+            for target in sorted({target for target, _ in sources.imports(sources.at(path)).values()}):
+                if target.split("/")[0] == path.split("/")[0]:
+                    place(target)
+            placed.append(path)
+
+    for path in sorted(paths, key=lambda path: (order.index(path.split("/")[0]), path)):
+        place(path)
+    return placed
+
+
+def lists():
+    """The lists of docs/STATEMENT.md, by their headings, as lines."""
+    sources, known, made = Sources(), set(), {}
+    for heading, function in CLAIM:
+        reached = {part for part in sources.reached(*function) if part[0] not in known}
+        known |= {path for path, _ in reached}
+        made[heading] = list_of(sources, reached)
+    return made
+
+
+def list_of(sources, parts):
+    """The files of these parts: first those of definitions, then those of the program."""
+    definitions = in_reading_order(sources, {path for path, _ in parts if path.endswith(".antt")})
+    items = in_reading_order(sources, {path for path, _ in parts if path.endswith(".rt")})
+    count = sum(sources.at(path).parts[name].count("\n") for path, name in parts if path.endswith(".antt"))
+    lines = [f"{len(definitions)} files of definitions, of which about {round(count, -2)} lines are needed:", ""] if parts else ["Nothing."]
+    if definitions:
+        lines += ["| File below `crates/` | What it has |", "|---|---|"]
+        lines += [f"| `{path}` | {sources.at(path).about()} |" for path in definitions]
+    if items:
+        lines += ["", "The types, traits and constants of the program that they speak of:", ""]
+        lines += ["| File below `crates/` | Names |", "|---|---|"]
+        for path in items:
+            names = [f"`{name}`" for name in sources.at(path).parts if (path, name) in parts]
+            lines.append(f"| `{path}` | {', '.join(names)} |")
+    return lines
+
+
+def with_lists(page):
+    """The page with the lists made anew, each between two marks."""
+    for heading, lines in lists().items():
+        start, end = f"<!-- list: {heading} -->", "<!-- end of the list -->"
+        if start not in page:
+            raise SystemExit(f"docs: docs/STATEMENT.md has no mark {start}")
+        before, after = page.split(start, 1)
+        page = before + "\n".join([start, *lines, end]) + after.split(end, 1)[1]
+    return page
+
+
+def wrong_lists():
+    page = read("docs", "STATEMENT.md")
+    if page != with_lists(page):
+        yield "docs/STATEMENT.md is not what the sources give: run .ci/docs.py write"
+
+
+def stands_in(word, column, path):
+    """Whether the file defines the word, or has a function, a trait, a type or a clause of that name."""
+    source = Source(path)
+    if column == "Definition":
+        return word in source.names
+    return word in source.parts or re.search(rf"\b(?:fn|ensures|trait) {re.escape(word)}\b", source.text)
+
+
+def wrong_rules():
+    """The words of docs/RULES.md that don't stand where they are to stand."""
+    rows = [line.strip("| ").split(" | ") for line in read("docs", "RULES.md").splitlines() if line.startswith("| ")]
+    for row in rows[1:]:
+        if len(row) != len(rows[0]):
+            yield f"docs/RULES.md: a row has other cells than the heading: {row[0]}"
+        for column, cell in list(zip(rows[0], row))[1:]:
+            parts = re.findall(r"([^;]+?) in `([^`]+)`", cell)
+            if not parts:
+                yield f"docs/RULES.md: no file in the cell: {cell}"
+            for words, path in parts:
+                if not os.path.isfile(os.path.join(CRATES, path)):
+                    yield f"docs/RULES.md: no file {path}"
+                else:
+                    for word in re.findall(r"`([^`]+)`", words):
+                        if not stands_in(word, column, path):
+                            yield f"docs/RULES.md: {path} has no {word}"
+
+
+def pages():
+    """All pages, each with the crate whose README it is, or None."""
+    yield "README.md", None
+    for name in sorted(os.listdir(os.path.join(TOP, "docs"))):
+        yield f"docs/{name}", None
+    for crate in crates():
+        if os.path.isfile(os.path.join(CRATES, crate, "README.md")):
+            yield f"crates/{crate}/README.md", crate
+
+
+def plain(page):
+    """The page without its examples."""
+    return re.sub(r"```.*?```", "", read(page), flags=re.S)
+
+
+def wrong_names():
+    """Files and crates that a page names and that aren't there."""
+    known = crates()
+    files = {file for _, _, found in os.walk(CRATES) for file in found}
+    for page, crate in pages():
+        text = plain(page)
+        for name in set(re.findall(r"`([A-Za-z_.][\w./-]*)`", text) + re.findall(r"\]\(([\w./-]+)\)", text)):
+            if re.fullmatch(r"el_\w+|electrum_serve", name):
+                if name not in known:
+                    yield f"{page}: no crate {name}"
+            elif re.search(r"\.(rt|antt|md|py|edit)$|^(crates|docs|\.ci)/|/(src|specs|proofs)/", name):
+                places = [name, f"crates/{name}", f"docs/{name}", f"crates/{crate}/{name}"]
+                if name not in files and not any(os.path.exists(os.path.join(TOP, place)) for place in places):
+                    yield f"{page}: no file {name}"
+
+
+def wrong_words():
+    """Names in a crate's README that don't stand in its sources."""
+    for page, crate in pages():
+        if crate:
+            folders = [os.path.join("crates", crate, folder) for folder in ("src", "specs")]
+            found = [os.path.join(at, file) for folder in folders for at, _, files in os.walk(os.path.join(TOP, folder))
+                     for file in files if file.endswith((".rt", ".antt"))]
+            words = set(WORD.findall("".join(read(path) for path in found))) | set(crates())
+            for name in re.findall(r"`(\w+(?:::\w+)*)`", plain(page)):
+                if not set(name.split("::")) <= words:
+                    yield f"{page}: no {name} in the crate"
+
+
+def wrong_sizes():
+    """Pages that are too long, lines that are, and crates that nothing is said of."""
+    for page, crate in pages():
+        for line in plain(page).splitlines():
+            if len(line) > COLUMNS and not line.startswith("|"):
+                yield f"{page}: a line of {len(line)} characters: {line[:40]}"
+        most = CRATE_README_LINES if crate else README_LINES if page == "README.md" else None
+        if most and read(page).count("\n") > most:
+            yield f"{page}: more than {most} lines"
+    for crate, line in crates().items():
+        if not os.path.isfile(os.path.join(CRATES, crate, "README.md")):
+            yield f"crates/{crate}: no README.md"
+        if "#" not in line:
+            yield f"crates.txt: no comment on {crate}"
+
+
+def main(given):
+    if given == ["write"]:
+        page = with_lists(read("docs", "STATEMENT.md"))
+        with open(os.path.join(TOP, "docs", "STATEMENT.md"), "w", encoding="utf-8") as it:
+            it.write(page)
+        return 0
+    passed, failed = (int(given[0]), int(given[1])) if len(given) == 2 else (0, 0)
+    for check in (wrong_lists, wrong_rules, wrong_names, wrong_words, wrong_sizes):
+        wrong = list(check())
+        for line in wrong:
+            print(f"docs: {line}")
+        passed, failed = (passed, failed + 1) if wrong else (passed + 1, failed)
+    print(f"{passed} passed, {failed} failed")
+    return 1 if failed else 0
+
+
+if __name__ == "__main__":
+    sys.exit(main(sys.argv[1:]))
