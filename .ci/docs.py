@@ -42,7 +42,7 @@ def read(*path):
 def crates():
     """The crates in the order of crates.txt, each with its line."""
     lines = [line for line in read("crates.txt").splitlines() if line.strip() and not line.startswith("#")]
-    return {line.split(":")[0].strip(): line for line in lines}
+    return {WORD.match(line).group(): line for line in lines}
 
 
 class Source:
