@@ -7,7 +7,8 @@ usage: .ci/docs.py [PASSED FAILED]    checks; the last line is 'N passed, M fail
 1. docs/STATEMENT.md lists the files that the claim needs: those of all definitions, traits, types and constants that are
    reached from the clauses of the functions in CLAIM, by the `use` lines of each file.
 2. Each word of the tables of docs/RULES.md stands in the file that the table names for it.
-3. Each file and crate that a page names is there, and each name in a crate's README.md stands in its sources.
+3. Each file and crate that a page names is there, and each name in a crate's README.md stands in its sources, or in those
+   of a crate that it names.
 4. Each crate has a README.md and a comment in crates.txt; no page and no line is too long.
 """
 
@@ -284,15 +285,25 @@ def wrong_names():
                     yield f"{page}: no file {name}"
 
 
+def words_of(crate):
+    """All words of a crate's sources."""
+    found = set()
+    for folder in ("src", "specs"):
+        for at, _, files in os.walk(os.path.join(CRATES, crate, folder)):
+            for file in files:
+                if file.endswith((".rt", ".antt")):
+                    found |= set(WORD.findall(read(at, file)))
+    return found
+
+
 def wrong_words():
-    """Names in a crate's README that don't stand in its sources."""
+    """Names in a crate's README that stand neither in its sources nor in those of a crate that it names."""
+    known = crates()
     for page, crate in pages():
         if crate:
-            folders = [os.path.join("crates", crate, folder) for folder in ("src", "specs")]
-            found = [os.path.join(at, file) for folder in folders for at, _, files in os.walk(os.path.join(TOP, folder))
-                     for file in files if file.endswith((".rt", ".antt"))]
-            words = set(WORD.findall("".join(read(path) for path in found))) | set(crates())
-            for name in re.findall(r"`(\w+(?:::\w+)*)`", plain(page)):
+            names = re.findall(r"`(\w+(?:::\w+)*)`", plain(page))
+            words = set(known).union(*(words_of(it) for it in {crate, *names} if it in known))
+            for name in names:
                 if not set(name.split("::")) <= words:
                     yield f"{page}: no {name} in the crate"
 
