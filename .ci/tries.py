@@ -150,6 +150,13 @@ def index_of(blocks, magic=MAIN):
     return b"\x01" + number(len(body), 8) + body + b"\x00"
 
 
+def commit_of_the_formats():
+    """The second block's commit, an entry of the journal, as docs/FORMATS.md has it in hex."""
+    with open(os.path.join(TOP, "docs", "FORMATS.md"), encoding="utf-8") as it:
+        example = it.read().split("```")[1]
+    return b"".join(bytes.fromhex(line.strip().split("  ")[0]) for line in example.splitlines())
+
+
 def once(folder, network="main"):
     return ["once", "--blocks", folder, "--network", network]
 
@@ -272,6 +279,15 @@ def serves_from_an_index_made_elsewhere(program):
         % BLOCK1_TXID.encode()
     )
     return run(program, serve("a"), given), (FOUND + wrote + replies([], 4), ENDED)
+
+
+def serves_from_the_commit_of_the_formats(program):
+    # the first block's commit is made here, and the second's is the page's
+    os.mkdir("a")
+    put("index/10.idx", index_of([GENESIS])[:-1] + commit_of_the_formats())
+    given = ONE + asks(BLOCK1_SCRIPT, 2) + asks(BLOCK1_SCRIPT, 3, "get_balance")
+    balance = b'{"id":3,"jsonrpc":"2.0","result":{"confirmed":5000000000,"unconfirmed":0}}\n'
+    return run(program, serve("a"), given), (FOUND + replies([(1, BLOCK1_TXID)], 2) + balance, ENDED)
 
 
 def index_of_another_network(program):
@@ -488,6 +504,7 @@ CASES = [
     serves_no_folder,
     serves_again_over_its_index,
     serves_from_an_index_made_elsewhere,
+    serves_from_the_commit_of_the_formats,
     index_of_another_network,
     index_of_another_chain,
     index_without_a_folder,
