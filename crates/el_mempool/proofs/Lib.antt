@@ -12,3 +12,4 @@ pub mod Arrivals
 pub mod Departures
 pub mod Moved
 pub mod Sifted
+pub mod Worth

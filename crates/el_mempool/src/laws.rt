@@ -1,11 +1,14 @@
 // Laws of the set, as functions whose contracts state them.
-ghost use Rattle.std.specs.Prelude.{◌≡◌, List, map, None, [], ◌∷◌, ◌++◌};
+ghost use Rattle.std.specs.Prelude.{◌≡◌, ◌≤◌, List, map, None, [], ◌∷◌, ◌++◌};
+ghost use Rattle.std.specs.List.{AllByRecursion};
 ghost use Rattle.el_chain.specs.Chains.{Chain};
+ghost use Rattle.el_chain.specs.Coins.{coins, supply};
 ghost use Rattle.el_tx.specs.declared.types.Tx as shape;
 ghost use Rattle.el_mempool.specs.declared.entry.PoolLimits as limits_shape;
 ghost use Rattle.el_mempool.specs.declared.held.KeptTx as kept_shape;
 ghost use Rattle.el_mempool.specs.Refusals.{tx_refusal};
 ghost use Rattle.el_mempool.specs.Sift.{sift};
+ghost use Rattle.el_mempool.specs.Unconfirmed.{fee};
 ghost use Rattle.el_mempool.specs.Standing.{AreOnce, StandsFor, kept_tx};
 
 /// What is kept over a chain is kept again over the same.
@@ -25,4 +28,11 @@ pub fn one_more_stands()
 pub fn what_is_kept_stands()
     ensures { (chain : Chain) (list : List shape.Tx) → AreOnce list
         → StandsFor (map (kept_tx chain (sift chain list)) (sift chain list)) chain (sift chain list) }
+{}
+
+/// No fee of a kept transaction passes what all coins of the chain hold together: what joins gives no more than
+/// it takes, and takes what none before it took.
+pub fn fees_are_within()
+    ensures { (chain : Chain) (kept : List shape.Tx) → sift chain kept ≡ kept → AreOnce kept
+        → AllByRecursion (λ (t : shape.Tx). fee chain kept t ≤ supply (coins chain)) kept }
 {}

@@ -10,4 +10,4 @@ mod laws;
 pub use entry::{PoolEntry, PoolLimits};
 pub use fault::PoolFault;
 pub use held::{Held, KeptTx, Source};
-pub use laws::{one_more_stands, what_is_kept_stands, what_is_kept_stays};
+pub use laws::{fees_are_within, one_more_stands, what_is_kept_stands, what_is_kept_stays};
