@@ -1,0 +1,125 @@
+-- What a table and a ledger say of outpoints, and calls of a ledger one after the other.
+use Rattle.std.proofs.Common.{◌≡◌, ℕ, ◌+◌, ◌<◌, List, [], ◌∷◌, ◌++◌, length, drop, get_or, Option, None, Some, inl, inr, refl, arith, ap, sym, ◌∙◌, append_assoc}
+use Rattle.std.proofs.lemmas.Bool.{cases_Bool}
+use Rattle.std.specs.Prelude.{slice_get, option_map, option_and_then}
+use Rattle.std.specs.Option.{option_or, option_flatten}
+use Rattle.indexmap.specs.IndexMap.{get}
+use Rattle.el_base.proofs.Lists.{left_at}
+use Rattle.el_base.specs.declared.hash.Hash32.{Hash32}
+use Rattle.el_outside.proofs.Moments as moments
+use Rattle.el_tx.specs.declared.types.Outpoint.{Outpoint}
+use Rattle.el_tx.specs.declared.types.TxIn.{TxIn}
+use Rattle.el_tx.specs.declared.types.Tx.{Tx}
+use Rattle.el_tx.specs.Hashing.{txid}
+use Rattle.el_chain.specs.declared.coin.Coin.{Coin}
+use Rattle.el_chain.specs.Chains.{Chain}
+use Rattle.el_chain.specs.Headers.{same_hash}
+use Rattle.el_model.specs.Queries.{coin_of}
+use Rattle.el_model.specs.Keeping.{Quiet}
+use Rattle.el_mempool.specs.declared.held.Held.{Held}
+use Rattle.el_mempool.specs.declared.held.Source.{Source}
+use Rattle.el_mempool.specs.declared.held.KeptTx.{KeptTx}
+use Rattle.el_mempool.specs.declared.fault.PoolFault.TheVariants as refusal
+use Rattle.el_pool.specs.declared.table.Table.{Table}
+use Rattle.el_mempool.specs.Sift.{coin_held, coin_named, output_among, named, is_confirmed, may_join}
+use Rattle.el_mempool.specs.Refusals.{missing}
+use Rattle.el_mempool.specs.Standing.{source_at, sources}
+use Rattle.el_pool.specs.within.Tables.{by_txid, IsOver}
+use Rattle.el_mempool.proofs.Sifting.{joins_of}
+use Rattle.el_mempool.proofs.Confirmed.{hash_same, unconfirmed_none}
+use Rattle.el_mempool.proofs.Dropping.{output_apart}
+use Rattle.el_mempool.proofs.Arrivals.{fresh_from}
+use Rattle.el_mempool.proofs.Sifted.{AreFresh}
+use Rattle.el_mempool.proofs.Changes.{apart_from}
+use Rattle.el_pool.proofs.Entries.{found_standing, held_is}
+
+-- what the table says that an outpoint names
+pub output_is : (t : Table) (chain : Chain) (kept : List Tx) (o : Outpoint) → IsOver t chain kept
+    → option_and_then (λ (k : KeptTx). slice_get k.outputs o.index) (option_flatten (get same_hash t.kept o.txid)) ≡ output_among o kept
+output_is t chain kept o h =
+    ap (option_and_then (λ (k : KeptTx). slice_get k.outputs o.index)) (found_standing o.txid t.kept.entries h.table.right h.table.once ∙ ap (by_txid o.txid) (h.table.are ∙ h.stands.are))
+    ∙ held_is o chain kept kept (apart_from kept h.stands.once)
+
+pub named_coin : (chain : Chain) (kept : List Tx) (o : Outpoint) (c : Coin) (found : Option Coin) → found ≡ coin_of chain o → found ≡ Some c → Some (coin_held c) ≡ named chain kept o
+named_coin chain kept o c found is some = ap (λ x. option_or (option_map coin_held x) (output_among o kept)) (sym some ∙ is)
+
+-- an output of a kept one is no coin of the chain
+kept_unspent : (chain : Chain) (o : Outpoint) (v : Held) (ts : List Tx) → AreFresh chain ts → output_among o ts ≡ Some v → coin_named chain o ≡ None
+kept_unspent chain o v [] fresh h = absurd (cc)
+kept_unspent chain o v (t ∷ ts) fresh h = elim (cases_Bool (same_hash (txid t) o.txid)) [
+  | inl e ↦ unconfirmed_none chain o (ap (is_confirmed chain) (sym (hash_same (txid t) o.txid e)) ∙ fresh.0)
+  | inr e ↦ kept_unspent chain o v ts fresh.1 (sym (ap (λ x. option_or x (output_among o ts)) (output_apart o t e)) ∙ h)
+]
+
+abbrev LookedUp : Table → Outpoint → Option Held → Type 0
+LookedUp t o out = out ≡ option_and_then (λ (k : KeptTx). slice_get k.outputs o.index) (option_flatten (get same_hash t.kept o.txid))
+
+pub named_output : (t : Table) (chain : Chain) (kept : List Tx) (o : Outpoint) (out : Option Held) (v : Held) → IsOver t chain kept → LookedUp t o out → out ≡ Some v → Some v ≡ named chain kept o
+named_output t chain kept o out v h says some =
+    let among : output_among o kept ≡ Some v = sym (output_is t chain kept o h) ∙ sym says ∙ some in
+    let none = kept_unspent chain o v kept (fresh_from chain [] kept (joins_of (may_join chain) kept h.stands.sifted)) among in
+    sym (ap (λ x. option_or x (output_among o kept)) none ∙ among)
+
+pub named_none : (t : Table) (chain : Chain) (kept : List Tx) (o : Outpoint) (found : Option Coin) (out : Option Held) → IsOver t chain kept → found ≡ coin_of chain o → found ≡ None
+    → LookedUp t o out → out ≡ None → None ≡ named chain kept o
+named_none t chain kept o found out h is none says gone =
+    sym gone ∙ says ∙ output_is t chain kept o h ∙ ap (λ x. option_or (option_map coin_held x) (output_among o kept)) (sym none ∙ is)
+
+-- ---- inputs one after the other
+
+-- the sources so far and those that are left
+abbrev pub SoFar : Chain → List Tx → List TxIn → ℕ → List Source → Type 0
+SoFar chain kept is n found =
+    (found ++ sources chain kept (drop n is) ≡ sources chain kept is) × (missing chain kept is ≡ missing chain kept (drop n is))
+
+pub one_more : (chain : Chain) (kept : List Tx) (is : List TxIn) (n : ℕ) (i : TxIn) (v : Held) (found : List Source) (held : Option Held) → n < length is → i ≡ get_or is n i
+    → held ≡ named chain kept i.from → held ≡ Some v → SoFar chain kept is n found → SoFar chain kept is (n + 1) (found ++ source_at i v ∷ [])
+one_more chain kept is n i v found held lt item says some before =
+    let left = left_at is n i lt item in
+    let there : named chain kept i.from ≡ Some v = sym says ∙ some in
+    let first = rw (left, there) at before.0 in
+    let second = rw (left, there) at before.1 in
+    (append_assoc found (source_at i v ∷ []) (sources chain kept (drop (n + 1) is)) ∙ first, second)
+
+pub stops : (chain : Chain) (kept : List Tx) (is : List TxIn) (n : ℕ) (i : TxIn) (found : List Source) (held : Option Held) → n < length is → i ≡ get_or is n i
+    → held ≡ named chain kept i.from → held ≡ None → SoFar chain kept is n found → missing chain kept is ≡ Some (refusal.Missing i.from)
+stops chain kept is n i found held lt item says none before =
+    let left = left_at is n i lt item in
+    let gone : named chain kept i.from ≡ None = sym says ∙ none in
+    rw (left, gone) at before.1
+
+-- ---- calls of a ledger
+
+module _ {G C : Type 0} (is_live : G → Type 0) (height : G → Option ℕ) (tip_at : G → Option Hash32) (buckets : G → ℕ) (stands : G → Chain → Type 0) (tells_crash : Type 0)
+    (means : C → Chain → Type 0) (moment : G → ℕ) (left_since : G → ℕ → C → Type 0) where
+  -- two calls leave it as it was
+  pub quiet_on : (a b c : G) → Quiet is_live height tip_at buckets stands tells_crash means moment left_since a b
+      → Quiet is_live height tip_at buckets stands tells_crash means moment left_since b c → Quiet is_live height tip_at buckets stands tells_crash means moment left_since a c
+  quiet_on a b c s t = record {
+    stays = record {
+      still_live = λ x. t.stays.still_live (s.stays.still_live x);
+      was_live = λ x. s.stays.was_live (t.stays.was_live x);
+      same_height = t.stays.same_height ∙ s.stays.same_height;
+      same_tip = t.stays.same_tip ∙ s.stays.same_tip;
+      same_buckets = t.stays.same_buckets ∙ s.stays.same_buckets;
+      still_stands = λ chain x. t.stays.still_stands chain (s.stays.still_stands chain x);
+      stood = λ chain x. s.stays.stood chain (t.stays.stood chain x);
+    };
+    crash = λ told chain stood. moments.joined moment left_since a b c (λ d. means d chain) (s.crash told chain stood) (t.crash told chain (s.stays.still_stands chain stood));
+  }
+
+  -- a live one is as it was before any call
+  pub quiet_here : (a : G) → ((chain : Chain) (c : C) → tells_crash → is_live a → stands a chain → left_since a (moment a) c → means c chain) → is_live a
+      → Quiet is_live height tip_at buckets stands tells_crash means moment left_since a a
+  quiet_here a own live = record {
+    stays = record {
+      still_live = λ x. x;
+      was_live = λ x. x;
+      same_height = refl;
+      same_tip = refl;
+      same_buckets = refl;
+      still_stands = λ chain x. x;
+      stood = λ chain x. x;
+    };
+    crash = λ told chain stood. record { later = omega arith; each = λ c was. own chain c told live stood was; before = λ t c le was. inl was };
+  }

@@ -1,0 +1,168 @@
+// Whether a transaction joins a set, over a ledger.
+ghost use Rattle.std.specs.Prelude.{◌≡◌, ◌-◌, ◌≢◌, ◌⊎◌, None, Some, Ok, IfOk, IfErr, OnOk, List, map};
+ghost use Rattle.indexmap.specs.IndexMap.{get};
+ghost use Rattle.el_outside.specs.Counts.{HasCause, CountsOnly};
+ghost use Rattle.el_chain.specs.Chains.{Chain};
+ghost use Rattle.el_model.specs.Keeping.{Quiet};
+ghost use Rattle.el_tx.specs.declared.types.Tx as shape;
+ghost use Rattle.el_tx.specs.Hashing as hashing;
+ghost use Rattle.el_mempool.specs.Sift.{output_held, total_held};
+ghost use Rattle.el_mempool.specs.Refusals.{known_refusal, coin_refusal, IsRefused};
+ghost use Rattle.el_mempool.specs.Standing.{sources};
+ghost use Rattle.el_pool.specs.within.Tables.{IsOver, Joins, flag_by, total_sources};
+
+use crate::asking::sources_of;
+use crate::conflicts::conflict_of;
+use crate::reading::{is_coinbase_form, whole_tx};
+use crate::room::{fee_of, flag_of, lack_of};
+use crate::table::{Table, kept_under};
+use el_base::{Bytes, Hash32, Listed, OutOfMemory, Steps, sha256};
+use el_mempool::{Held, KeptTx, PoolFault, PoolLimits, Source};
+use el_model::Ledger;
+use el_outside::DiskFailed;
+use el_tx::{Tx, TxOut, txid};
+use std::alloc::Global;
+use std::sync::ledger::Ledger as Counts;
+
+// The refusal of the transaction with that txid for what it is: a coinbase's form, one of the chain, one that
+// is kept.
+fn known_of<G: Ledger, L: Counts + Send>(
+    table: &Table,
+    ledger: &mut G,
+    tx: &Tx,
+    id: &Hash32,
+    steps: &mut Steps<L>,
+) -> Result<Option<PoolFault>, DiskFailed>
+    requires live { G.is_live ledger.old }
+    requires id { id.now ≡ hashing.txid tx.now }
+    ensures first { (chain : Chain) (kept : List shape.Tx) → IsOver table.now chain kept
+        → G.stands ledger.old chain → IfOk result (λ refusal. refusal ≡ known_refusal chain kept tx.now) }
+    ensures other { result ≢ Ok (Some PoolFault.DiskFailed) }
+    ensures quiet { Quiet G.is_live G.height G.tip G.buckets G.stands G.tells_crash
+        G.means G.moment G.left_since ledger.old ledger.new }
+    ensures cause { HasCause (G.faults ledger.old) (G.faults ledger.new) result }
+{
+    if is_coinbase_form(tx) {
+        return Ok(Some(PoolFault::CoinbaseForm));
+    }
+    if ledger.find_tx(id, steps)?.is_some() {
+        return Ok(Some(PoolFault::Confirmed));
+    }
+    if kept_under(table, id).is_some() {
+        return Ok(Some(PoolFault::Known));
+    }
+    Ok(None)
+}
+
+// What the inputs of the transaction with that txid take, where each takes a coin of its own.
+fn take_coins<G: Ledger, L: Counts + Send>(
+    alloc: Global,
+    table: &Table,
+    ledger: &mut G,
+    tx: &Tx,
+    id: Hash32,
+    steps: &mut Steps<L>,
+) -> Result<Vec<Source>, PoolFault>
+    requires live { G.is_live ledger.old }
+    requires id { id ≡ hashing.txid tx.now }
+    ensures found { (chain : Chain) (kept : List shape.Tx) → IsOver table.now chain kept
+        → G.stands ledger.old chain → IfOk result (λ found. found.items ≡ sources chain kept tx.now.inputs) }
+    ensures none { (chain : Chain) (kept : List shape.Tx) → IsOver table.now chain kept
+        → G.stands ledger.old chain → OnOk result (coin_refusal chain kept tx.now ≡ None) }
+    ensures first { (chain : Chain) (kept : List shape.Tx) → IsOver table.now chain kept
+        → G.stands ledger.old chain → IfErr result (λ e. (e ≡ PoolFault.Memory) ⊎ ((e ≡ PoolFault.DiskFailed)
+        ⊎ (coin_refusal chain kept tx.now ≡ Some e))) }
+    ensures quiet { Quiet G.is_live G.height G.tip G.buckets G.stands G.tells_crash
+        G.means G.moment G.left_since ledger.old ledger.new }
+    ensures cause { CountsOnly (G.faults ledger.old) (G.faults ledger.new) PoolFault.DiskFailed result }
+{
+    let inputs = tx.inputs.as_slice();
+    let found = sources_of(alloc, table, ledger, inputs, steps)?;
+    match conflict_of(table, id, inputs) {
+        Some(refusal) => Err(refusal),
+        None => Ok(found),
+    }
+}
+
+// What the outputs hold.
+fn held_by(alloc: Global, outputs: &[TxOut]) -> Result<Vec<Held>, OutOfMemory>
+    ensures { IfOk result (λ held. held.items ≡ map output_held outputs.now) }
+{
+    let mut held = Vec::new(alloc);
+    for output in outputs {
+        held.push(Held {
+            value: output.value,
+            script: sha256(output.script.as_slice()),
+        })?;
+    }
+    Ok(held)
+}
+
+// What is kept of a transaction with that txid and encoding, whose inputs are these.
+fn kept_of(
+    alloc: Global,
+    table: &Table,
+    id: Hash32,
+    bytes: &[u8],
+    inputs: Vec<Source>,
+    outputs: &[TxOut],
+) -> Result<KeptTx, OutOfMemory>
+    ensures { IfOk result (λ k. k ≡ record {
+      txid = id;
+      flag = flag_by table.now inputs.items;
+      fee = total_sources inputs.items - total_held (map output_held outputs.now);
+      bytes = bytes.now;
+      inputs = inputs.items;
+      outputs = map output_held outputs.now;
+    }) }
+{
+    let held = held_by(alloc, outputs)?;
+    let fee = fee_of(inputs.as_slice(), held.as_slice())?;
+    let flag = flag_of(table, inputs.as_slice());
+    let bytes = Bytes::from_slice(alloc, bytes)?;
+    Ok(KeptTx {
+        txid: id,
+        flag,
+        fee,
+        bytes,
+        inputs: Listed::from_vec(inputs),
+        outputs: Listed::from_vec(held),
+    })
+}
+
+/// What is to be kept of the transaction that the bytes encode, where it joins the set.
+///
+/// # Errors
+///
+/// Its first refusal; `DiskFailed`, `Memory`.
+pub fn examine<G: Ledger, L: Counts + Send>(
+    alloc: Global,
+    table: &Table,
+    limits: &PoolLimits,
+    ledger: &mut G,
+    bytes: &[u8],
+    steps: &mut Steps<L>,
+) -> Result<KeptTx, PoolFault>
+    requires live { G.is_live ledger.old }
+    ensures joins { (chain : Chain) (kept : List shape.Tx) → IsOver table.now chain kept
+        → G.stands ledger.old chain → IfOk result (Joins limits.now chain kept bytes.now) }
+    ensures refused { (chain : Chain) (kept : List shape.Tx) → IsOver table.now chain kept
+        → G.stands ledger.old chain → IfErr result (λ e. (e ≡ PoolFault.Memory) ⊎ ((e ≡ PoolFault.DiskFailed)
+        ⊎ IsRefused limits.now chain kept bytes.now e)) }
+    ensures quiet { Quiet G.is_live G.height G.tip G.buckets G.stands G.tells_crash
+        G.means G.moment G.left_since ledger.old ledger.new }
+    ensures cause { CountsOnly (G.faults ledger.old) (G.faults ledger.new) PoolFault.DiskFailed result }
+{
+    let tx = whole_tx(alloc, bytes)?;
+    let id = txid(alloc, &tx)?;
+    let outputs = tx.outputs.as_slice();
+    if let Some(refusal) = known_of(table, ledger, &tx, &id, steps)? {
+        return Err(refusal);
+    }
+    let inputs = take_coins(alloc, table, ledger, &tx, id, steps)?;
+    if let Some(refusal) = lack_of(table, limits, inputs.as_slice(), outputs, bytes.len()) {
+        return Err(refusal);
+    }
+    let kept = kept_of(alloc, table, id, bytes, inputs, outputs)?;
+    Ok(kept)
+}

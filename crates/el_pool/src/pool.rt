@@ -1,0 +1,151 @@
+// The unconfirmed set.
+ghost use Rattle.std.specs.Prelude.{◌≡◌, ◌≤◌, ◌⊎◌, [], IfOk, IfErr, IfSome, OnErr, List, Ok, None, option_map, option_copied};
+ghost use Rattle.std.specs.Option.{is_some};
+ghost use Rattle.el_outside.specs.Counts.{CountsOnly};
+ghost use Rattle.el_chain.specs.Chains.{Chain};
+ghost use Rattle.el_model.specs.Keeping.{Quiet};
+ghost use Rattle.el_tx.specs.declared.types.Tx as shape;
+ghost use Rattle.el_tx.specs.Hashing.{txid};
+ghost use Rattle.el_mempool.specs.Adding.{Joined};
+ghost use Rattle.el_mempool.specs.Refusals.{IsRefused, spender_of, kept_with};
+ghost use Rattle.el_mempool.specs.Sift.{sift, other_than};
+ghost use Rattle.el_mempool.specs.Standing.{StandsFor, AreChanged, has_entry, kept_tx};
+
+use crate::adding::add_to;
+use crate::moving::sift_table;
+use crate::removing::drop_from;
+use crate::table::{Table, empty_table, kept_under, taker_in};
+use el_base::{Hash32, OutOfMemory, Steps};
+use el_chain::Touched;
+use el_mempool::{KeptTx, PoolFault, PoolLimits};
+use el_model::{Ledger, QueryFault};
+use el_tx::Outpoint;
+use std::alloc::Global;
+use std::marker::Model;
+use std::sync::ledger::Ledger as Counts;
+
+/// Unconfirmed transactions in their order of arrival, kept as long as the chain and the ones before them leave
+/// each of their inputs a coin.
+#[derive(Debug, Drop)]
+pub struct Pool {
+    alloc: Global,
+    table: Table,
+    limits: PoolLimits,
+}
+
+impl Model for Pool {
+    ghost use Rattle.el_mempool.specs.Standing.{PoolState};
+    ghost use Rattle.el_pool.specs.within.Tables.{standing, IsTable};
+
+    ghost Value = { PoolState };
+
+    ghost view = { λ p. record { entries = standing p.table.kept.entries; limits = p.limits } };
+
+    ghost invariant = { λ p. IsTable p.table (standing p.table.kept.entries) };
+}
+
+impl Pool {
+    /// A set of nothing. Takes no memory.
+    pub fn new(alloc: Global, limits: PoolLimits) -> Pool
+        ensures entries { result.entries ≡ [] }
+        ensures limits { result.limits ≡ limits }
+    {
+        Pool {
+            alloc,
+            table: empty_table(alloc),
+            limits,
+        }
+    }
+
+    /// Adds the transaction that the bytes encode after the others, and gives its txid and the script hashes
+    /// that changed.
+    ///
+    /// # Errors
+    ///
+    /// The first refusal; `DiskFailed`, `Memory`. Then the set is as it was.
+    pub fn add<G: Ledger, L: Counts + Send>(
+        &mut self,
+        ledger: &mut G,
+        bytes: &[u8],
+        steps: &mut Steps<L>,
+    ) -> Result<(Hash32, Touched), PoolFault>
+        requires live { G.is_live ledger.old }
+        ensures joined { (chain : Chain) (kept : List shape.Tx) → StandsFor self.old.entries chain kept
+            → G.stands ledger.old chain → IfOk result (λ r.
+            Joined self.old.limits chain kept bytes.now self.new.entries r.0 r.1) }
+        ensures refused { (chain : Chain) (kept : List shape.Tx) → StandsFor self.old.entries chain kept
+            → G.stands ledger.old chain → IfErr result (λ e. (e ≡ PoolFault.Memory)
+            ⊎ ((e ≡ PoolFault.DiskFailed) ⊎ IsRefused self.old.limits chain kept bytes.now e)) }
+        ensures same { OnErr result (self.new ≡ self.old) }
+        ensures limits { self.new.limits ≡ self.old.limits }
+        ensures quiet { Quiet G.is_live G.height G.tip G.buckets G.stands G.tells_crash
+            G.means G.moment G.left_since ledger.old ledger.new }
+        ensures cause { CountsOnly (G.faults ledger.old) (G.faults ledger.new) PoolFault.DiskFailed result }
+    {
+        add_to(
+            self.alloc,
+            &mut self.table,
+            &self.limits,
+            ledger,
+            bytes,
+            steps,
+        )
+    }
+
+    /// Drops the transaction with that txid and all kept ones that spend it, directly or not, and gives the
+    /// script hashes that changed; None exactly where it isn't kept. Fails only where memory runs out, and then
+    /// the set is as it was.
+    pub fn drop_tx(&mut self, txid: &Hash32) -> Result<Option<Touched>, OutOfMemory>
+        ensures kept { IfOk result (λ r. is_some r ≡ has_entry txid.now self.old.entries) }
+        // Over each chain that it stood for.
+        ensures stands { (chain : Chain) (kept : List shape.Tx) → StandsFor self.old.entries chain kept
+            → IfOk result (λ r. IfSome r (λ touched.
+            StandsFor self.new.entries chain (sift chain (other_than txid.now kept))
+            × AreChanged chain kept chain (sift chain (other_than txid.now kept)) touched)) }
+        ensures absent { result ≡ Ok None → self.new ≡ self.old }
+        ensures same { OnErr result (self.new ≡ self.old) }
+        ensures limits { self.new.limits ≡ self.old.limits }
+    {
+        drop_from(self.alloc, &mut self.table, txid)
+    }
+
+    /// Keeps what the sift keeps over the ledger's chain, whichever that now is, and gives the script hashes that
+    /// changed since the set stood for another one.
+    ///
+    /// # Errors
+    ///
+    /// `DiskFailed`, `Memory`; then the set is not used again.
+    pub fn after_move<G: Ledger, L: Counts + Send>(
+        &mut self,
+        ledger: &mut G,
+        steps: &mut Steps<L>,
+    ) -> Result<Touched, QueryFault>
+        requires live { G.is_live ledger.old }
+        ensures sifted { (before chain : Chain) (kept : List shape.Tx)
+            → StandsFor self.old.entries before kept → G.stands ledger.old chain
+            → IfOk result (λ touched. StandsFor self.new.entries chain (sift chain kept)
+            × AreChanged before kept chain (sift chain kept) touched) }
+        ensures limits { self.new.limits ≡ self.old.limits }
+        ensures quiet { Quiet G.is_live G.height G.tip G.buckets G.stands G.tells_crash
+            G.means G.moment G.left_since ledger.old ledger.new }
+        ensures cause { CountsOnly (G.faults ledger.old) (G.faults ledger.new) QueryFault.DiskFailed result }
+    {
+        sift_table(self.alloc, &mut self.table, ledger, steps)
+    }
+
+    /// What is kept of the transaction with that txid; None exactly where it isn't kept. Takes no memory.
+    pub fn find(&self, txid: &Hash32) -> Option<&KeptTx>
+        ensures { (chain : Chain) (kept : List shape.Tx) → StandsFor self.now.entries chain kept
+            → option_copied result ≡ option_map (kept_tx chain kept) (kept_with txid.now kept) }
+    {
+        kept_under(&self.table, txid)
+    }
+
+    /// The txid of the kept transaction that spends the outpoint; None exactly where none does. Takes no memory.
+    pub fn spender(&self, outpoint: &Outpoint) -> Option<Hash32>
+        ensures { (chain : Chain) (kept : List shape.Tx) → StandsFor self.now.entries chain kept
+            → result ≡ option_map txid (spender_of outpoint.now kept) }
+    {
+        taker_in(&self.table, outpoint)
+    }
+}

@@ -1,0 +1,118 @@
+// A kept transaction over another chain.
+ghost use Rattle.std.specs.Prelude.{◌≡◌, true, false, List, IfOk, IfNone, IfSome};
+ghost use Rattle.std.specs.List.{list_any};
+ghost use Rattle.indexmap.specs.IndexMap.{get};
+ghost use Rattle.el_outside.specs.Counts.{CountsOnly};
+ghost use Rattle.el_chain.specs.Chains.{Chain};
+ghost use Rattle.el_model.specs.Keeping.{Quiet};
+ghost use Rattle.el_tx.specs.declared.types.Tx as shape;
+ghost use Rattle.el_tx.specs.Hashing.{same_outpoint};
+ghost use Rattle.el_mempool.specs.Sift.{may_join};
+ghost use Rattle.el_mempool.specs.Standing.{sources};
+ghost use Rattle.el_pool.specs.within.Tables.{IsOver, is_source_of};
+ghost use Rattle.el_pool.specs.within.Renewal as renewal;
+
+use crate::asking::named;
+use crate::room::{held_in, taken_by};
+use crate::table::{Table, taker_in};
+use el_base::Steps;
+use el_mempool::{KeptTx, Source};
+use el_model::{Ledger, QueryFault};
+use el_tx::Outpoint;
+use std::alloc::Global;
+use std::sync::ledger::Ledger as Counts;
+
+// Whether one of the inputs takes the outpoint. Takes no memory.
+fn any_from(inputs: &[Source], outpoint: &Outpoint) -> bool
+    ensures { result ≡ list_any (is_source_of outpoint.now) inputs.now }
+{
+    for source in inputs {
+        if *outpoint == source.from {
+            return true;
+        }
+    }
+    false
+}
+
+// Whether nobody takes what the inputs take, and no two of them take the same. Takes no memory.
+fn are_free(table: &Table, inputs: &[Source]) -> bool
+    ensures { result ≡ renewal.are_free (get same_outpoint table.now.spenders) inputs.now }
+{
+    for (number, source) in inputs.iter().enumerate() {
+        if taker_in(table, &source.from).is_some() {
+            return false;
+        }
+        if any_from(&inputs[number + 1..], &source.from) {
+            return false;
+        }
+    }
+    true
+}
+
+// The inputs with what they now take; None where one takes nothing.
+fn taken_again<G: Ledger, L: Counts + Send>(
+    alloc: Global,
+    table: &Table,
+    ledger: &mut G,
+    inputs: &[Source],
+    steps: &mut Steps<L>,
+) -> Result<Option<Vec<Source>>, QueryFault>
+    requires live { G.is_live ledger.old }
+    ensures found { (chain : Chain) (kept : List shape.Tx) → IsOver table.now chain kept
+        → G.stands ledger.old chain → IfOk result (λ r. IfSome r (λ found.
+        (found.items ≡ renewal.renewed chain kept inputs.now) × (renewal.all_take chain kept inputs.now ≡ true))) }
+    ensures missing { (chain : Chain) (kept : List shape.Tx) → IsOver table.now chain kept
+        → G.stands ledger.old chain → IfOk result (λ r. IfNone r (renewal.all_take chain kept inputs.now ≡ false)) }
+    ensures quiet { Quiet G.is_live G.height G.tip G.buckets G.stands G.tells_crash
+        G.means G.moment G.left_since ledger.old ledger.new }
+    ensures cause { CountsOnly (G.faults ledger.old) (G.faults ledger.new) QueryFault.DiskFailed result }
+{
+    let mut found = Vec::new(alloc);
+    for input in inputs {
+        match named(table, ledger, &input.from, steps)? {
+            Some(held) => found.push(Source {
+                from: input.from,
+                held,
+            })?,
+            None => return Ok(None),
+        }
+    }
+    Ok(Some(found))
+}
+
+/// What the inputs of the transaction take over the ledger's chain after those of the table; None where it may
+/// not be kept there.
+pub fn renewed<G: Ledger, L: Counts + Send>(
+    alloc: Global,
+    table: &Table,
+    ledger: &mut G,
+    entry: &KeptTx,
+    steps: &mut Steps<L>,
+) -> Result<Option<Vec<Source>>, QueryFault>
+    requires live { G.is_live ledger.old }
+    ensures stays { (before chain : Chain) (all kept : List shape.Tx) (t : shape.Tx)
+        → renewal.IsEntry before all t entry.now → IsOver table.now chain kept → G.stands ledger.old chain
+        → IfOk result (λ r. IfSome r (λ found. (may_join chain kept t ≡ true)
+        × (found.items ≡ sources chain kept t.inputs))) }
+    ensures goes { (before chain : Chain) (all kept : List shape.Tx) (t : shape.Tx)
+        → renewal.IsEntry before all t entry.now → IsOver table.now chain kept → G.stands ledger.old chain
+        → IfOk result (λ r. IfNone r (may_join chain kept t ≡ false)) }
+    ensures quiet { Quiet G.is_live G.height G.tip G.buckets G.stands G.tells_crash
+        G.means G.moment G.left_since ledger.old ledger.new }
+    ensures cause { CountsOnly (G.faults ledger.old) (G.faults ledger.new) QueryFault.DiskFailed result }
+{
+    if ledger.find_tx(&entry.txid, steps)?.is_some() {
+        return Ok(None);
+    }
+    let inputs = entry.inputs.as_slice();
+    if !are_free(table, inputs) {
+        return Ok(None);
+    }
+    let Some(found) = taken_again(alloc, table, ledger, inputs, steps)? else {
+        return Ok(None);
+    };
+    if taken_by(found.as_slice()) < held_in(entry.outputs.as_slice()) {
+        return Ok(None);
+    }
+    Ok(Some(found))
+}
