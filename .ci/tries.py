@@ -39,6 +39,8 @@ BLOCK1 = bytes.fromhex(
     "e62294721166bf621e73a82cbf2342c858eeac" "00000000"
 )
 
+MASK = bytes.fromhex("a5c30f69125ae178")
+
 MAIN = bytes.fromhex("f9beb4d9")
 REGTEST = bytes.fromhex("fabfb5da")
 
@@ -120,9 +122,8 @@ def heads(hashes):
     return rows
 
 
-def index_of(blocks, magic=MAIN):
-    """The journal of an index, with one commit, of blocks that each have a coinbase with one output alone, in one block
-    file. It is made here by the form of the index's rows, and not by the program."""
+def tables_of(blocks):
+    """The rows of an index of blocks that each have a coinbase with one output alone, in one block file."""
     txids, scripts, tables, offset, supply = [], [], {t: [] for t in range(1, 9)}, 0, 0
     for height, block in enumerate(blocks):
         coinbase = block[81:]
@@ -143,11 +144,34 @@ def index_of(blocks, magic=MAIN):
         tables[8].append(number(height) + number(height) + number(0))
         offset += 8 + len(block)
     tables[3], tables[7] = heads(txids), heads(scripts)
-    counts = b"".join(number(len(tables[t]), 8) for t in range(1, 9))
+    return tables
+
+
+def commit(before, after, magic):
+    """A commit that makes tables of others: the counts of all rows, and the rows that changed or came."""
+    counts = b"".join(number(len(after[t]), 8) for t in range(1, 9))
     changes = b"".join(
-        number(t, 1) + number(place, 8) + row for t in range(1, 9) for place, row in enumerate(tables[t]))
-    body = b"ELIX" + number(1) + magic + counts + changes
-    return b"\x01" + number(len(body), 8) + body + b"\x00"
+        number(t, 1) + number(place, 8) + row
+        for t in range(1, 9) for place, row in enumerate(after[t])
+        if place >= len(before[t]) or row != before[t][place])
+    return b"ELIX" + number(1) + magic + counts + changes
+
+
+def journal(entries):
+    """The entries of a journal, each behind an open gate, and the closed gate at its end."""
+    return b"".join(b"\x01" + number(len(entry), 8) + entry for entry in entries) + b"\x00"
+
+
+def index_of(blocks, magic=MAIN):
+    """The journal of an index, with one commit. It is made here by the form of the index's rows, and not by the
+    program."""
+    return journal([commit({t: [] for t in range(1, 9)}, tables_of(blocks), magic)])
+
+
+def index_by_steps(blocks, magic=MAIN):
+    """The journal of an index, with a commit for each block."""
+    steps = [{t: [] for t in range(1, 9)}] + [tables_of(blocks[:count + 1]) for count in range(len(blocks))]
+    return journal([commit(before, after, magic) for before, after in zip(steps, steps[1:])])
 
 
 def commit_of_the_formats():
@@ -303,6 +327,26 @@ def index_of_another_chain(program):
     return run(program, serve("a"), ONE), (b"", OTHER_CHAIN)
 
 
+def index_of_another_chain_in_a_later_file(program):
+    put("a/blk00001.dat", record(GENESIS[:79] + b"\x00" + GENESIS[80:]))
+    put("index/10.idx", index_of([GENESIS]))
+    return run(program, serve("a"), ONE), (b"", OTHER_CHAIN)
+
+
+def index_of_two_commits(program):
+    os.mkdir("a")
+    put("index/10.idx", index_by_steps([GENESIS, BLOCK1]))
+    given = ONE + asks(BLOCK1_SCRIPT, 2)
+    return run(program, serve("a"), given), (FOUND + replies([(1, BLOCK1_TXID)], 2), ENDED)
+
+
+def index_on_a_full_disk(program):
+    put("a/blk00000.dat", GOOD)
+    os.mkdir("index")
+    os.symlink("/dev/full", "index/10.idx")
+    return run(program, serve("a"), ONE), (b"", DISK_FAILED)
+
+
 def index_without_a_folder(program):
     put("a/blk00000.dat", GOOD)
     return run(program, serve("a"), ONE), (b"", DISK_FAILED)
@@ -378,10 +422,43 @@ def another_file_alone(program):
     return run(program, once("a"), ONE), (NONE_FOUND, ENDED)
 
 
+def masked(data):
+    """The bytes of a block file under the mask."""
+    return bytes(byte ^ MASK[place % 8] for place, byte in enumerate(data))
+
+
 def masked_file(program):
-    key = bytes.fromhex("a5c30f69125ae178")
-    put("a/blk00000.dat", bytes(byte ^ key[place % 8] for place, byte in enumerate(GOOD)))
+    # the second block's record begins at another place of the mask than the first one's
+    put("a/xor.dat", MASK)
+    put("a/blk00000.dat", masked(GOOD))
+    return run(program, once("a"), ONE + asks(BLOCK1_SCRIPT, 2)), (FOUND + replies([(1, BLOCK1_TXID)], 2), ENDED)
+
+
+def mask_of_zeros(program):
+    put("a/xor.dat", bytes(8))
+    put("a/blk00000.dat", GOOD)
+    return run(program, once("a"), ONE), (FOUND, ENDED)
+
+
+def masked_file_without_its_mask(program):
+    put("a/blk00000.dat", masked(GOOD))
     return run(program, once("a"), ONE), (NONE_FOUND, ENDED)
+
+
+def mask_of_another_length(program):
+    put("a/blk00000.dat", GOOD)
+    for mask in (b"", bytes(7), bytes(9), MASK + MASK):
+        put("a/xor.dat", mask)
+        did = run(program, once("a"), ONE)
+        if did != as_wanted((b"", FILES_FAILED)):
+            return did, (b"", FILES_FAILED)
+    return did, (b"", FILES_FAILED)
+
+
+def mask_that_can_not_be_read(program):
+    os.makedirs("a/xor.dat")
+    put("a/blk00000.dat", GOOD)
+    return run(program, once("a"), ONE), (b"", FILES_FAILED)
 
 
 def record_far_in_the_file(program):
@@ -507,6 +584,9 @@ CASES = [
     serves_from_the_commit_of_the_formats,
     index_of_another_network,
     index_of_another_chain,
+    index_of_another_chain_in_a_later_file,
+    index_of_two_commits,
+    index_on_a_full_disk,
     index_without_a_folder,
     index_that_is_no_folder,
     index_that_cannot_be_written,
@@ -521,6 +601,10 @@ CASES = [
     no_file,
     another_file_alone,
     masked_file,
+    mask_of_zeros,
+    masked_file_without_its_mask,
+    mask_of_another_length,
+    mask_that_can_not_be_read,
     record_far_in_the_file,
     second_block_alone,
     many_lines,

@@ -1,8 +1,21 @@
 -- What contracts see of the real devices.
-use Rattle.std.specs.Prelude.{◌≡◌, ◌==◌, ℕ, Bool, if◌then◌else◌, List, Result, Ok, Err, IsErr}
+use Rattle.std.specs.Prelude.{◌≡◌, ◌==◌, ℕ, Bool, if◌then◌else◌, List, [], Option, Result, Ok, Err, IsErr}
 use Rattle.el_outside.specs.declared.link.Arrival.{Arrival}
 use Rattle.el_outside.specs.declared.link.Arrival.TheVariants as arrival
 use Rattle.el_outside.specs.declared.link.LinkFailed.{LinkFailed}
+use Rattle.std.specs.Option.{option_map_or}
+use Rattle.el_net.specs.declared.masks.Mask.{Mask}
+use Rattle.el_net.specs.Masks.{unmasked}
+
+-- the block files of a folder: the folder, its mask where that could be had, how often a call has failed
+pub record BlocksOf (D : Type 0) : Type 0 where
+  pub folder : D
+  pub mask : Option Mask
+  pub faults : ℕ
+
+-- the bytes of a block file without its folder's mask
+abbrev pub read_with : Option Mask → List ℕ → List ℕ
+read_with mask bytes = unmasked (option_map_or (λ (m : Mask). m.bytes) mask []) 0 bytes
 
 -- the files of a folder: the folder, and how often a call has failed
 pub record FolderFiles : Type 0 where

@@ -1,2 +1,4 @@
 pub mod Devices
+pub mod Folders
+pub mod Masks
 pub mod Paths

@@ -1,163 +1,194 @@
 // The node's block files as an archive.
-ghost use Rattle.std.specs.Prelude.{◌≡◌, ◌≢◌, ◌+◌, ◌/◌, ◌%◌, ◌<◌, ◌≤◌, [], ◌∷◌, ◌++◌, length, IfOk, IfErr, IsErr, None, Ok, Some, string_bytes, string_len, string_capacity};
-ghost use Rattle.el_net.specs.Paths.{five_digits, file_path};
+ghost use Rattle.std.specs.Prelude.{◌≡◌, ◌≤◌, ◌-◌, ℕ, [], Some, length, take, drop, min, IfOk, IfSome, IfNone};
 ghost use Rattle.el_outside.specs.Counts.{RoseBy};
+ghost use Rattle.el_outside.specs.Files.{AllGrow};
+ghost use Rattle.el_net.specs.Devices.{BlocksOf, read_with};
+ghost use Rattle.el_net.specs.Folders.{IsFront};
+ghost use Rattle.el_net.specs.Masks.{unmasked};
 
-use crate::file_names::file_number;
-use crate::paths::{put_digit, put_text};
-use crate::reading::{found, read_at};
+use crate::block_folder::BlockFolder;
+use crate::folder::Folder;
+use crate::masks::{Mask, unmask};
+use crate::reading::fill_at;
 use el_base::OutOfMemory;
 use el_outside::{Archive, ArchiveFailed, MOST_FILES, SIZE_LIMIT};
 use std::alloc::{AllocGlobal, Global};
-use std::fs::{DirEntry, File, OpenOptions, metadata, read_dir};
+use std::fs::File;
 use std::io;
 use std::io::ErrorKind;
 use std::marker::Model;
 use std::rt::Files;
 
-/// The block files of a folder. What real files hold is beyond any contract: contracts see the folder and
-/// the count of faults.
+/// The block files of a folder. A file that isn't there has no bytes; where the folder isn't there, or its
+/// mask can't be had, each call fails. It tells what the folder tells.
 #[derive(Drop)]
-pub struct BlockFiles<R: Files<File = File>> {
-    rt: R,
-    folder: String,
-    // The path of the file that was asked for last, in room that fits any file's.
-    path: String,
+pub struct BlockFiles<F: Folder> {
+    folder: F,
+    mask: Option<Mask>,
     faults: u64,
 }
 
-impl<R: Files<File = File>> Model for BlockFiles<R> {
-    ghost use Rattle.std.specs.Prelude.{◌+◌, ◌≤◌, string_bytes, string_len, string_capacity};
-    ghost use Rattle.el_net.specs.Devices.{FolderFiles};
+impl<F: Folder> Model for BlockFiles<F> {
+    ghost use Rattle.el_net.specs.Devices.{BlocksOf};
 
-    ghost Value = { FolderFiles };
+    ghost Value = { BlocksOf F };
 
-    ghost view = { λ files. record { folder = string_bytes files.folder; faults = files.faults } };
-
-    ghost invariant = { λ files. string_len files.folder + 13 ≤ string_capacity files.path };
+    ghost view = { λ files. record { folder = files.folder; mask = files.mask; faults = files.faults } };
 }
 
-// Puts five digits after the path, in room that is there.
-fn put_digits(path: &mut String, file: u32)
-    requires { string_len path.old + 5 ≤ string_capacity path.old }
-    ensures digits { string_bytes path.new ≡ string_bytes path.old ++ five_digits file }
-    ensures len { string_len path.new ≡ string_len path.old + 5 }
-    ensures room { string_capacity path.old ≤ string_capacity path.new }
+// The file, if it is there; a failure where the folder isn't.
+fn find<F: Folder>(folder: &mut F, file: u32) -> io::Result<Option<F::File>>
+    ensures found { IfOk result (λ found. IfSome found (λ it. F.is_file it file)) }
+    ensures absent { F.tells → IfOk result (λ found. IfNone found (F.bytes folder.new file ≡ [])) }
+    ensures grows { F.tells → AllGrow (F.bytes folder.old) (F.bytes folder.new) }
 {
-    put_digit(path, file / 10_000);
-    put_digit(path, file / 1_000);
-    put_digit(path, file / 100);
-    put_digit(path, file / 10);
-    put_digit(path, file);
+    folder.look()?;
+    folder.open(file)
 }
 
-// Makes the path that of the file in the folder. It takes no memory, since the room is there.
-fn put_path(path: &mut String, folder: &str, file: u32)
-    requires { length folder.now + 13 ≤ string_capacity path.old }
-    ensures path { string_bytes path.new ≡ file_path folder.now file }
-    ensures room { string_capacity path.old ≤ string_capacity path.new }
+// A file's size; 0 for one that isn't there.
+fn size_of<F: Folder>(folder: &mut F, file: u32) -> io::Result<u64>
+    ensures size { F.tells → IfOk result (λ n. n ≡ length (F.bytes folder.new file)) }
+    ensures grows { F.tells → AllGrow (F.bytes folder.old) (F.bytes folder.new) }
 {
-    path.clear();
-    put_text(path, folder);
-    put_text(path, "/");
-    put_text(path, "blk");
-    put_digits(path, file);
-    put_text(path, ".dat");
-}
-
-// The number of a block file plus 1, and 0 for any other entry of the folder, as one whose name is no text.
-fn count_to<R: Files + Drop>(entry: io::Result<DirEntry<R>>) -> io::Result<u32>
-    ensures { IfOk result (λ n. n ≤ MOST_FILES) }
-{
-    match entry {
-        Ok(entry) => Ok(file_number(entry.file_name()).map_or(0, |number| number + 1)),
-        Err(e) if e.kind() == ErrorKind::InvalidFilename => Ok(0),
-        Err(e) => Err(e),
+    match find(folder, file)? {
+        None => Ok(0),
+        Some(opened) => folder.len(&opened),
     }
 }
 
-impl<R: Files<File = File> + AllocGlobal + Clone + Drop> BlockFiles<R> {
-    /// The block files of the folder, and room for their paths: no call takes memory of its own. The folder
-    /// is looked for at each call.
-    pub fn new(rt: R, alloc: Global, folder: &str) -> Result<BlockFiles<R>, OutOfMemory>
-        ensures { IfOk result (λ files. files ≡ record { folder = folder.now; faults = 0 }) }
+// What a file has from the place on.
+fn read_from<F: Folder>(folder: &mut F, file: u32, at: u64, buf: &mut [u8]) -> io::Result<usize>
+    ensures within { IfOk result (λ n. n ≤ length buf.old) }
+    ensures front { F.tells → IfOk result (λ n. IsFront at n buf.new (F.bytes folder.new file)) }
+    ensures count { F.tells → IfOk result (λ n.
+        n ≡ min (length buf.old) (length (F.bytes folder.new file) - at)) }
+    ensures grows { F.tells → AllGrow (F.bytes folder.old) (F.bytes folder.new) }
+{
+    match find(folder, file)? {
+        None => Ok(0),
+        Some(opened) => fill_at(folder, &opened, at, buf),
+    }
+}
+
+// What a file has from the place on, without the mask.
+fn read_without<F: Folder>(
+    folder: &mut F,
+    mask: Mask,
+    file: u32,
+    at: u64,
+    buf: &mut [u8],
+) -> io::Result<usize>
+    ensures within { IfOk result (λ n. n ≤ length buf.old) }
+    ensures filled { F.tells → IfOk result (λ n.
+        take n buf.new ≡ take n (drop at (unmasked mask.bytes 0 (F.bytes folder.new file)))) }
+    ensures count { F.tells → IfOk result (λ n.
+        n ≡ min (length buf.old) (length (F.bytes folder.new file) - at)) }
+    ensures grows { F.tells → AllGrow (F.bytes folder.old) (F.bytes folder.new) }
+{
+    let n = read_from(folder, file, at, buf)?;
+    unmask(mask, at, &mut buf[..n]);
+    Ok(n)
+}
+
+impl<R: Files<File = File> + AllocGlobal + Clone + Drop> BlockFiles<BlockFolder<R>> {
+    /// The block files of the folder of that path. Its mask is read here, once.
+    pub fn new(
+        rt: R,
+        alloc: Global,
+        folder: &str,
+    ) -> Result<BlockFiles<BlockFolder<R>>, OutOfMemory>
+        ensures { IfOk result (λ files. (files.folder ≡ folder.now) × (files.faults ≡ 0)) }
     {
-        let path = String::with_capacity(alloc, folder.len() + 13)?;
-        let folder = String::from_str(alloc, folder)?;
-        Ok(BlockFiles {
-            rt,
+        let folder = BlockFolder::new(rt, alloc, folder)?;
+        let mask = folder.mask(alloc)?;
+        Ok(BlockFiles::over(folder, mask))
+    }
+}
+
+impl<F: Folder + Drop> BlockFiles<F> {
+    /// The block files of the folder, which have that mask; none where it can't be had.
+    pub fn over(folder: F, mask: Option<Mask>) -> BlockFiles<F>
+        ensures { result ≡ record { folder = folder; mask = mask; faults = 0 } }
+    {
+        BlockFiles {
             folder,
-            path,
+            mask,
             faults: 0,
-        })
+        }
     }
 
     // A failure, which is counted.
     fn fault(&mut self) -> ArchiveFailed
         ensures counted { RoseBy self.old.faults self.new.faults 1 }
         ensures folder { self.new.folder ≡ self.old.folder }
+        ensures mask { self.new.mask ≡ self.old.mask }
     {
         self.faults = self.faults.saturating_add(1);
         ArchiveFailed
     }
 
-    // The file, if it is there; a failure where the folder isn't.
-    fn open(&mut self, file: u32) -> io::Result<Option<File>>
-        ensures { self.new ≡ self.old }
+    // The mask; a failure where it can't be had.
+    fn mask(&self) -> io::Result<Mask>
+        ensures { IfOk result (λ mask. self.now.mask ≡ Some mask) }
     {
-        if !metadata(&self.rt, self.folder.as_str())?.is_dir() {
-            return Err(io::Error::from(ErrorKind::NotFound));
+        match self.mask {
+            Some(mask) => Ok(mask),
+            None => Err(io::Error::from(ErrorKind::InvalidData)),
         }
-        if file >= MOST_FILES {
-            return Ok(None);
-        }
-        put_path(&mut self.path, self.folder.as_str(), file);
-        let mut options = OpenOptions::new();
-        options.read(true);
-        found(options.open(&self.rt, self.path.as_str()))
     }
 
-    // The number of the highest file plus 1, or 0. The folder is read once.
-    fn count(&self) -> io::Result<u32>
-        ensures { IfOk result (λ n. n ≤ MOST_FILES) }
+    // The number of the highest file plus 1, or 0.
+    fn count(&mut self) -> io::Result<u32>
+        ensures few { IfOk result (λ n. n ≤ MOST_FILES) }
+        ensures number { F.tells → IfOk result (λ n. n ≡ F.file_count self.new.folder) }
+        ensures grows { F.tells → AllGrow (F.bytes self.old.folder) (F.bytes self.new.folder) }
+        ensures mask { self.new.mask ≡ self.old.mask }
+        ensures faults { self.new.faults ≡ self.old.faults }
     {
-        let mut count = 0;
-        for entry in read_dir(&self.rt, self.folder.as_str())? {
-            count = count.max(count_to(entry)?);
-        }
-        Ok(count)
+        let _mask = self.mask()?;
+        self.folder.count()
     }
 
-    // A file's size; 0 for one that isn't there.
+    // A file's size.
     fn size_of(&mut self, file: u32) -> io::Result<u64>
-        ensures { self.new ≡ self.old }
+        ensures size { F.tells → IfOk result (λ n. n ≡ length (F.bytes self.new.folder file)) }
+        ensures grows { F.tells → AllGrow (F.bytes self.old.folder) (F.bytes self.new.folder) }
+        ensures mask { self.new.mask ≡ self.old.mask }
+        ensures faults { self.new.faults ≡ self.old.faults }
     {
-        match self.open(file)? {
-            None => Ok(0),
-            Some(file) => Ok(file.metadata()?.len()),
-        }
+        let _mask = self.mask()?;
+        size_of(&mut self.folder, file)
     }
 
-    // What a file has from the place on.
+    // What a file has from the place on, without the mask.
     fn read_from(&mut self, file: u32, at: u64, buf: &mut [u8]) -> io::Result<usize>
         ensures within { IfOk result (λ n. n ≤ length buf.old) }
-        ensures same { self.new ≡ self.old }
+        ensures filled { F.tells → IfOk result (λ n.
+            take n buf.new ≡ take n (drop at (read_with self.new.mask (F.bytes self.new.folder file)))) }
+        ensures count { F.tells → IfOk result (λ n.
+            n ≡ min (length buf.old) (length (F.bytes self.new.folder file) - at)) }
+        ensures grows { F.tells → AllGrow (F.bytes self.old.folder) (F.bytes self.new.folder) }
+        ensures mask { self.new.mask ≡ self.old.mask }
+        ensures faults { self.new.faults ≡ self.old.faults }
     {
-        match self.open(file)? {
-            None => Ok(0),
-            Some(file) => read_at(&file, at, buf),
-        }
+        let mask = self.mask()?;
+        read_without(&mut self.folder, mask, file, at, buf)
     }
 }
 
-impl<R: Files<File = File> + AllocGlobal + Clone + Drop> Archive for BlockFiles<R> {
-    ghost tells = { ⊥ };
+impl<F: Folder + Drop> Archive for BlockFiles<F> {
+    ghost use Rattle.std.proofs.Common.{ap};
+    ghost use Rattle.el_net.specs.Devices.{read_with};
 
-    ghost bytes = { λ files n. [] };
+    ghost tells = { F.tells };
 
-    ghost file_count = { λ files. 0 };
+    ghost bytes = { λ files n. read_with files.mask (F.bytes files.folder n) };
 
-    ghost none_after = { λ files n told after. absurd told };
+    ghost file_count = { λ files. F.file_count files.folder };
+
+    ghost none_after = { λ files n told after.
+        ap (λ bytes. read_with files.mask bytes) (F.none_after files.folder n told after) };
 
     ghost gave = { λ file at bytes. Unit {0} };
 

@@ -100,7 +100,8 @@ impl<R: Files<File = File> + Drop> FileDisk<R> {
         DiskFailed
     }
 
-    // Opens the file of that path, if it is there, or makes it.
+    // Opens the file of that path, if it is there, or makes it. Its name is on the disk then, also where an
+    // earlier life or an earlier call made the file and was stopped before that.
     fn find(&mut self, file: u32, makes: bool) -> io::Result<Option<File>>
         ensures { self.new ≡ self.old }
     {
@@ -108,12 +109,10 @@ impl<R: Files<File = File> + Drop> FileDisk<R> {
         let mut options = OpenOptions::new();
         options.read(true);
         options.write(true);
-        if let Some(file) = found(options.open(&self.rt, self.path.as_str()))? {
-            return Ok(Some(file));
-        }
+        let found = found(options.open(&self.rt, self.path.as_str()))?;
         sync_folder(&self.rt, self.folder.as_str())?;
-        if !makes {
-            return Ok(None);
+        if found.is_some() || !makes {
+            return Ok(found);
         }
         options.create(true);
         let file = options.open(&self.rt, self.path.as_str())?;

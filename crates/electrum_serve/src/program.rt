@@ -9,7 +9,7 @@ ghost use Rattle.electrum_serve.specs.Statuses.{code_of};
 use crate::serving::serve;
 use crate::status::Status;
 use el_base::OutOfMemory;
-use el_net::{BlockFiles, FileDisk, NoDisk, NoFiles, NoLink, StandardLink};
+use el_net::{BlockFiles, BlockFolder, FileDisk, NoDisk, NoFiles, NoLink, StandardLink};
 use el_outside::Disk;
 use el_words::{Command, read_words};
 use std::alloc::Global;
@@ -44,8 +44,8 @@ fn files_of(
     rt: HostRuntime,
     alloc: Global,
     command: &Command,
-) -> Result<BlockFiles<HostRuntime>, OutOfMemory>
-    ensures { IfOk result (λ files. files ≡ record { folder = folder_of command.now; faults = 0 }) }
+) -> Result<BlockFiles<BlockFolder<HostRuntime>>, OutOfMemory>
+    ensures { IfOk result (λ files. (files.folder ≡ folder_of command.now) × (files.faults ≡ 0)) }
 {
     let folder = match command {
         Command::Serve { blocks, .. } => blocks,

@@ -1,5 +1,5 @@
 use Rattle.std.proofs.Common.{append_assoc}
-use Rattle.el_net.proofs.block_files.put_path.Goals as goal
+use Rattle.el_net.proofs.block_folder.put_path.Goals as goal
 
 pub returns-clause-path : goal.returns-clause-path
 returns-clause-path c =
