@@ -1,0 +1,11 @@
+mod Heights
+mod Found
+mod Subscribing
+mod BatchLoop
+mod Places
+mod Printable
+mod Quiets
+mod Losing
+mod HexDigits
+mod TxidPlaces
+mod ManyHeaders

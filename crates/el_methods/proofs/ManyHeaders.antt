@@ -1,0 +1,89 @@
+-- Headers one after the other.
+use Rattle.std.proofs.Common.{◌≡◌, ◌∙◌, sym, ap, ℕ, ◌+◌, ◌-◌, ◌==◌, ◌<◌, ◌≤◌, ◌||◌, ◌&&◌, min, nat_le, nat_lt, Bool, true, false, List, [], ◌∷◌, ◌++◌, length, take, drop, get_or, Option, Some, None, option_map, Ok, Err, refl, arith, length-drop, append-nil}
+use Rattle.std.specs.Prelude.{slice_get}
+use Rattle.std.specs.List.{flat_map}
+use Rattle.std.proofs.lemmas.List.{take_more, get_or-drop, flat_map_more}
+use Rattle.std.proofs.lemmas.Option.{slice_get_within, get_or_from_slice_get}
+use Rattle.std.proofs.lemmas.Bool.Decides.{nat_tests}
+use Rattle.el_tx.specs.Headers.{header_encoding}
+use Rattle.el_chain.specs.Chains.{Chain}
+use Rattle.el_chain.specs.declared.placed.Placed.{Placed}
+use Rattle.el_model.specs.Queries.{header_at, height_of, hashes_to}
+use Rattle.el_methods.specs.Results.{header_count, headers_bytes, headers_value, headers_among, is_bad_for_headers, headers_proved, some_headers, block_headers}
+use Rattle.el_methods.specs.within.Tops.{blocks_of}
+use Rattle.el_methods.specs.declared.blocks.TheConstants.{HEADER_LIMIT}
+use Rattle.el_methods.specs.declared.refusal.Refusal.TheVariants as refusal
+
+abbrev bytes_of : Placed → List ℕ
+bytes_of b = header_encoding b.block.header
+
+next_header : (chain : Chain) (start n : ℕ) (b : Placed) → slice_get chain (start + n) ≡ Some b
+    → headers_bytes chain start n ++ bytes_of b ≡ headers_bytes chain start (n + 1)
+next_header chain start n b is =
+    let within : start + n < length chain = slice_get_within chain (start + n) b is in
+    let here : get_or chain (start + n) b ≡ b = get_or_from_slice_get chain (start + n) b b is in
+    let there : get_or (drop start chain) n b ≡ b = get_or-drop start chain n b ∙ here in
+    let left : length (drop start chain) ≡ length chain - start = length-drop start chain in
+    let inside : n < length (drop start chain) = omega arith in
+    let more : take (n + 1) (drop start chain) ≡ take n (drop start chain) ++ b ∷ [] =
+    take_more (drop start chain) n b inside ∙ ap (λ x. take n (drop start chain) ++ x ∷ []) there in
+    flat_map_more bytes_of [] (take n (drop start chain)) b ∙ ap (flat_map bytes_of) (sym more)
+
+found : (o : Option Placed) (header : List ℕ) → option_map bytes_of o ≡ Some header
+    → (b : Placed) × (o ≡ Some b) × (bytes_of b ≡ header)
+found None header e = absurd (cc)
+found (Some b) header e = (b, refl, (let h : Some (bytes_of b) ≡ Some header = e in cc))
+
+-- one header more
+pub headers_more : (chain : Chain) (start n : ℕ) (header : List ℕ) → header_at chain (start + n) ≡ Some header
+    → headers_bytes chain start n ++ header ≡ headers_bytes chain start (n + 1)
+headers_more chain start n header is =
+    let at = found (slice_get chain (start + n)) header is in
+    ap (λ bytes. headers_bytes chain start n ++ bytes) (sym at.2) ∙ next_header chain start n at.0 at.1
+
+-- how many blocks there are
+pub blocks_are : (chain : Chain) (top : Option ℕ) → top ≡ height_of chain → blocks_of top ≡ length chain
+blocks_are [] top is = ap blocks_of is
+blocks_are (b ∷ bs) top is = ap blocks_of is ∙ omega arith
+
+pub count_is : (chain : Chain) (top : Option ℕ) (start count n : ℕ) → top ≡ height_of chain
+    → n ≡ min count (min HEADER_LIMIT (blocks_of top - start)) → n ≡ header_count chain start count
+count_is chain top start count n is so =
+    so ∙ ap (λ blocks. min count (min HEADER_LIMIT (blocks - start))) (blocks_are chain top is)
+
+-- the cases of blockchain.block.headers, with so many headers
+pub bad_headers : (chain : Chain) (start count cp n : ℕ) → n ≡ header_count chain start count → (cp ≡ 0 → ⊥)
+    → is_bad_for_headers chain start n cp ≡ true → block_headers chain start count cp ≡ Err refusal.BadCheckpoint
+bad_headers chain start count cp n so some bad =
+    let zero : (cp == 0) ≡ false = grind (arith, nat_tests) in
+    ap (λ m. some_headers chain start m cp) (sym so) ∙ rw (zero, bad) refl
+
+pub plain_headers : (chain : Chain) (start count cp n : ℕ) → n ≡ header_count chain start count → cp ≡ 0
+    → block_headers chain start count cp ≡ Ok (headers_value n (headers_bytes chain start n))
+plain_headers chain start count cp n so none =
+    let zero : (cp == 0) ≡ true = grind (arith, nat_tests) in
+    ap (λ m. some_headers chain start m cp) (sym so) ∙ rw zero refl
+
+no_headers_at : (chain : Chain) (start cp : ℕ) (b bad : Bool) → b ≡ (cp == 0) → bad ≡ is_bad_for_headers chain start 0 cp
+    → (b ≡ false → bad ≡ false) → some_headers chain start 0 cp ≡ Ok (headers_value 0 [])
+no_headers_at chain start cp true bad is at good = rw (sym is) refl
+no_headers_at chain start cp false bad is at good =
+    let none : is_bad_for_headers chain start 0 cp ≡ false = sym at ∙ good refl in rw (sym is, none) refl
+
+pub no_headers : (chain : Chain) (start count cp n : ℕ) → n ≡ header_count chain start count → n ≡ 0
+    → ((cp ≡ 0 → ⊥) → is_bad_for_headers chain start n cp ≡ false)
+    → block_headers chain start count cp ≡ Ok (headers_value 0 [])
+no_headers chain start count cp n so none good =
+    ap (λ m. some_headers chain start m cp) (sym so ∙ none)
+    ∙ no_headers_at chain start cp (cp == 0) (is_bad_for_headers chain start 0 cp) refl refl
+    (λ other. let some : cp ≡ 0 → ⊥ = grind (arith, nat_tests) in
+    ap (λ m. is_bad_for_headers chain start m cp) (sym none) ∙ good some)
+
+pub proved_headers : (chain : Chain) (start count cp n : ℕ) → n ≡ header_count chain start count → (n ≡ 0 → ⊥)
+    → (cp ≡ 0 → ⊥) → is_bad_for_headers chain start n cp ≡ false
+    → block_headers chain start count cp
+    ≡ Ok (headers_among (hashes_to chain cp) (start + n - 1) n (headers_bytes chain start n))
+proved_headers chain start count cp n so some other good =
+    let zero : (cp == 0) ≡ false = grind (arith, nat_tests) in
+    let more : (n == 0) ≡ false = grind (arith, nat_tests) in
+    ap (λ m. some_headers chain start m cp) (sym so) ∙ rw (zero, good, more) refl

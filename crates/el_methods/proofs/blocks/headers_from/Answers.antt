@@ -1,0 +1,33 @@
+use Rattle.std.proofs.Common.{◌≡◌, ◌∙◌, ap, ◌++◌, refl, arith}
+use Rattle.el_methods.specs.Results.{headers_bytes}
+use Rattle.el_methods.proofs.ManyHeaders.{headers_more}
+use Rattle.el_methods.proofs.Quiets.{quiet_none, quiet_on}
+use Rattle.el_methods.proofs.blocks.headers_from.Goals as goal
+
+pub loop-i-init : goal.loop-i-init
+loop-i-init g c =
+    let l = g.G.Ledger in
+    record {
+      quiet = quiet_none l.is_live l.height l.tip l.buckets l.stands l.tells_crash l.means l.moment l.left_since c.args.ledger.now c.requires.live
+          (λ k chain left told live stood x. g.met.G.Ledger.leaves_own k chain left told live stood x);
+      bytes = λ chain stands. c.new-bytes.ensures.items;
+      rows = omega arith;
+      unfailed = refl;
+    }
+
+pub loop-i-preserved : goal.loop-i-preserved
+loop-i-preserved g c =
+    let l = g.G.Ledger in
+    let before = c.loop-i.invariant in
+    let more = c.header.ensures.rows in
+    let rows = before.rows in
+    record {
+      quiet = quiet_on l.is_live l.height l.tip l.buckets l.stands l.tells_crash l.means l.moment l.left_since _ _ _ before.quiet c.header.ensures.quiet;
+      bytes = λ chain stands.
+          let stood = before.quiet.stays.still_stands chain stands in
+          c.in_ok-extend_from_slice-in-Ok.ensures.items ∙ ap (λ bs. bs ++ c.as_slice.result.now) (before.bytes chain stands)
+          ∙ ap (λ h. headers_bytes chain c.args.start c.loop-i.i ++ h) c.as_slice.ensures
+          ∙ headers_more chain c.args.start c.loop-i.i c.in-Ok.header (c.in-Ok.ensures.header chain stood);
+      rows = omega (arith, more, rows);
+      unfailed = c.in-Ok.ensures.cause.uncounted ∙ before.unfailed;
+    }

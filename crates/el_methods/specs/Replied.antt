@@ -1,0 +1,86 @@
+-- What each call is answered (Electrum Protocol 1.4): the table of methods. No unconfirmed transaction is
+-- kept yet, so there is none in a list, in a balance or in a status.
+use Rattle.std.specs.Prelude.{◌≡◌, negsuc, Bool, true, false, if◌then◌else◌, List, [], Option, None, Some, Result, Ok, Err, codes}
+use Rattle.serde_json.specs.Data.{Data, null, boolean, number, string, array, no_items, item}
+use Rattle.serde_json.specs.Find.{of_integer}
+use Rattle.el_chain.specs.Chains.{Chain}
+use Rattle.el_chain.specs.History.{history}
+use Rattle.el_chain.specs.declared.node.Node.{Node}
+use Rattle.el_model.specs.Queries.{balance, unspent}
+use Rattle.el_methods.specs.Results as result
+use Rattle.el_methods.specs.Results.{whole, listed, entry_value, coin_value, balance_value}
+use Rattle.el_methods.specs.Sessions.{Subscription, is_shared}
+use Rattle.el_methods.specs.declared.call.Version.{Version}
+use Rattle.el_methods.specs.declared.call.Version.TheVariants as version
+use Rattle.el_methods.specs.declared.call.VersionParts.{VersionParts}
+use Rattle.el_methods.specs.declared.refusal.Refusal.TheVariants as refusal
+use Rattle.el_methods.specs.declared.session.Session.{Session}
+use Rattle.el_methods.specs.declared.call.Call.{Call}
+use Rattle.el_methods.specs.declared.call.Call.TheVariants as call
+use Rattle.el_methods.specs.declared.refusal.Refusal.{Refusal}
+
+-- the answer, after which this is kept
+abbrev pub with_session : Session → Result Data Refusal → Result (Data × Session) Refusal
+with_session s (Ok answer) = Ok (answer, s)
+with_session s (Err r) = Err r
+
+-- it is told new tips, or isn't
+abbrev pub with_headers : Session → Result (Data × Bool) Refusal → Result (Data × Session) Refusal
+with_headers s (Ok answer) = Ok (answer.0, record s { headers = answer.1 })
+with_headers s (Err r) = Err r
+
+-- it has other subscriptions
+abbrev pub with_subscriptions : Session → Result (Data × List Subscription) Refusal → Result (Data × Session) Refusal
+with_subscriptions s (Ok answer) = Ok (answer.0, record s { subs = answer.1 })
+with_subscriptions s (Err r) = Err r
+
+-- server.version: once, and only where the version is shared
+abbrev pub agreed : Session → Option Version → VersionParts → VersionParts → Result (Data × Session) Refusal
+agreed s (Some before) least most = Err refusal.VersionAgreed
+agreed s None least most =
+    if is_shared least most then
+    Ok (
+      array (item (string (codes "el_serve 1.0")) (item (string (codes "1.4")) no_items)),
+      record s { version = Some version.V14 },
+    )
+    else Err refusal.VersionNotShared
+
+-- What each call is answered over a chain and the headers that were found, and what is kept of the client
+-- afterwards.
+abbrev pub replied : Chain → List Node → Session → Call → Result (Data × Session) Refusal
+replied chain found s (call.ServerVersion least most) = agreed s s.version least most
+replied chain found s call.ServerBanner =
+    Ok (string (codes "Electrum Protocol 1.4 server over block files"), s)
+replied chain found s call.ServerDonationAddress = Ok (string [], s)
+replied chain found s call.ServerFeatures = with_session s (result.features found)
+replied chain found s call.ServerPing = Ok (null, s)
+replied chain found s call.ServerPeersSubscribe = Ok (array no_items, s)
+replied chain found s call.ServerAddPeer = Ok (boolean false, s)
+replied chain found s (call.BlockHeader height cp_height) =
+    with_session s (result.block_header chain height cp_height)
+replied chain found s (call.BlockHeaders start count cp_height) =
+    with_session s (result.block_headers chain start count cp_height)
+replied chain found s call.EstimateFee = Ok (number (of_integer (negsuc 0)), s)
+replied chain found s call.RelayFee = Ok (whole 0, s)
+replied chain found s call.HeadersSubscribe =
+    with_headers s (result.told_tip (result.headers_subscribe chain))
+replied chain found s (call.GetBalance script_hash) = Ok (balance_value (balance chain script_hash.0), s)
+replied chain found s (call.GetHistory script_hash) =
+    with_session s (listed entry_value (history chain script_hash.0))
+replied chain found s (call.GetMempool script_hash) = Ok (array no_items, s)
+replied chain found s (call.ListUnspent script_hash) =
+    with_session s (listed coin_value (unspent chain script_hash.0))
+replied chain found s (call.ScriptHashSubscribe script_hash) =
+    with_subscriptions s (result.script_hash_subscribe chain s.subs script_hash)
+replied chain found s call.Broadcast = Err refusal.NoRelay
+replied chain found s (call.TransactionGet id verbose) =
+    with_session s (result.transaction_get chain id verbose)
+replied chain found s (call.GetMerkle id height) = with_session s (result.get_merkle chain id height)
+replied chain found s (call.IdFromPos height pos merkle) =
+    with_session s (result.id_from_pos chain height pos merkle)
+replied chain found s call.FeeHistogram = Ok (array no_items, s)
+
+-- the answer is read from the block files too
+abbrev pub reads_files : Call → Bool
+reads_files (call.TransactionGet id verbose) = true
+reads_files c = false

@@ -1,0 +1,249 @@
+-- The result of each call, or why it is refused (Electrum Protocol 1.4), read off the whole chain.
+use Rattle.std.specs.Prelude.{ℕ, ◌+◌, ◌-◌, ◌==◌, min, nat_lt, nat_le, ◌||◌, ◌&&◌, not, Bool, true, false, if◌then◌else◌, List, [], ◌∷◌, ◌++◌, length, take, drop, map, flat_map, slice_get, Option, None, Some, option_map, ok_or, Result, Ok, Err, codes}
+use Rattle.std.specs.Fmt.{decimal}
+use Rattle.std.specs.List.{position}
+use Rattle.std.specs.Str.{bytes_eq}
+use Rattle.hex.specs.Hex.{encode_lower}
+use Rattle.sha2.specs.Sha256.{sha256}
+use Rattle.serde_json.specs.Data.{Data, null, number, string, array, object, unsigned, Members, no_members, put}
+use Rattle.serde_json.specs.View.{items_of}
+use Rattle.el_base.specs.declared.hash.Hash32.{Hash32}
+use Rattle.el_base.specs.Shown.{shown}
+use Rattle.el_tx.specs.declared.types.Tx.{Tx}
+use Rattle.el_tx.specs.Hashing.{full_encoding}
+use Rattle.el_tx.specs.Headers.{header_encoding}
+use Rattle.el_merkle.specs.Merkle.{root, branch_of}
+use Rattle.el_chain.specs.Chains.{Chain}
+use Rattle.el_chain.specs.Headers.{genesis}
+use Rattle.el_chain.specs.History.{Position, positions, history}
+use Rattle.el_chain.specs.declared.coin.Coin.{Coin}
+use Rattle.el_chain.specs.declared.entry.Entry.{Entry}
+use Rattle.el_chain.specs.declared.node.Node.{Node}
+use Rattle.el_chain.specs.declared.placed.Placed.{Placed}
+use Rattle.el_model.specs.Queries.{header_at, height_of, hashes_to, newest, txids_at}
+use Rattle.el_model.specs.declared.limits.TheConstants.{ENTRY_LIMIT}
+use Rattle.el_methods.specs.Methods.{◌>>=◌}
+use Rattle.el_methods.specs.Sessions.{Subscription, is_subscribed, subscribed}
+use Rattle.el_methods.specs.declared.blocks.TheConstants.{HEADER_LIMIT}
+use Rattle.el_methods.specs.declared.session.TheConstants.{SUBSCRIPTION_LIMIT}
+use Rattle.el_methods.specs.declared.refusal.Refusal.{Refusal}
+use Rattle.el_methods.specs.declared.refusal.Refusal.TheVariants as refusal
+
+-- 1. Values of JSON
+
+-- bytes in hex
+abbrev pub hex : List ℕ → Data
+hex bytes = string (encode_lower bytes)
+
+-- a hash as it is shown
+abbrev pub shown_hash : Hash32 → Data
+shown_hash h = string (shown h.0)
+
+abbrev pub whole : ℕ → Data
+whole n = number (unsigned n)
+
+abbrev pub put_all : Members → List (List ℕ × Data) → Members
+put_all ms [] = ms
+put_all ms (m ∷ more) = put_all (put m.0 m.1 ms) more
+
+-- an object with these members
+abbrev pub object_of : List (List ℕ × Data) → Data
+object_of ms = object (put_all no_members ms)
+
+abbrev pub hashes : List Hash32 → Data
+hashes hs = array (items_of (map shown_hash hs))
+
+-- 2. blockchain.block.header
+
+-- a header, and the proof of its block's hash among block hashes
+abbrev pub proof_among : List Hash32 → ℕ → List ℕ → Data
+proof_among list height header =
+    object_of ((codes "branch", hashes (branch_of list height)) ∷ (codes "header", hex header)
+    ∷ (codes "root", shown_hash (root list)) ∷ [])
+
+-- among those up to the checkpoint
+abbrev pub header_proof : Chain → ℕ → ℕ → List ℕ → Data
+header_proof chain height cp_height header = proof_among (hashes_to chain cp_height) height header
+
+-- the checkpoint is above the tip or below the header
+abbrev pub is_bad_checkpoint : Chain → ℕ → ℕ → Bool
+is_bad_checkpoint chain height cp_height = nat_le (length chain) cp_height || nat_lt cp_height height
+
+abbrev pub header_or_proof : Chain → ℕ → ℕ → List ℕ → Result Data Refusal
+header_or_proof chain height cp_height header =
+    if cp_height == 0 then Ok (hex header)
+    else (if is_bad_checkpoint chain height cp_height then Err refusal.BadCheckpoint
+    else Ok (header_proof chain height cp_height header))
+
+-- what is made of the header of that height
+abbrev pub of_header : Chain → ℕ → (List ℕ → Data) → Result Data Refusal
+of_header chain height make = do
+  header ← ok_or (header_at chain height) refusal.NoSuchHeight
+  Ok (make header)
+
+abbrev pub block_header : Chain → ℕ → ℕ → Result Data Refusal
+block_header chain height cp_height = do
+  header ← ok_or (header_at chain height) refusal.NoSuchHeight
+  header_or_proof chain height cp_height header
+
+-- 3. blockchain.block.headers
+
+-- how many headers are returned: no more than asked for, than a reply may have, and than there are from that
+-- height on
+abbrev pub header_count : Chain → ℕ → ℕ → ℕ
+header_count chain start count = min count (min HEADER_LIMIT (length chain - start))
+
+-- the bytes of so many headers from that height on
+abbrev pub headers_bytes : Chain → ℕ → ℕ → List ℕ
+headers_bytes chain start n = flat_map (λ (b : Placed). header_encoding b.block.header) (take n (drop start chain))
+
+abbrev pub headers_value : ℕ → List ℕ → Data
+headers_value n bytes =
+    object_of ((codes "count", whole n) ∷ (codes "hex", hex bytes) ∷ (codes "max", whole HEADER_LIMIT) ∷ [])
+
+-- with the proof of the last one's block hash, of that height, among block hashes
+abbrev pub headers_among : List Hash32 → ℕ → ℕ → List ℕ → Data
+headers_among list last n bytes =
+    object_of ((codes "branch", hashes (branch_of list last)) ∷ (codes "count", whole n) ∷ (codes "hex", hex bytes)
+    ∷ (codes "max", whole HEADER_LIMIT) ∷ (codes "root", shown_hash (root list)) ∷ [])
+
+-- the checkpoint is above the tip, or below the last of some headers
+abbrev pub is_bad_for_headers : Chain → ℕ → ℕ → ℕ → Bool
+is_bad_for_headers chain start n cp_height =
+    nat_le (length chain) cp_height || (nat_lt 0 n && nat_lt (cp_height + 1) (start + n))
+
+abbrev pub headers_proved : Chain → ℕ → ℕ → ℕ → Result Data Refusal
+headers_proved chain start n cp_height =
+    if is_bad_for_headers chain start n cp_height then Err refusal.BadCheckpoint
+    else (if n == 0 then Ok (headers_value n (headers_bytes chain start n))
+    else Ok (headers_among (hashes_to chain cp_height) (start + n - 1) n (headers_bytes chain start n)))
+
+abbrev pub some_headers : Chain → ℕ → ℕ → ℕ → Result Data Refusal
+some_headers chain start n cp_height =
+    if cp_height == 0 then Ok (headers_value n (headers_bytes chain start n)) else headers_proved chain start n cp_height
+
+abbrev pub block_headers : Chain → ℕ → ℕ → ℕ → Result Data Refusal
+block_headers chain start count cp_height = some_headers chain start (header_count chain start count) cp_height
+
+-- 4. blockchain.headers.subscribe
+
+abbrev pub tip_value : ℕ → List ℕ → Data
+tip_value height header = object_of ((codes "height", whole height) ∷ (codes "hex", hex header) ∷ [])
+
+abbrev pub headers_subscribe : Chain → Result Data Refusal
+headers_subscribe chain = do
+  height ← ok_or (height_of chain) refusal.NoBlocks
+  header ← ok_or (header_at chain height) refusal.NoBlocks
+  Ok (tip_value height header)
+
+-- the answer, after which the client is told each new tip
+abbrev pub told_tip : Result Data Refusal → Result (Data × Bool) Refusal
+told_tip (Ok answer) = Ok (answer, true)
+told_tip (Err r) = Err r
+
+-- 5. blockchain.transaction.get
+
+-- the newest of the chain
+abbrev pub transaction_of : Chain → Hash32 → Option Tx
+transaction_of chain id = option_map (λ (p : Position). p.tx) (newest id (positions chain))
+
+abbrev pub transaction_get : Chain → Hash32 → Bool → Result Data Refusal
+transaction_get chain id true = Err refusal.VerboseNotServed
+transaction_get chain id false = do
+  t ← ok_or (transaction_of chain id) refusal.NoSuchTransaction
+  Ok (hex (full_encoding t))
+
+-- 6. blockchain.transaction.get_merkle and blockchain.transaction.id_from_pos
+
+-- where the txid stands first among these
+abbrev pub place_among : Hash32 → List Hash32 → Option ℕ
+place_among id ids = position (λ (other : Hash32). bytes_eq other.0 id.0) ids
+
+abbrev pub merkle_value : List Hash32 → ℕ → ℕ → Data
+merkle_value ids height pos =
+    object_of ((codes "block_height", whole height) ∷ (codes "merkle", hashes (branch_of ids pos))
+    ∷ (codes "pos", whole pos) ∷ [])
+
+abbrev pub get_merkle : Chain → Hash32 → ℕ → Result Data Refusal
+get_merkle chain id height = do
+  ids ← ok_or (txids_at chain height) refusal.NoSuchHeight
+  pos ← ok_or (place_among id ids) refusal.NotInThatBlock
+  Ok (merkle_value ids height pos)
+
+-- the txid, with its branch where that is asked for
+abbrev pub id_value : List Hash32 → ℕ → Hash32 → Bool → Data
+id_value ids pos id false = shown_hash id
+id_value ids pos id true =
+    object_of ((codes "merkle", hashes (branch_of ids pos)) ∷ (codes "tx_hash", shown_hash id) ∷ [])
+
+abbrev pub id_from_pos : Chain → ℕ → ℕ → Bool → Result Data Refusal
+id_from_pos chain height pos merkle = do
+  ids ← ok_or (txids_at chain height) refusal.NoSuchHeight
+  id ← ok_or (slice_get ids pos) refusal.NoSuchPosition
+  Ok (id_value ids pos id merkle)
+
+-- 7. blockchain.scripthash.get_balance, get_history, get_mempool and listunspent
+
+-- the values as a list, which may not be too long
+abbrev pub listed : {A : Type 0} → (A → Data) → List A → Result Data Refusal
+listed value xs =
+    if nat_lt ENTRY_LIMIT (length xs) then Err refusal.HistoryTooLarge else Ok (array (items_of (map value xs)))
+
+abbrev pub balance_value : ℕ → Data
+balance_value sum = object_of ((codes "confirmed", whole sum) ∷ (codes "unconfirmed", whole 0) ∷ [])
+
+abbrev pub entry_value : Entry → Data
+entry_value e = object_of ((codes "height", whole e.height) ∷ (codes "tx_hash", shown_hash e.txid) ∷ [])
+
+abbrev pub coin_value : Coin → Data
+coin_value c =
+    object_of ((codes "height", whole c.height) ∷ (codes "tx_hash", shown_hash c.outpoint.txid)
+    ∷ (codes "tx_pos", whole c.outpoint.index) ∷ (codes "value", whole c.value) ∷ [])
+
+-- 8. blockchain.scripthash.subscribe
+
+-- what an entry adds to the text of a status (58 is ':')
+abbrev pub status_entry : Entry → List ℕ
+status_entry e = shown e.txid.0 ++ 58 ∷ (decimal e.height ++ 58 ∷ [])
+
+-- the text of a status
+abbrev pub status_text : Chain → List ℕ → List ℕ
+status_text chain script_hash = flat_map status_entry (history chain script_hash)
+
+abbrev pub status_of_text : List ℕ → Option Hash32
+status_of_text [] = None
+status_of_text (b ∷ bs) = Some (record { 0 = sha256 (b ∷ bs) })
+
+-- the status of a script hash: the hash of its text, or none where it has no history
+abbrev pub status : Chain → List ℕ → Option Hash32
+status chain script_hash = status_of_text (status_text chain script_hash)
+
+-- as it is told: by 64 hex digits, the first byte first
+abbrev pub told : Option Hash32 → Data
+told None = null
+told (Some h) = hex h.0
+
+-- it is new, and as many are held as there may be
+abbrev pub is_one_too_many : List Subscription → Hash32 → Bool
+is_one_too_many subs s = nat_le SUBSCRIPTION_LIMIT (length subs) && not (is_subscribed s subs)
+
+-- the answer, and the subscriptions after it
+abbrev pub script_hash_subscribe : Chain → List Subscription → Hash32 → Result (Data × List Subscription) Refusal
+script_hash_subscribe chain subs s =
+    if is_one_too_many subs s then Err refusal.TooManySubscriptions
+    else Ok (told (status chain s.0), subscribed s (status chain s.0) subs)
+
+-- 9. server.features
+
+abbrev pub features_value : Hash32 → Data
+features_value genesis =
+    object_of ((codes "genesis_hash", shown_hash genesis) ∷ (codes "hash_function", string (codes "sha256"))
+    ∷ (codes "hosts", object no_members) ∷ (codes "protocol_max", string (codes "1.4"))
+    ∷ (codes "protocol_min", string (codes "1.4")) ∷ (codes "pruning", null)
+    ∷ (codes "server_version", string (codes "el_serve 1.0")) ∷ [])
+
+-- of the headers that were found
+abbrev pub features : List Node → Result Data Refusal
+features found = do
+  first ← ok_or (genesis found) refusal.NoBlocks
+  Ok (features_value first.hash)

@@ -1,0 +1,6 @@
+-- How many blocks there are, by the height of the tip.
+use Rattle.std.specs.Prelude.{ℕ, ◌+◌, Option, None, Some}
+
+abbrev pub blocks_of : Option ℕ → ℕ
+blocks_of None = 0
+blocks_of (Some top) = top + 1
