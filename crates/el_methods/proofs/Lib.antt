@@ -6,6 +6,4 @@ mod Places
 mod Printable
 mod Quiets
 mod Losing
-mod HexDigits
-mod TxidPlaces
 mod ManyHeaders

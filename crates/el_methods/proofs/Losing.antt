@@ -1,5 +1,5 @@
 -- What is lost while a line is answered.
-use Rattle.std.proofs.Common.{◌≡◌, sym, subst, ℕ, ◌+◌, nat_lt, true, false, List, [], ◌∷◌, ◌++◌, Result, Ok, Err, refl, append_assoc, append-nil, arith}
+use Rattle.std.proofs.Common.{◌≡◌, sym, subst, ℕ, ◌+◌, nat_lt, true, List, [], ◌∷◌, ◌++◌, Result, Ok, Err, refl, append_assoc, append-nil, arith}
 use Rattle.std.specs.Prelude.{OnOk, IfOk}
 use Rattle.serde_json.specs.Data.{Data}
 use Rattle.el_outside.specs.Counts.{RoseBy}
@@ -8,7 +8,7 @@ use Rattle.el_chain.specs.Chains.{Chain}
 use Rattle.el_chain.specs.declared.node.Node.{Node}
 use Rattle.el_json.specs.declared.request.Request.{Request}
 use Rattle.el_json.specs.declared.request.Item.TheVariants.{Good}
-use Rattle.el_methods.specs.Batches.{Step, InTime, with_reply}
+use Rattle.el_methods.specs.Batches.{Step, with_reply}
 use Rattle.el_methods.specs.Losses.{Loss, disk, archive, changed, disk_losses, archive_losses, losses_of, IsTold, AnswersOf, Loses}
 use Rattle.el_methods.specs.Losses as told
 use Rattle.el_methods.specs.Requested.{IsAnswered}
@@ -83,7 +83,3 @@ if_ok (Err e) P Q f h = tt
 pub step_late : {X : Type 0} (answers : X → Request → Session → Result Data Refusal → X → Session → Type 0) (r : Request) (x : X) (s t : Session) (b c : Replies)
     → nat_lt BATCH_LIMIT b.size ≡ true → t ≡ s → c ≡ with_reply r.id (Err refusal.BatchTooLarge) b → Step answers (Good r) x s b x t c
 step_late answers r x s t b c late same is = rw late (refl, same, is)
-
-pub step_in_time : {X : Type 0} (answers : X → Request → Session → Result Data Refusal → X → Session → Type 0) (r : Request) (x y : X) (s t : Session) (b c : Replies)
-    → nat_lt BATCH_LIMIT b.size ≡ false → InTime answers r x s b y t c → Step answers (Good r) x s b y t c
-step_in_time answers r x y s t b c early h = rw early h

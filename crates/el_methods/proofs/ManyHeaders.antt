@@ -1,5 +1,5 @@
 -- Headers one after the other.
-use Rattle.std.proofs.Common.{◌≡◌, ◌∙◌, sym, ap, ℕ, ◌+◌, ◌-◌, ◌==◌, ◌<◌, ◌≤◌, ◌||◌, ◌&&◌, min, nat_le, nat_lt, Bool, true, false, List, [], ◌∷◌, ◌++◌, length, take, drop, get_or, Option, Some, None, option_map, Ok, Err, refl, arith, length-drop, append-nil}
+use Rattle.std.proofs.Common.{◌≡◌, ◌∙◌, sym, ap, ℕ, ◌+◌, ◌-◌, ◌==◌, ◌<◌, min, true, List, [], ◌∷◌, ◌++◌, length, take, drop, get_or, Option, Some, None, option_map, Ok, refl, arith, length-drop}
 use Rattle.std.specs.Prelude.{slice_get}
 use Rattle.std.specs.List.{flat_map}
 use Rattle.std.proofs.lemmas.List.{take_more, get_or-drop, flat_map_more}
@@ -8,11 +8,10 @@ use Rattle.std.proofs.lemmas.Bool.Decides.{nat_tests}
 use Rattle.el_tx.specs.Headers.{header_encoding}
 use Rattle.el_chain.specs.Chains.{Chain}
 use Rattle.el_chain.specs.declared.placed.Placed.{Placed}
-use Rattle.el_model.specs.Queries.{header_at, height_of, hashes_to}
-use Rattle.el_methods.specs.Results.{header_count, headers_bytes, headers_value, headers_among, is_bad_for_headers, headers_proved, some_headers, block_headers}
+use Rattle.el_model.specs.Queries.{header_at, height_of}
+use Rattle.el_methods.specs.Results.{header_count, headers_bytes, headers_value, some_headers, block_headers}
 use Rattle.el_methods.specs.within.Tops.{blocks_of}
 use Rattle.el_methods.specs.declared.blocks.TheConstants.{HEADER_LIMIT}
-use Rattle.el_methods.specs.declared.refusal.Refusal.TheVariants as refusal
 
 abbrev bytes_of : Placed → List ℕ
 bytes_of b = header_encoding b.block.header
@@ -51,39 +50,9 @@ pub count_is : (chain : Chain) (top : Option ℕ) (start count n : ℕ) → top 
 count_is chain top start count n is so =
     so ∙ ap (λ blocks. min count (min HEADER_LIMIT (blocks - start))) (blocks_are chain top is)
 
--- the cases of blockchain.block.headers, with so many headers
-pub bad_headers : (chain : Chain) (start count cp n : ℕ) → n ≡ header_count chain start count → (cp ≡ 0 → ⊥)
-    → is_bad_for_headers chain start n cp ≡ true → block_headers chain start count cp ≡ Err refusal.BadCheckpoint
-bad_headers chain start count cp n so some bad =
-    let zero : (cp == 0) ≡ false = grind (arith, nat_tests) in
-    ap (λ m. some_headers chain start m cp) (sym so) ∙ rw (zero, bad) refl
-
+-- headers alone
 pub plain_headers : (chain : Chain) (start count cp n : ℕ) → n ≡ header_count chain start count → cp ≡ 0
     → block_headers chain start count cp ≡ Ok (headers_value n (headers_bytes chain start n))
 plain_headers chain start count cp n so none =
     let zero : (cp == 0) ≡ true = grind (arith, nat_tests) in
     ap (λ m. some_headers chain start m cp) (sym so) ∙ rw zero refl
-
-no_headers_at : (chain : Chain) (start cp : ℕ) (b bad : Bool) → b ≡ (cp == 0) → bad ≡ is_bad_for_headers chain start 0 cp
-    → (b ≡ false → bad ≡ false) → some_headers chain start 0 cp ≡ Ok (headers_value 0 [])
-no_headers_at chain start cp true bad is at good = rw (sym is) refl
-no_headers_at chain start cp false bad is at good =
-    let none : is_bad_for_headers chain start 0 cp ≡ false = sym at ∙ good refl in rw (sym is, none) refl
-
-pub no_headers : (chain : Chain) (start count cp n : ℕ) → n ≡ header_count chain start count → n ≡ 0
-    → ((cp ≡ 0 → ⊥) → is_bad_for_headers chain start n cp ≡ false)
-    → block_headers chain start count cp ≡ Ok (headers_value 0 [])
-no_headers chain start count cp n so none good =
-    ap (λ m. some_headers chain start m cp) (sym so ∙ none)
-    ∙ no_headers_at chain start cp (cp == 0) (is_bad_for_headers chain start 0 cp) refl refl
-    (λ other. let some : cp ≡ 0 → ⊥ = grind (arith, nat_tests) in
-    ap (λ m. is_bad_for_headers chain start m cp) (sym none) ∙ good some)
-
-pub proved_headers : (chain : Chain) (start count cp n : ℕ) → n ≡ header_count chain start count → (n ≡ 0 → ⊥)
-    → (cp ≡ 0 → ⊥) → is_bad_for_headers chain start n cp ≡ false
-    → block_headers chain start count cp
-    ≡ Ok (headers_among (hashes_to chain cp) (start + n - 1) n (headers_bytes chain start n))
-proved_headers chain start count cp n so some other good =
-    let zero : (cp == 0) ≡ false = grind (arith, nat_tests) in
-    let more : (n == 0) ≡ false = grind (arith, nat_tests) in
-    ap (λ m. some_headers chain start m cp) (sym so) ∙ rw (zero, good, more) refl

@@ -1,21 +1,12 @@
 -- Answers can be printed: they have no float.
-use Rattle.std.proofs.Common.{◌≡◌, ℕ, Bool, true, false, List, [], ◌∷◌, map, IfSome, Result, Ok, Err, refl}
-use Rattle.serde_json.specs.Data.{Data, string}
+use Rattle.std.proofs.Common.{◌≡◌, ℕ, Bool, true, false, List, [], ◌∷◌, map, refl}
 use Rattle.serde_json.specs.View.{items_of}
 use Rattle.serde_json.specs.Written.{has_float, items_have_float}
 use Rattle.el_base.specs.declared.hash.Hash32.{Hash32}
 use Rattle.el_chain.specs.declared.coin.Coin.{Coin}
 use Rattle.el_chain.specs.declared.entry.Entry.{Entry}
 use Rattle.el_merkle.specs.Merkle.{branch_of}
-use Rattle.el_methods.specs.Envelopes.{IsPrintableAnswer}
-use Rattle.el_methods.specs.Requested.{told_of}
 use Rattle.el_methods.specs.Results.{hashes, proof_among, headers_among, merkle_value, id_value, entry_value, coin_value}
-use Rattle.el_methods.specs.declared.stop.Stop.{Stop}
-use Rattle.el_methods.specs.declared.stop.Stop.TheVariants as stop
-
-pub texts : {A : Type 0} (text : A → List ℕ) (xs : List A) → items_have_float (items_of (map (λ x. string (text x)) xs)) ≡ false
-texts text [] = refl
-texts text (x ∷ xs) = texts text xs
 
 pub of_hashes : (hs : List Hash32) → has_float (hashes hs) ≡ false
 of_hashes [] = refl
@@ -41,11 +32,3 @@ of_entries (e ∷ es) = of_entries es
 pub of_coins : (cs : List Coin) → items_have_float (items_of (map coin_value cs)) ≡ false
 of_coins [] = refl
 of_coins (c ∷ cs) = of_coins cs
-
-pub of_told : (given : Result Data Stop) → IsPrintableAnswer given → IfSome (told_of given) IsPrintableAnswer
-of_told (Ok answer) h = h
-of_told (Err (stop.Refused r)) h = tt
-of_told (Err stop.Disk) h = tt
-of_told (Err stop.Archive) h = tt
-of_told (Err stop.Changed) h = tt
-of_told (Err stop.Memory) h = tt

@@ -1,5 +1,5 @@
 -- Replies of JSON-RPC 2.0, sections 5 and 6.
-use Rattle.std.specs.Prelude.{◌≡◌, ⊤, [], ◌∷◌, Result, Ok, Err, codes}
+use Rattle.std.specs.Prelude.{⊤, [], ◌∷◌, Result, Ok, Err, codes}
 use Rattle.serde_json.specs.Data.{Data, string, number}
 use Rattle.serde_json.specs.Find.{of_integer}
 use Rattle.el_json.specs.Lines.{IsPrintable}

@@ -1,6 +1,6 @@
 -- What each call is answered (Electrum Protocol 1.4): the table of methods. No unconfirmed transaction is
 -- kept yet, so there is none in a list, in a balance or in a status.
-use Rattle.std.specs.Prelude.{◌≡◌, negsuc, Bool, true, false, if◌then◌else◌, List, [], Option, None, Some, Result, Ok, Err, codes}
+use Rattle.std.specs.Prelude.{negsuc, Bool, true, false, if◌then◌else◌, List, [], Option, None, Some, Result, Ok, Err, codes}
 use Rattle.serde_json.specs.Data.{Data, null, boolean, number, string, array, no_items, item}
 use Rattle.serde_json.specs.Find.{of_integer}
 use Rattle.el_chain.specs.Chains.{Chain}

@@ -1,5 +1,5 @@
 -- What the server keeps of a client for its requests (Electrum Protocol 1.4).
-use Rattle.std.specs.Prelude.{ℕ, ◌==◌, nat_lt, nat_le, Bool, if◌then◌else◌, ◌&&◌, ◌||◌, List, [], ◌∷◌, Option}
+use Rattle.std.specs.Prelude.{◌==◌, nat_lt, nat_le, Bool, if◌then◌else◌, ◌&&◌, ◌||◌, List, [], ◌∷◌, Option}
 use Rattle.std.specs.List.{list_any}
 use Rattle.std.specs.Str.{bytes_eq}
 use Rattle.el_base.specs.declared.hash.Hash32.{Hash32}

@@ -1,4 +1,4 @@
-use Rattle.std.proofs.Common.{◌≡◌, ◌∙◌, ap, ◌++◌, refl, arith}
+use Rattle.std.proofs.Common.{◌∙◌, ap, ◌++◌, refl, arith}
 use Rattle.el_methods.specs.Results.{headers_bytes}
 use Rattle.el_methods.proofs.ManyHeaders.{headers_more}
 use Rattle.el_methods.proofs.Quiets.{quiet_none, quiet_on}
