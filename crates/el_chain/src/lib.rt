@@ -42,8 +42,3 @@ pub use plain_chain::PlainChain;
 pub use read_fault::{ReadFault, ScanFault};
 pub use reading::{compare_block, read_block, read_part};
 pub use touched::Touched;
-
-#[cfg(test)]
-mod chain_tests;
-#[cfg(test)]
-mod tests;

@@ -17,6 +17,3 @@ mod server;
 pub use fault::StepFault;
 pub use out::Outs;
 pub use server::Server;
-
-#[cfg(test)]
-mod tests;

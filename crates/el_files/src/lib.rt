@@ -15,6 +15,3 @@ pub use laws::records_stand;
 pub use lookup::record_at;
 pub use reading::read_tx;
 pub use scanning::{scan, scan_file};
-
-#[cfg(test)]
-mod tests;

@@ -12,6 +12,3 @@ mod tree;
 pub use answer::{Added, PathFault};
 pub use laws::{found_stays_found, path_is_one, paths_stay_and_go_on};
 pub use tree::HeaderTree;
-
-#[cfg(test)]
-mod tests;

@@ -24,6 +24,3 @@ pub use node_answer::{
 pub use node_line::{NodeLine, NodeLineFault, read_node_line};
 pub use number::number_of;
 pub use request::{Request, request_of};
-
-#[cfg(test)]
-mod tests;

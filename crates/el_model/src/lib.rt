@@ -24,12 +24,3 @@ pub use limits::{CLIENT_LIMIT, ENTRY_LIMIT, LINE_LIMIT, NODE_LINE_LIMIT};
 pub use method::Method;
 pub use plain_ledger::PlainLedger;
 pub use reading::read_all;
-
-#[cfg(test)]
-mod back_tests;
-#[cfg(test)]
-mod move_tests;
-#[cfg(test)]
-mod query_tests;
-#[cfg(test)]
-mod tests;

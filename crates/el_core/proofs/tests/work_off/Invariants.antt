@@ -1,5 +1,0 @@
-use Rattle.el_core.specs.State.{work}
-use Rattle.el_core.proofs.tests.work_off.Given as goal
-
-abbrev pub decreases-loop-outs : goal.decreases-loop-outs
-decreases-loop-outs g l = work l.server

@@ -1,0 +1,8 @@
+//! Tests of the crates of the server, from lines to the core: lines from outside, what is answered, what is
+//! printed, and that each public call succeeds where memory is ample.
+#![tactic(auto)]
+
+#[cfg(test)]
+mod lines;
+#[cfg(test)]
+mod server;

@@ -1,0 +1,563 @@
+// Lines that come and go: pieces of lines, lines of a node, requests, replies, and answers to a node.
+ghost use Rattle.std.specs.Prelude.{◌≤◌};
+
+use el_base::{Bytes, CompactFault, Hash32, OutOfMemory};
+use el_block::BlockFault;
+use el_chain::{Coin, ConnectFault, Entry, MoveFault};
+use el_lines::{
+    LineBuffer, LineEvent, NodeLine, NodeLineFault, archive_refused, at_answer, balance_reply,
+    block_answer, cuts_do_not_matter, deep_refused, disk_reply, genesis_refused, history_reply,
+    line_refused, long_refused, move_refused, node_line_says_one_thing, place_refused,
+    read_node_line, request_of, too_large_reply, unconnected_refused, unknown_refused,
+    unspent_reply,
+};
+use el_model::{LINE_LIMIT, Method, NODE_LINE_LIMIT};
+use el_tx::{Outpoint, TxFault};
+use std::alloc::{AllocError, Global};
+use std::test::Fail;
+
+// The hash of Bitcoin's first block in inner order, and as it is shown, in lower case, upper case and both.
+const HASH: [u8; 32] = [
+    0x6f, 0xe2, 0x8c, 0x0a, 0xb6, 0xf1, 0xb3, 0x72, 0xc1, 0xa6, 0xa2, 0x46, 0xae, 0x63, 0xf7, 0x4f,
+    0x93, 0x1e, 0x83, 0x65, 0xe1, 0x5a, 0x08, 0x9c, 0x68, 0xd6, 0x19, 0x00, 0x00, 0x00, 0x00, 0x00,
+];
+
+const SHOWN: [&str; 3] = [
+    "000000000019d6689c085ae165831e934ff763ae46a2a6c172b3f1b60a8ce26f",
+    "000000000019D6689C085AE165831E934FF763AE46A2A6C172B3F1B60A8CE26F",
+    "000000000019d6689c085ae165831e934FF763AE46A2A6C172B3F1B60A8CE26F",
+];
+
+// The texts one after the other.
+fn joined(alloc: Global, parts: &[&str]) -> Result<Vec<u8>, Fail> {
+    let mut text = Vec::new(alloc);
+    for part in parts {
+        text.extend_from_slice(part.as_bytes())?;
+    }
+    Ok(text)
+}
+
+// Adds the events that are left: the bytes of each line and a bar, and a hash sign for one that is too long.
+fn take_events(buffer: &mut LineBuffer, limit: usize, events: &mut Vec<u8>) -> Result<(), Fail> {
+    for _ in 0..8 {
+        match buffer.next_line()? {
+            Some(LineEvent::Line(line)) => {
+                events.extend_from_slice(line.as_slice())?;
+                events.push(b'|')?;
+            }
+            Some(event) => {
+                if event == (LineEvent::TooLong { limit }) {
+                    events.push(b'#')?;
+                }
+            }
+            None => {}
+        }
+    }
+    Ok(())
+}
+
+// The events of bytes that are fed in these pieces.
+fn events_of(alloc: Global, limit: usize, pieces: &[&[u8]]) -> Result<Vec<u8>, Fail> {
+    let mut buffer = LineBuffer::new(alloc, limit);
+    let mut events = Vec::new(alloc);
+    for piece in pieces {
+        buffer.feed(piece)?;
+        take_events(&mut buffer, limit, &mut events)?;
+    }
+    Ok(events)
+}
+
+// What was fed, in pieces, and the events of it where a line has at most five bytes.
+const EVENTS: [(&[&[u8]], &[u8]); 8] = [
+    (&[b"one\n\nfives\n"], b"one||fives|"),
+    (&[b"sixsix\nab\n"], b"#ab|"),
+    (&[b"12345"], b""),
+    (&[b"12345", b"\n"], b"12345|"),
+    (&[b"123456"], b"#"),
+    (&[b"123456", b"789", b"0\nab\ncd"], b"#ab|"),
+    (&[b"1234567\n7654321\n1"], b"##"),
+    (&[b"", b"\n", b"\0\xff\r\n"], b"|\0\xff\r|"),
+];
+
+#[test]
+fn lines_at_the_limit(rt: HostRuntime) -> Result<(), Fail> {
+    for (pieces, events) in EVENTS {
+        assert!(rt;
+            events_of(rt.alloc(), 5, pieces)?.as_slice() == events,
+            "of {pieces:?}"
+        );
+    }
+    cuts_do_not_matter();
+    Ok(())
+}
+
+// The events of bytes that are fed in two pieces, of which the second comes while lines of the first wait.
+fn events_of_both(alloc: Global, front: &[u8], back: &[u8]) -> Result<Vec<u8>, Fail> {
+    let mut buffer = LineBuffer::new(alloc, 5);
+    let mut events = Vec::new(alloc);
+    buffer.feed(front)?;
+    buffer.feed(back)?;
+    take_events(&mut buffer, 5, &mut events)?;
+    Ok(events)
+}
+
+// Three lines, of which the last is too long, and bytes of a fourth.
+#[test]
+fn pieces_give_the_same_lines(rt: HostRuntime) -> Result<(), Fail> {
+    let script: &[u8] = b"one\n\nthe third line\nfour";
+    let wanted: &[u8] = b"one||#";
+    for at in 0..=script.len() {
+        let (front, back) = script.split_at(at);
+        let pieces = [front, back];
+        assert!(rt;
+            events_of(rt.alloc(), 5, pieces.as_slice())?.as_slice() == wanted,
+            "{at}"
+        );
+        assert!(rt;
+            events_of_both(rt.alloc(), front, back)?.as_slice() == wanted,
+            "{at}"
+        );
+    }
+    Ok(())
+}
+
+// Feeds a megabyte without byte 10 in pieces of 62,500 bytes.
+fn feed_megabyte(alloc: Global, buffer: &mut LineBuffer, events: &mut Vec<u8>) -> Result<(), Fail> {
+    let piece = vec![in alloc; b'a'; 62_500]?;
+    for _ in 0..16 {
+        buffer.feed(&piece)?;
+        take_events(buffer, LINE_LIMIT, events)?;
+    }
+    Ok(())
+}
+
+// Feeds these bytes, and tells whether all events are then these.
+fn feeds(
+    buffer: &mut LineBuffer,
+    bytes: &[u8],
+    events: &mut Vec<u8>,
+    wanted: &[u8],
+) -> Result<bool, Fail> {
+    buffer.feed(bytes)?;
+    take_events(buffer, LINE_LIMIT, events)?;
+    Ok(events.as_slice() == wanted)
+}
+
+#[test]
+fn a_line_without_end(rt: HostRuntime) -> Result<(), Fail> {
+    let mut buffer = LineBuffer::new(rt.alloc(), LINE_LIMIT);
+    let mut events = Vec::new(rt.alloc());
+    feed_megabyte(rt.alloc(), &mut buffer, &mut events)?;
+    assert!(rt; events.is_empty());
+    assert!(rt; feeds(&mut buffer, b"a", &mut events, b"#")?);
+    feed_megabyte(rt.alloc(), &mut buffer, &mut events)?;
+    assert!(rt; feeds(&mut buffer, b"\nnext\n", &mut events, b"#next|")?);
+    Ok(())
+}
+
+#[test]
+fn lines_of_blocks(rt: HostRuntime) -> Result<(), Fail> {
+    for (line, file, at) in [
+        ("block 0 0", 0, 0),
+        ("block 10 293", 10, 293),
+        ("block 0000000007 00000000000000000008", 7, 8),
+        (
+            "block 4294967295 9223372036854775807",
+            4_294_967_295,
+            9_223_372_036_854_775_807,
+        ),
+    ] {
+        let found = read_node_line(rt.alloc(), line.as_bytes())?;
+        assert!(rt; found == NodeLine::Block { file, at }, "of {line}");
+    }
+    node_line_says_one_thing();
+    Ok(())
+}
+
+// Whether these two words are read as that line of a node.
+fn reads(alloc: Global, words: &[&str], wanted: &NodeLine) -> Result<bool, Fail> {
+    let line = joined(alloc, words)?;
+    Ok(read_node_line(alloc, &line)? == *wanted)
+}
+
+#[test]
+fn lines_of_hashes(rt: HostRuntime) -> Result<(), Fail> {
+    let (tip, drop) = (NodeLine::Tip(Hash32(HASH)), NodeLine::Drop(Hash32(HASH)));
+    for shown in SHOWN {
+        assert!(rt; reads(rt.alloc(), &["tip ", shown], &tip)?, "of {shown}");
+        assert!(rt; reads(rt.alloc(), &["drop ", shown], &drop)?, "of {shown}");
+    }
+    Ok(())
+}
+
+// Lines that say nothing.
+const NO_LINES: [&str; 37] = [
+    "",
+    "block",
+    "block 0",
+    "block 0 ",
+    "block 0 0 ",
+    " block 0 0",
+    "block  0 0",
+    "block 0  0",
+    "block 0 0 0",
+    "Block 0 0",
+    "block 4294967296 0",
+    "block 00000000000 0",
+    "block 0 9223372036854775808",
+    "block 0 18446744073709551616",
+    "block 0 000000000000000000000",
+    "block +1 0",
+    "block 0 -1",
+    "block 0x1 0",
+    "block 0\t0",
+    "block 0 0\r",
+    "tip",
+    "tip 000000000019d6689c085ae165831e934ff763ae46a2a6c172b3f1b60a8ce26",
+    "tip 000000000019d6689c085ae165831e934ff763ae46a2a6c172b3f1b60a8ce26f ",
+    "tip 000000000019d6689c085ae165831e934ff763ae46a2a6c172b3f1b60a8ce26g",
+    "tip  00000000019d6689c085ae165831e934ff763ae46a2a6c172b3f1b60a8ce26f",
+    "Tip 000000000019d6689c085ae165831e934ff763ae46a2a6c172b3f1b60a8ce26f",
+    "tx",
+    "tx ",
+    "tx 0",
+    "tx 00a",
+    "tx 0g",
+    "tx 00 00",
+    "tx 0x00",
+    "drop",
+    "drop 00",
+    "tip\u{e9}",
+    "tx \u{e9}",
+];
+
+#[test]
+fn no_node_lines(rt: HostRuntime) -> Result<(), Fail> {
+    for line in NO_LINES {
+        let found = read_node_line(rt.alloc(), line.as_bytes());
+        assert!(rt; found == Err(NodeLineFault::Line), "of {line}");
+    }
+    let found = read_node_line(rt.alloc(), &[b't', b'x', b' ', 255, 254]);
+    assert!(rt; found == Err(NodeLineFault::Line));
+    Ok(())
+}
+
+// The line of a transaction of so many bytes 0x77.
+fn long_line(alloc: Global, len: usize) -> Result<Vec<u8>, Fail>
+    requires { len ≤ 4000000 }
+{
+    let mut line = Vec::from_slice(alloc, b"tx ")?;
+    let digits = vec![in alloc; b'7'; 2 * len]?;
+    line.extend_from_slice(&digits)?;
+    Ok(line)
+}
+
+// Whether a transaction of 4,000,000 bytes is read, whose line is no longer than a line may be.
+fn reads_the_longest(alloc: Global) -> Result<bool, Fail> {
+    let line = long_line(alloc, 4_000_000)?;
+    let found = read_node_line(alloc, &line)?;
+    let bytes = vec![in alloc; 0x77; 4_000_000]?;
+    Ok(line.len() <= NODE_LINE_LIMIT && found == NodeLine::Tx(Bytes::from_vec(bytes)))
+}
+
+#[test]
+fn lines_of_transactions(rt: HostRuntime) -> Result<(), Fail> {
+    let bytes = Bytes::from_slice(rt.alloc(), &[0, 0xa9, 0xff])?;
+    assert!(rt; read_node_line(rt.alloc(), b"tx 00a9fF")? == NodeLine::Tx(bytes));
+    assert!(rt; reads_the_longest(rt.alloc())?);
+    Ok(())
+}
+
+#[test]
+fn prints_faults(rt: HostRuntime) -> Result<(), Fail> {
+    for (fault, text) in [
+        (NodeLineFault::Line, "no line of a node"),
+        (NodeLineFault::Memory, "out of memory"),
+    ] {
+        assert!(rt; format!(in rt.alloc(); "{fault}")?.as_str() == text);
+    }
+    Ok(())
+}
+
+// The line that asks by that method.
+fn asks(alloc: Global, id: &str, method: &str, shown: &str) -> Result<Vec<u8>, Fail> {
+    let head = ",\"method\":\"blockchain.scripthash.";
+    joined(
+        alloc,
+        &[
+            "{\"id\":",
+            id,
+            head,
+            method,
+            "\",\"params\":[\"",
+            shown,
+            "\"]}",
+        ],
+    )
+}
+
+// Whether the line asks of that hash with this id, or is no request.
+fn is_request(line: &[u8], id: &str, wanted: bool) -> bool {
+    match request_of(line) {
+        Some(request) => {
+            wanted && request.id == id.as_bytes() && request.script_hash == Hash32(HASH)
+        }
+        None => !wanted,
+    }
+}
+
+#[test]
+fn requests(rt: HostRuntime) -> Result<(), Fail> {
+    for (id, shown, wanted) in [
+        ("0", SHOWN[0], true),
+        ("7", SHOWN[1], true),
+        ("9999999999", SHOWN[2], true),
+        ("", SHOWN[0], false),
+        ("01", SHOWN[0], false),
+        ("-1", SHOWN[0], false),
+        ("10000000000", SHOWN[0], false),
+        ("1", "00", false),
+        ("1", "", false),
+    ] {
+        let line = asks(rt.alloc(), id, "get_history", shown)?;
+        assert!(rt; is_request(&line, id, wanted), "{id}");
+    }
+    Ok(())
+}
+
+#[test]
+fn methods(rt: HostRuntime) -> Result<(), Fail> {
+    for (name, method) in [
+        ("get_balance", Some(Method::Balance)),
+        ("get_history", Some(Method::History)),
+        ("listunspent", Some(Method::Unspent)),
+        ("get_mempool", None),
+        ("get_histor", None),
+        ("", None),
+    ] {
+        let line = asks(rt.alloc(), "7", name, SHOWN[0])?;
+        assert!(rt;
+            request_of(&line).map(|request| request.method) == method,
+            "{name}"
+        );
+    }
+    Ok(())
+}
+
+const REPLY_HEAD: &str = "{\"id\":7,\"jsonrpc\":\"2.0\",\"result\":[";
+
+const ENTRIES: [&str; 2] = [
+    "{\"height\":0,\"tx_hash\":\"000000000019d6689c085ae165831e934ff763ae46a2a6c172b3f1b60a8ce26f\"}",
+    "{\"height\":840000,\"tx_hash\":\"000000000019d6689c085ae165831e934ff763ae46a2a6c172b3f1b60a8ce26f\"}",
+];
+
+const TOO_LARGE: &str =
+    "{\"error\":{\"code\":1,\"message\":\"history too large\"},\"id\":7,\"jsonrpc\":\"2.0\"}\n";
+
+const DISK_FAILED: &str =
+    "{\"error\":{\"code\":3,\"message\":\"index device failed\"},\"id\":7,\"jsonrpc\":\"2.0\"}\n";
+
+// Whether the text is these parts.
+fn is_made_of(
+    alloc: Global,
+    text: Result<Vec<u8>, AllocError>,
+    parts: &[&str],
+) -> Result<bool, Fail> {
+    let wanted = joined(alloc, parts)?;
+    Ok(text?.as_slice() == wanted.as_slice())
+}
+
+#[test]
+fn replies(rt: HostRuntime) -> Result<(), Fail> {
+    let alloc = rt.alloc();
+    let entries = [0, 840_000].map(|height| Entry {
+        height,
+        txid: Hash32(HASH),
+    });
+    let table: [(usize, &[&str]); 3] = [
+        (0, &[REPLY_HEAD, "]}\n"]),
+        (1, &[REPLY_HEAD, ENTRIES[0], "]}\n"]),
+        (2, &[REPLY_HEAD, ENTRIES[0], ",", ENTRIES[1], "]}\n"]),
+    ];
+    for (count, parts) in table {
+        let reply = history_reply(alloc, b"7", &entries[..count]);
+        assert!(rt; is_made_of(alloc, reply, parts)?, "of {count}");
+    }
+    for (reply, wanted) in [
+        (too_large_reply(alloc, b"7"), TOO_LARGE),
+        (disk_reply(alloc, b"7"), DISK_FAILED),
+    ] {
+        assert!(rt; is_made_of(alloc, reply, &[wanted])?, "{wanted}");
+    }
+    Ok(())
+}
+
+const COINS: &str = "{\"id\":7,\"jsonrpc\":\"2.0\",\"result\":[\
+    {\"height\":0,\"tx_hash\":\"000000000019d6689c085ae165831e934ff763ae46a2a6c172b3f1b60a8ce26f\",\
+    \"tx_pos\":0,\"value\":5000000000},\
+    {\"height\":840000,\"tx_hash\":\"000000000019d6689c085ae165831e934ff763ae46a2a6c172b3f1b60a8ce26f\",\
+    \"tx_pos\":4294967295,\"value\":2100000000000000}]}\n";
+
+const BALANCE: &str =
+    "{\"id\":7,\"jsonrpc\":\"2.0\",\"result\":{\"confirmed\":5000000000,\"unconfirmed\":0}}\n";
+
+#[test]
+fn coins_and_balances(rt: HostRuntime) -> Result<(), Fail> {
+    let coins = [
+        (0, 0, 5_000_000_000),
+        (840_000, 4_294_967_295, 2_100_000_000_000_000),
+    ]
+    .map(|(height, index, value)| Coin {
+        outpoint: Outpoint {
+            txid: Hash32(HASH),
+            index,
+        },
+        value,
+        script: Hash32([0; 32]),
+        height,
+    });
+    let alloc = rt.alloc();
+    assert!(rt; is_made_of(alloc, unspent_reply(alloc, b"7", &coins), &[COINS])?);
+    assert!(rt;
+        is_made_of(
+            alloc,
+            unspent_reply(alloc, b"7", &[]),
+            &[REPLY_HEAD, "]}\n"]
+        )?
+    );
+    assert!(rt; is_made_of(alloc, balance_reply(alloc, b"7", 5_000_000_000), &[BALANCE])?);
+    Ok(())
+}
+
+// Whether the text is this one, where the letter H stands for the shown hash.
+fn is_text(alloc: Global, text: Result<Bytes, OutOfMemory>, wanted: &str) -> Result<bool, Fail> {
+    let mut whole = String::new(alloc);
+    for letter in wanted.chars() {
+        match letter {
+            'H' => whole.push_str(SHOWN[0])?,
+            other => whole.push(other)?,
+        }
+    }
+    Ok(text?.as_slice() == whole.as_bytes())
+}
+
+#[test]
+fn answers_to_a_node(rt: HostRuntime) -> Result<(), Fail> {
+    let alloc = rt.alloc();
+    let hash = Hash32(HASH);
+    for (text, wanted) in [
+        (block_answer(alloc, hash), "block H\n"),
+        (at_answer(alloc, Some(hash), Some(0)), "at H 0\n"),
+        (at_answer(alloc, Some(hash), Some(840_000)), "at H 840000\n"),
+        (at_answer(alloc, None, None), ""),
+        (line_refused(alloc), "refused line\n"),
+        (long_refused(alloc), "refused long 8000100\n"),
+        (place_refused(alloc), "refused place\n"),
+        (genesis_refused(alloc, hash), "refused genesis H\n"),
+        (unknown_refused(alloc, hash), "refused unknown H\n"),
+        (unconnected_refused(alloc, hash), "refused unconnected H\n"),
+        (deep_refused(alloc, 1), "refused deep 1\n"),
+        (deep_refused(alloc, 101), "refused deep 101\n"),
+        (archive_refused(alloc), "refused archive\n"),
+    ] {
+        assert!(rt; is_text(alloc, text, wanted)?, "{wanted}");
+    }
+    Ok(())
+}
+
+const OTHER: Hash32 = Hash32([7; 32]);
+
+// The words for blocks that break a rule of their own, and for those that do not fit the chain.
+const BAD_BLOCKS: [(BlockFault, &str); 10] = [
+    (BlockFault::Short, "header"),
+    (
+        BlockFault::Count(CompactFault::LongSpelling { place: 80 }),
+        "count",
+    ),
+    (BlockFault::NoTransactions, "empty"),
+    (
+        BlockFault::Tx {
+            index: 0,
+            fault: TxFault::Short { place: 0 },
+        },
+        "tx",
+    ),
+    (BlockFault::Trailing { place: 285 }, "trailing"),
+    (BlockFault::FirstNotCoinbase, "coinbase"),
+    (BlockFault::LaterCoinbase { index: 1 }, "coinbase"),
+    (
+        BlockFault::SameTxid {
+            first: 1,
+            second: 2,
+        },
+        "repeated",
+    ),
+    (
+        BlockFault::BadMerkle {
+            header: OTHER,
+            found: Hash32(HASH),
+        },
+        "merkle",
+    ),
+    (BlockFault::Heavy { weight: 4_000_001 }, "heavy"),
+];
+
+const MISFITS: [(ConnectFault, &str); 3] = [
+    (ConnectFault::MissingCoin { tx: 1, input: 0 }, "coin"),
+    (
+        ConnectFault::Money {
+            supply: 2_100_000_000_000_001,
+        },
+        "money",
+    ),
+    (
+        ConnectFault::Full {
+            table: 2,
+            rows: 4_294_967_295,
+        },
+        "full",
+    ),
+];
+
+// Whether the node is told of the refused move that the block is bad, by this word.
+fn says_bad(alloc: Global, fault: MoveFault, word: &str) -> Result<bool, Fail> {
+    let wanted = joined(alloc, &["refused bad ", SHOWN[0], " ", word, "\n"])?;
+    match move_refused(alloc, fault)? {
+        Some(text) => Ok(text.as_slice() == wanted.as_slice()),
+        None => Ok(false),
+    }
+}
+
+#[test]
+fn words_for_bad_blocks(rt: HostRuntime) -> Result<(), Fail> {
+    let hash = Hash32(HASH);
+    for (fault, word) in BAD_BLOCKS {
+        let fault = MoveFault::BadBlock { hash, fault };
+        assert!(rt; says_bad(rt.alloc(), fault, word)?, "{word}");
+    }
+    for (fault, word) in MISFITS {
+        let fault = MoveFault::Refused { hash, fault };
+        assert!(rt; says_bad(rt.alloc(), fault, word)?, "{word}");
+    }
+    Ok(())
+}
+
+#[test]
+fn other_refused_moves(rt: HostRuntime) -> Result<(), Fail> {
+    let alloc = rt.alloc();
+    let wanted = Hash32(HASH);
+    let fault = MoveFault::Changed {
+        wanted,
+        found: None,
+    };
+    let text = joined(alloc, &["refused changed ", SHOWN[0], "\n"])?;
+    assert!(rt; move_refused(alloc, fault)? == Some(Bytes::from_vec(text)));
+    for fault in [
+        MoveFault::DiskFailed,
+        MoveFault::ArchiveFailed,
+        MoveFault::Memory,
+    ] {
+        assert!(rt; move_refused(alloc, fault)? == None);
+    }
+    Ok(())
+}

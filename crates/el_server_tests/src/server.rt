@@ -1,0 +1,737 @@
+// The server's core over block files in memory and the plain ledger: what the node and the client are answered.
+// The hashes were computed by another program from the rules on blocks.
+ghost use Rattle.std.specs.Prelude.{◌≡◌, ◌<◌, ◌≤◌, ◌∷◌, [], length, IfOk, OnOk};
+ghost use Rattle.std.specs.List.{AllByRecursion};
+ghost use Rattle.el_tx.specs.Encoding.{HasEncoding};
+ghost use Rattle.el_core.specs.State.{IsIdle};
+
+use el_base::{Bytes, Hash32, Steps};
+use el_block::Block;
+use el_core::{Outs, Server};
+use el_fakes::MemArchive;
+use el_gen::{
+    BLOCK_1, BLOCK_1_HASH, EMPTY_SCRIPT_HASH, GENESIS, GENESIS_HASH, GENESIS_SCRIPT_HASH,
+    GENESIS_TXID, block, block_bytes, coinbase, spend,
+};
+use el_headers::HeaderTree;
+use el_model::{LINE_LIMIT, Ledger, PlainLedger};
+use el_outside::{Arrival, Peer, Why};
+use el_tx::{Outpoint, Tx, block_hash, encode_header, encode_tx, txid};
+use std::alloc::Global;
+use std::marker::Brand;
+use std::sync::ledger::{Blank, Ledger as Counts};
+use std::test::Fail;
+
+// Hashes that another program computed: of the blocks of heights 0, 1, 15, 16 and 101 that `chain_file` makes,
+// of a second block without one before it, and of blocks that break one rule each.
+const FIRST: &str = "e24fc0cd4b74e58d1bcfa1d15b2c35345824b4e3e6e3959659d662c2ce011688";
+
+const SECOND: &str = "d04c10b4051cb3be0e4acc10529633d10728be1bec817b5958931293c3c5088d";
+
+const LAST_BUT_ONE: &str = "ec64e2e04433bcc77d518d46c9fe3b92839d51043760ddf71cd149c52fe41bda";
+
+const LAST: &str = "30a80381768f75991a5cfe1345761eda0014bc5e9af7ca751b273b50e4374da5";
+
+const LAST_OF_MANY: &str = "d3f30d4789aae297d5b77f8db53c8747e7c8a3ac3402427c0e9282e15bd2a580";
+
+const OTHER_FIRST: &str = "b724ccbf1211321ad26fe98e9c5e2d67a9f5134e654c9c97fcfe1b9b2977883c";
+
+const TAKES_NO_COIN: &str = "efef1e8216e8fbdd5ce6ff1d70a32163377768b5287cdc0f530b9723382fe040";
+
+const MAKES_MONEY: &str = "235e410274ab5f9e68126e8c24ed30c534f4abeaa3991fdd082badce02a60b93";
+
+const HEAVY: &str = "fa64b2a291b3b34c3fda28ba2cc5071c006a36383dc5c828dc4ed4b98f284cab";
+
+const UNKNOWN: &str = "2222222222222222222222222222222222222222222222222222222222222222";
+
+// The four bytes before each record of Bitcoin's main network.
+const MAGIC: [u8; 4] = [0xf9, 0xbe, 0xb4, 0xd9];
+
+const ZERO: Hash32 = Hash32([0; 32]);
+
+// What happens in a run.
+#[derive(Clone, Copy)]
+enum Step<'a> {
+    // From now on the block file has only its bytes from here to there.
+    Part(usize, usize),
+    // The next call of the block files fails.
+    Fails,
+    // A peer comes.
+    Opens(Peer),
+    // A peer says this, where a capital letter stands for a hash.
+    Says(Peer, &'a str),
+    // A client is told to be gone.
+    Gone(Peer),
+    // What was shown so far is left out.
+    Forget,
+}
+
+// The text with a hash in place of each capital letter.
+fn spelled(alloc: Global, text: &str) -> Result<String, Fail> {
+    let mut whole = String::new(alloc);
+    for letter in text.chars() {
+        match letter {
+            'A' => whole.push_str(FIRST)?,
+            'B' => whole.push_str(BLOCK_1_HASH)?,
+            'C' => whole.push_str(SECOND)?,
+            'E' => whole.push_str(EMPTY_SCRIPT_HASH)?,
+            'G' => whole.push_str(GENESIS_HASH)?,
+            'L' => whole.push_str(LAST_OF_MANY)?,
+            'O' => whole.push_str(OTHER_FIRST)?,
+            'S' => whole.push_str(GENESIS_SCRIPT_HASH)?,
+            'U' => whole.push_str(UNKNOWN)?,
+            'X' => whole.push_str(GENESIS_TXID)?,
+            'Y' => whole.push_str(LAST_BUT_ONE)?,
+            'Z' => whole.push_str(LAST)?,
+            other => whole.push(other)?,
+        }
+    }
+    Ok(whole)
+}
+
+// The cause in a word.
+fn word_of(why: Why) -> &'static str {
+    match why {
+        Why::Long => "long\n",
+        Why::Clients => "clients\n",
+        _ => "other\n",
+    }
+}
+
+// Adds what a turn sends, and why it closes.
+fn show(outs: &Outs, shown: &mut Vec<u8>) -> Result<(), Fail> {
+    for (_, text) in outs.sends.as_slice() {
+        shown.extend_from_slice(text.as_slice())?;
+    }
+    if let Some((_, why)) = outs.close {
+        shown.extend_from_slice(word_of(why).as_bytes())?;
+    }
+    Ok(())
+}
+
+// Makes all turns.
+fn work_off<L: Counts + Send>(
+    server: &mut Server<PlainLedger>,
+    archive: &mut MemArchive,
+    steps: &mut Steps<L>,
+    shown: &mut Vec<u8>,
+) -> Result<(), Fail>
+    ensures { OnOk result (IsIdle server.new) }
+{
+    while let Some(outs) = server.turn(archive, steps)? {
+        show(&outs, shown)?;
+    }
+    Ok(())
+}
+
+// Block files of these bytes; the call with this number fails.
+fn archive_of(alloc: Global, file: &[u8], failing: u64) -> Result<MemArchive, Fail> {
+    let mut files = Vec::new(alloc);
+    files.push(Bytes::from_slice(alloc, file)?)?;
+    Ok(MemArchive::new(files, Vec::from_slice(alloc, &[failing])?))
+}
+
+// These bytes of the file; none where it hasn't all of them.
+fn part_of(file: &[u8], from: usize, to: usize) -> &[u8] {
+    file.get(from..to).unwrap_or(&[])
+}
+
+// Makes one step, with all turns after it.
+fn make_step<L: Counts + Send>(
+    alloc: Global,
+    file: &[u8],
+    server: &mut Server<PlainLedger>,
+    archive: &mut MemArchive,
+    steps: &mut Steps<L>,
+    step: Step<'_>,
+    shown: &mut Vec<u8>,
+) -> Result<(), Fail>
+    requires { IsIdle server.old }
+    ensures { OnOk result (IsIdle server.new) }
+{
+    match step {
+        Step::Part(from, to) => *archive = archive_of(alloc, part_of(file, from, to), 0)?,
+        Step::Fails => *archive = archive_of(alloc, file, 1)?,
+        Step::Opens(p) => server.take(Arrival::Opened(p), b"")?,
+        Step::Says(p, text) => {
+            let text = spelled(alloc, text)?;
+            server.take(Arrival::Bytes(p, text.len()), text.as_bytes())?;
+        }
+        Step::Gone(p) => server.gone(p),
+        Step::Forget => shown.truncate(0),
+    }
+    work_off(server, archive, steps, shown)
+}
+
+// What a run showed, and the height that its ledger then had.
+type Played = (Vec<u8>, Option<u32>);
+
+// Makes these steps from a server that knows nothing, over a block file that has these bytes at first.
+fn play_counted<L: Counts + Send>(
+    alloc: Global,
+    file: &[u8],
+    run: &[Step<'_>],
+    blank: Blank,
+) -> Result<Played, Fail>
+    requires name { blank.name ≡ L.name }
+    requires parts { blank.parts ≡ L.parts }
+    requires some { 0 < blank.parts }
+{
+    let mut steps = Steps::<L>::new(blank);
+    let mut archive = archive_of(alloc, file, 0)?;
+    let mut server = Server::new(
+        alloc,
+        PlainLedger::new(alloc),
+        HeaderTree::new(alloc),
+        MAGIC,
+    );
+    let mut shown = Vec::new(alloc);
+    for step in run {
+        make_step(
+            alloc,
+            file,
+            &mut server,
+            &mut archive,
+            &mut steps,
+            *step,
+            &mut shown,
+        )?;
+    }
+    Ok((shown, server.into_ledger().height()))
+}
+
+fn play(alloc: Global, file: &[u8], run: &[Step<'_>]) -> Result<Played, Fail> {
+    play_counted::<Brand>(alloc, file, run, Blank::new(1))
+}
+
+// Adds the record of a block with these bytes.
+fn add_record(text: &[u8], file: &mut Vec<u8>) -> Result<(), Fail> {
+    file.extend_from_slice(MAGIC.as_slice())?;
+    let [a, b, c, d, ..] = (text.len() as u64).to_le_bytes();
+    file.extend_from_slice(&[a, b, c, d])?;
+    file.extend_from_slice(text)?;
+    Ok(())
+}
+
+// Bitcoin's first two blocks as a node may have stored them, with other bytes between and after them, and the
+// first bytes of the second block once more.
+fn first_file(alloc: Global) -> Result<Vec<u8>, Fail> {
+    let first = hex::decode(alloc, GENESIS)?;
+    let second = hex::decode(alloc, BLOCK_1)?;
+    let mut file = Vec::new(alloc);
+    add_record(first.as_slice(), &mut file)?;
+    file.extend_from_slice(&[0xaa, 0xbb, 0xcc])?;
+    add_record(second.as_slice(), &mut file)?;
+    file.extend_from_slice(&[0; 100])?;
+    add_record(second.as_slice(), &mut file)?;
+    file.truncate(677);
+    Ok(file)
+}
+
+// Whether these steps show this text, where a capital letter stands for a hash, and leave the ledger with
+// that height.
+fn shows(
+    alloc: Global,
+    file: &[u8],
+    run: &[Step<'_>],
+    wanted: &str,
+    height: Option<u32>,
+) -> Result<bool, Fail> {
+    let (shown, top) = play(alloc, file, run)?;
+    let wanted = spelled(alloc, wanted)?;
+    Ok(shown.as_slice() == wanted.as_bytes() && top == height)
+}
+
+// What is said over the file of the first two blocks, what is answered, and the height that the ledger then
+// has.
+type Case = (&'static [Step<'static>], &'static str, Option<u32>);
+
+const NODE_LINES: [Case; 10] = [
+    (&[Step::Says(0, "block 0 0\n")], "block G\n", None),
+    (
+        &[Step::Says(0, "block 0 0\nblock 00 0\n")],
+        "block G\nblock G\n",
+        None,
+    ),
+    (&[Step::Says(0, "block 0 1\n")], "refused place\n", None),
+    (&[Step::Says(0, "block 0 619\n")], "refused place\n", None),
+    (&[Step::Says(0, "block 1 0\n")], "refused place\n", None),
+    (&[Step::Says(0, "tip U\n")], "refused unknown U\n", None),
+    (
+        &[Step::Says(0, "block 0 296\ntip B\n")],
+        "block B\nrefused unconnected B\n",
+        None,
+    ),
+    (
+        &[Step::Says(0, "Tip x\nblo"), Step::Says(0, "ck 0 0")],
+        "refused line\n",
+        None,
+    ),
+    (
+        &[Step::Says(0, "block 0 296\nblock 0 0\ntip B\n")],
+        "block B\nblock G\nat B 1\n",
+        Some(1),
+    ),
+    (
+        &[
+            Step::Says(0, "block 0 0\ntip G\nblock 0 296\n"),
+            Step::Says(0, "tip B\ntip B\n"),
+        ],
+        "block G\nat G 0\nblock B\nat B 1\nat B 1\n",
+        Some(1),
+    ),
+];
+
+// Block files that fail or change.
+const FAILING_FILES: [Case; 4] = [
+    (
+        &[Step::Fails, Step::Says(0, "block 0 0\ntip G\n")],
+        "refused archive\nrefused unknown G\n",
+        None,
+    ),
+    (
+        &[
+            Step::Says(0, "block 0 0\n"),
+            Step::Fails,
+            Step::Says(0, "tip G\ntip G\n"),
+        ],
+        "block G\nrefused archive\nat G 0\n",
+        Some(0),
+    ),
+    (
+        &[
+            Step::Says(0, "block 0 0\n"),
+            Step::Part(8, 677),
+            Step::Says(0, "tip G\n"),
+        ],
+        "block G\nrefused changed G\n",
+        None,
+    ),
+    (
+        &[
+            Step::Says(0, "block 0 0\nblock 0 296\n"),
+            Step::Part(0, 293),
+            Step::Says(0, "tip B\ntip G\n"),
+        ],
+        "block G\nblock B\nrefused changed B\nat G 0\n",
+        Some(0),
+    ),
+];
+
+#[test]
+fn answers_to_node_lines(rt: HostRuntime) -> Result<(), Fail> {
+    let file = first_file(rt.alloc())?;
+    for (run, wanted, height) in NODE_LINES {
+        assert!(rt;
+            shows(rt.alloc(), file.as_slice(), run, wanted, height)?,
+            "{wanted}"
+        );
+    }
+    for (run, wanted, height) in FAILING_FILES {
+        assert!(rt;
+            shows(rt.alloc(), file.as_slice(), run, wanted, height)?,
+            "{wanted}"
+        );
+    }
+    Ok(())
+}
+
+fn one(alloc: Global, tx: Tx) -> Result<Vec<Tx>, Fail>
+    ensures { IfOk result (λ txs. txs.items ≡ tx ∷ []) }
+{
+    let mut txs = Vec::new(alloc);
+    txs.push(tx)?;
+    Ok(txs)
+}
+
+// The block of that height and branch after another. It has a coinbase alone.
+fn coinbase_block(alloc: Global, previous: Hash32, height: u32, branch: u8) -> Result<Block, Fail>
+    requires { height ≤ 4000000 }
+    ensures { IfOk result (λ b. AllByRecursion HasEncoding b.txs) }
+{
+    let txs = one(alloc, coinbase(alloc, height, branch, 101)?)?;
+    Ok(block(alloc, previous, height, branch, txs)?)
+}
+
+// The records of so many blocks, each on the one before, and of another block without one before it.
+fn chain_file(alloc: Global, count: u32) -> Result<Vec<u8>, Fail>
+    requires { count ≤ 1000 }
+{
+    let mut file = Vec::new(alloc);
+    let mut previous = ZERO;
+    for height in 0..count {
+        let made = coinbase_block(alloc, previous, height, 0)?;
+        add_record(block_bytes(alloc, &made)?.as_slice(), &mut file)?;
+        previous = block_hash(&encode_header(&made.header));
+    }
+    let other = coinbase_block(alloc, ZERO, 0, 1)?;
+    add_record(block_bytes(alloc, &other)?.as_slice(), &mut file)?;
+    Ok(file)
+}
+
+// The lines by which the node tells them.
+fn telling_lines(alloc: Global, count: u32) -> Result<String, Fail>
+    requires { count ≤ 1000 }
+{
+    let mut lines = String::new(alloc);
+    for height in 0..count {
+        lines.push_str(format!(in alloc; "block 0 {}\n", 160 * height)?.as_str())?;
+    }
+    Ok(lines)
+}
+
+// Whether what the node says after these lines shows this text.
+fn moves<'x>(
+    alloc: Global,
+    file: &[u8],
+    before: &'x str,
+    said: &'x str,
+    answers: &str,
+    height: u32,
+) -> Result<bool, Fail> {
+    let run = [Step::Says(0, before), Step::Forget, Step::Says(0, said)];
+    shows(alloc, file, run.as_slice(), answers, Some(height))
+}
+
+#[test]
+fn tips_move_the_ledger(rt: HostRuntime) -> Result<(), Fail> {
+    let file = chain_file(rt.alloc(), 17)?;
+    let lines = telling_lines(rt.alloc(), 17)?;
+    for (said, height) in [
+        (("tip Z\n", "at Y 15\nat Z 16\n"), 16),
+        (("tip Z\ntip Z\n", "at Y 15\nat Z 16\nat Z 16\n"), 16),
+        (("tip A\ntip Z\n", "at A 0\nat Z 16\n"), 16),
+        (("tip Y\ntip A\n", "at Y 15\nat A 0\n"), 0),
+        (("tip Z\ntip Y\n", "at Y 15\nat Z 16\nat Y 15\n"), 15),
+        (
+            (
+                "block 0 2720\ntip A\nblock 0 0\n",
+                "refused genesis O\nat A 0\nblock A\n",
+            ),
+            0,
+        ),
+    ] {
+        assert!(rt;
+            moves(
+                rt.alloc(),
+                file.as_slice(),
+                lines.as_str(),
+                said.0,
+                said.1,
+                height
+            )?,
+            "{}",
+            said.1
+        );
+    }
+    Ok(())
+}
+
+// A hundred blocks are taken back in one move, and no more.
+#[test]
+fn tips_take_a_hundred_back(rt: HostRuntime) -> Result<(), Fail> {
+    let file = chain_file(rt.alloc(), 102)?;
+    let mut lines = telling_lines(rt.alloc(), 102)?;
+    lines.push_str("tip L\n")?;
+    for (said, height) in [
+        (("tip C\n", "at C 1\n"), 1),
+        (("tip A\n", "refused deep 101\n"), 101),
+        (("tip C\ntip Y\n", "at C 1\nat Y 15\n"), 15),
+    ] {
+        assert!(rt;
+            moves(
+                rt.alloc(),
+                file.as_slice(),
+                lines.as_str(),
+                said.0,
+                said.1,
+                height
+            )?,
+            "{}",
+            said.1
+        );
+    }
+    Ok(())
+}
+
+// The bytes of the parts.
+fn listed(alloc: Global, parts: &[&[u8]]) -> Result<Vec<u8>, Fail> {
+    let mut whole = Vec::new(alloc);
+    for part in parts {
+        whole.extend_from_slice(part)?;
+    }
+    Ok(whole)
+}
+
+// The coinbase of the first block, and the outpoint of its output.
+fn first_coin(alloc: Global) -> Result<(Tx, Outpoint), Fail>
+    ensures { IfOk result (λ made. HasEncoding made.0) }
+{
+    let tx = coinbase(alloc, 0, 0, 101)?;
+    let txid = txid(alloc, &tx)?;
+    Ok((tx, Outpoint { txid, index: 0 }))
+}
+
+// Whether the node is told that the block with these bytes and this hash is bad, by this word.
+fn is_bad(alloc: Global, text: &[u8], hash: &str, word: &str) -> Result<bool, Fail> {
+    let mut file = Vec::new(alloc);
+    add_record(text, &mut file)?;
+    let said = format!(in alloc; "block 0 0\ntip {hash}\n")?;
+    let wanted = format!(in alloc; "block {hash}\nrefused bad {hash} {word}\n")?;
+    shows(
+        alloc,
+        file.as_slice(),
+        &[Step::Says(0, said.as_str())],
+        wanted.as_str(),
+        None,
+    )
+}
+
+// The header of the first block, its coinbase, and a transaction that spends that.
+#[derive(Drop)]
+struct Pieces {
+    header: [u8; 80],
+    first: Vec<u8>,
+    later: Vec<u8>,
+}
+
+// The bytes of the first coin's spending.
+fn later_bytes(alloc: Global, coin: Outpoint) -> Result<Vec<u8>, Fail> {
+    let spent = spend(alloc, [coin].as_slice(), [(5_000_000_000, 1)].as_slice())?;
+    let bytes = encode_tx(alloc, &spent)?;
+    Ok(Vec::from_slice(alloc, bytes.as_slice())?)
+}
+
+fn make_pieces(alloc: Global) -> Result<Pieces, Fail> {
+    let made = coinbase_block(alloc, ZERO, 0, 0)?;
+    let (tx, coin) = first_coin(alloc)?;
+    let first = encode_tx(alloc, &tx)?;
+    Ok(Pieces {
+        header: encode_header(&made.header),
+        first: Vec::from_slice(alloc, first.as_slice())?,
+        later: later_bytes(alloc, coin)?,
+    })
+}
+
+// Whether the node is told by this word that the bytes of the parts are a bad block, under the first block's
+// header.
+fn is_no_block(alloc: Global, parts: &[&[u8]], word: &str) -> Result<bool, Fail> {
+    let text = listed(alloc, parts)?;
+    is_bad(alloc, text.as_slice(), FIRST, word)
+}
+
+// Under the header of the first block other bytes than its own.
+#[test]
+fn bytes_that_are_no_block(rt: HostRuntime) -> Result<(), Fail> {
+    let pieces = make_pieces(rt.alloc())?;
+    let header = pieces.header.as_slice();
+    let first = pieces.first.as_slice();
+    let later = pieces.later.as_slice();
+    let table: [(&[&[u8]], &str); 8] = [
+        (&[header, &[253, 1, 0], first], "count"),
+        (&[header, &[0]], "empty"),
+        (&[header, &[1], &[1, 0, 0, 0]], "tx"),
+        (&[header, &[1], first, &[0]], "trailing"),
+        (&[header, &[1], later], "coinbase"),
+        (&[header, &[2], first, first], "coinbase"),
+        (&[header, &[3], first, later, later], "repeated"),
+        (&[header, &[2], first, later], "merkle"),
+    ];
+    for (parts, word) in table {
+        assert!(rt; is_no_block(rt.alloc(), parts, word)?, "{word}");
+    }
+    Ok(())
+}
+
+// The bytes of the first block of these transactions.
+fn made(alloc: Global, txs: Vec<Tx>) -> Result<Bytes, Fail>
+    requires some { 1 ≤ length txs.items }
+    requires encoded { AllByRecursion HasEncoding txs.items }
+{
+    let made = block(alloc, ZERO, 0, 0, txs)?;
+    Ok(block_bytes(alloc, &made)?)
+}
+
+// A block of which a transaction takes an output that isn't there.
+fn taking_no_coin(alloc: Global) -> Result<Bytes, Fail> {
+    let (first, Outpoint { txid, .. }) = first_coin(alloc)?;
+    let absent = Outpoint { txid, index: 1 };
+    let mut txs = one(alloc, first)?;
+    txs.push(spend(alloc, [absent].as_slice(), [(1, 1)].as_slice())?)?;
+    made(alloc, txs)
+}
+
+// A block after which there are more than 21 million bitcoin, by one satoshi.
+fn making_money(alloc: Global) -> Result<Bytes, Fail> {
+    let (first, coin) = first_coin(alloc)?;
+    let halves = spend(alloc, [coin].as_slice(), [(1, 1), (1, 2)].as_slice())?;
+    let half = Outpoint {
+        txid: txid(alloc, &halves)?,
+        index: 0,
+    };
+    let all = spend(
+        alloc,
+        [half].as_slice(),
+        [(2_100_000_000_000_000, 1)].as_slice(),
+    )?;
+    let mut txs = one(alloc, first)?;
+    txs.push(halves)?;
+    txs.push(all)?;
+    made(alloc, txs)
+}
+
+// A block with a weight of 4,100,712.
+fn heavy(alloc: Global) -> Result<Bytes, Fail> {
+    let (first, coin) = first_coin(alloc)?;
+    let coins = vec![in alloc; coin; 25_000]?;
+    let mut txs = one(alloc, first)?;
+    txs.push(spend(alloc, coins.as_slice(), [(1, 1)].as_slice())?)?;
+    made(alloc, txs)
+}
+
+// Whether the node is told by this word that the block is bad.
+fn is_bad_block(
+    alloc: Global,
+    made: Result<Bytes, Fail>,
+    hash: &str,
+    word: &str,
+) -> Result<bool, Fail> {
+    is_bad(alloc, made?.as_slice(), hash, word)
+}
+
+#[test]
+fn blocks_that_break_a_rule(rt: HostRuntime) -> Result<(), Fail> {
+    let alloc = rt.alloc();
+    assert!(rt; is_bad_block(alloc, taking_no_coin(alloc), TAKES_NO_COIN, "coin")?);
+    assert!(rt; is_bad_block(alloc, making_money(alloc), MAKES_MONEY, "money")?);
+    assert!(rt; is_bad_block(alloc, heavy(alloc), HEAVY, "heavy")?);
+    Ok(())
+}
+
+const ASKS_EMPTY: &str =
+    "{\"id\":7,\"method\":\"blockchain.scripthash.get_history\",\"params\":[\"E\"]}\n";
+
+const NONE: &str = "{\"id\":7,\"jsonrpc\":\"2.0\",\"result\":[]}\n";
+
+const ASKS_FIRST: &str =
+    "{\"id\":7,\"method\":\"blockchain.scripthash.get_history\",\"params\":[\"S\"]}\n";
+
+const ONE: &str = "{\"id\":7,\"jsonrpc\":\"2.0\",\"result\":[{\"height\":0,\"tx_hash\":\"X\"}]}\n";
+
+const ASKS_COINS: &str =
+    "{\"id\":8,\"method\":\"blockchain.scripthash.get_balance\",\"params\":[\"S\"]}\n\
+    {\"id\":9,\"method\":\"blockchain.scripthash.listunspent\",\"params\":[\"S\"]}\n";
+
+const NO_COINS: &str =
+    "{\"id\":8,\"jsonrpc\":\"2.0\",\"result\":{\"confirmed\":0,\"unconfirmed\":0}}\n\
+    {\"id\":9,\"jsonrpc\":\"2.0\",\"result\":[]}\n";
+
+const ONE_COIN: &str =
+    "{\"id\":8,\"jsonrpc\":\"2.0\",\"result\":{\"confirmed\":5000000000,\"unconfirmed\":0}}\n\
+    {\"id\":9,\"jsonrpc\":\"2.0\",\"result\":[\
+    {\"height\":0,\"tx_hash\":\"X\",\"tx_pos\":0,\"value\":5000000000}]}\n";
+
+const INVALID: &str =
+    "{\"error\":{\"code\":-32600,\"message\":\"invalid request\"},\"id\":null,\"jsonrpc\":\"2.0\"}\n";
+
+const CLIENTS_INVALID: &str = "clients\n\
+    {\"error\":{\"code\":-32600,\"message\":\"invalid request\"},\"id\":null,\"jsonrpc\":\"2.0\"}\n";
+
+const TOLD: Step<'static> = Step::Says(0, "block 0 0\ntip G\n");
+
+// What a client says, and what is answered.
+const CLIENT_LINES: [(&[Step<'static>], &str); 8] = [
+    (&[Step::Opens(1), Step::Says(1, ASKS_EMPTY)], NONE),
+    (&[Step::Opens(1), Step::Says(1, ASKS_COINS)], NO_COINS),
+    (
+        &[
+            TOLD,
+            Step::Forget,
+            Step::Opens(1),
+            Step::Says(1, ASKS_COINS),
+        ],
+        ONE_COIN,
+    ),
+    (
+        &[Step::Opens(1), Step::Says(1, "{}"), Step::Says(1, "\n")],
+        INVALID,
+    ),
+    (
+        &[Step::Opens(1), Step::Says(1, "{"), Step::Says(1, "}\nopen")],
+        INVALID,
+    ),
+    (&[Step::Opens(1), Step::Says(1, ASKS_FIRST)], NONE),
+    (
+        &[
+            TOLD,
+            Step::Forget,
+            Step::Opens(1),
+            Step::Says(1, ASKS_FIRST),
+        ],
+        ONE,
+    ),
+    (
+        &[
+            Step::Opens(1),
+            TOLD,
+            Step::Forget,
+            Step::Says(1, ASKS_FIRST),
+        ],
+        ONE,
+    ),
+];
+
+// Two clients, of which one may be served at once.
+const CLIENTS: [Step<'static>; 6] = [
+    Step::Opens(1),
+    Step::Opens(2),
+    Step::Says(2, "{}\n"),
+    Step::Gone(1),
+    Step::Opens(3),
+    Step::Says(3, "{}\n"),
+];
+
+// Whether these steps show this text.
+fn says(alloc: Global, file: &[u8], run: &[Step<'_>], wanted: &str) -> Result<bool, Fail> {
+    let (shown, _) = play(alloc, file, run)?;
+    let wanted = spelled(alloc, wanted)?;
+    Ok(shown.as_slice() == wanted.as_bytes())
+}
+
+#[test]
+fn client_lines(rt: HostRuntime) -> Result<(), Fail> {
+    let file = first_file(rt.alloc())?;
+    for (run, wanted) in CLIENT_LINES {
+        assert!(rt; says(rt.alloc(), file.as_slice(), run, wanted)?, "{wanted}");
+    }
+    for (count, wanted) in [(1, ""), (3, "clients\n"), (6, CLIENTS_INVALID)] {
+        assert!(rt;
+            says(rt.alloc(), b"", &CLIENTS[..count], wanted)?,
+            "{wanted}"
+        );
+    }
+    Ok(())
+}
+
+// So many bytes without byte 10.
+fn long_text(alloc: Global, len: usize) -> Result<String, Fail> {
+    let mut text = String::new(alloc);
+    for _ in 0..len {
+        text.push('x')?;
+    }
+    Ok(text)
+}
+
+#[test]
+fn lines_round_the_limit(rt: HostRuntime) -> Result<(), Fail> {
+    let text = long_text(rt.alloc(), LINE_LIMIT)?;
+    for (end, wanted) in [("\n", INVALID), ("x", "long\n"), ("x\n{}\n", "long\n")] {
+        let run = [
+            Step::Opens(1),
+            Step::Says(1, text.as_str()),
+            Step::Says(1, end),
+        ];
+        assert!(rt; says(rt.alloc(), b"", run.as_slice(), wanted)?, "{wanted}");
+    }
+    Ok(())
+}
