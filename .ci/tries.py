@@ -9,6 +9,7 @@ The last line is 'N passed, M failed', with the given counts added.
 """
 
 import hashlib
+import itertools
 import os
 import subprocess
 import sys
@@ -218,47 +219,95 @@ def no_words(program):
     return run(program, [], ONE), (b"", USAGE)
 
 
-def other_words(program):
-    put("a/blk00000.dat", GOOD)
-    for words in (
-        ["once"],
-        ["serve", "--blocks", "a", "--network", "main"],
-        ["server", *serve("a")[1:]],
-        ["once", "--network", "main", "--blocks", "a"],
-        ["once", "--network=main", "--blocks", "a"],
-        ["once", "--blocks", "", "--network", "main"],
-        ["once", "--blocks", "-a", "--network", "main"],
-        ["once", "--blocks", "a", "--network", "signet"],
-        ["once", "--blocks", "a", "--network", "main", "more"],
-    ):
-        did = run(program, words, ONE)
-        if did != as_wanted((b"", USAGE)):
-            return did, (b"", USAGE)
-    return did, (b"", USAGE)
+# A lawful line of words, and what is mistyped in it: a part of the line, and what stands there instead. Words are cut at
+# each blank, so that two blanks have an empty word between them.
+SERVE_LINE = (
+    "serve --blocks a --index index --network main --client-port 50001 --node-port 8331"
+    " --pool-count 1000 --pool-bytes 2000000"
+)
+MISTYPED_SERVE = [
+    ("serve", "server"), ("serve", "Serve"), ("serve", "once"), ("serve", "serve serve"), ("serve", "serve --"),
+    ("serve", "-- serve"), ("serve", "--help serve"), ("serve ", ""),
+    ("--blocks a", "--block a"), ("--blocks a", "--blocks=a"), ("--blocks a", "--Blocks a"), ("--blocks a", "-blocks a"),
+    ("--blocks a", "blocks a"), ("--blocks a", "--blocks"), ("--blocks a", "--blocks "), ("--blocks a", "--blocks -a"),
+    ("--blocks a", "--blocks -"), ("--blocks a", "--blocks --"), ("--blocks a", "--blocks a b"),
+    ("--blocks a", "--blocks a --blocks a"), ("--blocks a ", ""),
+    ("--index index", "--index"), ("--index index", "--index -i"), ("--index index", "--index=index"),
+    ("--index index", "--indexes index"), ("--index index", "--index index --index other"), ("--index index ", ""),
+    ("main", "Main"), ("main", "mainnet"), ("main", "signet"), ("main", "testnet"), ("main", ""),
+    ("--network", "--net"), ("--network", "--main-net"), ("--network main", "--network main --network regtest"),
+    ("--network main ", ""),
+    ("50001", "0"), ("50001", "65536"), ("50001", "+1"), ("50001", "-1"), ("50001", ""), ("50001", "00000050001"),
+    ("50001", "0x10"), ("50001", "5 0001"), ("50001", "8331"), ("50001", "0000008331"), ("50001", "4294967297"),
+    ("50001", "50001.0"), ("--client-port", "--port"), ("--client-port 50001 ", ""),
+    ("8331", "0"), ("8331", "65536"), ("8331", "x"), ("8331", "50001"), ("8331", "8331 --node-port 8332"),
+    ("--node-port 8331 ", ""),
+    ("1000 ", "0 "), ("1000 ", "1000001 "), ("1000 ", ""), ("1000 ", "1000 --pool-count 1000 "),
+    ("--pool-count 1000", "--pool-count=1000"),
+    ("2000000", "0"), ("2000000", "300000001"), (" 2000000", ""), ("--pool-bytes", "--pool-byte"),
+    ("2000000", "2000000 --help"), ("2000000", "2000000 -h"), ("2000000", "2000000 --version"),
+    ("2000000", "2000000 --"), ("2000000", "2000000 more"),
+]
+ONCE_LINE = "once --blocks a --network main"
+MISTYPED_ONCE = [
+    ("once", "one"), ("once ", ""), ("--blocks a ", ""), ("--blocks a", "--blocks=a"), ("a", "-a"), ("a ", " "),
+    ("--blocks a", "--blocks a --blocks a"), ("--blocks a", "--blocks a --index b"),
+    ("--blocks a", "--blocks a --pool-count 1000"), ("main", "signet"), ("main", "main more"), (" --network main", ""),
+]
 
 
-def other_words_of_serve(program):
-    put("a/blk00000.dat", GOOD)
-    lawful = serve("a")
-    for words in (
-        lawful[:-1],
-        [*lawful, "more"],
-        ["serve", *lawful[3:5], *lawful[1:3], *lawful[5:]],
-        serve("-a"),
-        serve("a", network="signet"),
-        serve("a", client_port="0"),
-        serve("a", client_port="65536"),
-        serve("a", client_port="+1"),
-        serve("a", client_port=""),
-        serve("a", client_port="00000000001"),
-        serve("a", node_port="x"),
-        serve("a", node_port="50001"),
-        serve("a", node_port="0050001"),
-    ):
+def all_end_so(program, lines, wanted):
+    """What the first line of words did that didn't end as it was to end, or else the last."""
+    for words in lines:
         did = run(program, words, ONE)
-        if did != as_wanted((b"", USAGE)):
-            return did, (b"", USAGE)
-    return did, (b"", USAGE)
+        if did != as_wanted(wanted):
+            print(f"tries: {words}")
+            break
+    return did, wanted
+
+
+def mistyped_words(program):
+    put("a/blk00000.dat", GOOD)
+    lines = [SERVE_LINE.replace(right, wrong, 1).split(" ") for right, wrong in MISTYPED_SERVE]
+    lines += [ONCE_LINE.replace(right, wrong, 1).split(" ") for right, wrong in MISTYPED_ONCE]
+    return all_end_so(program, lines, (b"", USAGE))
+
+
+def options_of(line):
+    """The options of a line of words, each with its value."""
+    words = line.split(" ")[1:]
+    return list(zip(words[::2], words[1::2]))
+
+
+def options_in_any_order(program):
+    # Lawful words are told from others by a device that is asked for: the folder of the index is not there. The two
+    # options that may be left out are tried at each place among the others in one order.
+    put("a/blk00000.dat", GOOD)
+    options = options_of(SERVE_LINE)
+    orders = list(itertools.permutations(options[:5]))
+    for first, second in itertools.permutations(range(7), 2):
+        order = options[:5]
+        for place, option in sorted([(first, options[5]), (second, options[6])]):
+            order.insert(place, option)
+        orders.append(order)
+    lines = [["serve", *itertools.chain(*order)] for order in orders]
+    return all_end_so(program, lines, (b"", DISK_FAILED))
+
+
+def options_of_once_in_any_order(program):
+    put("a/blk00000.dat", GOOD)
+    lines = [["once", *itertools.chain(*order)] for order in itertools.permutations(options_of(ONCE_LINE))]
+    return all_end_so(program, lines, (FOUND, ENDED))
+
+
+def numbers_at_their_bounds(program):
+    put("a/blk00000.dat", GOOD)
+    lines = [SERVE_LINE.replace(old, new, 1).split(" ") for old, new in (
+        ("50001", "1"), ("50001", "65535"), ("50001", "0000000001"), ("8331", "1"), ("8331", "65535"),
+        ("1000 ", "1 "), ("1000 ", "1000000 "), ("1000 ", "0001000000 "), ("2000000", "1"), ("2000000", "300000000"),
+        (" --pool-count 1000", ""), (" --pool-bytes 2000000", ""), (" --pool-count 1000 --pool-bytes 2000000", ""),
+    )]
+    return all_end_so(program, lines, (b"", DISK_FAILED))
 
 
 def serves_two_files(program):
@@ -573,8 +622,10 @@ def folder_elsewhere(program):
 
 CASES = [
     no_words,
-    other_words,
-    other_words_of_serve,
+    mistyped_words,
+    options_in_any_order,
+    options_of_once_in_any_order,
+    numbers_at_their_bounds,
     serves_two_files,
     serves_blocks_in_any_order,
     serves_every_method,

@@ -1,1 +1,4 @@
-pub mod WordLemmas
+pub mod OptionLemmas
+pub mod Checking
+pub mod Walking
+pub mod OneCommand

@@ -1,10 +1,12 @@
 -- The words of the command line.
-use Rattle.std.specs.Prelude.{◌≡◌, ◌≢◌, ℕ, ◌≤◌, List, [], ◌∷◌, map, codes, String}
+use Rattle.std.specs.Prelude.{◌≡◌, ◌≢◌, ℕ, ◌+◌, ◌≤◌, List, [], ◌∷◌, map, codes, String, Option, Some, None, IsSomeAnd}
 use Rattle.std.specs.Global.{Global}
 use Rattle.std.specs.String.{string_bytes}
 use Rattle.el_model.specs.NodeLines.{ShowsNumber}
+use Rattle.el_words.specs.Options.{Word, Given, words_of, AreOptions, value_of}
 use Rattle.el_words.specs.declared.words.Network.{Network}
 use Rattle.el_words.specs.declared.words.Network.TheVariants as network
+use Rattle.el_words.specs.declared.words.PoolLimits.{PoolLimits}
 
 -- a network's name
 abbrev pub network_name : Network → List ℕ
@@ -18,34 +20,59 @@ network_magic network.Main = 0xf9 ∷ 0xbe ∷ 0xb4 ∷ 0xd9 ∷ []
 network_magic network.Testnet3 = 0x0b ∷ 0x11 ∷ 0x09 ∷ 0x07 ∷ []
 network_magic network.Regtest = 0xfa ∷ 0xbf ∷ 0xb5 ∷ 0xda ∷ []
 
--- not empty, and no option
-abbrev pub IsFolder : List ℕ → Type 0
-IsFolder [] = ⊥
-IsFolder (b ∷ bs) = b ≢ 45
+-- a number from 1 up to `most` in decimal, by one to ten digits, of which the first may be zeros
+pub record IsUpTo (most : ℕ) (text : Word) (n : ℕ) : Type 0 where
+  pub number : ShowsNumber text 10 (most + 1) n
+  pub least : 1 ≤ n
 
--- a port in decimal, by one to ten digits, of which the first may be zeros: from 1 to 65,535
-pub record IsPort (text : List ℕ) (port : ℕ) : Type 0 where
-  pub number : ShowsNumber text 10 65536 port
-  pub least : 1 ≤ port
+-- a port
+abbrev pub IsPort : Word → ℕ → Type 0
+IsPort = IsUpTo 65535
 
--- the words `once --blocks DIR --network NET`
-pub record IsOnceOf (words : List (List ℕ)) (folder : List ℕ) (n : Network) : Type 0 where
-  pub words_are : words ≡ codes "once" ∷ codes "--blocks" ∷ folder ∷ codes "--network" ∷ network_name n ∷ []
-  pub is_folder : IsFolder folder
+-- a limit: the number that its option gives, or the greatest where the option isn't given
+abbrev pub IsLimit : ℕ → Option Word → ℕ → Type 0
+IsLimit most None n = n ≡ most
+IsLimit most (Some text) n = IsUpTo most text n
 
--- the words `serve --blocks DIR --index DIR --network NET --client-port N --node-port N`
-pub record IsServeOf (words : List (List ℕ)) (folder index : List ℕ) (n : Network) (client_port node_port : ℕ)
-    : Type 0 where
-  pub client_text : List ℕ
-  pub node_text : List ℕ
-  pub words_are : words ≡ codes "serve" ∷ codes "--blocks" ∷ folder ∷ codes "--index" ∷ index
-      ∷ codes "--network" ∷ network_name n ∷ codes "--client-port" ∷ client_text
-      ∷ codes "--node-port" ∷ node_text ∷ []
-  pub is_folder : IsFolder folder
-  pub is_index : IsFolder index
-  pub is_client_port : IsPort client_text client_port
-  pub is_node_port : IsPort node_text node_port
-  pub ports_differ : client_port ≢ node_port
+-- the two ports, which differ
+pub record ArePorts (given : Given) (client_port node_port : ℕ) : Type 0 where
+  pub client : IsSomeAnd (value_of (codes "--client-port") given) (λ text. IsPort text client_port)
+  pub node : IsSomeAnd (value_of (codes "--node-port") given) (λ text. IsPort text node_port)
+  pub differ : client_port ≢ node_port
 
-abbrev pub texts : List (String Global) → List (List ℕ)
+-- the limits of the unconfirmed set: how many transactions, and how many bytes of them
+pub record AreLimits (given : Given) (limits : PoolLimits) : Type 0 where
+  pub count : IsLimit 1000000 (value_of (codes "--pool-count") given) limits.count
+  pub bytes : IsLimit 300000000 (value_of (codes "--pool-bytes") given) limits.bytes
+
+-- the options of `once`, and those of `serve`
+abbrev pub once_options : List Word
+once_options = codes "--blocks" ∷ codes "--network" ∷ []
+
+abbrev pub serve_options : List Word
+serve_options = codes "--blocks" ∷ codes "--index" ∷ codes "--network" ∷ codes "--client-port"
+    ∷ codes "--node-port" ∷ codes "--pool-count" ∷ codes "--pool-bytes" ∷ []
+
+-- the words `once --blocks DIR --network NET`, the options in any order
+pub record IsOnceOf (words : List Word) (blocks : Word) (n : Network) : Type 0 where
+  pub given : Given
+  pub words_are : words ≡ codes "once" ∷ words_of given
+  pub options : AreOptions once_options given
+  pub blocks_is : value_of (codes "--blocks") given ≡ Some blocks
+  pub network_is : value_of (codes "--network") given ≡ Some (network_name n)
+
+-- the words `serve --blocks DIR --index DIR --network NET --client-port N --node-port N`, with
+-- `--pool-count N` and `--pool-bytes N` or without, the options in any order
+pub record IsServeOf (words : List Word) (blocks index : Word) (n : Network) (client_port node_port : ℕ)
+    (limits : PoolLimits) : Type 0 where
+  pub given : Given
+  pub words_are : words ≡ codes "serve" ∷ words_of given
+  pub options : AreOptions serve_options given
+  pub blocks_is : value_of (codes "--blocks") given ≡ Some blocks
+  pub index_is : value_of (codes "--index") given ≡ Some index
+  pub network_is : value_of (codes "--network") given ≡ Some (network_name n)
+  pub ports : ArePorts given client_port node_port
+  pub limits_are : AreLimits given limits
+
+abbrev pub texts : List (String Global) → List Word
 texts ws = map string_bytes ws

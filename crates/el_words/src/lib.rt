@@ -1,6 +1,10 @@
 //! The words of the command line, and the command that they ask for.
 #![tactic(auto)]
 
+mod laws;
+mod options;
+mod reading;
 mod words;
 
-pub use words::{Command, Network, OnceWords, ServeWords, once_of, read_words, serve_of};
+pub use laws::words_are_of_one_command;
+pub use words::{Command, Network, PoolLimits, ServeWords, once_of, read_words, serve_of};

@@ -1,12 +1,37 @@
 // The words of the command line.
-ghost use Rattle.std.specs.Prelude.{◌≡◌, ◌≢◌, ℕ, List, [], ◌∷◌, codes, IfSome, IfNone, IfOk, IsTrue, ◌↔◌, MatchOption};
-ghost use Rattle.el_words.specs.Words.{IsOnceOf, IsServeOf, IsFolder, IsPort, network_name, network_magic, texts};
+ghost use Rattle.std.specs.Prelude.{◌≡◌, ◌≢◌, ◌<◌, ◌^◌, ℕ, List, [], ◌∷◌, codes, is_some, true, map, Some, IfSome, IfNone, IfOk, IsSomeAnd, MatchOption};
+ghost use Rattle.clap.specs.Matches.{first_value, found_of};
+ghost use Rattle.el_words.specs.Options.{Word, Given, words_of, value_of};
+ghost use Rattle.el_words.specs.Words.{IsOnceOf, IsServeOf, IsUpTo, IsPort, IsLimit, ArePorts, AreLimits, network_name, network_magic, once_options, serve_options, texts};
 ghost use Rattle.el_words.specs.Commands.{IsCommand, IsNoCommand};
+ghost use Rattle.el_words.specs.within.Reading.{GiveOptions};
 ghost use Rattle.el_words.specs.declared.words.Network as shape;
+ghost use Rattle.el_words.specs.declared.words.PoolLimits as limits_shape;
 
+use crate::options::{are_options, first_of, value_in};
+use crate::reading::read_options;
+use clap::ArgMatches;
 use el_base::{OutOfMemory, Text};
 use el_lines::number_of;
 use std::alloc::Global;
+
+// The options of `once`, and those of `serve`.
+const ONCE_OPTIONS: [&str; 2] = ["--blocks", "--network"];
+
+const SERVE_OPTIONS: [&str; 7] = [
+    "--blocks",
+    "--index",
+    "--network",
+    "--client-port",
+    "--node-port",
+    "--pool-count",
+    "--pool-bytes",
+];
+
+// The greatest limits of the unconfirmed set, which stand where no others are given.
+const MAX_POOL_COUNT: u64 = 1_000_000;
+
+const MAX_POOL_BYTES: u64 = 300_000_000;
 
 /// A Bitcoin network.
 #[derive(Clone, Copy, Debug, PartialEq, Eq)]
@@ -48,6 +73,15 @@ impl Network {
     }
 }
 
+/// How much the unconfirmed set may hold.
+#[derive(Clone, Copy, Debug, PartialEq, Eq)]
+pub struct PoolLimits {
+    /// So many transactions, from 1 to 1,000,000.
+    pub count: u64,
+    /// So many bytes of transactions, from 1 to 300,000,000.
+    pub bytes: u64,
+}
+
 /// What the words ask for.
 #[derive(Debug, Drop)]
 pub enum Command {
@@ -59,10 +93,12 @@ pub enum Command {
         index: Text,
         /// The network whose blocks they are.
         network: Network,
-        /// The port on which clients are served, which is not used yet.
+        /// The port on which clients are served, from 1 to 65,535, which is not used yet.
         client_port: u16,
-        /// The port on which the node is served, which is not used yet.
+        /// The port on which the node is served, from 1 to 65,535, which is not used yet; another one.
         node_port: u16,
+        /// How much the unconfirmed set may hold, which is not used yet.
+        limits: PoolLimits,
     },
     /// Answers one client on standard input from file 0 of a folder of block files.
     Once {
@@ -73,213 +109,205 @@ pub enum Command {
     },
 }
 
-/// The words of `serve`, where they lie.
+/// What the words of `serve` say, but for the folders that they name.
 #[derive(Clone, Copy, Debug)]
-pub struct ServeWords<'a> {
-    /// The folder of the block files.
-    pub blocks: &'a str,
-    /// The folder of the index.
-    pub index: &'a str,
-    /// The network whose blocks they are.
+pub struct ServeWords {
+    /// The network whose blocks are served.
     pub network: Network,
     /// The port on which clients are served, from 1 to 65,535.
     pub client_port: u16,
     /// The port on which the node is served, from 1 to 65,535; another one.
     pub node_port: u16,
+    /// How much the unconfirmed set may hold.
+    pub limits: PoolLimits,
 }
 
-/// The words of `once`, where they lie.
-#[derive(Clone, Copy, Debug)]
-pub struct OnceWords<'a> {
-    /// The folder of the block files.
-    pub blocks: &'a str,
-    /// The network whose blocks they are.
-    pub network: Network,
-}
-
-// The first word, and the words after it.
-fn first_of(words: &[String]) -> Option<(&str, &[String])>
-    ensures found { IfSome result (λ r. texts words.now ≡ r.0.now ∷ texts r.1.now) }
-    ensures none { IfNone result (texts words.now ≡ []) }
-{
-    match words {
-        [] => None,
-        [first, rest @ ..] => Some((first.as_str(), rest)),
-    }
-}
-
-// The words after this one, with which they begin.
-fn after_word<'a>(words: &'a [String], word: &str) -> Option<&'a [String]>
+// The words after the name of this command, where they give options, each of which is one of these.
+fn options_after<'a>(words: &'a [String], command: &str, options: &[&str]) -> Option<&'a [String]>
     ensures { MatchOption result
-        ((more : List (List ℕ)) → texts words.now ≡ word.now ∷ more → ⊥)
-        (λ rest. texts words.now ≡ word.now ∷ texts rest.now) }
+        ((more : List Word) → texts words.now ≡ command.now ∷ more
+        → GiveOptions (map (λ option. option.now) options.now) more → ⊥)
+        (λ more. (texts words.now ≡ command.now ∷ texts more.now)
+        × GiveOptions (map (λ option. option.now) options.now) (texts more.now)) }
 {
     let (first, rest) = first_of(words)?;
-    if first == word { Some(rest) } else { None }
-}
-
-// The value of this option, with which the words begin, and the words after it.
-fn value_of<'a>(words: &'a [String], option: &str) -> Option<(&'a str, &'a [String])>
-    ensures { MatchOption result
-        ((value : List ℕ) (more : List (List ℕ)) → texts words.now ≡ option.now ∷ value ∷ more → ⊥)
-        (λ r. texts words.now ≡ option.now ∷ r.0.now ∷ texts r.1.now) }
-{
-    first_of(after_word(words, option)?)
-}
-
-// Whether the word names a folder.
-fn is_folder(word: &str) -> bool
-    ensures { IsTrue result ↔ IsFolder word.now }
-{
-    match word.as_bytes() {
-        [] => false,
-        [first, ..] => *first != b'-',
-    }
-}
-
-// The folder that this option names, with which the words begin, and the words after it.
-fn folder_of<'a>(words: &'a [String], option: &str) -> Option<(&'a str, &'a [String])>
-    ensures { MatchOption result
-        ((folder : List ℕ) (more : List (List ℕ)) → texts words.now ≡ option.now ∷ folder ∷ more
-        → IsFolder folder → ⊥)
-        (λ r. (texts words.now ≡ option.now ∷ r.0.now ∷ texts r.1.now) × IsFolder r.0.now) }
-{
-    let (folder, rest) = value_of(words, option)?;
-    if is_folder(folder) {
-        Some((folder, rest))
+    if first == command && are_options(rest, options) {
+        Some(rest)
     } else {
         None
     }
 }
 
-// The network that the words begin with, and the words after it.
-fn network_of(words: &[String]) -> Option<(Network, &[String])>
-    ensures { MatchOption result
-        ((network : shape.Network) (more : List (List ℕ))
-        → texts words.now ≡ codes "--network" ∷ network_name network ∷ more → ⊥)
-        (λ r. texts words.now ≡ codes "--network" ∷ network_name r.0 ∷ texts r.1.now) }
+// The network that the option `--network` names.
+fn network_in(words: &[String]) -> Option<Network>
+    ensures { (given : Given) → texts words.now ≡ words_of given → MatchOption result
+        ((network : shape.Network) → value_of (codes "--network") given ≡ Some (network_name network) → ⊥)
+        (λ network. value_of (codes "--network") given ≡ Some (network_name network)) }
 {
-    let (name, rest) = value_of(words, "--network")?;
-    match Network::named(name) {
-        Some(network) => Some((network, rest)),
-        None => None,
-    }
+    Network::named(value_in(words, "--network")?)
 }
 
-// The port that the text shows.
-fn port_in(text: &str) -> Option<u16>
+// The number from 1 up to `most` that the text shows.
+fn number_up_to(text: &str, most: u64) -> Option<u64>
+    requires { most < 2 ^ 32 }
     ensures { MatchOption result
-        ((port : ℕ) → IsPort text.now port → ⊥)
-        (λ port. IsPort text.now port) }
+        ((n : ℕ) → IsUpTo most text.now n → ⊥)
+        (λ n. IsUpTo most text.now n) }
 {
-    let number = number_of(text.as_bytes(), 10, 65_536)?;
+    let number = number_of(text.as_bytes(), 10, most + 1)?;
     if number == 0 {
         return None;
     }
-    Some(number as u16)
+    Some(number)
 }
 
-// The port that this option gives, with which the words begin, and the words after it.
-fn port_of<'a>(words: &'a [String], option: &str) -> Option<(u16, &'a [String])>
-    ensures none { IfNone result ((text : List ℕ) (port : ℕ) (more : List (List ℕ))
-        → texts words.now ≡ option.now ∷ text ∷ more → IsPort text port → ⊥) }
-    ensures found { IfSome result (λ r. (text : List ℕ) × IsPort text r.0
-        × (texts words.now ≡ option.now ∷ text ∷ texts r.1.now)) }
+// The port that this option gives.
+fn port_in(words: &[String], option: &str) -> Option<u16>
+    ensures { (given : Given) → texts words.now ≡ words_of given → MatchOption result
+        ((port : ℕ) → IsSomeAnd (value_of option.now given) (λ text. IsPort text port) → ⊥)
+        (λ port. IsSomeAnd (value_of option.now given) (λ text. IsPort text port)) }
 {
-    let (text, rest) = value_of(words, option)?;
-    let port = port_in(text)?;
-    Some((port, rest))
+    let port = number_up_to(value_in(words, option)?, 65_535)?;
+    Some(port as u16)
 }
 
-// The two ports, which differ, and nothing after them.
-fn ports_of(words: &[String]) -> Option<(u16, u16)>
-    ensures none { IfNone result ((client_text node_text : List ℕ) (client_port node_port : ℕ)
-        → texts words.now ≡ codes "--client-port" ∷ client_text ∷ codes "--node-port" ∷ node_text ∷ []
-        → IsPort client_text client_port → IsPort node_text node_port → client_port ≢ node_port → ⊥) }
-    ensures found { IfSome result (λ r. (client_text node_text : List ℕ) × IsPort client_text r.0
-        × IsPort node_text r.1 × (r.0 ≢ r.1)
-        × (texts words.now ≡ codes "--client-port" ∷ client_text ∷ codes "--node-port" ∷ node_text ∷ [])) }
+// The two ports, which differ.
+fn ports_in(words: &[String]) -> Option<(u16, u16)>
+    ensures { (given : Given) → texts words.now ≡ words_of given → MatchOption result
+        ((client_port node_port : ℕ) → ArePorts given client_port node_port → ⊥)
+        (λ ports. ArePorts given ports.0 ports.1) }
 {
-    let (client_port, rest) = port_of(words, "--client-port")?;
-    let (node_port, rest) = port_of(rest, "--node-port")?;
-    if rest.is_empty() && client_port != node_port {
-        Some((client_port, node_port))
-    } else {
+    let client_port = port_in(words, "--client-port")?;
+    let node_port = port_in(words, "--node-port")?;
+    if client_port == node_port {
         None
+    } else {
+        Some((client_port, node_port))
     }
 }
 
-/// The words `serve --blocks DIR --index DIR --network NET --client-port N --node-port N`, in this order;
-/// None exactly for other words.
-pub fn serve_of(words: &[String]) -> Option<ServeWords<'_>>
-    ensures found { IfSome result (λ serve. IsServeOf (texts words.now) serve.blocks.now serve.index.now
-        serve.network serve.client_port serve.node_port) }
-    ensures none { IfNone result ((folder index : List ℕ) (network : shape.Network)
-        (client_port node_port : ℕ)
-        → IsServeOf (texts words.now) folder index network client_port node_port → ⊥) }
+// The limit that this option gives, or else the greatest.
+fn limit_in(words: &[String], option: &str, most: u64) -> Option<u64>
+    requires { most < 2 ^ 32 }
+    ensures { (given : Given) → texts words.now ≡ words_of given → MatchOption result
+        ((limit : ℕ) → IsLimit most (value_of option.now given) limit → ⊥)
+        (λ limit. IsLimit most (value_of option.now given) limit) }
 {
-    let rest = after_word(words, "serve")?;
-    let (blocks, rest) = folder_of(rest, "--blocks")?;
-    let (index, rest) = folder_of(rest, "--index")?;
-    let (network, rest) = network_of(rest)?;
-    let (client_port, node_port) = ports_of(rest)?;
+    match value_in(words, option) {
+        Some(text) => number_up_to(text, most),
+        None => Some(most),
+    }
+}
+
+// The limits of the unconfirmed set.
+fn limits_in(words: &[String]) -> Option<PoolLimits>
+    ensures { (given : Given) → texts words.now ≡ words_of given → MatchOption result
+        ((limits : limits_shape.PoolLimits) → AreLimits given limits → ⊥)
+        (λ limits. AreLimits given limits) }
+{
+    let count = limit_in(words, "--pool-count", MAX_POOL_COUNT)?;
+    let bytes = limit_in(words, "--pool-bytes", MAX_POOL_BYTES)?;
+    Some(PoolLimits { count, bytes })
+}
+
+/// What the words `serve --blocks DIR --index DIR --network NET --client-port N --node-port N` say, with
+/// `--pool-count N` and `--pool-bytes N` or without, the options in any order, but for the folders; None
+/// exactly for other words. Takes no memory.
+pub fn serve_of(words: &[String]) -> Option<ServeWords>
+    ensures found { IfSome result (λ serve. (blocks index : Word) × IsServeOf (texts words.now) blocks index
+        serve.network serve.client_port serve.node_port serve.limits) }
+    ensures none { IfNone result ((blocks index : Word) (network : shape.Network) (client_port node_port : ℕ)
+        (limits : limits_shape.PoolLimits)
+        → IsServeOf (texts words.now) blocks index network client_port node_port limits → ⊥) }
+{
+    let options = options_after(words, "serve", &SERVE_OPTIONS)?;
+    let _blocks = value_in(options, "--blocks")?;
+    let _index = value_in(options, "--index")?;
+    let network = network_in(options)?;
+    let (client_port, node_port) = ports_in(options)?;
+    let limits = limits_in(options)?;
     Some(ServeWords {
-        blocks,
-        index,
         network,
         client_port,
         node_port,
+        limits,
     })
 }
 
-/// The words `once --blocks DIR --network NET`, in this order; None exactly for other words.
-pub fn once_of(words: &[String]) -> Option<OnceWords<'_>>
-    ensures found { IfSome result (λ once. IsOnceOf (texts words.now) once.blocks.now once.network) }
-    ensures none { IfNone result ((folder : List ℕ) (network : shape.Network)
-        → IsOnceOf (texts words.now) folder network → ⊥) }
+/// The network of the words `once --blocks DIR --network NET`, the options in any order; None exactly for
+/// other words. Takes no memory.
+pub fn once_of(words: &[String]) -> Option<Network>
+    ensures found { IfSome result (λ network. (blocks : Word) × IsOnceOf (texts words.now) blocks network) }
+    ensures none { IfNone result ((blocks : Word) (network : shape.Network)
+        → IsOnceOf (texts words.now) blocks network → ⊥) }
 {
-    let rest = after_word(words, "once")?;
-    let (blocks, rest) = folder_of(rest, "--blocks")?;
-    let (network, rest) = network_of(rest)?;
-    if rest.is_empty() {
-        Some(OnceWords { blocks, network })
-    } else {
-        None
+    let options = options_after(words, "once", &ONCE_OPTIONS)?;
+    let _blocks = value_in(options, "--blocks")?;
+    network_in(options)
+}
+
+// The words after the first.
+fn after_first(words: &[String]) -> &[String]
+    ensures { (first : Word) (more : List Word) → texts words.now ≡ first ∷ more → texts result.now ≡ more }
+{
+    match words {
+        [] => words,
+        [_, rest @ ..] => rest,
     }
 }
 
-// The command of the words of `serve`.
-fn serve_command(alloc: Global, serve: ServeWords<'_>) -> Result<Command, OutOfMemory>
-    ensures { IfOk result (λ command. (words : List (List ℕ))
-        → IsServeOf words serve.entry.blocks.now serve.entry.index.now
-        serve.entry.network serve.entry.client_port serve.entry.node_port → IsCommand words command) }
+// The folder that `clap` read for this option.
+fn folder_of(alloc: Global, read: &ArgMatches<'_>, id: &str) -> Result<Text, OutOfMemory>
+    requires { is_some (first_value (found_of read.now) id.now) ≡ true }
+    ensures { IfOk result (λ text. first_value (found_of read.now) id.now ≡ Some text) }
 {
+    Text::from_str(alloc, read.get_str(id).unwrap())
+}
+
+// The command of the words of `serve`, with the folders that `clap` reads.
+fn serve_command(alloc: Global, words: &[String], serve: ServeWords) -> Result<Command, OutOfMemory>
+    requires { (blocks index : Word) × IsServeOf (texts words.now) blocks index
+        serve.network serve.client_port serve.node_port serve.limits }
+    ensures { IfOk result (IsCommand (texts words.now)) }
+{
+    let Ok(read) = read_options(alloc, after_first(words)) else {
+        return Err(OutOfMemory);
+    };
     Ok(Command::Serve {
-        blocks: Text::from_str(alloc, serve.blocks)?,
-        index: Text::from_str(alloc, serve.index)?,
+        blocks: folder_of(alloc, &read, "blocks")?,
+        index: folder_of(alloc, &read, "index")?,
         network: serve.network,
         client_port: serve.client_port,
         node_port: serve.node_port,
+        limits: serve.limits,
     })
 }
 
-/// The command that the words ask for; None exactly for words of no command.
+// The command of the words of `once`, with the folder that `clap` reads.
+fn once_command(alloc: Global, words: &[String], network: Network) -> Result<Command, OutOfMemory>
+    requires { (blocks : Word) × IsOnceOf (texts words.now) blocks network }
+    ensures { IfOk result (IsCommand (texts words.now)) }
+{
+    let Ok(read) = read_options(alloc, after_first(words)) else {
+        return Err(OutOfMemory);
+    };
+    let blocks = folder_of(alloc, &read, "blocks")?;
+    Ok(Command::Once { blocks, network })
+}
+
+/// The command that the words ask for; None exactly for words of no command. The rules that `clap` doesn't
+/// know are checked before: that each option is given once, as two words, with a value of its kind.
 pub fn read_words(alloc: Global, words: &[String]) -> Result<Option<Command>, OutOfMemory>
     ensures found { IfOk result (λ found. IfSome found (IsCommand (texts words.now))) }
     ensures none { IfOk result (λ found. IfNone found (IsNoCommand (texts words.now))) }
 {
     if let Some(serve) = serve_of(words) {
-        let command = serve_command(alloc, serve)?;
+        let command = serve_command(alloc, words, serve)?;
         return Ok(Some(command));
     }
-    match once_of(words) {
-        Some(once) => {
-            let blocks = Text::from_str(alloc, once.blocks)?;
-            Ok(Some(Command::Once {
-                blocks,
-                network: once.network,
-            }))
-        }
-        None => Ok(None),
-    }
+    let Some(network) = once_of(words) else {
+        return Ok(None);
+    };
+    let command = once_command(alloc, words, network)?;
+    Ok(Some(command))
 }

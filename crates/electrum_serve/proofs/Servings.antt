@@ -1,5 +1,5 @@
 -- How a call of `serve` ends.
-use Rattle.std.proofs.Common.{◌≡◌, ◌≢◌, inl, inr, ℕ, List, [], ◌∷◌, ◌++◌, ◌∙◌, refl, sym, Bool, true, arith}
+use Rattle.std.proofs.Common.{◌≡◌, ◌≢◌, inl, inr, ℕ, List, [], ◌∷◌, ◌++◌, ◌∙◌, refl, sym, ap, Bool, true, arith}
 use Rattle.std.specs.Prelude.{◌⊎◌, Err}
 use Rattle.el_outside.specs.Counts.{RoseBy, OnlyReads, CountsOnly}
 use Rattle.el_outside.proofs.Stories.{rose_none}
@@ -7,7 +7,7 @@ use Rattle.el_chain.specs.declared.node.Node.{Node}
 use Rattle.el_chain.specs.Chains.{Chain}
 use Rattle.el_model.specs.World.{World}
 use Rattle.el_model.specs.Run.{Stop, Loss, archive, disk, link_losses, archive_losses, disk_losses}
-use Rattle.el_words.specs.Words.{IsOnceOf, IsServeOf, network_magic, network_name}
+use Rattle.el_words.specs.Words.{IsOnceOf, IsServeOf, network_magic}
 use Rattle.el_words.specs.Commands.{IsServe, IsOnce}
 use Rattle.electrum_serve.specs.Opened.{IsScanned, nodes_of_chain}
 use Rattle.electrum_serve.specs.OtherChain.{is_other_chain}
@@ -21,47 +21,41 @@ use Rattle.electrum_serve.specs.declared.opening.StartFault.TheVariants as start
 use Rattle.electrum_serve.specs.declared.status.Status.{Status}
 use Rattle.electrum_serve.specs.declared.status.Status.TheVariants as status
 use Rattle.el_words.specs.declared.words.Network.{Network}
-use Rattle.el_words.specs.declared.words.Network.TheVariants as network
+use Rattle.el_words.specs.declared.words.Command.TheVariants as command
+use Rattle.el_words.specs.declared.words.PoolLimits.{PoolLimits}
+use Rattle.el_words.proofs.OneCommand.{one_command}
 
 -- the words of `serve`, or of `once`, with their network's magic
-pub is_serve : {words : List (List ℕ)} {folder index magic : List ℕ} {network : Network}
-    {client_port node_port : ℕ}
-    → IsServeOf words folder index network client_port node_port → magic ≡ network_magic network
+pub is_serve : {words : List (List ℕ)} {blocks index magic : List ℕ} {network : Network}
+    {client_port node_port : ℕ} {limits : PoolLimits}
+    → IsServeOf words blocks index network client_port node_port limits → magic ≡ network_magic network
     → IsServe words magic
-is_serve {words} {folder} {index} {magic} {network} {client_port} {node_port} is magic_is = record {
-  folder = folder;
+is_serve {words} {blocks} {index} {magic} {network} {client_port} {node_port} {limits} is magic_is = record {
+  blocks = blocks;
   index = index;
   of_network = network;
   client_port = client_port;
   node_port = node_port;
+  limits = limits;
   is_serve = is;
   magic_is = magic_is;
 }
 
-pub is_once : {words : List (List ℕ)} {folder magic : List ℕ} {network : Network}
-    → IsOnceOf words folder network → magic ≡ network_magic network → IsOnce words magic
-is_once {words} {folder} {magic} {network} is magic_is =
-    record { folder = folder; of_network = network; is_once = is; magic_is = magic_is }
+pub is_once : {words : List (List ℕ)} {blocks magic : List ℕ} {network : Network}
+    → IsOnceOf words blocks network → magic ≡ network_magic network → IsOnce words magic
+is_once {words} {blocks} {magic} {network} is magic_is =
+    record { blocks = blocks; of_network = network; is_once = is; magic_is = magic_is }
 
 -- the words of `serve` are those of one network
-same_magic : (a b : Network) → network_name a ≡ network_name b → network_magic a ≡ network_magic b
-same_magic network.Main network.Main e = refl
-same_magic network.Main network.Testnet3 e = absurd cc
-same_magic network.Main network.Regtest e = absurd cc
-same_magic network.Testnet3 network.Main e = absurd cc
-same_magic network.Testnet3 network.Testnet3 e = refl
-same_magic network.Testnet3 network.Regtest e = absurd cc
-same_magic network.Regtest network.Main e = absurd cc
-same_magic network.Regtest network.Testnet3 e = absurd cc
-same_magic network.Regtest network.Regtest e = refl
-
-pub one_network : {words : List (List ℕ)} {folder index magic : List ℕ} {of_network : Network}
-    {client_port node_port : ℕ}
-    → IsServe words magic → IsServeOf words folder index of_network client_port node_port
+pub one_network : {words : List (List ℕ)} {blocks index magic : List ℕ} {of_network : Network}
+    {client_port node_port : ℕ} {limits : PoolLimits}
+    → IsServe words magic → IsServeOf words blocks index of_network client_port node_port limits
     → magic ≡ network_magic of_network
-one_network {of_network = of_network} is other =
-    is.magic_is ∙ same_magic is.of_network of_network
-    (let a = is.is_serve.words_are in let b = other.words_are in cc)
+one_network {words} {blocks} {index} {magic} {of_network} {client_port} {node_port} {limits} is other =
+    let same = one_command words
+    (command.Serve is.blocks is.index is.of_network is.client_port is.node_port is.limits)
+    (command.Serve blocks index of_network client_port node_port limits) is.is_serve other in
+    is.magic_is ∙ ap network_magic (let named : is.of_network ≡ of_network = cc in named)
 
 pub same_networks : {words : List (List ℕ)} {a b : List ℕ} → IsServe words a → IsServe words b → a ≡ b
 same_networks x y = one_network x y.is_serve ∙ sym y.magic_is
@@ -73,7 +67,7 @@ pub only_served : {A : Type 0} {tells : Type 0} {bytes : A → ℕ → List ℕ}
     → Ends tells bytes file_count words was flight chain leaves c before after t s
     → IndexEnds tells bytes file_count magic was flight chain (leaves magic) c before after t s
 only_served is (usage none spent silent) =
-    absurd (none.not_serve is.folder is.index is.of_network is.client_port is.node_port is.is_serve)
+    absurd (none.not_serve is.blocks is.index is.of_network is.client_port is.node_port is.limits is.is_serve)
 only_served is (serve magic also e) = rw (same_networks also is) at e
 only_served is (once magic other e) =
     absurd (let a = is.is_serve.words_are in let b = other.is_once.words_are in cc)

@@ -14,7 +14,10 @@ mod starting;
 mod status;
 
 pub use el_net::{BlockFiles, FileDisk, NoDisk, NoFiles, NoLink, StandardLink};
-pub use el_words::{Command, Network, OnceWords, ServeWords, once_of, read_words, serve_of};
+pub use el_words::{
+    Command, Network, PoolLimits, ServeWords, once_of, read_words, serve_of,
+    words_are_of_one_command,
+};
 pub use lives::lives_go_on;
 use program::{serve_all, tell_end};
 pub use serving::serve;

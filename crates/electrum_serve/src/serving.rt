@@ -253,15 +253,8 @@ pub fn serve<D: Disk, A: Archive, K: Link>(
         );
     }
     match once_of(words) {
-        Some(once) => (
-            serve_file::<A, K, Brand>(
-                alloc,
-                once.network.magic(),
-                archive,
-                link,
-                turns,
-                Blank::new(1),
-            ),
+        Some(network) => (
+            serve_file::<A, K, Brand>(alloc, network.magic(), archive, link, turns, Blank::new(1)),
             disk,
         ),
         None => (Status::Usage, disk),

@@ -5,5 +5,5 @@ use Rattle.el_words.specs.declared.words.Command.TheVariants as command
 
 -- the folder of block files that a command asks for
 abbrev pub folder_of : Command → List ℕ
-folder_of (command.Serve blocks index network client_port node_port) = blocks
+folder_of (command.Serve blocks index network client_port node_port limits) = blocks
 folder_of (command.Once blocks network) = blocks

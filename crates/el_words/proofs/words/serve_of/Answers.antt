@@ -1,7 +1,19 @@
-use Rattle.el_words.proofs.WordLemmas.{index_refused}
+use Rattle.std.proofs.Common.{◌∙◌, ◌∷◌, List, codes, ap, sym}
+use Rattle.el_words.specs.Options.{Word}
 use Rattle.el_words.proofs.words.serve_of.Goals as goal
 
-pub returns-in_err-index-clause-none : goal.returns-in_err-index-clause-none
-returns-in_err-index-clause-none c =
-    rw c.from_residual-in_err-index.ensures
-    (index_refused _ _ _ _ c.in_ok-rest.ensures c.in_ok-blocks.ensures.0 c.in_err-index.ensures)
+pub returns-clause-found : goal.returns-clause-found
+returns-clause-found c = let options = c.in_ok-options.ensures.1 in (
+  c.in_ok-_blocks._blocks.now,
+  c.in_ok-_index._index.now,
+  record {
+    given = options.given;
+    words_are = c.in_ok-options.ensures.0 ∙ ap (λ (more : List Word). codes "serve" ∷ more) options.words_are;
+    options = options.are;
+    blocks_is = sym (c.in_ok-_blocks.ensures options.given options.words_are);
+    index_is = sym (c.in_ok-_index.ensures options.given options.words_are);
+    network_is = c.in_ok-network.ensures options.given options.words_are;
+    ports = c.in_ok-client_port.ensures options.given options.words_are;
+    limits_are = c.in_ok-limits.ensures options.given options.words_are;
+  },
+)

@@ -11,17 +11,22 @@ use Rattle.electrum_serve.proofs.serving.serve.Goals as goal
 
 pub returns-in-Some-clause-ends : goal.returns-in-Some-clause-ends
 returns-in-Some-clause-ends g c = λ was flight chain starts.
-    let is = is_serve c.in-Some.ensures.found refl in
+    let is = is_serve c.in-Some.ensures.found.2 refl in
     let e = c.serve_network.ensures.ends was flight chain (starts _ is) in
     (e.0, e.1, serve _ is e.2)
 
 pub returns-in-Some-clause-bad : goal.returns-in-Some-clause-bad
 returns-in-Some-clause-bad g c = λ told bad magic is.
-    rw (one_network is c.in-Some.ensures.found) (c.serve_network.ensures.bad told bad)
+    rw (one_network is c.in-Some.ensures.found.2) (c.serve_network.ensures.bad told bad)
 
 pub returns-in-Some-clause-is_bad : goal.returns-in-Some-clause-is_bad
 returns-in-Some-clause-is_bad g c = λ told magic wanted found is bad.
-    c.serve_network.ensures.is_bad told wanted found (rw (one_network is c.in-Some.ensures.found) at bad)
+    c.serve_network.ensures.is_bad told wanted found (rw (one_network is c.in-Some.ensures.found.2) at bad)
+
+pub returns-in-Some-clause-refused : goal.returns-in-Some-clause-refused
+returns-in-Some-clause-refused g c = λ none.
+    let found = c.in-Some.ensures.found in
+    absurd (none.not_serve found.0 found.1 _ _ _ _ found.2)
 
 pub returns-in-Some-clause-unread : goal.returns-in-Some-clause-unread
 returns-in-Some-clause-unread g c = λ usage. absurd (c.serve_network.ensures.read usage)
@@ -30,15 +35,20 @@ pub returns-in-Some-clause-lawful : goal.returns-in-Some-clause-lawful
 returns-in-Some-clause-lawful g c = λ usage. absurd (c.serve_network.ensures.read usage)
 
 pub returns-in-Some-clause-untouched : goal.returns-in-Some-clause-untouched
-returns-in-Some-clause-untouched g c = λ none. absurd (none _ (is_serve c.in-Some.ensures.found refl))
+returns-in-Some-clause-untouched g c = λ none. absurd (none _ (is_serve c.in-Some.ensures.found.2 refl))
 
 pub returns-in-Some-once_of-clause-ends : goal.returns-in-Some-once_of-clause-ends
 returns-in-Some-once_of-clause-ends g c = λ was flight chain starts.
     let e = c.serve_file.ensures.ends (g.D.Disk.faults c.args.disk) in
-    (e.0, e.1, once _ (is_once c.in-Some-once_of.ensures.found c.magic.ensures) e.2)
+    (e.0, e.1, once _ (is_once c.in-Some-once_of.ensures.found.1 c.magic.ensures) e.2)
 
 pub returns-in-Some-once_of-clause-causes : goal.returns-in-Some-once_of-clause-causes
 returns-in-Some-once_of-clause-causes g c = c.serve_file.ensures.causes (g.D.Disk.faults c.args.disk)
+
+pub returns-in-Some-once_of-clause-refused : goal.returns-in-Some-once_of-clause-refused
+returns-in-Some-once_of-clause-refused g c = λ none.
+    let found = c.in-Some-once_of.ensures.found in
+    absurd (none.not_once found.0 _ found.1)
 
 pub returns-in-Some-once_of-clause-unread : goal.returns-in-Some-once_of-clause-unread
 returns-in-Some-once_of-clause-unread g c = λ usage.
@@ -64,7 +74,7 @@ returns-in-None-clause-causes g c = caused_none _ _ _
 pub returns-in-None-clause-is_bad : goal.returns-in-None-clause-is_bad
 returns-in-None-clause-is_bad g c = λ told magic wanted found is bad.
     let none : IsNoCommand (texts c.args.words.now) = search rules in
-    none.not_serve is.folder is.index is.of_network is.client_port is.node_port is.is_serve
+    none.not_serve is.blocks is.index is.of_network is.client_port is.node_port is.limits is.is_serve
 
 pub returns-in-Some-once_of-clause-kept : goal.returns-in-Some-once_of-clause-kept
 returns-in-Some-once_of-clause-kept g c = λ told bad.

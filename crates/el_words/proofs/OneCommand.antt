@@ -1,0 +1,79 @@
+-- Words are those of one command.
+use Rattle.std.proofs.Common.{◌≡◌, ◌∙◌, ℕ, List, ◌∷◌, Option, Some, None, codes, refl, sym, ap, ap₂, subst, drop, IsSomeAnd}
+use Rattle.el_words.specs.Options.{Word, Given, words_of, value_of}
+use Rattle.el_words.specs.Words.{IsPort, IsLimit, network_name}
+use Rattle.el_words.specs.Commands.{IsCommand}
+use Rattle.el_words.specs.declared.words.Command.{Command}
+use Rattle.el_words.specs.declared.words.Command.TheVariants as command
+use Rattle.el_words.specs.declared.words.Network.{Network}
+use Rattle.el_words.specs.declared.words.Network.TheVariants as network
+use Rattle.el_words.proofs.OptionLemmas.{one_given}
+
+-- a name is that of one network
+same_name : (a b : Network) → network_name a ≡ network_name b → a ≡ b
+same_name network.Main network.Main e = refl
+same_name network.Main network.Testnet3 e = absurd cc
+same_name network.Main network.Regtest e = absurd cc
+same_name network.Testnet3 network.Main e = absurd cc
+same_name network.Testnet3 network.Testnet3 e = refl
+same_name network.Testnet3 network.Regtest e = absurd cc
+same_name network.Regtest network.Main e = absurd cc
+same_name network.Regtest network.Testnet3 e = absurd cc
+same_name network.Regtest network.Regtest e = refl
+
+-- the same options: of one command
+one_rest : {first : Word} {words : List Word} {a b : Given} → words ≡ first ∷ words_of a
+    → words ≡ first ∷ words_of b → a ≡ b
+one_rest {a = a} {b = b} x y = one_given a b (ap (λ (words : List Word). drop 1 words) (sym x ∙ y))
+
+-- an option has one value
+one_value : (option : Word) {a b : Given} {x y : Word} → a ≡ b → value_of option a ≡ Some x
+    → value_of option b ≡ Some y → x ≡ y
+one_value option same is other = let both = sym is ∙ ap (value_of option) same ∙ other in cc
+
+one_network : {a b : Given} {m n : Network} → a ≡ b → value_of (codes "--network") a ≡ Some (network_name m)
+    → value_of (codes "--network") b ≡ Some (network_name n) → m ≡ n
+one_network {m = m} {n = n} same is other = same_name m n (one_value (codes "--network") same is other)
+
+-- a text shows one port, and gives one limit
+one_port : (text : Option Word) {p q : ℕ} → IsSomeAnd text (λ t. IsPort t p)
+    → IsSomeAnd text (λ t. IsPort t q) → p ≡ q
+one_port None is other = absurd is
+one_port (Some text) is other = is.number.value ∙ sym other.number.value
+
+one_limit : (most : ℕ) (text : Option Word) {m n : ℕ} → IsLimit most text m → IsLimit most text n → m ≡ n
+one_limit most None is other = is ∙ sym other
+one_limit most (Some text) is other = is.number.value ∙ sym other.number.value
+
+pub one_command : (words : List Word) (one other : Command) → IsCommand words one → IsCommand words other
+    → one ≡ other
+one_command words (command.Serve blocks index m client_port node_port limits)
+    (command.Serve blocks' index' n client_port' node_port' limits') a b =
+    let same = one_rest a.words_are b.words_are in
+    let text = λ (option : Word). ap (value_of option) same in
+    let e1 = one_value (codes "--blocks") same a.blocks_is b.blocks_is in
+    let e2 = one_value (codes "--index") same a.index_is b.index_is in
+    let e3 = one_network same a.network_is b.network_is in
+    let e4 = one_port (value_of (codes "--client-port") b.given)
+    (subst (λ t. IsSomeAnd t (λ t. IsPort t client_port)) (text (codes "--client-port")) a.ports.client)
+    b.ports.client in
+    let e5 = one_port (value_of (codes "--node-port") b.given)
+    (subst (λ t. IsSomeAnd t (λ t. IsPort t node_port)) (text (codes "--node-port")) a.ports.node)
+    b.ports.node in
+    let count = one_limit 1000000 (value_of (codes "--pool-count") b.given)
+    (subst (λ t. IsLimit 1000000 t limits.count) (text (codes "--pool-count")) a.limits_are.count)
+    b.limits_are.count in
+    let bytes = one_limit 300000000 (value_of (codes "--pool-bytes") b.given)
+    (subst (λ t. IsLimit 300000000 t limits.bytes) (text (codes "--pool-bytes")) a.limits_are.bytes)
+    b.limits_are.bytes in
+    let e6 : limits ≡ limits' = ap₂ (λ (c s : ℕ). record { count = c; bytes = s }) count bytes in
+    cc
+one_command words (command.Serve blocks index m client_port node_port limits) (command.Once blocks' n) a b =
+    absurd (let one = a.words_are in let other = b.words_are in cc)
+one_command words (command.Once blocks m) (command.Serve blocks' index' n client_port' node_port' limits') a b =
+    absurd (let one = a.words_are in let other = b.words_are in cc)
+one_command words (command.Once blocks m) (command.Once blocks' n) a b =
+    let same = one_rest a.words_are b.words_are in
+    let e1 = one_value (codes "--blocks") same a.blocks_is b.blocks_is in
+    let e2 = one_network same a.network_is b.network_is in
+    cc
