@@ -23,9 +23,11 @@ pub enum LineEvent {
 /// ends each message of Electrum Protocol 1.4).
 ///
 /// A line above the limit is given as `TooLong` as soon as more bytes of it were fed than the limit says. The
-/// rest of it is skipped and never kept. So where each piece is followed by calls of `next_line` up to None,
-/// a peer that sends no byte 10 takes the memory of no more than `limit` bytes and the piece fed last. Each
-/// byte is searched once for byte 10, however the bytes are cut, and moved once on average.
+/// rest of it is skipped and never kept. At any time it keeps at most twice as many bytes as it holds, that
+/// is, as were fed and belong to no event that was given. So where each piece is followed by calls of
+/// `next_line` up to None, a peer that sends no byte 10 takes the memory of no more than `limit` bytes and the
+/// piece fed last. Each byte is searched once for byte 10, however the bytes are cut, and moved twice at most
+/// on average.
 #[derive(Debug, Drop)]
 pub struct LineBuffer {
     limit: usize,
@@ -38,7 +40,7 @@ pub struct LineBuffer {
 }
 
 impl Model for LineBuffer {
-    ghost use Rattle.std.specs.Prelude.{◌≡◌, ◌≤◌, [], length, drop, true};
+    ghost use Rattle.std.specs.Prelude.{◌≡◌, ◌≤◌, ◌*◌, [], length, drop, true};
     ghost use Rattle.el_lines.specs.LineStates.{LineState};
     ghost use Rattle.el_lines.specs.within.Places.{IsSearched};
 
@@ -46,7 +48,8 @@ impl Model for LineBuffer {
 
     ghost view = { λ b. record { limit = b.limit; rest = drop b.start b.bytes.items; skips = b.skips } };
 
-    ghost invariant = { λ b. (b.start ≤ length b.bytes.items)
+    // Of the bytes that were given no more are kept than of those that are held.
+    ghost invariant = { λ b. (2 * b.start ≤ length b.bytes.items)
         × IsSearched 10 (drop b.start b.bytes.items) b.seen
         × (b.skips ≡ true → drop b.start b.bytes.items ≡ []) };
 }
@@ -176,9 +179,14 @@ impl LineBuffer {
         requires { end < held self.old }
         ensures { self.new ≡ record self.old { rest = drop (end + 1) self.old.rest } }
     {
-        self.start += end;
-        self.start += 1;
+        let start = self.start + end + 1;
         self.seen = 0;
+        if start <= self.bytes.len() - start {
+            self.start = start;
+        } else {
+            leave_out(&mut self.bytes, start);
+            self.start = 0;
+        }
     }
 
     // Forgets the bytes, and skips the rest of their line.
@@ -197,15 +205,12 @@ impl LineBuffer {
             ≡ record { limit = self.old.limit; rest = self.old.rest ++ bytes.now; skips = false }) }
         ensures refused { OnErr result (self.new ≡ self.old) }
     {
-        if self.start > self.len() {
-            self.leave_out_given();
-        }
         self.bytes.extend_from_slice(bytes)?;
         self.skips = false;
         Ok(())
     }
 
-    // Gives the memory of bytes that were given to those that come.
+    // Lets the bytes go that were given.
     fn leave_out_given(&mut self)
         ensures { self.new ≡ self.old }
     {
