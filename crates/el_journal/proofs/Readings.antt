@@ -158,9 +158,9 @@ after_length entry rest =
 
 pub entry_read : (file buf : List ℕ) (entries : List (List ℕ)) (mark : Mark) (start n got end : ℕ) → length file < 2 ^ 62 → EndsAfter entries file → IsMark mark entries
     → mark.number < length entries → end ≡ length (journal_bytes entries) → start ≡ min (mark.place + 9) 18446744073709551615
-    → n ≡ min (length (get_or entries mark.number [])) (end - start) → length buf ≡ n → got ≡ min n (length file - start) → take got buf ≡ take got (drop start file)
-    → buf ≡ get_or entries mark.number []
-entry_read file buf entries mark start n got end short ends marked lt end_is start_is n_is size got_is filled =
+    → n ≡ min (length (get_or entries mark.number [])) (end - start) → got ≡ min n (length file - start) → take got buf ≡ take got (drop start file)
+    → take got buf ≡ get_or entries mark.number []
+entry_read file buf entries mark start n got end short ends marked lt end_is start_is n_is got_is filled =
     let entry = get_or entries mark.number [] in
     let tail = journal_bytes (drop (suc mark.number) entries) ++ ends.gate ∷ ends.rest in
     let there = entry_at file entries mark ends marked lt in
@@ -174,7 +174,7 @@ entry_read file buf entries mark start n got end short ends marked lt end_is sta
     let behind : drop start file ≡ entry ++ tail =
     ap (λ k. drop k file) start_at ∙ sym (drop-drop 9 mark.place file) ∙ ap (λ (l : List ℕ). drop 9 l) there ∙ after_length entry tail in
     let same : take (length entry) buf ≡ take (length entry) (drop start file) = subst (λ k. take k buf ≡ take k (drop start file)) got_all filled in
-    sym (take_all (length entry) buf (omega (arith, size, all))) ∙ same ∙ ap (λ (l : List ℕ). take (length entry) l) behind ∙ take_at entry tail (length entry) refl
+    ap (λ k. take k buf) got_all ∙ same ∙ ap (λ (l : List ℕ). take (length entry) l) behind ∙ take_at entry tail (length entry) refl
 
 -- what a vector has after its slice was read
 pub items_read : (len : ℕ) (buf items : List ℕ) → length buf ≡ length items → len ≡ length items → take len (buf ++ drop (length buf) items) ≡ buf

@@ -11,7 +11,8 @@ pub enum JournalFault {
     #[error("index device failed")]
     DiskFailed,
     /// The file has two bytes or more, and the gate at this place, counted from the file's first byte, is
-    /// open, but no whole entry with the gate after it stands there.
+    /// open, but no whole entry with the gate after it stands there; or a read gave fewer bytes from there on
+    /// than the file has.
     #[error("journal is cut at {place}")]
     BadJournal { place: u64 },
     /// Out of memory.

@@ -12,12 +12,17 @@ pub(crate) enum Gate {
     Cut,
 }
 
-// What stands at the front of so many bytes, of which the first nine are here, or all.
-pub(crate) fn gate_in(front: &[u8; 9], left: u64) -> Gate
-    ensures begins { (bytes : List ℕ) → length bytes ≡ left → 1 ≤ left
-        → take (min 9 left) front.now ≡ take (min 9 left) bytes → Begins result bytes }
+// What stands at the front of so many bytes, of which a read gave these, to be the first nine, or all. Where
+// it gave fewer, none of them says what stands there.
+pub(crate) fn gate_in(front: &[u8; 9], given: usize, left: u64) -> Gate
+    ensures begins { (bytes : List ℕ) → length bytes ≡ left → 1 ≤ left → given ≡ min 9 left
+        → take given front.now ≡ take given bytes → Begins result bytes }
+    ensures short { given < min 9 left → result ≡ gate.Cut }
     ensures within { (n : ℕ) → result ≡ gate.Open n → 9 + n < left }
 {
+    if (given as u64) < left.min(9) {
+        return Gate::Cut;
+    }
     let [gate, a, b, c, d, e, f, g, h] = *front;
     if gate != 1 {
         return Gate::Closed;

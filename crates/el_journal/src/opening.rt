@@ -16,7 +16,8 @@ use crate::mark::{FIRST, Mark};
 use crate::{JOURNAL, JournalFault};
 use el_outside::{Disk, DiskFailed};
 
-// Reads what stands at a place of a file of this size.
+// Reads what stands at a place of a file of this size. Where a read gives fewer bytes than the file has there,
+// as of a file that was cut meanwhile, the gate is told as cut, and never as the one after the last entry.
 fn gate_at<D: Disk>(disk: &mut D, place: u64, size: u64) -> Result<Gate, DiskFailed>
     ensures begins { D.tells → size ≡ length (D.seen disk.old JOURNAL) → place < size
         → IfOk result (λ found. Begins found (drop place (D.seen disk.old JOURNAL))) }
@@ -25,8 +26,8 @@ fn gate_at<D: Disk>(disk: &mut D, place: u64, size: u64) -> Result<Gate, DiskFai
     ensures cause { HasCause (D.faults disk.old) (D.faults disk.new) result }
 {
     let mut front = [0; 9];
-    let _ = disk.read(JOURNAL, place, &mut front)?;
-    Ok(gate_in(&front, size.saturating_sub(place)))
+    let given = disk.read(JOURNAL, place, &mut front)?;
+    Ok(gate_in(&front, given, size.saturating_sub(place)))
 }
 
 // Walks over all entries of a file of this size, and answers what is after the last.

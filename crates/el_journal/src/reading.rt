@@ -53,7 +53,8 @@ pub(crate) fn find<D: Disk>(disk: &mut D, from: Mark, i: u64) -> Result<Mark, Di
     Ok(mark)
 }
 
-// Reads the bytes of the entry at the mark, of which none stand at the end or after it.
+// Reads the bytes of the entry at the mark, of which none stand at the end or after it: those that a read
+// gives.
 pub(crate) fn read_entry<D: Disk>(
     alloc: Global,
     disk: &mut D,
@@ -70,6 +71,7 @@ pub(crate) fn read_entry<D: Disk>(
     let length = length_at(disk, mark.place)?;
     let most = end.saturating_sub(start);
     let mut bytes = vec![in alloc; 0u8; length.min(most) as usize]?;
-    let _ = disk.read(JOURNAL, start, &mut bytes)?;
+    let given = disk.read(JOURNAL, start, &mut bytes)?;
+    bytes.truncate(given);
     Ok(bytes)
 }

@@ -6,8 +6,8 @@ use Rattle.el_journal.proofs.Readings.{entry_at, entry_read, items_read}
 use Rattle.el_journal.proofs.Steps.{one_read, read_more}
 use Rattle.el_journal.proofs.reading.read_entry.Goals as goal
 
-pub returns-in_err-read-clause-read : goal.returns-in_err-read-clause-read
-returns-in_err-read-clause-read g c told =
+pub returns-in_err-given-clause-read : goal.returns-in_err-given-clause-read
+returns-in_err-given-clause-read g c told =
     read_more g.D.Disk (λ d t u i le left. g.met.D.Disk.earlier d t u i told le left) c.args.disk.now c.length_at.new.disk c.read.new.self (c.length_at.ensures.read told)
     (one_read g.D.Disk c.length_at.new.disk c.read.new.self (c.read.ensures.time told) (c.read.ensures.crash told) (c.read.ensures.seen told))
 
@@ -24,16 +24,20 @@ returns-clause-entry g c told entries ends at marked below =
     let items = c.in_ok-bytes.bytes.items in
     let start = c.saturating_add-start.result in
     let n = c.min.result in
-    let got = c.in_ok-read.field-0 in
+    let got = c.in_ok-given.given in
     let entry = get_or entries mark.number [] in
     let tail = journal_bytes (drop (suc mark.number) entries) ++ ends.gate ∷ ends.rest in
     let same : g.D.Disk.seen c.length_at.new.disk JOURNAL ≡ file = ap (λ (s : Image). s JOURNAL) (c.length_at.ensures.read told).seen in
     let sized : c.in_ok-length.length ≡ length entry = c.in_ok-length.ensures.length told entry tail (entry_at file entries mark ends marked below) in
     let long : length buf ≡ length items = c.read.auto.buf ∙ ap (λ (l : List ℕ). length l) c.deref_mut.ensures.value in
     let got_is : got ≡ min n (length file - start) =
-    c.in_ok-read.ensures.count told ∙ ap (λ k. min k (length (g.D.Disk.seen c.length_at.new.disk JOURNAL) - start)) (c.deref_mut.ensures.len ∙ c.in_ok-bytes.ensures.len)
+    c.in_ok-given.ensures.count told ∙ ap (λ k. min k (length (g.D.Disk.seen c.length_at.new.disk JOURNAL) - start)) (c.deref_mut.ensures.len ∙ c.in_ok-bytes.ensures.len)
     ∙ ap (λ (f : List ℕ). min n (length f - start)) same in
-    items_read c.in_ok-bytes.bytes.len buf items long (sym c.deref_mut.ensures.len ∙ ap (λ (l : List ℕ). length l) c.deref_mut.ensures.value)
-    ∙ entry_read file buf entries mark start n got c.args.end (g.met.D.Disk.small c.args.disk.now JOURNAL told) ends marked below at c.saturating_add-start.ensures
+    let got_all = entry_read file buf entries mark start n got c.args.end (g.met.D.Disk.small c.args.disk.now JOURNAL told) ends marked below
+    at c.saturating_add-start.ensures
     (c.min.ensures ∙ ap (λ k. min k c.saturating_sub-most.result) sized ∙ ap (λ k. min (length entry) k) c.saturating_sub-most.ensures)
-    (c.read.auto.buf ∙ c.deref_mut.ensures.len ∙ c.in_ok-bytes.ensures.len) got_is (c.in_ok-read.ensures.filled told ∙ ap (λ (f : List ℕ). take got (drop start f)) same)
+    got_is (c.in_ok-given.ensures.filled told ∙ ap (λ (f : List ℕ). take got (drop start f)) same) in
+    c.truncate.ensures.items
+    ∙ ap (λ (l : List ℕ). take got l)
+    (items_read c.in_ok-bytes.bytes.len buf items long (sym c.deref_mut.ensures.len ∙ ap (λ (l : List ℕ). length l) c.deref_mut.ensures.value))
+    ∙ got_all
