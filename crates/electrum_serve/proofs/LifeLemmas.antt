@@ -1,5 +1,5 @@
 -- Lives follow each other.
-use Rattle.std.proofs.Common.{Bool, true, ◌≡◌, ◌⊎◌, inl, inr, ℕ, List, [], ◌∷◌, refl, arith}
+use Rattle.std.proofs.Common.{Bool, true, ◌≡◌, ◌⊎◌, inl, inr, ℕ, List, [], ◌∷◌, length, refl, arith}
 use Rattle.std.specs.List.{AllByRecursion}
 use Rattle.el_outside.specs.declared.archive.Archive as archive
 use Rattle.el_outside.specs.declared.disk.Disk as disk
@@ -23,6 +23,7 @@ use Rattle.electrum_serve.specs.IndexDisks.{ImageMeans, LeavesOneOf, IsIndexDisk
 use Rattle.electrum_serve.specs.Calls.{Call, CallEnds}
 use Rattle.electrum_serve.specs.Ends.{serve, IndexEnds, UnopenedEnds, ServeEnds, IsServed}
 use Rattle.electrum_serve.specs.Lives.{IsLeftBy, AreLives, GoOn, none, one}
+use Rattle.electrum_serve.specs.within.Lived.{Lived}
 use Rattle.electrum_serve.specs.Runs.{Counts, Traffic, RunEnds, IsRun, IsHalted}
 use Rattle.electrum_serve.specs.declared.status.Status.{Status}
 use Rattle.electrum_serve.specs.declared.status.Status.TheVariants as status
@@ -220,6 +221,43 @@ module _ {D A K : Type 0} (of_disk : disk.Ghosts D) (of_files : archive.Ghosts A
       let f = found d was flight l told left are.0 serve'.0 calls.0 in
       one_more was flight f.chain l more f.from f.end
       (lives_go l.after.disk f.end.acked f.end.in_flight more told f.end.leaves are.1 serve'.1 calls.1)
+
+  -- one life, and those after it
+  pub lived_more : (d : D) (was flight : Chain) (l : Call D A K) (files files_after : List A)
+      (links links_after : List K) (ends : List Status) (f : Found l was flight)
+      → IsLeftBy of_disk d l.before.disk
+      → Lived of_disk of_files of_link l.after.disk f.end.acked f.end.in_flight l.words l.turns files files_after links links_after ends
+      → Lived of_disk of_files of_link d was flight l.words l.turns (l.before.files ∷ files) (l.after.files ∷ files_after)
+      (l.before.link ∷ links) (l.after.link ∷ links_after) (l.status ∷ ends)
+  lived_more d was flight l files files_after links links_after ends f is then = record {
+    lives = l ∷ then.lives;
+    over = (
+      record {
+        words_are = refl;
+        turns_are = refl;
+        files_are = refl;
+        files_then = refl;
+        link_is = refl;
+        link_then = refl;
+        ends = refl;
+      },
+      then.over,
+    );
+    are = (is, then.are);
+    go_on = one_more was flight f.chain l then.lives f.from f.end then.go_on;
+  }
+
+-- no lives
+pub lived_none : {D A K : Type 0} (of_disk : disk.Ghosts D) (of_files : archive.Ghosts A)
+    (of_link : link.Ghosts K) (d : D) (was flight : Chain) (words : List (List ℕ)) (turns : ℕ) (files : List A)
+    (links : List K) (ends : List Status) → length files ≡ 0 → length links ≡ length files
+    → length ends ≡ length files
+    → Lived of_disk of_files of_link d was flight words turns files files links links ends
+lived_none of_disk of_files of_link d was flight words turns [] [] [] e0 e1 e2 =
+    record { lives = []; over = tt; are = tt; go_on = none was flight }
+lived_none of_disk of_files of_link d was flight words turns [] [] (e ∷ es) e0 e1 e2 = absurd (omega arith)
+lived_none of_disk of_files of_link d was flight words turns [] (k ∷ ks) ends e0 e1 e2 = absurd (omega arith)
+lived_none of_disk of_files of_link d was flight words turns (a ∷ more) links ends e0 e1 e2 = absurd (omega arith)
 
 -- 3. Empty files
 

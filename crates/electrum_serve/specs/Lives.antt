@@ -7,6 +7,7 @@ use Rattle.el_outside.specs.Disk.{Image}
 use Rattle.el_outside.specs.Moments.{LeftNow}
 use Rattle.el_chain.specs.Chains.{Chain}
 use Rattle.electrum_serve.specs.Calls.{Call, CallEnds}
+use Rattle.electrum_serve.specs.declared.status.Status.{Status}
 
 -- a disk is one that another may have left: it reads as one of its images, and has no others
 pub record IsLeftBy {D : Type 0} (of_disk : disk.Ghosts D) (before next : D) : Type 0 where
@@ -14,10 +15,34 @@ pub record IsLeftBy {D : Type 0} (of_disk : disk.Ghosts D) (before next : D) : T
   pub images : (image : Image) → LeftNow of_disk.moment of_disk.left_since next image
       → LeftNow of_disk.moment of_disk.left_since before image
 
+-- every file is empty, in each image that a crash now may leave
+abbrev pub IsFresh : {D : Type 0} → disk.Ghosts D → D → Type 0
+IsFresh of_disk d =
+    (image : Image) → LeftNow of_disk.moment of_disk.left_since d image → (f : ℕ) → image f ≡ []
+
 -- the lives follow each other, the first on a disk that this one may have left
 abbrev pub AreLives : {D A K : Type 0} → disk.Ghosts D → D → List (Call D A K) → Type 0
 AreLives of_disk d [] = Unit {0}
 AreLives of_disk d (l ∷ more) = IsLeftBy of_disk d l.before.disk × AreLives of_disk l.after.disk more
+
+-- a life was lived over these block files and this link, and ended so
+pub record IsOver {D A K : Type 0} (l : Call D A K) (words : List (List ℕ)) (turns : ℕ) (files files_after : A)
+    (link link_after : K) (end : Status) : Type 0 where
+  pub words_are : l.words ≡ words
+  pub turns_are : l.turns ≡ turns
+  pub files_are : l.before.files ≡ files
+  pub files_then : l.after.files ≡ files_after
+  pub link_is : l.before.link ≡ link
+  pub link_then : l.after.link ≡ link_after
+  pub ends : l.status ≡ end
+
+-- the lives were lived with these words over these block files and links, and ended so, one for each
+abbrev pub AreOver : {D A K : Type 0} → List (Call D A K) → List (List ℕ) → ℕ → List A → List A → List K
+    → List K → List Status → Type 0
+AreOver [] words turns [] [] [] [] [] = Unit {0}
+AreOver (l ∷ ls) words turns (a ∷ as_) (b ∷ bs) (k ∷ ks) (j ∷ js) (e ∷ es) =
+    IsOver l words turns a b k j e × AreOver ls words turns as_ bs ks js es
+AreOver ls words turns files files_after links links_after ends = ⊥
 
 module _ {D A K : Type 0} (of_disk : disk.Ghosts D) (of_files : archive.Ghosts A) (of_link : link.Ghosts K) where
   -- Each life is a run from the chain that its opening found, which is one of the two of the life before: the

@@ -18,7 +18,7 @@ pub use el_words::{
     Command, Network, PoolLimits, ServeWords, once_of, read_words, serve_of,
     words_are_of_one_command,
 };
-pub use lives::lives_go_on;
+pub use lives::{Between, live, lives_go_on};
 use program::{serve_all, tell_end};
 pub use serving::serve;
 pub use status::Status;
