@@ -3,6 +3,7 @@ pub mod Deliveries
 pub mod FileLemmas
 pub mod IndexDisks
 pub mod LifeLemmas
+pub mod MemLives
 pub mod Openings
 pub mod Openness
 pub mod Progresses

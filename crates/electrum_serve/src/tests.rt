@@ -9,6 +9,7 @@ mod failing_calls;
 mod failing_disk;
 mod forks;
 mod indexed;
+mod many_lives;
 mod moves;
 mod names;
 mod one_life;

@@ -36,6 +36,15 @@ pub(super) fn fresh_disk(alloc: Global) -> MemDisk {
     MemDisk::new(alloc, failing_from(alloc, None))
 }
 
+// The words of the text.
+pub(super) fn words_of(alloc: Global, text: &str) -> Result<Vec<String>, AllocError> {
+    let mut all = Vec::new(alloc);
+    for word in text.split_whitespace() {
+        all.push(String::from_str(alloc, word)?)?;
+    }
+    Ok(all)
+}
+
 // Calls `serve` with the words of the text.
 pub(super) fn serve_on<D: Disk + Drop, A: Archive, K: Link>(
     alloc: Global,
@@ -45,11 +54,8 @@ pub(super) fn serve_on<D: Disk + Drop, A: Archive, K: Link>(
     link: &mut K,
     turns: u64,
 ) -> Result<(Status, D), AllocError> {
-    let mut all = Vec::new(alloc);
-    for word in words.split_whitespace() {
-        all.push(String::from_str(alloc, word)?)?;
-    }
-    Ok(serve(alloc, all.as_slice(), disk, archive, link, turns))
+    let words = words_of(alloc, words)?;
+    Ok(serve(alloc, words.as_slice(), disk, archive, link, turns))
 }
 
 // Calls `serve` with the words of the text, over a fresh disk.

@@ -1,4 +1,7 @@
 // Lives of the program on one disk, and what a crash leaves between them.
+ghost use Rattle.std.specs.Prelude.{IfOk};
+ghost use Rattle.electrum_serve.specs.Lives.{IsLeftBy};
+
 use crate::status::Status;
 use crate::tests::block_files::{Files, files_of};
 use crate::tests::bringing::{Step, coming, transcript};
@@ -7,6 +10,7 @@ use el_base::OutOfMemory;
 use el_fakes::{SteadyArchive, SteadyLink};
 use el_journal::JOURNAL;
 use el_mem_disk::MemDisk;
+use el_outside::Disk;
 use std::alloc::Global;
 use std::test::Fail;
 
@@ -50,7 +54,9 @@ pub(super) fn after_crash(
     disk: &MemDisk,
     image: u64,
     from: Option<u64>,
-) -> Result<MemDisk, OutOfMemory> {
+) -> Result<MemDisk, OutOfMemory>
+    ensures { IfOk result (IsLeftBy ⟦<MemDisk as Disk>⟧ disk.now) }
+{
     let (more, byte) = IMAGES[(image % IMAGE_COUNT) as usize];
     let len = disk.bytes(JOURNAL).len().saturating_add(10_000);
     let mut numbers = vec![in alloc; byte; len]?;
