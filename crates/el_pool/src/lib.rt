@@ -17,3 +17,6 @@ mod table;
 mod touching;
 
 pub use pool::Pool;
+
+#[cfg(test)]
+mod tests;
