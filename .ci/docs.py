@@ -21,7 +21,7 @@ CRATES = os.path.join(TOP, "crates")
 
 # The functions whose clauses are the claim, and the headings of their lists in docs/STATEMENT.md. The second list has what
 # isn't in the first.
-CLAIM = [("lives", ("electrum_serve", "lives_go_on")), ("serve", ("electrum_serve", "serve"))]
+CLAIM = [("lives", ("electrum_serve", "live")), ("serve", ("electrum_serve", "serve"))]
 
 README_LINES = 150
 CRATE_README_LINES = 20
