@@ -4,6 +4,5 @@ mod Subscribing
 mod BatchLoop
 mod Places
 mod Printable
-mod Quiets
 mod Losing
 mod ManyHeaders

@@ -1,12 +1,10 @@
 -- What a table and a ledger say of outpoints, and calls of a ledger one after the other.
-use Rattle.std.proofs.Common.{◌≡◌, ℕ, ◌+◌, ◌<◌, List, [], ◌∷◌, ◌++◌, length, drop, get_or, Option, None, Some, inl, inr, refl, arith, ap, sym, ◌∙◌, append_assoc}
+use Rattle.std.proofs.Common.{◌≡◌, ℕ, ◌+◌, ◌<◌, List, [], ◌∷◌, ◌++◌, length, drop, get_or, Option, None, Some, inl, inr, ap, sym, ◌∙◌, append_assoc}
 use Rattle.std.proofs.lemmas.Bool.{cases_Bool}
 use Rattle.std.specs.Prelude.{slice_get, option_map, option_and_then}
 use Rattle.std.specs.Option.{option_or, option_flatten}
 use Rattle.indexmap.specs.IndexMap.{get}
 use Rattle.el_base.proofs.Lists.{left_at}
-use Rattle.el_base.specs.declared.hash.Hash32.{Hash32}
-use Rattle.el_outside.proofs.Moments as moments
 use Rattle.el_tx.specs.declared.types.Outpoint.{Outpoint}
 use Rattle.el_tx.specs.declared.types.TxIn.{TxIn}
 use Rattle.el_tx.specs.declared.types.Tx.{Tx}
@@ -15,7 +13,6 @@ use Rattle.el_chain.specs.declared.coin.Coin.{Coin}
 use Rattle.el_chain.specs.Chains.{Chain}
 use Rattle.el_chain.specs.Headers.{same_hash}
 use Rattle.el_model.specs.Queries.{coin_of}
-use Rattle.el_model.specs.Keeping.{Quiet}
 use Rattle.el_mempool.specs.declared.held.Held.{Held}
 use Rattle.el_mempool.specs.declared.held.Source.{Source}
 use Rattle.el_mempool.specs.declared.held.KeptTx.{KeptTx}
@@ -87,39 +84,3 @@ stops chain kept is n i found held lt item says none before =
     let left = left_at is n i lt item in
     let gone : named chain kept i.from ≡ None = sym says ∙ none in
     rw (left, gone) at before.1
-
--- ---- calls of a ledger
-
-module _ {G C : Type 0} (is_live : G → Type 0) (height : G → Option ℕ) (tip_at : G → Option Hash32) (buckets : G → ℕ) (stands : G → Chain → Type 0) (tells_crash : Type 0)
-    (means : C → Chain → Type 0) (moment : G → ℕ) (left_since : G → ℕ → C → Type 0) where
-  -- two calls leave it as it was
-  pub quiet_on : (a b c : G) → Quiet is_live height tip_at buckets stands tells_crash means moment left_since a b
-      → Quiet is_live height tip_at buckets stands tells_crash means moment left_since b c → Quiet is_live height tip_at buckets stands tells_crash means moment left_since a c
-  quiet_on a b c s t = record {
-    stays = record {
-      still_live = λ x. t.stays.still_live (s.stays.still_live x);
-      was_live = λ x. s.stays.was_live (t.stays.was_live x);
-      same_height = t.stays.same_height ∙ s.stays.same_height;
-      same_tip = t.stays.same_tip ∙ s.stays.same_tip;
-      same_buckets = t.stays.same_buckets ∙ s.stays.same_buckets;
-      still_stands = λ chain x. t.stays.still_stands chain (s.stays.still_stands chain x);
-      stood = λ chain x. s.stays.stood chain (t.stays.stood chain x);
-    };
-    crash = λ told chain stood. moments.joined moment left_since a b c (λ d. means d chain) (s.crash told chain stood) (t.crash told chain (s.stays.still_stands chain stood));
-  }
-
-  -- a live one is as it was before any call
-  pub quiet_here : (a : G) → ((chain : Chain) (c : C) → tells_crash → is_live a → stands a chain → left_since a (moment a) c → means c chain) → is_live a
-      → Quiet is_live height tip_at buckets stands tells_crash means moment left_since a a
-  quiet_here a own live = record {
-    stays = record {
-      still_live = λ x. x;
-      was_live = λ x. x;
-      same_height = refl;
-      same_tip = refl;
-      same_buckets = refl;
-      still_stands = λ chain x. x;
-      stood = λ chain x. x;
-    };
-    crash = λ told chain stood. record { later = omega arith; each = λ c was. own chain c told live stood was; before = λ t c le was. inl was };
-  }

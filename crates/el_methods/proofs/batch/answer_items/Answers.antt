@@ -4,7 +4,7 @@ use Rattle.el_methods.specs.Losses.{AnswersOf}
 use Rattle.el_methods.proofs.BatchLoop.{begins, goes_on, ends}
 use Rattle.el_methods.proofs.Losing.{so, none_lost, both}
 use Rattle.el_methods.proofs.Places.{transactions_stay}
-use Rattle.el_methods.proofs.Quiets.{quiet_none, quiet_on}
+use Rattle.el_model.proofs.Quiets.{quiet_none, quiet_on}
 use Rattle.el_methods.proofs.batch.answer_items.Goals as goal
 
 pub loop-item-init : goal.loop-item-init

@@ -1,7 +1,7 @@
 use Rattle.std.proofs.Common.{◌∙◌, ap, ◌++◌, refl, arith}
 use Rattle.el_methods.specs.Results.{headers_bytes}
 use Rattle.el_methods.proofs.ManyHeaders.{headers_more}
-use Rattle.el_methods.proofs.Quiets.{quiet_none, quiet_on}
+use Rattle.el_model.proofs.Quiets.{quiet_none, quiet_on}
 use Rattle.el_methods.proofs.blocks.headers_from.Goals as goal
 
 pub loop-i-init : goal.loop-i-init
@@ -31,3 +31,15 @@ loop-i-preserved g c =
       rows = omega (arith, more, rows);
       unfailed = c.in-Ok.ensures.cause.uncounted ∙ before.unfailed;
     }
+
+pub returns-in_err-extend_from_slice-in-Ok-clause-quiet : goal.returns-in_err-extend_from_slice-in-Ok-clause-quiet
+returns-in_err-extend_from_slice-in-Ok-clause-quiet g c =
+    let l = g.G.Ledger in
+    quiet_on l.is_live l.height l.tip l.buckets l.stands l.tells_crash l.means l.moment l.left_since _ _ _
+    c.loop-i.invariant.quiet c.header.ensures.quiet
+
+pub returns-in-Err-clause-quiet : goal.returns-in-Err-clause-quiet
+returns-in-Err-clause-quiet g c =
+    let l = g.G.Ledger in
+    quiet_on l.is_live l.height l.tip l.buckets l.stands l.tells_crash l.means l.moment l.left_since _ _ _
+    c.loop-i.invariant.quiet c.header.ensures.quiet

@@ -1,6 +1,6 @@
 use Rattle.std.proofs.Common.{[], refl, subst, ◌∙◌, List}
 use Rattle.el_pool.specs.within.Tables.{standing}
-use Rattle.el_pool.proofs.Asked.{quiet_on, quiet_here}
+use Rattle.el_model.proofs.Quiets.{quiet_on, quiet_none}
 use Rattle.el_pool.proofs.Slots.{Slot, own_table}
 use Rattle.el_pool.proofs.Sifts.{AreLeft, left_start, left_some, left_none, none_left}
 use Rattle.el_pool.proofs.moving.sift_all.Goals as goal
@@ -12,8 +12,8 @@ loop-slot-init g c =
       can_next = tt;
       is_finite = tt;
       table = own_table c.args.table.now [] c.requires.table;
-      quiet = quiet_here d.is_live d.height d.tip d.buckets d.stands d.tells_crash d.means d.moment d.left_since c.args.ledger.now
-          (λ chain left told live stood was. g.met.G.Ledger.leaves_own c.args.ledger.now chain left told live stood was) c.requires.live;
+      quiet = quiet_none d.is_live d.height d.tip d.buckets d.stands d.tells_crash d.means d.moment d.left_since c.args.ledger.now
+          c.requires.live (λ l chain left told live stood was. g.met.G.Ledger.leaves_own l chain left told live stood was);
       still = refl;
       left = λ before chain all h stood.
           left_start before chain all c.args.table.now c.new-touched.result c.args.old.entries c.into_iter-slot-iterator.result c.new-touched.ensures
@@ -52,3 +52,9 @@ pub returns-clause-sifted : goal.returns-clause-sifted
 returns-clause-sifted g c = λ before chain kept h stood.
     none_left before chain kept (standing c.args.old.entries) c.loop-slot.table c.loop-slot.touched h c.list-list.ensures.once
     (subst (λ (l : List Slot). AreLeft before chain kept c.loop-slot.table c.loop-slot.touched (standing l)) c.in-None.ensures.steps.0 (c.loop-slot.invariant.left before chain kept h stood))
+
+pub returns-in_err-sift_one-clause-quiet : goal.returns-in_err-sift_one-clause-quiet
+returns-in_err-sift_one-clause-quiet g c =
+    let d = g.G.Ledger in
+    quiet_on d.is_live d.height d.tip d.buckets d.stands d.tells_crash d.means d.moment d.left_since
+    c.args.ledger.now c.loop-slot.ledger c.sift_one.new.ledger c.loop-slot.invariant.quiet c.in_err-sift_one.ensures.quiet
