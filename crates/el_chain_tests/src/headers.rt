@@ -1,5 +1,5 @@
-// The header tree: whole headers as Bitcoin's nodes serialize them, with the answers of each call, which another
-// program made.
+// The header tree: whole headers as Bitcoin's nodes serialize them, with the answers of each call, which
+// another program made.
 ghost use Rattle.std.specs.Prelude.{IfOk};
 ghost use Rattle.el_chain.specs.Records.{IsNode};
 

@@ -1,5 +1,5 @@
-//! Tests of the crates from chains of blocks to the header tree: values from outside, which fault comes, what is
-//! printed, and that each public call succeeds where memory is ample.
+//! Tests of the crates from chains of blocks to the header tree: values from outside, which fault comes,
+//! what is printed, and that each public call succeeds where memory is ample.
 #![tactic(auto)]
 
 #[cfg(test)]

@@ -53,7 +53,8 @@ const COINBASES_16: &str = "30a80381768f75991a5cfe1345761eda0014bc5e9af7ca751b27
 
 /// What is wrong with blocks: whether the third spends a coin that isn't there; of which block the Merkle
 /// root has another byte; of which one the nonce is another in the file, since its header was found; by how
-/// many bytes the last file is too short; and which call of the block files fails, from 1 on. 999 is no block.
+/// many bytes the last file is too short; and which call of the block files fails, from 1 on. 999 is no
+/// block.
 #[derive(Clone, Copy)]
 pub struct Wrong {
     pub missing: bool,
@@ -281,7 +282,8 @@ fn fault_of(wanted: Wanted<'_>) -> Result<MoveFault, Fail> {
     }
 }
 
-// Whether the move of three blocks, of which something is wrong, is refused by that fault and changes nothing.
+// Whether the move of three blocks, of which something is wrong, is refused by that fault and changes
+// nothing.
 fn is_refused<L: Counts + Send>(
     alloc: Global,
     wrong: Wrong,

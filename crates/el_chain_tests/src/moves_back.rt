@@ -14,8 +14,8 @@ use std::marker::Brand;
 use std::sync::ledger::{Blank, Ledger as Counts};
 use std::test::Fail;
 
-// The hashes of the blocks of heights 2 and 101 of a chain of coinbases, which has the time of height 100 from
-// there on, and of height 4 of another one.
+// The hashes of the blocks of heights 2 and 101 of a chain of coinbases, which has the time of height 100
+// from there on, and of height 4 of another one.
 const COINBASES_2: &str = "af5f13daed645f0ec1b8bbf7146f87005ab365036a80c124d3269c3046fd5b70";
 
 const COINBASES_101: &str = "d5ad342de53338cc69e0dd31b02cae137d407036ba9db3cce4b7df486305fb4e";

@@ -471,8 +471,8 @@ fn has_hashes<L: Counts + Send>(
     Ok(are_shown(hashes.as_slice(), shown.0) && are_shown(txids.as_slice(), shown.1))
 }
 
-// The first height of a chain of two blocks at which an answer isn't as it is to be; 2 where the last block is
-// another one.
+// The first height of a chain of two blocks at which an answer isn't as it is to be; 2 where the last block
+// is another one.
 fn wrong_height<L: Counts + Send>(
     alloc: Global,
     steps: &mut Steps<L>,

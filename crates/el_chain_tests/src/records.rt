@@ -1,5 +1,5 @@
-// Records of blocks that are made from a few numbers, each of which stands alone in a file, and moves that put
-// them in. Hashes are as users see them; another program computed them from the rules.
+// Records of blocks that are made from a few numbers, each of which stands alone in a file, and moves that
+// put them in. Hashes are as users see them; another program computed them from the rules.
 ghost use Rattle.std.specs.Prelude.{◌≡◌, ◌≤◌, [], ◌∷◌, length, IfOk, IfSome, IsTrue};
 ghost use Rattle.std.specs.List.{AllByRecursion};
 ghost use Rattle.el_tx.specs.Encoding.{HasEncoding};

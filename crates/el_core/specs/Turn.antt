@@ -99,8 +99,8 @@ IsWithin (untold by nodes silent closed lost) = Unit {0}
 IsWithin (unsent done rest outs failed after front back m lost last next whole turn cut node delivers by all') = ⊥
 
 -- A turn failed, and with it the server stops. A crash since it began leaves the chain that the ledger stood
--- for or the target of the turn's move, `next`; where no memory was found, it leaves that chain alone, and the
--- ledger is live and stands for it.
+-- for or the target of the turn's move, `next`; where no memory was found, it leaves that chain alone, and
+-- the ledger is live and stands for it.
 pub record TurnFailed {G : Type 0} (stands : G → Chain → Type 0) (is_live : G → Type 0)
     (leaves : Chain → Chain → Type 0) (tells : Type 0) (files : ℕ → List ℕ)
     (archive_before archive_after disk_before disk_after : ℕ)

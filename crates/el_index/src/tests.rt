@@ -32,7 +32,8 @@ const NO_HASH: Hash32 = Hash32([0; 32]);
 // How many locking scripts the blocks pay.
 const SCRIPTS: u32 = 11;
 
-// Records of blocks, each of which stands alone in a file; the hash of the last block, and its coinbase's txid.
+// Records of blocks, each of which stands alone in a file; the hash of the last block, and its coinbase's
+// txid.
 #[derive(Drop)]
 struct Made {
     records: Vec<Bytes>,

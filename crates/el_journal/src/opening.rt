@@ -16,8 +16,9 @@ use crate::mark::{FIRST, Mark};
 use crate::{JOURNAL, JournalFault};
 use el_outside::{Disk, DiskFailed};
 
-// Reads what stands at a place of a file of this size. Where a read gives fewer bytes than the file has there,
-// as of a file that was cut meanwhile, the gate is told as cut, and never as the one after the last entry.
+// Reads what stands at a place of a file of this size. Where a read gives fewer bytes than the file has
+// there, as of a file that was cut meanwhile, the gate is told as cut, and never as the one after the last
+// entry.
 fn gate_at<D: Disk>(disk: &mut D, place: u64, size: u64) -> Result<Gate, DiskFailed>
     ensures begins { D.tells → size ≡ length (D.seen disk.old JOURNAL) → place < size
         → IfOk result (λ found. Begins found (drop place (D.seen disk.old JOURNAL))) }

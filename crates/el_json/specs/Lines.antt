@@ -23,7 +23,7 @@ use Rattle.el_json.specs.declared.request.LineFault.TheVariants as fault
 unfoldable pub value_of : List ℕ → Option Data
 value_of line = if is_utf8 line then read line else None
 
--- 2. A request (section 4)
+-- 2. A request (JSON-RPC 2.0, section 4)
 
 -- an id is null, a text or a whole number of 64 bits
 abbrev pub can_be_id : Data → Bool
@@ -34,12 +34,13 @@ can_be_id (string s) = true
 can_be_id (array ds) = false
 can_be_id (object ms) = false
 
--- there is no id, as in a notification (section 4.1), or one that can be
+-- there is no id, as in a notification (JSON-RPC 2.0, section 4.1), or one that can be
 abbrev pub is_id : Option Data → Bool
 is_id None = true
 is_id (Some d) = can_be_id d
 
--- the id that an error about what is no request repeats: null where there is none that can be (section 5)
+-- the id that an error about what is no request repeats: null where there is none that can be
+-- (JSON-RPC 2.0, section 5)
 abbrev pub echoed_id : Option Data → Data
 echoed_id None = null
 echoed_id (Some d) = if can_be_id d then d else null
@@ -78,7 +79,7 @@ abbrev pub one_of : Item → Result Envelope LineFault
 one_of (Good r) = Ok (One r)
 one_of (Invalid id) = Err (fault.Invalid id)
 
--- an array is a batch, and an empty one is no request (section 6)
+-- an array is a batch, and an empty one is no request (JSON-RPC 2.0, section 6)
 abbrev pub envelope_of : Data → Result Envelope LineFault
 envelope_of (array no_items) = Err (fault.Invalid null)
 envelope_of (array (item d ds)) = Ok (Batch (items_of (item d ds)))

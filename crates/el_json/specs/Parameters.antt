@@ -1,5 +1,5 @@
--- Parameters of a request, by place or by name (JSON-RPC 2.0, section 4.2), and their kinds (Electrum Protocol
--- 1.4).
+-- Parameters of a request, by place or by name (JSON-RPC 2.0, section 4.2), and their kinds (Electrum
+-- Protocol 1.4).
 use Rattle.std.specs.Prelude.{ℕ, ◌&&◌, ◌||◌, nat_le, Bool, true, false, List, [], ◌∷◌, length, reverse, map, Option, Some, None, option_and_then, Result, Ok, Err}
 use Rattle.std.specs.Borrow.{Bor}
 use Rattle.std.specs.Str.{bytes_eq}

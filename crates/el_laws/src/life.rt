@@ -11,9 +11,9 @@ use el_rows::VersionedRows;
 use std::alloc::Global;
 use std::sync::ledger::Ledger as Counts;
 
-/// Makes moves from no blocks on, up to the first that is refused or whose commit fails, over rows in memory of
-/// which so many commits are good. Those rows tell what a crash may leave of them: so what is said of crashes
-/// is said of an index that there is.
+/// Makes moves from no blocks on, up to the first that is refused or whose commit fails, over rows in
+/// memory of which so many commits are good. Those rows tell what a crash may leave of them: so what is
+/// said of crashes is said of an index that there is.
 ///
 /// # Errors
 ///

@@ -6,8 +6,8 @@ use el_base::{Bytes, Hash32, OutOfMemory};
 use itoa::Buffer;
 use std::alloc::Global;
 
-/// How many bytes the longest line `at H HEIGHT` has: the word and a blank, 64 digits of the hash, a blank, at
-/// most 10 digits of the height, and byte 10.
+/// How many bytes the longest line `at H HEIGHT` has: the word and a blank, 64 digits of the hash, a blank,
+/// at most 10 digits of the height, and byte 10.
 pub const AT_SIZE: usize = 79;
 
 /// Room for a line `at H HEIGHT`, so that it can be written without memory. Fails only where memory runs out.

@@ -25,9 +25,9 @@ pub enum LineEvent {
 /// A line above the limit is given as `TooLong` as soon as more bytes of it were fed than the limit says. The
 /// rest of it is skipped and never kept. At any time it keeps at most twice as many bytes as it holds, that
 /// is, as were fed and belong to no event that was given. So where each piece is followed by calls of
-/// `next_line` up to None, a peer that sends no byte 10 takes the memory of no more than `limit` bytes and the
-/// piece fed last. Each byte is searched once for byte 10, however the bytes are cut, and moved twice at most
-/// on average.
+/// `next_line` up to None, a peer that sends no byte 10 takes the memory of no more than `limit` bytes and
+/// the piece fed last. Each byte is searched once for byte 10, however the bytes are cut, and moved twice
+/// at most on average.
 #[derive(Debug, Drop)]
 pub struct LineBuffer {
     limit: usize,

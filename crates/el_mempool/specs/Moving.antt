@@ -1,5 +1,5 @@
--- At which script hashes clients see another thing of a transaction where the kept ones are sifted over another
--- chain: each step of the sift tells of one transaction.
+-- At which script hashes clients see another thing of a transaction where the kept ones are sifted over
+-- another chain: each step of the sift tells of one transaction.
 use Rattle.std.specs.Prelude.{ℕ, nat_eq, Bool, false, not, ◌&&◌, ◌||◌, if◌then◌else◌, List, [], ◌∷◌}
 use Rattle.std.specs.Ordering.{int_eq}
 use Rattle.el_base.specs.declared.hash.Hash32.{Hash32}
@@ -22,8 +22,8 @@ abbrev pub differs_at : List ℕ → KeptTx → KeptTx → Bool
 differs_at s k l =
     if look_same k l then just_one (is_at_script s k) (is_at_script s l) else is_at_script s k || is_at_script s l
 
--- The sift over a chain comes to a transaction after those that it kept: at the script hash clients see another
--- thing of it than before, over the one chain and with all that were kept there.
+-- The sift over a chain comes to a transaction after those that it kept: at the script hash clients see
+-- another thing of it than before, over the one chain and with all that were kept there.
 abbrev pub step_differs : Chain → List Tx → Chain → List Tx → Hash32 → Tx → Bool
 step_differs before all chain kept s t =
     if may_join chain kept t then differs_at s.0 (kept_tx before all t) (kept_tx chain kept t)

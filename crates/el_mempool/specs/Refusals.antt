@@ -41,8 +41,8 @@ missing chain kept (i ∷ is) =
 abbrev pub spender_of : Outpoint → List Tx → Option Tx
 spender_of o kept = find (λ (t : Tx). any_takes o t.inputs) kept
 
--- The first of these inputs, which are the last ones of a transaction with that txid, that a kept one takes too,
--- or that a later one of them takes too.
+-- The first of these inputs, which are the last ones of a transaction with that txid, that a kept one takes
+-- too, or that a later one of them takes too.
 abbrev pub conflict : List Tx → Hash32 → List TxIn → Option PoolFault
 conflict kept id [] = None
 conflict kept id (i ∷ is) =

@@ -1,5 +1,5 @@
--- Which unconfirmed transactions are kept over a chain: those that a block after the chain could have, one after
--- the other in the order in which they came.
+-- Which unconfirmed transactions are kept over a chain: those that a block after the chain could have, one
+-- after the other in the order in which they came.
 use Rattle.std.specs.Prelude.{ℕ, nat_lt, Bool, true, not, ◌&&◌, if◌then◌else◌, List, [], ◌∷◌, ◌++◌, filter, find, fold, slice_get, Option, None, option_map, option_to_list, sum_by}
 use Rattle.std.specs.List.{list_any}
 use Rattle.std.specs.Option.{option_or, is_some}
@@ -72,8 +72,8 @@ abbrev pub held_by : Chain → List Tx → List TxIn → List Held
 held_by chain kept [] = []
 held_by chain kept (i ∷ is) = option_to_list (named chain kept i.from) ++ held_by chain kept is
 
--- The transaction may be kept after these: its txid is not in the chain, each of its inputs takes a coin of its
--- own, and its outputs hold no more than its inputs.
+-- The transaction may be kept after these: its txid is not in the chain, each of its inputs takes a coin of
+-- its own, and its outputs hold no more than its inputs.
 abbrev pub may_join : Chain → List Tx → Tx → Bool
 may_join chain kept t =
     not (is_confirmed chain (txid t)) && (each_takes chain kept t.inputs

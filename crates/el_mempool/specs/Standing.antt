@@ -40,8 +40,8 @@ kept_tx chain kept t = record {
 abbrev pub AreOnce : List Tx → Type 0
 AreOnce kept = AllDiffer (map txid kept)
 
--- What is kept stands for these transactions over the chain: the sift keeps them all, beside each input stands
--- what its coin holds, and no txid stands twice.
+-- What is kept stands for these transactions over the chain: the sift keeps them all, beside each input
+-- stands what its coin holds, and no txid stands twice.
 pub record StandsFor (entries : List KeptTx) (chain : Chain) (kept : List Tx) : Type 0 where
   pub sifted : sift chain kept ≡ kept
   pub are : entries ≡ map (kept_tx chain kept) kept

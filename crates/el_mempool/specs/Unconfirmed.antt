@@ -1,5 +1,6 @@
--- What clients see of the unconfirmed transactions (Electrum Protocol 1.4, blockchain.scripthash.get_mempool and
--- blockchain.scripthash.listunspent). A script hash stands in inner order.
+-- What clients see of the unconfirmed transactions (Electrum Protocol 1.4,
+-- blockchain.scripthash.get_mempool and blockchain.scripthash.listunspent). A script hash stands in inner
+-- order.
 use Rattle.std.specs.Prelude.{ℕ, ◌-◌, ℤ, pos, negsuc, Bool, not, ◌&&◌, ◌||◌, if◌then◌else◌, List, [], ◌∷◌, map, filter, flat_map}
 use Rattle.std.specs.List.{list_any}
 use Rattle.std.specs.Option.{is_some}

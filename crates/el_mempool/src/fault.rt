@@ -7,8 +7,8 @@ use el_outside::DiskFailed;
 use el_tx::Outpoint;
 use std::alloc::{AllocError, AllocFailed};
 
-/// Why a transaction does not join the set: the first in this order that stands. `DiskFailed` and `Memory` may
-/// come in the place of any, and where there is none.
+/// Why a transaction does not join the set: the first in this order that stands. `DiskFailed` and `Memory`
+/// may come in the place of any, and where there is none.
 #[derive(Clone, Copy, Debug, PartialEq, Eq, thiserror::Error)]
 pub enum PoolFault {
     /// The bytes are not one whole transaction.

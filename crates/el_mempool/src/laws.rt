@@ -30,8 +30,8 @@ pub fn what_is_kept_stands()
         → StandsFor (map (kept_tx chain (sift chain list)) (sift chain list)) chain (sift chain list) }
 {}
 
-/// No fee of a kept transaction passes what all coins of the chain hold together: what joins gives no more than
-/// it takes, and takes what none before it took.
+/// No fee of a kept transaction passes what all coins of the chain hold together: what joins gives no more
+/// than it takes, and takes what none before it took.
 pub fn fees_are_within()
     ensures { (chain : Chain) (kept : List shape.Tx) → sift chain kept ≡ kept → AreOnce kept
         → AllByRecursion (λ (t : shape.Tx). fee chain kept t ≤ supply (coins chain)) kept }

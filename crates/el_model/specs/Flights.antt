@@ -15,8 +15,8 @@ use Rattle.el_model.specs.Plans.{back_of, rest_of, plan_of, IsMoving}
 use Rattle.el_model.specs.World.{World, Event, orders, IsBusy}
 use Rattle.el_model.specs.Run.{Loss, Stop, Stops, disk_failed, no_memory, untold, unsent, StopsIn, unheard, in_turn}
 
--- The move of the turn: the next of the node's last tip line, or the first of a tip line that is next. That one
--- takes back as many blocks as may be, and moves something: else no move begins.
+-- The move of the turn: the next of the node's last tip line, or the first of a tip line that is next. That
+-- one takes back as many blocks as may be, and moves something: else no move begins.
 pub data IsMoveOf (world : World) (left : List Event) (p : Plan) : Type 0 where
   later : IsBusy world → p ≡ plan_of 0 world.ahead → IsMoveOf world left p
   first : (bytes hash : List ℕ) (path : List Node) (rest : List Event) → world.ahead ≡ []

@@ -17,8 +17,8 @@ pub record Stays {S : Type 0} (is_live : S → Type 0) (height : S → Option �
   pub still_stands : (chain : Chain) → stands old chain → stands new chain
   pub stood : (chain : Chain) → stands new chain → stands old chain
 
--- A call has left the ledger as it was, and whatever a crash since its start leaves stands for each chain that
--- it stands for. Of a ledger that stands for none too, a crash since an earlier moment leaves no more.
+-- A call has left the ledger as it was, and whatever a crash since its start leaves stands for each chain
+-- that it stands for. Of a ledger that stands for none too, a crash since an earlier moment leaves no more.
 pub record Quiet {S C : Type 0} (is_live : S → Type 0) (height : S → Option ℕ)
     (tip : S → Option Hash32) (buckets : S → ℕ)
     (stands : S → Chain → Type 0) (tells_crash : Type 0) (means : C → Chain → Type 0) (moment : S → ℕ)

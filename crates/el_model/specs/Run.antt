@@ -17,9 +17,9 @@ use Rattle.el_model.specs.declared.method.Method.{Method}
 use Rattle.el_model.specs.World.{World, Event, says, orders, Outs, Takes, Works, IsBusy, to_node, reply_to, events, after_hearing, is_client, without_client}
 
 -- A call of a device failed, and this was answered or closed for it: of the link, for which a client is
--- closed as gone or the run stops; of the block files, for which the node is answered that they failed; of the
--- index's device, for which a client is answered code 3 or the run stops. Where no memory was found for that
--- answer, the client is closed for that, or the run stops for it.
+-- closed as gone or the run stops; of the block files, for which the node is answered that they failed; of
+-- the index's device, for which a client is answered code 3 or the run stops. Where no memory was found for
+-- that answer, the client is closed for that, or the run stops for it.
 pub data Loss : Type 0 where
   link : Loss
   archive : Loss

@@ -246,8 +246,8 @@ pub trait Ledger {
             × (tells_crash → LeavesOnly moment left_since self.old self.new
             (Either means chain (target plan.now chain blocks)))) }
         ensures answer { IfOk result (λ m. (m.tip ≡ tip self.new) × (m.height ≡ height self.new)) }
-        // Also where no chain is told: the hash is that of the last block that was put in, and the height goes
-        // by the numbers of blocks.
+        // Also where no chain is told: the hash is that of the last block that was put in, and the height
+        // goes by the numbers of blocks.
         ensures last { IfOk result (λ m. plan.now.forward ≢ []
             → tip self.new ≡ Some (last_hash zero_hash plan.now.forward)) }
         ensures top { IfOk result (λ m. blocks_in m.height

@@ -22,8 +22,8 @@ fn any_takes(inputs: &[TxIn], outpoint: &Outpoint) -> bool
     false
 }
 
-/// The refusal of a transaction with that txid for the first of its inputs that a kept one takes, or that stands
-/// twice; none where each takes a coin of its own. Takes no memory.
+/// The refusal of a transaction with that txid for the first of its inputs that a kept one takes, or that
+/// stands twice; none where each takes a coin of its own. Takes no memory.
 pub fn conflict_of(table: &Table, txid: Hash32, inputs: &[TxIn]) -> Option<PoolFault>
     ensures first { result ≡ conflict_by (get same_outpoint table.now.spenders) txid inputs.now }
     ensures other { result ≢ Some PoolFault.DiskFailed }

@@ -45,8 +45,8 @@ fn taking(entry: KeptTx, flag: i8, fee: u64, inputs: Vec<Source>) -> KeptTx
     }
 }
 
-// The entry joins the table with these inputs, and the script hashes are added at which clients then see another
-// thing of it.
+// The entry joins the table with these inputs, and the script hashes are added at which clients then see
+// another thing of it.
 fn keep(
     alloc: Global,
     table: &mut Table,

@@ -24,8 +24,8 @@ use std::alloc::Global;
 use std::marker::Model;
 use std::sync::ledger::Ledger as Counts;
 
-/// Unconfirmed transactions in their order of arrival, kept as long as the chain and the ones before them leave
-/// each of their inputs a coin.
+/// Unconfirmed transactions in their order of arrival, kept as long as the chain and the ones before them
+/// leave each of their inputs a coin.
 #[derive(Debug, Drop)]
 pub struct Pool {
     alloc: Global,
@@ -93,8 +93,8 @@ impl Pool {
     }
 
     /// Drops the transaction with that txid and all kept ones that spend it, directly or not, and gives the
-    /// script hashes that changed; None exactly where it isn't kept. Fails only where memory runs out, and then
-    /// the set is as it was.
+    /// script hashes that changed; None exactly where it isn't kept. Fails only where memory runs out, and
+    /// then the set is as it was.
     pub fn drop_tx(&mut self, txid: &Hash32) -> Result<Option<Touched>, OutOfMemory>
         ensures kept { IfOk result (λ r. is_some r ≡ has_entry txid.now self.old.entries) }
         // Over each chain that it stood for.
@@ -109,8 +109,8 @@ impl Pool {
         drop_from(self.alloc, &mut self.table, txid)
     }
 
-    /// Keeps what the sift keeps over the ledger's chain, whichever that now is, and gives the script hashes that
-    /// changed since the set stood for another one.
+    /// Keeps what the sift keeps over the ledger's chain, whichever that now is, and gives the script
+    /// hashes that changed since the set stood for another one.
     ///
     /// # Errors
     ///
@@ -141,7 +141,8 @@ impl Pool {
         kept_under(&self.table, txid)
     }
 
-    /// The txid of the kept transaction that spends the outpoint; None exactly where none does. Takes no memory.
+    /// The txid of the kept transaction that spends the outpoint; None exactly where none does. Takes no
+    /// memory.
     pub fn spender(&self, outpoint: &Outpoint) -> Option<Hash32>
         ensures { (chain : Chain) (kept : List shape.Tx) → StandsFor self.now.entries chain kept
             → result ≡ option_map txid (spender_of outpoint.now kept) }

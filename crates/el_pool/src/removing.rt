@@ -187,8 +187,8 @@ fn tidy(table: &mut Table)
     }
 }
 
-/// Takes the transaction with that txid out of the table, with all that spend it, directly or not, and gives the
-/// script hashes that changed; None exactly where it isn't kept.
+/// Takes the transaction with that txid out of the table, with all that spend it, directly or not, and
+/// gives the script hashes that changed; None exactly where it isn't kept.
 pub fn drop_from(
     alloc: Global,
     table: &mut Table,

@@ -80,8 +80,8 @@ fn taken_again<G: Ledger, L: Counts + Send>(
     Ok(Some(found))
 }
 
-/// What the inputs of the transaction take over the ledger's chain after those of the table; None where it may
-/// not be kept there.
+/// What the inputs of the transaction take over the ledger's chain after those of the table; None where it
+/// may not be kept there.
 pub fn renewed<G: Ledger, L: Counts + Send>(
     alloc: Global,
     table: &Table,

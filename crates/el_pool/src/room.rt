@@ -43,8 +43,8 @@ pub fn held_in(outputs: &[Held]) -> u128
     sum
 }
 
-/// What the inputs take less what the outputs hold, in satoshi. No chain's coins hold more together than 64 bits
-/// can count; where they did, there is no memory for them.
+/// What the inputs take less what the outputs hold, in satoshi. No chain's coins hold more together than 64
+/// bits can count; where they did, there is no memory for them.
 pub fn fee_of(inputs: &[Source], outputs: &[Held]) -> Result<u64, OutOfMemory>
     ensures { IfOk result (λ fee. fee ≡ total_sources inputs.now - total_held outputs.now) }
 {

@@ -1,5 +1,6 @@
-// What no contract says of the set: that its calls succeed where memory is ample, over a chain of one block or
-// two and with a few transactions. Hashes are as users see them; another program computed them from the rules.
+// What no contract says of the set: that its calls succeed where memory is ample, over a chain of one block
+// or two and with a few transactions. Hashes are as users see them; another program computed them from the
+// rules.
 ghost use Rattle.std.specs.Prelude.{◌≡◌, ◌≤◌, ◌<◌, IfSome, IsTrue};
 ghost use Rattle.el_chain.specs.Chains.{tip};
 ghost use Rattle.el_tx.specs.Encoding.{HasEncoding};

@@ -122,8 +122,8 @@ fn touch_rest(inputs: &[Source], others: &Touched, touched: &mut Touched) -> Res
     Ok(())
 }
 
-// Adds those that a transaction with these outputs concerned by the old inputs or concerns by the new ones, and
-// not by both.
+// Adds those that a transaction with these outputs concerned by the old inputs or concerns by the new ones,
+// and not by both.
 fn touch_exchanged(
     alloc: Global,
     outputs: &[Held],
@@ -143,8 +143,8 @@ fn touch_exchanged(
     Ok(())
 }
 
-/// Adds those at which clients see another thing of the transaction where it has this flag, this fee and these
-/// inputs.
+/// Adds those at which clients see another thing of the transaction where it has this flag, this fee and
+/// these inputs.
 pub fn touch_changes(
     alloc: Global,
     entry: &KeptTx,

@@ -1,5 +1,5 @@
-// The server's core over block files in memory and the plain ledger: what the node and the client are answered.
-// The hashes were computed by another program from the rules on blocks.
+// The server's core over block files in memory and the plain ledger: what the node and the client are
+// answered. The hashes were computed by another program from the rules on blocks.
 ghost use Rattle.std.specs.Prelude.{◌≡◌, ◌<◌, ◌≤◌, ◌∷◌, [], length, IfOk, OnOk};
 ghost use Rattle.std.specs.List.{AllByRecursion};
 ghost use Rattle.el_tx.specs.Encoding.{HasEncoding};
@@ -22,8 +22,8 @@ use std::marker::Brand;
 use std::sync::ledger::{Blank, Ledger as Counts};
 use std::test::Fail;
 
-// Hashes that another program computed: of the blocks of heights 0, 1, 15, 16 and 101 that `chain_file` makes,
-// of a second block without one before it, and of blocks that break one rule each.
+// Hashes that another program computed: of the blocks of heights 0, 1, 15, 16 and 101 that `chain_file`
+// makes, of a second block without one before it, and of blocks that break one rule each.
 const FIRST: &str = "e24fc0cd4b74e58d1bcfa1d15b2c35345824b4e3e6e3959659d662c2ce011688";
 
 const SECOND: &str = "d04c10b4051cb3be0e4acc10529633d10728be1bec817b5958931293c3c5088d";

@@ -30,8 +30,8 @@ abbrev pub call : {D A K : Type 0} → List (List ℕ) → ℕ → Devices D A K
 call words turns before after status =
     record { words = words; turns = turns; before = before; after = after; status = status }
 
--- How often calls of the devices were made, and failed, before so many turns and after them. `disk_faults` tells
--- how often calls of the index's device have failed.
+-- How often calls of the devices were made, and failed, before so many turns and after them. `disk_faults`
+-- tells how often calls of the index's device have failed.
 abbrev pub counts_of : {D A K : Type 0} → (D → ℕ) → archive.Ghosts A → link.Ghosts K → ℕ
     → Devices D A K → Devices D A K → Counts
 counts_of disk_faults of_files of_link turns before after =
@@ -39,9 +39,9 @@ counts_of disk_faults of_files of_link turns before after =
     (faults (of_link.faults before.link) (of_files.faults before.files) (disk_faults before.disk))
     (faults (of_link.faults after.link) (of_files.faults after.files) (disk_faults after.disk))
 
--- How the call ends, where the disk reads as an index of `chain`, `was` was acknowledged before and `flight` was
--- in flight. `leaves` says of a network's magic and two chains that all that a crash may leave of the disk in
--- the end stands for the one or for the other.
+-- How the call ends, where the disk reads as an index of `chain`, `was` was acknowledged before and
+-- `flight` was in flight. `leaves` says of a network's magic and two chains that all that a crash may leave
+-- of the disk in the end stands for the one or for the other.
 abbrev pub CallEnds : {D A K : Type 0} → disk.Ghosts D → archive.Ghosts A → link.Ghosts K → Call D A K
     → Chain → Chain → Chain → (List ℕ → Chain → Chain → Type 0) → Type 0
 CallEnds of_disk of_files of_link c was flight chain leaves = (t : Traffic)

@@ -111,8 +111,8 @@ pub record IsRun (tells : Type 0) (first : World) (node : Bool) (leaves : Chain 
   pub counted : IsCounted c t losses failed
   pub crash : leaves world.chain world.chain
 
--- The traffic is that of a run that stopped so in its last arrival. `files` are the block files as they are in
--- the end: they have all that each turn had of them.
+-- The traffic is that of a run that stopped so in its last arrival. `files` are the block files as they are
+-- in the end: they have all that each turn had of them.
 pub record IsHalted (tells : Type 0) (first : World) (node : Bool) (leaves : Chain → Chain → Type 0)
     (files : ℕ → List ℕ) (c : Counts) (t : Traffic) (stop : Stop) : Type 0 where
   pub losses : List Loss

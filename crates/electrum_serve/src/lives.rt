@@ -69,8 +69,8 @@ fn live_on<D: Disk, A: Archive, K: Link, B: Between<D>>(
 }
 
 /// Lives of the program, one after the other, one for each of the links, over the block files beside it. The
-/// first begins on a disk whose files are empty, each next on what the one before may leave. It writes down how
-/// each ends, and gives back the disk as the last leaves it.
+/// first begins on a disk whose files are empty, each next on what the one before may leave. It writes down
+/// how each ends, and gives back the disk as the last leaves it.
 pub fn live<D: Disk, A: Archive, K: Link, B: Between<D>>(
     alloc: Global,
     words: &[String],

@@ -49,8 +49,8 @@ pub record Grown (taker : Outpoint → Option Hash32) (id : Hash32) (n : ℕ) (o
       → (has old x ≡ true) ⊎ ((o : Outpoint) × (o.txid ≡ id) × (taker o ≡ Some x))
   pub there : AreThere taker id n new
 
--- The transaction is among these; each other one takes an output of one of them; and whoever takes an output of
--- one of them is there too, unless that one is still to be looked at.
+-- The transaction is among these; each other one takes an output of one of them; and whoever takes an
+-- output of one of them is there too, unless that one is still to be looked at.
 pub record Gathers (taker : Outpoint → Option Hash32) (sizes : Hash32 → ℕ) (start : Hash32)
     (left ids : List Hash32) : Type 0 where
   pub first : has ids start ≡ true

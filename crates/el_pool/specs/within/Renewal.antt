@@ -46,8 +46,8 @@ abbrev pub with_takes : KeptTx → ℤ → ℕ → List Source → KeptTx
 with_takes k flag fee inputs =
     record { txid = k.txid; flag = flag; fee = fee; bytes = k.bytes; inputs = inputs; outputs = k.outputs }
 
--- The sift over the chain came to a transaction after those that it kept: what it then keeps, and which script
--- hashes it adds.
+-- The sift over the chain came to a transaction after those that it kept: what it then keeps, and which
+-- script hashes it adds.
 pub record IsSifted (before chain : Chain) (all kept : List Tx) (t : Tx) (table : Table)
     (old new : List Hash32) : Type 0 where
   pub over : IsOver table chain (joined chain kept t)

@@ -8,8 +8,8 @@ use Rattle.electrum_serve.specs.Calls.{Call}
 use Rattle.electrum_serve.specs.Lives.{AreOver, AreLives, GoOn}
 use Rattle.electrum_serve.specs.declared.status.Status.{Status}
 
--- Lives were lived over these block files and links, the first on what this disk may leave, and ended so. They
--- go on from the one chain or the other.
+-- Lives were lived over these block files and links, the first on what this disk may leave, and ended so.
+-- They go on from the one chain or the other.
 pub record Lived {D A K : Type 0} (of_disk : disk.Ghosts D) (of_files : archive.Ghosts A)
     (of_link : link.Ghosts K) (d : D) (was flight : Chain) (words : List (List ℕ)) (turns : ℕ)
     (files files_after : List A) (links links_after : List K) (ends : List Status) : Type 0 where
