@@ -1,4 +1,5 @@
 pub mod Stories
+pub mod Devices
 pub mod Calls
 pub mod Moments
 pub mod Runs

@@ -1,4 +1,5 @@
 pub mod Counts
+pub mod Devices
 pub mod Files
 pub mod Story
 pub mod Moments
