@@ -1,6 +1,7 @@
 pub mod Cuts
 pub mod RunLemmas
 pub mod Quiets
+pub mod LedgerMoves
 pub mod ReadBodies
 pub mod PlainMoves
 pub mod Mapped

@@ -4,7 +4,10 @@ pub mod NodeAnswers
 pub mod Queries
 pub mod Plans
 pub mod Keeping
+pub mod LedgerCalls
 pub mod Sessions
+pub mod Side
+pub mod NodeSteps
 pub mod Plain
 pub mod Going
 pub mod Replies

@@ -6,11 +6,10 @@ ghost use Rattle.el_outside.specs.Moments.{LeavesOnly};
 ghost use Rattle.el_model.specs.declared.going.Stop.TheVariants as stop;
 
 use crate::ledger::Ledger;
-use el_base::{Hash32, Listed, OutOfMemory, Steps};
+use el_base::{Hash32, Listed, OutOfMemory};
 use el_chain::{MoveFault, Plan};
 use el_outside::Archive;
 use std::alloc::Global;
-use std::sync::ledger::Ledger as Counts;
 
 /// What is told of a move.
 #[derive(Clone, Copy, Debug, PartialEq, Eq)]
@@ -49,13 +48,12 @@ impl From<OutOfMemory> for Stop {
 /// Makes the moves, up to the first that is refused, and tells of each once it is made: the law of what a
 /// crash leaves of a run of moves, for every ledger. The first may take blocks back. At its end, and at every
 /// moment of it, all that a crash may leave stands for the last chain that was told or for the one in flight.
-pub fn go_on<G: Ledger, A: Archive, L: Counts + Send>(
+pub fn go_on<G: Ledger, A: Archive>(
     alloc: Global,
     ledger: &mut G,
     plans: &[Plan],
     archive: &mut A,
     sent: &mut Listed<Mark>,
-    steps: &mut Steps<L>,
 ) -> Result<(), Stop>
     requires live { G.is_live ledger.old }
     requires follow { AreMovesOf (G.stands ledger.old) plans.now }
@@ -70,7 +68,7 @@ pub fn go_on<G: Ledger, A: Archive, L: Counts + Send>(
     ensures all { OnOk result (length sent.new ≡ length plans.now) }
 {
     for plan in plans {
-        match ledger.go(alloc, plan, archive, steps) {
+        match ledger.go(alloc, plan, archive) {
             Ok(moved) => sent.push(Mark::At {
                 tip: moved.tip,
                 height: moved.height,

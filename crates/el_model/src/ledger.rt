@@ -15,12 +15,11 @@ ghost use Rattle.el_model.specs.Plans.{blocks_in};
 ghost use Rattle.el_chain.specs.declared.moves.MoveFault.TheVariants as stop;
 
 use crate::fault::QueryFault;
-use el_base::{Hash32, Steps};
+use el_base::Hash32;
 use el_chain::{Coin, Entry, MoveFault, Moved, Plan, Spot};
 use el_outside::{Archive, DiskFailed, Place};
 use el_tx::Outpoint;
 use std::alloc::Global;
-use std::sync::ledger::Ledger as Counts;
 
 /// A chain that can be asked and moved. Every call but `height` and `tip` asks that the ledger is live, and
 /// every call but `go` leaves it as it was, whatever it answers. A clause on content holds for every chain
@@ -43,6 +42,9 @@ pub trait Ledger {
 
     /// How often its device has failed; it stands still at 2^64 - 1.
     ghost faults: { Self → ℕ };
+
+    /// How many rows were read since it was opened: each row that a call reads raises it by one.
+    ghost reads: { Self → ℕ };
 
     /// Whether it tells what a crash may leave. One in memory alone doesn't.
     ghost tells_crash: { Type 0 };
@@ -68,154 +70,120 @@ pub trait Ledger {
         ensures { result ≡ tip self.now };
 
     /// The 80 bytes of the header of that height (Bitcoin's serialization).
-    fn header<L: Counts + Send>(
-        &mut self,
-        h: u32,
-        steps: &mut Steps<L>,
-    ) -> Result<[u8; 80], DiskFailed>
+    fn header(&mut self, h: u32) -> Result<[u8; 80], DiskFailed>
         requires live { is_live self.old }
         requires within { MatchOption (height self.old) ⊥ (λ top. h ≤ top) }
         ensures header { (chain : Chain) → stands self.old chain
             → IfOk result (λ bytes. header_at chain h ≡ Some bytes) }
-        ensures rows { steps.new ≤ steps.old + 1 }
-        ensures quiet { Quiet is_live height tip buckets stands tells_crash means moment left_since
+        ensures rows { reads self.new ≤ reads self.old + 1 }
+        ensures quiet { Quiet is_live height tip buckets stands tells_crash moment left_since
             self.old self.new }
         ensures cause { HasCause (faults self.old) (faults self.new) result };
 
     /// Where the block of that height stands in the block files.
-    fn place<L: Counts + Send>(&mut self, h: u32, steps: &mut Steps<L>) -> Result<Place, DiskFailed>
+    fn place(&mut self, h: u32) -> Result<Place, DiskFailed>
         requires live { is_live self.old }
         requires within { MatchOption (height self.old) ⊥ (λ top. h ≤ top) }
         ensures place { (chain : Chain) → stands self.old chain
             → IfOk result (λ place. place_at chain h ≡ Some place) }
-        ensures rows { steps.new ≤ steps.old + 1 }
-        ensures quiet { Quiet is_live height tip buckets stands tells_crash means moment left_since
+        ensures rows { reads self.new ≤ reads self.old + 1 }
+        ensures quiet { Quiet is_live height tip buckets stands tells_crash moment left_since
             self.old self.new }
         ensures cause { HasCause (faults self.old) (faults self.new) result };
 
     /// The block hashes of heights 0 to `upto`, in inner order.
-    fn hashes<L: Counts + Send>(
-        &mut self,
-        alloc: Global,
-        upto: u32,
-        steps: &mut Steps<L>,
-    ) -> Result<Vec<Hash32>, QueryFault>
+    fn hashes(&mut self, alloc: Global, upto: u32) -> Result<Vec<Hash32>, QueryFault>
         requires live { is_live self.old }
         requires within { MatchOption (height self.old) ⊥ (λ top. upto ≤ top) }
         ensures hashes { (chain : Chain) → stands self.old chain
             → IfOk result (λ found. found.items ≡ hashes_to chain upto) }
         // Also where no chain is told.
         ensures len { IfOk result (λ found. length found.items ≡ upto + 1) }
-        ensures quiet { Quiet is_live height tip buckets stands tells_crash means moment left_since
+        ensures rows { reads self.new ≤ reads self.old + (upto + 1) }
+        ensures quiet { Quiet is_live height tip buckets stands tells_crash moment left_since
             self.old self.new }
         ensures cause { CountsOnly (faults self.old) (faults self.new) QueryFault.DiskFailed result };
 
     /// The history of a script hash (Electrum Protocol 1.4, `blockchain.scripthash.get_history`).
-    fn history<L: Counts + Send>(
-        &mut self,
-        alloc: Global,
-        script_hash: &Hash32,
-        steps: &mut Steps<L>,
-    ) -> Result<Vec<Entry>, QueryFault>
+    fn history(&mut self, alloc: Global, script_hash: &Hash32) -> Result<Vec<Entry>, QueryFault>
         requires live { is_live self.old }
         ensures history { (chain : Chain) → stands self.old chain
             → IfOk result (λ found. found.items ≡ history chain script_hash.now.0) }
         ensures rows { (chain : Chain) → stands self.old chain
-            → steps.new ≤ steps.old + (1 + asked.scripts_in_bucket chain (buckets self.old) script_hash.now.0
+            → reads self.new ≤ reads self.old
+            + (1 + asked.scripts_in_bucket chain (buckets self.old) script_hash.now.0
             + 2 * length (history chain script_hash.now.0)) }
-        ensures quiet { Quiet is_live height tip buckets stands tells_crash means moment left_since
+        ensures quiet { Quiet is_live height tip buckets stands tells_crash moment left_since
             self.old self.new }
         ensures cause { CountsOnly (faults self.old) (faults self.new) QueryFault.DiskFailed result };
 
     /// The coins of a script hash, in chain order of their transactions, then by index.
-    fn unspent<L: Counts + Send>(
-        &mut self,
-        alloc: Global,
-        script_hash: &Hash32,
-        steps: &mut Steps<L>,
-    ) -> Result<Vec<Coin>, QueryFault>
+    fn unspent(&mut self, alloc: Global, script_hash: &Hash32) -> Result<Vec<Coin>, QueryFault>
         requires live { is_live self.old }
         ensures unspent { (chain : Chain) → stands self.old chain
             → IfOk result (λ found. found.items ≡ asked.unspent chain script_hash.now.0) }
         ensures rows { (chain : Chain) → stands self.old chain
-            → steps.new ≤ steps.old + (1 + asked.scripts_in_bucket chain (buckets self.old) script_hash.now.0
+            → reads self.new ≤ reads self.old
+            + (1 + asked.scripts_in_bucket chain (buckets self.old) script_hash.now.0
             + 2 * length (history chain script_hash.now.0)
             + asked.outputs_of_history chain script_hash.now.0) }
-        ensures quiet { Quiet is_live height tip buckets stands tells_crash means moment left_since
+        ensures quiet { Quiet is_live height tip buckets stands tells_crash moment left_since
             self.old self.new }
         ensures cause { CountsOnly (faults self.old) (faults self.new) QueryFault.DiskFailed result };
 
     /// What the coins of a script hash hold together, in satoshi.
-    fn balance<L: Counts + Send>(
-        &mut self,
-        script_hash: &Hash32,
-        steps: &mut Steps<L>,
-    ) -> Result<u64, DiskFailed>
+    fn balance(&mut self, script_hash: &Hash32) -> Result<u64, DiskFailed>
         requires live { is_live self.old }
         ensures balance { (chain : Chain) → stands self.old chain
             → IfOk result (λ sum. sum ≡ asked.balance chain script_hash.now.0) }
         ensures rows { (chain : Chain) → stands self.old chain
-            → steps.new ≤ steps.old + (1
-            + asked.scripts_in_bucket chain (buckets self.old) script_hash.now.0) }
-        ensures quiet { Quiet is_live height tip buckets stands tells_crash means moment left_since
+            → reads self.new ≤ reads self.old
+            + (1 + asked.scripts_in_bucket chain (buckets self.old) script_hash.now.0) }
+        ensures quiet { Quiet is_live height tip buckets stands tells_crash moment left_since
             self.old self.new }
         ensures cause { HasCause (faults self.old) (faults self.new) result };
 
     /// Where the newest transaction with that txid, in inner order, stands; None exactly where the chain has
     /// none.
-    fn find_tx<L: Counts + Send>(
-        &mut self,
-        txid: &Hash32,
-        steps: &mut Steps<L>,
-    ) -> Result<Option<Spot>, DiskFailed>
+    fn find_tx(&mut self, txid: &Hash32) -> Result<Option<Spot>, DiskFailed>
         requires live { is_live self.old }
         ensures spot { (chain : Chain) → stands self.old chain
             → IfOk result (λ found. found ≡ asked.find_tx chain txid.now) }
         ensures rows { (chain : Chain) → stands self.old chain
-            → steps.new ≤ steps.old + (2 + asked.txs_in_bucket chain (buckets self.old) txid.now.0) }
-        ensures quiet { Quiet is_live height tip buckets stands tells_crash means moment left_since
+            → reads self.new ≤ reads self.old
+            + (2 + asked.txs_in_bucket chain (buckets self.old) txid.now.0) }
+        ensures quiet { Quiet is_live height tip buckets stands tells_crash moment left_since
             self.old self.new }
         ensures cause { HasCause (faults self.old) (faults self.new) result };
 
     /// The txids of the block of that height, in inner order, as its transactions stand.
-    fn block_txids<L: Counts + Send>(
-        &mut self,
-        alloc: Global,
-        h: u32,
-        steps: &mut Steps<L>,
-    ) -> Result<Vec<Hash32>, QueryFault>
+    fn block_txids(&mut self, alloc: Global, h: u32) -> Result<Vec<Hash32>, QueryFault>
         requires live { is_live self.old }
         requires within { MatchOption (height self.old) ⊥ (λ top. h ≤ top) }
         ensures txids { (chain : Chain) → stands self.old chain
             → IfOk result (λ found. txids_at chain h ≡ Some found.items) }
-        ensures quiet { Quiet is_live height tip buckets stands tells_crash means moment left_since
+        ensures rows { (chain : Chain) → stands self.old chain
+            → IfSome (txids_at chain h) (λ ids. reads self.new ≤ reads self.old + (1 + length ids)) }
+        ensures quiet { Quiet is_live height tip buckets stands tells_crash moment left_since
             self.old self.new }
         ensures cause { CountsOnly (faults self.old) (faults self.new) QueryFault.DiskFailed result };
 
     /// The coin of an outpoint; None exactly where the chain's coins lack it.
-    fn coin<L: Counts + Send>(
-        &mut self,
-        o: &Outpoint,
-        steps: &mut Steps<L>,
-    ) -> Result<Option<Coin>, DiskFailed>
+    fn coin(&mut self, o: &Outpoint) -> Result<Option<Coin>, DiskFailed>
         requires live { is_live self.old }
         ensures coin { (chain : Chain) → stands self.old chain
             → IfOk result (λ found. found ≡ asked.coin_of chain o.now) }
-        ensures quiet { Quiet is_live height tip buckets stands tells_crash means moment left_since
+        ensures quiet { Quiet is_live height tip buckets stands tells_crash moment left_since
             self.old self.new }
         ensures cause { HasCause (faults self.old) (faults self.new) result };
 
     /// The transaction that took the coin of the newest output with that outpoint; None exactly where there
     /// is none.
-    fn spender<L: Counts + Send>(
-        &mut self,
-        o: &Outpoint,
-        steps: &mut Steps<L>,
-    ) -> Result<Option<Entry>, DiskFailed>
+    fn spender(&mut self, o: &Outpoint) -> Result<Option<Entry>, DiskFailed>
         requires live { is_live self.old }
         ensures spender { (chain : Chain) → stands self.old chain
             → IfOk result (λ found. found ≡ asked.spender chain o.now) }
-        ensures quiet { Quiet is_live height tip buckets stands tells_crash means moment left_since
+        ensures quiet { Quiet is_live height tip buckets stands tells_crash moment left_since
             self.old self.new }
         ensures cause { HasCause (faults self.old) (faults self.new) result };
 
@@ -227,12 +195,11 @@ pub trait Ledger {
     /// In this order: `ArchiveFailed`; `Changed` for the first block whose bytes don't begin with its header;
     /// `BadBlock` or `Refused` for the first block in chain order that has a fault. After `DiskFailed` the
     /// ledger isn't live; every other refusal changes nothing.
-    fn go<A: Archive, L: Counts + Send>(
+    fn go<A: Archive>(
         &mut self,
         alloc: Global,
         plan: &Plan,
         archive: &mut A,
-        steps: &mut Steps<L>,
     ) -> Result<Moved, MoveFault>
         requires live { is_live self.old }
         requires plan { IsPlan plan.now }
@@ -257,7 +224,7 @@ pub trait Ledger {
             → IfErr result (IsRefused A.tells (A.bytes archive.new) chain plan.now) }
         // After any other refusal it is as it was, and a crash leaves the old chain alone.
         ensures unchanged { IfErr result (λ e. e ≢ stop.DiskFailed
-            → Quiet is_live height tip buckets stands tells_crash means moment left_since self.old self.new) }
+            → Quiet is_live height tip buckets stands tells_crash moment left_since self.old self.new) }
         ensures crash_failed { (chain : Chain) → stands self.old chain → IsErrOf result MoveFault.DiskFailed
             → (next : Chain) × InFlight A.tells (A.bytes archive.new) chain plan.now next
             × (tells_crash → LeavesOnly moment left_since self.old self.new (Either means chain next)) }

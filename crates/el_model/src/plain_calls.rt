@@ -15,12 +15,11 @@ use crate::own_coins::unspent_of;
 use crate::plain_ledger::{PlainLedger, tip_in, top_of};
 use crate::spending::spender_of;
 use crate::txid::txid_of;
-use el_base::{Hash32, OutOfMemory, Steps};
+use el_base::{Hash32, OutOfMemory};
 use el_chain::{Coin, Entry, MoveFault, Moved, Placed, Plan, Spot};
 use el_outside::{Archive, DiskFailed, Place};
 use el_tx::{Outpoint, Tx, block_hash, encode_header};
 use std::alloc::Global;
-use std::sync::ledger::Ledger as Counts;
 
 // The header of the block at that height.
 fn header_in(blocks: &[Placed], h: u32) -> [u8; 80]
@@ -75,6 +74,8 @@ impl Ledger for PlainLedger {
 
     ghost faults = { λ l. 0 };
 
+    ghost reads = { λ l. 0 };
+
     ghost tells_crash = { ⊥ };
 
     ghost Left = { Unit {0} };
@@ -103,102 +104,57 @@ impl Ledger for PlainLedger {
         tip_in(self.chain())
     }
 
-    fn header<L: Counts + Send>(
-        &mut self,
-        h: u32,
-        _steps: &mut Steps<L>,
-    ) -> Result<[u8; 80], DiskFailed> {
+    fn header(&mut self, h: u32) -> Result<[u8; 80], DiskFailed> {
         Ok(header_in(self.blocks(), h))
     }
 
-    fn place<L: Counts + Send>(
-        &mut self,
-        h: u32,
-        _steps: &mut Steps<L>,
-    ) -> Result<Place, DiskFailed> {
+    fn place(&mut self, h: u32) -> Result<Place, DiskFailed> {
         Ok(place_in(self.blocks(), h))
     }
 
-    fn hashes<L: Counts + Send>(
-        &mut self,
-        alloc: Global,
-        upto: u32,
-        _steps: &mut Steps<L>,
-    ) -> Result<Vec<Hash32>, QueryFault> {
+    fn hashes(&mut self, alloc: Global, upto: u32) -> Result<Vec<Hash32>, QueryFault> {
         let blocks = self.blocks();
         let found = hashes_of(alloc, &blocks[..upto as usize + 1])?;
         Ok(found)
     }
 
-    fn history<L: Counts + Send>(
-        &mut self,
-        _alloc: Global,
-        script_hash: &Hash32,
-        _steps: &mut Steps<L>,
-    ) -> Result<Vec<Entry>, QueryFault> {
+    fn history(&mut self, _alloc: Global, script_hash: &Hash32) -> Result<Vec<Entry>, QueryFault> {
         let found = self.chain().history(script_hash)?;
         Ok(found)
     }
 
-    fn unspent<L: Counts + Send>(
-        &mut self,
-        alloc: Global,
-        script_hash: &Hash32,
-        _steps: &mut Steps<L>,
-    ) -> Result<Vec<Coin>, QueryFault> {
+    fn unspent(&mut self, alloc: Global, script_hash: &Hash32) -> Result<Vec<Coin>, QueryFault> {
         let found = unspent_of(alloc, self.blocks(), script_hash)?;
         Ok(found)
     }
 
-    fn balance<L: Counts + Send>(
-        &mut self,
-        script_hash: &Hash32,
-        _steps: &mut Steps<L>,
-    ) -> Result<u64, DiskFailed> {
+    fn balance(&mut self, script_hash: &Hash32) -> Result<u64, DiskFailed> {
         Ok(self.chain().balance(script_hash))
     }
 
-    fn find_tx<L: Counts + Send>(
-        &mut self,
-        txid: &Hash32,
-        _steps: &mut Steps<L>,
-    ) -> Result<Option<Spot>, DiskFailed> {
+    fn find_tx(&mut self, txid: &Hash32) -> Result<Option<Spot>, DiskFailed> {
         Ok(find_tx_in(self.blocks(), txid))
     }
 
-    fn block_txids<L: Counts + Send>(
-        &mut self,
-        alloc: Global,
-        h: u32,
-        _steps: &mut Steps<L>,
-    ) -> Result<Vec<Hash32>, QueryFault> {
+    fn block_txids(&mut self, alloc: Global, h: u32) -> Result<Vec<Hash32>, QueryFault> {
         let blocks = self.blocks();
         let found = txids_of(alloc, blocks[h as usize].block.txs.as_slice())?;
         Ok(found)
     }
 
-    fn coin<L: Counts + Send>(
-        &mut self,
-        o: &Outpoint,
-        _steps: &mut Steps<L>,
-    ) -> Result<Option<Coin>, DiskFailed> {
+    fn coin(&mut self, o: &Outpoint) -> Result<Option<Coin>, DiskFailed> {
         Ok(self.chain().coin(o))
     }
 
-    fn spender<L: Counts + Send>(
-        &mut self,
-        o: &Outpoint,
-        _steps: &mut Steps<L>,
-    ) -> Result<Option<Entry>, DiskFailed> {
+    fn spender(&mut self, o: &Outpoint) -> Result<Option<Entry>, DiskFailed> {
         Ok(spender_of(self.blocks(), o))
     }
 
-    fn go<A: Archive, L: Counts + Send>(
+    fn go<A: Archive>(
         &mut self,
         alloc: Global,
         plan: &Plan,
         archive: &mut A,
-        _steps: &mut Steps<L>,
     ) -> Result<Moved, MoveFault> {
         // What is kept is good, before the move and after it.
         let _kept = self.blocks();

@@ -66,7 +66,7 @@ returns-in_err-push-in_default g c = record {
       let quiet = c.in-Err.ensures.unchanged c.in_default.not-DiskFailed in
       ever_more g.A.Archive.tells start c.args.plans.now c.loop-plan.plan-index c.loop-plan.sent was.0 c.plan-item.result _ c.loop-plan-test.true c.plan-item.is was.1
       l.means l.moment l.left_since c.args.ledger.now c.loop-plan.ledger c.go.new.self c.push-in_default.new.self [] was.0 c.loop-plan.invariant.one_each (c.in_err-push-in_default.ensures.err ∙ sym (append-nil _)) (inl refl) (c.loop-plan.invariant.ever start stands tells)
-      (refused_either l.means l.moment l.left_since c.loop-plan.ledger c.go.new.self was.0 (quiet_leaves l.is_live l.height l.tip l.buckets l.stands l.tells_crash l.means l.moment l.left_since c.loop-plan.ledger c.go.new.self quiet tells was.0 was.2));
+      (refused_either l.means l.moment l.left_since c.loop-plan.ledger c.go.new.self was.0 (quiet_leaves l.is_live l.height l.tip l.buckets l.stands l.tells_crash l.moment l.left_since l.means c.loop-plan.ledger c.go.new.self c.loop-plan.invariant.live g.met.G.Ledger.leaves_own quiet tells was.0 was.2));
   all = search rules;
 }
 
@@ -87,7 +87,7 @@ returns-in_default g c = record {
       let quiet = c.in-Err.ensures.unchanged c.in_default.not-DiskFailed in
       ever_more g.A.Archive.tells start c.args.plans.now c.loop-plan.plan-index c.loop-plan.sent was.0 c.plan-item.result _ c.loop-plan-test.true c.plan-item.is was.1
       l.means l.moment l.left_since c.args.ledger.now c.loop-plan.ledger c.go.new.self c.push-in_default.new.self _ was.0 c.loop-plan.invariant.one_each c.in_ok-push-in_default.ensures.ok (inl refl) (c.loop-plan.invariant.ever start stands tells)
-      (refused_either l.means l.moment l.left_since c.loop-plan.ledger c.go.new.self was.0 (quiet_leaves l.is_live l.height l.tip l.buckets l.stands l.tells_crash l.means l.moment l.left_since c.loop-plan.ledger c.go.new.self quiet tells was.0 was.2));
+      (refused_either l.means l.moment l.left_since c.loop-plan.ledger c.go.new.self was.0 (quiet_leaves l.is_live l.height l.tip l.buckets l.stands l.tells_crash l.moment l.left_since l.means c.loop-plan.ledger c.go.new.self c.loop-plan.invariant.live g.met.G.Ledger.leaves_own quiet tells was.0 was.2));
   all = tt;
 }
 
