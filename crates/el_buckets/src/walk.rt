@@ -2,9 +2,8 @@
 ghost use Rattle.std.specs.Prelude.{◌≡◌, ◌<◌, ◌≤◌, ◌+◌, ◌^◌, ℕ, List, length, take, get_or, OnOk, IfOk, None};
 ghost use Rattle.std.specs.Option.{ForSome};
 ghost use Rattle.el_chain.specs.Chains.{zero_hash};
-ghost use Rattle.el_outside.specs.Counts.{HasCause};
 ghost use Rattle.el_rows.specs.RowBytes.{link_number};
-ghost use Rattle.el_rows.specs.Transaction.{tables_in, OnlyReads};
+ghost use Rattle.el_rows.specs.Transaction.{tables_in, reads_in, disk_failed, ReadsRows};
 ghost use Rattle.el_tables.specs.ChainLists.{ListedBlock};
 ghost use Rattle.el_tables.specs.Lists as lists;
 ghost use Rattle.el_tables.specs.Tables.{HeadCounts};
@@ -13,10 +12,9 @@ ghost use Rattle.el_buckets.specs.Buckets.{rows_of, heads_of, hashes_of, count_o
 
 use crate::Buckets;
 use crate::bucket::{bucket_of, if_below};
-use el_base::{Hash32, Steps};
+use el_base::Hash32;
 use el_outside::DiskFailed;
 use el_rows::{HeadRow, Rows, Txn};
-use std::sync::ledger::Ledger;
 
 /// What a walk along a bucket found.
 #[derive(Clone, Copy, Debug, PartialEq, Eq)]
@@ -28,11 +26,10 @@ pub struct Found {
 }
 
 // The head of the hash's bucket, or none where there are no heads.
-fn head<R: Rows, L: Ledger>(
+fn head<R: Rows>(
     t: &mut Txn<'_, R>,
     buckets: Buckets,
     hash: &Hash32,
-    steps: &mut Steps<L>,
 ) -> Result<Option<u64>, DiskFailed>
     requires live { R.is_live t.old.rows.now }
     ensures head { (counts : HeadCounts) (bs : List ListedBlock) (l : lists.Lists) → R.tells
@@ -41,28 +38,23 @@ fn head<R: Rows, L: Ledger>(
     ensures none { length (tables_in t.old (heads_of buckets)) ≡ 0 → IfOk result (λ h. h ≡ None) }
     ensures below { IfOk result (λ h. ForSome h (λ n. n < length (tables_in t.old (rows_of buckets)))) }
     ensures fits { IfOk result (λ h. link_number h < 2 ^ 32) }
-    ensures tables { tables_in t.new ≡ tables_in t.old }
-    ensures reads { OnlyReads t.old t.new }
-    ensures name { t.new.rows.ghost_name ≡ t.old.rows.ghost_name }
-    ensures ticked { steps.old ≤ steps.new }
-    ensures tick { steps.new ≤ steps.old + 1 }
-    ensures cause { HasCause (R.faults t.old.rows.now) (R.faults t.new.rows.now) result }
+    ensures read { ReadsRows disk_failed t.old t.new result }
+    ensures rows { reads_in t.new ≤ reads_in t.old + 1 }
 {
     let count = t.count(buckets.heads());
     if count == 0 {
         return Ok(None);
     }
     let mut row = [0; 4];
-    t.get(buckets.heads(), bucket_of(hash, count), &mut row, steps)?;
+    t.get(buckets.heads(), bucket_of(hash, count), &mut row)?;
     Ok(if_below(HeadRow::read(&row).head, t.count(buckets.rows())))
 }
 
 // The hash of a row, and its link to the next in its bucket, which is none where it isn't below the row.
-fn at_row<R: Rows, L: Ledger>(
+fn at_row<R: Rows>(
     t: &mut Txn<'_, R>,
     buckets: Buckets,
     n: u64,
-    steps: &mut Steps<L>,
 ) -> Result<(Hash32, Option<u64>), DiskFailed>
     requires live { R.is_live t.old.rows.now }
     requires below { n < length (tables_in t.old (rows_of buckets)) }
@@ -73,27 +65,22 @@ fn at_row<R: Rows, L: Ledger>(
         → Hold counts bs l (tables_in t.old)
         → IfOk result (λ r. r.1 ≡ bucket_head (count_of buckets counts) r.0 (take n (hashes_of buckets l))) }
     ensures below { IfOk result (λ r. ForSome r.1 (λ m. m < n)) }
-    ensures tables { tables_in t.new ≡ tables_in t.old }
-    ensures reads { OnlyReads t.old t.new }
-    ensures name { t.new.rows.ghost_name ≡ t.old.rows.ghost_name }
-    ensures ticked { steps.old ≤ steps.new }
-    ensures tick { steps.new ≤ steps.old + 1 }
-    ensures cause { HasCause (R.faults t.old.rows.now) (R.faults t.new.rows.now) result }
+    ensures read { ReadsRows disk_failed t.old t.new result }
+    ensures rows { reads_in t.new ≤ reads_in t.old + 1 }
 {
     let mut row = [0; 68];
     let row = &mut row[..buckets.rows().size()];
-    t.get(buckets.rows(), n, row, steps)?;
+    t.get(buckets.rows(), n, row)?;
     let (hash, next) = buckets.hash_and_next(row);
     Ok((hash, if_below(next, n)))
 }
 
 /// The newest row with the hash, and the head of its bucket. It takes no memory and changes nothing. It reads
 /// one head, and rows of the bucket alone.
-pub fn find<R: Rows, L: Ledger>(
+pub fn find<R: Rows>(
     t: &mut Txn<'_, R>,
     buckets: Buckets,
     hash: &Hash32,
-    steps: &mut Steps<L>,
 ) -> Result<Found, DiskFailed>
     requires live { R.is_live t.old.rows.now }
     ensures newest { (counts : HeadCounts) (bs : List ListedBlock) (l : lists.Lists) → R.tells
@@ -102,26 +89,24 @@ pub fn find<R: Rows, L: Ledger>(
     ensures head { (counts : HeadCounts) (bs : List ListedBlock) (l : lists.Lists) → R.tells
         → Hold counts bs l (tables_in t.old) → 0 < count_of buckets counts
         → IfOk result (λ f. f.head ≡ bucket_head (count_of buckets counts) hash.now (hashes_of buckets l)) }
-    ensures steps { (counts : HeadCounts) (bs : List ListedBlock) (l : lists.Lists) → R.tells
+    ensures rows { (counts : HeadCounts) (bs : List ListedBlock) (l : lists.Lists) → R.tells
         → Hold counts bs l (tables_in t.old) → 0 < count_of buckets counts
-        → steps.new ≤ steps.old + 1 + bucket_size (count_of buckets counts) hash.now (hashes_of buckets l) }
+        → reads_in t.new ≤ reads_in t.old + 1
+        + bucket_size (count_of buckets counts) hash.now (hashes_of buckets l) }
     // What follows holds over any rows.
     ensures none { length (tables_in t.old (heads_of buckets)) ≡ 0 → IfOk result (λ f. f.newest ≡ None) }
-    ensures below { IfOk result (λ f. ForSome f.newest (λ n. n < length (tables_in t.old (rows_of buckets)))) }
+    ensures below { IfOk result
+        (λ f. ForSome f.newest (λ n. n < length (tables_in t.old (rows_of buckets)))) }
     ensures head_below { IfOk result
         (λ f. ForSome f.head (λ n. n < length (tables_in t.old (rows_of buckets)))) }
     ensures fits { IfOk result (λ f. link_number f.newest < 2 ^ 32) }
     ensures head_fits { IfOk result (λ f. link_number f.head < 2 ^ 32) }
-    ensures tables { tables_in t.new ≡ tables_in t.old }
-    ensures reads { OnlyReads t.old t.new }
-    ensures name { t.new.rows.ghost_name ≡ t.old.rows.ghost_name }
-    ensures ticked { steps.old ≤ steps.new }
-    ensures cause { HasCause (R.faults t.old.rows.now) (R.faults t.new.rows.now) result }
+    ensures read { ReadsRows disk_failed t.old t.new result }
 {
-    let head = head(t, buckets, hash, steps)?;
+    let head = head(t, buckets, hash)?;
     let mut link = head;
     while let Some(n) = link {
-        let (found, next) = at_row(t, buckets, n, steps)?;
+        let (found, next) = at_row(t, buckets, n)?;
         if found == *hash {
             break;
         }

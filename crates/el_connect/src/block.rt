@@ -4,10 +4,9 @@ ghost use Rattle.el_block.specs.Blocks.{HasBlockEncoding};
 ghost use Rattle.el_block.specs.declared.block.Block as shape;
 ghost use Rattle.el_chain.specs.Chains.{Chain, tip};
 ghost use Rattle.el_chain.specs.Faults.{fault};
-ghost use Rattle.el_outside.specs.Counts.{CountsOnly};
 ghost use Rattle.el_prepare.specs.Prepared.{prepared};
 ghost use Rattle.el_rows.specs.RowBytes.{FitsBlockRow};
-ghost use Rattle.el_rows.specs.Transaction.{tables_in, OnlyReads};
+ghost use Rattle.el_rows.specs.Transaction.{tables_in, EditsRows, EditsAlone};
 ghost use Rattle.el_rows.specs.declared.table.Table.{Table};
 ghost use Rattle.el_buckets.specs.Faults.{NotAdded};
 ghost use Rattle.el_buckets.specs.Rows.{Hold, block_fields};
@@ -19,13 +18,11 @@ ghost use Rattle.el_stands.specs.Standing.{StandFor};
 use crate::heads::add_all_heads;
 use crate::reading::last_sum;
 use crate::transaction::connect_txs;
-use el_base::Steps;
 use el_buckets::not_appended;
 use el_chain::ConnectFault;
 use el_outside::Place;
 use el_prepare::Prepared;
 use el_rows::{BlockRow, Rows, Table, Txn};
-use std::sync::ledger::Ledger;
 
 // The row of a block: its header's bytes, its place by file, offset and length, the number of its first
 // transaction, how many it has, and what all coins hold after it.
@@ -67,8 +64,7 @@ fn append_block<R: Rows>(t: &mut Txn<'_, R>, row: &BlockRow) -> Result<u64, Conn
     ensures more { OnOk result (length (tables_in t.new Table.Blocks)
         ≡ length (tables_in t.old Table.Blocks) + 1) }
     ensures fault { IfErr result (NotAdded Table.Blocks (length (tables_in t.old Table.Blocks))) }
-    ensures rows { t.new.rows.now ≡ t.old.rows.now }
-    ensures name { t.new.rows.ghost_name ≡ t.old.rows.ghost_name }
+    ensures alone { EditsAlone t.old t.new }
 {
     let mut bytes = [0; 112];
     row.write(&mut bytes);
@@ -88,12 +84,7 @@ fn append_block<R: Rows>(t: &mut Txn<'_, R>, row: &BlockRow) -> Result<u64, Conn
 /// The block's first fault. `ConnectFault::DiskFailed` comes where the device failed, and
 /// `ConnectFault::Memory` where no memory was found; both may come in place of a fault, and where there is
 /// none.
-pub fn connect<R: Rows, L: Ledger>(
-    t: &mut Txn<'_, R>,
-    b: &Prepared,
-    place: Place,
-    steps: &mut Steps<L>,
-) -> Result<(), ConnectFault>
+pub fn connect<R: Rows>(t: &mut Txn<'_, R>, b: &Prepared, place: Place) -> Result<(), ConnectFault>
     requires live { R.is_live t.old.rows.now }
     requires prepared { (block : shape.Block) × HasBlockEncoding block × (b.now ≡ prepared block) }
     // A block without a fault is put after the chain, and no other is.
@@ -109,17 +100,13 @@ pub fn connect<R: Rows, L: Ledger>(
     // What follows holds over any rows.
     ensures more { OnOk result (length (tables_in t.new Table.Blocks)
         ≡ length (tables_in t.old Table.Blocks) + 1) }
-    ensures reads { OnlyReads t.old t.new }
-    ensures name { t.new.rows.ghost_name ≡ t.old.rows.ghost_name }
-    ensures ticked { steps.old ≤ steps.new }
-    ensures cause { CountsOnly (R.faults t.old.rows.now) (R.faults t.new.rows.now) ConnectFault.DiskFailed
-        result }
+    ensures edits { EditsRows ConnectFault.DiskFailed t.old t.new result }
 {
     let height = t.count(Table::Blocks);
     let first_tx = t.count(Table::Txs);
-    let before = last_sum(t, steps)?;
+    let before = last_sum(t)?;
     add_all_heads(t)?;
-    let sum = connect_txs(t, height as u32, b.txs.as_slice(), before, steps)?;
+    let sum = connect_txs(t, height as u32, b.txs.as_slice(), before)?;
     let txs = b.txs.len() as u32;
     let Place { file, offset, len } = place;
     let row = row_of(&b.header, file, offset, len, first_tx, txs, sum);

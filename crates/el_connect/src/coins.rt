@@ -1,8 +1,7 @@
 // The coins that a transaction takes, and its faults before it is listed.
 ghost use Rattle.std.specs.Prelude.{◌≡◌, ◌⊎◌, ◌<◌, ◌≤◌, ◌+◌, ◌^◌, ℕ, List, [], length, Ok, Err, OnOk, IfOk, IfErr};
 ghost use Rattle.el_chain.specs.declared.limits.TheConstants.{ROW_LIMIT};
-ghost use Rattle.el_outside.specs.Counts.{CountsOnly};
-ghost use Rattle.el_rows.specs.Transaction.{tables_in, OnlyReads};
+ghost use Rattle.el_rows.specs.Transaction.{tables_in, EditsRows};
 ghost use Rattle.el_rows.specs.declared.table.Table.{Table};
 ghost use Rattle.el_tables.specs.ChainLists.{ListedBlock};
 ghost use Rattle.el_tables.specs.Connecting.{spend_all, missing_at};
@@ -16,21 +15,18 @@ ghost use Rattle.el_connect.specs.within.Full.{TakenBy, TakingOn, FineCoins, Rea
 use crate::money::check_outputs;
 use crate::reading::output_value;
 use crate::scripts::check_scripts;
-use el_base::Steps;
 use el_chain::ConnectFault;
 use el_prepare::PreparedTx;
 use el_rows::{Rows, Table, Txn};
 use el_spend::spend;
 use el_tx::Outpoint;
-use std::sync::ledger::Ledger;
 
 // The transaction of that number spends the outpoint's coin, and its script hash gets no entry. It answers
 // what the coin held, and none where there is no coin.
-fn take_coin<R: Rows, L: Ledger>(
+fn take_coin<R: Rows>(
     t: &mut Txn<'_, R>,
     o: &Outpoint,
     by: u64,
-    steps: &mut Steps<L>,
 ) -> Result<Option<u64>, ConnectFault>
     requires live { R.is_live t.old.rows.now }
     requires by { by < 2 ^ 32 }
@@ -41,16 +37,12 @@ fn take_coin<R: Rows, L: Ledger>(
         → Hold counts bs l (tables_in t.old) → length l.ins < ROW_LIMIT
         → IfErr result (λ e. (e ≡ ConnectFault.DiskFailed) ⊎ (e ≡ ConnectFault.Memory)) }
     ensures blocks { tables_in t.new Table.Blocks ≡ tables_in t.old Table.Blocks }
-    ensures reads { OnlyReads t.old t.new }
-    ensures name { t.new.rows.ghost_name ≡ t.old.rows.ghost_name }
-    ensures ticked { steps.old ≤ steps.new }
-    ensures cause { CountsOnly (R.faults t.old.rows.now) (R.faults t.new.rows.now) ConnectFault.DiskFailed
-        result }
+    ensures edits { EditsRows ConnectFault.DiskFailed t.old t.new result }
 {
-    match spend(t, o, by, steps)? {
+    match spend(t, o, by)? {
         None => Ok(None),
         Some(coin) => {
-            let value = output_value(t, coin, steps)?;
+            let value = output_value(t, coin)?;
             Ok(Some(value))
         }
     }
@@ -58,13 +50,12 @@ fn take_coin<R: Rows, L: Ledger>(
 
 // The transaction of that number, with that index in its block, spends the coins of these outpoints, in
 // order. It answers what all coins hold then.
-fn take_coins<R: Rows, L: Ledger>(
+fn take_coins<R: Rows>(
     t: &mut Txn<'_, R>,
     index: usize,
     by: u64,
     inputs: &[Outpoint],
     sum: u64,
-    steps: &mut Steps<L>,
 ) -> Result<u64, ConnectFault>
     requires live { R.is_live t.old.rows.now }
     requires by { by < 2 ^ 32 }
@@ -80,15 +71,11 @@ fn take_coins<R: Rows, L: Ledger>(
         → IfErr result (λ e. (e ≡ ConnectFault.DiskFailed) ⊎ ((e ≡ ConnectFault.Memory)
         ⊎ (missing_at index (spend_all by 0 inputs.now before) ≡ Err e))) }
     ensures blocks { tables_in t.new Table.Blocks ≡ tables_in t.old Table.Blocks }
-    ensures reads { OnlyReads t.old t.new }
-    ensures name { t.new.rows.ghost_name ≡ t.old.rows.ghost_name }
-    ensures ticked { steps.old ≤ steps.new }
-    ensures cause { CountsOnly (R.faults t.old.rows.now) (R.faults t.new.rows.now) ConnectFault.DiskFailed
-        result }
+    ensures edits { EditsRows ConnectFault.DiskFailed t.old t.new result }
 {
     let mut left = sum;
     for (input, o) in inputs.iter().enumerate() {
-        match take_coin(t, o, by, steps)? {
+        match take_coin(t, o, by)? {
             None => return Err(ConnectFault::MissingCoin { tx: index, input }),
             Some(value) => left = left.saturating_sub(value),
         }
@@ -98,12 +85,11 @@ fn take_coins<R: Rows, L: Ledger>(
 
 // A transaction with that index in its block spends its coins, where the tables of inputs and outputs have
 // room for it. It answers what all coins hold then. Each of its faults is told but a full table of entries.
-pub(crate) fn take_inputs<R: Rows, L: Ledger>(
+pub(crate) fn take_inputs<R: Rows>(
     t: &mut Txn<'_, R>,
     index: usize,
     tx: &PreparedTx,
     sum: u64,
-    steps: &mut Steps<L>,
 ) -> Result<u64, ConnectFault>
     requires live { R.is_live t.old.rows.now }
     requires small { IsSmall tx.now }
@@ -117,27 +103,22 @@ pub(crate) fn take_inputs<R: Rows, L: Ledger>(
         → IfErr result (λ e. (e ≡ ConnectFault.DiskFailed) ⊎ ((e ≡ ConnectFault.Memory)
         ⊎ (connect_next height index tx.now l ≡ Err e))) }
     ensures blocks { tables_in t.new Table.Blocks ≡ tables_in t.old Table.Blocks }
-    ensures reads { OnlyReads t.old t.new }
-    ensures name { t.new.rows.ghost_name ≡ t.old.rows.ghost_name }
-    ensures ticked { steps.old ≤ steps.new }
-    ensures cause { CountsOnly (R.faults t.old.rows.now) (R.faults t.new.rows.now) ConnectFault.DiskFailed
-        result }
+    ensures edits { EditsRows ConnectFault.DiskFailed t.old t.new result }
 {
     let by = t.count(Table::Txs);
-    let left = take_coins(t, index, by, tx.inputs.as_slice(), sum, steps)?;
-    check_outputs(t, tx, by, left, steps)?;
-    check_scripts(t, tx.outputs.as_slice(), steps)?;
+    let left = take_coins(t, index, by, tx.inputs.as_slice(), sum)?;
+    check_outputs(t, tx, by, left)?;
+    check_scripts(t, tx.outputs.as_slice())?;
     Ok(left)
 }
 
 // Looks at the coins and the money of a transaction with that index in its block, for whose rows there is no
 // room: its outputs are not added, and the inputs of the chain are forgotten, so that its own have room.
-pub(crate) fn check_coins<R: Rows, L: Ledger>(
+pub(crate) fn check_coins<R: Rows>(
     t: &mut Txn<'_, R>,
     index: usize,
     tx: &PreparedTx,
     sum: u64,
-    steps: &mut Steps<L>,
 ) -> Result<(), ConnectFault>
     requires live { R.is_live t.old.rows.now }
     requires small { IsSmall tx.now }
@@ -149,15 +130,11 @@ pub(crate) fn check_coins<R: Rows, L: Ledger>(
         → IfErr result (λ e. (e ≡ ConnectFault.DiskFailed) ⊎ ((e ≡ ConnectFault.Memory)
         ⊎ (connect_next height index tx.now l ≡ Err e))) }
     ensures blocks { tables_in t.new Table.Blocks ≡ tables_in t.old Table.Blocks }
-    ensures reads { OnlyReads t.old t.new }
-    ensures name { t.new.rows.ghost_name ≡ t.old.rows.ghost_name }
-    ensures ticked { steps.old ≤ steps.new }
-    ensures cause { CountsOnly (R.faults t.old.rows.now) (R.faults t.new.rows.now) ConnectFault.DiskFailed
-        result }
+    ensures edits { EditsRows ConnectFault.DiskFailed t.old t.new result }
 {
     let by = t.count(Table::Txs);
     t.shrink(Table::Ins, 0);
-    let left = take_coins(t, index, by, tx.inputs.as_slice(), sum, steps)?;
-    check_outputs(t, tx, by, left, steps)?;
+    let left = take_coins(t, index, by, tx.inputs.as_slice(), sum)?;
+    check_outputs(t, tx, by, left)?;
     Ok(())
 }

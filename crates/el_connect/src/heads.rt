@@ -2,7 +2,7 @@
 ghost use Rattle.std.specs.Prelude.{◌≡◌, ◌≢◌, ◌<◌, replicate, length, OnOk, IfErr, None};
 ghost use Rattle.el_rows.specs.RowBytes.{link_bytes};
 ghost use Rattle.el_rows.specs.Tables.{size_of};
-ghost use Rattle.el_rows.specs.Transaction.{tables_in};
+ghost use Rattle.el_rows.specs.Transaction.{tables_in, EditsAlone};
 ghost use Rattle.el_rows.specs.declared.table.Table.{Table};
 ghost use Rattle.el_chain.specs.Chains.{Chain};
 ghost use Rattle.el_tables.specs.ChainLists.{lists, listed_blocks};
@@ -27,8 +27,7 @@ fn add_heads<R: Rows>(t: &mut Txn<'_, R>, table: Table) -> Result<(), ConnectFau
         → OnOk result (tables_in t.new table ≡ replicate HEADS (link_bytes None)) }
     ensures others { (u : Table) → u ≢ table → tables_in t.new u ≡ tables_in t.old u }
     ensures fault { IfErr result (λ e. e ≡ ConnectFault.Memory) }
-    ensures rows { t.new.rows.now ≡ t.old.rows.now }
-    ensures name { t.new.rows.ghost_name ≡ t.old.rows.ghost_name }
+    ensures alone { EditsAlone t.old t.new }
 {
     if t.count(table) != 0 {
         return Ok(());
@@ -49,8 +48,7 @@ pub(crate) fn add_all_heads<R: Rows>(t: &mut Txn<'_, R>) -> Result<(), ConnectFa
     ensures others { (u : Table) → u ≢ Table.TxHeads → u ≢ Table.ScriptHeads
         → tables_in t.new u ≡ tables_in t.old u }
     ensures fault { IfErr result (λ e. e ≡ ConnectFault.Memory) }
-    ensures rows { t.new.rows.now ≡ t.old.rows.now }
-    ensures name { t.new.rows.ghost_name ≡ t.old.rows.ghost_name }
+    ensures alone { EditsAlone t.old t.new }
 {
     add_heads(t, Table::TxHeads)?;
     add_heads(t, Table::ScriptHeads)?;

@@ -1,19 +1,16 @@
 // What a coin holds.
 ghost use Rattle.std.specs.Prelude.{◌≡◌, ◌≢◌, ◌<◌, ◌≤◌, ℕ, List, IfOk, IfErr};
-ghost use Rattle.el_outside.specs.Counts.{CountsOnly};
-ghost use Rattle.el_rows.specs.Transaction.{tables_in, OnlyReads};
+ghost use Rattle.el_rows.specs.Transaction.{tables_in, ReadsRows};
 ghost use Rattle.el_tables.specs.ChainLists.{ListedBlock};
 ghost use Rattle.el_tables.specs.Lists.{Lists};
 ghost use Rattle.el_tables.specs.Tables.{HeadCounts};
 ghost use Rattle.el_buckets.specs.Rows.{Hold};
 ghost use Rattle.el_connect.specs.within.Parts.{coin_value};
 
-use el_base::Steps;
 use el_chain::ConnectFault;
 use el_rows::{OutRow, Rows, State, Txn};
 use el_spend::named_output;
 use el_tx::Outpoint;
-use std::sync::ledger::Ledger;
 
 // What an output's row holds if it is unspent, and else 0.
 fn unspent_value(row: &OutRow) -> u64
@@ -27,25 +24,19 @@ fn unspent_value(row: &OutRow) -> u64
 }
 
 // What the coin of the outpoint holds among the transactions below that number, and 0 where there is none.
-pub(crate) fn coin_held<R: Rows, L: Ledger>(
+pub(crate) fn coin_held<R: Rows>(
     t: &mut Txn<'_, R>,
     o: &Outpoint,
     below: u64,
-    steps: &mut Steps<L>,
 ) -> Result<u64, ConnectFault>
     requires live { R.is_live t.old.rows.now }
     ensures value { (counts : HeadCounts) (bs : List ListedBlock) (l : Lists) → R.tells
         → Hold counts bs l (tables_in t.old) → 0 < counts.txs
         → IfOk result (λ value. value ≡ coin_value o.now below l) }
-    ensures tables { tables_in t.new ≡ tables_in t.old }
     ensures fault { IfErr result (λ e. e ≡ ConnectFault.DiskFailed) }
-    ensures reads { OnlyReads t.old t.new }
-    ensures name { t.new.rows.ghost_name ≡ t.old.rows.ghost_name }
-    ensures ticked { steps.old ≤ steps.new }
-    ensures cause { CountsOnly (R.faults t.old.rows.now) (R.faults t.new.rows.now) ConnectFault.DiskFailed
-        result }
+    ensures read { ReadsRows ConnectFault.DiskFailed t.old t.new result }
 {
-    let Ok(found) = named_output(t, o, below, steps) else {
+    let Ok(found) = named_output(t, o, below) else {
         return Err(ConnectFault::DiskFailed);
     };
     match found {

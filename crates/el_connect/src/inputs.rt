@@ -1,8 +1,7 @@
 // The script hashes of the coins that a transaction takes.
 ghost use Rattle.std.specs.Prelude.{◌≡◌, ◌⊎◌, ◌<◌, ◌≤◌, ◌+◌, ◌^◌, ℕ, List, length, drop, get_or, OnOk, IfOk, IfErr};
 ghost use Rattle.el_chain.specs.declared.limits.TheConstants.{ROW_LIMIT};
-ghost use Rattle.el_outside.specs.Counts.{CountsOnly};
-ghost use Rattle.el_rows.specs.Transaction.{tables_in, OnlyReads};
+ghost use Rattle.el_rows.specs.Transaction.{tables_in, ReadsRows, EditsRows};
 ghost use Rattle.el_rows.specs.declared.table.Table.{Table};
 ghost use Rattle.el_tables.specs.ChainLists.{ListedBlock};
 ghost use Rattle.el_tables.specs.Connecting.{script_of_output};
@@ -12,41 +11,26 @@ ghost use Rattle.el_buckets.specs.Rows.{Hold};
 ghost use Rattle.el_connect.specs.within.Parts.{Reached, HasRoom, Overflows, TouchingOn, touch_coins};
 
 use crate::reading::{input_coin, script_number};
-use el_base::{Hash32, Steps};
+use el_base::Hash32;
 use el_chain::ConnectFault;
 use el_rows::{Rows, Table, Txn};
 use el_script::{touch, touch_number};
-use std::sync::ledger::Ledger;
 
 // The number of the script hash of the coin that the input of that number takes.
-fn coin_script<R: Rows, L: Ledger>(
-    t: &mut Txn<'_, R>,
-    n: u64,
-    steps: &mut Steps<L>,
-) -> Result<u64, ConnectFault>
+fn coin_script<R: Rows>(t: &mut Txn<'_, R>, n: u64) -> Result<u64, ConnectFault>
     requires live { R.is_live t.old.rows.now }
     ensures script { (counts : HeadCounts) (bs : List ListedBlock) (l : Lists) → R.tells
         → Hold counts bs l (tables_in t.old) → IfOk result (λ k. k ≡ script_at (get_or l.ins n 0) l.outs) }
-    ensures tables { tables_in t.new ≡ tables_in t.old }
     ensures fault { IfErr result (λ e. e ≡ ConnectFault.DiskFailed) }
-    ensures reads { OnlyReads t.old t.new }
-    ensures name { t.new.rows.ghost_name ≡ t.old.rows.ghost_name }
-    ensures ticked { steps.old ≤ steps.new }
-    ensures cause { CountsOnly (R.faults t.old.rows.now) (R.faults t.new.rows.now) ConnectFault.DiskFailed
-        result }
+    ensures read { ReadsRows ConnectFault.DiskFailed t.old t.new result }
 {
-    let coin = input_coin(t, n, steps)?;
-    script_number(t, coin, steps)
+    let coin = input_coin(t, n)?;
+    script_number(t, coin)
 }
 
 // The input of that number was made by the transaction of that number, which gets an entry with the script
 // hash of the coin.
-fn touch_coin<R: Rows, L: Ledger>(
-    t: &mut Txn<'_, R>,
-    n: u64,
-    by: u64,
-    steps: &mut Steps<L>,
-) -> Result<(), ConnectFault>
+fn touch_coin<R: Rows>(t: &mut Txn<'_, R>, n: u64, by: u64) -> Result<(), ConnectFault>
     requires live { R.is_live t.old.rows.now }
     requires by { by < 2 ^ 32 }
     ensures touched { (counts : HeadCounts) (bs : List ListedBlock) (l : Lists) (sum : ℕ) → R.tells
@@ -62,29 +46,24 @@ fn touch_coin<R: Rows, L: Ledger>(
         → IfErr result (λ e. (e ≡ ConnectFault.DiskFailed) ⊎ ((e ≡ ConnectFault.Memory)
         ⊎ Overflows (add_entry (script_of_output (get_or l.ins n 0) l) by l) e)) }
     ensures blocks { tables_in t.new Table.Blocks ≡ tables_in t.old Table.Blocks }
-    ensures reads { OnlyReads t.old t.new }
-    ensures name { t.new.rows.ghost_name ≡ t.old.rows.ghost_name }
-    ensures ticked { steps.old ≤ steps.new }
-    ensures cause { CountsOnly (R.faults t.old.rows.now) (R.faults t.new.rows.now) ConnectFault.DiskFailed
-        result }
+    ensures edits { EditsRows ConnectFault.DiskFailed t.old t.new result }
 {
-    let script = coin_script(t, n, steps)?;
+    let script = coin_script(t, n)?;
     if script < t.count(Table::Scripts) {
-        return touch_number(t, script, by, steps);
+        return touch_number(t, script, by);
     }
     // Lists that fit together then have no outputs, and the script hash of none is the zero hash.
-    touch(t, &Hash32([0; 32]), by, steps)?;
+    touch(t, &Hash32([0; 32]), by)?;
     Ok(())
 }
 
 // The transaction of that number gets an entry with the script hash of each coin that it took, in order: the
 // coins of the inputs from that number on, so many.
-pub(crate) fn touch_inputs<R: Rows, L: Ledger>(
+pub(crate) fn touch_inputs<R: Rows>(
     t: &mut Txn<'_, R>,
     first: u64,
     count: u64,
     by: u64,
-    steps: &mut Steps<L>,
 ) -> Result<(), ConnectFault>
     requires live { R.is_live t.old.rows.now }
     requires by { by < 2 ^ 32 }
@@ -101,14 +80,10 @@ pub(crate) fn touch_inputs<R: Rows, L: Ledger>(
         → IfErr result (λ e. (e ≡ ConnectFault.DiskFailed) ⊎ ((e ≡ ConnectFault.Memory)
         ⊎ Overflows (touch_coins by coins l) e)) }
     ensures blocks { tables_in t.new Table.Blocks ≡ tables_in t.old Table.Blocks }
-    ensures reads { OnlyReads t.old t.new }
-    ensures name { t.new.rows.ghost_name ≡ t.old.rows.ghost_name }
-    ensures ticked { steps.old ≤ steps.new }
-    ensures cause { CountsOnly (R.faults t.old.rows.now) (R.faults t.new.rows.now) ConnectFault.DiskFailed
-        result }
+    ensures edits { EditsRows ConnectFault.DiskFailed t.old t.new result }
 {
     for input in 0..count {
-        touch_coin(t, first + input, by, steps)?;
+        touch_coin(t, first + input, by)?;
     }
     Ok(())
 }

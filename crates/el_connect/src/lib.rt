@@ -14,8 +14,3 @@ mod scripts;
 mod transaction;
 
 pub use block::connect;
-
-#[cfg(test)]
-mod full_tests;
-#[cfg(test)]
-mod tests;

@@ -1,8 +1,7 @@
 // What all coins hold after a transaction, before its outputs are made.
 ghost use Rattle.std.specs.Prelude.{◌≡◌, ◌⊎◌, ◌<◌, ◌≤◌, ◌+◌, ◌^◌, ℕ, List, length, None, Some, OnOk, IfOk, IfErr, MatchResult};
 ghost use Rattle.el_chain.specs.Faults.{money_fault};
-ghost use Rattle.el_outside.specs.Counts.{CountsOnly};
-ghost use Rattle.el_rows.specs.Transaction.{tables_in, OnlyReads};
+ghost use Rattle.el_rows.specs.Transaction.{tables_in, ReadsRows};
 ghost use Rattle.el_tables.specs.ChainLists.{ListedBlock};
 ghost use Rattle.el_tables.specs.Connecting.{fund_all};
 ghost use Rattle.el_tables.specs.Lists.{Lists, unspent_sum};
@@ -13,12 +12,11 @@ ghost use Rattle.el_connect.specs.within.Parts.{IsSmall, OutsInTurn, values};
 ghost use Rattle.el_connect.specs.within.Full.{IsNext};
 
 use crate::held::coin_held;
-use el_base::{Hash32, Steps};
+use el_base::Hash32;
 use el_chain::ConnectFault;
 use el_prepare::PreparedTx;
 use el_rows::{Rows, Txn};
 use el_tx::{MAX_MONEY, Outpoint};
-use std::sync::ledger::Ledger;
 
 // The values of outputs together.
 fn total(outputs: &[(u64, Hash32)]) -> u64
@@ -46,13 +44,12 @@ fn check_money(sum: u64) -> Result<(), ConnectFault>
 
 // What all coins hold with the outputs of a transaction of that number and txid, where they hold that much
 // before: each output's value more, and less what the coin holds that it replaces. Nothing is added.
-fn sum_after<R: Rows, L: Ledger>(
+fn sum_after<R: Rows>(
     t: &mut Txn<'_, R>,
     txid: &Hash32,
     number: u64,
     outputs: &[(u64, Hash32)],
     left: u64,
-    steps: &mut Steps<L>,
 ) -> Result<u64, ConnectFault>
     requires live { R.is_live t.old.rows.now }
     requires few { length outputs.now < 2 ^ 32 }
@@ -60,13 +57,8 @@ fn sum_after<R: Rows, L: Ledger>(
         → Hold counts bs l (tables_in t.old) → 0 < counts.txs → OutsInTurn 0 l.txs (length l.outs)
         → IsNext l next number txid.now → left ≡ unspent_sum l.outs → left + values outputs.now < 2 ^ 64
         → IfOk result (λ after. after ≡ unspent_sum (fund_all number 0 outputs.now next).outs) }
-    ensures tables { tables_in t.new ≡ tables_in t.old }
     ensures fault { IfErr result (λ e. e ≡ ConnectFault.DiskFailed) }
-    ensures reads { OnlyReads t.old t.new }
-    ensures name { t.new.rows.ghost_name ≡ t.old.rows.ghost_name }
-    ensures ticked { steps.old ≤ steps.new }
-    ensures cause { CountsOnly (R.faults t.old.rows.now) (R.faults t.new.rows.now) ConnectFault.DiskFailed
-        result }
+    ensures read { ReadsRows ConnectFault.DiskFailed t.old t.new result }
 {
     let mut after = left;
     for (index, output) in outputs.iter().enumerate() {
@@ -74,7 +66,7 @@ fn sum_after<R: Rows, L: Ledger>(
             txid: *txid,
             index: index as u32,
         };
-        let gone = coin_held(t, &o, number, steps)?;
+        let gone = coin_held(t, &o, number)?;
         after = after.saturating_sub(gone).saturating_add(output.0);
     }
     Ok(after)
@@ -82,12 +74,11 @@ fn sum_after<R: Rows, L: Ledger>(
 
 // Refuses outputs with which all coins hold too much, where they hold that much before. What the outputs
 // replace is looked for only where it counts.
-pub(crate) fn check_outputs<R: Rows, L: Ledger>(
+pub(crate) fn check_outputs<R: Rows>(
     t: &mut Txn<'_, R>,
     tx: &PreparedTx,
     number: u64,
     left: u64,
-    steps: &mut Steps<L>,
 ) -> Result<(), ConnectFault>
     requires live { R.is_live t.old.rows.now }
     requires small { IsSmall tx.now }
@@ -100,19 +91,14 @@ pub(crate) fn check_outputs<R: Rows, L: Ledger>(
         → IsNext l next number tx.now.txid → left ≡ unspent_sum l.outs → left ≤ max_money
         → IfErr result (λ e. (e ≡ ConnectFault.DiskFailed)
         ⊎ (money_fault (unspent_sum (fund_all number 0 tx.now.outputs next).outs) ≡ Some e)) }
-    ensures tables { tables_in t.new ≡ tables_in t.old }
-    ensures reads { OnlyReads t.old t.new }
-    ensures name { t.new.rows.ghost_name ≡ t.old.rows.ghost_name }
-    ensures ticked { steps.old ≤ steps.new }
-    ensures cause { CountsOnly (R.faults t.old.rows.now) (R.faults t.new.rows.now) ConnectFault.DiskFailed
-        result }
+    ensures read { ReadsRows ConnectFault.DiskFailed t.old t.new result }
 {
     let outputs = tx.outputs.as_slice();
     let most = left.saturating_add(total(outputs));
     if most <= MAX_MONEY {
         return Ok(());
     }
-    let after = sum_after(t, &tx.txid, number, outputs, left, steps)?;
+    let after = sum_after(t, &tx.txid, number, outputs, left)?;
     check_money(after)?;
     Ok(())
 }

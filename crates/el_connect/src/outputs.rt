@@ -1,8 +1,7 @@
 // The outputs of a transaction.
 ghost use Rattle.std.specs.Prelude.{◌≡◌, ◌⊎◌, ◌<◌, ◌≤◌, ◌+◌, ◌^◌, ℕ, List, length, OnOk, IfOk, IfErr};
 ghost use Rattle.el_chain.specs.declared.limits.TheConstants.{ROW_LIMIT};
-ghost use Rattle.el_outside.specs.Counts.{CountsOnly};
-ghost use Rattle.el_rows.specs.Transaction.{tables_in, OnlyReads};
+ghost use Rattle.el_rows.specs.Transaction.{tables_in, ReadsRows, EditsRows};
 ghost use Rattle.el_rows.specs.declared.table.Table.{Table};
 ghost use Rattle.el_tables.specs.ChainLists.{ListedBlock};
 ghost use Rattle.el_tables.specs.Connecting.{fund, fund_all};
@@ -12,13 +11,12 @@ ghost use Rattle.el_buckets.specs.Rows.{Hold};
 ghost use Rattle.el_connect.specs.within.Parts.{Reached, HasRoom, IsMaker, Overflows, value_of, values};
 
 use crate::held::coin_held;
-use el_base::{Hash32, Steps};
+use el_base::Hash32;
 use el_chain::ConnectFault;
 use el_rows::{Rows, Table, Txn};
 use el_script::touch;
 use el_spend::add_out;
 use el_tx::Outpoint;
-use std::sync::ledger::Ledger;
 
 // A transaction that makes outputs.
 #[derive(Clone, Copy, Debug, PartialEq, Eq)]
@@ -33,23 +31,17 @@ pub(crate) struct Maker {
 
 // What the coin holds that the transaction's output with that index replaces, and 0 where it replaces none.
 // No row is read where no transaction before has the txid.
-fn value_replaced<R: Rows, L: Ledger>(
+fn value_replaced<R: Rows>(
     t: &mut Txn<'_, R>,
     maker: &Maker,
     index: u32,
-    steps: &mut Steps<L>,
 ) -> Result<u64, ConnectFault>
     requires live { R.is_live t.old.rows.now }
     ensures value { (counts : HeadCounts) (bs : List ListedBlock) (l : Lists) → R.tells
         → Hold counts bs l (tables_in t.old) → 0 < counts.txs → IsMaker maker.now l
         → IfOk result (λ value. value ≡ value_of (replaced maker.now.number index l) l.outs) }
-    ensures tables { tables_in t.new ≡ tables_in t.old }
     ensures fault { IfErr result (λ e. e ≡ ConnectFault.DiskFailed) }
-    ensures reads { OnlyReads t.old t.new }
-    ensures name { t.new.rows.ghost_name ≡ t.old.rows.ghost_name }
-    ensures ticked { steps.old ≤ steps.new }
-    ensures cause { CountsOnly (R.faults t.old.rows.now) (R.faults t.new.rows.now) ConnectFault.DiskFailed
-        result }
+    ensures read { ReadsRows ConnectFault.DiskFailed t.old t.new result }
 {
     if maker.older.is_none() {
         return Ok(0);
@@ -58,18 +50,17 @@ fn value_replaced<R: Rows, L: Ledger>(
         txid: maker.txid,
         index,
     };
-    coin_held(t, &o, maker.number, steps)
+    coin_held(t, &o, maker.number)
 }
 
 // The transaction makes an output with that index: its script hash has an entry, and it goes after the
 // others. It answers what all coins hold then.
-fn fund_output<R: Rows, L: Ledger>(
+fn fund_output<R: Rows>(
     t: &mut Txn<'_, R>,
     maker: &Maker,
     index: u32,
     output: &(u64, Hash32),
     sum: u64,
-    steps: &mut Steps<L>,
 ) -> Result<u64, ConnectFault>
     requires live { R.is_live t.old.rows.now }
     requires number { maker.now.number < 2 ^ 32 }
@@ -87,27 +78,22 @@ fn fund_output<R: Rows, L: Ledger>(
         → IfErr result (λ e. (e ≡ ConnectFault.DiskFailed) ⊎ ((e ≡ ConnectFault.Memory)
         ⊎ Overflows (fund maker.now.number index output.now l) e)) }
     ensures blocks { tables_in t.new Table.Blocks ≡ tables_in t.old Table.Blocks }
-    ensures reads { OnlyReads t.old t.new }
-    ensures name { t.new.rows.ghost_name ≡ t.old.rows.ghost_name }
-    ensures ticked { steps.old ≤ steps.new }
-    ensures cause { CountsOnly (R.faults t.old.rows.now) (R.faults t.new.rows.now) ConnectFault.DiskFailed
-        result }
+    ensures edits { EditsRows ConnectFault.DiskFailed t.old t.new result }
 {
     let (value, hash) = *output;
-    let script = touch(t, &hash, maker.number, steps)?;
-    let gone = value_replaced(t, maker, index, steps)?;
+    let script = touch(t, &hash, maker.number)?;
+    let gone = value_replaced(t, maker, index)?;
     prove!(script < t.count(Table::Scripts));
-    add_out(t, maker.number, index, value, script, steps)?;
+    add_out(t, maker.number, index, value, script)?;
     Ok(sum.saturating_sub(gone).saturating_add(value))
 }
 
 // The transaction makes these outputs, in order. It answers what all coins hold then.
-pub(crate) fn fund_outputs<R: Rows, L: Ledger>(
+pub(crate) fn fund_outputs<R: Rows>(
     t: &mut Txn<'_, R>,
     maker: &Maker,
     outputs: &[(u64, Hash32)],
     sum: u64,
-    steps: &mut Steps<L>,
 ) -> Result<u64, ConnectFault>
     requires live { R.is_live t.old.rows.now }
     requires number { maker.now.number < 2 ^ 32 }
@@ -128,15 +114,11 @@ pub(crate) fn fund_outputs<R: Rows, L: Ledger>(
         → IfErr result (λ e. (e ≡ ConnectFault.DiskFailed) ⊎ ((e ≡ ConnectFault.Memory)
         ⊎ Overflows (fund_all maker.now.number 0 outputs.now l) e)) }
     ensures blocks { tables_in t.new Table.Blocks ≡ tables_in t.old Table.Blocks }
-    ensures reads { OnlyReads t.old t.new }
-    ensures name { t.new.rows.ghost_name ≡ t.old.rows.ghost_name }
-    ensures ticked { steps.old ≤ steps.new }
-    ensures cause { CountsOnly (R.faults t.old.rows.now) (R.faults t.new.rows.now) ConnectFault.DiskFailed
-        result }
+    ensures edits { EditsRows ConnectFault.DiskFailed t.old t.new result }
 {
     let mut after = sum;
     for (index, output) in outputs.iter().enumerate() {
-        after = fund_output(t, maker, index as u32, output, after, steps)?;
+        after = fund_output(t, maker, index as u32, output, after)?;
     }
     Ok(after)
 }

@@ -1,8 +1,7 @@
 // Rows by their numbers.
 ghost use Rattle.std.specs.Prelude.{◌≡◌, ◌<◌, ◌≤◌, ℕ, List, [], ◌∷◌, ◌++◌, length, get_or, take, OnOk, IfOk, IfErr};
-ghost use Rattle.el_outside.specs.Counts.{CountsOnly};
 ghost use Rattle.el_rows.specs.Tables.{size_of};
-ghost use Rattle.el_rows.specs.Transaction.{tables_in, OnlyReads};
+ghost use Rattle.el_rows.specs.Transaction.{tables_in, ReadsRows};
 ghost use Rattle.el_rows.specs.declared.table.Table.{Table};
 ghost use Rattle.el_tables.specs.ChainLists.{ListedBlock};
 ghost use Rattle.el_tables.specs.Edits.{no_out};
@@ -10,157 +9,105 @@ ghost use Rattle.el_tables.specs.Lists.{Lists, script_at, newest_tx, txid_at};
 ghost use Rattle.el_tables.specs.Tables.{HeadCounts};
 ghost use Rattle.el_buckets.specs.Rows.{Hold};
 
-use el_base::Steps;
 use el_chain::ConnectFault;
 use el_outside::DiskFailed;
 use el_rows::{BlockRow, InRow, OutRow, Rows, Table, TxRow, Txn};
-use std::sync::ledger::Ledger;
 
 // Reads a row.
-fn read_row<R: Rows, L: Ledger>(
+fn read_row<R: Rows>(
     t: &mut Txn<'_, R>,
     table: Table,
     n: u64,
     buf: &mut [u8],
-    steps: &mut Steps<L>,
 ) -> Result<(), ConnectFault>
     requires live { R.is_live t.old.rows.now }
     requires below { n < length (tables_in t.old table) }
     requires sized { length buf.old ≡ size_of table }
     ensures row { R.tells → OnOk result (buf.new ≡ get_or (tables_in t.old table) n []) }
-    ensures tables { tables_in t.new ≡ tables_in t.old }
     ensures fault { IfErr result (λ e. e ≡ ConnectFault.DiskFailed) }
-    ensures reads { OnlyReads t.old t.new }
-    ensures name { t.new.rows.ghost_name ≡ t.old.rows.ghost_name }
-    ensures ticked { steps.old ≤ steps.new }
-    ensures cause { CountsOnly (R.faults t.old.rows.now) (R.faults t.new.rows.now) ConnectFault.DiskFailed
-        result }
+    ensures read { ReadsRows ConnectFault.DiskFailed t.old t.new result }
 {
-    match t.get(table, n, buf, steps) {
+    match t.get(table, n, buf) {
         Ok(()) => Ok(()),
         Err(DiskFailed) => Err(ConnectFault::DiskFailed),
     }
 }
 
 // The value of the output of that number.
-pub(crate) fn output_value<R: Rows, L: Ledger>(
-    t: &mut Txn<'_, R>,
-    k: u64,
-    steps: &mut Steps<L>,
-) -> Result<u64, ConnectFault>
+pub(crate) fn output_value<R: Rows>(t: &mut Txn<'_, R>, k: u64) -> Result<u64, ConnectFault>
     requires live { R.is_live t.old.rows.now }
     requires below { k < length (tables_in t.old Table.Outs) }
     ensures value { (counts : HeadCounts) (bs : List ListedBlock) (l : Lists) → R.tells
         → Hold counts bs l (tables_in t.old) → IfOk result (λ v. v ≡ (get_or l.outs k no_out).value) }
-    ensures tables { tables_in t.new ≡ tables_in t.old }
     ensures fault { IfErr result (λ e. e ≡ ConnectFault.DiskFailed) }
-    ensures reads { OnlyReads t.old t.new }
-    ensures name { t.new.rows.ghost_name ≡ t.old.rows.ghost_name }
-    ensures ticked { steps.old ≤ steps.new }
-    ensures cause { CountsOnly (R.faults t.old.rows.now) (R.faults t.new.rows.now) ConnectFault.DiskFailed
-        result }
+    ensures read { ReadsRows ConnectFault.DiskFailed t.old t.new result }
 {
     let mut bytes = [0; 21];
-    read_row(t, Table::Outs, k, &mut bytes, steps)?;
+    read_row(t, Table::Outs, k, &mut bytes)?;
     Ok(OutRow::read(&bytes).value)
 }
 
 // The number of the output that the input of that number takes; 0 where there is no such input.
-pub(crate) fn input_coin<R: Rows, L: Ledger>(
-    t: &mut Txn<'_, R>,
-    n: u64,
-    steps: &mut Steps<L>,
-) -> Result<u64, ConnectFault>
+pub(crate) fn input_coin<R: Rows>(t: &mut Txn<'_, R>, n: u64) -> Result<u64, ConnectFault>
     requires live { R.is_live t.old.rows.now }
     ensures coin { (counts : HeadCounts) (bs : List ListedBlock) (l : Lists) → R.tells
         → Hold counts bs l (tables_in t.old) → IfOk result (λ k. k ≡ get_or l.ins n 0) }
-    ensures tables { tables_in t.new ≡ tables_in t.old }
     ensures fault { IfErr result (λ e. e ≡ ConnectFault.DiskFailed) }
-    ensures reads { OnlyReads t.old t.new }
-    ensures name { t.new.rows.ghost_name ≡ t.old.rows.ghost_name }
-    ensures ticked { steps.old ≤ steps.new }
-    ensures cause { CountsOnly (R.faults t.old.rows.now) (R.faults t.new.rows.now) ConnectFault.DiskFailed
-        result }
+    ensures read { ReadsRows ConnectFault.DiskFailed t.old t.new result }
 {
     if n >= t.count(Table::Ins) {
         return Ok(0);
     }
     let mut bytes = [0; 4];
-    read_row(t, Table::Ins, n, &mut bytes, steps)?;
+    read_row(t, Table::Ins, n, &mut bytes)?;
     Ok(InRow::read(&bytes).out)
 }
 
 // The number of the script hash of the output of that number; 0 where there is no such output.
-pub(crate) fn script_number<R: Rows, L: Ledger>(
-    t: &mut Txn<'_, R>,
-    k: u64,
-    steps: &mut Steps<L>,
-) -> Result<u64, ConnectFault>
+pub(crate) fn script_number<R: Rows>(t: &mut Txn<'_, R>, k: u64) -> Result<u64, ConnectFault>
     requires live { R.is_live t.old.rows.now }
     ensures script { (counts : HeadCounts) (bs : List ListedBlock) (l : Lists) → R.tells
         → Hold counts bs l (tables_in t.old) → IfOk result (λ n. n ≡ script_at k l.outs) }
-    ensures tables { tables_in t.new ≡ tables_in t.old }
     ensures fault { IfErr result (λ e. e ≡ ConnectFault.DiskFailed) }
-    ensures reads { OnlyReads t.old t.new }
-    ensures name { t.new.rows.ghost_name ≡ t.old.rows.ghost_name }
-    ensures ticked { steps.old ≤ steps.new }
-    ensures cause { CountsOnly (R.faults t.old.rows.now) (R.faults t.new.rows.now) ConnectFault.DiskFailed
-        result }
+    ensures read { ReadsRows ConnectFault.DiskFailed t.old t.new result }
 {
     if k >= t.count(Table::Outs) {
         return Ok(0);
     }
     let mut bytes = [0; 21];
-    read_row(t, Table::Outs, k, &mut bytes, steps)?;
+    read_row(t, Table::Outs, k, &mut bytes)?;
     Ok(OutRow::read(&bytes).script)
 }
 
 // The newest transaction with the same txid before that of that number.
-pub(crate) fn older_tx<R: Rows, L: Ledger>(
-    t: &mut Txn<'_, R>,
-    n: u64,
-    steps: &mut Steps<L>,
-) -> Result<Option<u64>, ConnectFault>
+pub(crate) fn older_tx<R: Rows>(t: &mut Txn<'_, R>, n: u64) -> Result<Option<u64>, ConnectFault>
     requires live { R.is_live t.old.rows.now }
     requires below { n < length (tables_in t.old Table.Txs) }
     ensures older { (counts : HeadCounts) (bs : List ListedBlock) (l : Lists) → R.tells
         → Hold counts bs l (tables_in t.old)
         → IfOk result (λ older. older ≡ newest_tx (txid_at n l.txs) (take n l.txs)) }
-    ensures tables { tables_in t.new ≡ tables_in t.old }
     ensures fault { IfErr result (λ e. e ≡ ConnectFault.DiskFailed) }
-    ensures reads { OnlyReads t.old t.new }
-    ensures name { t.new.rows.ghost_name ≡ t.old.rows.ghost_name }
-    ensures ticked { steps.old ≤ steps.new }
-    ensures cause { CountsOnly (R.faults t.old.rows.now) (R.faults t.new.rows.now) ConnectFault.DiskFailed
-        result }
+    ensures read { ReadsRows ConnectFault.DiskFailed t.old t.new result }
 {
     let mut bytes = [0; 68];
-    read_row(t, Table::Txs, n, &mut bytes, steps)?;
+    read_row(t, Table::Txs, n, &mut bytes)?;
     Ok(TxRow::read(&bytes).older)
 }
 
 // What all coins hold after the last block, and 0 where there is none.
-pub(crate) fn last_sum<R: Rows, L: Ledger>(
-    t: &mut Txn<'_, R>,
-    steps: &mut Steps<L>,
-) -> Result<u64, ConnectFault>
+pub(crate) fn last_sum<R: Rows>(t: &mut Txn<'_, R>) -> Result<u64, ConnectFault>
     requires live { R.is_live t.old.rows.now }
     ensures none { length (tables_in t.old Table.Blocks) ≡ 0 → IfOk result (λ sum. sum ≡ 0) }
     ensures sum { (counts : HeadCounts) (bs : List ListedBlock) (b : ListedBlock) (l : Lists) → R.tells
         → Hold counts (bs ++ b ∷ []) l (tables_in t.old) → IfOk result (λ sum. sum ≡ b.sum) }
-    ensures tables { tables_in t.new ≡ tables_in t.old }
     ensures fault { IfErr result (λ e. e ≡ ConnectFault.DiskFailed) }
-    ensures reads { OnlyReads t.old t.new }
-    ensures name { t.new.rows.ghost_name ≡ t.old.rows.ghost_name }
-    ensures ticked { steps.old ≤ steps.new }
-    ensures cause { CountsOnly (R.faults t.old.rows.now) (R.faults t.new.rows.now) ConnectFault.DiskFailed
-        result }
+    ensures read { ReadsRows ConnectFault.DiskFailed t.old t.new result }
 {
     let count = t.count(Table::Blocks);
     if count == 0 {
         return Ok(0);
     }
     let mut bytes = [0; 112];
-    read_row(t, Table::Blocks, count - 1, &mut bytes, steps)?;
+    read_row(t, Table::Blocks, count - 1, &mut bytes)?;
     Ok(BlockRow::read(&bytes).sum)
 }

@@ -2,8 +2,7 @@
 ghost use Rattle.std.specs.Prelude.{◌≡◌, ◌⊎◌, ◌<◌, ◌≤◌, ◌+◌, ◌^◌, ℕ, List, length, OnOk, IfOk, IfErr};
 ghost use Rattle.el_chain.specs.RowCounts.{has_script, add_script, add_scripts};
 ghost use Rattle.el_chain.specs.declared.limits.TheConstants.{ROW_LIMIT};
-ghost use Rattle.el_outside.specs.Counts.{CountsOnly};
-ghost use Rattle.el_rows.specs.Transaction.{tables_in, OnlyReads};
+ghost use Rattle.el_rows.specs.Transaction.{tables_in, ReadsRows};
 ghost use Rattle.el_tables.specs.ChainLists.{ListedBlock};
 ghost use Rattle.el_tables.specs.Fits.{Fits};
 ghost use Rattle.el_tables.specs.Lists.{Lists};
@@ -12,11 +11,10 @@ ghost use Rattle.el_buckets.specs.Rows.{Hold};
 ghost use Rattle.el_connect.specs.within.Parts.{scripts_of};
 
 use crate::room::check_table;
-use el_base::{Hash32, Steps};
+use el_base::Hash32;
 use el_chain::{ConnectFault, ROW_LIMIT};
 use el_rows::{Rows, Table, Txn};
 use el_script::find_script;
-use std::sync::ledger::Ledger;
 
 // Whether one of the outputs has that script hash.
 fn is_among(outputs: &[(u64, Hash32)], hash: &Hash32) -> bool
@@ -32,11 +30,10 @@ fn is_among(outputs: &[(u64, Hash32)], hash: &Hash32) -> bool
 
 // How many rows an output with that script hash needs in the table of script hashes, after these: one where
 // the script hash isn't there and none of these has it, and else none.
-fn rows_for<R: Rows, L: Ledger>(
+fn rows_for<R: Rows>(
     t: &mut Txn<'_, R>,
     before: &[(u64, Hash32)],
     hash: &Hash32,
-    steps: &mut Steps<L>,
 ) -> Result<u64, ConnectFault>
     requires live { R.is_live t.old.rows.now }
     ensures rows { (counts : HeadCounts) (bs : List ListedBlock) (l : Lists) → R.tells
@@ -44,18 +41,13 @@ fn rows_for<R: Rows, L: Ledger>(
         → IfOk result (λ n. length (add_scripts l.scripts (scripts_of before.now)) + n
         ≡ length (add_script hash.now (add_scripts l.scripts (scripts_of before.now)))) }
     ensures few { IfOk result (λ n. n ≤ 1) }
-    ensures tables { tables_in t.new ≡ tables_in t.old }
     ensures fault { IfErr result (λ e. e ≡ ConnectFault.DiskFailed) }
-    ensures reads { OnlyReads t.old t.new }
-    ensures name { t.new.rows.ghost_name ≡ t.old.rows.ghost_name }
-    ensures ticked { steps.old ≤ steps.new }
-    ensures cause { CountsOnly (R.faults t.old.rows.now) (R.faults t.new.rows.now) ConnectFault.DiskFailed
-        result }
+    ensures read { ReadsRows ConnectFault.DiskFailed t.old t.new result }
 {
     if is_among(before, hash) {
         return Ok(0);
     }
-    let Ok(found) = find_script(t, hash, steps) else {
+    let Ok(found) = find_script(t, hash) else {
         return Err(ConnectFault::DiskFailed);
     };
     match found {
@@ -65,11 +57,7 @@ fn rows_for<R: Rows, L: Ledger>(
 }
 
 // How many rows the outputs need in the table of script hashes: each that isn't there counts once.
-fn new_scripts<R: Rows, L: Ledger>(
-    t: &mut Txn<'_, R>,
-    outputs: &[(u64, Hash32)],
-    steps: &mut Steps<L>,
-) -> Result<u64, ConnectFault>
+fn new_scripts<R: Rows>(t: &mut Txn<'_, R>, outputs: &[(u64, Hash32)]) -> Result<u64, ConnectFault>
     requires live { R.is_live t.old.rows.now }
     requires few { length outputs.now < 2 ^ 32 }
     ensures new { (counts : HeadCounts) (bs : List ListedBlock) (l : Lists) → R.tells
@@ -77,27 +65,21 @@ fn new_scripts<R: Rows, L: Ledger>(
         → IfOk result (λ new. length l.scripts + new
         ≡ length (add_scripts l.scripts (scripts_of outputs.now))) }
     ensures few { IfOk result (λ new. new ≤ length outputs.now) }
-    ensures tables { tables_in t.new ≡ tables_in t.old }
     ensures fault { IfErr result (λ e. e ≡ ConnectFault.DiskFailed) }
-    ensures reads { OnlyReads t.old t.new }
-    ensures name { t.new.rows.ghost_name ≡ t.old.rows.ghost_name }
-    ensures ticked { steps.old ≤ steps.new }
-    ensures cause { CountsOnly (R.faults t.old.rows.now) (R.faults t.new.rows.now) ConnectFault.DiskFailed
-        result }
+    ensures read { ReadsRows ConnectFault.DiskFailed t.old t.new result }
 {
     let mut new = 0;
     for (index, output) in outputs.iter().enumerate() {
-        new += rows_for(t, &outputs[..index], &output.1, steps)?;
+        new += rows_for(t, &outputs[..index], &output.1)?;
     }
     Ok(new)
 }
 
 // Refuses outputs for whose script hashes their table has no room. Where it has room for as many as there are
 // outputs, no row is read.
-pub(crate) fn check_scripts<R: Rows, L: Ledger>(
+pub(crate) fn check_scripts<R: Rows>(
     t: &mut Txn<'_, R>,
     outputs: &[(u64, Hash32)],
-    steps: &mut Steps<L>,
 ) -> Result<(), ConnectFault>
     requires live { R.is_live t.old.rows.now }
     requires few { length outputs.now < 2 ^ 32 }
@@ -108,18 +90,13 @@ pub(crate) fn check_scripts<R: Rows, L: Ledger>(
         → Hold counts bs l (tables_in t.old) → Fits l → 0 < counts.scripts
         → IfErr result (λ e. (e ≡ ConnectFault.DiskFailed) ⊎ ((e ≡ ConnectFault.Full 6 ROW_LIMIT)
         × (ROW_LIMIT < length (add_scripts l.scripts (scripts_of outputs.now))))) }
-    ensures tables { tables_in t.new ≡ tables_in t.old }
-    ensures reads { OnlyReads t.old t.new }
-    ensures name { t.new.rows.ghost_name ≡ t.old.rows.ghost_name }
-    ensures ticked { steps.old ≤ steps.new }
-    ensures cause { CountsOnly (R.faults t.old.rows.now) (R.faults t.new.rows.now) ConnectFault.DiskFailed
-        result }
+    ensures read { ReadsRows ConnectFault.DiskFailed t.old t.new result }
 {
     let count = t.count(Table::Scripts);
     if count + outputs.len() as u64 <= u64::from(ROW_LIMIT) {
         return Ok(());
     }
-    let new = new_scripts(t, outputs, steps)?;
+    let new = new_scripts(t, outputs)?;
     check_table(Table::Scripts, count + new)?;
     Ok(())
 }

@@ -2,8 +2,7 @@
 ghost use Rattle.std.specs.Prelude.{◌≡◌, ◌⊎◌, ◌<◌, ◌≤◌, ◌+◌, ◌^◌, ℕ, List, length, Ok, Err, OnOk, IfOk, IfErr};
 ghost use Rattle.std.specs.List.{AllByRecursion};
 ghost use Rattle.el_chain.specs.declared.limits.TheConstants.{ROW_LIMIT};
-ghost use Rattle.el_outside.specs.Counts.{CountsOnly};
-ghost use Rattle.el_rows.specs.Transaction.{tables_in, OnlyReads};
+ghost use Rattle.el_rows.specs.Transaction.{tables_in, EditsRows};
 ghost use Rattle.el_rows.specs.declared.table.Table.{Table};
 ghost use Rattle.el_tables.specs.ChainLists.{ListedBlock};
 ghost use Rattle.el_tables.specs.Connecting.{listed_after};
@@ -19,12 +18,11 @@ use crate::inputs::touch_inputs;
 use crate::outputs::{Maker, fund_outputs};
 use crate::reading::older_tx;
 use crate::room::check_counted;
-use el_base::{Hash32, Steps};
+use el_base::Hash32;
 use el_chain::ConnectFault;
 use el_position::add_tx;
 use el_prepare::PreparedTx;
 use el_rows::{Rows, Table, TxRow, Txn};
-use std::sync::ledger::Ledger;
 
 // The row of a transaction of a block of that height, with the numbers of its first output and its first
 // input. Its links are left open.
@@ -52,12 +50,11 @@ fn row_of(tx: &PreparedTx, height: u32, first_out: u64, first_in: u64) -> TxRow
 
 // A transaction with that row is listed, and then it makes these outputs. It answers what all coins hold
 // then.
-fn make_outputs<R: Rows, L: Ledger>(
+fn make_outputs<R: Rows>(
     t: &mut Txn<'_, R>,
     row: &TxRow,
     outputs: &[(u64, Hash32)],
     left: u64,
-    steps: &mut Steps<L>,
 ) -> Result<u64, ConnectFault>
     requires live { R.is_live t.old.rows.now }
     requires fits { FitsTxRow row.now }
@@ -78,33 +75,28 @@ fn make_outputs<R: Rows, L: Ledger>(
         → IfErr result (λ e. (e ≡ ConnectFault.DiskFailed) ⊎ ((e ≡ ConnectFault.Memory)
         ⊎ Overflows (made_by (listed_tx row.now) outputs.now l) e)) }
     ensures blocks { tables_in t.new Table.Blocks ≡ tables_in t.old Table.Blocks }
-    ensures reads { OnlyReads t.old t.new }
-    ensures name { t.new.rows.ghost_name ≡ t.old.rows.ghost_name }
-    ensures ticked { steps.old ≤ steps.new }
-    ensures cause { CountsOnly (R.faults t.old.rows.now) (R.faults t.new.rows.now) ConnectFault.DiskFailed
-        result }
+    ensures edits { EditsRows ConnectFault.DiskFailed t.old t.new result }
 {
-    let number = add_tx(t, row, steps)?;
-    let older = older_tx(t, number, steps)?;
+    let number = add_tx(t, row)?;
+    let older = older_tx(t, number)?;
     let maker = Maker {
         number,
         txid: row.txid,
         older,
     };
-    fund_outputs(t, &maker, outputs, left, steps)
+    fund_outputs(t, &maker, outputs, left)
 }
 
 // Connects a transaction of a block of that height, and with that index in it, or tells its first fault,
 // where the tables of blocks, transactions, outputs and inputs have room for it: it spends, its coins' script
 // hashes get their entries, it is listed, and then it makes its outputs. So a full table of entries is told
 // where no other fault is left. It answers what all coins hold after it.
-fn put_tx<R: Rows, L: Ledger>(
+fn put_tx<R: Rows>(
     t: &mut Txn<'_, R>,
     height: u32,
     index: usize,
     tx: &PreparedTx,
     sum: u64,
-    steps: &mut Steps<L>,
 ) -> Result<u64, ConnectFault>
     requires live { R.is_live t.old.rows.now }
     requires small { IsSmall tx.now }
@@ -119,29 +111,24 @@ fn put_tx<R: Rows, L: Ledger>(
         → IfErr result (λ e. (e ≡ ConnectFault.DiskFailed) ⊎ ((e ≡ ConnectFault.Memory)
         ⊎ (connect_next height index tx.now l ≡ Err e))) }
     ensures blocks { tables_in t.new Table.Blocks ≡ tables_in t.old Table.Blocks }
-    ensures reads { OnlyReads t.old t.new }
-    ensures name { t.new.rows.ghost_name ≡ t.old.rows.ghost_name }
-    ensures ticked { steps.old ≤ steps.new }
-    ensures cause { CountsOnly (R.faults t.old.rows.now) (R.faults t.new.rows.now) ConnectFault.DiskFailed
-        result }
+    ensures edits { EditsRows ConnectFault.DiskFailed t.old t.new result }
 {
     let first_in = t.count(Table::Ins);
     let row = row_of(tx, height, t.count(Table::Outs), first_in);
     let by = t.count(Table::Txs);
-    let left = take_inputs(t, index, tx, sum, steps)?;
-    touch_inputs(t, first_in, tx.inputs.len() as u64, by, steps)?;
-    make_outputs(t, &row, tx.outputs.as_slice(), left, steps)
+    let left = take_inputs(t, index, tx, sum)?;
+    touch_inputs(t, first_in, tx.inputs.len() as u64, by)?;
+    make_outputs(t, &row, tx.outputs.as_slice(), left)
 }
 
 // Connects a transaction of a block of that height, and with that index in it, or tells its first fault. It
 // answers what all coins hold after it.
-fn connect_tx<R: Rows, L: Ledger>(
+fn connect_tx<R: Rows>(
     t: &mut Txn<'_, R>,
     height: u32,
     index: usize,
     tx: &PreparedTx,
     sum: u64,
-    steps: &mut Steps<L>,
 ) -> Result<u64, ConnectFault>
     requires live { R.is_live t.old.rows.now }
     requires small { IsSmall tx.now }
@@ -154,16 +141,12 @@ fn connect_tx<R: Rows, L: Ledger>(
         → IfErr result (λ e. (e ≡ ConnectFault.DiskFailed) ⊎ ((e ≡ ConnectFault.Memory)
         ⊎ (connect_next height index tx.now l ≡ Err e))) }
     ensures blocks { tables_in t.new Table.Blocks ≡ tables_in t.old Table.Blocks }
-    ensures reads { OnlyReads t.old t.new }
-    ensures name { t.new.rows.ghost_name ≡ t.old.rows.ghost_name }
-    ensures ticked { steps.old ≤ steps.new }
-    ensures cause { CountsOnly (R.faults t.old.rows.now) (R.faults t.new.rows.now) ConnectFault.DiskFailed
-        result }
+    ensures edits { EditsRows ConnectFault.DiskFailed t.old t.new result }
 {
     match check_counted(t, height, tx) {
-        Ok(()) => put_tx(t, height, index, tx, sum, steps),
+        Ok(()) => put_tx(t, height, index, tx, sum),
         Err(full) => {
-            check_coins(t, index, tx, sum, steps)?;
+            check_coins(t, index, tx, sum)?;
             Err(full)
         }
     }
@@ -171,12 +154,11 @@ fn connect_tx<R: Rows, L: Ledger>(
 
 // Connects the transactions of a block of that height, in order, or tells the first fault of the first that
 // has one. It answers what all coins hold after them.
-pub(crate) fn connect_txs<R: Rows, L: Ledger>(
+pub(crate) fn connect_txs<R: Rows>(
     t: &mut Txn<'_, R>,
     height: u32,
     txs: &[PreparedTx],
     sum: u64,
-    steps: &mut Steps<L>,
 ) -> Result<u64, ConnectFault>
     requires live { R.is_live t.old.rows.now }
     requires small { AllByRecursion IsSmall txs.now }
@@ -189,15 +171,11 @@ pub(crate) fn connect_txs<R: Rows, L: Ledger>(
         → IfErr result (λ e. (e ≡ ConnectFault.DiskFailed) ⊎ ((e ≡ ConnectFault.Memory)
         ⊎ (connect_all height 0 txs.now l ≡ Err e))) }
     ensures blocks { tables_in t.new Table.Blocks ≡ tables_in t.old Table.Blocks }
-    ensures reads { OnlyReads t.old t.new }
-    ensures name { t.new.rows.ghost_name ≡ t.old.rows.ghost_name }
-    ensures ticked { steps.old ≤ steps.new }
-    ensures cause { CountsOnly (R.faults t.old.rows.now) (R.faults t.new.rows.now) ConnectFault.DiskFailed
-        result }
+    ensures edits { EditsRows ConnectFault.DiskFailed t.old t.new result }
 {
     let mut after = sum;
     for (index, tx) in txs.iter().enumerate() {
-        after = connect_tx(t, height, index, tx, after, steps)?;
+        after = connect_tx(t, height, index, tx, after)?;
     }
     Ok(after)
 }

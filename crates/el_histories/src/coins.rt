@@ -1,10 +1,9 @@
 // The coins of a script hash.
 ghost use Rattle.std.specs.Prelude.{◌≡◌, ◌<◌, ◌≤◌, ◌+◌, ◌*◌, ◌++◌, ℕ, List, length, filter, reverse, flat_map, slice_get, sum_by, OnOk, IfOk};
-ghost use Rattle.el_outside.specs.Counts.{CountsOnly};
 ghost use Rattle.el_chain.specs.Chains.{Chain};
 ghost use Rattle.el_chain.specs.History.{history};
 ghost use Rattle.el_model.specs.Queries as asked;
-ghost use Rattle.el_rows.specs.Transaction.{tables_in, OnlyReads};
+ghost use Rattle.el_rows.specs.Transaction.{tables_in, reads_in, ReadsRows};
 ghost use Rattle.el_tables.specs.ChainLists.{ListedBlock};
 ghost use Rattle.el_tables.specs.Fits.{Fits};
 ghost use Rattle.el_tables.specs.Lists.{ListedOut, ListedEntry, Lists, script_number, is_of_script};
@@ -17,14 +16,13 @@ ghost use Rattle.el_histories.specs.within.Found.{HasHeads, own_coin, coins_made
 
 use crate::finding::{FoundScript, found_script};
 use crate::reading::{entry_row, out_row, tx_row};
-use el_base::{Hash32, OutOfMemory, Steps};
+use el_base::{Hash32, OutOfMemory};
 use el_buckets::if_below;
 use el_chain::Coin;
 use el_model::QueryFault;
 use el_rows::{OutRow, Rows, State, Table, TxRow, Txn};
 use el_tx::Outpoint;
 use std::alloc::Global;
-use std::sync::ledger::Ledger;
 
 // Adds the output of the transaction with that index as a coin, if it is the script's and unspent.
 fn push_coin(
@@ -57,46 +55,40 @@ fn push_coin(
 
 // Adds the script's coins among the outputs of the transaction of that number, the last first. Of one that
 // isn't there there are none, and outputs end where their table does.
-fn push_coins<R: Rows, L: Ledger>(
+fn push_coins<R: Rows>(
     t: &mut Txn<'_, R>,
     found: &mut Vec<Coin>,
     script: &FoundScript,
     tx: u64,
-    steps: &mut Steps<L>,
 ) -> Result<(), QueryFault>
     requires live { R.is_live t.old.rows.now }
     ensures pushed { (counts : HeadCounts) (bs : List ListedBlock) (l : Lists) → R.tells
         → Hold counts bs l (tables_in t.old)
         → OnOk result (found.new.items ≡ found.old.items ++ reverse
         (coins_made_by script.now.number script.now.row.script l.outs (slice_get l.txs tx))) }
-    ensures tick { (counts : HeadCounts) (bs : List ListedBlock) (l : Lists) → R.tells
-        → Hold counts bs l (tables_in t.old) → steps.new ≤ steps.old + (1 + outs_at tx l.txs) }
-    ensures tables { tables_in t.new ≡ tables_in t.old }
-    ensures reads { OnlyReads t.old t.new }
-    ensures name { t.new.rows.ghost_name ≡ t.old.rows.ghost_name }
-    ensures ticked { steps.old ≤ steps.new }
-    ensures cause { CountsOnly (R.faults t.old.rows.now) (R.faults t.new.rows.now) QueryFault.DiskFailed
-        result }
+    ensures rows { (counts : HeadCounts) (bs : List ListedBlock) (l : Lists) → R.tells
+        → Hold counts bs l (tables_in t.old)
+        → reads_in t.new ≤ reads_in t.old + (1 + outs_at tx l.txs) }
+    ensures read { ReadsRows QueryFault.DiskFailed t.old t.new result }
 {
     if tx >= t.count(Table::Txs) {
         return Ok(());
     }
-    let row = tx_row(t, tx, steps)?;
+    let row = tx_row(t, tx)?;
     let left = t.count(Table::Outs).saturating_sub(row.first_out);
     let count = u64::from(row.outs).min(left);
     for index in (0..count).rev() {
-        let output = out_row(t, row.first_out + index, steps)?;
+        let output = out_row(t, row.first_out + index)?;
         push_coin(found, script, &row, index as u32, &output)?;
     }
     Ok(())
 }
 
 // The coins of a script hash, the newest first. A link that isn't below its own row is none.
-fn newest_first<R: Rows, L: Ledger>(
+fn newest_first<R: Rows>(
     alloc: Global,
     t: &mut Txn<'_, R>,
     script_hash: &Hash32,
-    steps: &mut Steps<L>,
 ) -> Result<Vec<Coin>, QueryFault>
     requires live { R.is_live t.old.rows.now }
     ensures found { (counts : HeadCounts) (bs : List ListedBlock) (l : Lists) → R.tells
@@ -105,26 +97,22 @@ fn newest_first<R: Rows, L: Ledger>(
         (λ (e : ListedEntry). coins_made_by (script_number script_hash.now l.scripts) script_hash.now l.outs
         (slice_get l.txs e.tx))
         (filter (is_of_script (script_number script_hash.now l.scripts)) l.entries)) }
-    ensures steps { (counts : HeadCounts) (bs : List ListedBlock) (l : Lists) → R.tells
+    ensures rows { (counts : HeadCounts) (bs : List ListedBlock) (l : Lists) → R.tells
         → Hold counts bs l (tables_in t.old) → HasHeads counts l → Fits l
-        → steps.new ≤ steps.old + (1 + bucket_size counts.scripts script_hash.now l.scripts
+        → reads_in t.new ≤ reads_in t.old
+        + (1 + bucket_size counts.scripts script_hash.now l.scripts
         + sum_by (coin_rows l.txs)
         (filter (is_of_script (script_number script_hash.now l.scripts)) l.entries)) }
-    ensures tables { tables_in t.new ≡ tables_in t.old }
-    ensures reads { OnlyReads t.old t.new }
-    ensures name { t.new.rows.ghost_name ≡ t.old.rows.ghost_name }
-    ensures ticked { steps.old ≤ steps.new }
-    ensures cause { CountsOnly (R.faults t.old.rows.now) (R.faults t.new.rows.now) QueryFault.DiskFailed
-        result }
+    ensures read { ReadsRows QueryFault.DiskFailed t.old t.new result }
 {
     let mut found = Vec::new(alloc);
-    let Some(script) = found_script(t, script_hash, steps)? else {
+    let Some(script) = found_script(t, script_hash)? else {
         return Ok(found);
     };
     let mut link = if_below(script.row.last, t.count(Table::Entries));
     while let Some(n) = link {
-        let entry = entry_row(t, n, steps)?;
-        push_coins(t, &mut found, &script, entry.tx, steps)?;
+        let entry = entry_row(t, n)?;
+        push_coins(t, &mut found, &script, entry.tx)?;
         link = if_below(entry.before, n);
     }
     Ok(found)
@@ -136,11 +124,10 @@ fn newest_first<R: Rows, L: Ledger>(
 /// # Errors
 ///
 /// `DiskFailed` exactly where the device failed, and `Memory` for want of memory.
-pub fn unspent<R: Rows, L: Ledger>(
+pub fn unspent<R: Rows>(
     alloc: Global,
     t: &mut Txn<'_, R>,
     script_hash: &Hash32,
-    steps: &mut Steps<L>,
 ) -> Result<Vec<Coin>, QueryFault>
     requires live { R.is_live t.old.rows.now }
     ensures unspent { (chain : Chain) → R.tells → StandFor (tables_in t.old) chain
@@ -148,17 +135,13 @@ pub fn unspent<R: Rows, L: Ledger>(
     // It reads one head, rows of scripts in the hash's bucket alone, for each entry two rows, and the outputs
     // of the entries' transactions.
     ensures rows { (chain : Chain) → R.tells → StandFor (tables_in t.old) chain
-        → steps.new ≤ steps.old + (1 + asked.scripts_in_bucket chain 65536 script_hash.now.0
+        → reads_in t.new ≤ reads_in t.old
+        + (1 + asked.scripts_in_bucket chain 65536 script_hash.now.0
         + 2 * length (history chain script_hash.now.0)
         + asked.outputs_of_history chain script_hash.now.0) }
-    ensures tables { tables_in t.new ≡ tables_in t.old }
-    ensures reads { OnlyReads t.old t.new }
-    ensures name { t.new.rows.ghost_name ≡ t.old.rows.ghost_name }
-    ensures ticked { steps.old ≤ steps.new }
-    ensures cause { CountsOnly (R.faults t.old.rows.now) (R.faults t.new.rows.now) QueryFault.DiskFailed
-        result }
+    ensures read { ReadsRows QueryFault.DiskFailed t.old t.new result }
 {
-    let mut found = newest_first(alloc, t, script_hash, steps)?;
+    let mut found = newest_first(alloc, t, script_hash)?;
     found.reverse();
     Ok(found)
 }

@@ -1,10 +1,9 @@
 // The history of a script hash.
 ghost use Rattle.std.specs.Prelude.{◌≡◌, ◌<◌, ◌≤◌, ◌+◌, ◌*◌, ◌++◌, ◌⊎◌, ℕ, List, length, filter, reverse, flat_map, sum_by, OnOk, IfOk, IfErr};
-ghost use Rattle.el_outside.specs.Counts.{CountsOnly};
 ghost use Rattle.el_chain.specs.Chains.{Chain};
 ghost use Rattle.el_chain.specs.History as spec;
 ghost use Rattle.el_model.specs.Queries as asked;
-ghost use Rattle.el_rows.specs.Transaction.{tables_in, OnlyReads};
+ghost use Rattle.el_rows.specs.Transaction.{tables_in, reads_in, ReadsRows};
 ghost use Rattle.el_tables.specs.ChainLists.{ListedBlock};
 ghost use Rattle.el_tables.specs.Fits.{Fits};
 ghost use Rattle.el_tables.specs.Lists.{ListedEntry, Lists, script_number, is_of_script};
@@ -16,37 +15,30 @@ ghost use Rattle.el_histories.specs.within.Found.{HasHeads, shown_tx, entry_rows
 
 use crate::finding::found_script;
 use crate::reading::{entry_row, tx_row};
-use el_base::{Hash32, Steps};
+use el_base::Hash32;
 use el_buckets::if_below;
 use el_chain::Entry;
 use el_model::QueryFault;
 use el_rows::{Rows, Table, Txn};
 use std::alloc::Global;
-use std::sync::ledger::Ledger;
 
 // Adds what a history shows of the transaction of that number, if it is there.
-fn push_entry<R: Rows, L: Ledger>(
+fn push_entry<R: Rows>(
     t: &mut Txn<'_, R>,
     found: &mut Vec<Entry>,
     tx: u64,
-    steps: &mut Steps<L>,
 ) -> Result<(), QueryFault>
     requires live { R.is_live t.old.rows.now }
     ensures pushed { (counts : HeadCounts) (bs : List ListedBlock) (l : Lists) → R.tells
         → Hold counts bs l (tables_in t.old)
         → OnOk result (found.new.items ≡ found.old.items ++ shown_tx l.txs tx) }
-    ensures tables { tables_in t.new ≡ tables_in t.old }
-    ensures reads { OnlyReads t.old t.new }
-    ensures name { t.new.rows.ghost_name ≡ t.old.rows.ghost_name }
-    ensures ticked { steps.old ≤ steps.new }
-    ensures tick { steps.new ≤ steps.old + 1 }
-    ensures cause { CountsOnly (R.faults t.old.rows.now) (R.faults t.new.rows.now) QueryFault.DiskFailed
-        result }
+    ensures read { ReadsRows QueryFault.DiskFailed t.old t.new result }
+    ensures rows { reads_in t.new ≤ reads_in t.old + 1 }
 {
     if tx >= t.count(Table::Txs) {
         return Ok(());
     }
-    let row = tx_row(t, tx, steps)?;
+    let row = tx_row(t, tx)?;
     found.push(Entry {
         height: row.height,
         txid: row.txid,
@@ -56,36 +48,31 @@ fn push_entry<R: Rows, L: Ledger>(
 
 // What a history shows of the script's entries, the newest first. A link that isn't below its own row is
 // none.
-fn newest_first<R: Rows, L: Ledger>(
+fn newest_first<R: Rows>(
     alloc: Global,
     t: &mut Txn<'_, R>,
     script_hash: &Hash32,
-    steps: &mut Steps<L>,
 ) -> Result<Vec<Entry>, QueryFault>
     requires live { R.is_live t.old.rows.now }
     ensures found { (counts : HeadCounts) (bs : List ListedBlock) (l : Lists) → R.tells
         → Hold counts bs l (tables_in t.old) → HasHeads counts l → Fits l
         → IfOk result (λ found. reverse found.items ≡ flat_map (λ (e : ListedEntry). shown_tx l.txs e.tx)
         (filter (is_of_script (script_number script_hash.now l.scripts)) l.entries)) }
-    ensures steps { (counts : HeadCounts) (bs : List ListedBlock) (l : Lists) → R.tells
+    ensures rows { (counts : HeadCounts) (bs : List ListedBlock) (l : Lists) → R.tells
         → Hold counts bs l (tables_in t.old) → HasHeads counts l → Fits l
-        → steps.new ≤ steps.old + (1 + bucket_size counts.scripts script_hash.now l.scripts
+        → reads_in t.new ≤ reads_in t.old
+        + (1 + bucket_size counts.scripts script_hash.now l.scripts
         + sum_by entry_rows (filter (is_of_script (script_number script_hash.now l.scripts)) l.entries)) }
-    ensures tables { tables_in t.new ≡ tables_in t.old }
-    ensures reads { OnlyReads t.old t.new }
-    ensures name { t.new.rows.ghost_name ≡ t.old.rows.ghost_name }
-    ensures ticked { steps.old ≤ steps.new }
-    ensures cause { CountsOnly (R.faults t.old.rows.now) (R.faults t.new.rows.now) QueryFault.DiskFailed
-        result }
+    ensures read { ReadsRows QueryFault.DiskFailed t.old t.new result }
 {
     let mut found = Vec::new(alloc);
-    let Some(script) = found_script(t, script_hash, steps)? else {
+    let Some(script) = found_script(t, script_hash)? else {
         return Ok(found);
     };
     let mut link = if_below(script.row.last, t.count(Table::Entries));
     while let Some(n) = link {
-        let entry = entry_row(t, n, steps)?;
-        push_entry(t, &mut found, entry.tx, steps)?;
+        let entry = entry_row(t, n)?;
+        push_entry(t, &mut found, entry.tx)?;
         link = if_below(entry.before, n);
     }
     Ok(found)
@@ -98,27 +85,22 @@ fn newest_first<R: Rows, L: Ledger>(
 /// # Errors
 ///
 /// `DiskFailed` exactly where the device failed, and `Memory` for want of memory.
-pub fn history<R: Rows, L: Ledger>(
+pub fn history<R: Rows>(
     alloc: Global,
     t: &mut Txn<'_, R>,
     script_hash: &Hash32,
-    steps: &mut Steps<L>,
 ) -> Result<Vec<Entry>, QueryFault>
     requires live { R.is_live t.old.rows.now }
     ensures history { (chain : Chain) → R.tells → StandFor (tables_in t.old) chain
         → IfOk result (λ found. found.items ≡ spec.history chain script_hash.now.0) }
     // It reads one head, rows of scripts in the hash's bucket alone, and for each entry two rows.
     ensures rows { (chain : Chain) → R.tells → StandFor (tables_in t.old) chain
-        → steps.new ≤ steps.old + (1 + asked.scripts_in_bucket chain 65536 script_hash.now.0
+        → reads_in t.new ≤ reads_in t.old
+        + (1 + asked.scripts_in_bucket chain 65536 script_hash.now.0
         + 2 * length (spec.history chain script_hash.now.0)) }
-    ensures tables { tables_in t.new ≡ tables_in t.old }
-    ensures reads { OnlyReads t.old t.new }
-    ensures name { t.new.rows.ghost_name ≡ t.old.rows.ghost_name }
-    ensures ticked { steps.old ≤ steps.new }
-    ensures cause { CountsOnly (R.faults t.old.rows.now) (R.faults t.new.rows.now) QueryFault.DiskFailed
-        result }
+    ensures read { ReadsRows QueryFault.DiskFailed t.old t.new result }
 {
-    let mut found = newest_first(alloc, t, script_hash, steps)?;
+    let mut found = newest_first(alloc, t, script_hash)?;
     found.reverse();
     Ok(found)
 }

@@ -12,6 +12,3 @@ pub use balances::balance;
 pub use coins::unspent;
 pub use histories::history;
 pub use laws::{entries_are_counted_by_the_history, scripts_of_lists_are_those_of_outputs};
-
-#[cfg(test)]
-mod tests;

@@ -1,14 +1,13 @@
 -- What an index is after rows were read, and what a crash leaves of a move.
-use Rattle.std.specs.Prelude.{MatchOption}
-use Rattle.std.proofs.Common.{◌≡◌, inl, inr, ⊎_elim, ℕ, zero, suc, ◌<◌, ◌≤◌, Option, refl, sym, ap, ◌∙◌, subst, arith}
+use Rattle.std.specs.Prelude.{IfSome, MatchOption}
+use Rattle.std.proofs.Common.{◌≡◌, inl, inr, ⊎_elim, ℕ, zero, suc, ◌+◌, ◌<◌, ◌≤◌, Option, None, Some, List, length, refl, sym, ap, ◌∙◌, subst, arith}
 use Rattle.el_base.specs.declared.hash.Hash32.{Hash32}
 use Rattle.el_outside.specs.Moments.{LeavesOnly}
-use Rattle.el_outside.proofs.Moments.{joined, weaker}
+use Rattle.el_outside.proofs.Moments.{joined, weaker, still_only}
 use Rattle.el_rows.specs.declared.table.Table.{Table}
 use Rattle.el_rows.specs.declared.table.Table.TheVariants as table
 use Rattle.el_rows.specs.Tables.{Tables}
-use Rattle.el_rows.specs.Reads.{OnlyRead, IsEither, Unchanged}
-use Rattle.el_rows.proofs.ReadsLemmas.{read_joined}
+use Rattle.el_rows.specs.Reads.{OnlyRead, IsEither}
 use Rattle.el_chain.specs.Chains.{Chain}
 use Rattle.el_model.specs.Keeping.{Quiet, Either}
 use Rattle.el_model.specs.Plans.{blocks_in}
@@ -25,15 +24,29 @@ pub blocks_in_top : (n : ℕ) → blocks_in (top n) ≡ n
 blocks_in_top zero = refl
 blocks_in_top (suc n) = omega arith
 
-module _ {R C : Type 0} (lists : R → Tables) (counts : R → Table → ℕ) (is_live : R → Type 0) (tells_crash : Type 0) (moment : R → ℕ) (left_since : R → ℕ → C → Type 0) (shows : C → Tables → Type 0) where
+-- what a transaction has read of rows is read of the rows that it was opened over
+pub rows_read : {R : Type 0} (reads : R → ℕ) (old below mid new : R) (k : ℕ) → below ≡ old → new ≡ mid
+    → reads mid ≤ reads below + k → reads new ≤ reads old + k
+rows_read {R} reads old below mid new k opened closed few =
+    let from : reads mid ≤ reads old + k = subst (λ (r : R). reads mid ≤ reads r + k) opened few in
+    subst (λ (r : R). reads r ≤ reads old + k) (sym closed) from
+
+pub rows_of_ids : {R : Type 0} (reads : R → ℕ) (old below mid new : R) (ids : Option (List Hash32)) → below ≡ old
+    → new ≡ mid → IfSome ids (λ found. reads mid ≤ reads below + (1 + length found))
+    → IfSome ids (λ found. reads new ≤ reads old + (1 + length found))
+rows_of_ids reads old below mid new None opened closed few = tt
+rows_of_ids reads old below mid new (Some found) opened closed few =
+    rows_read reads old below mid new (1 + length found) opened closed few
+
+module _ {R C : Type 0} (lists : R → Tables) (counts : R → Table → ℕ) (is_live : R → Type 0) (tells_crash : Type 0) (moment : R → ℕ) (left_since : R → ℕ → C → Type 0) where
   -- E is an index, which holds the rows
   pub quiet : {E : Type 0} (tells : Type 0) (rows : E → R) (tip : E → Option Hash32) (old new : E) (mid : R) → rows new ≡ mid → tip new ≡ tip old → is_live (rows old)
-      → OnlyRead lists counts is_live tells_crash moment left_since shows (rows old) mid
+      → OnlyRead lists counts is_live tells_crash moment left_since (rows old) mid
       → Quiet (λ e. is_live (rows e)) (λ e. top (counts (rows e) table.Blocks)) tip (λ e. 65536) (λ e chain. IsIndexOf tells (lists (rows e)) (tip e) chain)
-      tells_crash (λ c chain. Means shows c chain) (λ e. moment (rows e)) (λ e t c. left_since (rows e) t c) old new
+      tells_crash (λ e. moment (rows e)) (λ e t c. left_since (rows e) t c) old new
   quiet {E} tells rows tip old new mid is kept live reads' =
-      let reads : OnlyRead lists counts is_live tells_crash moment left_since shows (rows old) (rows new) =
-      subst (λ (r : R). OnlyRead lists counts is_live tells_crash moment left_since shows (rows old) r) (sym is) reads' in
+      let reads : OnlyRead lists counts is_live tells_crash moment left_since (rows old) (rows new) =
+      subst (λ (r : R). OnlyRead lists counts is_live tells_crash moment left_since (rows old) r) (sym is) reads' in
       record {
         stays = record {
           still_live = λ l. reads.live;
@@ -52,34 +65,27 @@ module _ {R C : Type 0} (lists : R → Tables) (counts : R → Table → ℕ) (i
             last = sym kept ∙ s.last;
           };
         };
-        crash = λ told.
-            let run = weaker moment left_since (rows old) (rows new) (λ c. shows c (lists (rows old))) (λ c. (chain : Chain) → IsIndexOf tells (lists (rows old)) (tip old) chain → Means shows c chain)
-            (λ c shown chain s. (lists (rows old), shown, s.stand)) (reads.crash told) in
-            record { later = run.later; each = run.each; before = run.before };
+        crash = λ told. record { later = (reads.crash told).later; before = (reads.crash told).before };
       }
 
-  -- only rows were read: a crash since leaves the old chain
-  pub only_read : (old mid new : R) (chain next : Chain) → OnlyRead lists counts is_live tells_crash moment left_since shows old mid → StandFor (lists old) chain → new ≡ mid → tells_crash
-      → LeavesOnly moment left_since old new (Either (Means shows) chain next)
-  only_read old mid new chain next reads stands is told =
-      subst (λ (r : R). LeavesOnly moment left_since old r (Either (Means shows) chain next)) (sym is)
-      (weaker moment left_since old mid (λ c. shows c (lists old)) (Either (Means shows) chain next) (λ c shown. inl (lists old, shown, stands)) (reads.crash told))
+  -- The law `leaves_lists` of the rows, which are live.
+  module _ (shows : C → Tables → Type 0) (leaves_lists : (r : R) (c : C) → tells_crash → is_live r → left_since r (moment r) c → shows c (lists r)) where
+    -- only rows were read: a crash since leaves the old chain
+    pub only_read : (old mid new : R) (chain next : Chain) → is_live old → OnlyRead lists counts is_live tells_crash moment left_since old mid → StandFor (lists old) chain → new ≡ mid → tells_crash
+        → LeavesOnly moment left_since old new (Either (Means shows) chain next)
+    only_read old mid new chain next live reads stands is told =
+        subst (λ (r : R). LeavesOnly moment left_since old r (Either (Means shows) chain next)) (sym is)
+        (still_only moment left_since old mid (Either (Means shows) chain next) (reads.crash told) (λ c left. inl (lists old, leaves_lists old c told live left, stands)))
 
-  -- and then a commit was begun: it leaves that or the target
-  pub begun : (old mid new : R) (under : Tables) (chain next : Chain) → OnlyRead lists counts is_live tells_crash moment left_since shows old mid → StandFor (lists old) chain → StandFor under next
-      → LeavesOnly moment left_since mid new (IsEither shows (lists mid) under) → tells_crash → LeavesOnly moment left_since old new (Either (Means shows) chain next)
-  begun old mid new under chain next reads stands target commit told =
-      let P : C → Type 0 = Either (Means shows) chain next in
-      joined moment left_since old mid new P
-      (weaker moment left_since old mid (λ c. shows c (lists old)) P (λ c shown. inl (lists old, shown, stands)) (reads.crash told))
-      (weaker moment left_since mid new (IsEither shows (lists mid) under) P
-      (λ c either. ⊎_elim (λ shown. inl (lists mid, shown, subst (λ (t : Tables). StandFor t chain) (sym reads.same) stands)) (λ shown. inr (under, shown, target)) either) commit)
-
-  -- a commit that found no memory changed nothing
-  pub not_committed : (old mid new : R) → OnlyRead lists counts is_live tells_crash moment left_since shows old mid → Unchanged lists counts is_live mid new
-      → (tells_crash → LeavesOnly moment left_since mid new (λ c. shows c (lists mid))) → OnlyRead lists counts is_live tells_crash moment left_since shows old new
-  not_committed old mid new reads same crash =
-      read_joined lists counts is_live tells_crash moment left_since shows old mid new reads (record { same = same.same; count = same.count; live = same.live; crash = crash })
+    -- and then a commit was begun: it leaves that or the target
+    pub begun : (old mid new : R) (under : Tables) (chain next : Chain) → is_live old → OnlyRead lists counts is_live tells_crash moment left_since old mid → StandFor (lists old) chain → StandFor under next
+        → LeavesOnly moment left_since mid new (IsEither shows (lists mid) under) → tells_crash → LeavesOnly moment left_since old new (Either (Means shows) chain next)
+    begun old mid new under chain next live reads stands target commit told =
+        let P : C → Type 0 = Either (Means shows) chain next in
+        joined moment left_since old mid new P
+        (only_read old mid mid chain next live reads stands refl told)
+        (weaker moment left_since mid new (IsEither shows (lists mid) under) P
+        (λ c either. ⊎_elim (λ shown. inl (lists mid, shown, subst (λ (t : Tables). StandFor t chain) (sym reads.same) stands)) (λ shown. inr (under, shown, target)) either) commit)
 
 -- what a crash leaves of the rows it leaves of the index that holds them
 pub lifted : {R C E : Type 0} (moment : R → ℕ) (left_since : R → ℕ → C → Type 0) (rows : E → R) (old new : E) (mid : R) (P : C → Type 0) → rows new ≡ mid → LeavesOnly moment left_since (rows old) mid P

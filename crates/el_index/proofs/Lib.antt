@@ -3,4 +3,3 @@ pub mod Touchings
 pub mod Addings
 pub mod LastBlock
 pub mod Targets
-pub mod Fits

@@ -3,24 +3,17 @@ ghost use Rattle.std.specs.Prelude.{◌≡◌, ◌≤◌, ◌-◌, ◌++◌, ◌
 ghost use Rattle.el_chain.specs.declared.placed.Placed as shape;
 ghost use Rattle.el_chain.specs.Chains.{Chain};
 ghost use Rattle.el_chain.specs.Moves.{shorter};
-ghost use Rattle.el_outside.specs.Counts.{CountsOnly};
-ghost use Rattle.el_rows.specs.Transaction.{tables_in, OnlyReads};
+ghost use Rattle.el_rows.specs.Transaction.{tables_in, EditsRows};
 ghost use Rattle.el_rows.specs.declared.table.Table.{Table};
 ghost use Rattle.el_stands.specs.Standing.{StandFor};
 ghost use Rattle.el_index.specs.within.Adding.{AreAdded, IsOwn};
 
 use crate::step_faults::{touch, undo};
-use el_base::Steps;
 use el_chain::{MoveFault, Touched};
 use el_rows::{Rows, Txn};
-use std::sync::ledger::Ledger as Counts;
 
 // Takes the last block back, and adds the script hashes that it touches.
-fn take_back_one<R: Rows, L: Counts>(
-    t: &mut Txn<'_, R>,
-    touched: &mut Touched,
-    steps: &mut Steps<L>,
-) -> Result<(), MoveFault>
+fn take_back_one<R: Rows>(t: &mut Txn<'_, R>, touched: &mut Touched) -> Result<(), MoveFault>
     requires live { R.is_live t.old.rows.now }
     ensures back { (chain : Chain) (b : shape.Placed) → R.tells
         → StandFor (tables_in t.old) (chain ++ b ∷ []) → OnOk result (StandFor (tables_in t.new) chain) }
@@ -29,24 +22,19 @@ fn take_back_one<R: Rows, L: Counts>(
         → OnOk result (AreAdded chain (b ∷ []) touched.old touched.new) }
     ensures fewer { OnOk result (length (tables_in t.new Table.Blocks)
         ≡ length (tables_in t.old Table.Blocks) - 1) }
-    ensures reads { OnlyReads t.old t.new }
-    ensures name { t.new.rows.ghost_name ≡ t.old.rows.ghost_name }
-    ensures ticked { steps.old ≤ steps.new }
-    ensures cause { CountsOnly (R.faults t.old.rows.now) (R.faults t.new.rows.now)
-        MoveFault.DiskFailed result }
+    ensures edits { EditsRows MoveFault.DiskFailed t.old t.new result }
     ensures own { IfErr result IsOwn }
 {
-    touch(t, touched, steps)?;
-    undo(t, steps)?;
+    touch(t, touched)?;
+    undo(t)?;
     Ok(())
 }
 
 // Takes so many last blocks back, and adds the script hashes that they touch.
-pub(crate) fn take_back<R: Rows, L: Counts>(
+pub(crate) fn take_back<R: Rows>(
     t: &mut Txn<'_, R>,
     back: u32,
     touched: &mut Touched,
-    steps: &mut Steps<L>,
 ) -> Result<(), MoveFault>
     requires live { R.is_live t.old.rows.now }
     ensures back { (chain : Chain) → R.tells → StandFor (tables_in t.old) chain → back ≤ length chain
@@ -57,15 +45,11 @@ pub(crate) fn take_back<R: Rows, L: Counts>(
     // What follows holds over any rows.
     ensures fewer { OnOk result (length (tables_in t.new Table.Blocks)
         ≡ length (tables_in t.old Table.Blocks) - back) }
-    ensures reads { OnlyReads t.old t.new }
-    ensures name { t.new.rows.ghost_name ≡ t.old.rows.ghost_name }
-    ensures ticked { steps.old ≤ steps.new }
-    ensures cause { CountsOnly (R.faults t.old.rows.now) (R.faults t.new.rows.now)
-        MoveFault.DiskFailed result }
+    ensures edits { EditsRows MoveFault.DiskFailed t.old t.new result }
     ensures own { IfErr result IsOwn }
 {
     for _ in 0..back {
-        take_back_one(t, touched, steps)?;
+        take_back_one(t, touched)?;
     }
     Ok(())
 }

@@ -9,15 +9,14 @@ ghost use Rattle.el_chain.specs.Faults.{fault};
 ghost use Rattle.el_chain.specs.Headers.{AreLinked};
 ghost use Rattle.el_chain.specs.Moves.{AreOf, AreNextBlocks, FaultInAt, IsStop};
 ghost use Rattle.el_chain.specs.Records.{IsNode, IsBlockOf};
-ghost use Rattle.el_outside.specs.Counts.{CountsOnly};
 ghost use Rattle.el_prepare.specs.Prepared as spec;
-ghost use Rattle.el_rows.specs.Transaction.{tables_in, OnlyReads};
+ghost use Rattle.el_rows.specs.Transaction.{tables_in, EditsRows};
 ghost use Rattle.el_rows.specs.declared.table.Table.{Table};
 ghost use Rattle.el_stands.specs.Standing.{StandFor};
 ghost use Rattle.el_index.specs.within.Adding.{IsAfter, AreAfter, IsOwn};
 
 use crate::step_faults::touch;
-use el_base::{Bytes, Hash32, Steps};
+use el_base::{Bytes, Hash32};
 use el_block::BlockFault;
 use el_chain::{ConnectFault, MoveFault, Node, Touched};
 use el_connect::connect;
@@ -25,7 +24,6 @@ use el_outside::Place;
 use el_prepare::{Prepared, prepare_one};
 use el_rows::{Rows, Txn};
 use std::alloc::Global;
-use std::sync::ledger::Ledger as Counts;
 
 // The fault of a block of that hash that isn't read.
 fn bad(hash: Hash32, fault: BlockFault) -> MoveFault
@@ -70,12 +68,11 @@ fn refused(hash: Hash32, fault: ConnectFault) -> MoveFault
 }
 
 // Connects the block of that hash after the last.
-fn connect_for<R: Rows, L: Counts>(
+fn connect_for<R: Rows>(
     t: &mut Txn<'_, R>,
     hash: Hash32,
     place: Place,
     prepared: &Prepared,
-    steps: &mut Steps<L>,
 ) -> Result<(), MoveFault>
     requires live { R.is_live t.old.rows.now }
     requires prepared { (block : shape.Block) × HasBlockEncoding block × (prepared.now ≡ spec.prepared block) }
@@ -89,14 +86,10 @@ fn connect_for<R: Rows, L: Counts>(
         → StandFor (tables_in t.old) chain → EncodesBlock text block → prepared.now ≡ spec.prepared block
         → block.header.previous ≡ tip chain
         → IfErr result (λ e. IsOwn e ⊎ IsStop chain hash text e) }
-    ensures reads { OnlyReads t.old t.new }
-    ensures name { t.new.rows.ghost_name ≡ t.old.rows.ghost_name }
-    ensures ticked { steps.old ≤ steps.new }
-    ensures cause { CountsOnly (R.faults t.old.rows.now) (R.faults t.new.rows.now)
-        MoveFault.DiskFailed result }
+    ensures edits { EditsRows MoveFault.DiskFailed t.old t.new result }
     ensures no_archive { IfErr result (λ e. e ≢ MoveFault.ArchiveFailed) }
 {
-    match connect(t, prepared, place, steps) {
+    match connect(t, prepared, place) {
         Ok(()) => Ok(()),
         Err(fault) => Err(refused(hash, fault)),
     }
@@ -104,13 +97,12 @@ fn connect_for<R: Rows, L: Counts>(
 
 // Puts the block of the node, which the bytes encode, after the last, and adds the script hashes that it
 // touches.
-fn add_one<R: Rows, L: Counts>(
+fn add_one<R: Rows>(
     alloc: Global,
     t: &mut Txn<'_, R>,
     node: &Node,
     text: &[u8],
     touched: &mut Touched,
-    steps: &mut Steps<L>,
 ) -> Result<(), MoveFault>
     requires live { R.is_live t.old.rows.now }
     requires node { IsNode node.now }
@@ -123,27 +115,22 @@ fn add_one<R: Rows, L: Counts>(
     ensures first_fault { (chain : Chain) → R.tells → StandFor (tables_in t.old) chain
         → node.now.header.previous ≡ tip chain
         → IfErr result (λ e. IsOwn e ⊎ IsStop chain node.now.hash text.now e) }
-    ensures reads { OnlyReads t.old t.new }
-    ensures name { t.new.rows.ghost_name ≡ t.old.rows.ghost_name }
-    ensures ticked { steps.old ≤ steps.new }
-    ensures cause { CountsOnly (R.faults t.old.rows.now) (R.faults t.new.rows.now)
-        MoveFault.DiskFailed result }
+    ensures edits { EditsRows MoveFault.DiskFailed t.old t.new result }
     ensures no_archive { IfErr result (λ e. e ≢ MoveFault.ArchiveFailed) }
 {
     let prepared = prepare_for(alloc, node.hash, text)?;
-    connect_for(t, node.hash, node.place, &prepared, steps)?;
-    touch(t, touched, steps)?;
+    connect_for(t, node.hash, node.place, &prepared)?;
+    touch(t, touched)?;
     Ok(())
 }
 
 // Puts the blocks of the nodes after the last, one after the other.
-pub(crate) fn add_all<R: Rows, L: Counts>(
+pub(crate) fn add_all<R: Rows>(
     alloc: Global,
     t: &mut Txn<'_, R>,
     nodes: &[Node],
     texts: &[Bytes],
     touched: &mut Touched,
-    steps: &mut Steps<L>,
 ) -> Result<(), MoveFault>
     requires live { R.is_live t.old.rows.now }
     requires nodes { AllByRecursion IsNode nodes.now }
@@ -156,15 +143,11 @@ pub(crate) fn add_all<R: Rows, L: Counts>(
     ensures first_fault { (chain : Chain) → R.tells → StandFor (tables_in t.old) chain
         → AreLinked (tip chain) nodes.now
         → IfErr result (λ e. IsOwn e ⊎ FaultInAt chain nodes.now texts.now e) }
-    ensures reads { OnlyReads t.old t.new }
-    ensures name { t.new.rows.ghost_name ≡ t.old.rows.ghost_name }
-    ensures ticked { steps.old ≤ steps.new }
-    ensures cause { CountsOnly (R.faults t.old.rows.now) (R.faults t.new.rows.now)
-        MoveFault.DiskFailed result }
+    ensures edits { EditsRows MoveFault.DiskFailed t.old t.new result }
     ensures no_archive { IfErr result (λ e. e ≢ MoveFault.ArchiveFailed) }
 {
     for (index, node) in nodes.iter().enumerate() {
-        add_one(alloc, t, node, texts[index].as_slice(), touched, steps)?;
+        add_one(alloc, t, node, texts[index].as_slice(), touched)?;
     }
     Ok(())
 }

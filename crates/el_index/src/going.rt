@@ -8,7 +8,7 @@ ghost use Rattle.el_model.specs.Queries.{tip_of};
 ghost use Rattle.el_outside.specs.Counts.{CountsOnly};
 ghost use Rattle.el_outside.specs.Moments.{LeavesOnly};
 ghost use Rattle.el_rows.specs.Reads.{OnlyRead};
-ghost use Rattle.el_rows.specs.Transaction.{tables_in, OnlyReads};
+ghost use Rattle.el_rows.specs.Transaction.{tables_in, ReadsRows, EditsRows};
 ghost use Rattle.el_rows.specs.declared.table.Table.{Table};
 ghost use Rattle.el_stands.specs.Standing.{StandFor};
 ghost use Rattle.el_index.specs.Means.{Means};
@@ -18,22 +18,20 @@ use crate::blocks_back::take_back;
 use crate::blocks_in::add_all;
 use crate::index::Index;
 use crate::last_block::last_hash;
-use el_base::{Bytes, Hash32, Steps};
+use el_base::{Bytes, Hash32};
 use el_chain::{MoveFault, Node, Plan, Touched};
 use el_outside::DiskFailed;
 use el_rows::{CommitFault, Rows, Txn};
 use el_touching::each_block_touches_what_the_move_touches;
 use std::alloc::Global;
-use std::sync::ledger::Ledger as Counts;
 
 // The edits of a move, and the script hashes that it touches.
-fn edit<R: Rows, L: Counts>(
+fn edit<R: Rows>(
     alloc: Global,
     t: &mut Txn<'_, R>,
     plan: &Plan,
     texts: &[Bytes],
     touched: &mut Touched,
-    steps: &mut Steps<L>,
 ) -> Result<(), MoveFault>
     requires live { R.is_live t.old.rows.now }
     requires plan { IsPlan plan.now }
@@ -48,41 +46,28 @@ fn edit<R: Rows, L: Counts>(
     ensures first_fault { (chain : Chain) → R.tells → StandFor (tables_in t.old) chain
         → FitsChain plan.now chain → IfErr result (λ e. IsOwn e
         ⊎ FaultInAt (shorter plan.now.back chain) plan.now.forward texts.now e) }
-    ensures reads { OnlyReads t.old t.new }
-    ensures name { t.new.rows.ghost_name ≡ t.old.rows.ghost_name }
-    ensures ticked { steps.old ≤ steps.new }
-    ensures cause { CountsOnly (R.faults t.old.rows.now) (R.faults t.new.rows.now)
-        MoveFault.DiskFailed result }
+    ensures edits { EditsRows MoveFault.DiskFailed t.old t.new result }
     ensures no_archive { IfErr result (λ e. e ≢ MoveFault.ArchiveFailed) }
 {
-    take_back(t, plan.back, touched, steps)?;
-    add_all(alloc, t, plan.forward.as_slice(), texts, touched, steps)?;
+    take_back(t, plan.back, touched)?;
+    add_all(alloc, t, plan.forward.as_slice(), texts, touched)?;
     // What the blocks touch one by one is what the move touches.
     each_block_touches_what_the_move_touches();
     Ok(())
 }
 
 // The hash of the last block once these were put in, by the last of them or by its row.
-fn hash_after<R: Rows, L: Counts>(
-    t: &mut Txn<'_, R>,
-    nodes: &[Node],
-    steps: &mut Steps<L>,
-) -> Result<Option<Hash32>, MoveFault>
+fn hash_after<R: Rows>(t: &mut Txn<'_, R>, nodes: &[Node]) -> Result<Option<Hash32>, MoveFault>
     requires live { R.is_live t.old.rows.now }
     ensures last { IfOk result (λ hash. nodes.now ≢ []
         → hash ≡ Some (hash_of_last zero_hash nodes.now)) }
     ensures tip { (chain : Chain) → R.tells → StandFor (tables_in t.old) chain → nodes.now ≡ []
         → IfOk result (λ hash. hash ≡ tip_of chain) }
-    ensures tables { tables_in t.new ≡ tables_in t.old }
-    ensures reads { OnlyReads t.old t.new }
-    ensures name { t.new.rows.ghost_name ≡ t.old.rows.ghost_name }
-    ensures ticked { steps.old ≤ steps.new }
-    ensures cause { CountsOnly (R.faults t.old.rows.now) (R.faults t.new.rows.now)
-        MoveFault.DiskFailed result }
+    ensures read { ReadsRows MoveFault.DiskFailed t.old t.new result }
     ensures device { IfErr result (λ e. e ≡ MoveFault.DiskFailed) }
 {
     match nodes {
-        [] => match last_hash(t, steps) {
+        [] => match last_hash(t) {
             Ok(hash) => Ok(hash),
             Err(DiskFailed) => Err(MoveFault::DiskFailed),
         },
@@ -93,13 +78,12 @@ fn hash_after<R: Rows, L: Counts>(
 impl<R: Rows> Index<R> {
     // Makes a move on the rows, in one commit, and answers the hash of the last block. The hash that is kept
     // stays.
-    pub(crate) fn change<L: Counts>(
+    pub(crate) fn change(
         &mut self,
         alloc: Global,
         plan: &Plan,
         texts: &[Bytes],
         touched: &mut Touched,
-        steps: &mut Steps<L>,
     ) -> Result<Option<Hash32>, MoveFault>
         requires live { R.is_live self.old.rows }
         requires plan { IsPlan plan.now }
@@ -122,7 +106,7 @@ impl<R: Rows> Index<R> {
             ⊎ FaultInAt (shorter plan.now.back chain) plan.now.forward texts.now e) }
         // After any other fault only rows were read.
         ensures unchanged { IfErr result (λ e. e ≢ MoveFault.DiskFailed
-            → OnlyRead R.lists R.counts R.is_live R.tells_crash R.moment R.left_since R.shows
+            → OnlyRead R.lists R.counts R.is_live R.tells_crash R.moment R.left_since
             self.old.rows self.new.rows) }
         ensures crash_failed { (chain : Chain) → R.tells → StandFor (R.lists self.old.rows) chain
             → FitsChain plan.now chain → IsErrOf result MoveFault.DiskFailed
@@ -134,8 +118,8 @@ impl<R: Rows> Index<R> {
         ensures no_archive { IfErr result (λ e. e ≢ MoveFault.ArchiveFailed) }
     {
         let mut txn = Txn::new(alloc, &mut self.rows);
-        edit(alloc, &mut txn, plan, texts, touched, steps)?;
-        let hash = hash_after(&mut txn, plan.forward.as_slice(), steps)?;
+        edit(alloc, &mut txn, plan, texts, touched)?;
+        let hash = hash_after(&mut txn, plan.forward.as_slice())?;
         let sealed = txn.seal()?;
         match self.rows.commit(&sealed) {
             Ok(()) => Ok(hash),

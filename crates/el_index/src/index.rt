@@ -1,5 +1,5 @@
 // The index, and how it is opened.
-ghost use Rattle.std.specs.Prelude.{◌≡◌, ◌≤◌, IfOk, IfErr};
+ghost use Rattle.std.specs.Prelude.{◌≡◌, ◌≤◌, ◌+◌, IfOk, IfErr, MatchResult};
 ghost use Rattle.el_chain.specs.Chains.{Chain};
 ghost use Rattle.el_outside.specs.Counts.{RoseBy};
 ghost use Rattle.el_rows.specs.Reads.{OnlyRead};
@@ -7,11 +7,10 @@ ghost use Rattle.el_stands.specs.Standing.{StandFor};
 ghost use Rattle.el_index.specs.Means.{IsIndexOf};
 
 use crate::last_block::hash_in;
-use el_base::{Hash32, Steps};
+use el_base::Hash32;
 use el_outside::DiskFailed;
 use el_rows::Rows;
 use std::alloc::Global;
-use std::sync::ledger::Ledger as Counts;
 
 /// An index over a store of rows: a ledger, whose answers are read off rows. It keeps the hash of the last
 /// block beside them, and nothing else.
@@ -31,26 +30,23 @@ impl<R: Rows> Index<R> {
     /// # Errors
     ///
     /// `DiskFailed` where the read failed. The rows come back beside it, as they were.
-    pub fn over<L: Counts>(
-        alloc: Global,
-        rows: R,
-        steps: &mut Steps<L>,
-    ) -> Result<Index<R>, (DiskFailed, R)>
+    pub fn over(alloc: Global, rows: R) -> Result<Index<R>, (DiskFailed, R)>
         requires live { R.is_live rows }
         // It stands for each chain that the rows stand for.
         ensures stands { (chain : Chain) → R.tells → StandFor (R.lists rows) chain
             → IfOk result (λ i. IsIndexOf R.tells (R.lists i.rows) i.tip chain) }
         // Rows were read and nothing else, also where that failed.
         ensures reads { IfOk result (λ i. OnlyRead R.lists R.counts R.is_live R.tells_crash R.moment
-            R.left_since R.shows rows i.rows) }
+            R.left_since rows i.rows) }
         ensures failed { IfErr result (λ e. OnlyRead R.lists R.counts R.is_live R.tells_crash R.moment
-            R.left_since R.shows rows e.1) }
+            R.left_since rows e.1) }
         ensures counted { IfOk result (λ i. R.faults i.rows ≡ R.faults rows) }
         ensures cause { IfErr result (λ e. RoseBy (R.faults rows) (R.faults e.1) 1) }
-        ensures ticked { steps.old ≤ steps.new }
+        ensures rows { MatchResult result (λ i. R.reads i.rows ≤ R.reads rows + 1)
+            (λ e. R.reads e.1 ≤ R.reads rows + 1) }
     {
         let mut rows = rows;
-        match hash_in(alloc, &mut rows, steps) {
+        match hash_in(alloc, &mut rows) {
             Ok(tip) => Ok(Index { rows, tip, alloc }),
             Err(fault) => Err((fault, rows)),
         }

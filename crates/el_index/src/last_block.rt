@@ -4,55 +4,44 @@ ghost use Rattle.el_chain.specs.Chains.{Chain};
 ghost use Rattle.el_model.specs.Queries.{tip_of};
 ghost use Rattle.el_outside.specs.Counts.{HasCause};
 ghost use Rattle.el_rows.specs.Reads.{OnlyRead};
-ghost use Rattle.el_rows.specs.Transaction.{tables_in, OnlyReads};
+ghost use Rattle.el_rows.specs.Transaction.{tables_in, reads_in, disk_failed, ReadsRows};
 ghost use Rattle.el_rows.specs.declared.table.Table.{Table};
 ghost use Rattle.el_stands.specs.Standing.{StandFor};
 
-use el_base::{Hash32, Steps};
+use el_base::Hash32;
 use el_lookups::header;
 use el_outside::DiskFailed;
 use el_rows::{Rows, Table, Txn};
 use el_tx::block_hash;
 use std::alloc::Global;
-use std::sync::ledger::Ledger as Counts;
 
 // The hash of the last block, by its row; None exactly for no blocks.
-pub(crate) fn last_hash<R: Rows, L: Counts>(
-    t: &mut Txn<'_, R>,
-    steps: &mut Steps<L>,
-) -> Result<Option<Hash32>, DiskFailed>
+pub(crate) fn last_hash<R: Rows>(t: &mut Txn<'_, R>) -> Result<Option<Hash32>, DiskFailed>
     requires live { R.is_live t.old.rows.now }
     ensures last { (chain : Chain) → R.tells → StandFor (tables_in t.old) chain
         → IfOk result (λ hash. hash ≡ tip_of chain) }
-    ensures tables { tables_in t.new ≡ tables_in t.old }
-    ensures reads { OnlyReads t.old t.new }
-    ensures name { t.new.rows.ghost_name ≡ t.old.rows.ghost_name }
-    ensures ticked { steps.old ≤ steps.new }
-    ensures cause { HasCause (R.faults t.old.rows.now) (R.faults t.new.rows.now) result }
+    ensures read { ReadsRows disk_failed t.old t.new result }
+    ensures rows { reads_in t.new ≤ reads_in t.old + 1 }
 {
     let count = t.count(Table::Blocks);
     if count == 0 {
         return Ok(None);
     }
-    let bytes = header(t, (count - 1) as u32, steps)?;
+    let bytes = header(t, (count - 1) as u32)?;
     Ok(Some(block_hash(&bytes)))
 }
 
 // The same, of rows that no transaction is open over.
-pub(crate) fn hash_in<R: Rows, L: Counts>(
-    alloc: Global,
-    rows: &mut R,
-    steps: &mut Steps<L>,
-) -> Result<Option<Hash32>, DiskFailed>
+pub(crate) fn hash_in<R: Rows>(alloc: Global, rows: &mut R) -> Result<Option<Hash32>, DiskFailed>
     requires live { R.is_live rows.old }
     ensures last { (chain : Chain) → R.tells → StandFor (R.lists rows.old) chain
         → IfOk result (λ hash. hash ≡ tip_of chain) }
-    ensures reads { OnlyRead R.lists R.counts R.is_live R.tells_crash R.moment R.left_since R.shows
+    ensures reads { OnlyRead R.lists R.counts R.is_live R.tells_crash R.moment R.left_since
         rows.old rows.new }
-    ensures ticked { steps.old ≤ steps.new }
+    ensures rows { R.reads rows.new ≤ R.reads rows.old + 1 }
     ensures cause { HasCause (R.faults rows.old) (R.faults rows.new) result }
 {
     let mut txn = Txn::new(alloc, rows);
-    let hash = last_hash(&mut txn, steps)?;
+    let hash = last_hash(&mut txn)?;
     Ok(hash)
 }

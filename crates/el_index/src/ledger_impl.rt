@@ -7,7 +7,7 @@ ghost use Rattle.el_index.specs.Means.{top, IsIndexOf, Means};
 ghost use Rattle.el_index.specs.within.Laws as laws;
 
 use crate::index::Index;
-use el_base::{Hash32, Steps};
+use el_base::Hash32;
 use el_chain::{Coin, Entry, MoveFault, Moved, Plan, Spot, Touched};
 use el_histories::{balance, history, unspent};
 use el_lookups::{block_txids, coin, find_tx, hashes, header, place, spender};
@@ -16,7 +16,6 @@ use el_outside::{Archive, DiskFailed, Place};
 use el_rows::{Rows, Table, Txn};
 use el_tx::Outpoint;
 use std::alloc::Global;
-use std::sync::ledger::Ledger as Counts;
 
 // The height of the last of so many blocks.
 fn top_of(count: u64) -> Option<u32>
@@ -41,6 +40,8 @@ impl<R: Rows> Ledger for Index<R> {
     ghost buckets = { λ l. 65536 };
 
     ghost faults = { λ l. R.faults l.rows };
+
+    ghost reads = { λ l. R.reads l.rows };
 
     ghost tells_crash = { R.tells_crash };
 
@@ -72,120 +73,75 @@ impl<R: Rows> Ledger for Index<R> {
         self.tip
     }
 
-    fn header<L: Counts + Send>(
-        &mut self,
-        h: u32,
-        steps: &mut Steps<L>,
-    ) -> Result<[u8; 80], DiskFailed> {
+    fn header(&mut self, h: u32) -> Result<[u8; 80], DiskFailed> {
         let mut txn = Txn::new(self.alloc, &mut self.rows);
-        let found = header(&mut txn, h, steps)?;
+        let found = header(&mut txn, h)?;
         Ok(found)
     }
 
-    fn place<L: Counts + Send>(
-        &mut self,
-        h: u32,
-        steps: &mut Steps<L>,
-    ) -> Result<Place, DiskFailed> {
+    fn place(&mut self, h: u32) -> Result<Place, DiskFailed> {
         let mut txn = Txn::new(self.alloc, &mut self.rows);
-        let found = place(&mut txn, h, steps)?;
+        let found = place(&mut txn, h)?;
         Ok(found)
     }
 
-    fn hashes<L: Counts + Send>(
-        &mut self,
-        alloc: Global,
-        upto: u32,
-        steps: &mut Steps<L>,
-    ) -> Result<Vec<Hash32>, QueryFault> {
+    fn hashes(&mut self, alloc: Global, upto: u32) -> Result<Vec<Hash32>, QueryFault> {
         let mut txn = Txn::new(self.alloc, &mut self.rows);
-        let found = hashes(alloc, &mut txn, upto, steps)?;
+        let found = hashes(alloc, &mut txn, upto)?;
         Ok(found)
     }
 
-    fn history<L: Counts + Send>(
-        &mut self,
-        alloc: Global,
-        script_hash: &Hash32,
-        steps: &mut Steps<L>,
-    ) -> Result<Vec<Entry>, QueryFault> {
+    fn history(&mut self, alloc: Global, script_hash: &Hash32) -> Result<Vec<Entry>, QueryFault> {
         let mut txn = Txn::new(self.alloc, &mut self.rows);
-        let found = history(alloc, &mut txn, script_hash, steps)?;
+        let found = history(alloc, &mut txn, script_hash)?;
         Ok(found)
     }
 
-    fn unspent<L: Counts + Send>(
-        &mut self,
-        alloc: Global,
-        script_hash: &Hash32,
-        steps: &mut Steps<L>,
-    ) -> Result<Vec<Coin>, QueryFault> {
+    fn unspent(&mut self, alloc: Global, script_hash: &Hash32) -> Result<Vec<Coin>, QueryFault> {
         let mut txn = Txn::new(self.alloc, &mut self.rows);
-        let found = unspent(alloc, &mut txn, script_hash, steps)?;
+        let found = unspent(alloc, &mut txn, script_hash)?;
         Ok(found)
     }
 
-    fn balance<L: Counts + Send>(
-        &mut self,
-        script_hash: &Hash32,
-        steps: &mut Steps<L>,
-    ) -> Result<u64, DiskFailed> {
+    fn balance(&mut self, script_hash: &Hash32) -> Result<u64, DiskFailed> {
         let mut txn = Txn::new(self.alloc, &mut self.rows);
-        let found = balance(&mut txn, script_hash, steps)?;
+        let found = balance(&mut txn, script_hash)?;
         Ok(found)
     }
 
-    fn find_tx<L: Counts + Send>(
-        &mut self,
-        txid: &Hash32,
-        steps: &mut Steps<L>,
-    ) -> Result<Option<Spot>, DiskFailed> {
+    fn find_tx(&mut self, txid: &Hash32) -> Result<Option<Spot>, DiskFailed> {
         let mut txn = Txn::new(self.alloc, &mut self.rows);
-        let found = find_tx(&mut txn, txid, steps)?;
+        let found = find_tx(&mut txn, txid)?;
         Ok(found)
     }
 
-    fn block_txids<L: Counts + Send>(
-        &mut self,
-        alloc: Global,
-        h: u32,
-        steps: &mut Steps<L>,
-    ) -> Result<Vec<Hash32>, QueryFault> {
+    fn block_txids(&mut self, alloc: Global, h: u32) -> Result<Vec<Hash32>, QueryFault> {
         let mut txn = Txn::new(self.alloc, &mut self.rows);
-        let found = block_txids(alloc, &mut txn, h, steps)?;
+        let found = block_txids(alloc, &mut txn, h)?;
         Ok(found)
     }
 
-    fn coin<L: Counts + Send>(
-        &mut self,
-        o: &Outpoint,
-        steps: &mut Steps<L>,
-    ) -> Result<Option<Coin>, DiskFailed> {
+    fn coin(&mut self, o: &Outpoint) -> Result<Option<Coin>, DiskFailed> {
         let mut txn = Txn::new(self.alloc, &mut self.rows);
-        let found = coin(&mut txn, o, steps)?;
+        let found = coin(&mut txn, o)?;
         Ok(found)
     }
 
-    fn spender<L: Counts + Send>(
-        &mut self,
-        o: &Outpoint,
-        steps: &mut Steps<L>,
-    ) -> Result<Option<Entry>, DiskFailed> {
+    fn spender(&mut self, o: &Outpoint) -> Result<Option<Entry>, DiskFailed> {
         let mut txn = Txn::new(self.alloc, &mut self.rows);
-        let found = spender(&mut txn, o, steps)?;
+        let found = spender(&mut txn, o)?;
         Ok(found)
     }
 
-    fn go<A: Archive, L: Counts + Send>(
+    fn go<A: Archive>(
         &mut self,
         alloc: Global,
         plan: &Plan,
         archive: &mut A,
-        steps: &mut Steps<L>,
     ) -> Result<Moved, MoveFault> {
         let texts = read_all(alloc, archive, plan.forward.as_slice())?;
         let mut touched = Touched::new(alloc);
-        let tip = self.change(alloc, plan, texts.as_slice(), &mut touched, steps)?;
+        let tip = self.change(alloc, plan, texts.as_slice(), &mut touched)?;
         // The list says that no script hash stands twice.
         let _listed = touched.list();
         self.tip = tip;

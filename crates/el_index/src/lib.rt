@@ -10,6 +10,3 @@ mod ledger_impl;
 mod step_faults;
 
 pub use index::Index;
-
-#[cfg(test)]
-mod tests;

@@ -2,19 +2,16 @@
 ghost use Rattle.std.specs.Prelude.{◌≡◌, ◌≢◌, ◌⊎◌, ◌≤◌, ◌-◌, ◌++◌, ◌∷◌, [], length, IfErr, OnOk};
 ghost use Rattle.el_chain.specs.declared.placed.Placed as shape;
 ghost use Rattle.el_chain.specs.Chains.{Chain};
-ghost use Rattle.el_outside.specs.Counts.{CountsOnly};
-ghost use Rattle.el_rows.specs.Transaction.{tables_in, OnlyReads};
+ghost use Rattle.el_rows.specs.Transaction.{tables_in, ReadsRows, EditsRows};
 ghost use Rattle.el_rows.specs.declared.table.Table.{Table};
 ghost use Rattle.el_stands.specs.Standing.{StandFor};
 ghost use Rattle.el_index.specs.within.Adding.{AreAdded, IsOwn};
 
-use el_base::Steps;
 use el_chain::{MoveFault, Touched};
 use el_model::QueryFault;
 use el_rows::{Rows, Txn};
 use el_touching::touch_last;
 use el_undo::disconnect;
-use std::sync::ledger::Ledger as Counts;
 
 // The fault of a step, as a move's.
 fn step_fault(fault: QueryFault) -> MoveFault
@@ -29,47 +26,31 @@ fn step_fault(fault: QueryFault) -> MoveFault
 }
 
 // Adds the script hashes that the last block touches.
-pub(crate) fn touch<R: Rows, L: Counts>(
-    t: &mut Txn<'_, R>,
-    touched: &mut Touched,
-    steps: &mut Steps<L>,
-) -> Result<(), MoveFault>
+pub(crate) fn touch<R: Rows>(t: &mut Txn<'_, R>, touched: &mut Touched) -> Result<(), MoveFault>
     requires live { R.is_live t.old.rows.now }
     ensures touched { (chain : Chain) (b : shape.Placed) → R.tells
         → StandFor (tables_in t.old) (chain ++ b ∷ [])
         → OnOk result (AreAdded chain (b ∷ []) touched.old touched.new) }
-    ensures tables { tables_in t.new ≡ tables_in t.old }
-    ensures reads { OnlyReads t.old t.new }
-    ensures name { t.new.rows.ghost_name ≡ t.old.rows.ghost_name }
-    ensures ticked { steps.old ≤ steps.new }
-    ensures cause { CountsOnly (R.faults t.old.rows.now) (R.faults t.new.rows.now)
-        MoveFault.DiskFailed result }
+    ensures read { ReadsRows MoveFault.DiskFailed t.old t.new result }
     ensures own { IfErr result IsOwn }
 {
-    match touch_last(t, touched, steps) {
+    match touch_last(t, touched) {
         Ok(()) => Ok(()),
         Err(fault) => Err(step_fault(fault)),
     }
 }
 
 // Takes the last block back.
-pub(crate) fn undo<R: Rows, L: Counts>(
-    t: &mut Txn<'_, R>,
-    steps: &mut Steps<L>,
-) -> Result<(), MoveFault>
+pub(crate) fn undo<R: Rows>(t: &mut Txn<'_, R>) -> Result<(), MoveFault>
     requires live { R.is_live t.old.rows.now }
     ensures undone { (chain : Chain) (b : shape.Placed) → R.tells
         → StandFor (tables_in t.old) (chain ++ b ∷ []) → OnOk result (StandFor (tables_in t.new) chain) }
     ensures fewer { OnOk result (length (tables_in t.new Table.Blocks)
         ≡ length (tables_in t.old Table.Blocks) - 1) }
-    ensures reads { OnlyReads t.old t.new }
-    ensures name { t.new.rows.ghost_name ≡ t.old.rows.ghost_name }
-    ensures ticked { steps.old ≤ steps.new }
-    ensures cause { CountsOnly (R.faults t.old.rows.now) (R.faults t.new.rows.now)
-        MoveFault.DiskFailed result }
+    ensures edits { EditsRows MoveFault.DiskFailed t.old t.new result }
     ensures own { IfErr result IsOwn }
 {
-    match disconnect(t, steps) {
+    match disconnect(t) {
         Ok(()) => Ok(()),
         Err(fault) => Err(step_fault(fault)),
     }

@@ -1,3 +1,2 @@
-mod Named
 mod Results
 mod Starts

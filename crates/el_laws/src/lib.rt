@@ -8,12 +8,3 @@ mod undoing;
 pub use exact::rows_of_two_indexes;
 pub use life::moves_over_versions;
 pub use undoing::{connect_and_disconnect, disconnect_and_connect};
-
-#[cfg(test)]
-mod back_tests;
-#[cfg(test)]
-mod table_tests;
-#[cfg(test)]
-mod tests;
-#[cfg(test)]
-mod walk_tests;

@@ -2,14 +2,13 @@
 ghost use Rattle.std.specs.Prelude.{◌≡◌, [], IfOk};
 ghost use Rattle.el_model.specs.Going.{AreMovesOf, IsSafe};
 
-use el_base::{Listed, Steps};
+use el_base::Listed;
 use el_chain::Plan;
 use el_index::Index;
 use el_model::{Ledger, Mark, QueryFault, Stop, go_on};
 use el_outside::Archive;
 use el_rows::VersionedRows;
 use std::alloc::Global;
-use std::sync::ledger::Ledger as Counts;
 
 /// Makes moves from no blocks on, up to the first that is refused or whose commit fails, over rows in
 /// memory of which so many commits are good. Those rows tell what a crash may leave of them: so what is
@@ -18,13 +17,12 @@ use std::sync::ledger::Ledger as Counts;
 /// # Errors
 ///
 /// `QueryFault::Memory`, and `QueryFault::DiskFailed` where the rows can't be read before the first move.
-pub fn moves_over_versions<A: Archive, L: Counts + Send>(
+pub fn moves_over_versions<A: Archive>(
     alloc: Global,
     good: u64,
     plans: &[Plan],
     archive: &mut A,
     sent: &mut Listed<Mark>,
-    steps: &mut Steps<L>,
 ) -> Result<(Index<VersionedRows>, Result<(), Stop>), QueryFault>
     requires follow { AreMovesOf (λ chain. chain ≡ []) plans.now }
     requires none { sent.old ≡ [] }
@@ -35,10 +33,10 @@ pub fn moves_over_versions<A: Archive, L: Counts + Send>(
         (⟦<Index<VersionedRows> as Ledger>⟧.moment r.0)) plans.now [] sent.new) }
 {
     let rows = VersionedRows::new(alloc, good)?;
-    match Index::over(alloc, rows, steps) {
+    match Index::over(alloc, rows) {
         Ok(index) => {
             let mut index = index;
-            let end = go_on(alloc, &mut index, plans, archive, sent, steps);
+            let end = go_on(alloc, &mut index, plans, archive, sent);
             Ok((index, end))
         }
         Err((fault, _)) => Err(QueryFault::from(fault)),

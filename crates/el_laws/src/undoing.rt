@@ -3,13 +3,11 @@ ghost use Rattle.std.specs.Prelude.{◌≡◌, ◌↔◌, ◌++◌, ◌∷◌, [
 ghost use Rattle.el_block.specs.Blocks.{HasBlockEncoding};
 ghost use Rattle.el_block.specs.declared.block.Block as shape;
 ghost use Rattle.el_chain.specs.Chains.{Chain, tip};
-ghost use Rattle.el_outside.specs.Counts.{CountsOnly};
 ghost use Rattle.el_prepare.specs.Prepared.{prepared};
 ghost use Rattle.el_rows.specs.Reads.{Same};
-ghost use Rattle.el_rows.specs.Transaction.{tables_in};
+ghost use Rattle.el_rows.specs.Transaction.{tables_in, EditsRows};
 ghost use Rattle.el_stands.specs.Standing.{StandFor};
 
-use el_base::Steps;
 use el_chain::ConnectFault;
 use el_connect::connect;
 use el_model::QueryFault;
@@ -17,7 +15,6 @@ use el_outside::Place;
 use el_prepare::Prepared;
 use el_rows::{Rows, Txn};
 use el_undo::disconnect;
-use std::sync::ledger::Ledger;
 
 // A fault of a step back as that of a connection.
 fn connect_fault(fault: QueryFault) -> ConnectFault
@@ -30,33 +27,30 @@ fn connect_fault(fault: QueryFault) -> ConnectFault
 }
 
 /// Puts a block in and takes it back: the rows are those before, byte for byte.
-pub fn connect_and_disconnect<R: Rows, L: Ledger>(
+pub fn connect_and_disconnect<R: Rows>(
     t: &mut Txn<'_, R>,
     b: &Prepared,
     place: Place,
-    steps: &mut Steps<L>,
 ) -> Result<(), ConnectFault>
     requires live { R.is_live t.old.rows.now }
     requires prepared { (block : shape.Block) × HasBlockEncoding block × (b.now ≡ prepared block) }
     ensures same { (chain : Chain) (block : shape.Block) → R.tells → StandFor (tables_in t.old) chain
         → HasBlockEncoding block → b.now ≡ prepared block → block.header.previous ≡ tip chain
         → OnOk result (Same (tables_in t.old) (tables_in t.new)) }
-    ensures cause { CountsOnly (R.faults t.old.rows.now) (R.faults t.new.rows.now) ConnectFault.DiskFailed
-        result }
+    ensures edits { EditsRows ConnectFault.DiskFailed t.old t.new result }
 {
-    connect(t, b, place, steps)?;
-    match disconnect(t, steps) {
+    connect(t, b, place)?;
+    match disconnect(t) {
         Ok(()) => Ok(()),
         Err(fault) => Err(connect_fault(fault)),
     }
 }
 
 /// Takes the last block back and puts it in again: the rows are those before, byte for byte.
-pub fn disconnect_and_connect<R: Rows, L: Ledger>(
+pub fn disconnect_and_connect<R: Rows>(
     t: &mut Txn<'_, R>,
     b: &Prepared,
     place: Place,
-    steps: &mut Steps<L>,
 ) -> Result<(), ConnectFault>
     requires live { R.is_live t.old.rows.now }
     requires prepared { (block : shape.Block) × HasBlockEncoding block × (b.now ≡ prepared block) }
@@ -64,11 +58,10 @@ pub fn disconnect_and_connect<R: Rows, L: Ledger>(
         → StandFor (tables_in t.old) (chain ++ record { block = block; place = place } ∷ [])
         → HasBlockEncoding block → b.now ≡ prepared block → block.header.previous ≡ tip chain
         → OnOk result (Same (tables_in t.old) (tables_in t.new)) }
-    ensures cause { CountsOnly (R.faults t.old.rows.now) (R.faults t.new.rows.now) ConnectFault.DiskFailed
-        result }
+    ensures edits { EditsRows ConnectFault.DiskFailed t.old t.new result }
 {
-    match disconnect(t, steps) {
-        Ok(()) => connect(t, b, place, steps),
+    match disconnect(t) {
+        Ok(()) => connect(t, b, place),
         Err(fault) => Err(connect_fault(fault)),
     }
 }

@@ -6,7 +6,7 @@ use Rattle.el_outside.specs.Moments.{LeavesOnly, LeftNow}
 use Rattle.el_outside.proofs.Moments.{joined, weaker}
 use Rattle.el_rows.specs.declared.table.Table.{Table}
 use Rattle.el_rows.specs.Tables.{Tables, tables_of}
-use Rattle.el_rows.specs.Reads.{OnlyRead, Unchanged, Same, IsEither}
+use Rattle.el_rows.specs.Reads.{CountedRows, OnlyRead, Same, IsEither}
 use Rattle.el_rows.specs.Changes.{Update, under}
 use Rattle.el_journal.specs.declared.mark.TheConstants.{JOURNAL}
 use Rattle.el_journal.specs.Entries.{HasEntries, SameJournal}
@@ -14,65 +14,49 @@ use Rattle.el_journal.specs.Journals.{JournalState, Holds, OnlyJournal, IsOnlyRe
 use Rattle.el_journal.proofs.Steps.{now_in}
 use Rattle.el_logstore.specs.declared.store.LogStore.{LogStore}
 use Rattle.el_logstore.specs.Images.{no_rows, Commits, Makes, Shows}
-use Rattle.el_logstore.specs.Stores.{IsKept, IsLive, IsLeft, kept_shows}
+use Rattle.el_logstore.specs.Stores.{IsKept, IsLive, IsLeft}
 use Rattle.el_logstore.proofs.MakesLemmas.{makes_more, makes_same}
 
 module _ {D N : Type 0} (G : disk.Ghosts D) (magic : List ℕ) where
   -- the rows of a store stay the same
-  pub kept_rows : (old : LogStore D N) (rows : List (List (List ℕ))) → tables_of rows ≡ tables_of old.rows → IsKept G magic old → IsKept G magic (record old { rows = rows })
+  pub kept_rows : (old : LogStore D N) (rows : CountedRows) → tables_of rows.rows ≡ tables_of old.rows.rows → IsKept G magic old → IsKept G magic (record old { rows = rows })
   kept_rows old rows same kept = record {
     entries = kept.entries;
     holds = kept.holds;
     made = subst (λ (l : Tables). Makes magic no_rows kept.entries l) (sym same) kept.made;
   }
 
-  pub live_rows : (old : LogStore D N) (rows : List (List (List ℕ))) → tables_of rows ≡ tables_of old.rows → IsLive G magic old → IsLive G magic (record old { rows = rows })
+  pub live_rows : (old : LogStore D N) (rows : CountedRows) → tables_of rows.rows ≡ tables_of old.rows.rows → IsLive G magic old → IsLive G magic (record old { rows = rows })
   live_rows old rows same live told = kept_rows old rows same (live told)
 
-  -- since then nothing but the store's rows was left
-  pub left_rows : (old : LogStore D N) (rows : List (List (List ℕ))) → IsKept G magic old
-      → LeavesOnly (λ (s : LogStore D N). G.moment s.journal.disk) (IsLeft G) old (record old { rows = rows }) (λ (c : Image). Shows magic c (tables_of old.rows))
-  left_rows old rows kept = record {
-    later = omega arith;
-    each = λ c left. kept_shows G magic old c kept left.1;
-    before = λ t c le left. inl left;
-  }
-
-  pub rows_read : (old : LogStore D N) (rows : List (List (List ℕ))) → tables_of rows ≡ tables_of old.rows → IsLive G magic old
-      → OnlyRead (λ (s : LogStore D N). tables_of s.rows) (λ (s : LogStore D N) (t : Table). length (tables_of s.rows t)) (IsLive G magic) G.tells (λ (s : LogStore D N). G.moment s.journal.disk) (IsLeft G)
-      (λ (c : Image) (tables : Tables). Shows magic c tables) old (record old { rows = rows })
+  -- the disk below is what it was
+  pub rows_read : (old : LogStore D N) (rows : CountedRows) → tables_of rows.rows ≡ tables_of old.rows.rows → IsLive G magic old
+      → OnlyRead (λ (s : LogStore D N). tables_of s.rows.rows) (λ (s : LogStore D N) (t : Table). length (tables_of s.rows.rows t)) (IsLive G magic) G.tells (λ (s : LogStore D N). G.moment s.journal.disk) (IsLeft G)
+      old (record old { rows = rows })
   rows_read old rows same live = record {
     same = same;
     count = ap (λ (l : Tables). let f : Table → ℕ = λ t. length (l t) in f) same;
     live = live_rows old rows same live;
-    crash = λ told. left_rows old rows (live told);
-  }
-
-  pub rows_unchanged : (old : LogStore D N) (rows : List (List (List ℕ))) → tables_of rows ≡ tables_of old.rows → IsLive G magic old
-      → Unchanged (λ (s : LogStore D N). tables_of s.rows) (λ (s : LogStore D N) (t : Table). length (tables_of s.rows t)) (IsLive G magic) old (record old { rows = rows })
-  rows_unchanged old rows same live = record {
-    same = same;
-    count = ap (λ (l : Tables). let f : Table → ℕ = λ t. length (l t) in f) same;
-    live = live_rows old rows same live;
+    crash = λ told. record { later = omega arith; before = λ t c le left. left };
   }
 
   -- one commit more
-  module _ (old : LogStore D N) (rows : List (List (List ℕ))) (journal : JournalState D) (update : Update) (body : List ℕ) (kept : IsKept G magic old)
-      (commits : Commits magic (tables_of old.rows) body update) where
-    made : Makes magic no_rows (kept.entries ++ body ∷ []) (under (tables_of old.rows) update.counts update.changes)
-    made = makes_more magic no_rows kept.entries (tables_of old.rows) body update kept.made commits
+  module _ (old : LogStore D N) (rows : CountedRows) (journal : JournalState D) (update : Update) (body : List ℕ) (kept : IsKept G magic old)
+      (commits : Commits magic (tables_of old.rows.rows) body update) where
+    made : Makes magic no_rows (kept.entries ++ body ∷ []) (under (tables_of old.rows.rows) update.counts update.changes)
+    made = makes_more magic no_rows kept.entries (tables_of old.rows.rows) body update kept.made commits
 
-    pub kept_more : Holds G journal (kept.entries ++ body ∷ []) → Same (under (tables_of old.rows) update.counts update.changes) (tables_of rows)
+    pub kept_more : Holds G journal (kept.entries ++ body ∷ []) → Same (under (tables_of old.rows.rows) update.counts update.changes) (tables_of rows.rows)
         → IsKept G magic (record old { rows = rows; journal = journal })
     kept_more holds same = record {
       entries = kept.entries ++ body ∷ [];
       holds = holds;
-      made = makes_same magic no_rows (kept.entries ++ body ∷ []) (under (tables_of old.rows) update.counts update.changes) (tables_of rows) made same;
+      made = makes_same magic no_rows (kept.entries ++ body ∷ []) (under (tables_of old.rows.rows) update.counts update.changes) (tables_of rows.rows) made same;
     }
 
     -- until then the image has the entries without it or with it
     shows_either : (c : Image) → HasEither kept.entries body (c JOURNAL)
-        → Shows magic c (tables_of old.rows) ⊎ Shows magic c (under (tables_of old.rows) update.counts update.changes)
+        → Shows magic c (tables_of old.rows.rows) ⊎ Shows magic c (under (tables_of old.rows.rows) update.counts update.changes)
     shows_either c has = ⊎_elim
         (λ (was : HasEntries (c JOURNAL) kept.entries). inl (record {
           entries = kept.entries;
@@ -88,7 +72,7 @@ module _ {D N : Type 0} (G : disk.Ghosts D) (magic : List ℕ) where
 
     pub left_either : OnlyJournal G (λ a b. HasEither kept.entries body b) old.journal.disk journal.disk
         → LeavesOnly (λ (s : LogStore D N). G.moment s.journal.disk) (IsLeft G) old (record old { rows = rows; journal = journal })
-        (IsEither (λ (c : Image) (tables : Tables). Shows magic c tables) (tables_of old.rows) (under (tables_of old.rows) update.counts update.changes))
+        (IsEither (λ (c : Image) (tables : Tables). Shows magic c tables) (tables_of old.rows.rows) (under (tables_of old.rows.rows) update.counts update.changes))
     left_either run = record {
       later = run.crash.later;
       each = λ c left. shows_either c (run.crash.each c left.1).2.here;

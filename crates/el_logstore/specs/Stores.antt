@@ -16,7 +16,7 @@ use Rattle.el_logstore.specs.Images.{no_rows, Makes, Shows}
 
 -- the rows of a store
 abbrev pub lists_in : {D N : Type 0} → LogStore D N → Tables
-lists_in store = tables_of store.rows
+lists_in store = tables_of store.rows.rows
 
 -- the disk below it
 abbrev pub disk_below : {D N : Type 0} → LogStore D N → D
@@ -26,7 +26,7 @@ disk_below store = store.journal.disk
 pub record IsKept {D N : Type 0} (G : disk.Ghosts D) (magic : List ℕ) (store : LogStore D N) : Type 0 where
   pub entries : List (List ℕ)
   pub holds : Holds G store.journal entries
-  pub made : Makes magic no_rows entries (tables_of store.rows)
+  pub made : Makes magic no_rows entries (tables_of store.rows.rows)
 
 -- a store over a disk that tells has what its journal has
 abbrev pub IsLive : {D N : Type 0} → disk.Ghosts D → List ℕ → LogStore D N → Type 0
@@ -51,9 +51,9 @@ held_shows G magic journal entries tables image holds made left = record {
 -- between calls it stands for the store's rows
 pub kept_shows : {D N : Type 0} (G : disk.Ghosts D) (magic : List ℕ) (store : LogStore D N) (image : Image)
     → IsKept G magic store → G.left_since store.journal.disk (G.moment store.journal.disk) image
-    → Shows magic image (tables_of store.rows)
+    → Shows magic image (tables_of store.rows.rows)
 kept_shows G magic store image kept left =
-    held_shows G magic store.journal kept.entries (tables_of store.rows) image kept.holds kept.made left
+    held_shows G magic store.journal kept.entries (tables_of store.rows.rows) image kept.holds kept.made left
 
 -- what an opening gives back: the disk, also where it is refused, and the fault alone
 abbrev pub disk_in : {D N : Type 0} → Result (LogStore D N) (OpenFault × D) → D

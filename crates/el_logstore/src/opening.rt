@@ -49,11 +49,11 @@ fn redo(
     body: &[u8],
     i: u64,
 ) -> Result<(), OpenFault>
-    ensures made { OnOk result ((update : Update) × Commits magic (tables_of rows.old) body.now update
-        × Same (under (tables_of rows.old) update.counts update.changes) (tables_of rows.new)) }
+    ensures made { OnOk result ((update : Update) × Commits magic (tables_of rows.old.rows) body.now update
+        × Same (under (tables_of rows.old.rows) update.counts update.changes) (tables_of rows.new.rows)) }
     ensures bad { IfErr result (λ e. (file wanted found : ℕ) → e ≡ fault.BadIndex file wanted found
         → (file ≡ JOURNAL) × (wanted ≡ 1) × (found ≡ i)
-        × ((update : Update) → Commits magic (tables_of rows.old) body.now update → ⊥)) }
+        × ((update : Update) → Commits magic (tables_of rows.old.rows) body.now update → ⊥)) }
     ensures no_disk { IfErr result (λ e. e ≢ fault.DiskFailed) }
 {
     match apply(alloc, rows, magic, body) {
@@ -74,9 +74,9 @@ fn replay<D: Disk>(
     rows: &mut VecRows,
     magic: [u8; 4],
 ) -> Result<(), OpenFault>
-    requires { Same no_rows (tables_of rows.old) }
+    requires { Same no_rows (tables_of rows.old.rows) }
     ensures made { (entries : List (List ℕ)) → Holds ⟦<D as Disk>⟧ journal.old entries
-        → OnOk result (Makes magic no_rows entries (tables_of rows.new)) }
+        → OnOk result (Makes magic no_rows entries (tables_of rows.new.rows)) }
     ensures bad { (entries : List (List ℕ)) → Holds ⟦<D as Disk>⟧ journal.old entries
         → IfErr result (λ e. (file wanted found : ℕ) → e ≡ fault.BadIndex file wanted found
         → (file ≡ JOURNAL) × (wanted ≡ 1) × HasNoCommitAt magic entries found) }

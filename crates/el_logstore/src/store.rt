@@ -5,14 +5,12 @@ ghost use Rattle.el_rows.specs.Tables.{Tables, tables_of};
 ghost use Rattle.el_logstore.specs.Images.{Shows};
 ghost use Rattle.el_logstore.specs.Stores.{IsLeft, IsLive, kept_shows, disk_below};
 
-use el_base::Steps;
 use el_journal::Journal;
 use el_outside::{Disk, DiskFailed};
 use el_redo::{NetworkMagic, redo_body};
 use el_rows::{CommitFault, Rows, Sealed, Table, VecRows};
 use std::alloc::Global;
 use std::marker::PhantomData;
-use std::sync::ledger::Ledger;
 
 /// Tables in memory, with the commits that made them in a journal over a disk: each commit is one entry, the
 /// body of a redo record for the network that its type names. Rows are read from memory. After a commit that
@@ -52,9 +50,9 @@ impl<D: Disk, N: NetworkMagic> Rows for LogStore<D, N> {
 
     ghost tells_crash = { D.tells };
 
-    ghost lists = { λ s. tables_of s.rows };
+    ghost lists = { λ s. tables_of s.rows.rows };
 
-    ghost counts = { λ s t. length (tables_of s.rows t) };
+    ghost counts = { λ s t. length (tables_of s.rows.rows t) };
 
     ghost is_live = { λ s. IsLive ⟦<D as Disk>⟧ N.magic s };
 
@@ -68,6 +66,8 @@ impl<D: Disk, N: NetworkMagic> Rows for LogStore<D, N> {
 
     ghost faults = { λ s. D.faults s.journal.disk };
 
+    ghost reads = { λ s. s.rows.reads };
+
     ghost counted = { λ s t told. refl };
 
     ghost earlier = { λ s t u image le left.
@@ -80,14 +80,8 @@ impl<D: Disk, N: NetworkMagic> Rows for LogStore<D, N> {
         self.rows.count(t)
     }
 
-    fn row<L: Ledger>(
-        &mut self,
-        t: Table,
-        i: u64,
-        buf: &mut [u8],
-        steps: &mut Steps<L>,
-    ) -> Result<(), DiskFailed> {
-        self.rows.row(t, i, buf, steps)
+    fn row(&mut self, t: Table, i: u64, buf: &mut [u8]) -> Result<(), DiskFailed> {
+        self.rows.row(t, i, buf)
     }
 
     fn commit(&mut self, sealed: &Sealed) -> Result<(), CommitFault> {

@@ -12,6 +12,3 @@ mod walk;
 pub use blocks::{block_txids, hashes, header, place};
 pub use outputs::{coin, spender};
 pub use transactions::find_tx;
-
-#[cfg(test)]
-mod tests;

@@ -2,8 +2,7 @@
 // ends at.
 ghost use Rattle.std.specs.Prelude.{◌≡◌, ◌<◌, ◌≤◌, ◌+◌, ◌*◌, ◌^◌, ℕ, List, length, map, IfOk, Some, None, option_map, slice_get};
 ghost use Rattle.std.specs.Option.{ForSome};
-ghost use Rattle.el_outside.specs.Counts.{HasCause};
-ghost use Rattle.el_rows.specs.Transaction.{tables_in, OnlyReads};
+ghost use Rattle.el_rows.specs.Transaction.{tables_in, reads_in, disk_failed, ReadsRows};
 ghost use Rattle.el_rows.specs.declared.table.Table.{Table};
 ghost use Rattle.el_tables.specs.ChainLists.{ListedBlock};
 ghost use Rattle.el_tables.specs.Lists.{Lists, ListedTx, newest_tx};
@@ -14,11 +13,10 @@ ghost use Rattle.el_buckets.specs.Rows.{Encode, Hold, tx_fields};
 ghost use Rattle.el_lookups.specs.within.Found.{number_of};
 
 use crate::row::tx_row;
-use el_base::{Hash32, Steps};
+use el_base::Hash32;
 use el_buckets::if_below;
 use el_outside::DiskFailed;
 use el_rows::{HeadRow, Rows, Table, TxRow, Txn};
-use std::sync::ledger::Ledger;
 
 // A transaction that is there.
 #[derive(Clone, Copy, Debug, PartialEq, Eq)]
@@ -42,40 +40,31 @@ fn bucket_of(hash: &Hash32, count: u64) -> u64
 }
 
 // The newest transaction in the txid's bucket; none where there are no heads.
-fn newest_in_bucket<R: Rows, L: Ledger>(
-    t: &mut Txn<'_, R>,
-    txid: &Hash32,
-    steps: &mut Steps<L>,
-) -> Result<Option<u64>, DiskFailed>
+fn newest_in_bucket<R: Rows>(t: &mut Txn<'_, R>, txid: &Hash32) -> Result<Option<u64>, DiskFailed>
     requires live { R.is_live t.old.rows.now }
     ensures head { (counts : HeadCounts) (bs : List ListedBlock) (l : Lists) → R.tells
         → Hold counts bs l (tables_in t.old) → 0 < counts.txs
         → IfOk result (λ n. n ≡ bucket_head counts.txs txid.now (map (λ (x : ListedTx). x.txid) l.txs)) }
     ensures none { length (tables_in t.old Table.TxHeads) ≡ 0 → IfOk result (λ n. n ≡ None) }
-    ensures idle { length (tables_in t.old Table.TxHeads) ≡ 0 → steps.new ≡ steps.old }
+    ensures idle { length (tables_in t.old Table.TxHeads) ≡ 0 → reads_in t.new ≡ reads_in t.old }
     ensures below { IfOk result (λ n. ForSome n (λ k. k < length (tables_in t.old Table.Txs))) }
     ensures few { IfOk result (λ n. ForSome n (λ k. k < 2 ^ 32)) }
-    ensures tables { tables_in t.new ≡ tables_in t.old }
-    ensures reads { OnlyReads t.old t.new }
-    ensures name { t.new.rows.ghost_name ≡ t.old.rows.ghost_name }
-    ensures ticked { steps.old ≤ steps.new }
-    ensures tick { steps.new ≤ steps.old + 1 }
-    ensures cause { HasCause (R.faults t.old.rows.now) (R.faults t.new.rows.now) result }
+    ensures read { ReadsRows disk_failed t.old t.new result }
+    ensures rows { reads_in t.new ≤ reads_in t.old + 1 }
 {
     let count = t.count(Table::TxHeads);
     if count == 0 {
         return Ok(None);
     }
     let mut bytes = [0; 4];
-    t.get(Table::TxHeads, bucket_of(txid, count), &mut bytes, steps)?;
+    t.get(Table::TxHeads, bucket_of(txid, count), &mut bytes)?;
     Ok(if_below(HeadRow::read(&bytes).head, t.count(Table::Txs)))
 }
 
 // The newest transaction with the txid, and none exactly where there is none. It takes no memory.
-pub(crate) fn newest_row<R: Rows, L: Ledger>(
+pub(crate) fn newest_row<R: Rows>(
     t: &mut Txn<'_, R>,
     txid: &Hash32,
-    steps: &mut Steps<L>,
 ) -> Result<Option<NumberedTx>, DiskFailed>
     requires live { R.is_live t.old.rows.now }
     ensures newest { (counts : HeadCounts) (bs : List ListedBlock) (l : Lists) → R.tells
@@ -84,23 +73,19 @@ pub(crate) fn newest_row<R: Rows, L: Ledger>(
     ensures row { (tb : typed.Tables) → R.tells → Encode (tables_in t.old) tb → IfOk result
         (λ f. ForSome f (λ x. Some x.row ≡ option_map tx_fields (slice_get tb.txs x.number))) }
     // It reads one head, and rows of transactions in the txid's bucket, each once.
-    ensures steps { (counts : HeadCounts) (bs : List ListedBlock) (l : Lists) → R.tells
+    ensures rows { (counts : HeadCounts) (bs : List ListedBlock) (l : Lists) → R.tells
         → Hold counts bs l (tables_in t.old) → 0 < counts.txs
-        → steps.new
-        ≤ steps.old + 1 + bucket_size counts.txs txid.now (map (λ (x : ListedTx). x.txid) l.txs) }
+        → reads_in t.new ≤ reads_in t.old + 1
+        + bucket_size counts.txs txid.now (map (λ (x : ListedTx). x.txid) l.txs) }
     // What follows holds over any rows.
     ensures none { length (tables_in t.old Table.TxHeads) ≡ 0 → IfOk result (λ f. f ≡ None) }
-    ensures idle { length (tables_in t.old Table.TxHeads) ≡ 0 → steps.new ≡ steps.old }
+    ensures idle { length (tables_in t.old Table.TxHeads) ≡ 0 → reads_in t.new ≡ reads_in t.old }
     ensures few { IfOk result (λ f. ForSome f (λ x. x.number < 2 ^ 32)) }
-    ensures tables { tables_in t.new ≡ tables_in t.old }
-    ensures reads { OnlyReads t.old t.new }
-    ensures name { t.new.rows.ghost_name ≡ t.old.rows.ghost_name }
-    ensures ticked { steps.old ≤ steps.new }
-    ensures cause { HasCause (R.faults t.old.rows.now) (R.faults t.new.rows.now) result }
+    ensures read { ReadsRows disk_failed t.old t.new result }
 {
-    let mut link = newest_in_bucket(t, txid, steps)?;
+    let mut link = newest_in_bucket(t, txid)?;
     while let Some(number) = link {
-        let row = tx_row(t, number, steps)?;
+        let row = tx_row(t, number)?;
         if row.txid == *txid {
             return Ok(Some(NumberedTx { number, row }));
         }

@@ -1,10 +1,9 @@
 // A transaction more.
 ghost use Rattle.std.specs.Prelude.{◌≡◌, ◌<◌, ◌≤◌, ◌+◌, ◌⊎◌, ℕ, List, length, map, IfOk, IfErr, OnOk};
-ghost use Rattle.el_outside.specs.Counts.{CountsOnly};
 ghost use Rattle.el_rows.specs.declared.table.Table.{Table};
 ghost use Rattle.el_rows.specs.RowBytes.{FitsTxRow};
 ghost use Rattle.el_rows.specs.Tables.{limit_of};
-ghost use Rattle.el_rows.specs.Transaction.{tables_in, OnlyReads};
+ghost use Rattle.el_rows.specs.Transaction.{tables_in, reads_in, EditsRows};
 ghost use Rattle.el_tables.specs.ChainLists.{ListedBlock};
 ghost use Rattle.el_tables.specs.Lists as lists;
 ghost use Rattle.el_tables.specs.Tables.{HeadCounts};
@@ -12,20 +11,14 @@ ghost use Rattle.el_buckets.specs.Rows.{Hold, listed_tx};
 ghost use Rattle.el_buckets.specs.Faults.{NotAdded};
 ghost use Rattle.el_buckets.specs.Buckets.{bucket_size, OthersStay};
 
-use el_base::Steps;
 use el_buckets::{Buckets, find, push};
 use el_chain::ConnectFault;
 use el_rows::{Rows, Table, TxRow, Txn};
-use std::sync::ledger::Ledger;
 
 /// Adds a transaction after the last, and answers its number. The row's links aren't looked at: they become
 /// the newest transaction with its txid and the newest in its bucket. After a fault the transaction of rows
 /// may hold a part.
-pub fn add_tx<R: Rows, L: Ledger>(
-    t: &mut Txn<'_, R>,
-    row: &TxRow,
-    steps: &mut Steps<L>,
-) -> Result<u64, ConnectFault>
+pub fn add_tx<R: Rows>(t: &mut Txn<'_, R>, row: &TxRow) -> Result<u64, ConnectFault>
     requires live { R.is_live t.old.rows.now }
     requires fits { FitsTxRow row.now }
     // It is the step of the lists, on all tables.
@@ -34,10 +27,10 @@ pub fn add_tx<R: Rows, L: Ledger>(
         → OnOk result (Hold counts bs (lists.add_tx (listed_tx row.now) l) (tables_in t.new)) }
     ensures listed { (counts : HeadCounts) (bs : List ListedBlock) (l : lists.Lists) →
         Hold counts bs l (tables_in t.old) → IfOk result (λ n. n ≡ length l.txs) }
-    ensures steps { (counts : HeadCounts) (bs : List ListedBlock) (l : lists.Lists) → R.tells
+    ensures rows { (counts : HeadCounts) (bs : List ListedBlock) (l : lists.Lists) → R.tells
         → Hold counts bs l (tables_in t.old) → 0 < counts.txs
-        → steps.new
-        ≤ steps.old + 1 + bucket_size counts.txs row.now.txid (map (λ (x : lists.ListedTx). x.txid) l.txs) }
+        → reads_in t.new ≤ reads_in t.old + 1
+        + bucket_size counts.txs row.now.txid (map (λ (x : lists.ListedTx). x.txid) l.txs) }
     // What follows holds over any rows.
     ensures number { IfOk result (λ n. n ≡ length (tables_in t.old Table.Txs)) }
     ensures longer { OnOk result (length (tables_in t.new Table.Txs)
@@ -47,13 +40,9 @@ pub fn add_tx<R: Rows, L: Ledger>(
     ensures room { OnOk result (length (tables_in t.old Table.Txs) < limit_of Table.Txs) }
     ensures fault { IfErr result (λ e. (e ≡ ConnectFault.DiskFailed)
         ⊎ NotAdded Table.Txs (length (tables_in t.old Table.Txs)) e) }
-    ensures reads { OnlyReads t.old t.new }
-    ensures name { t.new.rows.ghost_name ≡ t.old.rows.ghost_name }
-    ensures ticked { steps.old ≤ steps.new }
-    ensures cause { CountsOnly (R.faults t.old.rows.now) (R.faults t.new.rows.now) ConnectFault.DiskFailed
-        result }
+    ensures edits { EditsRows ConnectFault.DiskFailed t.old t.new result }
 {
-    let found = find(t, Buckets::Txids, &row.txid, steps).map_err(|_| ConnectFault::DiskFailed)?;
+    let found = find(t, Buckets::Txids, &row.txid).map_err(|_| ConnectFault::DiskFailed)?;
     let linked = TxRow {
         older: found.newest,
         next: found.head,

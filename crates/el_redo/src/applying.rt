@@ -33,13 +33,14 @@ fn edits(
     bytes: &[u8],
 ) -> Result<Sealed, RedoFault>
     requires { (t : Table) → count_at counts.now t ≤ limit_of t }
-    ensures made { IfOk result (λ s. IsMadeFrom (λ t. length (tables_of rows.old t)) s.counts s.changes) }
+    ensures made { IfOk result
+        (λ s. IsMadeFrom (λ t. length (tables_of rows.old.rows t)) s.counts s.changes) }
     ensures tables { IfOk result (λ s. (changes : Changes) × (bytes.now ≡ changes_bytes changes)
-        × IsMadeFrom (λ t. length (tables_of rows.old t)) counts.now changes
-        × Same (under (tables_of rows.old) counts.now changes)
-        (under (tables_of rows.old) s.counts s.changes)) }
+        × IsMadeFrom (λ t. length (tables_of rows.old.rows t)) counts.now changes
+        × Same (under (tables_of rows.old.rows) counts.now changes)
+        (under (tables_of rows.old.rows) s.counts s.changes)) }
     ensures no_commit { result ≡ Err RedoFault.NoCommit → (changes : Changes)
-        → IsMadeFrom (λ t. length (tables_of rows.old t)) counts.now changes
+        → IsMadeFrom (λ t. length (tables_of rows.old.rows t)) counts.now changes
         → bytes.now ≡ changes_bytes changes → ⊥ }
     ensures rows { rows.new ≡ rows.old }
 {
@@ -65,11 +66,11 @@ pub fn apply(
     body: &[u8],
 ) -> Result<(), RedoFault>
     ensures ok { OnOk result ((update : Update)
-        × IsCommit magic (λ t. length (tables_of rows.old t)) body.now update
-        × Same (under (tables_of rows.old) update.counts update.changes) (tables_of rows.new)) }
+        × IsCommit magic (λ t. length (tables_of rows.old.rows t)) body.now update
+        × Same (under (tables_of rows.old.rows) update.counts update.changes) (tables_of rows.new.rows)) }
     ensures no_commit { result ≡ Err RedoFault.NoCommit → (update : Update)
-        → IsCommit magic (λ t. length (tables_of rows.old t)) body.now update → ⊥ }
-    ensures err { OnErr result (tables_of rows.new ≡ tables_of rows.old) }
+        → IsCommit magic (λ t. length (tables_of rows.old.rows t)) body.now update → ⊥ }
+    ensures err { OnErr result (tables_of rows.new.rows ≡ tables_of rows.old.rows) }
 {
     let Some(meta) = read_meta(magic, body) else {
         return Err(RedoFault::NoCommit);

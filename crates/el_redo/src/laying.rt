@@ -2,7 +2,7 @@
 ghost use Rattle.std.specs.Prelude.{◌≡◌, ◌<◌, ◌≤◌, ℕ, List, length, take, OnOk, Err, IsTrue, ◌↔◌};
 ghost use Rattle.el_rows.specs.Tables.{size_of, limit_of};
 ghost use Rattle.el_rows.specs.Changes.{Changes, count_at, IsMadeFrom, OnTable};
-ghost use Rattle.el_rows.specs.Transaction.{tables_in};
+ghost use Rattle.el_rows.specs.Transaction.{tables_in, EditsAlone};
 ghost use Rattle.el_rows.specs.declared.table.Table.{Table};
 ghost use Rattle.el_redo.specs.RedoBody.{changes_bytes};
 ghost use Rattle.el_redo.specs.within.Laying.{IsPut, IsLaid};
@@ -15,8 +15,7 @@ use el_rows::{RowKey, TABLES, Table, Txn, VecRows};
 fn cut_one(txn: &mut Txn<'_, VecRows>, counts: &[u64; TABLES], t: Table)
     ensures cut { OnTable (tables_in txn.old) (tables_in txn.new) t
         (take (count_at counts.now t) (tables_in txn.old t)) }
-    ensures rows { txn.new.rows.now ≡ txn.old.rows.now }
-    ensures name { txn.new.rows.ghost_name ≡ txn.old.rows.ghost_name }
+    ensures alone { EditsAlone txn.old txn.new }
 {
     let count = count_of(counts, t);
     if count < txn.count(t) {
@@ -27,8 +26,7 @@ fn cut_one(txn: &mut Txn<'_, VecRows>, counts: &[u64; TABLES], t: Table)
 // Leaves no more rows than the new counts.
 pub(crate) fn cut(txn: &mut Txn<'_, VecRows>, counts: &[u64; TABLES])
     ensures cut { (t : Table) → tables_in txn.new t ≡ take (count_at counts.now t) (tables_in txn.old t) }
-    ensures rows { txn.new.rows.now ≡ txn.old.rows.now }
-    ensures name { txn.new.rows.ghost_name ≡ txn.old.rows.ghost_name }
+    ensures alone { EditsAlone txn.old txn.new }
 {
     for t in Table::ALL {
         cut_one(txn, counts, t);
@@ -42,8 +40,7 @@ fn lay(txn: &mut Txn<'_, VecRows>, key: RowKey, row: &[u8]) -> Result<(), RedoFa
     ensures put { OnOk result (IsPut (tables_in txn.old) (tables_in txn.new) key row.now) }
     ensures near { OnOk result (key.row ≤ length (tables_in txn.old key.table)) }
     ensures far { result ≡ Err RedoFault.NoCommit → length (tables_in txn.old key.table) < key.row }
-    ensures rows { txn.new.rows.now ≡ txn.old.rows.now }
-    ensures name { txn.new.rows.ghost_name ≡ txn.old.rows.ghost_name }
+    ensures alone { EditsAlone txn.old txn.new }
 {
     let count = txn.count(key.table);
     if key.row > count {
@@ -72,8 +69,7 @@ pub(crate) fn lay_all(
     ensures no_commit { result ≡ Err RedoFault.NoCommit → (changes : Changes)
         → IsMadeFrom (λ t. length (tables_in txn.old t)) counts.now changes
         → bytes.now ≡ changes_bytes changes → ⊥ }
-    ensures rows { txn.new.rows.now ≡ txn.old.rows.now }
-    ensures name { txn.new.rows.ghost_name ≡ txn.old.rows.ghost_name }
+    ensures alone { EditsAlone txn.old txn.new }
 {
     let mut last = None;
     let mut rest = bytes;

@@ -1,6 +1,6 @@
 -- What calls of rows alone leave as it was.
-use Rattle.std.specs.Prelude.{◌≡◌, ◌⊎◌, ℕ}
-use Rattle.el_outside.specs.Moments.{LeavesOnly}
+use Rattle.std.specs.Prelude.{◌≡◌, ◌⊎◌, ℕ, List}
+use Rattle.el_outside.specs.Moments.{LeavesNoMore}
 use Rattle.el_rows.specs.declared.table.Table.{Table}
 use Rattle.el_rows.specs.Tables.{Tables}
 
@@ -12,19 +12,16 @@ Same a b = (t : Table) → b t ≡ a t
 abbrev pub IsEither : {C : Type 0} → (C → Tables → Type 0) → Tables → Tables → C → Type 0
 IsEither shows a b c = shows c a ⊎ shows c b
 
--- Rows were read and nothing else: lists and counts stay, the store stays live, and since then all that a
--- crash may leave stands for the same lists.
+-- Rows were read and nothing else: lists and counts stay, the store stays live, and a crash leaves no more
+-- than one just before it might have left.
 pub record OnlyRead {R C : Type 0} (lists : R → Tables) (counts : R → Table → ℕ) (is_live : R → Type 0)
-    (tells_crash : Type 0) (moment : R → ℕ) (left_since : R → ℕ → C → Type 0) (shows : C → Tables → Type 0)
-    (old new : R) : Type 0 where
+    (tells_crash : Type 0) (moment : R → ℕ) (left_since : R → ℕ → C → Type 0) (old new : R) : Type 0 where
   pub same : lists new ≡ lists old
   pub count : counts new ≡ counts old
   pub live : is_live new
-  pub crash : tells_crash → LeavesOnly moment left_since old new (λ c. shows c (lists old))
+  pub crash : tells_crash → LeavesNoMore moment left_since old new
 
--- the same lists and counts, and live as before
-pub record Unchanged {R : Type 0} (lists : R → Tables) (counts : R → Table → ℕ) (is_live : R → Type 0)
-    (old new : R) : Type 0 where
-  pub same : lists new ≡ lists old
-  pub count : counts new ≡ counts old
-  pub live : is_live new
+-- what contracts see of a store in memory: the rows of its tables, and how many were read
+pub record CountedRows : Type 0 where
+  pub rows : List (List (List ℕ))
+  pub reads : ℕ

@@ -2,14 +2,12 @@
 ghost use Rattle.std.specs.Prelude.{◌≡◌, ◌<◌, ◌≤◌, ◌+◌, ℕ, List, [], length, OnOk, OnErr, IfOk, IsErrOf, get_or};
 ghost use Rattle.el_outside.specs.Counts.{HasCause, CountsOnly};
 ghost use Rattle.el_rows.specs.Tables.{size_of, limit_of};
-ghost use Rattle.el_rows.specs.Reads.{OnlyRead, Same, IsEither, Unchanged};
+ghost use Rattle.el_rows.specs.Reads.{OnlyRead, Same, IsEither};
 ghost use Rattle.el_outside.specs.Moments.{LeavesOnly};
 ghost use Rattle.el_rows.specs.Changes.{IsMadeFrom, under, count_at};
 
 use crate::{CommitFault, Sealed, Table};
-use el_base::Steps;
 use el_outside::DiskFailed;
-use std::sync::ledger::Ledger;
 
 /// A store of tables of rows.
 pub trait Rows {
@@ -46,29 +44,26 @@ pub trait Rows {
     /// How often the disk below has failed.
     ghost faults: { Self → ℕ };
 
+    /// How many rows were read so far.
+    ghost reads: { Self → ℕ };
+
     /// How many rows the table has.
     fn count(&self, t: Table) -> u64
         ensures count { result ≡ counts self.now t }
         ensures limit { result ≤ limit_of t };
 
-    /// Reads a row. It takes no memory, ticks the counter once, and leaves the store as it was.
-    fn row<L: Ledger>(
-        &mut self,
-        t: Table,
-        i: u64,
-        buf: &mut [u8],
-        steps: &mut Steps<L>,
-    ) -> Result<(), DiskFailed>
+    /// Reads a row. It takes no memory, counts as one row read, and leaves the store as it was.
+    fn row(&mut self, t: Table, i: u64, buf: &mut [u8]) -> Result<(), DiskFailed>
         requires live { is_live self.old }
         requires below { i < counts self.old t }
         requires sized { length buf.old ≡ size_of t }
         ensures row { tells → OnOk result (buf.new ≡ get_or (lists self.old t) i []) }
-        ensures reads { OnlyRead lists counts is_live tells_crash moment left_since shows self.old self.new }
-        ensures tick { steps.new ≡ steps.old + 1 }
+        ensures reads { OnlyRead lists counts is_live tells_crash moment left_since self.old self.new }
+        ensures tick { reads self.new ≡ reads self.old + 1 }
         ensures cause { HasCause (faults self.old) (faults self.new) result };
 
-    /// Makes the lists the sealed ones. After want of memory nothing has changed; after a disk fault the
-    /// store is no longer live.
+    /// Makes the lists the sealed ones. After want of memory nothing has changed, and a crash leaves no more
+    /// than before; after a disk fault the store is no longer live. It counts as no row read.
     fn commit(&mut self, sealed: &Sealed) -> Result<(), CommitFault>
         requires live { is_live self.old }
         requires made { IsMadeFrom (counts self.old) sealed.now.counts sealed.now.changes }
@@ -77,11 +72,10 @@ pub trait Rows {
         ensures counts { OnOk result ((t : Table) → counts self.new t ≡ count_at sealed.now.counts t) }
         ensures live { OnOk result (is_live self.new) }
         ensures memory { IsErrOf result CommitFault.Memory
-            → Unchanged lists counts is_live self.old self.new }
+            → OnlyRead lists counts is_live tells_crash moment left_since self.old self.new }
         ensures crash { tells_crash → LeavesOnly moment left_since self.old self.new
             (IsEither shows (lists self.old) (under (lists self.old) sealed.now.counts sealed.now.changes)) }
-        ensures crash_memory { tells_crash → IsErrOf result CommitFault.Memory
-            → LeavesOnly moment left_since self.old self.new (λ c. shows c (lists self.old)) }
+        ensures idle { reads self.new ≡ reads self.old }
         ensures cause { CountsOnly (faults self.old) (faults self.new) CommitFault.DiskFailed result };
 
     /// The count is the lists' length where they are told.

@@ -2,7 +2,7 @@
 ghost use Rattle.std.specs.Prelude.{◌≡◌, ◌<◌, ◌≤◌, ◌+◌, ◌⊎◌, ◌^◌, ℕ, length, OnOk, IfErr};
 ghost use Rattle.el_rows.specs.RowBytes.{link_number, FitsScriptRow};
 ghost use Rattle.el_rows.specs.Tables.{limit_of, number_of};
-ghost use Rattle.el_rows.specs.Transaction.{tables_in};
+ghost use Rattle.el_rows.specs.Transaction.{tables_in, EditsAlone};
 ghost use Rattle.el_rows.specs.declared.table.Table.{Table};
 ghost use Rattle.el_script.specs.within.RowSteps.{ScriptMore, EntryMore, ThreeStay, IsEntryFault, IsScriptFault};
 
@@ -34,8 +34,7 @@ pub(crate) fn add_script<R: Rows>(
     ensures added { OnOk result (ScriptMore s.now next tx (tables_in t.old) (tables_in t.new)) }
     ensures others { ThreeStay (tables_in t.old) (tables_in t.new) }
     ensures fault { IfErr result (λ e. IsScriptFault (tables_in t.old) e) }
-    ensures rows { t.new.rows.now ≡ t.old.rows.now }
-    ensures name { t.new.rows.ghost_name ≡ t.old.rows.ghost_name }
+    ensures alone { EditsAlone t.old t.new }
 {
     let script = t.count(Table::Scripts);
     if script == Table::Scripts.limit() {
@@ -77,8 +76,7 @@ pub(crate) fn add_known<R: Rows>(
     ensures added { OnOk result (EntryMore script row.now before tx (tables_in t.old) (tables_in t.new)) }
     ensures others { ThreeStay (tables_in t.old) (tables_in t.new) }
     ensures fault { IfErr result (λ e. IsEntryFault (tables_in t.old) e) }
-    ensures rows { t.new.rows.now ≡ t.old.rows.now }
-    ensures name { t.new.rows.ghost_name ≡ t.old.rows.ghost_name }
+    ensures alone { EditsAlone t.old t.new }
 {
     let last = append_entry(t, &EntryRow { tx, script, before })?;
     let entered = ScriptRow {

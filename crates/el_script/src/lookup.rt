@@ -1,44 +1,34 @@
 // The number of a script.
 ghost use Rattle.std.specs.Prelude.{◌≡◌, ◌<◌, ◌≤◌, ◌+◌, ℕ, List, length, IfOk, None};
 ghost use Rattle.std.specs.Option.{ForSome};
-ghost use Rattle.el_outside.specs.Counts.{HasCause};
 ghost use Rattle.el_rows.specs.declared.table.Table.{Table};
-ghost use Rattle.el_rows.specs.Transaction.{tables_in, OnlyReads};
+ghost use Rattle.el_rows.specs.Transaction.{tables_in, reads_in, disk_failed, ReadsRows};
 ghost use Rattle.el_tables.specs.ChainLists.{ListedBlock};
 ghost use Rattle.el_tables.specs.Lists.{Lists};
 ghost use Rattle.el_tables.specs.Tables.{HeadCounts};
 ghost use Rattle.el_buckets.specs.Rows.{Hold};
 ghost use Rattle.el_buckets.specs.Buckets.{bucket_size, newest_of};
 
-use el_base::{Hash32, Steps};
+use el_base::Hash32;
 use el_buckets::{Buckets, find};
 use el_outside::DiskFailed;
 use el_rows::{Rows, Txn};
-use std::sync::ledger::Ledger;
 
 /// The greatest number of a script with that hash, and none exactly where there is none. It takes no memory
 /// and changes nothing.
-pub fn find_script<R: Rows, L: Ledger>(
-    t: &mut Txn<'_, R>,
-    s: &Hash32,
-    steps: &mut Steps<L>,
-) -> Result<Option<u64>, DiskFailed>
+pub fn find_script<R: Rows>(t: &mut Txn<'_, R>, s: &Hash32) -> Result<Option<u64>, DiskFailed>
     requires live { R.is_live t.old.rows.now }
     ensures newest { (counts : HeadCounts) (bs : List ListedBlock) (l : Lists) → R.tells
         → Hold counts bs l (tables_in t.old) → 0 < counts.scripts
         → IfOk result (λ n. n ≡ newest_of s.now l.scripts) }
     // It reads one head, and rows of scripts in the hash's bucket alone.
-    ensures steps { (counts : HeadCounts) (bs : List ListedBlock) (l : Lists) → R.tells
+    ensures rows { (counts : HeadCounts) (bs : List ListedBlock) (l : Lists) → R.tells
         → Hold counts bs l (tables_in t.old) → 0 < counts.scripts
-        → steps.new ≤ steps.old + 1 + bucket_size counts.scripts s.now l.scripts }
+        → reads_in t.new ≤ reads_in t.old + 1 + bucket_size counts.scripts s.now l.scripts }
     // What follows holds over any rows.
     ensures none { length (tables_in t.old Table.ScriptHeads) ≡ 0 → IfOk result (λ n. n ≡ None) }
     ensures below { IfOk result (λ n. ForSome n (λ k. k < length (tables_in t.old Table.Scripts))) }
-    ensures tables { tables_in t.new ≡ tables_in t.old }
-    ensures reads { OnlyReads t.old t.new }
-    ensures name { t.new.rows.ghost_name ≡ t.old.rows.ghost_name }
-    ensures ticked { steps.old ≤ steps.new }
-    ensures cause { HasCause (R.faults t.old.rows.now) (R.faults t.new.rows.now) result }
+    ensures read { ReadsRows disk_failed t.old t.new result }
 {
-    Ok(find(t, Buckets::ScriptHashes, s, steps)?.newest)
+    Ok(find(t, Buckets::ScriptHashes, s)?.newest)
 }

@@ -1,96 +1,70 @@
 // Rows of scripts and of entries.
 ghost use Rattle.std.specs.Prelude.{◌≡◌, ◌<◌, ◌≤◌, ◌+◌, ◌⊎◌, [], ◌∷◌, ◌++◌, length, get_or, slice_set, OnOk, OnErr, IfOk, IfErr};
 ghost use Rattle.el_buckets.specs.Faults.{NotAdded};
-ghost use Rattle.el_outside.specs.Counts.{CountsOnly};
 ghost use Rattle.el_rows.specs.Changes.{OnTable};
 ghost use Rattle.el_rows.specs.RowBytes.{script_row_bytes, entry_row_bytes, FitsScriptRow, FitsEntryRow};
 ghost use Rattle.el_rows.specs.Tables.{limit_of, size_of};
-ghost use Rattle.el_rows.specs.Transaction.{tables_in, OnlyReads};
+ghost use Rattle.el_rows.specs.Transaction.{tables_in, reads_in, ReadsRows, EditsAlone};
 ghost use Rattle.el_rows.specs.declared.entry_row.EntryRow as entry_shape;
 ghost use Rattle.el_rows.specs.declared.script_row.ScriptRow as script_shape;
 ghost use Rattle.el_rows.specs.declared.table.Table.{Table};
 
-use el_base::{OutOfMemory, Steps};
+use el_base::OutOfMemory;
 use el_buckets::not_appended;
 use el_chain::ConnectFault;
 use el_outside::DiskFailed;
 use el_rows::{EntryRow, Rows, ScriptRow, Table, Txn};
-use std::sync::ledger::Ledger;
 
 // Reads a row.
-fn read_row<R: Rows, L: Ledger>(
+fn read_row<R: Rows>(
     t: &mut Txn<'_, R>,
     table: Table,
     n: u64,
     buf: &mut [u8],
-    steps: &mut Steps<L>,
 ) -> Result<(), ConnectFault>
     requires live { R.is_live t.old.rows.now }
     requires below { n < length (tables_in t.old table) }
     requires sized { length buf.old ≡ size_of table }
     ensures row { R.tells → OnOk result (buf.new ≡ get_or (tables_in t.old table) n []) }
-    ensures tables { tables_in t.new ≡ tables_in t.old }
     ensures fault { IfErr result (λ e. e ≡ ConnectFault.DiskFailed) }
-    ensures reads { OnlyReads t.old t.new }
-    ensures name { t.new.rows.ghost_name ≡ t.old.rows.ghost_name }
-    ensures ticked { steps.old ≤ steps.new }
-    ensures tick { steps.new ≤ steps.old + 1 }
-    ensures cause { CountsOnly (R.faults t.old.rows.now) (R.faults t.new.rows.now) ConnectFault.DiskFailed
-        result }
+    ensures read { ReadsRows ConnectFault.DiskFailed t.old t.new result }
+    ensures rows { reads_in t.new ≤ reads_in t.old + 1 }
 {
-    match t.get(table, n, buf, steps) {
+    match t.get(table, n, buf) {
         Ok(()) => Ok(()),
         Err(DiskFailed) => Err(ConnectFault::DiskFailed),
     }
 }
 
 // The row of a script.
-pub(crate) fn script_row<R: Rows, L: Ledger>(
-    t: &mut Txn<'_, R>,
-    n: u64,
-    steps: &mut Steps<L>,
-) -> Result<ScriptRow, ConnectFault>
+pub(crate) fn script_row<R: Rows>(t: &mut Txn<'_, R>, n: u64) -> Result<ScriptRow, ConnectFault>
     requires live { R.is_live t.old.rows.now }
     requires below { n < length (tables_in t.old Table.Scripts) }
     ensures only { R.tells → IfOk result (λ r. (s : script_shape.ScriptRow) → FitsScriptRow s
         → script_row_bytes s ≡ get_or (tables_in t.old Table.Scripts) n [] → s ≡ r) }
     ensures fits { IfOk result (λ r. FitsScriptRow r) }
-    ensures tables { tables_in t.new ≡ tables_in t.old }
     ensures fault { IfErr result (λ e. e ≡ ConnectFault.DiskFailed) }
-    ensures reads { OnlyReads t.old t.new }
-    ensures name { t.new.rows.ghost_name ≡ t.old.rows.ghost_name }
-    ensures ticked { steps.old ≤ steps.new }
-    ensures tick { steps.new ≤ steps.old + 1 }
-    ensures cause { CountsOnly (R.faults t.old.rows.now) (R.faults t.new.rows.now) ConnectFault.DiskFailed
-        result }
+    ensures read { ReadsRows ConnectFault.DiskFailed t.old t.new result }
+    ensures rows { reads_in t.new ≤ reads_in t.old + 1 }
 {
     let mut bytes = [0; 52];
-    read_row(t, Table::Scripts, n, &mut bytes, steps)?;
+    read_row(t, Table::Scripts, n, &mut bytes)?;
     Ok(ScriptRow::read(&bytes))
 }
 
 // The row of an entry.
-pub(crate) fn entry_row<R: Rows, L: Ledger>(
-    t: &mut Txn<'_, R>,
-    n: u64,
-    steps: &mut Steps<L>,
-) -> Result<EntryRow, ConnectFault>
+pub(crate) fn entry_row<R: Rows>(t: &mut Txn<'_, R>, n: u64) -> Result<EntryRow, ConnectFault>
     requires live { R.is_live t.old.rows.now }
     requires below { n < length (tables_in t.old Table.Entries) }
     ensures only { R.tells → IfOk result (λ r. (e : entry_shape.EntryRow) → FitsEntryRow e
         → entry_row_bytes e ≡ get_or (tables_in t.old Table.Entries) n [] → e ≡ r) }
     ensures fits { IfOk result (λ r. FitsEntryRow r) }
-    ensures tables { tables_in t.new ≡ tables_in t.old }
     ensures fault { IfErr result (λ e. e ≡ ConnectFault.DiskFailed) }
-    ensures reads { OnlyReads t.old t.new }
-    ensures name { t.new.rows.ghost_name ≡ t.old.rows.ghost_name }
-    ensures ticked { steps.old ≤ steps.new }
-    ensures tick { steps.new ≤ steps.old + 1 }
-    ensures cause { CountsOnly (R.faults t.old.rows.now) (R.faults t.new.rows.now) ConnectFault.DiskFailed
-        result }
+    ensures read { ReadsRows ConnectFault.DiskFailed t.old t.new result }
+    ensures rows { reads_in t.new ≤ reads_in t.old + 1 }
 {
     let mut bytes = [0; 12];
-    read_row(t, Table::Entries, n, &mut bytes, steps)?;
+    read_row(t, Table::Entries, n, &mut bytes)?;
     Ok(EntryRow::read(&bytes))
 }
 
@@ -105,8 +79,7 @@ pub(crate) fn put_script<R: Rows>(
     ensures ok { OnOk result (OnTable (tables_in t.old) (tables_in t.new) Table.Scripts
         (slice_set (tables_in t.old Table.Scripts) n (script_row_bytes row.now))) }
     ensures err { OnErr result (tables_in t.new ≡ tables_in t.old) }
-    ensures rows { t.new.rows.now ≡ t.old.rows.now }
-    ensures name { t.new.rows.ghost_name ≡ t.old.rows.ghost_name }
+    ensures alone { EditsAlone t.old t.new }
 {
     let mut bytes = [0; 52];
     row.write(&mut bytes);
@@ -125,8 +98,7 @@ pub(crate) fn append_entry<R: Rows>(
     ensures err { OnErr result (tables_in t.new ≡ tables_in t.old) }
     ensures room { OnOk result (length (tables_in t.old Table.Entries) < limit_of Table.Entries) }
     ensures fault { IfErr result (NotAdded Table.Entries (length (tables_in t.old Table.Entries))) }
-    ensures rows { t.new.rows.now ≡ t.old.rows.now }
-    ensures name { t.new.rows.ghost_name ≡ t.old.rows.ghost_name }
+    ensures alone { EditsAlone t.old t.new }
 {
     let mut bytes = [0; 12];
     entry.write(&mut bytes);

@@ -1,9 +1,8 @@
 // An entry less.
 ghost use Rattle.std.specs.Prelude.{◌≡◌, ◌≢◌, ◌<◌, ◌≤◌, ◌+◌, ◌-◌, ◌^◌, [], ℕ, List, length, get_or, slice_set, ◌⊎◌, OnOk, OnErr, IfErr, IsOk};
-ghost use Rattle.el_outside.specs.Counts.{CountsOnly};
 ghost use Rattle.el_rows.specs.Changes.{OnTable};
 ghost use Rattle.el_rows.specs.RowBytes.{script_row_bytes, FitsScriptRow};
-ghost use Rattle.el_rows.specs.Transaction.{tables_in, OnlyReads};
+ghost use Rattle.el_rows.specs.Transaction.{tables_in, reads_in, EditsRows};
 ghost use Rattle.el_rows.specs.declared.script_row.ScriptRow as script_shape;
 ghost use Rattle.el_rows.specs.declared.table.Table.{Table};
 ghost use Rattle.el_tables.specs.ChainLists.{ListedBlock};
@@ -16,20 +15,13 @@ ghost use Rattle.el_buckets.specs.Rows.{Hold};
 ghost use Rattle.el_script.specs.within.RowSteps.{left_row, IsStepFault};
 
 use crate::row::{entry_row, put_script, script_row};
-use el_base::Steps;
 use el_buckets::{Buckets, if_below, pop};
 use el_chain::ConnectFault;
 use el_rows::{Rows, ScriptRow, Table, Txn};
-use std::sync::ledger::Ledger;
 
 // The script of that number has one entry less, and its last is this one. A script that isn't there stays
 // away. After a fault nothing has changed.
-fn leave_entry<R: Rows, L: Ledger>(
-    t: &mut Txn<'_, R>,
-    script: u64,
-    before: u64,
-    steps: &mut Steps<L>,
-) -> Result<(), ConnectFault>
+fn leave_entry<R: Rows>(t: &mut Txn<'_, R>, script: u64, before: u64) -> Result<(), ConnectFault>
     requires live { R.is_live t.old.rows.now }
     requires before { before + 1 < 2 ^ 32 }
     ensures left { R.tells → script < length (tables_in t.old Table.Scripts)
@@ -42,17 +34,13 @@ fn leave_entry<R: Rows, L: Ledger>(
     ensures others { (u : Table) → u ≢ Table.Scripts → tables_in t.new u ≡ tables_in t.old u }
     ensures err { OnErr result (tables_in t.new ≡ tables_in t.old) }
     ensures fault { IfErr result IsStepFault }
-    ensures reads { OnlyReads t.old t.new }
-    ensures name { t.new.rows.ghost_name ≡ t.old.rows.ghost_name }
-    ensures ticked { steps.old ≤ steps.new }
-    ensures tick { steps.new ≤ steps.old + 1 }
-    ensures cause { CountsOnly (R.faults t.old.rows.now) (R.faults t.new.rows.now) ConnectFault.DiskFailed
-        result }
+    ensures edits { EditsRows ConnectFault.DiskFailed t.old t.new result }
+    ensures rows { reads_in t.new ≤ reads_in t.old + 1 }
 {
     if script >= t.count(Table::Scripts) {
         return Ok(());
     }
-    let row = script_row(t, script, steps)?;
+    let row = script_row(t, script)?;
     let left = ScriptRow {
         last: Some(before),
         entries: row.entries.saturating_sub(1),
@@ -63,10 +51,7 @@ fn leave_entry<R: Rows, L: Ledger>(
 }
 
 // The last script goes, if there is one. After a fault nothing has changed.
-fn drop_script<R: Rows, L: Ledger>(
-    t: &mut Txn<'_, R>,
-    steps: &mut Steps<L>,
-) -> Result<(), ConnectFault>
+fn drop_script<R: Rows>(t: &mut Txn<'_, R>) -> Result<(), ConnectFault>
     requires live { R.is_live t.old.rows.now }
     ensures dropped { (n : ℕ) (r : script_shape.ScriptRow) → R.tells
         → length (tables_in t.old Table.Scripts) ≡ n + 1 → FitsScriptRow r
@@ -78,19 +63,15 @@ fn drop_script<R: Rows, L: Ledger>(
     ensures others { OthersStay Table.Scripts Table.ScriptHeads (tables_in t.old) (tables_in t.new) }
     ensures err { OnErr result (tables_in t.new ≡ tables_in t.old) }
     ensures fault { IfErr result IsStepFault }
-    ensures reads { OnlyReads t.old t.new }
-    ensures name { t.new.rows.ghost_name ≡ t.old.rows.ghost_name }
-    ensures ticked { steps.old ≤ steps.new }
-    ensures tick { steps.new ≤ steps.old + 1 }
-    ensures cause { CountsOnly (R.faults t.old.rows.now) (R.faults t.new.rows.now) ConnectFault.DiskFailed
-        result }
+    ensures edits { EditsRows ConnectFault.DiskFailed t.old t.new result }
+    ensures rows { reads_in t.new ≤ reads_in t.old + 1 }
 {
     let count = t.count(Table::Scripts);
     if count == 0 {
         return Ok(());
     }
     let last = count - 1;
-    let row = script_row(t, last, steps)?;
+    let row = script_row(t, last)?;
     let next = if_below(row.next, last);
     pop(t, Buckets::ScriptHashes, &row.script, last, next)?;
     Ok(())
@@ -99,10 +80,7 @@ fn drop_script<R: Rows, L: Ledger>(
 /// Takes the last entry away, and with the first entry of a script this, which is the last; where there is no
 /// entry nothing changes. It reads two rows at most. It fails only for want of memory or a disk fault, and
 /// then nothing has changed.
-pub fn take_back_entry<R: Rows, L: Ledger>(
-    t: &mut Txn<'_, R>,
-    steps: &mut Steps<L>,
-) -> Result<(), ConnectFault>
+pub fn take_back_entry<R: Rows>(t: &mut Txn<'_, R>) -> Result<(), ConnectFault>
     requires live { R.is_live t.old.rows.now }
     // It is the step of the lists, on all tables.
     ensures lists { (counts : HeadCounts) (bs : List ListedBlock) (l : Lists) → R.tells
@@ -117,22 +95,18 @@ pub fn take_back_entry<R: Rows, L: Ledger>(
         → tables_in t.new u ≡ tables_in t.old u }
     ensures err { OnErr result (tables_in t.new ≡ tables_in t.old) }
     ensures fault { IfErr result (λ e. (e ≡ ConnectFault.DiskFailed) ⊎ (e ≡ ConnectFault.Memory)) }
-    ensures reads { OnlyReads t.old t.new }
-    ensures name { t.new.rows.ghost_name ≡ t.old.rows.ghost_name }
-    ensures ticked { steps.old ≤ steps.new }
-    ensures tick { steps.new ≤ steps.old + 2 }
-    ensures cause { CountsOnly (R.faults t.old.rows.now) (R.faults t.new.rows.now) ConnectFault.DiskFailed
-        result }
+    ensures edits { EditsRows ConnectFault.DiskFailed t.old t.new result }
+    ensures rows { reads_in t.new ≤ reads_in t.old + 2 }
 {
     let count = t.count(Table::Entries);
     if count == 0 {
         return Ok(());
     }
     let last = count - 1;
-    let entry = entry_row(t, last, steps)?;
+    let entry = entry_row(t, last)?;
     match if_below(entry.before, last) {
-        Some(before) => leave_entry(t, entry.script, before, steps)?,
-        None => drop_script(t, steps)?,
+        Some(before) => leave_entry(t, entry.script, before)?,
+        None => drop_script(t)?,
     }
     t.shrink(Table::Entries, last);
     Ok(())

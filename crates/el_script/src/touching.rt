@@ -2,8 +2,7 @@
 ghost use Rattle.std.specs.Prelude.{◌≡◌, ◌≢◌, ◌⊎◌, ◌<◌, ◌≤◌, ◌+◌, ◌^◌, ℕ, List, length, get_or, OnOk, IfOk, IfErr, Err, Some, None, true};
 ghost use Rattle.std.specs.Option.{ForSome};
 ghost use Rattle.el_chain.specs.Chains.{zero_hash};
-ghost use Rattle.el_outside.specs.Counts.{CountsOnly};
-ghost use Rattle.el_rows.specs.Transaction.{tables_in, OnlyReads};
+ghost use Rattle.el_rows.specs.Transaction.{tables_in, reads_in, ReadsRows, EditsRows};
 ghost use Rattle.el_rows.specs.declared.table.Table.{Table};
 ghost use Rattle.el_tables.specs.ChainLists.{ListedBlock};
 ghost use Rattle.el_tables.specs.Edits.{tx_of_last};
@@ -17,35 +16,28 @@ ghost use Rattle.el_script.specs.Touches.{touch_full};
 
 use crate::adding::{add_known, add_script};
 use crate::row::{entry_row, script_row};
-use el_base::{Hash32, Steps};
+use el_base::Hash32;
 use el_buckets::{Buckets, find, if_below};
 use el_chain::ConnectFault;
 use el_rows::{Rows, Table, Txn};
-use std::sync::ledger::Ledger;
 
 // The entry that the link names is of that transaction.
-fn is_entry_of<R: Rows, L: Ledger>(
+fn is_entry_of<R: Rows>(
     t: &mut Txn<'_, R>,
     last: Option<u64>,
     tx: u64,
-    steps: &mut Steps<L>,
 ) -> Result<bool, ConnectFault>
     requires live { R.is_live t.old.rows.now }
     requires below { ForSome last (λ n. n < length (tables_in t.old Table.Entries)) }
     ensures is { (counts : HeadCounts) (bs : List ListedBlock) (l : Lists) (d : ListedEntry) → R.tells
         → Hold counts bs l (tables_in t.old) → IfOk result (λ b. b ≡ is_tx tx (tx_of_last d l.entries last)) }
-    ensures tables { tables_in t.new ≡ tables_in t.old }
     ensures fault { IfErr result (λ e. e ≡ ConnectFault.DiskFailed) }
-    ensures reads { OnlyReads t.old t.new }
-    ensures name { t.new.rows.ghost_name ≡ t.old.rows.ghost_name }
-    ensures ticked { steps.old ≤ steps.new }
-    ensures tick { steps.new ≤ steps.old + 1 }
-    ensures cause { CountsOnly (R.faults t.old.rows.now) (R.faults t.new.rows.now) ConnectFault.DiskFailed
-        result }
+    ensures read { ReadsRows ConnectFault.DiskFailed t.old t.new result }
+    ensures rows { reads_in t.new ≤ reads_in t.old + 1 }
 {
     match last {
         None => Ok(false),
-        Some(n) => Ok(entry_row(t, n, steps)?.tx == tx),
+        Some(n) => Ok(entry_row(t, n)?.tx == tx),
     }
 }
 
@@ -53,12 +45,7 @@ fn is_entry_of<R: Rows, L: Ledger>(
 /// that transaction. The script must be there. The fault is `Full` where the table of entries has no place,
 /// `Memory` where memory is short, and `DiskFailed` where a row can't be read. After one the transaction of
 /// rows may hold a part.
-pub fn touch_number<R: Rows, L: Ledger>(
-    t: &mut Txn<'_, R>,
-    script: u64,
-    tx: u64,
-    steps: &mut Steps<L>,
-) -> Result<(), ConnectFault>
+pub fn touch_number<R: Rows>(t: &mut Txn<'_, R>, script: u64, tx: u64) -> Result<(), ConnectFault>
     requires live { R.is_live t.old.rows.now }
     requires below { script < length (tables_in t.old Table.Scripts) }
     requires tx { tx < 2 ^ 32 }
@@ -77,23 +64,19 @@ pub fn touch_number<R: Rows, L: Ledger>(
         → (table rows : ℕ) → result ≡ Err (ConnectFault.Full table rows)
         → touch_full (get_or l.scripts script zero_hash) tx l ≡ Some (ConnectFault.Full table rows) }
     // What follows holds over any rows. It reads the script's row and its last entry.
-    ensures steps { steps.new ≤ steps.old + 2 }
+    ensures rows { reads_in t.new ≤ reads_in t.old + 2 }
     ensures kept { OnOk result (length (tables_in t.new Table.Scripts)
         ≡ length (tables_in t.old Table.Scripts)) }
     ensures others { (u : Table) → u ≢ Table.Scripts → u ≢ Table.ScriptHeads → u ≢ Table.Entries
         → tables_in t.new u ≡ tables_in t.old u }
     ensures fault { IfErr result (λ e. (e ≡ ConnectFault.DiskFailed)
         ⊎ NotAdded Table.Entries (length (tables_in t.old Table.Entries)) e) }
-    ensures reads { OnlyReads t.old t.new }
-    ensures name { t.new.rows.ghost_name ≡ t.old.rows.ghost_name }
-    ensures ticked { steps.old ≤ steps.new }
-    ensures cause { CountsOnly (R.faults t.old.rows.now) (R.faults t.new.rows.now) ConnectFault.DiskFailed
-        result }
+    ensures edits { EditsRows ConnectFault.DiskFailed t.old t.new result }
 {
     prove!(script < t.count(Table::Scripts));
-    let row = script_row(t, script, steps)?;
+    let row = script_row(t, script)?;
     let last = if_below(row.last, t.count(Table::Entries));
-    if is_entry_of(t, last, tx, steps)? {
+    if is_entry_of(t, last, tx)? {
         return Ok(());
     }
     add_known(t, script, &row, last, tx)
@@ -102,12 +85,7 @@ pub fn touch_number<R: Rows, L: Ledger>(
 /// Gives the script's number, and adds one entry for it and the transaction of that number, unless its last
 /// entry is of that transaction. A script that isn't there is added. After a fault the transaction of rows
 /// may hold a part.
-pub fn touch<R: Rows, L: Ledger>(
-    t: &mut Txn<'_, R>,
-    s: &Hash32,
-    tx: u64,
-    steps: &mut Steps<L>,
-) -> Result<u64, ConnectFault>
+pub fn touch<R: Rows>(t: &mut Txn<'_, R>, s: &Hash32, tx: u64) -> Result<u64, ConnectFault>
     requires live { R.is_live t.old.rows.now }
     requires tx { tx < 2 ^ 32 }
     // It is the step of the lists, on all tables.
@@ -126,9 +104,9 @@ pub fn touch<R: Rows, L: Ledger>(
         → (table rows : ℕ) → result ≡ Err (ConnectFault.Full table rows)
         → touch_full s.now tx l ≡ Some (ConnectFault.Full table rows) }
     // Beside the walk it reads the script's row and its last entry.
-    ensures steps { (counts : HeadCounts) (bs : List ListedBlock) (l : Lists) → R.tells
+    ensures rows { (counts : HeadCounts) (bs : List ListedBlock) (l : Lists) → R.tells
         → Hold counts bs l (tables_in t.old) → 0 < counts.scripts
-        → steps.new ≤ steps.old + 3 + bucket_size counts.scripts s.now l.scripts }
+        → reads_in t.new ≤ reads_in t.old + 3 + bucket_size counts.scripts s.now l.scripts }
     // What follows holds over any rows.
     ensures below { IfOk result (λ n. n < length (tables_in t.new Table.Scripts)) }
     ensures others { (u : Table) → u ≢ Table.Scripts → u ≢ Table.ScriptHeads → u ≢ Table.Entries
@@ -136,13 +114,9 @@ pub fn touch<R: Rows, L: Ledger>(
     ensures fault { IfErr result (λ e. (e ≡ ConnectFault.DiskFailed)
         ⊎ (NotAdded Table.Scripts (length (tables_in t.old Table.Scripts)) e
         ⊎ NotAdded Table.Entries (length (tables_in t.old Table.Entries)) e)) }
-    ensures reads { OnlyReads t.old t.new }
-    ensures name { t.new.rows.ghost_name ≡ t.old.rows.ghost_name }
-    ensures ticked { steps.old ≤ steps.new }
-    ensures cause { CountsOnly (R.faults t.old.rows.now) (R.faults t.new.rows.now) ConnectFault.DiskFailed
-        result }
+    ensures edits { EditsRows ConnectFault.DiskFailed t.old t.new result }
 {
-    let Ok(found) = find(t, Buckets::ScriptHashes, s, steps) else {
+    let Ok(found) = find(t, Buckets::ScriptHashes, s) else {
         return Err(ConnectFault::DiskFailed);
     };
     let count = t.count(Table::Scripts);
@@ -152,7 +126,7 @@ pub fn touch<R: Rows, L: Ledger>(
             Ok(count)
         }
         Some(script) => {
-            touch_number(t, script, tx, steps)?;
+            touch_number(t, script, tx)?;
             Ok(script)
         }
     }

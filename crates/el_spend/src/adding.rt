@@ -1,10 +1,9 @@
 // An output more.
 ghost use Rattle.std.specs.Prelude.{◌≡◌, ◌≢◌, ◌⊎◌, ◌<◌, ◌≤◌, ◌+◌, ◌^◌, ℕ, List, length, take, OnOk, IfOk, IfErr, None, option_map};
 ghost use Rattle.std.specs.Option.{ForSome};
-ghost use Rattle.el_outside.specs.Counts.{HasCause, CountsOnly};
 ghost use Rattle.el_rows.specs.RowBytes.{FitsOutRow};
 ghost use Rattle.el_rows.specs.Tables.{limit_of};
-ghost use Rattle.el_rows.specs.Transaction.{tables_in, OnlyReads};
+ghost use Rattle.el_rows.specs.Transaction.{tables_in, reads_in, disk_failed, ReadsRows, EditsRows, EditsAlone};
 ghost use Rattle.el_rows.specs.declared.table.Table.{Table};
 ghost use Rattle.el_tables.specs.ChainLists.{ListedBlock};
 ghost use Rattle.el_tables.specs.Edits as edit;
@@ -21,21 +20,16 @@ use crate::balance::raise;
 use crate::coins::take_coin;
 use crate::lookup::coin;
 use crate::reading::tx_row;
-use el_base::{Hash32, Steps};
+use el_base::Hash32;
 use el_buckets::not_appended;
 use el_chain::ConnectFault;
 use el_outside::DiskFailed;
 use el_rows::{OutRow, Rows, State, Table, Txn};
 use el_tx::Outpoint;
-use std::sync::ledger::Ledger;
 
 // The txid of the transaction of that number, and none where its row tells that no transaction before has the
 // same. Where there is no such transaction, the zero hash.
-fn txid_made_before<R: Rows, L: Ledger>(
-    t: &mut Txn<'_, R>,
-    tx: u64,
-    steps: &mut Steps<L>,
-) -> Result<Option<Hash32>, DiskFailed>
+fn txid_made_before<R: Rows>(t: &mut Txn<'_, R>, tx: u64) -> Result<Option<Hash32>, DiskFailed>
     requires live { R.is_live t.old.rows.now }
     ensures txid { (counts : HeadCounts) (bs : List ListedBlock) (l : lists.Lists) → R.tells
         → Hold counts bs l (tables_in t.old)
@@ -43,17 +37,13 @@ fn txid_made_before<R: Rows, L: Ledger>(
     ensures new { (counts : HeadCounts) (bs : List ListedBlock) (l : lists.Lists) → R.tells
         → Hold counts bs l (tables_in t.old)
         → IfOk result (λ r. r ≡ None → lists.newest_tx (lists.txid_at tx l.txs) (take tx l.txs) ≡ None) }
-    ensures tables { tables_in t.new ≡ tables_in t.old }
-    ensures reads { OnlyReads t.old t.new }
-    ensures name { t.new.rows.ghost_name ≡ t.old.rows.ghost_name }
-    ensures ticked { steps.old ≤ steps.new }
-    ensures tick { steps.new ≤ steps.old + 1 }
-    ensures cause { HasCause (R.faults t.old.rows.now) (R.faults t.new.rows.now) result }
+    ensures read { ReadsRows disk_failed t.old t.new result }
+    ensures rows { reads_in t.new ≤ reads_in t.old + 1 }
 {
     if tx >= t.count(Table::Txs) {
         return Ok(Some(Hash32([0; 32])));
     }
-    let row = tx_row(t, tx, steps)?;
+    let row = tx_row(t, tx)?;
     if row.older.is_none() {
         return Ok(None);
     }
@@ -62,32 +52,28 @@ fn txid_made_before<R: Rows, L: Ledger>(
 
 // The coin that an output of the transaction of that number and with that index replaces. Where no earlier
 // transaction has the txid, only the transaction's own row is read.
-fn replaced<R: Rows, L: Ledger>(
+fn replaced<R: Rows>(
     t: &mut Txn<'_, R>,
     tx: u64,
     index: u32,
-    steps: &mut Steps<L>,
 ) -> Result<Option<NamedOutput>, DiskFailed>
     requires live { R.is_live t.old.rows.now }
     ensures replaced { (counts : HeadCounts) (bs : List ListedBlock) (l : lists.Lists) → R.tells
         → Hold counts bs l (tables_in t.old) → 0 < counts.txs
         → IfOk result (λ f. f ≡ replaced_output tx index l) }
-    ensures steps { (counts : HeadCounts) (bs : List ListedBlock) (l : lists.Lists) → R.tells
+    ensures rows { (counts : HeadCounts) (bs : List ListedBlock) (l : lists.Lists) → R.tells
         → Hold counts bs l (tables_in t.old) → 0 < counts.txs
-        → steps.new ≤ steps.old + rows_to_find counts.txs (lists.txid_at tx l.txs) l + 1 }
+        → reads_in t.new
+        ≤ reads_in t.old + rows_to_find counts.txs (lists.txid_at tx l.txs) l + 1 }
     ensures none { length (tables_in t.old Table.TxHeads) ≡ 0 → IfOk result (λ f. f ≡ None) }
     ensures below { IfOk result (λ f. ForSome f (λ x. x.number < length (tables_in t.old Table.Outs))) }
     ensures fits { IfOk result (λ f. ForSome f (λ x. FitsOutRow x.row)) }
-    ensures tables { tables_in t.new ≡ tables_in t.old }
-    ensures reads { OnlyReads t.old t.new }
-    ensures name { t.new.rows.ghost_name ≡ t.old.rows.ghost_name }
-    ensures ticked { steps.old ≤ steps.new }
-    ensures cause { HasCause (R.faults t.old.rows.now) (R.faults t.new.rows.now) result }
+    ensures read { ReadsRows disk_failed t.old t.new result }
 {
-    let Some(txid) = txid_made_before(t, tx, steps)? else {
+    let Some(txid) = txid_made_before(t, tx)? else {
         return Ok(None);
     };
-    coin(t, &Outpoint { txid, index }, tx, steps)
+    coin(t, &Outpoint { txid, index }, tx)
 }
 
 // Adds an unspent output after the last, and answers its number.
@@ -107,8 +93,7 @@ fn append_output<R: Rows>(
         ≡ length (tables_in t.old Table.Outs) + 1) }
     ensures room { OnOk result (length (tables_in t.old Table.Outs) < limit_of Table.Outs) }
     ensures fault { IfErr result (λ e. NotAdded Table.Outs (length (tables_in t.old Table.Outs)) e) }
-    ensures rows { t.new.rows.now ≡ t.old.rows.now }
-    ensures name { t.new.rows.ghost_name ≡ t.old.rows.ghost_name }
+    ensures alone { EditsAlone t.old t.new }
 {
     let row = OutRow {
         tx,
@@ -126,11 +111,10 @@ fn append_output<R: Rows>(
 }
 
 // The transaction of that number buries the coin, if there is one.
-fn bury<R: Rows, L: Ledger>(
+fn bury<R: Rows>(
     t: &mut Txn<'_, R>,
     tx: u64,
     replaced: Option<NamedOutput>,
-    steps: &mut Steps<L>,
 ) -> Result<(), ConnectFault>
     requires live { R.is_live t.old.rows.now }
     requires tx { tx < 2 ^ 32 }
@@ -144,15 +128,11 @@ fn bury<R: Rows, L: Ledger>(
     ensures outs_stay { length (tables_in t.new Table.Outs) ≡ length (tables_in t.old Table.Outs) }
     ensures scripts_stay { length (tables_in t.new Table.Scripts) ≡ length (tables_in t.old Table.Scripts) }
     ensures fault { IfErr result (λ e. (e ≡ ConnectFault.DiskFailed) ⊎ (e ≡ ConnectFault.Memory)) }
-    ensures reads { OnlyReads t.old t.new }
-    ensures name { t.new.rows.ghost_name ≡ t.old.rows.ghost_name }
-    ensures ticked { steps.old ≤ steps.new }
-    ensures tick { steps.new ≤ steps.old + 1 }
-    ensures cause { CountsOnly (R.faults t.old.rows.now) (R.faults t.new.rows.now) ConnectFault.DiskFailed
-        result }
+    ensures edits { EditsRows ConnectFault.DiskFailed t.old t.new result }
+    ensures rows { reads_in t.new ≤ reads_in t.old + 1 }
 {
     match replaced {
-        Some(coin) => take_coin(t, &coin, State::Buried(tx), steps),
+        Some(coin) => take_coin(t, &coin, State::Buried(tx)),
         None => Ok(()),
     }
 }
@@ -160,13 +140,12 @@ fn bury<R: Rows, L: Ledger>(
 /// Adds an output after the last: of the transaction of that number, with that index, value in satoshi and
 /// number of its script. It is unspent, and buries the coin that it replaces, the coin of the same outpoint
 /// that a transaction before made. After a fault the transaction of rows may hold a part.
-pub fn add_out<R: Rows, L: Ledger>(
+pub fn add_out<R: Rows>(
     t: &mut Txn<'_, R>,
     tx: u64,
     index: u32,
     value: u64,
     script: u64,
-    steps: &mut Steps<L>,
 ) -> Result<(), ConnectFault>
     requires live { R.is_live t.old.rows.now }
     requires tx { tx < 2 ^ 32 }
@@ -178,9 +157,10 @@ pub fn add_out<R: Rows, L: Ledger>(
         → BalancesFit (lists.add_output tx index value script l).outs
         → OnOk result (Hold counts bs (lists.add_output tx index value script l) (tables_in t.new)) }
     // Beside the look-up it reads the transaction, the script of what it buries, and its own.
-    ensures steps { (counts : HeadCounts) (bs : List ListedBlock) (l : lists.Lists) → R.tells
+    ensures rows { (counts : HeadCounts) (bs : List ListedBlock) (l : lists.Lists) → R.tells
         → Hold counts bs l (tables_in t.old) → 0 < counts.txs
-        → steps.new ≤ steps.old + rows_to_find counts.txs (lists.txid_at tx l.txs) l + 3 }
+        → reads_in t.new
+        ≤ reads_in t.old + rows_to_find counts.txs (lists.txid_at tx l.txs) l + 3 }
     // What follows holds over any rows.
     ensures longer { OnOk result (length (tables_in t.new Table.Outs)
         ≡ length (tables_in t.old Table.Outs) + 1) }
@@ -191,14 +171,10 @@ pub fn add_out<R: Rows, L: Ledger>(
     ensures room { OnOk result (length (tables_in t.old Table.Outs) < limit_of Table.Outs) }
     ensures fault { IfErr result (λ e. (e ≡ ConnectFault.DiskFailed)
         ⊎ NotAdded Table.Outs (length (tables_in t.old Table.Outs)) e) }
-    ensures reads { OnlyReads t.old t.new }
-    ensures name { t.new.rows.ghost_name ≡ t.old.rows.ghost_name }
-    ensures ticked { steps.old ≤ steps.new }
-    ensures cause { CountsOnly (R.faults t.old.rows.now) (R.faults t.new.rows.now) ConnectFault.DiskFailed
-        result }
+    ensures edits { EditsRows ConnectFault.DiskFailed t.old t.new result }
 {
-    let replaced = replaced(t, tx, index, steps).map_err(|_| ConnectFault::DiskFailed)?;
+    let replaced = replaced(t, tx, index).map_err(|_| ConnectFault::DiskFailed)?;
     append_output(t, tx, value, script)?;
-    bury(t, tx, replaced, steps)?;
-    raise(t, script, value, steps)
+    bury(t, tx, replaced)?;
+    raise(t, script, value)
 }

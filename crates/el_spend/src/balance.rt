@@ -1,9 +1,8 @@
 // Running balances of scripts.
 ghost use Rattle.std.specs.Prelude.{◌≡◌, ◌≢◌, ◌⊎◌, ◌<◌, ◌≤◌, ◌+◌, ◌^◌, [], length, get_or, slice_set, OnOk, OnErr, IfErr};
-ghost use Rattle.el_outside.specs.Counts.{CountsOnly};
 ghost use Rattle.el_rows.specs.Changes.{OnTable};
 ghost use Rattle.el_rows.specs.RowBytes.{script_row_bytes, FitsScriptRow};
-ghost use Rattle.el_rows.specs.Transaction.{tables_in, OnlyReads};
+ghost use Rattle.el_rows.specs.Transaction.{tables_in, reads_in, EditsRows, EditsAlone};
 ghost use Rattle.el_rows.specs.declared.script_row.ScriptRow as shape;
 ghost use Rattle.el_rows.specs.declared.table.Table.{Table};
 ghost use Rattle.el_tables.specs.Edits as edit;
@@ -12,10 +11,9 @@ ghost use Rattle.el_buckets.specs.Rows.{Encode};
 ghost use Rattle.el_spend.specs.within.Parts.{balance_raised, balance_lowered, raised, lowered};
 
 use crate::reading::script_row;
-use el_base::{OutOfMemory, Steps};
+use el_base::OutOfMemory;
 use el_chain::ConnectFault;
 use el_rows::{Rows, ScriptRow, Table, Txn};
-use std::sync::ledger::Ledger;
 
 // Writes over the row of a script.
 fn put_script<R: Rows>(t: &mut Txn<'_, R>, n: u64, row: &ScriptRow) -> Result<(), OutOfMemory>
@@ -24,8 +22,7 @@ fn put_script<R: Rows>(t: &mut Txn<'_, R>, n: u64, row: &ScriptRow) -> Result<()
     ensures ok { OnOk result (OnTable (tables_in t.old) (tables_in t.new) Table.Scripts
         (slice_set (tables_in t.old Table.Scripts) n (script_row_bytes row.now))) }
     ensures err { OnErr result (tables_in t.new ≡ tables_in t.old) }
-    ensures rows { t.new.rows.now ≡ t.old.rows.now }
-    ensures name { t.new.rows.ghost_name ≡ t.old.rows.ghost_name }
+    ensures alone { EditsAlone t.old t.new }
 {
     let mut bytes = [0; 52];
     row.write(&mut bytes);
@@ -33,11 +30,10 @@ fn put_script<R: Rows>(t: &mut Txn<'_, R>, n: u64, row: &ScriptRow) -> Result<()
 }
 
 // The balance of the script of that number, if it is there, is higher by the value. It stays at 2^64 - 1.
-pub(crate) fn raise<R: Rows, L: Ledger>(
+pub(crate) fn raise<R: Rows>(
     t: &mut Txn<'_, R>,
     script: u64,
     value: u64,
-    steps: &mut Steps<L>,
 ) -> Result<(), ConnectFault>
     requires live { R.is_live t.old.rows.now }
     ensures raised { (tb : typed.Tables) → R.tells → Encode (tables_in t.old) tb
@@ -51,17 +47,13 @@ pub(crate) fn raise<R: Rows, L: Ledger>(
     ensures others { (u : Table) → u ≢ Table.Scripts → tables_in t.new u ≡ tables_in t.old u }
     ensures stay { length (tables_in t.new Table.Scripts) ≡ length (tables_in t.old Table.Scripts) }
     ensures fault { IfErr result (λ e. (e ≡ ConnectFault.DiskFailed) ⊎ (e ≡ ConnectFault.Memory)) }
-    ensures reads { OnlyReads t.old t.new }
-    ensures name { t.new.rows.ghost_name ≡ t.old.rows.ghost_name }
-    ensures ticked { steps.old ≤ steps.new }
-    ensures tick { steps.new ≤ steps.old + 1 }
-    ensures cause { CountsOnly (R.faults t.old.rows.now) (R.faults t.new.rows.now) ConnectFault.DiskFailed
-        result }
+    ensures edits { EditsRows ConnectFault.DiskFailed t.old t.new result }
+    ensures rows { reads_in t.new ≤ reads_in t.old + 1 }
 {
     if script >= t.count(Table::Scripts) {
         return Ok(());
     }
-    let row = script_row(t, script, steps).map_err(|_| ConnectFault::DiskFailed)?;
+    let row = script_row(t, script).map_err(|_| ConnectFault::DiskFailed)?;
     let raised = ScriptRow {
         balance: row.balance.saturating_add(value),
         ..row
@@ -71,11 +63,10 @@ pub(crate) fn raise<R: Rows, L: Ledger>(
 }
 
 // The balance of the script of that number, if it is there, is lower by the value. It stays at 0.
-pub(crate) fn lower<R: Rows, L: Ledger>(
+pub(crate) fn lower<R: Rows>(
     t: &mut Txn<'_, R>,
     script: u64,
     value: u64,
-    steps: &mut Steps<L>,
 ) -> Result<(), ConnectFault>
     requires live { R.is_live t.old.rows.now }
     ensures lowered { (tb : typed.Tables) → R.tells → Encode (tables_in t.old) tb
@@ -88,17 +79,13 @@ pub(crate) fn lower<R: Rows, L: Ledger>(
     ensures others { (u : Table) → u ≢ Table.Scripts → tables_in t.new u ≡ tables_in t.old u }
     ensures stay { length (tables_in t.new Table.Scripts) ≡ length (tables_in t.old Table.Scripts) }
     ensures fault { IfErr result (λ e. (e ≡ ConnectFault.DiskFailed) ⊎ (e ≡ ConnectFault.Memory)) }
-    ensures reads { OnlyReads t.old t.new }
-    ensures name { t.new.rows.ghost_name ≡ t.old.rows.ghost_name }
-    ensures ticked { steps.old ≤ steps.new }
-    ensures tick { steps.new ≤ steps.old + 1 }
-    ensures cause { CountsOnly (R.faults t.old.rows.now) (R.faults t.new.rows.now) ConnectFault.DiskFailed
-        result }
+    ensures edits { EditsRows ConnectFault.DiskFailed t.old t.new result }
+    ensures rows { reads_in t.new ≤ reads_in t.old + 1 }
 {
     if script >= t.count(Table::Scripts) {
         return Ok(());
     }
-    let row = script_row(t, script, steps).map_err(|_| ConnectFault::DiskFailed)?;
+    let row = script_row(t, script).map_err(|_| ConnectFault::DiskFailed)?;
     let lowered = ScriptRow {
         balance: row.balance.saturating_sub(value),
         ..row

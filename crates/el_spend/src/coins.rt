@@ -1,9 +1,8 @@
 // Outputs that become unspent, or are no longer.
 ghost use Rattle.std.specs.Prelude.{◌≡◌, ◌≢◌, ◌⊎◌, ◌<◌, ◌≤◌, ◌+◌, ◌^◌, length, slice_set, OnOk, OnErr, IfErr};
-ghost use Rattle.el_outside.specs.Counts.{CountsOnly};
 ghost use Rattle.el_rows.specs.Changes.{OnTable};
 ghost use Rattle.el_rows.specs.RowBytes.{out_row_bytes, state_by, FitsOutRow};
-ghost use Rattle.el_rows.specs.Transaction.{tables_in, OnlyReads};
+ghost use Rattle.el_rows.specs.Transaction.{tables_in, reads_in, EditsRows, EditsAlone};
 ghost use Rattle.el_rows.specs.declared.table.Table.{Table};
 ghost use Rattle.el_tables.specs.Edits as edit;
 ghost use Rattle.el_tables.specs.Lists as lists;
@@ -13,10 +12,9 @@ ghost use Rattle.el_spend.specs.within.Parts.{IsOutRow, state_changed};
 
 use crate::NamedOutput;
 use crate::balance::{lower, raise};
-use el_base::{OutOfMemory, Steps};
+use el_base::OutOfMemory;
 use el_chain::ConnectFault;
 use el_rows::{OutRow, Rows, State, Table, Txn};
-use std::sync::ledger::Ledger;
 
 // Gives the output another state.
 fn put_state<R: Rows>(
@@ -33,8 +31,7 @@ fn put_state<R: Rows>(
     ensures others { (u : Table) → u ≢ Table.Outs → tables_in t.new u ≡ tables_in t.old u }
     ensures stay { length (tables_in t.new Table.Outs) ≡ length (tables_in t.old Table.Outs) }
     ensures err { OnErr result (tables_in t.new ≡ tables_in t.old) }
-    ensures rows { t.new.rows.now ≡ t.old.rows.now }
-    ensures name { t.new.rows.ghost_name ≡ t.old.rows.ghost_name }
+    ensures alone { EditsAlone t.old t.new }
 {
     let changed = OutRow {
         state,
@@ -46,11 +43,10 @@ fn put_state<R: Rows>(
 }
 
 // A coin gets another state, and leaves its script's balance.
-pub(crate) fn take_coin<R: Rows, L: Ledger>(
+pub(crate) fn take_coin<R: Rows>(
     t: &mut Txn<'_, R>,
     coin: &NamedOutput,
     state: State,
-    steps: &mut Steps<L>,
 ) -> Result<(), ConnectFault>
     requires live { R.is_live t.old.rows.now }
     requires below { coin.now.number < length (tables_in t.old Table.Outs) }
@@ -64,22 +60,17 @@ pub(crate) fn take_coin<R: Rows, L: Ledger>(
     ensures outs_stay { length (tables_in t.new Table.Outs) ≡ length (tables_in t.old Table.Outs) }
     ensures scripts_stay { length (tables_in t.new Table.Scripts) ≡ length (tables_in t.old Table.Scripts) }
     ensures fault { IfErr result (λ e. (e ≡ ConnectFault.DiskFailed) ⊎ (e ≡ ConnectFault.Memory)) }
-    ensures reads { OnlyReads t.old t.new }
-    ensures name { t.new.rows.ghost_name ≡ t.old.rows.ghost_name }
-    ensures ticked { steps.old ≤ steps.new }
-    ensures tick { steps.new ≤ steps.old + 1 }
-    ensures cause { CountsOnly (R.faults t.old.rows.now) (R.faults t.new.rows.now) ConnectFault.DiskFailed
-        result }
+    ensures edits { EditsRows ConnectFault.DiskFailed t.old t.new result }
+    ensures rows { reads_in t.new ≤ reads_in t.old + 1 }
 {
     put_state(t, coin, state)?;
-    lower(t, coin.row.script, coin.row.value, steps)
+    lower(t, coin.row.script, coin.row.value)
 }
 
 // An output is unspent again, and goes into its script's balance.
-pub(crate) fn give_back<R: Rows, L: Ledger>(
+pub(crate) fn give_back<R: Rows>(
     t: &mut Txn<'_, R>,
     output: &NamedOutput,
-    steps: &mut Steps<L>,
 ) -> Result<(), ConnectFault>
     requires live { R.is_live t.old.rows.now }
     requires below { output.now.number < length (tables_in t.old Table.Outs) }
@@ -93,13 +84,9 @@ pub(crate) fn give_back<R: Rows, L: Ledger>(
     ensures outs_stay { length (tables_in t.new Table.Outs) ≡ length (tables_in t.old Table.Outs) }
     ensures scripts_stay { length (tables_in t.new Table.Scripts) ≡ length (tables_in t.old Table.Scripts) }
     ensures fault { IfErr result (λ e. (e ≡ ConnectFault.DiskFailed) ⊎ (e ≡ ConnectFault.Memory)) }
-    ensures reads { OnlyReads t.old t.new }
-    ensures name { t.new.rows.ghost_name ≡ t.old.rows.ghost_name }
-    ensures ticked { steps.old ≤ steps.new }
-    ensures tick { steps.new ≤ steps.old + 1 }
-    ensures cause { CountsOnly (R.faults t.old.rows.now) (R.faults t.new.rows.now) ConnectFault.DiskFailed
-        result }
+    ensures edits { EditsRows ConnectFault.DiskFailed t.old t.new result }
+    ensures rows { reads_in t.new ≤ reads_in t.old + 1 }
 {
     put_state(t, output, State::Unspent)?;
-    raise(t, output.row.script, output.row.value, steps)
+    raise(t, output.row.script, output.row.value)
 }

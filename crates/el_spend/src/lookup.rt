@@ -1,10 +1,9 @@
 // The output that an outpoint names.
 ghost use Rattle.std.specs.Prelude.{◌≡◌, ◌<◌, ◌≤◌, ◌+◌, ◌^◌, ℕ, List, [], length, map, take, get_or, IfOk, None};
 ghost use Rattle.std.specs.Option.{ForSome};
-ghost use Rattle.el_outside.specs.Counts.{HasCause};
 ghost use Rattle.el_rows.specs.RowBytes.{FitsOutRow, ReadsAsOut};
 ghost use Rattle.el_rows.specs.Tables.{limit_of};
-ghost use Rattle.el_rows.specs.Transaction.{tables_in, OnlyReads};
+ghost use Rattle.el_rows.specs.Transaction.{tables_in, reads_in, disk_failed, ReadsRows};
 ghost use Rattle.el_rows.specs.declared.table.Table.{Table};
 ghost use Rattle.el_tables.specs.ChainLists.{ListedBlock};
 ghost use Rattle.el_tables.specs.Lists as lists;
@@ -15,13 +14,11 @@ ghost use Rattle.el_buckets.specs.Rows.{Encode, Hold};
 ghost use Rattle.el_spend.specs.Outputs.{named_among, output_at, txs_with, rows_to_find, coin_among};
 
 use crate::reading::{out_row, tx_row};
-use el_base::Steps;
 use el_buckets::if_below;
 use el_outside::DiskFailed;
 use el_position::newest;
 use el_rows::{OutRow, Rows, State, Table, Txn};
 use el_tx::Outpoint;
-use std::sync::ledger::Ledger;
 
 /// An output that is there.
 #[derive(Clone, Copy, Debug, PartialEq, Eq)]
@@ -35,20 +32,19 @@ pub struct NamedOutput {
 /// The output that the outpoint names among the transactions below that number, with its row: it is one of
 /// the newest of them with the txid and more outputs than the index. There is none exactly where no such
 /// output is there. It takes no memory and changes nothing.
-pub fn named_output<R: Rows, L: Ledger>(
+pub fn named_output<R: Rows>(
     t: &mut Txn<'_, R>,
     o: &Outpoint,
     below: u64,
-    steps: &mut Steps<L>,
 ) -> Result<Option<NamedOutput>, DiskFailed>
     requires live { R.is_live t.old.rows.now }
     ensures named { (counts : HeadCounts) (bs : List ListedBlock) (l : lists.Lists) → R.tells
         → Hold counts bs l (tables_in t.old) → 0 < counts.txs
         → IfOk result (λ f. f ≡ named_among o.now below l) }
     // It reads one head, transactions in the txid's bucket, then those with the txid, and the output.
-    ensures steps { (counts : HeadCounts) (bs : List ListedBlock) (l : lists.Lists) → R.tells
+    ensures rows { (counts : HeadCounts) (bs : List ListedBlock) (l : lists.Lists) → R.tells
         → Hold counts bs l (tables_in t.old) → 0 < counts.txs
-        → steps.new ≤ steps.old + rows_to_find counts.txs o.now.txid l }
+        → reads_in t.new ≤ reads_in t.old + rows_to_find counts.txs o.now.txid l }
     // What follows holds over any rows. A state above 2 reads as buried.
     ensures none { length (tables_in t.old Table.TxHeads) ≡ 0 → IfOk result (λ f. f ≡ None) }
     ensures below { IfOk result (λ f. ForSome f (λ x. x.number < length (tables_in t.old Table.Outs))) }
@@ -56,23 +52,18 @@ pub fn named_output<R: Rows, L: Ledger>(
     ensures row { R.tells → IfOk result
         (λ f. ForSome f (λ x. ReadsAsOut (get_or (tables_in t.old Table.Outs) x.number []) x.row)) }
     ensures fits { IfOk result (λ f. ForSome f (λ x. FitsOutRow x.row)) }
-    ensures tables { tables_in t.new ≡ tables_in t.old }
-    ensures reads { OnlyReads t.old t.new }
-    ensures name { t.new.rows.ghost_name ≡ t.old.rows.ghost_name }
-    ensures ticked { steps.old ≤ steps.new }
-    ensures cause { HasCause (R.faults t.old.rows.now) (R.faults t.new.rows.now) result }
+    ensures read { ReadsRows disk_failed t.old t.new result }
 {
-    match output_number(t, o, below, steps)? {
-        Some(k) => found_output(t, k, steps),
+    match output_number(t, o, below)? {
+        Some(k) => found_output(t, k),
         None => Ok(None),
     }
 }
 
 // The output of that number with its row, and none where there is no such output.
-pub(crate) fn found_output<R: Rows, L: Ledger>(
+pub(crate) fn found_output<R: Rows>(
     t: &mut Txn<'_, R>,
     k: u64,
-    steps: &mut Steps<L>,
 ) -> Result<Option<NamedOutput>, DiskFailed>
     requires live { R.is_live t.old.rows.now }
     ensures found { (tb : typed.Tables) → R.tells → Encode (tables_in t.old) tb
@@ -82,46 +73,37 @@ pub(crate) fn found_output<R: Rows, L: Ledger>(
     ensures row { R.tells → IfOk result
         (λ f. ForSome f (λ x. ReadsAsOut (get_or (tables_in t.old Table.Outs) x.number []) x.row)) }
     ensures fits { IfOk result (λ f. ForSome f (λ x. FitsOutRow x.row)) }
-    ensures tables { tables_in t.new ≡ tables_in t.old }
-    ensures reads { OnlyReads t.old t.new }
-    ensures name { t.new.rows.ghost_name ≡ t.old.rows.ghost_name }
-    ensures ticked { steps.old ≤ steps.new }
-    ensures tick { steps.new ≤ steps.old + 1 }
-    ensures cause { HasCause (R.faults t.old.rows.now) (R.faults t.new.rows.now) result }
+    ensures read { ReadsRows disk_failed t.old t.new result }
+    ensures rows { reads_in t.new ≤ reads_in t.old + 1 }
 {
     if k >= t.count(Table::Outs) {
         return Ok(None);
     }
-    let row = out_row(t, k, steps)?;
+    let row = out_row(t, k)?;
     Ok(Some(NamedOutput { number: k, row }))
 }
 
 // The number of the output that the outpoint names among the transactions below that number. A link to an
 // older transaction that isn't below its own is none.
-fn output_number<R: Rows, L: Ledger>(
+fn output_number<R: Rows>(
     t: &mut Txn<'_, R>,
     o: &Outpoint,
     below: u64,
-    steps: &mut Steps<L>,
 ) -> Result<Option<u64>, DiskFailed>
     requires live { R.is_live t.old.rows.now }
     ensures number { (counts : HeadCounts) (bs : List ListedBlock) (l : lists.Lists) → R.tells
         → Hold counts bs l (tables_in t.old) → 0 < counts.txs
         → IfOk result (λ k. k ≡ lists.output_number o.now (take below l.txs)) }
-    ensures steps { (counts : HeadCounts) (bs : List ListedBlock) (l : lists.Lists) → R.tells
+    ensures rows { (counts : HeadCounts) (bs : List ListedBlock) (l : lists.Lists) → R.tells
         → Hold counts bs l (tables_in t.old) → 0 < counts.txs
-        → steps.new ≤ steps.old + (1 + bucket_size counts.txs o.now.txid
+        → reads_in t.new ≤ reads_in t.old + (1 + bucket_size counts.txs o.now.txid
         (map (λ (x : lists.ListedTx). x.txid) l.txs) + txs_with o.now.txid l.txs) }
     ensures none { length (tables_in t.old Table.TxHeads) ≡ 0 → IfOk result (λ k. k ≡ None) }
-    ensures tables { tables_in t.new ≡ tables_in t.old }
-    ensures reads { OnlyReads t.old t.new }
-    ensures name { t.new.rows.ghost_name ≡ t.old.rows.ghost_name }
-    ensures ticked { steps.old ≤ steps.new }
-    ensures cause { HasCause (R.faults t.old.rows.now) (R.faults t.new.rows.now) result }
+    ensures read { ReadsRows disk_failed t.old t.new result }
 {
-    let mut link = newest(t, &o.txid, steps)?;
+    let mut link = newest(t, &o.txid)?;
     while let Some(n) = link {
-        let row = tx_row(t, n, steps)?;
+        let row = tx_row(t, n)?;
         if n < below && o.index < row.outs {
             return Ok(Some(row.first_out + u64::from(o.index)));
         }
@@ -132,30 +114,25 @@ fn output_number<R: Rows, L: Ledger>(
 
 // The coin of the outpoint among the transactions below that number: the output that it names there, if this
 // is unspent.
-pub(crate) fn coin<R: Rows, L: Ledger>(
+pub(crate) fn coin<R: Rows>(
     t: &mut Txn<'_, R>,
     o: &Outpoint,
     below: u64,
-    steps: &mut Steps<L>,
 ) -> Result<Option<NamedOutput>, DiskFailed>
     requires live { R.is_live t.old.rows.now }
     ensures coin { (counts : HeadCounts) (bs : List ListedBlock) (l : lists.Lists) → R.tells
         → Hold counts bs l (tables_in t.old) → 0 < counts.txs
         → IfOk result (λ f. f ≡ coin_among o.now below l) }
-    ensures steps { (counts : HeadCounts) (bs : List ListedBlock) (l : lists.Lists) → R.tells
+    ensures rows { (counts : HeadCounts) (bs : List ListedBlock) (l : lists.Lists) → R.tells
         → Hold counts bs l (tables_in t.old) → 0 < counts.txs
-        → steps.new ≤ steps.old + rows_to_find counts.txs o.now.txid l }
+        → reads_in t.new ≤ reads_in t.old + rows_to_find counts.txs o.now.txid l }
     ensures none { length (tables_in t.old Table.TxHeads) ≡ 0 → IfOk result (λ f. f ≡ None) }
     ensures below { IfOk result (λ f. ForSome f (λ x. x.number < length (tables_in t.old Table.Outs))) }
     ensures limit { IfOk result (λ f. ForSome f (λ x. x.number < limit_of Table.Outs)) }
     ensures fits { IfOk result (λ f. ForSome f (λ x. FitsOutRow x.row)) }
-    ensures tables { tables_in t.new ≡ tables_in t.old }
-    ensures reads { OnlyReads t.old t.new }
-    ensures name { t.new.rows.ghost_name ≡ t.old.rows.ghost_name }
-    ensures ticked { steps.old ≤ steps.new }
-    ensures cause { HasCause (R.faults t.old.rows.now) (R.faults t.new.rows.now) result }
+    ensures read { ReadsRows disk_failed t.old t.new result }
 {
-    let Some(found) = named_output(t, o, below, steps)? else {
+    let Some(found) = named_output(t, o, below)? else {
         return Ok(None);
     };
     match found.row.state {

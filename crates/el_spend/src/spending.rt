@@ -1,9 +1,8 @@
 // An input more.
 ghost use Rattle.std.specs.Prelude.{◌≡◌, ◌≢◌, ◌⊎◌, ◌<◌, ◌≤◌, ◌+◌, ◌^◌, ℕ, List, length, OnOk, IfOk, IfErr, IsSome, None, unwrap_or};
 ghost use Rattle.std.specs.Option.{ForSome};
-ghost use Rattle.el_outside.specs.Counts.{CountsOnly};
 ghost use Rattle.el_rows.specs.Tables.{limit_of};
-ghost use Rattle.el_rows.specs.Transaction.{tables_in, OnlyReads};
+ghost use Rattle.el_rows.specs.Transaction.{tables_in, reads_in, EditsRows, EditsAlone};
 ghost use Rattle.el_rows.specs.declared.table.Table.{Table};
 ghost use Rattle.el_tables.specs.ChainLists.{ListedBlock};
 ghost use Rattle.el_tables.specs.Lists as lists;
@@ -16,12 +15,10 @@ ghost use Rattle.el_spend.specs.within.Parts.{in_appended};
 
 use crate::coins::take_coin;
 use crate::lookup::coin;
-use el_base::Steps;
 use el_buckets::not_appended;
 use el_chain::ConnectFault;
 use el_rows::{InRow, Rows, State, Table, Txn};
 use el_tx::Outpoint;
-use std::sync::ledger::Ledger;
 
 // Adds an input that spends the output of that number, and answers the input's number.
 fn append_input<R: Rows>(t: &mut Txn<'_, R>, k: u64) -> Result<u64, ConnectFault>
@@ -34,8 +31,7 @@ fn append_input<R: Rows>(t: &mut Txn<'_, R>, k: u64) -> Result<u64, ConnectFault
         ≡ length (tables_in t.old Table.Ins) + 1) }
     ensures room { OnOk result (length (tables_in t.old Table.Ins) < limit_of Table.Ins) }
     ensures fault { IfErr result (λ e. NotAdded Table.Ins (length (tables_in t.old Table.Ins)) e) }
-    ensures rows { t.new.rows.now ≡ t.old.rows.now }
-    ensures name { t.new.rows.ghost_name ≡ t.old.rows.ghost_name }
+    ensures alone { EditsAlone t.old t.new }
 {
     let mut bytes = [0; 4];
     InRow { out: k }.write(&mut bytes);
@@ -49,11 +45,10 @@ fn append_input<R: Rows>(t: &mut Txn<'_, R>, k: u64) -> Result<u64, ConnectFault
 /// The transaction of that number spends the outpoint's coin: an input more. It answers the coin's number,
 /// and none exactly where the output that the outpoint names isn't there or isn't unspent; then nothing has
 /// changed. After a fault the transaction of rows may hold a part.
-pub fn spend<R: Rows, L: Ledger>(
+pub fn spend<R: Rows>(
     t: &mut Txn<'_, R>,
     o: &Outpoint,
     by: u64,
-    steps: &mut Steps<L>,
 ) -> Result<Option<u64>, ConnectFault>
     requires live { R.is_live t.old.rows.now }
     requires by { by < 2 ^ 32 }
@@ -65,9 +60,9 @@ pub fn spend<R: Rows, L: Ledger>(
         → Hold counts bs l (tables_in t.old) → 0 < counts.txs
         → OnOk result (Hold counts bs (unwrap_or (lists.spend o.now by l) l) (tables_in t.new)) }
     // Beside the look-up it reads the coin's script.
-    ensures steps { (counts : HeadCounts) (bs : List ListedBlock) (l : lists.Lists) → R.tells
+    ensures rows { (counts : HeadCounts) (bs : List ListedBlock) (l : lists.Lists) → R.tells
         → Hold counts bs l (tables_in t.old) → 0 < counts.txs
-        → steps.new ≤ steps.old + rows_to_find counts.txs o.now.txid l + 1 }
+        → reads_in t.new ≤ reads_in t.old + rows_to_find counts.txs o.now.txid l + 1 }
     // What follows holds over any rows.
     ensures none { length (tables_in t.old Table.TxHeads) ≡ 0 → IfOk result (λ k. k ≡ None) }
     ensures unchanged { IfOk result (λ k. k ≡ None → tables_in t.new ≡ tables_in t.old) }
@@ -82,18 +77,14 @@ pub fn spend<R: Rows, L: Ledger>(
     ensures room { IfOk result (λ k. IsSome k → length (tables_in t.old Table.Ins) < limit_of Table.Ins) }
     ensures fault { IfErr result (λ e. (e ≡ ConnectFault.DiskFailed)
         ⊎ NotAdded Table.Ins (length (tables_in t.old Table.Ins)) e) }
-    ensures reads { OnlyReads t.old t.new }
-    ensures name { t.new.rows.ghost_name ≡ t.old.rows.ghost_name }
-    ensures ticked { steps.old ≤ steps.new }
-    ensures cause { CountsOnly (R.faults t.old.rows.now) (R.faults t.new.rows.now) ConnectFault.DiskFailed
-        result }
+    ensures edits { EditsRows ConnectFault.DiskFailed t.old t.new result }
 {
     let below = t.count(Table::Txs);
-    let found = coin(t, o, below, steps).map_err(|_| ConnectFault::DiskFailed)?;
+    let found = coin(t, o, below).map_err(|_| ConnectFault::DiskFailed)?;
     let Some(coin) = found else {
         return Ok(None);
     };
     append_input(t, coin.number)?;
-    take_coin(t, &coin, State::Spent(by), steps)?;
+    take_coin(t, &coin, State::Spent(by))?;
     Ok(Some(coin.number))
 }

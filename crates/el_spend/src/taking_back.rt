@@ -1,9 +1,8 @@
 // An output less.
 ghost use Rattle.std.specs.Prelude.{◌≡◌, ◌≢◌, ◌⊎◌, ◌<◌, ◌≤◌, ◌+◌, ◌-◌, ◌^◌, ℕ, List, Some, length, OnOk, IfOk, IfErr};
 ghost use Rattle.std.specs.Option.{ForSome};
-ghost use Rattle.el_outside.specs.Counts.{HasCause, CountsOnly};
 ghost use Rattle.el_rows.specs.RowBytes.{FitsOutRow};
-ghost use Rattle.el_rows.specs.Transaction.{tables_in, OnlyReads};
+ghost use Rattle.el_rows.specs.Transaction.{tables_in, reads_in, disk_failed, ReadsRows, EditsRows};
 ghost use Rattle.el_rows.specs.declared.table.Table.{Table};
 ghost use Rattle.el_tables.specs.ChainLists.{ListedBlock};
 ghost use Rattle.el_tables.specs.Disconnecting as back;
@@ -20,19 +19,13 @@ use crate::balance::lower;
 use crate::coins::give_back;
 use crate::lookup::named_output;
 use crate::reading::{listed_at, out_row};
-use el_base::Steps;
 use el_chain::ConnectFault;
 use el_outside::DiskFailed;
 use el_rows::{OutRow, Rows, State, Table, Txn};
 use el_tx::Outpoint;
-use std::sync::ledger::Ledger;
 
 // If the output was unspent it leaves its script's balance.
-fn leave_balance<R: Rows, L: Ledger>(
-    t: &mut Txn<'_, R>,
-    row: &OutRow,
-    steps: &mut Steps<L>,
-) -> Result<(), ConnectFault>
+fn leave_balance<R: Rows>(t: &mut Txn<'_, R>, row: &OutRow) -> Result<(), ConnectFault>
     requires live { R.is_live t.old.rows.now }
     ensures lowered { (tb : typed.Tables) (x : lists.ListedOut) → R.tells → Encode (tables_in t.old) tb
         → row.now ≡ out_fields x
@@ -40,27 +33,18 @@ fn leave_balance<R: Rows, L: Ledger>(
     ensures others { (u : Table) → u ≢ Table.Scripts → tables_in t.new u ≡ tables_in t.old u }
     ensures stay { length (tables_in t.new Table.Scripts) ≡ length (tables_in t.old Table.Scripts) }
     ensures fault { IfErr result (λ e. (e ≡ ConnectFault.DiskFailed) ⊎ (e ≡ ConnectFault.Memory)) }
-    ensures reads { OnlyReads t.old t.new }
-    ensures name { t.new.rows.ghost_name ≡ t.old.rows.ghost_name }
-    ensures ticked { steps.old ≤ steps.new }
-    ensures tick { steps.new ≤ steps.old + 1 }
-    ensures cause { CountsOnly (R.faults t.old.rows.now) (R.faults t.new.rows.now) ConnectFault.DiskFailed
-        result }
+    ensures edits { EditsRows ConnectFault.DiskFailed t.old t.new result }
+    ensures rows { reads_in t.new ≤ reads_in t.old + 1 }
 {
     match row.state {
-        State::Unspent => lower(t, row.script, row.value, steps),
+        State::Unspent => lower(t, row.script, row.value),
         _ => Ok(()),
     }
 }
 
 // Takes the last output away, which has that number and row. If it was unspent it leaves its script's
 // balance.
-fn drop_output<R: Rows, L: Ledger>(
-    t: &mut Txn<'_, R>,
-    last: u64,
-    row: &OutRow,
-    steps: &mut Steps<L>,
-) -> Result<(), ConnectFault>
+fn drop_output<R: Rows>(t: &mut Txn<'_, R>, last: u64, row: &OutRow) -> Result<(), ConnectFault>
     requires live { R.is_live t.old.rows.now }
     requires last { length (tables_in t.old Table.Outs) ≡ last + 1 }
     ensures dropped { (tb : typed.Tables) (x : lists.ListedOut) → R.tells → Encode (tables_in t.old) tb
@@ -70,75 +54,59 @@ fn drop_output<R: Rows, L: Ledger>(
     ensures shorter { OnOk result (length (tables_in t.new Table.Outs) ≡ last) }
     ensures scripts_stay { length (tables_in t.new Table.Scripts) ≡ length (tables_in t.old Table.Scripts) }
     ensures fault { IfErr result (λ e. (e ≡ ConnectFault.DiskFailed) ⊎ (e ≡ ConnectFault.Memory)) }
-    ensures reads { OnlyReads t.old t.new }
-    ensures name { t.new.rows.ghost_name ≡ t.old.rows.ghost_name }
-    ensures ticked { steps.old ≤ steps.new }
-    ensures tick { steps.new ≤ steps.old + 1 }
-    ensures cause { CountsOnly (R.faults t.old.rows.now) (R.faults t.new.rows.now) ConnectFault.DiskFailed
-        result }
+    ensures edits { EditsRows ConnectFault.DiskFailed t.old t.new result }
+    ensures rows { reads_in t.new ≤ reads_in t.old + 1 }
 {
-    leave_balance(t, row, steps)?;
+    leave_balance(t, row)?;
     t.shrink(Table::Outs, last);
     Ok(())
 }
 
 // The output that the outpoint of an output named before: of the output of that number, which the transaction
 // of the first number made.
-fn named_before<R: Rows, L: Ledger>(
+fn named_before<R: Rows>(
     t: &mut Txn<'_, R>,
     tx: u64,
     number: u64,
-    steps: &mut Steps<L>,
 ) -> Result<Option<NamedOutput>, DiskFailed>
     requires live { R.is_live t.old.rows.now }
     requires number { number < 2 ^ 32 }
     ensures named { (counts : HeadCounts) (bs : List ListedBlock) (l : lists.Lists) → R.tells
         → Hold counts bs l (tables_in t.old) → 0 < counts.txs
         → IfOk result (λ f. f ≡ named_among (outpoint_at tx number l) tx l) }
-    ensures steps { (counts : HeadCounts) (bs : List ListedBlock) (l : lists.Lists) → R.tells
+    ensures rows { (counts : HeadCounts) (bs : List ListedBlock) (l : lists.Lists) → R.tells
         → Hold counts bs l (tables_in t.old) → 0 < counts.txs
-        → steps.new ≤ steps.old + rows_to_find counts.txs (lists.txid_at tx l.txs) l + 1 }
+        → reads_in t.new
+        ≤ reads_in t.old + rows_to_find counts.txs (lists.txid_at tx l.txs) l + 1 }
     ensures below { IfOk result (λ f. ForSome f (λ x. x.number < length (tables_in t.old Table.Outs))) }
     ensures fits { IfOk result (λ f. ForSome f (λ x. FitsOutRow x.row)) }
-    ensures tables { tables_in t.new ≡ tables_in t.old }
-    ensures reads { OnlyReads t.old t.new }
-    ensures name { t.new.rows.ghost_name ≡ t.old.rows.ghost_name }
-    ensures ticked { steps.old ≤ steps.new }
-    ensures cause { HasCause (R.faults t.old.rows.now) (R.faults t.new.rows.now) result }
+    ensures read { ReadsRows disk_failed t.old t.new result }
 {
-    let (txid, first_out) = listed_at(t, tx, steps)?;
+    let (txid, first_out) = listed_at(t, tx)?;
     let index = number.saturating_sub(first_out) as u32;
-    named_output(t, &Outpoint { txid, index }, tx, steps)
+    named_output(t, &Outpoint { txid, index }, tx)
 }
 
 // What an output buried is unspent again. The output was of that transaction; it had that number, and is
 // gone.
-fn unbury<R: Rows, L: Ledger>(
-    t: &mut Txn<'_, R>,
-    tx: u64,
-    number: u64,
-    steps: &mut Steps<L>,
-) -> Result<(), ConnectFault>
+fn unbury<R: Rows>(t: &mut Txn<'_, R>, tx: u64, number: u64) -> Result<(), ConnectFault>
     requires live { R.is_live t.old.rows.now }
     requires number { number < 2 ^ 32 }
     ensures lists { (counts : HeadCounts) (bs : List ListedBlock) (l : lists.Lists) → R.tells
         → Hold counts bs l (tables_in t.old) → 0 < counts.txs → BalancesFit (unburied_lists tx number l).outs
         → OnOk result (Hold counts bs (unburied_lists tx number l) (tables_in t.new)) }
-    ensures steps { (counts : HeadCounts) (bs : List ListedBlock) (l : lists.Lists) → R.tells
+    ensures rows { (counts : HeadCounts) (bs : List ListedBlock) (l : lists.Lists) → R.tells
         → Hold counts bs l (tables_in t.old) → 0 < counts.txs
-        → steps.new ≤ steps.old + rows_to_find counts.txs (lists.txid_at tx l.txs) l + 2 }
+        → reads_in t.new
+        ≤ reads_in t.old + rows_to_find counts.txs (lists.txid_at tx l.txs) l + 2 }
     ensures others { (u : Table) → u ≢ Table.Outs → u ≢ Table.Scripts
         → tables_in t.new u ≡ tables_in t.old u }
     ensures outs_stay { length (tables_in t.new Table.Outs) ≡ length (tables_in t.old Table.Outs) }
     ensures scripts_stay { length (tables_in t.new Table.Scripts) ≡ length (tables_in t.old Table.Scripts) }
     ensures fault { IfErr result (λ e. (e ≡ ConnectFault.DiskFailed) ⊎ (e ≡ ConnectFault.Memory)) }
-    ensures reads { OnlyReads t.old t.new }
-    ensures name { t.new.rows.ghost_name ≡ t.old.rows.ghost_name }
-    ensures ticked { steps.old ≤ steps.new }
-    ensures cause { CountsOnly (R.faults t.old.rows.now) (R.faults t.new.rows.now) ConnectFault.DiskFailed
-        result }
+    ensures edits { EditsRows ConnectFault.DiskFailed t.old t.new result }
 {
-    let named = named_before(t, tx, number, steps).map_err(|_| ConnectFault::DiskFailed)?;
+    let named = named_before(t, tx, number).map_err(|_| ConnectFault::DiskFailed)?;
     let Some(output) = named else {
         return Ok(());
     };
@@ -146,7 +114,7 @@ fn unbury<R: Rows, L: Ledger>(
         return Ok(());
     };
     if by == tx {
-        give_back(t, &output, steps)
+        give_back(t, &output)
     } else {
         Ok(())
     }
@@ -155,10 +123,7 @@ fn unbury<R: Rows, L: Ledger>(
 /// Takes the last output away: the one that it buried is unspent again. Where there is no output nothing
 /// changes. It fails only for want of memory or a disk fault, and then the transaction of rows may hold a
 /// part.
-pub fn take_back_out<R: Rows, L: Ledger>(
-    t: &mut Txn<'_, R>,
-    steps: &mut Steps<L>,
-) -> Result<(), ConnectFault>
+pub fn take_back_out<R: Rows>(t: &mut Txn<'_, R>) -> Result<(), ConnectFault>
     requires live { R.is_live t.old.rows.now }
     // It is the step of the lists, on all tables, where the balances after it fit.
     ensures lists { (counts : HeadCounts) (bs : List ListedBlock) (l : lists.Lists) → R.tells
@@ -166,9 +131,10 @@ pub fn take_back_out<R: Rows, L: Ledger>(
         → OnOk result (Hold counts bs (back.take_back_output l) (tables_in t.new)) }
     // Beside the look-up it reads the output, its transaction and its script, and the script of what it
     // buried.
-    ensures steps { (counts : HeadCounts) (bs : List ListedBlock) (l : lists.Lists) (x : lists.ListedOut) →
+    ensures rows { (counts : HeadCounts) (bs : List ListedBlock) (l : lists.Lists) (x : lists.ListedOut) →
         R.tells → Hold counts bs l (tables_in t.old) → 0 < counts.txs → back.last l.outs ≡ Some x
-        → steps.new ≤ steps.old + rows_to_find counts.txs (lists.txid_at x.tx l.txs) l + 4 }
+        → reads_in t.new
+        ≤ reads_in t.old + rows_to_find counts.txs (lists.txid_at x.tx l.txs) l + 4 }
     // What follows holds over any rows.
     ensures none { length (tables_in t.old Table.Outs) ≡ 0
         → OnOk result (tables_in t.new ≡ tables_in t.old) }
@@ -178,18 +144,14 @@ pub fn take_back_out<R: Rows, L: Ledger>(
     ensures others { (u : Table) → u ≢ Table.Outs → u ≢ Table.Scripts
         → tables_in t.new u ≡ tables_in t.old u }
     ensures fault { IfErr result (λ e. (e ≡ ConnectFault.DiskFailed) ⊎ (e ≡ ConnectFault.Memory)) }
-    ensures reads { OnlyReads t.old t.new }
-    ensures name { t.new.rows.ghost_name ≡ t.old.rows.ghost_name }
-    ensures ticked { steps.old ≤ steps.new }
-    ensures cause { CountsOnly (R.faults t.old.rows.now) (R.faults t.new.rows.now) ConnectFault.DiskFailed
-        result }
+    ensures edits { EditsRows ConnectFault.DiskFailed t.old t.new result }
 {
     let count = t.count(Table::Outs);
     if count == 0 {
         return Ok(());
     }
     let last = count - 1;
-    let row = out_row(t, last, steps).map_err(|_| ConnectFault::DiskFailed)?;
-    drop_output(t, last, &row, steps)?;
-    unbury(t, row.tx, last, steps)
+    let row = out_row(t, last).map_err(|_| ConnectFault::DiskFailed)?;
+    drop_output(t, last, &row)?;
+    unbury(t, row.tx, last)
 }

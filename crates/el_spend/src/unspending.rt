@@ -1,7 +1,6 @@
 // An input less.
 ghost use Rattle.std.specs.Prelude.{◌≡◌, ◌≢◌, ◌⊎◌, ◌<◌, ◌≤◌, ◌+◌, ◌-◌, ◌^◌, ℕ, List, Some, length, OnOk, IfErr};
-ghost use Rattle.el_outside.specs.Counts.{CountsOnly};
-ghost use Rattle.el_rows.specs.Transaction.{tables_in, OnlyReads};
+ghost use Rattle.el_rows.specs.Transaction.{tables_in, reads_in, EditsRows};
 ghost use Rattle.el_rows.specs.declared.table.Table.{Table};
 ghost use Rattle.el_tables.specs.ChainLists.{ListedBlock};
 ghost use Rattle.el_tables.specs.Disconnecting as back;
@@ -14,17 +13,11 @@ ghost use Rattle.el_spend.specs.within.Parts.{spent_given_back};
 use crate::coins::give_back;
 use crate::lookup::found_output;
 use crate::reading::in_row;
-use el_base::Steps;
 use el_chain::ConnectFault;
 use el_rows::{Rows, State, Table, Txn};
-use std::sync::ledger::Ledger;
 
 // The output of that number is unspent again, if it was spent.
-fn give_back_spent<R: Rows, L: Ledger>(
-    t: &mut Txn<'_, R>,
-    k: u64,
-    steps: &mut Steps<L>,
-) -> Result<(), ConnectFault>
+fn give_back_spent<R: Rows>(t: &mut Txn<'_, R>, k: u64) -> Result<(), ConnectFault>
     requires live { R.is_live t.old.rows.now }
     ensures lists { (counts : HeadCounts) (bs : List ListedBlock) (l : lists.Lists) → R.tells
         → Hold counts bs l (tables_in t.old) → BalancesFit (back.give_back (Some k) l.outs)
@@ -34,19 +27,15 @@ fn give_back_spent<R: Rows, L: Ledger>(
     ensures outs_stay { length (tables_in t.new Table.Outs) ≡ length (tables_in t.old Table.Outs) }
     ensures scripts_stay { length (tables_in t.new Table.Scripts) ≡ length (tables_in t.old Table.Scripts) }
     ensures fault { IfErr result (λ e. (e ≡ ConnectFault.DiskFailed) ⊎ (e ≡ ConnectFault.Memory)) }
-    ensures reads { OnlyReads t.old t.new }
-    ensures name { t.new.rows.ghost_name ≡ t.old.rows.ghost_name }
-    ensures ticked { steps.old ≤ steps.new }
-    ensures tick { steps.new ≤ steps.old + 2 }
-    ensures cause { CountsOnly (R.faults t.old.rows.now) (R.faults t.new.rows.now) ConnectFault.DiskFailed
-        result }
+    ensures edits { EditsRows ConnectFault.DiskFailed t.old t.new result }
+    ensures rows { reads_in t.new ≤ reads_in t.old + 2 }
 {
-    let found = found_output(t, k, steps).map_err(|_| ConnectFault::DiskFailed)?;
+    let found = found_output(t, k).map_err(|_| ConnectFault::DiskFailed)?;
     let Some(output) = found else {
         return Ok(());
     };
     match output.row.state {
-        State::Spent(_) => give_back(t, &output, steps),
+        State::Spent(_) => give_back(t, &output),
         _ => Ok(()),
     }
 }
@@ -54,10 +43,7 @@ fn give_back_spent<R: Rows, L: Ledger>(
 /// Takes the last input away: the output that it spent is unspent again. Where there is no input nothing
 /// changes. It reads three rows at most. It fails only for want of memory or a disk fault, and then the
 /// transaction of rows may hold a part.
-pub fn unspend<R: Rows, L: Ledger>(
-    t: &mut Txn<'_, R>,
-    steps: &mut Steps<L>,
-) -> Result<(), ConnectFault>
+pub fn unspend<R: Rows>(t: &mut Txn<'_, R>) -> Result<(), ConnectFault>
     requires live { R.is_live t.old.rows.now }
     // It is the step of the lists, on all tables, where the balances after it fit.
     ensures lists { (counts : HeadCounts) (bs : List ListedBlock) (l : lists.Lists) → R.tells
@@ -73,20 +59,16 @@ pub fn unspend<R: Rows, L: Ledger>(
     ensures others { (u : Table) → u ≢ Table.Outs → u ≢ Table.Ins → u ≢ Table.Scripts
         → tables_in t.new u ≡ tables_in t.old u }
     ensures fault { IfErr result (λ e. (e ≡ ConnectFault.DiskFailed) ⊎ (e ≡ ConnectFault.Memory)) }
-    ensures reads { OnlyReads t.old t.new }
-    ensures name { t.new.rows.ghost_name ≡ t.old.rows.ghost_name }
-    ensures ticked { steps.old ≤ steps.new }
-    ensures tick { steps.new ≤ steps.old + 3 }
-    ensures cause { CountsOnly (R.faults t.old.rows.now) (R.faults t.new.rows.now) ConnectFault.DiskFailed
-        result }
+    ensures edits { EditsRows ConnectFault.DiskFailed t.old t.new result }
+    ensures rows { reads_in t.new ≤ reads_in t.old + 3 }
 {
     let count = t.count(Table::Ins);
     if count == 0 {
         return Ok(());
     }
     let last = count - 1;
-    let row = in_row(t, last, steps).map_err(|_| ConnectFault::DiskFailed)?;
-    give_back_spent(t, row.out, steps)?;
+    let row = in_row(t, last).map_err(|_| ConnectFault::DiskFailed)?;
+    give_back_spent(t, row.out)?;
     t.shrink(Table::Ins, last);
     Ok(())
 }

@@ -4,6 +4,3 @@
 mod laws;
 
 pub use laws::{rows_of_one_chain_are_equal, rows_that_stand_hold_the_lists, same_rows_stand};
-
-#[cfg(test)]
-mod tests;

@@ -19,6 +19,3 @@ pub use laws::{
 pub use walks::{
     newest_transaction_is_found, outpoint_is_found_along_older, sum_follows_the_steps,
 };
-
-#[cfg(test)]
-mod tests;

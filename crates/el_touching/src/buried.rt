@@ -4,8 +4,7 @@ ghost use Rattle.std.specs.Prelude.{◌≡◌, ◌<◌, ◌≤◌, ◌-◌, ◌|
 ghost use Rattle.std.specs.List.{list_any};
 ghost use Rattle.el_base.specs.declared.hash.Hash32 as hash;
 ghost use Rattle.el_chain.specs.Headers.{same_hash};
-ghost use Rattle.el_outside.specs.Counts.{CountsOnly};
-ghost use Rattle.el_rows.specs.Transaction.{tables_in, OnlyReads};
+ghost use Rattle.el_rows.specs.Transaction.{tables_in, ReadsRows};
 ghost use Rattle.el_rows.specs.declared.table.Table.{Table};
 ghost use Rattle.el_tables.specs.ChainLists.{ListedBlock};
 ghost use Rattle.el_tables.specs.Lists.{Lists};
@@ -15,51 +14,42 @@ ghost use Rattle.el_touching.specs.within.Found.{buries_at, buries};
 
 use crate::reading::tx_row;
 use crate::script::touch_script;
-use el_base::Steps;
 use el_chain::Touched;
 use el_model::QueryFault;
 use el_rows::{Rows, State, Table, Txn};
 use el_spend::named_output;
 use el_tx::Outpoint;
-use std::sync::ledger::Ledger;
 
 // Adds the script hash of the output that the outpoint names among the transactions before that one, if that
 // one buried it.
-fn touch_buried_at<R: Rows, L: Ledger>(
+fn touch_buried_at<R: Rows>(
     t: &mut Txn<'_, R>,
     o: &Outpoint,
     tx: u64,
     touched: &mut Touched,
-    steps: &mut Steps<L>,
 ) -> Result<(), QueryFault>
     requires live { R.is_live t.old.rows.now }
     ensures touched { (counts : HeadCounts) (bs : List ListedBlock) (l : Lists) (s : hash.Hash32) → R.tells
         → Hold counts bs l (tables_in t.old) → 0 < counts.txs
         → OnOk result (list_any (same_hash s) touched.new
         ≡ (list_any (same_hash s) touched.old || buries_at s tx l o.now)) }
-    ensures tables { tables_in t.new ≡ tables_in t.old }
-    ensures reads { OnlyReads t.old t.new }
-    ensures name { t.new.rows.ghost_name ≡ t.old.rows.ghost_name }
-    ensures ticked { steps.old ≤ steps.new }
-    ensures cause { CountsOnly (R.faults t.old.rows.now) (R.faults t.new.rows.now) QueryFault.DiskFailed
-        result }
+    ensures read { ReadsRows QueryFault.DiskFailed t.old t.new result }
 {
-    let Some(found) = named_output(t, o, tx, steps)? else {
+    let Some(found) = named_output(t, o, tx)? else {
         return Ok(());
     };
     match found.row.state {
-        State::Buried(by) if by == tx => touch_script(t, found.row.script, touched, steps),
+        State::Buried(by) if by == tx => touch_script(t, found.row.script, touched),
         _ => Ok(()),
     }
 }
 
 // Adds the script hashes of the outputs that the transaction of that number buried. One whose txid is new
 // buried none, and an output has no greater index than there are outputs.
-fn touch_buried<R: Rows, L: Ledger>(
+fn touch_buried<R: Rows>(
     t: &mut Txn<'_, R>,
     tx: u64,
     touched: &mut Touched,
-    steps: &mut Steps<L>,
 ) -> Result<(), QueryFault>
     requires live { R.is_live t.old.rows.now }
     requires below { tx < length (tables_in t.old Table.Txs) }
@@ -67,14 +57,9 @@ fn touch_buried<R: Rows, L: Ledger>(
         → Hold counts bs l (tables_in t.old) → 0 < counts.txs
         → OnOk result (list_any (same_hash s) touched.new
         ≡ (list_any (same_hash s) touched.old || buries s l tx)) }
-    ensures tables { tables_in t.new ≡ tables_in t.old }
-    ensures reads { OnlyReads t.old t.new }
-    ensures name { t.new.rows.ghost_name ≡ t.old.rows.ghost_name }
-    ensures ticked { steps.old ≤ steps.new }
-    ensures cause { CountsOnly (R.faults t.old.rows.now) (R.faults t.new.rows.now) QueryFault.DiskFailed
-        result }
+    ensures read { ReadsRows QueryFault.DiskFailed t.old t.new result }
 {
-    let row = tx_row(t, tx, steps)?;
+    let row = tx_row(t, tx)?;
     if row.older.is_none() {
         return Ok(());
     }
@@ -84,17 +69,16 @@ fn touch_buried<R: Rows, L: Ledger>(
             txid: row.txid,
             index,
         };
-        touch_buried_at(t, &o, tx, touched, steps)?;
+        touch_buried_at(t, &o, tx, touched)?;
     }
     Ok(())
 }
 
 // Adds those of the transactions from that number on.
-pub(crate) fn touch_all_buried<R: Rows, L: Ledger>(
+pub(crate) fn touch_all_buried<R: Rows>(
     t: &mut Txn<'_, R>,
     first: u64,
     touched: &mut Touched,
-    steps: &mut Steps<L>,
 ) -> Result<(), QueryFault>
     requires live { R.is_live t.old.rows.now }
     ensures touched { (counts : HeadCounts) (bs : List ListedBlock) (l : Lists) (s : hash.Hash32) → R.tells
@@ -102,15 +86,10 @@ pub(crate) fn touch_all_buried<R: Rows, L: Ledger>(
         → OnOk result (list_any (same_hash s) touched.new
         ≡ (list_any (same_hash s) touched.old
         || list_any (buries s l) (numbers_from first (length l.txs - first)))) }
-    ensures tables { tables_in t.new ≡ tables_in t.old }
-    ensures reads { OnlyReads t.old t.new }
-    ensures name { t.new.rows.ghost_name ≡ t.old.rows.ghost_name }
-    ensures ticked { steps.old ≤ steps.new }
-    ensures cause { CountsOnly (R.faults t.old.rows.now) (R.faults t.new.rows.now) QueryFault.DiskFailed
-        result }
+    ensures read { ReadsRows QueryFault.DiskFailed t.old t.new result }
 {
     for tx in first..t.count(Table::Txs) {
-        touch_buried(t, tx, touched, steps)?;
+        touch_buried(t, tx, touched)?;
     }
     Ok(())
 }

@@ -3,8 +3,7 @@ ghost use Rattle.std.specs.Prelude.{◌≡◌, ◌≤◌, ◌||◌, ◌++◌, �
 ghost use Rattle.std.specs.List.{list_any};
 ghost use Rattle.el_base.specs.declared.hash.Hash32 as hash;
 ghost use Rattle.el_chain.specs.Headers.{same_hash};
-ghost use Rattle.el_outside.specs.Counts.{CountsOnly};
-ghost use Rattle.el_rows.specs.Transaction.{tables_in, OnlyReads};
+ghost use Rattle.el_rows.specs.Transaction.{tables_in, ReadsRows};
 ghost use Rattle.el_tables.specs.ChainLists.{ListedBlock};
 ghost use Rattle.el_tables.specs.Lists.{Lists, ListedEntry};
 ghost use Rattle.el_tables.specs.Tables.{HeadCounts};
@@ -13,18 +12,15 @@ ghost use Rattle.el_touching.specs.within.Found.{is_entry_of, AreLast};
 
 use crate::reading::entry_row;
 use crate::script::touch_script;
-use el_base::Steps;
 use el_chain::Touched;
 use el_model::QueryFault;
 use el_rows::{Rows, Table, Txn};
-use std::sync::ledger::Ledger;
 
 // Adds the script hashes of the last entries, back to the first one of the transactions from that number on.
-pub(crate) fn touch_entries<R: Rows, L: Ledger>(
+pub(crate) fn touch_entries<R: Rows>(
     t: &mut Txn<'_, R>,
     first: u64,
     touched: &mut Touched,
-    steps: &mut Steps<L>,
 ) -> Result<(), QueryFault>
     requires live { R.is_live t.old.rows.now }
     ensures touched { (counts : HeadCounts) (bs : List ListedBlock) (l : Lists) (s : hash.Hash32)
@@ -32,20 +28,15 @@ pub(crate) fn touch_entries<R: Rows, L: Ledger>(
         → l.entries ≡ before ++ own → AreLast first before own
         → OnOk result (list_any (same_hash s) touched.new
         ≡ (list_any (same_hash s) touched.old || list_any (is_entry_of s l) own)) }
-    ensures tables { tables_in t.new ≡ tables_in t.old }
-    ensures reads { OnlyReads t.old t.new }
-    ensures name { t.new.rows.ghost_name ≡ t.old.rows.ghost_name }
-    ensures ticked { steps.old ≤ steps.new }
-    ensures cause { CountsOnly (R.faults t.old.rows.now) (R.faults t.new.rows.now) QueryFault.DiskFailed
-        result }
+    ensures read { ReadsRows QueryFault.DiskFailed t.old t.new result }
 {
     let mut n = t.count(Table::Entries);
     while n > 0 {
-        let entry = entry_row(t, n - 1, steps)?;
+        let entry = entry_row(t, n - 1)?;
         if entry.tx < first {
             return Ok(());
         }
-        touch_script(t, entry.script, touched, steps)?;
+        touch_script(t, entry.script, touched)?;
         n -= 1;
     }
     Ok(())

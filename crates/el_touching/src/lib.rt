@@ -10,6 +10,3 @@ mod touching;
 
 pub use laws::each_block_touches_what_the_move_touches;
 pub use touching::touch_last;
-
-#[cfg(test)]
-mod tests;

@@ -1,7 +1,6 @@
 // The last block is taken back.
 ghost use Rattle.std.specs.Prelude.{◌≡◌, ◌≢◌, ◌↔◌, ◌⊎◌, ◌<◌, ◌≤◌, ◌+◌, ◌-◌, ◌++◌, ◌∷◌, [], ℕ, List, length, OnOk, IfErr};
-ghost use Rattle.el_outside.specs.Counts.{CountsOnly};
-ghost use Rattle.el_rows.specs.Transaction.{tables_in, OnlyReads};
+ghost use Rattle.el_rows.specs.Transaction.{tables_in, EditsRows, EditsAlone};
 ghost use Rattle.el_rows.specs.declared.table.Table.{Table};
 ghost use Rattle.el_chain.specs.Chains.{Chain};
 ghost use Rattle.el_chain.specs.declared.placed.Placed as shape;
@@ -10,11 +9,9 @@ ghost use Rattle.el_undo.specs.within.Undone.{LacksTxs};
 
 use crate::row::last_block_txs;
 use crate::transaction::disconnect_txs;
-use el_base::Steps;
 use el_chain::ConnectFault;
 use el_model::QueryFault;
 use el_rows::{Rows, Table, Txn};
-use std::sync::ledger::Ledger;
 
 // A fault of a step back, of which there are two, as that of a question.
 fn query_fault(fault: ConnectFault) -> QueryFault
@@ -32,8 +29,7 @@ fn drop_block<R: Rows>(t: &mut Txn<'_, R>, left: u64)
     ensures chain { (chain : Chain) (b : shape.Placed) → LacksTxs (tables_in t.old) chain b
         → StandFor (tables_in t.new) chain }
     ensures fewer { length (tables_in t.new Table.Blocks) ≡ left }
-    ensures rows { t.new.rows.now ≡ t.old.rows.now }
-    ensures name { t.new.rows.ghost_name ≡ t.old.rows.ghost_name }
+    ensures alone { EditsAlone t.old t.new }
 {
     t.shrink(Table::Blocks, left);
     if left == 0 {
@@ -50,10 +46,7 @@ fn drop_block<R: Rows>(t: &mut Txn<'_, R>, left: u64)
 ///
 /// `QueryFault::DiskFailed` and `QueryFault::Memory`. Then the transaction of rows may hold a part, and is
 /// only dropped.
-pub fn disconnect<R: Rows, L: Ledger>(
-    t: &mut Txn<'_, R>,
-    steps: &mut Steps<L>,
-) -> Result<(), QueryFault>
+pub fn disconnect<R: Rows>(t: &mut Txn<'_, R>) -> Result<(), QueryFault>
     requires live { R.is_live t.old.rows.now }
     ensures disconnected { (chain : Chain) (b : shape.Placed) → R.tells
         → StandFor (tables_in t.old) (chain ++ b ∷ []) → OnOk result (StandFor (tables_in t.new) chain) }
@@ -62,19 +55,15 @@ pub fn disconnect<R: Rows, L: Ledger>(
         → OnOk result (tables_in t.new ≡ tables_in t.old) }
     ensures fewer { OnOk result (length (tables_in t.new Table.Blocks)
         ≡ length (tables_in t.old Table.Blocks) - 1) }
-    ensures reads { OnlyReads t.old t.new }
-    ensures name { t.new.rows.ghost_name ≡ t.old.rows.ghost_name }
-    ensures ticked { steps.old ≤ steps.new }
-    ensures cause { CountsOnly (R.faults t.old.rows.now) (R.faults t.new.rows.now) QueryFault.DiskFailed
-        result }
+    ensures edits { EditsRows QueryFault.DiskFailed t.old t.new result }
 {
     let count = t.count(Table::Blocks);
     if count == 0 {
         return Ok(());
     }
     let left = count - 1;
-    let txs = last_block_txs(t, left, steps)?;
-    match disconnect_txs(t, txs, steps) {
+    let txs = last_block_txs(t, left)?;
+    match disconnect_txs(t, txs) {
         Ok(()) => {
             drop_block(t, left);
             Ok(())

@@ -7,6 +7,3 @@ mod row;
 mod transaction;
 
 pub use block::disconnect;
-
-#[cfg(test)]
-mod tests;

@@ -1,7 +1,6 @@
 // The parts of the last transaction are taken back: its outputs, its inputs and its entries.
 ghost use Rattle.std.specs.Prelude.{◌≡◌, ◌≢◌, ◌⊎◌, ◌<◌, ◌≤◌, ◌+◌, ℕ, List, length, OnOk, IfErr};
-ghost use Rattle.el_outside.specs.Counts.{CountsOnly};
-ghost use Rattle.el_rows.specs.Transaction.{tables_in, OnlyReads};
+ghost use Rattle.el_rows.specs.Transaction.{tables_in, EditsRows};
 ghost use Rattle.el_rows.specs.declared.table.Table.{Table};
 ghost use Rattle.el_tables.specs.ChainLists.{ListedBlock};
 ghost use Rattle.el_tables.specs.Disconnecting as back;
@@ -13,19 +12,13 @@ ghost use Rattle.el_buckets.specs.Rows.{Hold};
 ghost use Rattle.el_undo.specs.within.Undone.{FitAfter};
 
 use crate::row::is_last_entry;
-use el_base::Steps;
 use el_chain::ConnectFault;
 use el_rows::{Rows, Table, Txn};
 use el_script::take_back_entry;
 use el_spend::{take_back_out, unspend};
-use std::sync::ledger::Ledger;
 
 /// Takes so many outputs back, the last first.
-pub(crate) fn undo_outputs<R: Rows, L: Ledger>(
-    t: &mut Txn<'_, R>,
-    count: u32,
-    steps: &mut Steps<L>,
-) -> Result<(), ConnectFault>
+pub(crate) fn undo_outputs<R: Rows>(t: &mut Txn<'_, R>, count: u32) -> Result<(), ConnectFault>
     requires live { R.is_live t.old.rows.now }
     ensures lists { (counts : HeadCounts) (bs : List ListedBlock) (l : Lists) → R.tells
         → Hold counts bs l (tables_in t.old) → 0 < counts.txs → FitAfter count back.take_back_output l
@@ -33,24 +26,16 @@ pub(crate) fn undo_outputs<R: Rows, L: Ledger>(
     ensures others { (u : Table) → u ≢ Table.Outs → u ≢ Table.Scripts
         → tables_in t.new u ≡ tables_in t.old u }
     ensures fault { IfErr result (λ e. (e ≡ ConnectFault.DiskFailed) ⊎ (e ≡ ConnectFault.Memory)) }
-    ensures reads { OnlyReads t.old t.new }
-    ensures name { t.new.rows.ghost_name ≡ t.old.rows.ghost_name }
-    ensures ticked { steps.old ≤ steps.new }
-    ensures cause { CountsOnly (R.faults t.old.rows.now) (R.faults t.new.rows.now) ConnectFault.DiskFailed
-        result }
+    ensures edits { EditsRows ConnectFault.DiskFailed t.old t.new result }
 {
     for done in 0..count {
-        take_back_out(t, steps)?;
+        take_back_out(t)?;
     }
     Ok(())
 }
 
 /// Takes so many inputs back, the last first.
-pub(crate) fn undo_inputs<R: Rows, L: Ledger>(
-    t: &mut Txn<'_, R>,
-    count: u32,
-    steps: &mut Steps<L>,
-) -> Result<(), ConnectFault>
+pub(crate) fn undo_inputs<R: Rows>(t: &mut Txn<'_, R>, count: u32) -> Result<(), ConnectFault>
     requires live { R.is_live t.old.rows.now }
     ensures lists { (counts : HeadCounts) (bs : List ListedBlock) (l : Lists) → R.tells
         → Hold counts bs l (tables_in t.old) → FitAfter count back.unspend l
@@ -58,24 +43,16 @@ pub(crate) fn undo_inputs<R: Rows, L: Ledger>(
     ensures others { (u : Table) → u ≢ Table.Outs → u ≢ Table.Ins → u ≢ Table.Scripts
         → tables_in t.new u ≡ tables_in t.old u }
     ensures fault { IfErr result (λ e. (e ≡ ConnectFault.DiskFailed) ⊎ (e ≡ ConnectFault.Memory)) }
-    ensures reads { OnlyReads t.old t.new }
-    ensures name { t.new.rows.ghost_name ≡ t.old.rows.ghost_name }
-    ensures ticked { steps.old ≤ steps.new }
-    ensures cause { CountsOnly (R.faults t.old.rows.now) (R.faults t.new.rows.now) ConnectFault.DiskFailed
-        result }
+    ensures edits { EditsRows ConnectFault.DiskFailed t.old t.new result }
 {
     for done in 0..count {
-        unspend(t, steps)?;
+        unspend(t)?;
     }
     Ok(())
 }
 
 /// Takes the last entries back as long as they are of that transaction.
-pub(crate) fn undo_entries<R: Rows, L: Ledger>(
-    t: &mut Txn<'_, R>,
-    tx: u64,
-    steps: &mut Steps<L>,
-) -> Result<(), ConnectFault>
+pub(crate) fn undo_entries<R: Rows>(t: &mut Txn<'_, R>, tx: u64) -> Result<(), ConnectFault>
     requires live { R.is_live t.old.rows.now }
     ensures lists { (counts : HeadCounts) (bs : List ListedBlock) (l : Lists) → R.tells
         → Hold counts bs l (tables_in t.old) → IsNumbered l.scripts l.entries
@@ -83,18 +60,14 @@ pub(crate) fn undo_entries<R: Rows, L: Ledger>(
     ensures others { (u : Table) → u ≢ Table.Scripts → u ≢ Table.ScriptHeads → u ≢ Table.Entries
         → tables_in t.new u ≡ tables_in t.old u }
     ensures fault { IfErr result (λ e. (e ≡ ConnectFault.DiskFailed) ⊎ (e ≡ ConnectFault.Memory)) }
-    ensures reads { OnlyReads t.old t.new }
-    ensures name { t.new.rows.ghost_name ≡ t.old.rows.ghost_name }
-    ensures ticked { steps.old ≤ steps.new }
-    ensures cause { CountsOnly (R.faults t.old.rows.now) (R.faults t.new.rows.now) ConnectFault.DiskFailed
-        result }
+    ensures edits { EditsRows ConnectFault.DiskFailed t.old t.new result }
 {
     let most = t.count(Table::Entries);
     for done in 0..most {
-        if !is_last_entry(t, tx, steps)? {
+        if !is_last_entry(t, tx)? {
             return Ok(());
         }
-        take_back_entry(t, steps)?;
+        take_back_entry(t)?;
     }
     Ok(())
 }

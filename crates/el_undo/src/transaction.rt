@@ -1,7 +1,6 @@
 // The last transactions are taken back.
 ghost use Rattle.std.specs.Prelude.{◌≡◌, ◌≢◌, ◌⊎◌, ◌<◌, ◌≤◌, ◌+◌, ℕ, List, length, OnOk, IfErr};
-ghost use Rattle.el_outside.specs.Counts.{CountsOnly};
-ghost use Rattle.el_rows.specs.Transaction.{tables_in, OnlyReads};
+ghost use Rattle.el_rows.specs.Transaction.{tables_in, EditsRows};
 ghost use Rattle.el_rows.specs.declared.table.Table.{Table};
 ghost use Rattle.el_tables.specs.ChainLists.{ListedBlock};
 ghost use Rattle.el_tables.specs.Disconnecting as back;
@@ -12,82 +11,57 @@ ghost use Rattle.el_undo.specs.within.Undone.{CanUndo, CanUndoAll};
 
 use crate::parts::{undo_entries, undo_inputs, undo_outputs};
 use crate::row::last_tx;
-use el_base::Steps;
 use el_chain::ConnectFault;
 use el_position::take_back_tx;
 use el_rows::{Rows, Table, TxRow, Txn};
-use std::sync::ledger::Ledger;
 
 // Takes the last transaction back, which has this row and is there: its outputs, its inputs, its entries, and
 // then itself.
-fn undo_tx<R: Rows, L: Ledger>(
-    t: &mut Txn<'_, R>,
-    row: &TxRow,
-    steps: &mut Steps<L>,
-) -> Result<(), ConnectFault>
+fn undo_tx<R: Rows>(t: &mut Txn<'_, R>, row: &TxRow) -> Result<(), ConnectFault>
     requires live { R.is_live t.old.rows.now }
     ensures lists { (counts : HeadCounts) (bs : List ListedBlock) (l : Lists) (can : CanUndo l) → R.tells
         → Hold counts bs l (tables_in t.old) → 0 < counts.txs → can.tx.outs ≡ row.now.outs
         → can.tx.ins ≡ row.now.ins → OnOk result (Hold counts bs (back.disconnect_tx l) (tables_in t.new)) }
     ensures blocks { tables_in t.new Table.Blocks ≡ tables_in t.old Table.Blocks }
     ensures fault { IfErr result (λ e. (e ≡ ConnectFault.DiskFailed) ⊎ (e ≡ ConnectFault.Memory)) }
-    ensures reads { OnlyReads t.old t.new }
-    ensures name { t.new.rows.ghost_name ≡ t.old.rows.ghost_name }
-    ensures ticked { steps.old ≤ steps.new }
-    ensures cause { CountsOnly (R.faults t.old.rows.now) (R.faults t.new.rows.now) ConnectFault.DiskFailed
-        result }
+    ensures edits { EditsRows ConnectFault.DiskFailed t.old t.new result }
 {
     let number = t.count(Table::Txs).saturating_sub(1);
-    undo_outputs(t, row.outs, steps)?;
-    undo_inputs(t, row.ins, steps)?;
-    undo_entries(t, number, steps)?;
-    take_back_tx(t, steps)
+    undo_outputs(t, row.outs)?;
+    undo_inputs(t, row.ins)?;
+    undo_entries(t, number)?;
+    take_back_tx(t)
 }
 
 // Takes the last transaction back; where there is none nothing changes.
-fn disconnect_tx<R: Rows, L: Ledger>(
-    t: &mut Txn<'_, R>,
-    steps: &mut Steps<L>,
-) -> Result<(), ConnectFault>
+fn disconnect_tx<R: Rows>(t: &mut Txn<'_, R>) -> Result<(), ConnectFault>
     requires live { R.is_live t.old.rows.now }
     ensures lists { (counts : HeadCounts) (bs : List ListedBlock) (l : Lists) → CanUndo l → R.tells
         → Hold counts bs l (tables_in t.old) → 0 < counts.txs
         → OnOk result (Hold counts bs (back.disconnect_tx l) (tables_in t.new)) }
     ensures blocks { tables_in t.new Table.Blocks ≡ tables_in t.old Table.Blocks }
     ensures fault { IfErr result (λ e. (e ≡ ConnectFault.DiskFailed) ⊎ (e ≡ ConnectFault.Memory)) }
-    ensures reads { OnlyReads t.old t.new }
-    ensures name { t.new.rows.ghost_name ≡ t.old.rows.ghost_name }
-    ensures ticked { steps.old ≤ steps.new }
-    ensures cause { CountsOnly (R.faults t.old.rows.now) (R.faults t.new.rows.now) ConnectFault.DiskFailed
-        result }
+    ensures edits { EditsRows ConnectFault.DiskFailed t.old t.new result }
 {
-    match last_tx(t, steps) {
+    match last_tx(t) {
         Err(_) => Err(ConnectFault::DiskFailed),
         Ok(None) => Ok(()),
-        Ok(Some(row)) => undo_tx(t, &row, steps),
+        Ok(Some(row)) => undo_tx(t, &row),
     }
 }
 
 /// Takes so many transactions back, the last first.
-pub(crate) fn disconnect_txs<R: Rows, L: Ledger>(
-    t: &mut Txn<'_, R>,
-    count: u32,
-    steps: &mut Steps<L>,
-) -> Result<(), ConnectFault>
+pub(crate) fn disconnect_txs<R: Rows>(t: &mut Txn<'_, R>, count: u32) -> Result<(), ConnectFault>
     requires live { R.is_live t.old.rows.now }
     ensures lists { (counts : HeadCounts) (bs : List ListedBlock) (l : Lists) → CanUndoAll count l → R.tells
         → Hold counts bs l (tables_in t.old) → 0 < counts.txs
         → OnOk result (Hold counts bs (back.disconnect_txs count l) (tables_in t.new)) }
     ensures blocks { tables_in t.new Table.Blocks ≡ tables_in t.old Table.Blocks }
     ensures fault { IfErr result (λ e. (e ≡ ConnectFault.DiskFailed) ⊎ (e ≡ ConnectFault.Memory)) }
-    ensures reads { OnlyReads t.old t.new }
-    ensures name { t.new.rows.ghost_name ≡ t.old.rows.ghost_name }
-    ensures ticked { steps.old ≤ steps.new }
-    ensures cause { CountsOnly (R.faults t.old.rows.now) (R.faults t.new.rows.now) ConnectFault.DiskFailed
-        result }
+    ensures edits { EditsRows ConnectFault.DiskFailed t.old t.new result }
 {
     for done in 0..count {
-        disconnect_tx(t, steps)?;
+        disconnect_tx(t)?;
     }
     Ok(())
 }

@@ -4,7 +4,8 @@ use Rattle.el_chain.specs.Chains.{zero_hash}
 use Rattle.el_base.specs.declared.hash.Hash32.{Hash32}
 use Rattle.el_chain.specs.Headers.{same_hash}
 use Rattle.el_rows.specs.RowBytes.{link_number}
-use Rattle.el_rows.specs.Transaction.{tables_in, OnlyReads}
+use Rattle.el_rows.specs.Transaction.{tables_in, reads_in}
+use Rattle.el_rows.proofs.TransactionLemmas.{SoFar}
 use Rattle.el_tables.specs.ChainLists.{ListedBlock}
 use Rattle.el_tables.specs.Lists as lists
 use Rattle.el_tables.specs.Tables.{HeadCounts}
@@ -17,19 +18,15 @@ abbrev pub invariant-loop-link : goal.invariant-loop-link
 invariant-loop-link g l =
     let shown = tables_in {G = g.R.Rows} l.fn.t in
     record {
-      tables : tables_in {G = g.R.Rows} l.t ≡ shown;
-      reads : OnlyReads {G = g.R.Rows} l.fn.t l.t;
-      name : l.t.rows.ghost_name ≡ l.fn.t.rows.ghost_name;
-      uncounted : g.R.Rows.faults l.t.rows.now ≡ g.R.Rows.faults l.fn.t.rows.now;
-      ticked : l.fn.steps ≤ l.steps;
+      read : SoFar {G = g.R.Rows} l.fn.t l.t;
       below : ForSome l.link (λ n. n < length (shown (rows_of l.buckets)));
       fits : link_number l.link < 2 ^ 32;
       none : length (shown (heads_of l.buckets)) ≡ 0 → l.link ≡ None;
       walk : (counts : HeadCounts) (bs : List ListedBlock) (ls : lists.Lists) → g.R.Rows.tells → Hold counts bs ls shown → 0 < count_of l.buckets counts
           → IsWalk (λ (x : Hash32). same_hash x l.hash) (share_bucket (count_of l.buckets counts) l.hash) zero_hash (hashes_of l.buckets ls) l.link;
-      steps : (counts : HeadCounts) (bs : List ListedBlock) (ls : lists.Lists) → g.R.Rows.tells → Hold counts bs ls shown → 0 < count_of l.buckets counts
-          → l.steps + bucket_size (count_of l.buckets counts) l.hash (take (end_of l.link) (hashes_of l.buckets ls))
-          ≤ l.fn.steps + 1 + bucket_size (count_of l.buckets counts) l.hash (hashes_of l.buckets ls);
+      rows : (counts : HeadCounts) (bs : List ListedBlock) (ls : lists.Lists) → g.R.Rows.tells → Hold counts bs ls shown → 0 < count_of l.buckets counts
+          → reads_in {G = g.R.Rows} l.t + bucket_size (count_of l.buckets counts) l.hash (take (end_of l.link) (hashes_of l.buckets ls))
+          ≤ reads_in {G = g.R.Rows} l.fn.t + 1 + bucket_size (count_of l.buckets counts) l.hash (hashes_of l.buckets ls);
     }
 
 abbrev pub decreases-loop-link : goal.decreases-loop-link

@@ -46,7 +46,7 @@ returns-in_err-sum-clause-refused g c chain block told stand encoded is names =
     let both = holds shown chain stand in
     let placed : Placed = record { block = block; place = c.args.place } in
     let sum = sum_before shown c.in_ok-before.before c.in_ok-before.ensures.none (λ counts bs b l h. c.in_ok-before.ensures.sum counts bs b l told h) chain both.1 in
-    let hold = subst (λ (T : held.Tables). HoldChain T chain) (sym c.last_sum.ensures.tables) both.1 in
+    let hold = subst (λ (T : held.Tables). HoldChain T chain) (sym c.last_sum.ensures.read.tables) both.1 in
     let ready = begun chain (tables_in {G = g.R.Rows} c.add_all_heads.new.t) c.in_ok-before.before (c.in_ok-add_all_heads.ensures.hold chain hold) sum in
     let most = subst (λ (k : ℕ). k ≤ max_money) (sym sum) (sum_of_good chain both.0) in
     let tall = c.count-height.ensures.count ∙ height_is shown chain both.1 in
@@ -62,7 +62,7 @@ returns-in_err-append_block-clause-refused g c chain block told stand encoded is
     let both = holds shown chain stand in
     let placed : Placed = record { block = block; place = c.args.place } in
     let sum = sum_before shown c.in_ok-before.before c.in_ok-before.ensures.none (λ counts bs b l h. c.in_ok-before.ensures.sum counts bs b l told h) chain both.1 in
-    let hold = subst (λ (T : held.Tables). HoldChain T chain) (sym c.last_sum.ensures.tables) both.1 in
+    let hold = subst (λ (T : held.Tables). HoldChain T chain) (sym c.last_sum.ensures.read.tables) both.1 in
     let ready = begun chain (tables_in {G = g.R.Rows} c.add_all_heads.new.t) c.in_ok-before.before (c.in_ok-add_all_heads.ensures.hold chain hold) sum in
     let most = subst (λ (k : ℕ). k ≤ max_money) (sym sum) (sum_of_good chain both.0) in
     let tall = c.count-height.ensures.count ∙ height_is shown chain both.1 in
@@ -70,7 +70,7 @@ returns-in_err-append_block-clause-refused g c chain block told stand encoded is
     let led = (c.in_ok-sum.ensures.connected format_1 (listed_blocks chain) (lists chain) told ready most (between_of_good chain both.0)).0 in
     let none = block_faultless chain placed c.count-height.result c.as_slice.result.now both.0 tall txs rows c.in_ok-sum.sum led in
     let low = room_for_block chain block encoded none in
-    let same = c.connect_txs.ensures.blocks ∙ c.add_all_heads.ensures.others table.Blocks (λ q. cc) (λ q. cc) ∙ ap (λ (T : held.Tables). T table.Blocks) c.last_sum.ensures.tables in
+    let same = c.connect_txs.ensures.blocks ∙ c.add_all_heads.ensures.others table.Blocks (λ q. cc) (λ q. cc) ∙ ap (λ (T : held.Tables). T table.Blocks) c.last_sum.ensures.read.tables in
     let long = ap length same ∙ height_is shown chain both.1 in
     let few : length (rows table.Blocks) < ROW_LIMIT = omega (arith, long, low) in
     err_passed c.from_residual-in_err-append_block.result _ e (err_from_is_err_and c.from_residual-in_err-append_block.result c.from_residual-in_err-append_block.ensures.1)
@@ -82,7 +82,7 @@ returns-clause-connected g c chain block told stand encoded is names =
     let both = holds shown chain stand in
     let placed : Placed = record { block = block; place = c.args.place } in
     let sum = sum_before shown c.in_ok-before.before c.in_ok-before.ensures.none (λ counts bs b l h. c.in_ok-before.ensures.sum counts bs b l told h) chain both.1 in
-    let hold = subst (λ (T : held.Tables). HoldChain T chain) (sym c.last_sum.ensures.tables) both.1 in
+    let hold = subst (λ (T : held.Tables). HoldChain T chain) (sym c.last_sum.ensures.read.tables) both.1 in
     let ready = begun chain (tables_in {G = g.R.Rows} c.add_all_heads.new.t) c.in_ok-before.before (c.in_ok-add_all_heads.ensures.hold chain hold) sum in
     let most = subst (λ (k : ℕ). k ≤ max_money) (sym sum) (sum_of_good chain both.0) in
     let tall = c.count-height.ensures.count ∙ height_is shown chain both.1 in

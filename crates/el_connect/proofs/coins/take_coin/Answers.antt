@@ -22,7 +22,7 @@ returns-in_ok-value-in-Some-clause-taken g c counts bs l told hold some =
     let by = c.args.by in
     let number : coin_number o l.txs l.outs ≡ Some k = sym (c.in_ok-spend.ensures.coin counts bs l told hold some) ∙ c.in-Some.is in
     let one = subst (λ (x : Lists). Hold counts bs x (tables_in {G = g.R.Rows} c.spend.new.t)) (spent_lists o by k l number) (c.in_ok-spend.ensures.lists counts bs l told hold some) in
-    let two = subst (λ (T : held.Tables). Hold counts bs (spend_output by k l) T) (sym c.output_value.ensures.tables) one in
+    let two = subst (λ (T : held.Tables). Hold counts bs (spend_output by k l) T) (sym c.output_value.ensures.read.tables) one in
     record {
       coin = k;
       is = number;

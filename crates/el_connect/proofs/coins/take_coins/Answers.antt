@@ -1,7 +1,7 @@
 use Rattle.std.proofs.Common.{inr, ◌∙◌, arith, get_or}
 use Rattle.std.proofs.lemmas.Result.{err_from_is_err_and}
 use Rattle.el_chain.proofs.CoinSteps.{err_passed}
-use Rattle.el_rows.proofs.ReadsLemmas.{read_joined}
+use Rattle.el_rows.proofs.TransactionLemmas.{more_edits}
 use Rattle.el_rows.specs.Transaction.{tables_in}
 use Rattle.el_connect.proofs.LoopLemmas.{fails, any_default, no_outpoint}
 use Rattle.el_connect.proofs.FullLemmas.{takes_more, takes_stop, takes_fail, takes_done}
@@ -28,10 +28,7 @@ loop-input-preserved g c = record {
       (any_default c.args.inputs.now c.loop-input.input no_outpoint _ c.loop-input-test.true) c.in-Some.is c.saturating_sub-left.ensures
       (c.loop-input.invariant.taken counts bs start before told hold some txs outs is) (λ l at. c.in_ok-take_coin.ensures.taken counts bs l told at some);
   blocks = c.take_coin.ensures.blocks ∙ c.loop-input.invariant.blocks;
-  reads = read_joined _ _ _ _ _ _ _ c.args.t.now.rows.now c.loop-input.t.rows.now c.take_coin.new.t.rows.now c.loop-input.invariant.reads c.take_coin.ensures.reads;
-  name = c.take_coin.ensures.name ∙ c.loop-input.invariant.name;
-  uncounted = c.in_ok-take_coin.ensures.cause.uncounted ∙ c.loop-input.invariant.uncounted;
-  ticked = omega (arith, c.take_coin.ensures.ticked, c.loop-input.invariant.ticked);
+  edits = more_edits c.loop-input.invariant.edits c.in_ok-take_coin.ensures.edits;
 }
 
 pub returns-clause-taken : goal.returns-clause-taken

@@ -1,5 +1,6 @@
 use Rattle.std.proofs.Common.{◌≡◌, ◌≤◌, ◌<◌, List, drop}
-use Rattle.el_rows.specs.Transaction.{tables_in, OnlyReads}
+use Rattle.el_rows.specs.Transaction.{tables_in}
+use Rattle.el_rows.proofs.TransactionLemmas.{EditedSoFar}
 use Rattle.el_rows.specs.declared.table.Table.TheVariants as table
 use Rattle.el_tables.specs.ChainLists.{ListedBlock}
 use Rattle.el_tables.specs.Connecting.{spend_all}
@@ -18,8 +19,5 @@ invariant-loop-input g l =
           → l.fn.sum ≡ unspent_sum before.outs
           → TakingOn counts bs l.by start before (tables_in {G = g.R.Rows} l.t) l.left l.fn.sum l.input (λ real. spend_all l.by 0 l.inputs before ≡ spend_all l.by l.input (drop l.input l.inputs) real);
       blocks : tables_in {G = g.R.Rows} l.t table.Blocks ≡ shown table.Blocks;
-      reads : OnlyReads {G = g.R.Rows} l.fn.t l.t;
-      name : l.t.rows.ghost_name ≡ l.fn.t.rows.ghost_name;
-      uncounted : g.R.Rows.faults l.t.rows.now ≡ g.R.Rows.faults l.fn.t.rows.now;
-      ticked : l.fn.steps ≤ l.steps;
+      edits : EditedSoFar {G = g.R.Rows} l.fn.t l.t;
     }

@@ -41,7 +41,7 @@ returns-in_err-check_scripts-clause-refused g c counts bs l height told reached 
     let taken = c.in_ok-left.ensures.taken counts bs l l told reached.hold reached.tx_heads refl refl reached.sum_is in
     let fell = taken.fell in
     let low : c.in_ok-left.left ≤ max_money = omega (arith, fell, most) in
-    let hold = subst (λ (T : held.Tables). Hold counts bs taken.now T) (sym c.check_outputs.ensures.tables) taken.hold in
+    let hold = subst (λ (T : held.Tables). Hold counts bs taken.now T) (sym c.check_outputs.ensures.read.tables) taken.hold in
     err_passed c.from_residual-in_err-check_scripts.result _ e (err_from_is_err_and c.from_residual-in_err-check_scripts.result c.from_residual-in_err-check_scripts.ensures.1)
     (scripts_wrong counts bs l l height c.args.index c.args.tx.now (tables_in {G = g.R.Rows} c.take_coins.new.t) c.in_ok-left.left c.args.sum c.count-by.result c.as_slice.result.now count c.as_slice.ensures between taken refl
     shown reached e c.as_slice-2.result.now c.as_slice-2.ensures counted
@@ -55,8 +55,8 @@ returns-clause-ready g c counts bs l height told reached most between counted =
     let taken = c.in_ok-left.ensures.taken counts bs l l told reached.hold reached.tx_heads refl refl reached.sum_is in
     let fell = taken.fell in
     let low : c.in_ok-left.left ≤ max_money = omega (arith, fell, most) in
-    let hold = subst (λ (T : held.Tables). Hold counts bs taken.now T) (sym c.check_outputs.ensures.tables) taken.hold in
-    let same = c.check_scripts.ensures.tables ∙ c.check_outputs.ensures.tables in
+    let hold = subst (λ (T : held.Tables). Hold counts bs taken.now T) (sym c.check_outputs.ensures.read.tables) taken.hold in
+    let same = c.check_scripts.ensures.read.tables ∙ c.check_outputs.ensures.read.tables in
     subst (λ (T : held.Tables). ReadyCoins counts bs T c.in_ok-left.left height c.args.tx.now l) (sym same)
     (coins_ready counts bs l l height c.args.index c.args.tx.now (tables_in {G = g.R.Rows} c.take_coins.new.t) c.in_ok-left.left c.args.sum c.count-by.result c.as_slice.result.now count c.as_slice.ensures between taken refl
     shown reached c.as_slice-2.result.now c.as_slice-2.ensures most

@@ -22,7 +22,7 @@ returns-then-script-count-clause-touched g c counts bs l sum told reached =
     let after = tables_in {G = g.R.Rows} c.touch_number.new.t in
     let s = get_or l.scripts c.in_ok-script.script zero_hash in
     let hash = hash_named l (get_or l.ins c.args.n 0) c.in_ok-script.script (c.in_ok-script.ensures.script counts bs l told reached.hold) in
-    let hold = subst (λ (T : held.Tables). Hold counts bs l T) (sym c.coin_script.ensures.tables) reached.hold in
+    let hold = subst (λ (T : held.Tables). Hold counts bs l T) (sym c.coin_script.ensures.read.tables) reached.hold in
     IfOk-weaker c.touch_number.result (λ x. Hold counts bs (add_entry s by l) after) (λ x. Reached counts bs (add_entry (script_of_output (get_or l.ins c.args.n 0) l) by l) after sum)
     (λ x held. subst (λ (h : Hash32). Reached counts bs (add_entry h by l) after sum) hash (entered counts bs l shown after sum s by reached held))
     (c.touch_number.ensures.lists counts bs l told hold reached.fits)
@@ -32,7 +32,7 @@ returns-then-script-count-clause-room g c counts bs l sum k told reached room =
     let by = c.args.by in
     let s = get_or l.scripts c.in_ok-script.script zero_hash in
     let hash = hash_named l (get_or l.ins c.args.n 0) c.in_ok-script.script (c.in_ok-script.ensures.script counts bs l told reached.hold) in
-    let hold = subst (λ (T : held.Tables). Hold counts bs l T) (sym c.coin_script.ensures.tables) reached.hold in
+    let hold = subst (λ (T : held.Tables). Hold counts bs l T) (sym c.coin_script.ensures.read.tables) reached.hold in
     IfOk-weaker c.touch_number.result (λ x. touch_full s by l ≡ None) (λ x. HasRoom (add_entry (script_of_output (get_or l.ins c.args.n 0) l) by l) 0 k)
     (λ x none. subst (λ (h : Hash32). HasRoom (add_entry h by l) 0 k) hash (room_touched s by k l room none))
     (c.touch_number.ensures.room counts bs l told hold reached.fits)
@@ -42,7 +42,7 @@ returns-then-script-count-clause-refused g c counts bs l sum told reached few =
     let rows = tables_in {G = g.R.Rows} c.coin_script.new.t in
     let s = get_or l.scripts c.in_ok-script.script zero_hash in
     let hash = hash_named l (get_or l.ins c.args.n 0) c.in_ok-script.script (c.in_ok-script.ensures.script counts bs l told reached.hold) in
-    let hold = subst (λ (T : held.Tables). Hold counts bs l T) (sym c.coin_script.ensures.tables) reached.hold in
+    let hold = subst (λ (T : held.Tables). Hold counts bs l T) (sym c.coin_script.ensures.read.tables) reached.hold in
     number_refused c.touch_number.result s (script_of_output (get_or l.ins c.args.n 0) l) c.args.by (length (rows table.Entries)) l hash few
     (c.touch_number.ensures.full counts bs l told hold reached.fits) c.touch_number.ensures.fault
 
@@ -50,7 +50,7 @@ pub returns-in_err-touch-clause-refused : goal.returns-in_err-touch-clause-refus
 returns-in_err-touch-clause-refused g c counts bs l sum told reached few =
     let e = c.in_err-touch.field-0.0 in
     let rows = tables_in {G = g.R.Rows} c.coin_script.new.t in
-    let hold = subst (λ (T : held.Tables). Hold counts bs l T) (sym c.coin_script.ensures.tables) reached.hold in
+    let hold = subst (λ (T : held.Tables). Hold counts bs l T) (sym c.coin_script.ensures.read.tables) reached.hold in
     let past : length (rows table.Scripts) ≤ c.in_ok-script.script = omega (arith, c.count.ensures.count, c.if-script-count.false) in
     let hash = hash_past counts bs l rows (get_or l.ins c.args.n 0) c.in_ok-script.script hold past (c.in_ok-script.ensures.script counts bs l told reached.hold) in
     err_passed c.from_residual-in_err-touch.result _ e (err_from_is_err_and c.from_residual-in_err-touch.result c.from_residual-in_err-touch.ensures.1)
@@ -61,7 +61,7 @@ returns-in_err-touch-clause-refused g c counts bs l sum told reached few =
 pub returns-clause-touched : goal.returns-clause-touched
 returns-clause-touched g c counts bs l sum told reached =
     let rows = tables_in {G = g.R.Rows} c.coin_script.new.t in
-    let hold = subst (λ (T : held.Tables). Hold counts bs l T) (sym c.coin_script.ensures.tables) reached.hold in
+    let hold = subst (λ (T : held.Tables). Hold counts bs l T) (sym c.coin_script.ensures.read.tables) reached.hold in
     let past : length (rows table.Scripts) ≤ c.in_ok-script.script = omega (arith, c.count.ensures.count, c.if-script-count.false) in
     let hash = hash_past counts bs l rows (get_or l.ins c.args.n 0) c.in_ok-script.script hold past (c.in_ok-script.ensures.script counts bs l told reached.hold) in
     subst (λ (h : Hash32). Reached counts bs (add_entry h c.args.by l) (tables_in {G = g.R.Rows} c.touch.new.t) sum) hash
@@ -71,7 +71,7 @@ returns-clause-touched g c counts bs l sum told reached =
 pub returns-clause-room : goal.returns-clause-room
 returns-clause-room g c counts bs l sum k told reached room =
     let rows = tables_in {G = g.R.Rows} c.coin_script.new.t in
-    let hold = subst (λ (T : held.Tables). Hold counts bs l T) (sym c.coin_script.ensures.tables) reached.hold in
+    let hold = subst (λ (T : held.Tables). Hold counts bs l T) (sym c.coin_script.ensures.read.tables) reached.hold in
     let past : length (rows table.Scripts) ≤ c.in_ok-script.script = omega (arith, c.count.ensures.count, c.if-script-count.false) in
     let hash = hash_past counts bs l rows (get_or l.ins c.args.n 0) c.in_ok-script.script hold past (c.in_ok-script.ensures.script counts bs l told reached.hold) in
     subst (λ (h : Hash32). HasRoom (add_entry h c.args.by l) 0 k) hash

@@ -1,7 +1,7 @@
 use Rattle.std.proofs.Common.{◌<◌, ◌≤◌, ◌∙◌, arith, length}
 use Rattle.std.proofs.lemmas.Result.{err_from_is_err_and}
 use Rattle.el_chain.proofs.CoinSteps.{err_passed}
-use Rattle.el_rows.proofs.ReadsLemmas.{read_joined}
+use Rattle.el_rows.proofs.TransactionLemmas.{more_edits}
 use Rattle.el_rows.specs.Transaction.{tables_in}
 use Rattle.el_connect.proofs.LoopLemmas.{touches_more, touches_fail, touches_done}
 use Rattle.el_connect.proofs.inputs.touch_inputs.Goals as goal
@@ -24,10 +24,7 @@ loop-input-preserved g c = record {
       (λ now at. c.in_ok-touch_coin.ensures.touched counts bs now sum told at)
       (λ now at has. c.in_ok-touch_coin.ensures.room counts bs now sum k told at has);
   blocks = c.touch_coin.ensures.blocks ∙ c.loop-input.invariant.blocks;
-  reads = read_joined _ _ _ _ _ _ _ c.args.t.now.rows.now c.loop-input.t.rows.now c.touch_coin.new.t.rows.now c.loop-input.invariant.reads c.touch_coin.ensures.reads;
-  name = c.touch_coin.ensures.name ∙ c.loop-input.invariant.name;
-  uncounted = c.in_ok-touch_coin.ensures.cause.uncounted ∙ c.loop-input.invariant.uncounted;
-  ticked = omega (arith, c.touch_coin.ensures.ticked, c.loop-input.invariant.ticked);
+  edits = more_edits c.loop-input.invariant.edits c.in_ok-touch_coin.ensures.edits;
 }
 
 pub returns-clause-touched : goal.returns-clause-touched

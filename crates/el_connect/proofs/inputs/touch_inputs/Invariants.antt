@@ -1,5 +1,6 @@
 use Rattle.std.proofs.Common.{◌≡◌, ◌≤◌, ℕ, List, length, drop}
-use Rattle.el_rows.specs.Transaction.{tables_in, OnlyReads}
+use Rattle.el_rows.specs.Transaction.{tables_in}
+use Rattle.el_rows.proofs.TransactionLemmas.{EditedSoFar}
 use Rattle.el_rows.specs.declared.table.Table.TheVariants as table
 use Rattle.el_tables.specs.ChainLists.{ListedBlock}
 use Rattle.el_tables.specs.Lists.{Lists}
@@ -16,8 +17,5 @@ invariant-loop-input g l =
           → drop l.first before.ins ≡ coins → length coins ≡ l.count
           → TouchingOn counts bs (tables_in {G = g.R.Rows} l.t) sum before k (λ now. touch_coins l.by coins before ≡ touch_coins l.by (drop l.input coins) now);
       blocks : tables_in {G = g.R.Rows} l.t table.Blocks ≡ shown table.Blocks;
-      reads : OnlyReads {G = g.R.Rows} l.fn.t l.t;
-      name : l.t.rows.ghost_name ≡ l.fn.t.rows.ghost_name;
-      uncounted : g.R.Rows.faults l.t.rows.now ≡ g.R.Rows.faults l.fn.t.rows.now;
-      ticked : l.fn.steps ≤ l.steps;
+      edits : EditedSoFar {G = g.R.Rows} l.fn.t l.t;
     }

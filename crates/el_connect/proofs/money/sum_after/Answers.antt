@@ -1,5 +1,5 @@
 use Rattle.std.proofs.Common.{◌≡◌, ◌+◌, ◌-◌, ℕ, ◌∙◌, ap, arith, get_or, min, refl}
-use Rattle.el_rows.proofs.ReadsLemmas.{read_joined}
+use Rattle.el_rows.proofs.TransactionLemmas.{more}
 use Rattle.el_buckets.specs.Rows.{Hold}
 use Rattle.el_rows.specs.Tables as held
 use Rattle.el_connect.proofs.LoopLemmas.{any_default, no_output}
@@ -9,17 +9,13 @@ use Rattle.el_connect.proofs.money.sum_after.Goals as goal
 pub loop-index-preserved : goal.loop-index-preserved
 loop-index-preserved g c = record {
   counted = λ counts bs x next told hold some turn is_next is fit.
-      let at = Rattle.std.proofs.Common.subst (λ (T : held.Tables). Hold counts bs x T) (Rattle.std.proofs.Common.sym c.loop-index.invariant.tables) hold in
+      let at = Rattle.std.proofs.Common.subst (λ (T : held.Tables). Hold counts bs x T) (Rattle.std.proofs.Common.sym c.loop-index.invariant.read.tables) hold in
       counting_more x next c.args.number c.args.txid.now turn is_next c.args.outputs.now c.loop-index.after c.saturating_add-after.result c.in_ok-gone.gone c.loop-index.index
       (get_or c.args.outputs.now c.loop-index.index no_output) c.loop-index-test.true (any_default c.args.outputs.now c.loop-index.index no_output _ c.loop-index-test.true)
       (c.in_ok-gone.ensures.value counts bs x told at some)
       (c.saturating_add-after.ensures ∙ ap (λ (s : ℕ). min (s + (get_or c.args.outputs.now c.loop-index.index no_output).0) 18446744073709551615) c.saturating_sub.ensures)
       (c.loop-index.invariant.counted counts bs x next told hold some turn is_next is fit);
-  tables = c.coin_held.ensures.tables ∙ c.loop-index.invariant.tables;
-  reads = read_joined _ _ _ _ _ _ _ c.args.t.now.rows.now c.loop-index.t.rows.now c.coin_held.new.t.rows.now c.loop-index.invariant.reads c.coin_held.ensures.reads;
-  name = c.coin_held.ensures.name ∙ c.loop-index.invariant.name;
-  uncounted = c.in_ok-gone.ensures.cause.uncounted ∙ c.loop-index.invariant.uncounted;
-  ticked = omega (arith, c.coin_held.ensures.ticked, c.loop-index.invariant.ticked);
+  read = more c.loop-index.invariant.read c.in_ok-gone.ensures.read;
 }
 
 pub returns-clause-sum : goal.returns-clause-sum

@@ -1,5 +1,6 @@
 use Rattle.std.proofs.Common.{◌≡◌, ◌≤◌, ◌<◌, ◌+◌, ◌^◌, List, length}
-use Rattle.el_rows.specs.Transaction.{tables_in, OnlyReads}
+use Rattle.el_rows.specs.Transaction.{tables_in}
+use Rattle.el_rows.proofs.TransactionLemmas.{SoFar}
 use Rattle.el_tables.specs.ChainLists.{ListedBlock}
 use Rattle.el_tables.specs.Lists.{Lists, unspent_sum}
 use Rattle.el_tables.specs.Tables.{HeadCounts}
@@ -15,9 +16,5 @@ invariant-loop-index g l = record {
   counted : (counts : HeadCounts) (bs : List ListedBlock) (x next : Lists) → g.R.Rows.tells → Hold counts bs x (tables_in {G = g.R.Rows} l.fn.t) → 0 < counts.txs
       → (turn : OutsInTurn 0 x.txs (length x.outs)) → (is_next : IsNext x next l.number l.txid) → l.left ≡ unspent_sum x.outs → l.left + values l.outputs < 2 ^ 64
       → Counting x next l.number l.txid turn is_next l.outputs l.after l.index;
-  tables : tables_in {G = g.R.Rows} l.t ≡ tables_in {G = g.R.Rows} l.fn.t;
-  reads : OnlyReads {G = g.R.Rows} l.fn.t l.t;
-  name : l.t.rows.ghost_name ≡ l.fn.t.rows.ghost_name;
-  uncounted : g.R.Rows.faults l.t.rows.now ≡ g.R.Rows.faults l.fn.t.rows.now;
-  ticked : l.fn.steps ≤ l.steps;
+  read : SoFar {G = g.R.Rows} l.fn.t l.t;
 }

@@ -1,7 +1,7 @@
 use Rattle.std.proofs.Common.{◌∙◌, arith, get_or}
 use Rattle.std.proofs.lemmas.Result.{err_from_is_err_and}
 use Rattle.el_chain.proofs.CoinSteps.{err_passed}
-use Rattle.el_rows.proofs.ReadsLemmas.{read_joined}
+use Rattle.el_rows.proofs.TransactionLemmas.{more_edits}
 use Rattle.el_rows.specs.Transaction.{tables_in}
 use Rattle.el_connect.proofs.LoopLemmas.{any_default, no_output, outputs_more, outputs_fail, outputs_done, outputs_room}
 use Rattle.el_connect.proofs.outputs.fund_outputs.Goals as goal
@@ -22,10 +22,7 @@ loop-index-preserved g c = record {
       (c.loop-index.invariant.funded counts bs before told reached is room fit) (λ now at maker more. c.in_ok-after.ensures.funded counts bs now told at maker more)
       (λ now k at has. c.in_ok-after.ensures.room counts bs now k told at has);
   blocks = c.fund_output.ensures.blocks ∙ c.loop-index.invariant.blocks;
-  reads = read_joined _ _ _ _ _ _ _ c.args.t.now.rows.now c.loop-index.t.rows.now c.fund_output.new.t.rows.now c.loop-index.invariant.reads c.fund_output.ensures.reads;
-  name = c.fund_output.ensures.name ∙ c.loop-index.invariant.name;
-  uncounted = c.in_ok-after.ensures.cause.uncounted ∙ c.loop-index.invariant.uncounted;
-  ticked = omega (arith, c.fund_output.ensures.ticked, c.loop-index.invariant.ticked);
+  edits = more_edits c.loop-index.invariant.edits c.in_ok-after.ensures.edits;
 }
 
 pub returns-clause-funded : goal.returns-clause-funded

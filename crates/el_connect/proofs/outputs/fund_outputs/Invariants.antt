@@ -1,5 +1,6 @@
 use Rattle.std.proofs.Common.{◌≡◌, ◌≤◌, ◌<◌, ◌+◌, ◌-◌, ◌^◌, List, length, drop}
-use Rattle.el_rows.specs.Transaction.{tables_in, OnlyReads}
+use Rattle.el_rows.specs.Transaction.{tables_in}
+use Rattle.el_rows.proofs.TransactionLemmas.{EditedSoFar}
 use Rattle.el_rows.specs.declared.table.Table.TheVariants as table
 use Rattle.el_tables.specs.ChainLists.{ListedBlock}
 use Rattle.el_tables.specs.Connecting.{fund_all}
@@ -18,8 +19,5 @@ invariant-loop-index g l =
           → FundingOn counts bs (tables_in {G = g.R.Rows} l.t) l.after before.txs (length l.outputs - l.index) (values (drop l.index l.outputs))
           (λ now. fund_all l.maker.number 0 l.outputs before ≡ fund_all l.maker.number l.index (drop l.index l.outputs) now);
       blocks : tables_in {G = g.R.Rows} l.t table.Blocks ≡ shown table.Blocks;
-      reads : OnlyReads {G = g.R.Rows} l.fn.t l.t;
-      name : l.t.rows.ghost_name ≡ l.fn.t.rows.ghost_name;
-      uncounted : g.R.Rows.faults l.t.rows.now ≡ g.R.Rows.faults l.fn.t.rows.now;
-      ticked : l.fn.steps ≤ l.steps;
+      edits : EditedSoFar {G = g.R.Rows} l.fn.t l.t;
     }

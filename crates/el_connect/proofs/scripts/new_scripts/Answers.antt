@@ -1,5 +1,5 @@
 use Rattle.std.proofs.Common.{◌∙◌, arith, get_or, sym, subst}
-use Rattle.el_rows.proofs.ReadsLemmas.{read_joined}
+use Rattle.el_rows.proofs.TransactionLemmas.{more}
 use Rattle.el_rows.specs.Tables as held
 use Rattle.el_buckets.specs.Rows.{Hold}
 use Rattle.el_connect.proofs.LoopLemmas.{any_default, no_output}
@@ -9,16 +9,12 @@ use Rattle.el_connect.proofs.scripts.new_scripts.Goals as goal
 pub loop-index-preserved : goal.loop-index-preserved
 loop-index-preserved g c = record {
   counted = λ counts bs x told hold fits some.
-      let at = subst (λ (T : held.Tables). Hold counts bs x T) (sym c.loop-index.invariant.tables) hold in
+      let at = subst (λ (T : held.Tables). Hold counts bs x T) (sym c.loop-index.invariant.read.tables) hold in
       counted_more x.scripts c.args.outputs.now c.loop-index.index c.loop-index.new c.in_ok-new.field-0 (get_or c.args.outputs.now c.loop-index.index no_output) c.loop-index-test.true
       (any_default c.args.outputs.now c.loop-index.index no_output _ c.loop-index-test.true) (c.loop-index.invariant.counted counts bs x told hold fits some)
       (c.in_ok-new.ensures.rows counts bs x told at fits some);
   few = omega (arith, c.loop-index.invariant.few, c.in_ok-new.ensures.few);
-  tables = c.rows_for.ensures.tables ∙ c.loop-index.invariant.tables;
-  reads = read_joined _ _ _ _ _ _ _ c.args.t.now.rows.now c.loop-index.t.rows.now c.rows_for.new.t.rows.now c.loop-index.invariant.reads c.rows_for.ensures.reads;
-  name = c.rows_for.ensures.name ∙ c.loop-index.invariant.name;
-  uncounted = c.in_ok-new.ensures.cause.uncounted ∙ c.loop-index.invariant.uncounted;
-  ticked = omega (arith, c.rows_for.ensures.ticked, c.loop-index.invariant.ticked);
+  read = more c.loop-index.invariant.read c.in_ok-new.ensures.read;
 }
 
 pub returns-clause-new : goal.returns-clause-new

@@ -1,6 +1,7 @@
 use Rattle.std.proofs.Common.{◌≡◌, ◌≤◌, ◌<◌, ◌+◌, List, length, take}
 use Rattle.el_chain.specs.RowCounts.{add_scripts}
-use Rattle.el_rows.specs.Transaction.{tables_in, OnlyReads}
+use Rattle.el_rows.specs.Transaction.{tables_in}
+use Rattle.el_rows.proofs.TransactionLemmas.{SoFar}
 use Rattle.el_tables.specs.ChainLists.{ListedBlock}
 use Rattle.el_tables.specs.Fits.{Fits}
 use Rattle.el_tables.specs.Lists.{Lists}
@@ -15,9 +16,5 @@ invariant-loop-index g l = record {
   counted : (counts : HeadCounts) (bs : List ListedBlock) (x : Lists) → g.R.Rows.tells → Hold counts bs x (tables_in {G = g.R.Rows} l.fn.t) → Fits x → 0 < counts.scripts
       → length x.scripts + l.new ≡ length (add_scripts x.scripts (scripts_of (take l.index l.outputs)));
   few : l.new ≤ l.index;
-  tables : tables_in {G = g.R.Rows} l.t ≡ tables_in {G = g.R.Rows} l.fn.t;
-  reads : OnlyReads {G = g.R.Rows} l.fn.t l.t;
-  name : l.t.rows.ghost_name ≡ l.fn.t.rows.ghost_name;
-  uncounted : g.R.Rows.faults l.t.rows.now ≡ g.R.Rows.faults l.fn.t.rows.now;
-  ticked : l.fn.steps ≤ l.steps;
+  read : SoFar {G = g.R.Rows} l.fn.t l.t;
 }

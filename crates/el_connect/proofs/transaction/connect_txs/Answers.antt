@@ -1,7 +1,7 @@
 use Rattle.std.proofs.Common.{◌∙◌, arith}
 use Rattle.std.proofs.lemmas.Result.{err_from_is_err_and}
 use Rattle.el_chain.proofs.CoinSteps.{err_passed}
-use Rattle.el_rows.proofs.ReadsLemmas.{read_joined}
+use Rattle.el_rows.proofs.TransactionLemmas.{more_edits}
 use Rattle.el_rows.specs.Transaction.{tables_in}
 use Rattle.el_connect.proofs.TxLemmas.{small_here, small_after, txs_more, txs_refused, txs_done}
 use Rattle.el_connect.proofs.transaction.connect_txs.Goals as goal
@@ -24,10 +24,7 @@ loop-index-preserved g c = record {
       (λ now at within here. c.in_ok-after.ensures.connected counts bs now told at within here);
   small = small_after c.args.txs.now c.loop-index.index c.index-txs-index.result c.loop-index-test.true c.index-txs-index.is c.loop-index.invariant.small;
   blocks = c.connect_tx.ensures.blocks ∙ c.loop-index.invariant.blocks;
-  reads = read_joined _ _ _ _ _ _ _ c.args.t.now.rows.now c.loop-index.t.rows.now c.connect_tx.new.t.rows.now c.loop-index.invariant.reads c.connect_tx.ensures.reads;
-  name = c.connect_tx.ensures.name ∙ c.loop-index.invariant.name;
-  uncounted = c.in_ok-after.ensures.cause.uncounted ∙ c.loop-index.invariant.uncounted;
-  ticked = omega (arith, c.connect_tx.ensures.ticked, c.loop-index.invariant.ticked);
+  edits = more_edits c.loop-index.invariant.edits c.in_ok-after.ensures.edits;
 }
 
 pub returns-clause-connected : goal.returns-clause-connected

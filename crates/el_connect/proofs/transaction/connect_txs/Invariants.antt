@@ -1,7 +1,8 @@
 use Rattle.std.proofs.Common.{◌≡◌, ◌≤◌, List, drop}
 use Rattle.std.specs.List.{AllByRecursion}
 use Rattle.el_tx.specs.Encoding.{max_money}
-use Rattle.el_rows.specs.Transaction.{tables_in, OnlyReads}
+use Rattle.el_rows.specs.Transaction.{tables_in}
+use Rattle.el_rows.proofs.TransactionLemmas.{EditedSoFar}
 use Rattle.el_rows.specs.declared.table.Table.TheVariants as table
 use Rattle.el_tables.specs.ChainLists.{ListedBlock}
 use Rattle.el_tables.specs.Lists.{Lists}
@@ -19,8 +20,5 @@ invariant-loop-index g l =
           (λ now. connect_all l.height 0 l.txs before ≡ connect_all l.height l.index (drop l.index l.txs) now);
       small : AllByRecursion IsSmall (drop l.index l.txs);
       blocks : tables_in {G = g.R.Rows} l.t table.Blocks ≡ shown table.Blocks;
-      reads : OnlyReads {G = g.R.Rows} l.fn.t l.t;
-      name : l.t.rows.ghost_name ≡ l.fn.t.rows.ghost_name;
-      uncounted : g.R.Rows.faults l.t.rows.now ≡ g.R.Rows.faults l.fn.t.rows.now;
-      ticked : l.fn.steps ≤ l.steps;
+      edits : EditedSoFar {G = g.R.Rows} l.fn.t l.t;
     }

@@ -24,7 +24,7 @@ returns-clause-made g c counts bs l told reached room fit =
     let added = c.in_ok-number.ensures.lists counts bs l told reached.hold reached.tx_heads in
     let numbered = c.in_ok-number.ensures.listed counts bs l reached.hold in
     let ready = tx_listed counts bs l t (tables_in {G = g.R.Rows} c.args.t.now) (tables_in {G = g.R.Rows} c.add_tx.new.t) (tables_in {G = g.R.Rows} c.older_tx.new.t) c.args.left c.in_ok-number.number c.in_ok-older.older
-    c.args.outputs.now reached room fit added numbered c.older_tx.ensures.tables (λ x hold. c.in_ok-older.ensures.older counts bs x told hold) in
+    c.args.outputs.now reached room fit added numbered c.older_tx.ensures.read.tables (λ x hold. c.in_ok-older.ensures.older counts bs x told hold) in
     subst (λ (x : Lists). IfOk c.fund_outputs.result (λ after. Reached counts bs x (tables_in {G = g.R.Rows} c.fund_outputs.new.t) after)) (made_at l t c.args.outputs.now c.in_ok-number.number numbered)
     (c.fund_outputs.ensures.funded counts bs (add_tx t l) told ready.reached ready.maker ready.room ready.fit)
 
@@ -34,7 +34,7 @@ returns-clause-room g c counts bs l told reached room fit =
     let added = c.in_ok-number.ensures.lists counts bs l told reached.hold reached.tx_heads in
     let numbered = c.in_ok-number.ensures.listed counts bs l reached.hold in
     let ready = tx_listed counts bs l t (tables_in {G = g.R.Rows} c.args.t.now) (tables_in {G = g.R.Rows} c.add_tx.new.t) (tables_in {G = g.R.Rows} c.older_tx.new.t) c.args.left c.in_ok-number.number c.in_ok-older.older
-    c.args.outputs.now reached room fit added numbered c.older_tx.ensures.tables (λ x hold. c.in_ok-older.ensures.older counts bs x told hold) in
+    c.args.outputs.now reached room fit added numbered c.older_tx.ensures.read.tables (λ x hold. c.in_ok-older.ensures.older counts bs x told hold) in
     subst (λ (x : Lists). OnOk c.fund_outputs.result (HasRoom x 0 0)) (made_at l t c.args.outputs.now c.in_ok-number.number numbered)
     (c.fund_outputs.ensures.room counts bs (add_tx t l) told ready.reached ready.maker ready.room ready.fit)
 
@@ -44,7 +44,7 @@ returns-clause-refused g c counts bs l told reached room fit few short =
     let added = c.in_ok-number.ensures.lists counts bs l told reached.hold reached.tx_heads in
     let numbered = c.in_ok-number.ensures.listed counts bs l reached.hold in
     let ready = tx_listed counts bs l t (tables_in {G = g.R.Rows} c.args.t.now) (tables_in {G = g.R.Rows} c.add_tx.new.t) (tables_in {G = g.R.Rows} c.older_tx.new.t) c.args.left c.in_ok-number.number c.in_ok-older.older
-    c.args.outputs.now reached room fit added numbered c.older_tx.ensures.tables (λ x hold. c.in_ok-older.ensures.older counts bs x told hold) in
+    c.args.outputs.now reached room fit added numbered c.older_tx.ensures.read.tables (λ x hold. c.in_ok-older.ensures.older counts bs x told hold) in
     let made = made_at l t c.args.outputs.now c.in_ok-number.number numbered in
     subst (λ (x : Lists). IfErr c.fund_outputs.result (λ e. (e ≡ refusal.DiskFailed) ⊎ ((e ≡ refusal.Memory) ⊎ Overflows x e))) made
     (c.fund_outputs.ensures.refused counts bs (add_tx t l) told ready.reached ready.maker ready.room ready.fit (subst (λ (x : Lists). length x.scripts ≤ ROW_LIMIT) (sym made) short))

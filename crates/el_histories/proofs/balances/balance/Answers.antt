@@ -28,14 +28,14 @@ returns-in-None-clause-balance g c chain told stand =
 pub returns-in-Some-clause-rows : goal.returns-in-Some-clause-rows
 returns-in-Some-clause-rows g c chain told stand =
     let held = holds_chain (tables_in {G = g.R.Rows} c.args.t.now) chain stand in
-    omega (arith, c.found_script.ensures.steps (heads_in chain) (listed_blocks chain) (lists chain) told held (chain_has_heads chain), chain_buckets chain c.args.script_hash.now)
+    omega (arith, c.found_script.ensures.rows (heads_in chain) (listed_blocks chain) (lists chain) told held (chain_has_heads chain), chain_buckets chain c.args.script_hash.now)
 
 pub returns-in-None-clause-rows : goal.returns-in-None-clause-rows
 returns-in-None-clause-rows g c chain told stand =
     let held = holds_chain (tables_in {G = g.R.Rows} c.args.t.now) chain stand in
-    omega (arith, c.found_script.ensures.steps (heads_in chain) (listed_blocks chain) (lists chain) told held (chain_has_heads chain), chain_buckets chain c.args.script_hash.now)
+    omega (arith, c.found_script.ensures.rows (heads_in chain) (listed_blocks chain) (lists chain) told held (chain_has_heads chain), chain_buckets chain c.args.script_hash.now)
 
 pub returns-in_err-script-clause-rows : goal.returns-in_err-script-clause-rows
 returns-in_err-script-clause-rows g c chain told stand =
     let held = holds_chain (tables_in {G = g.R.Rows} c.args.t.now) chain stand in
-    omega (arith, c.found_script.ensures.steps (heads_in chain) (listed_blocks chain) (lists chain) told held (chain_has_heads chain), chain_buckets chain c.args.script_hash.now)
+    omega (arith, c.found_script.ensures.rows (heads_in chain) (listed_blocks chain) (lists chain) told held (chain_has_heads chain), chain_buckets chain c.args.script_hash.now)

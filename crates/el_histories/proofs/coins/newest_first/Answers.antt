@@ -2,10 +2,10 @@ use Rattle.std.proofs.Common.{◌≡◌, ◌≤◌, ◌+◌, ℕ, List, Option, 
 use Rattle.el_base.specs.declared.hash.Hash32.{Hash32}
 use Rattle.el_chain.specs.declared.coin.Coin.{Coin}
 use Rattle.el_rows.specs.Tables.{Tables}
-use Rattle.el_rows.specs.Transaction.{tables_in}
+use Rattle.el_rows.specs.Transaction.{tables_in, reads_in}
 use Rattle.el_rows.specs.declared.script_row.ScriptRow.{ScriptRow}
 use Rattle.el_rows.specs.declared.table.Table.TheVariants as table
-use Rattle.el_rows.proofs.ReadsLemmas.{read_joined}
+use Rattle.el_rows.proofs.TransactionLemmas.{begun, more}
 use Rattle.el_tables.specs.ChainLists.{ListedBlock}
 use Rattle.el_tables.specs.Fits.{Fits}
 use Rattle.el_tables.specs.Lists.{ListedEntry, Lists, is_of_script, script_number}
@@ -33,52 +33,48 @@ loop-link-init g c =
     let link = c.if_below-link.result in
     let link_is = λ (counts : HeadCounts) (bs : List ListedBlock) (l : Lists) (told : g.R.Rows.tells) (hold : Hold counts bs l shown) (heads : HasHeads counts l) (fits : Fits l).
     last_is s counts l c.in-Some.script c.count.result link fits (sym c.in-Some.is ∙ c.in_ok-script.ensures.found counts bs l told hold heads)
-    (c.count.ensures.count ∙ ap (λ (T : Tables). length (T table.Entries)) c.found_script.ensures.tables ∙ many_entries counts bs l shown hold) c.if_below-link.ensures in
+    (c.count.ensures.count ∙ ap (λ (T : Tables). length (T table.Entries)) c.found_script.ensures.read.tables ∙ many_entries counts bs l shown hold) c.if_below-link.ensures in
     record {
-      tables = c.found_script.ensures.tables;
-      reads = c.found_script.ensures.reads;
-      name = c.found_script.ensures.name;
-      uncounted = c.in_ok-script.ensures.cause.uncounted;
-      ticked = c.found_script.ensures.ticked;
+      read = begun c.in_ok-script.ensures.read;
       within = λ x is.
           let less = less_than c.count.result c.in-Some.script.row.last x (sym c.if_below-link.ensures ∙ is) in
-          let many = c.count.ensures.count ∙ ap (λ (T : Tables). length (T table.Entries)) c.found_script.ensures.tables in
+          let many = c.count.ensures.count ∙ ap (λ (T : Tables). length (T table.Entries)) c.found_script.ensures.read.tables in
           omega (arith, less, many);
       walk = λ counts bs l told hold heads fits.
           subst (λ (v : List _). IsGathered (is_of_script (script_number s l.scripts)) no_entry l.entries (λ (e : ListedEntry). coins_made_by (script_number s l.scripts) s l.outs (slice_get l.txs e.tx)) link v) (sym c.new-found.ensures.items)
           (gather_begins (is_of_script (script_number s l.scripts)) no_entry l.entries (λ (e : ListedEntry). coins_made_by (script_number s l.scripts) s l.outs (slice_get l.txs e.tx)) link (link_is counts bs l told hold heads fits));
-      steps = λ counts bs l told hold heads fits.
+      rows = λ counts bs l told hold heads fits.
           let all = cost_begins (is_of_script (script_number s l.scripts)) no_entry l.entries (coin_rows l.txs) link (link_is counts bs l told hold heads fits) in
-          omega (arith, all, c.found_script.ensures.steps counts bs l told hold heads);
+          omega (arith, all, c.found_script.ensures.rows counts bs l told hold heads);
     }
 
-pub returns-in_err-entry-clause-steps : goal.returns-in_err-entry-clause-steps
-returns-in_err-entry-clause-steps g c counts bs l told hold heads fits =
+pub returns-in_err-entry-clause-rows : goal.returns-in_err-entry-clause-rows
+returns-in_err-entry-clause-rows g c counts bs l told hold heads fits =
     let s = c.args.script_hash.now in
     let n = c.in-Some-link.n in
     let test = is_of_script (script_number s l.scripts) in
     let walk = subst (λ (o : Option ℕ). IsGathered test no_entry l.entries (λ (e : ListedEntry). coins_made_by (script_number s l.scripts) s l.outs (slice_get l.txs e.tx)) o c.loop-link.found.items) c.in-Some-link.is (c.loop-link.invariant.walk counts bs l told hold heads fits) in
     let here = walk.here n refl in
     let one = cost_on test no_entry l.entries (coin_rows l.txs) n (greatest test (take n l.entries)) here.0 here.1 refl in
-    let so_far = subst (λ (o : Option ℕ). c.loop-link.steps + sum_by (coin_rows l.txs) (filter test (take (end_of o) l.entries))
-    ≤ c.args.steps.now + (1 + bucket_size counts.scripts s l.scripts + sum_by (coin_rows l.txs) (filter test l.entries))) c.in-Some-link.is (c.loop-link.invariant.steps counts bs l told hold heads fits) in
-    omega (arith, c.entry_row.ensures.tick, one, so_far)
+    let so_far = subst (λ (o : Option ℕ). (reads_in {G = g.R.Rows} c.loop-link.t) + sum_by (coin_rows l.txs) (filter test (take (end_of o) l.entries))
+    ≤ (reads_in {G = g.R.Rows} c.args.t.now) + (1 + bucket_size counts.scripts s l.scripts + sum_by (coin_rows l.txs) (filter test l.entries))) c.in-Some-link.is (c.loop-link.invariant.rows counts bs l told hold heads fits) in
+    omega (arith, c.entry_row.ensures.rows, one, so_far)
 
-pub returns-in_err-push_coins-clause-steps : goal.returns-in_err-push_coins-clause-steps
-returns-in_err-push_coins-clause-steps g c counts bs l told hold heads fits =
+pub returns-in_err-push_coins-clause-rows : goal.returns-in_err-push_coins-clause-rows
+returns-in_err-push_coins-clause-rows g c counts bs l told hold heads fits =
     let s = c.args.script_hash.now in
     let n = c.in-Some-link.n in
     let test = is_of_script (script_number s l.scripts) in
     let walk = subst (λ (o : Option ℕ). IsGathered test no_entry l.entries (λ (e : ListedEntry). coins_made_by (script_number s l.scripts) s l.outs (slice_get l.txs e.tx)) o c.loop-link.found.items) c.in-Some-link.is (c.loop-link.invariant.walk counts bs l told hold heads fits) in
     let here = walk.here n refl in
     let one = cost_on test no_entry l.entries (coin_rows l.txs) n (greatest test (take n l.entries)) here.0 here.1 refl in
-    let so_far = subst (λ (o : Option ℕ). c.loop-link.steps + sum_by (coin_rows l.txs) (filter test (take (end_of o) l.entries))
-    ≤ c.args.steps.now + (1 + bucket_size counts.scripts s l.scripts + sum_by (coin_rows l.txs) (filter test l.entries))) c.in-Some-link.is (c.loop-link.invariant.steps counts bs l told hold heads fits) in
-    let mid = subst (λ T. Hold counts bs l T) (sym (c.entry_row.ensures.tables ∙ c.loop-link.invariant.tables)) hold in
-    let before = subst (λ T. Hold counts bs l T) (sym c.loop-link.invariant.tables) hold in
+    let so_far = subst (λ (o : Option ℕ). (reads_in {G = g.R.Rows} c.loop-link.t) + sum_by (coin_rows l.txs) (filter test (take (end_of o) l.entries))
+    ≤ (reads_in {G = g.R.Rows} c.args.t.now) + (1 + bucket_size counts.scripts s l.scripts + sum_by (coin_rows l.txs) (filter test l.entries))) c.in-Some-link.is (c.loop-link.invariant.rows counts bs l told hold heads fits) in
+    let mid = subst (λ T. Hold counts bs l T) (sym (c.entry_row.ensures.read.tables ∙ c.loop-link.invariant.read.tables)) hold in
+    let before = subst (λ T. Hold counts bs l T) (sym c.loop-link.invariant.read.tables) hold in
     let tx_is = (entry_found l.entries n c.in_ok-entry.entry (c.in_ok-entry.ensures.row (tables_of counts bs l) told before)).0 in
-    let tick = subst (λ (i : ℕ). c.push_coins.new.steps ≤ c.entry_row.new.steps + (1 + outs_at i l.txs)) tx_is (c.push_coins.ensures.tick counts bs l told mid) in
-    omega (arith, c.entry_row.ensures.tick, tick, one, so_far)
+    let tick = subst (λ (i : ℕ). (reads_in {G = g.R.Rows} c.push_coins.new.t) ≤ (reads_in {G = g.R.Rows} c.entry_row.new.t) + (1 + outs_at i l.txs)) tx_is (c.push_coins.ensures.rows counts bs l told mid) in
+    omega (arith, c.entry_row.ensures.rows, tick, one, so_far)
 
 pub loop-link-preserved : goal.loop-link-preserved
 loop-link-preserved g c =
@@ -91,19 +87,14 @@ loop-link-preserved g c =
     subst (λ (o : Option ℕ). IsGathered (is_of_script (script_number s l.scripts)) no_entry l.entries (λ (e : ListedEntry). coins_made_by (script_number s l.scripts) s l.outs (slice_get l.txs e.tx)) o c.loop-link.found.items) c.in-Some-link.is
     (c.loop-link.invariant.walk counts bs l told hold heads fits) in
     let read = λ (counts : HeadCounts) (bs : List ListedBlock) (l : Lists) (told : g.R.Rows.tells) (hold : Hold counts bs l shown).
-    entry_found l.entries n entry (c.in_ok-entry.ensures.row (tables_of counts bs l) told (subst (λ T. Hold counts bs l T) (sym c.loop-link.invariant.tables) hold)) in
+    entry_found l.entries n entry (c.in_ok-entry.ensures.row (tables_of counts bs l) told (subst (λ T. Hold counts bs l T) (sym c.loop-link.invariant.read.tables) hold)) in
     let next_is = λ (counts : HeadCounts) (bs : List ListedBlock) (l : Lists) (told : g.R.Rows.tells) (hold : Hold counts bs l shown) (heads : HasHeads counts l) (fits : Fits l).
     (let k = script_number s l.scripts in
     let own = eqb-true _ _ ((begun counts bs l told hold heads fits).here n refl).1 in
     let e : next ≡ greatest (is_of_script k) (take n l.entries) =
     c.if_below-link-in-Some-link.ensures ∙ (read counts bs l told hold).1 ∙ ap (λ (j : ℕ). greatest (is_of_script j) (take n l.entries)) own in e) in
     record {
-      tables = c.push_coins.ensures.tables ∙ c.entry_row.ensures.tables ∙ c.loop-link.invariant.tables;
-      reads = read_joined _ _ _ _ _ _ _ c.args.t.now.rows.now c.entry_row.new.t.rows.now c.push_coins.new.t.rows.now
-          (read_joined _ _ _ _ _ _ _ c.args.t.now.rows.now c.loop-link.t.rows.now c.entry_row.new.t.rows.now c.loop-link.invariant.reads c.entry_row.ensures.reads) c.push_coins.ensures.reads;
-      name = c.push_coins.ensures.name ∙ c.entry_row.ensures.name ∙ c.loop-link.invariant.name;
-      uncounted = c.in_ok-push_coins.ensures.cause.uncounted ∙ c.in_ok-entry.ensures.cause.uncounted ∙ c.loop-link.invariant.uncounted;
-      ticked = omega (arith, c.push_coins.ensures.ticked, c.entry_row.ensures.ticked, c.loop-link.invariant.ticked);
+      read = more (more c.loop-link.invariant.read c.in_ok-entry.ensures.read) c.in_ok-push_coins.ensures.read;
       within = λ x is. let less = less_than n entry.before x (sym c.if_below-link-in-Some-link.ensures ∙ is) in let lt = c.loop-link.invariant.within n c.in-Some-link.is in omega (arith, less, lt);
       walk = λ counts bs l told hold heads fits.
           let test = is_of_script (script_number s l.scripts) in
@@ -112,24 +103,24 @@ loop-link-preserved g c =
           let e = get_or l.entries n no_entry in
           let there = script_there s counts l c.in-Some.script fits (sym c.in-Some.is ∙ c.in_ok-script.ensures.found counts bs l told hold heads) in
           let hash_is = ap (λ (r : ScriptRow). r.script) there.1 in
-          let mid = subst (λ T. Hold counts bs l T) (sym (c.entry_row.ensures.tables ∙ c.loop-link.invariant.tables)) hold in
+          let mid = subst (λ T. Hold counts bs l T) (sym (c.entry_row.ensures.read.tables ∙ c.loop-link.invariant.read.tables)) hold in
           let same : coins_made_by c.in-Some.script.number c.in-Some.script.row.script l.outs (slice_get l.txs entry.tx) ≡ f e =
           ap₂ (λ (j : ℕ) (h : Hash32). coins_made_by j h l.outs (slice_get l.txs entry.tx)) there.0 hash_is
           ∙ ap (λ (i : ℕ). coins_made_by k s l.outs (slice_get l.txs i)) (read counts bs l told hold).0 in
           let more = reverse (coins_made_by c.in-Some.script.number c.in-Some.script.row.script l.outs (slice_get l.txs entry.tx)) in
           subst (λ (v : List Coin). IsGathered test no_entry l.entries f next v) (sym (c.in_ok-push_coins.ensures.pushed counts bs l told mid))
           (gather_on test no_entry l.entries f n next c.loop-link.found.items more (begun counts bs l told hold heads fits) (next_is counts bs l told hold heads fits) (ap reverse same));
-      steps = λ counts bs l told hold heads fits.
+      rows = λ counts bs l told hold heads fits.
           let test = is_of_script (script_number s l.scripts) in
           let here = (begun counts bs l told hold heads fits).here n refl in
           let one = cost_on test no_entry l.entries (coin_rows l.txs) n next here.0 here.1 (next_is counts bs l told hold heads fits) in
-          let so_far = subst (λ (o : Option ℕ). c.loop-link.steps + sum_by (coin_rows l.txs) (filter test (take (end_of o) l.entries))
-          ≤ c.args.steps.now + (1 + bucket_size counts.scripts s l.scripts + sum_by (coin_rows l.txs) (filter test l.entries))) c.in-Some-link.is (c.loop-link.invariant.steps counts bs l told hold heads fits) in
-          let mid = subst (λ T. Hold counts bs l T) (sym (c.entry_row.ensures.tables ∙ c.loop-link.invariant.tables)) hold in
-          let before = subst (λ T. Hold counts bs l T) (sym c.loop-link.invariant.tables) hold in
+          let so_far = subst (λ (o : Option ℕ). (reads_in {G = g.R.Rows} c.loop-link.t) + sum_by (coin_rows l.txs) (filter test (take (end_of o) l.entries))
+          ≤ (reads_in {G = g.R.Rows} c.args.t.now) + (1 + bucket_size counts.scripts s l.scripts + sum_by (coin_rows l.txs) (filter test l.entries))) c.in-Some-link.is (c.loop-link.invariant.rows counts bs l told hold heads fits) in
+          let mid = subst (λ T. Hold counts bs l T) (sym (c.entry_row.ensures.read.tables ∙ c.loop-link.invariant.read.tables)) hold in
+          let before = subst (λ T. Hold counts bs l T) (sym c.loop-link.invariant.read.tables) hold in
           let tx_is = (entry_found l.entries n c.in_ok-entry.entry (c.in_ok-entry.ensures.row (tables_of counts bs l) told before)).0 in
-          let tick = subst (λ (i : ℕ). c.push_coins.new.steps ≤ c.entry_row.new.steps + (1 + outs_at i l.txs)) tx_is (c.push_coins.ensures.tick counts bs l told mid) in
-          omega (arith, c.entry_row.ensures.tick, tick, one, so_far);
+          let tick = subst (λ (i : ℕ). (reads_in {G = g.R.Rows} c.push_coins.new.t) ≤ (reads_in {G = g.R.Rows} c.entry_row.new.t) + (1 + outs_at i l.txs)) tx_is (c.push_coins.ensures.rows counts bs l told mid) in
+          omega (arith, c.entry_row.ensures.rows, tick, one, so_far);
     }
 
 pub returns-clause-found : goal.returns-clause-found
@@ -139,5 +130,5 @@ returns-clause-found g c counts bs l told hold heads fits =
     gather_ends test no_entry l.entries (λ (e : ListedEntry). coins_made_by (script_number s l.scripts) s l.outs (slice_get l.txs e.tx)) c.loop-link.found.items
     (subst (λ (o : Option ℕ). IsGathered test no_entry l.entries (λ (e : ListedEntry). coins_made_by (script_number s l.scripts) s l.outs (slice_get l.txs e.tx)) o c.loop-link.found.items) c.in_default-link.is (c.loop-link.invariant.walk counts bs l told hold heads fits))
 
-pub returns-clause-steps : goal.returns-clause-steps
-returns-clause-steps g c counts bs l told hold heads fits = omega (arith, c.loop-link.invariant.steps counts bs l told hold heads fits)
+pub returns-clause-rows : goal.returns-clause-rows
+returns-clause-rows g c counts bs l told hold heads fits = omega (arith, c.loop-link.invariant.rows counts bs l told hold heads fits)

@@ -1,6 +1,7 @@
-use Rattle.std.proofs.Common.{◌≡◌, ◌<◌, ◌≤◌, ◌+◌, List, length, take, filter, sum_by, slice_get}
+use Rattle.std.proofs.Common.{◌<◌, ◌≤◌, ◌+◌, List, length, take, filter, sum_by, slice_get}
 use Rattle.std.specs.Option.{ForSome}
-use Rattle.el_rows.specs.Transaction.{tables_in, OnlyReads}
+use Rattle.el_rows.specs.Transaction.{tables_in, reads_in}
+use Rattle.el_rows.proofs.TransactionLemmas.{SoFar}
 use Rattle.el_rows.specs.declared.table.Table.TheVariants as table
 use Rattle.el_tables.specs.ChainLists.{ListedBlock}
 use Rattle.el_tables.specs.Fits.{Fits}
@@ -17,17 +18,13 @@ abbrev pub invariant-loop-link : goal.invariant-loop-link
 invariant-loop-link g l =
     let shown = tables_in {G = g.R.Rows} l.fn.t in
     record {
-      tables : tables_in {G = g.R.Rows} l.t ≡ shown;
-      reads : OnlyReads {G = g.R.Rows} l.fn.t l.t;
-      name : l.t.rows.ghost_name ≡ l.fn.t.rows.ghost_name;
-      uncounted : g.R.Rows.faults l.t.rows.now ≡ g.R.Rows.faults l.fn.t.rows.now;
-      ticked : l.fn.steps ≤ l.steps;
+      read : SoFar {G = g.R.Rows} l.fn.t l.t;
       within : ForSome l.link (λ n. n < length (shown table.Entries));
       walk : (counts : HeadCounts) (bs : List ListedBlock) (ls : Lists) → g.R.Rows.tells → Hold counts bs ls shown → HasHeads counts ls → Fits ls
           → IsGathered (is_of_script (script_number l.script_hash ls.scripts)) no_entry ls.entries (λ (e : ListedEntry). coins_made_by (script_number l.script_hash ls.scripts) l.script_hash ls.outs (slice_get ls.txs e.tx)) l.link l.found.items;
-      steps : (counts : HeadCounts) (bs : List ListedBlock) (ls : Lists) → g.R.Rows.tells → Hold counts bs ls shown → HasHeads counts ls → Fits ls
-          → l.steps + sum_by (coin_rows ls.txs) (filter (is_of_script (script_number l.script_hash ls.scripts)) (take (end_of l.link) ls.entries))
-          ≤ l.fn.steps + (1 + bucket_size counts.scripts l.script_hash ls.scripts + sum_by (coin_rows ls.txs) (filter (is_of_script (script_number l.script_hash ls.scripts)) ls.entries));
+      rows : (counts : HeadCounts) (bs : List ListedBlock) (ls : Lists) → g.R.Rows.tells → Hold counts bs ls shown → HasHeads counts ls → Fits ls
+          → reads_in {G = g.R.Rows} l.t + sum_by (coin_rows ls.txs) (filter (is_of_script (script_number l.script_hash ls.scripts)) (take (end_of l.link) ls.entries))
+          ≤ reads_in {G = g.R.Rows} l.fn.t + (1 + bucket_size counts.scripts l.script_hash ls.scripts + sum_by (coin_rows ls.txs) (filter (is_of_script (script_number l.script_hash ls.scripts)) ls.entries));
     }
 
 abbrev pub decreases-loop-link : goal.decreases-loop-link

@@ -2,7 +2,7 @@ use Rattle.std.proofs.Common.{◌≡◌, ◌∙◌, ◌+◌, ◌-◌, ◌<◌, �
 use Rattle.std.proofs.lemmas.List.{append-nil}
 use Rattle.el_chain.specs.declared.coin.Coin.{Coin}
 use Rattle.el_rows.specs.Transaction.{tables_in}
-use Rattle.el_rows.proofs.ReadsLemmas.{read_joined}
+use Rattle.el_rows.proofs.TransactionLemmas.{more}
 use Rattle.el_tables.specs.Edits.{no_out}
 use Rattle.el_tables.specs.Lists.{ListedTx, ListedOut}
 use Rattle.el_tables.specs.Tables.{tables_of}
@@ -23,29 +23,25 @@ returns-then-tx-count-clause-pushed g c counts bs l told hold =
     sym (append-nil c.args.found.now.items)
     ∙ ap (λ (t : Option ListedTx). c.args.found.now.items ++ reverse (coins_made_by script.number script.row.script l.outs t)) (sym none)
 
-pub returns-in_err-output-clause-tick : goal.returns-in_err-output-clause-tick
-returns-in_err-output-clause-tick g c counts bs l told hold =
+pub returns-in_err-output-clause-rows : goal.returns-in_err-output-clause-rows
+returns-in_err-output-clause-rows g c counts bs l told hold =
     let outs = outs_of_row counts.txs l.txs c.args.tx c.in_ok-row.row (c.in_ok-row.ensures.row (tables_of counts bs l) told hold) in
-    omega (arith, outs, c.loop-index.invariant.steps, c.out_row.ensures.tick, c.loop-index-test.true)
+    omega (arith, outs, c.loop-index.invariant.rows, c.out_row.ensures.rows, c.loop-index-test.true)
 
-pub returns-in_err-push_coin-clause-tick : goal.returns-in_err-push_coin-clause-tick
-returns-in_err-push_coin-clause-tick g c counts bs l told hold =
+pub returns-in_err-push_coin-clause-rows : goal.returns-in_err-push_coin-clause-rows
+returns-in_err-push_coin-clause-rows g c counts bs l told hold =
     let outs = outs_of_row counts.txs l.txs c.args.tx c.in_ok-row.row (c.in_ok-row.ensures.row (tables_of counts bs l) told hold) in
-    omega (arith, outs, c.loop-index.invariant.steps, c.out_row.ensures.tick, c.loop-index-test.true)
+    omega (arith, outs, c.loop-index.invariant.rows, c.out_row.ensures.rows, c.loop-index-test.true)
 
-pub returns-clause-tick : goal.returns-clause-tick
-returns-clause-tick g c counts bs l told hold =
+pub returns-clause-rows : goal.returns-clause-rows
+returns-clause-rows g c counts bs l told hold =
     let outs = outs_of_row counts.txs l.txs c.args.tx c.in_ok-row.row (c.in_ok-row.ensures.row (tables_of counts bs l) told hold) in
-    omega (arith, outs, c.loop-index.invariant.steps)
+    omega (arith, outs, c.loop-index.invariant.rows)
 
 pub loop-index-preserved : goal.loop-index-preserved
 loop-index-preserved g c = record {
-  tables = c.out_row.ensures.tables ∙ c.loop-index.invariant.tables;
-  reads = read_joined _ _ _ _ _ _ _ c.args.t.now.rows.now c.loop-index.t.rows.now c.out_row.new.t.rows.now c.loop-index.invariant.reads c.out_row.ensures.reads;
-  name = c.out_row.ensures.name ∙ c.loop-index.invariant.name;
-  uncounted = c.in_ok-output.ensures.cause.uncounted ∙ c.loop-index.invariant.uncounted;
-  ticked = omega (arith, c.out_row.ensures.ticked, c.loop-index.invariant.ticked);
-  steps = omega (arith, c.out_row.ensures.tick, c.loop-index.invariant.steps, c.loop-index-test.true);
+  read = more c.loop-index.invariant.read c.in_ok-output.ensures.read;
+  rows = omega (arith, c.out_row.ensures.rows, c.loop-index.invariant.rows, c.loop-index-test.true);
   coins = λ counts bs l told hold.
       let i = c.loop-index.index - 1 in
       let script = c.args.script.now in
@@ -54,7 +50,7 @@ loop-index-preserved g c = record {
       let t = listed_tx c.in_ok-row.row in
       let xs = outs_of t l.outs in
       let x = get_or l.outs (t.first_out + i) no_out in
-      let before = subst (λ T. Hold counts bs l T) (sym c.loop-index.invariant.tables) hold in
+      let before = subst (λ T. Hold counts bs l T) (sym c.loop-index.invariant.read.tables) hold in
       let read = c.in_ok-output.ensures.row (tables_of counts bs l) told before in
       let there = found_within out_fields l.outs (t.first_out + i) c.in_ok-output.output read in
       let few : i < t.outs = omega arith in

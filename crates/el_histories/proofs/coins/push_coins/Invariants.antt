@@ -1,5 +1,6 @@
 use Rattle.std.proofs.Common.{◌≡◌, ◌≤◌, ◌+◌, ◌++◌, List, drop, reverse}
-use Rattle.el_rows.specs.Transaction.{tables_in, OnlyReads}
+use Rattle.el_rows.specs.Transaction.{tables_in, reads_in}
+use Rattle.el_rows.proofs.TransactionLemmas.{SoFar}
 use Rattle.el_tables.specs.ChainLists.{ListedBlock}
 use Rattle.el_tables.specs.Lists.{Lists}
 use Rattle.el_tables.specs.Tables.{HeadCounts}
@@ -11,12 +12,8 @@ abbrev pub invariant-loop-index : goal.invariant-loop-index
 invariant-loop-index g l =
     let shown = tables_in {G = g.R.Rows} l.fn.t in
     record {
-      tables : tables_in {G = g.R.Rows} l.t ≡ shown;
-      reads : OnlyReads {G = g.R.Rows} l.fn.t l.t;
-      name : l.t.rows.ghost_name ≡ l.fn.t.rows.ghost_name;
-      uncounted : g.R.Rows.faults l.t.rows.now ≡ g.R.Rows.faults l.fn.t.rows.now;
-      ticked : l.fn.steps ≤ l.steps;
-      steps : l.steps + l.index ≤ l.fn.steps + (1 + l.row.outs);
+      read : SoFar {G = g.R.Rows} l.fn.t l.t;
+      rows : reads_in {G = g.R.Rows} l.t + l.index ≤ reads_in {G = g.R.Rows} l.fn.t + (1 + l.row.outs);
       coins : (counts : HeadCounts) (bs : List ListedBlock) (ls : Lists) → g.R.Rows.tells → Hold counts bs ls shown
           → l.found.items ≡ l.fn.found.items ++ reverse (own_coins l.script.number l.script.row.script (listed_tx l.row) l.index (drop l.index (outs_of (listed_tx l.row) ls.outs)));
     }

@@ -1,9 +1,10 @@
-use Rattle.std.proofs.Common.{◌≡◌, ◌<◌, ◌≤◌, ◌+◌, List, length, take}
+use Rattle.std.proofs.Common.{◌<◌, ◌≤◌, ◌+◌, List, length, take}
 use Rattle.std.specs.Option.{ForSome}
 use Rattle.el_base.specs.declared.hash.Hash32.{Hash32}
 use Rattle.el_chain.specs.Chains.{zero_hash}
 use Rattle.el_chain.specs.Headers.{same_hash}
-use Rattle.el_rows.specs.Transaction.{tables_in, OnlyReads}
+use Rattle.el_rows.specs.Transaction.{tables_in, reads_in}
+use Rattle.el_rows.proofs.TransactionLemmas.{SoFar}
 use Rattle.el_rows.specs.declared.table.Table.TheVariants as table
 use Rattle.el_tables.specs.ChainLists.{ListedBlock}
 use Rattle.el_tables.specs.Lists.{Lists}
@@ -18,16 +19,12 @@ abbrev pub invariant-loop-link : goal.invariant-loop-link
 invariant-loop-link g l =
     let shown = tables_in {G = g.R.Rows} l.fn.t in
     record {
-      tables : tables_in {G = g.R.Rows} l.t ≡ shown;
-      reads : OnlyReads {G = g.R.Rows} l.fn.t l.t;
-      name : l.t.rows.ghost_name ≡ l.fn.t.rows.ghost_name;
-      uncounted : g.R.Rows.faults l.t.rows.now ≡ g.R.Rows.faults l.fn.t.rows.now;
-      ticked : l.fn.steps ≤ l.steps;
+      read : SoFar {G = g.R.Rows} l.fn.t l.t;
       below : ForSome l.link (λ n. n < length (shown table.Scripts));
       walk : (counts : HeadCounts) (bs : List ListedBlock) (ls : Lists) → g.R.Rows.tells → Hold counts bs ls shown → HasHeads counts ls
           → IsWalk (λ (x : Hash32). same_hash x l.script_hash) (share_bucket counts.scripts l.script_hash) zero_hash ls.scripts l.link;
-      steps : (counts : HeadCounts) (bs : List ListedBlock) (ls : Lists) → g.R.Rows.tells → Hold counts bs ls shown → HasHeads counts ls
-          → l.steps + bucket_size counts.scripts l.script_hash (take (end_of l.link) ls.scripts) ≤ l.fn.steps + 1 + bucket_size counts.scripts l.script_hash ls.scripts;
+      rows : (counts : HeadCounts) (bs : List ListedBlock) (ls : Lists) → g.R.Rows.tells → Hold counts bs ls shown → HasHeads counts ls
+          → reads_in {G = g.R.Rows} l.t + bucket_size counts.scripts l.script_hash (take (end_of l.link) ls.scripts) ≤ reads_in {G = g.R.Rows} l.fn.t + 1 + bucket_size counts.scripts l.script_hash ls.scripts;
     }
 
 abbrev pub decreases-loop-link : goal.decreases-loop-link

@@ -17,10 +17,10 @@ pub returns-clause-rows : goal.returns-clause-rows
 returns-clause-rows g c chain told stand =
     let held = holds_chain (tables_in {G = g.R.Rows} c.args.t.now) chain stand in
     let s = c.args.script_hash.now in
-    omega (arith, c.newest_first.ensures.steps (heads_in chain) (listed_blocks chain) (lists chain) told held (chain_has_heads chain) (chain_fits chain), chain_buckets chain s, history_rows chain s)
+    omega (arith, c.newest_first.ensures.rows (heads_in chain) (listed_blocks chain) (lists chain) told held (chain_has_heads chain) (chain_fits chain), chain_buckets chain s, history_rows chain s)
 
 pub returns-in_err-found-clause-rows : goal.returns-in_err-found-clause-rows
 returns-in_err-found-clause-rows g c chain told stand =
     let held = holds_chain (tables_in {G = g.R.Rows} c.args.t.now) chain stand in
     let s = c.args.script_hash.now in
-    omega (arith, c.newest_first.ensures.steps (heads_in chain) (listed_blocks chain) (lists chain) told held (chain_has_heads chain) (chain_fits chain), chain_buckets chain s, history_rows chain s)
+    omega (arith, c.newest_first.ensures.rows (heads_in chain) (listed_blocks chain) (lists chain) told held (chain_has_heads chain) (chain_fits chain), chain_buckets chain s, history_rows chain s)

@@ -1,15 +1,12 @@
 use Rattle.std.proofs.Common.{◌+◌, ◌-◌, length, drop, ◌∙◌, refl, arith}
-use Rattle.el_rows.proofs.ReadsLemmas.{read_none, read_joined}
+use Rattle.el_rows.proofs.TransactionLemmas.{as_edited, more_edits, nothing}
 use Rattle.el_chain.specs.Moves.{shorter}
 use Rattle.el_index.proofs.Touchings.{added_none, added_before, last_is, none_taken, none_gone}
 use Rattle.el_index.proofs.blocks_back.take_back.Goals as goal
 
 pub loop-init : goal.loop-init
 loop-init g c = record {
-  reads = read_none _ _ _ _ _ _ _ c.args.t.now.rows.now c.requires.live (λ left told since. g.met.R.Rows.leaves_lists c.args.t.now.rows.now left told c.requires.live since);
-  name = refl;
-  uncounted = refl;
-  ticked = omega arith;
+  edits = as_edited (nothing c.args.t.now c.requires.live);
   fewer = omega arith;
   back = λ chain told stand fits. rw (none_taken chain) stand;
   touched = λ chain told stand fits. rw (none_taken chain, none_gone chain) (added_none chain c.args.touched.now);
@@ -17,10 +14,7 @@ loop-init g c = record {
 
 pub loop-preserved : goal.loop-preserved
 loop-preserved g c = record {
-  reads = read_joined _ _ _ _ _ _ _ c.args.t.now.rows.now c.loop.t.rows.now c.take_back_one.new.t.rows.now c.loop.invariant.reads c.take_back_one.ensures.reads;
-  name = c.take_back_one.ensures.name ∙ c.loop.invariant.name;
-  uncounted = c.in_ok-take_back_one.ensures.cause.uncounted ∙ c.loop.invariant.uncounted;
-  ticked = omega (arith, c.take_back_one.ensures.ticked, c.loop.invariant.ticked);
+  edits = more_edits c.loop.invariant.edits c.in_ok-take_back_one.ensures.edits;
   fewer = omega (arith, c.in_ok-take_back_one.ensures.fewer, c.loop.invariant.fewer);
   back = λ chain told stand fits.
       let last = last_is chain c.loop.counter (omega arith) in

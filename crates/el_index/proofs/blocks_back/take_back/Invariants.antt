@@ -2,17 +2,15 @@ use Rattle.std.proofs.Common.{◌≡◌, ◌≤◌, ◌-◌, length, drop}
 use Rattle.el_chain.specs.Chains.{Chain}
 use Rattle.el_chain.specs.Moves.{shorter}
 use Rattle.el_rows.specs.declared.table.Table.TheVariants as table
-use Rattle.el_rows.specs.Transaction.{tables_in, OnlyReads}
+use Rattle.el_rows.specs.Transaction.{tables_in}
+use Rattle.el_rows.proofs.TransactionLemmas.{EditedSoFar}
 use Rattle.el_stands.specs.Standing.{StandFor}
 use Rattle.el_index.specs.within.Adding.{AreAdded}
 use Rattle.el_index.proofs.blocks_back.take_back.Given as goal
 
 abbrev pub invariant-loop : goal.invariant-loop
 invariant-loop g l = record {
-  reads : OnlyReads {G = g.R.Rows} l.fn.t l.t;
-  name : l.t.rows.ghost_name ≡ l.fn.t.rows.ghost_name;
-  uncounted : g.R.Rows.faults l.t.rows.now ≡ g.R.Rows.faults l.fn.t.rows.now;
-  ticked : l.fn.steps ≤ l.steps;
+  edits : EditedSoFar {G = g.R.Rows} l.fn.t l.t;
   fewer : length (tables_in {G = g.R.Rows} l.t table.Blocks) ≡ length (tables_in {G = g.R.Rows} l.fn.t table.Blocks) - l.counter;
   back : (chain : Chain) → g.R.Rows.tells → StandFor (tables_in {G = g.R.Rows} l.fn.t) chain → l.back ≤ length chain
       → StandFor (tables_in {G = g.R.Rows} l.t) (shorter l.counter chain);

@@ -1,6 +1,6 @@
 use Rattle.std.proofs.Common.{◌⊎◌, ◌++◌, ◌∷◌, [], ◌∙◌, refl, arith}
 use Rattle.std.proofs.lemmas.Result.{err_from_is_err_and}
-use Rattle.el_rows.proofs.ReadsLemmas.{read_none, read_joined}
+use Rattle.el_rows.proofs.TransactionLemmas.{as_edited, more_edits, nothing}
 use Rattle.el_rows.specs.Transaction.{tables_in}
 use Rattle.el_chain.specs.Moves.{FaultInAt}
 use Rattle.el_chain.proofs.CoinSteps.{err_passed}
@@ -11,10 +11,7 @@ use Rattle.el_index.proofs.blocks_in.add_all.Goals as goal
 
 pub loop-index-init : goal.loop-index-init
 loop-index-init g c = record {
-  reads = read_none _ _ _ _ _ _ _ c.args.t.now.rows.now c.requires.live (λ left told since. g.met.R.Rows.leaves_lists c.args.t.now.rows.now left told c.requires.live since);
-  name = refl;
-  uncounted = refl;
-  ticked = omega arith;
+  edits = as_edited (nothing c.args.t.now c.requires.live);
   more = omega arith;
   left = record { nodes_left = c.requires.nodes; of = c.requires.of };
   adding = λ chain told stand linked. adding_begins chain c.args.nodes.now c.args.texts.now c.args.touched.now (tables_in {G = g.R.Rows} c.args.t.now) stand linked;
@@ -43,10 +40,7 @@ pub loop-index-preserved : goal.loop-index-preserved
 loop-index-preserved g c =
     let n = next_is c.args.nodes.now c.args.texts.now c.loop-index.index _ _ c.index-texts-index.result c.loop-index.invariant.left c.loop-index-test.true refl c.index-texts-index.is in
     record {
-      reads = read_joined _ _ _ _ _ _ _ c.args.t.now.rows.now c.loop-index.t.rows.now c.add_one.new.t.rows.now c.loop-index.invariant.reads c.add_one.ensures.reads;
-      name = c.add_one.ensures.name ∙ c.loop-index.invariant.name;
-      uncounted = c.in_ok-add_one.ensures.cause.uncounted ∙ c.loop-index.invariant.uncounted;
-      ticked = omega (arith, c.add_one.ensures.ticked, c.loop-index.invariant.ticked);
+      edits = more_edits c.loop-index.invariant.edits c.in_ok-add_one.ensures.edits;
       more = omega (arith, c.in_ok-add_one.ensures.more, c.loop-index.invariant.more);
       left = n.rest;
       adding = λ chain told stand linked.

@@ -2,17 +2,15 @@ use Rattle.std.proofs.Common.{◌≡◌, ◌≤◌, ◌+◌, length}
 use Rattle.el_chain.specs.Chains.{Chain, tip}
 use Rattle.el_chain.specs.Headers.{AreLinked}
 use Rattle.el_rows.specs.declared.table.Table.TheVariants as table
-use Rattle.el_rows.specs.Transaction.{tables_in, OnlyReads}
+use Rattle.el_rows.specs.Transaction.{tables_in}
+use Rattle.el_rows.proofs.TransactionLemmas.{EditedSoFar}
 use Rattle.el_stands.specs.Standing.{StandFor}
 use Rattle.el_index.proofs.Addings.{Left, IsAdding}
 use Rattle.el_index.proofs.blocks_in.add_all.Given as goal
 
 abbrev pub invariant-loop-index : goal.invariant-loop-index
 invariant-loop-index g l = record {
-  reads : OnlyReads {G = g.R.Rows} l.fn.t l.t;
-  name : l.t.rows.ghost_name ≡ l.fn.t.rows.ghost_name;
-  uncounted : g.R.Rows.faults l.t.rows.now ≡ g.R.Rows.faults l.fn.t.rows.now;
-  ticked : l.fn.steps ≤ l.steps;
+  edits : EditedSoFar {G = g.R.Rows} l.fn.t l.t;
   more : length (tables_in {G = g.R.Rows} l.t table.Blocks) ≡ length (tables_in {G = g.R.Rows} l.fn.t table.Blocks) + l.index;
   left : Left l.nodes l.texts l.index;
   adding : (chain : Chain) → g.R.Rows.tells → StandFor (tables_in {G = g.R.Rows} l.fn.t) chain → AreLinked (tip chain) l.nodes

@@ -33,5 +33,5 @@ returns-clause-added g c chain told stand names =
     let r = c.in_ok-prepared.ensures.read in
     let named = names_tip c.args.node.now c.args.text.now r.0 _ c.requires.node c.requires.of r.1 names in
     let done = c.in_ok-connect_for.ensures.connected chain r.0 told stand (c.args.text.now, r.1) r.2 named in
-    is_after chain c.args.node.now c.args.text.now c.args.touched.now c.touch.new.touched (tables_in {G = g.R.Rows} c.connect_for.new.t) _ r.0 c.requires.node c.requires.of r.1 named done c.touch.ensures.tables
+    is_after chain c.args.node.now c.args.text.now c.args.touched.now c.touch.new.touched (tables_in {G = g.R.Rows} c.connect_for.new.t) _ r.0 c.requires.node c.requires.of r.1 named done c.touch.ensures.read.tables
     (c.in_ok-touch.ensures.touched chain _ told done.1)

@@ -23,14 +23,14 @@ returns-in-Err-clause-is_bad g c told wanted found bad = ⊎_elim
 pub returns-in-Ok-replay-clause-leaves : goal.returns-in-Ok-replay-clause-leaves
 returns-in-Ok-replay-clause-leaves g c told image left =
     let found = c.in-Ok.ensures.found told in
-    held_shows g.D.Disk g.N.NetworkMagic.magic c.replay.new.journal found.0 (tables_of c.replay.new.rows) image (c.replay.ensures.stays found.0 found.2)
-    (subst (λ (magic : List ℕ). Makes magic no_rows found.0 (tables_of c.replay.new.rows)) c.magic.ensures (c.in-Ok-replay.ensures.made found.0 found.2)) left
+    held_shows g.D.Disk g.N.NetworkMagic.magic c.replay.new.journal found.0 (tables_of c.replay.new.rows.rows) image (c.replay.ensures.stays found.0 found.2)
+    (subst (λ (magic : List ℕ). Makes magic no_rows found.0 (tables_of c.replay.new.rows.rows)) c.magic.ensures (c.in-Ok-replay.ensures.made found.0 found.2)) left
 
 pub returns-in-Ok-replay-clause-is_bad : goal.returns-in-Ok-replay-clause-is_bad
 returns-in-Ok-replay-clause-is_bad g c told wanted found bad = ⊎_elim
     (λ cut. c.in-Ok.ensures.is_bad told found cut.1)
-    (λ none. no_commit_made g.N.NetworkMagic.magic none.1.0 found (tables_of c.replay.new.rows)
-    (subst (λ (magic : List ℕ). Makes magic no_rows none.1.0 (tables_of c.replay.new.rows)) c.magic.ensures (c.in-Ok-replay.ensures.made none.1.0 (c.in-Ok.ensures.has told none.1.0 none.1.1))) none.1.2)
+    (λ none. no_commit_made g.N.NetworkMagic.magic none.1.0 found (tables_of c.replay.new.rows.rows)
+    (subst (λ (magic : List ℕ). Makes magic no_rows none.1.0 (tables_of c.replay.new.rows.rows)) c.magic.ensures (c.in-Ok-replay.ensures.made none.1.0 (c.in-Ok.ensures.has told none.1.0 none.1.1))) none.1.2)
     bad
 
 pub returns-in-Ok-replay-clause-crash : goal.returns-in-Ok-replay-clause-crash

@@ -13,7 +13,7 @@ returns-in_err-redo-clause-bad g c entries holds =
     let bad = c.in_err-redo.ensures.bad file wanted found (sym p.2 ∙ is) in (
       bad.0,
       bad.1,
-      no_commit_here c.args.magic entries c.loop-i.i found (tables_of c.loop-i.rows) c.deref.result.now within (c.loop-i.invariant.made entries holds)
+      no_commit_here c.args.magic entries c.loop-i.i found (tables_of c.loop-i.rows.rows) c.deref.result.now within (c.loop-i.invariant.made entries holds)
           (c.deref.ensures.value ∙ c.in_ok-body.ensures.entry entries (c.loop-i.invariant.stays entries holds)) bad.2 bad.3,
     ))
 
@@ -24,7 +24,7 @@ loop-i-preserved g c =
       made = λ entries holds.
           let within : c.loop-i.i < length entries = omega (arith, c.loop-i-test.true, c.len-i-end.ensures, holds.count) in
           let made = c.in_ok-redo.ensures.made in
-          makes_next c.args.magic entries c.loop-i.i (tables_of c.loop-i.rows) (tables_of c.redo.new.rows) c.deref.result.now made.0 within (was.made entries holds)
+          makes_next c.args.magic entries c.loop-i.i (tables_of c.loop-i.rows.rows) (tables_of c.redo.new.rows.rows) c.deref.result.now made.0 within (was.made entries holds)
           (c.deref.ensures.value ∙ c.in_ok-body.ensures.entry entries (was.stays entries holds)) made.1 made.2;
       stays = λ entries holds. c.body_of.ensures.stays entries (was.stays entries holds);
       count = c.body_of.ensures.count ∙ was.count;

@@ -6,7 +6,7 @@ use Rattle.el_logstore.proofs.opening.replay.Given as goal
 
 abbrev pub invariant-loop-i : goal.invariant-loop-i
 invariant-loop-i g l = record {
-  made : (entries : List (List ℕ)) → Holds g.D.Disk l.fn.journal entries → Makes l.fn.magic no_rows (take l.i entries) (tables_of l.rows);
+  made : (entries : List (List ℕ)) → Holds g.D.Disk l.fn.journal entries → Makes l.fn.magic no_rows (take l.i entries) (tables_of l.rows.rows);
   stays : (entries : List (List ℕ)) → Holds g.D.Disk l.fn.journal entries → Holds g.D.Disk l.journal entries;
   count : l.journal.count ≡ l.fn.journal.count;
   read : g.D.Disk.tells → IsOnlyRead g.D.Disk l.fn.journal.disk l.journal.disk;

@@ -7,7 +7,7 @@ use Rattle.el_stands.specs.Standing.{heads_in}
 use Rattle.el_tables.specs.ChainLists.{lists, listed_blocks}
 use Rattle.el_tables.specs.Tables.{tables_of}
 use Rattle.el_rows.specs.declared.block_row.BlockRow.{BlockRow}
-use Rattle.el_rows.proofs.ReadsLemmas.{read_joined}
+use Rattle.el_rows.proofs.TransactionLemmas.{more}
 use Rattle.el_buckets.specs.Rows.{Encode, block_fields}
 use Rattle.el_lookups.proofs.Fronts.{one_more}
 use Rattle.el_lookups.proofs.Heights.{hash_in, hashes_told}
@@ -19,14 +19,11 @@ row_hash r = record { 0 = sha256d r.header }
 pub loop-h-preserved : goal.loop-h-preserved
 unfolding row_hash
 loop-h-preserved g c = record {
-  tables = c.block_row.ensures.tables ∙ c.loop-h.invariant.tables;
-  reads = read_joined _ _ _ _ _ _ _ c.args.t.now.rows.now c.loop-h.t.rows.now c.block_row.new.t.rows.now c.loop-h.invariant.reads c.block_row.ensures.reads;
-  name = c.block_row.ensures.name ∙ c.loop-h.invariant.name;
-  uncounted = c.in_ok-row.ensures.cause.uncounted ∙ c.loop-h.invariant.uncounted;
-  ticked = omega (arith, c.block_row.ensures.ticked, c.loop-h.invariant.ticked);
+  read = more c.loop-h.invariant.read c.in_ok-row.ensures.read;
+  rows = omega (arith, c.block_row.ensures.rows, c.loop-h.invariant.rows);
   len = ap length c.in_ok-push.ensures.items ∙ length-append c.loop-h.found.items _ ∙ ap (λ (n : ℕ). n + 1) c.loop-h.invariant.len;
   hashes = λ tb told same.
-      let before = subst (λ T. Encode T tb) (sym c.loop-h.invariant.tables) same in
+      let before = subst (λ T. Encode T tb) (sym c.loop-h.invariant.read.tables) same in
       let one = one_more block_fields hash_in row_hash (λ b. refl) tb.blocks c.loop-h.h c.in_ok-row.row (c.in_ok-row.ensures.row tb told before) in
       let hash_is : c.block_hash.result ≡ row_hash c.in_ok-row.row = ap (λ (l : List ℕ). record { 0 = l }) c.block_hash.ensures in
       let next : suc c.loop-h.h ≡ c.loop-h.h + 1 = omega arith in

@@ -5,7 +5,7 @@ use Rattle.el_tables.specs.Tables as typed
 use Rattle.el_rows.specs.declared.table.Table.TheVariants as table
 use Rattle.el_rows.specs.declared.tx_row.TxRow.{TxRow}
 use Rattle.el_rows.specs.RowBytes.{tx_row_bytes}
-use Rattle.el_rows.proofs.ReadsLemmas.{read_joined}
+use Rattle.el_rows.proofs.TransactionLemmas.{more}
 use Rattle.el_buckets.specs.Rows.{Encode, tx_fields}
 use Rattle.el_lookups.proofs.Fronts.{one_more, slice_drop, take_short}
 use Rattle.el_lookups.proofs.blocks.txids_between.Goals as goal
@@ -18,14 +18,11 @@ id_of_row r = r.txid
 
 pub loop-n-preserved : goal.loop-n-preserved
 loop-n-preserved g c = record {
-  tables = c.tx_row.ensures.tables ∙ c.loop-n.invariant.tables;
-  reads = read_joined _ _ _ _ _ _ _ c.args.t.now.rows.now c.loop-n.t.rows.now c.tx_row.new.t.rows.now c.loop-n.invariant.reads c.tx_row.ensures.reads;
-  name = c.tx_row.ensures.name ∙ c.loop-n.invariant.name;
-  uncounted = c.in_ok-row.ensures.cause.uncounted ∙ c.loop-n.invariant.uncounted;
-  ticked = omega (arith, c.tx_row.ensures.ticked, c.loop-n.invariant.ticked);
+  read = more c.loop-n.invariant.read c.in_ok-row.ensures.read;
+  rows = omega (arith, c.tx_row.ensures.rows, c.loop-n.invariant.rows);
   within = omega (arith, c.loop-n-test.true);
   txids = λ tb told same.
-      let before = subst (λ T. Encode T tb) (sym c.loop-n.invariant.tables) same in
+      let before = subst (λ T. Encode T tb) (sym c.loop-n.invariant.read.tables) same in
       let first = c.args.first in
       let k = c.loop-n.n - first in
       let row = c.in_ok-row.row in

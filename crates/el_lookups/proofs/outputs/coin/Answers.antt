@@ -18,7 +18,7 @@ returns-in-Unspent-clause-coin g c chain told stand =
     let bs = listed_blocks chain in
     let l = lists chain in
     let hold = (holds (tables_in {G = g.R.Rows} c.args.t.now) chain stand).1 in
-    let after = subst (λ T. Hold counts bs l T) (sym c.newest_output.ensures.tables) hold in
+    let after = subst (λ T. Hold counts bs l T) (sym c.newest_output.ensures.read.tables) hold in
     let named = sym c.in-Some.is ∙ c.in_ok-found.ensures.newest chain told stand in
     let there = parts_there chain o c.in-Some.found named in
     if_ok c.coin_at.result (c.coin_at.ensures.coin counts bs l told after there.0 there.1) (λ x is. is ∙ coin_told chain o c.in-Some.found named c.in-Unspent.is)

@@ -18,7 +18,7 @@ returns-in-Spent-clause-spender g c chain told stand =
     let bs = listed_blocks chain in
     let l = lists chain in
     let both = holds (tables_in {G = g.R.Rows} c.args.t.now) chain stand in
-    let after = subst (λ T. Hold counts bs l T) (sym c.newest_output.ensures.tables) both.1 in
+    let after = subst (λ T. Hold counts bs l T) (sym c.newest_output.ensures.read.tables) both.1 in
     let named = sym c.in-Some.is ∙ c.in_ok-found.ensures.newest chain told stand in
     if_ok c.entry_at.result (c.entry_at.ensures.entry counts bs l told after)
     (λ e is. is ∙ spender_told chain c.args.o.now c.in-Some.found c.in-Spent.by both.0 named c.in-Spent.is)

@@ -1,5 +1,5 @@
 use Rattle.std.proofs.Common.{◌≡◌, Some, option_map, ap, sym, subst, ◌∙◌, arith}
-use Rattle.el_rows.specs.Transaction.{tables_in}
+use Rattle.el_rows.specs.Transaction.{tables_in, reads_in}
 use Rattle.el_stands.proofs.StandingLemmas.{holds}
 use Rattle.el_stands.specs.Standing.{heads_in}
 use Rattle.el_tables.specs.ChainLists.{lists, listed_blocks}
@@ -17,7 +17,7 @@ returns-in-Some-clause-spot g c chain told stand =
     let id = c.args.txid.now in
     let tb = tables_of (heads_in chain) (listed_blocks chain) (lists chain) in
     let hold = (holds shown chain stand).1 in
-    let after = subst (λ T. Encode T tb) (sym c.newest_row.ensures.tables) hold in
+    let after = subst (λ T. Encode T tb) (sym c.newest_row.ensures.read.tables) hold in
     let found = c.in-Some.found in
     let newest = newest_in chain shown id c.in_ok-found.field-0 hold c.in_ok-found.ensures.none (λ counts bs l h some. c.in_ok-found.ensures.newest counts bs l told h some) in
     let number : Some found.number ≡ newest_tx id (lists chain).txs = sym (ap (option_map number_of) c.in-Some.is) ∙ newest in
@@ -35,20 +35,20 @@ returns-in-None-clause-spot g c chain told stand =
 pub returns-in_err-found-clause-rows : goal.returns-in_err-found-clause-rows
 returns-in_err-found-clause-rows g c chain told stand =
     let shown = tables_in {G = g.R.Rows} c.args.t.now in
-    let few = rows_in chain shown c.args.txid.now c.args.steps.now c.newest_row.new.steps (holds shown chain stand).1 c.newest_row.ensures.idle
-    (λ counts bs l hold some. c.newest_row.ensures.steps counts bs l told hold some) in
+    let few = rows_in chain shown c.args.txid.now (reads_in {G = g.R.Rows} c.args.t.now) (reads_in {G = g.R.Rows} c.newest_row.new.t) (holds shown chain stand).1 c.newest_row.ensures.idle
+    (λ counts bs l hold some. c.newest_row.ensures.rows counts bs l told hold some) in
     omega (arith, few)
 
 pub returns-in-Some-clause-rows : goal.returns-in-Some-clause-rows
 returns-in-Some-clause-rows g c chain told stand =
     let shown = tables_in {G = g.R.Rows} c.args.t.now in
-    let few = rows_in chain shown c.args.txid.now c.args.steps.now c.newest_row.new.steps (holds shown chain stand).1 c.newest_row.ensures.idle
-    (λ counts bs l hold some. c.newest_row.ensures.steps counts bs l told hold some) in
-    omega (arith, few, c.spot_of.ensures.tick)
+    let few = rows_in chain shown c.args.txid.now (reads_in {G = g.R.Rows} c.args.t.now) (reads_in {G = g.R.Rows} c.newest_row.new.t) (holds shown chain stand).1 c.newest_row.ensures.idle
+    (λ counts bs l hold some. c.newest_row.ensures.rows counts bs l told hold some) in
+    omega (arith, few, c.spot_of.ensures.rows)
 
 pub returns-in-None-clause-rows : goal.returns-in-None-clause-rows
 returns-in-None-clause-rows g c chain told stand =
     let shown = tables_in {G = g.R.Rows} c.args.t.now in
-    let few = rows_in chain shown c.args.txid.now c.args.steps.now c.newest_row.new.steps (holds shown chain stand).1 c.newest_row.ensures.idle
-    (λ counts bs l hold some. c.newest_row.ensures.steps counts bs l told hold some) in
+    let few = rows_in chain shown c.args.txid.now (reads_in {G = g.R.Rows} c.args.t.now) (reads_in {G = g.R.Rows} c.newest_row.new.t) (holds shown chain stand).1 c.newest_row.ensures.idle
+    (λ counts bs l hold some. c.newest_row.ensures.rows counts bs l told hold some) in
     omega (arith, few)

@@ -3,8 +3,8 @@ use Rattle.std.specs.Option.{ForSome}
 use Rattle.el_base.specs.declared.hash.Hash32.{Hash32}
 use Rattle.el_chain.specs.Chains.{zero_hash}
 use Rattle.el_chain.specs.Headers.{same_hash}
-use Rattle.el_rows.specs.Transaction.{tables_in}
-use Rattle.el_rows.proofs.ReadsLemmas.{read_joined}
+use Rattle.el_rows.specs.Transaction.{tables_in, reads_in}
+use Rattle.el_rows.proofs.TransactionLemmas.{begun, more}
 use Rattle.el_tables.specs.Lists.{Lists}
 use Rattle.el_tables.specs.Tables.{HeadCounts, bucket_in, greatest, tables_of}
 use Rattle.el_buckets.specs.Rows.{Hold}
@@ -21,11 +21,7 @@ loop-link-init g c =
     let h = c.args.txid.now in
     let same : Hash32 → _ = λ x. same_hash x h in
     record {
-      tables = c.newest_in_bucket.ensures.tables;
-      reads = c.newest_in_bucket.ensures.reads;
-      name = c.newest_in_bucket.ensures.name;
-      uncounted = c.in_ok-link.ensures.cause.uncounted;
-      ticked = c.newest_in_bucket.ensures.ticked;
+      read = begun c.in_ok-link.ensures.read;
       below = c.in_ok-link.ensures.below;
       few = c.in_ok-link.ensures.few;
       none = c.in_ok-link.ensures.none;
@@ -33,36 +29,36 @@ loop-link-init g c =
       walk = λ counts bs l told hold some.
           subst (λ (o : Option ℕ). IsWalk same (share_bucket counts.txs h) zero_hash (map id_of l.txs) o) (sym (c.in_ok-link.ensures.head counts bs l told hold some))
           (walk_begins same (share_bucket counts.txs h) (in_own_bucket counts.txs h) zero_hash (map id_of l.txs));
-      steps = λ counts bs l told hold some.
+      rows = λ counts bs l told hold some.
           let test = share_bucket counts.txs h in
           let hs = map id_of l.txs in
           let is = c.in_ok-link.ensures.head counts bs l told hold some in
           let few = rows_within same test (in_own_bucket counts.txs h) zero_hash hs (greatest test hs) (greatest_passes test zero_hash hs) in
           let all : count_by test (take (end_of c.in_ok-link.link) hs) ≤ count_by test hs = subst (λ (o : Option ℕ). count_by test (take (end_of o) hs) ≤ count_by test hs) (sym is) few in
-          omega (arith, c.newest_in_bucket.ensures.tick, all);
+          omega (arith, c.newest_in_bucket.ensures.rows, all);
     }
 
-pub returns-in_err-row-clause-steps : goal.returns-in_err-row-clause-steps
-returns-in_err-row-clause-steps g c counts bs l told hold some =
+pub returns-in_err-row-clause-rows : goal.returns-in_err-row-clause-rows
+returns-in_err-row-clause-rows g c counts bs l told hold some =
     let h = c.args.txid.now in
     let same : Hash32 → _ = λ x. same_hash x h in
     let test = share_bucket counts.txs h in
     let hs = map id_of l.txs in
     let walk = subst (λ (o : Option ℕ). IsWalk same test zero_hash hs o) c.in-Some.is (c.loop-link.invariant.walk counts bs l told hold some) in
     let one = rows_on same test (in_own_bucket counts.txs h) zero_hash hs c.in-Some.number None walk (omega arith) in
-    let so_far = subst (λ (o : Option ℕ). c.loop-link.steps + count_by test (take (end_of o) hs) ≤ c.args.steps.now + 1 + count_by test hs) c.in-Some.is (c.loop-link.invariant.steps counts bs l told hold some) in
-    omega (arith, c.tx_row.ensures.tick, one, so_far)
+    let so_far = subst (λ (o : Option ℕ). (reads_in {G = g.R.Rows} c.loop-link.t) + count_by test (take (end_of o) hs) ≤ (reads_in {G = g.R.Rows} c.args.t.now) + 1 + count_by test hs) c.in-Some.is (c.loop-link.invariant.rows counts bs l told hold some) in
+    omega (arith, c.tx_row.ensures.rows, one, so_far)
 
-pub returns-then-eq-clause-steps : goal.returns-then-eq-clause-steps
-returns-then-eq-clause-steps g c counts bs l told hold some =
+pub returns-then-eq-clause-rows : goal.returns-then-eq-clause-rows
+returns-then-eq-clause-rows g c counts bs l told hold some =
     let h = c.args.txid.now in
     let same : Hash32 → _ = λ x. same_hash x h in
     let test = share_bucket counts.txs h in
     let hs = map id_of l.txs in
     let walk = subst (λ (o : Option ℕ). IsWalk same test zero_hash hs o) c.in-Some.is (c.loop-link.invariant.walk counts bs l told hold some) in
     let one = rows_on same test (in_own_bucket counts.txs h) zero_hash hs c.in-Some.number None walk (omega arith) in
-    let so_far = subst (λ (o : Option ℕ). c.loop-link.steps + count_by test (take (end_of o) hs) ≤ c.args.steps.now + 1 + count_by test hs) c.in-Some.is (c.loop-link.invariant.steps counts bs l told hold some) in
-    omega (arith, c.tx_row.ensures.tick, one, so_far)
+    let so_far = subst (λ (o : Option ℕ). (reads_in {G = g.R.Rows} c.loop-link.t) + count_by test (take (end_of o) hs) ≤ (reads_in {G = g.R.Rows} c.args.t.now) + 1 + count_by test hs) c.in-Some.is (c.loop-link.invariant.rows counts bs l told hold some) in
+    omega (arith, c.tx_row.ensures.rows, one, so_far)
 
 pub returns-then-eq-clause-newest : goal.returns-then-eq-clause-newest
 returns-then-eq-clause-newest g c counts bs l told hold some =
@@ -71,7 +67,7 @@ returns-then-eq-clause-newest g c counts bs l told hold some =
     let test = share_bucket counts.txs h in
     let hs = map id_of l.txs in
     let walk = subst (λ (o : Option ℕ). IsWalk same test zero_hash hs o) c.in-Some.is (c.loop-link.invariant.walk counts bs l told hold some) in
-    let before = subst (λ T. Hold counts bs l T) (sym c.loop-link.invariant.tables) hold in
+    let before = subst (λ T. Hold counts bs l T) (sym c.loop-link.invariant.read.tables) hold in
     let is = c.in_ok-row.ensures.row (tables_of counts bs l) told before in
     walk_found same test (in_own_bucket counts.txs h) zero_hash hs c.in-Some.number walk (ap same (sym (txid_is counts.txs l.txs c.in-Some.number c.in_ok-row.row is)) ∙ sym c.if-eq.ensures)
     ∙ newest_listed h l.txs
@@ -94,13 +90,9 @@ loop-link-preserved g c =
     let next = c.if_below-link.result in
     let less : ForSome next (λ m. m < n) = λ m is. less_than n row.next m (sym c.if_below-link.ensures ∙ is) in
     let row_is = λ (counts : HeadCounts) (bs : _) (l : Lists) (told : g.R.Rows.tells) (hold : Hold counts bs l (tables_in {G = g.R.Rows} c.args.t.now)).
-    (c.in_ok-row.ensures.row (tables_of counts bs l) told (subst (λ T. Hold counts bs l T) (sym c.loop-link.invariant.tables) hold)) in
+    (c.in_ok-row.ensures.row (tables_of counts bs l) told (subst (λ T. Hold counts bs l T) (sym c.loop-link.invariant.read.tables) hold)) in
     record {
-      tables = c.tx_row.ensures.tables ∙ c.loop-link.invariant.tables;
-      reads = read_joined _ _ _ _ _ _ _ c.args.t.now.rows.now c.loop-link.t.rows.now c.tx_row.new.t.rows.now c.loop-link.invariant.reads c.tx_row.ensures.reads;
-      name = c.tx_row.ensures.name ∙ c.loop-link.invariant.name;
-      uncounted = c.in_ok-row.ensures.cause.uncounted ∙ c.loop-link.invariant.uncounted;
-      ticked = omega (arith, c.tx_row.ensures.ticked, c.loop-link.invariant.ticked);
+      read = more c.loop-link.invariant.read c.in_ok-row.ensures.read;
       below = λ x is. let lower = less x is in let lt = c.loop-link.invariant.below n c.in-Some.is in omega (arith, lower, lt);
       few = λ x is. let lower = less x is in let lt = c.loop-link.invariant.few n c.in-Some.is in omega (arith, lower, lt);
       none = λ empty. let both : Some n ≡ None = sym c.in-Some.is ∙ c.loop-link.invariant.none empty in cc;
@@ -115,11 +107,11 @@ loop-link-preserved g c =
           c.if_below-link.ensures ∙ next_is counts.txs l.txs n row (row_is counts bs l told hold) ∙ ap (λ (b : ℕ). greatest (λ (x : Hash32). bucket_in counts.txs x == b) (take n hs)) here in
           subst (λ (o : Option ℕ). IsWalk same test zero_hash hs o) (sym link_is)
           (walk_on same test (in_own_bucket counts.txs h) zero_hash hs n walk (ap same (sym found_is) ∙ sym c.if-eq.ensures));
-      steps = λ counts bs l told hold some.
+      rows = λ counts bs l told hold some.
           let test = share_bucket counts.txs h in
           let hs = map id_of l.txs in
           let walk = subst (λ (o : Option ℕ). IsWalk same test zero_hash hs o) c.in-Some.is (c.loop-link.invariant.walk counts bs l told hold some) in
           let one = rows_on same test (in_own_bucket counts.txs h) zero_hash hs n next walk (end_below n next less) in
-          let so_far = subst (λ (o : Option ℕ). c.loop-link.steps + count_by test (take (end_of o) hs) ≤ c.args.steps.now + 1 + count_by test hs) c.in-Some.is (c.loop-link.invariant.steps counts bs l told hold some) in
-          omega (arith, c.tx_row.ensures.tick, one, so_far);
+          let so_far = subst (λ (o : Option ℕ). (reads_in {G = g.R.Rows} c.loop-link.t) + count_by test (take (end_of o) hs) ≤ (reads_in {G = g.R.Rows} c.args.t.now) + 1 + count_by test hs) c.in-Some.is (c.loop-link.invariant.rows counts bs l told hold some) in
+          omega (arith, c.tx_row.ensures.rows, one, so_far);
     }

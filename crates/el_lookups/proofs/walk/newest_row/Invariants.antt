@@ -3,7 +3,8 @@ use Rattle.std.specs.Option.{ForSome}
 use Rattle.el_base.specs.declared.hash.Hash32.{Hash32}
 use Rattle.el_chain.specs.Chains.{zero_hash}
 use Rattle.el_chain.specs.Headers.{same_hash}
-use Rattle.el_rows.specs.Transaction.{tables_in, OnlyReads}
+use Rattle.el_rows.specs.Transaction.{tables_in, reads_in}
+use Rattle.el_rows.proofs.TransactionLemmas.{SoFar}
 use Rattle.el_rows.specs.declared.table.Table.TheVariants as table
 use Rattle.el_tables.specs.ChainLists.{ListedBlock}
 use Rattle.el_tables.specs.Lists as lists
@@ -18,20 +19,16 @@ abbrev pub invariant-loop-link : goal.invariant-loop-link
 invariant-loop-link g l =
     let shown = tables_in {G = g.R.Rows} l.fn.t in
     record {
-      tables : tables_in {G = g.R.Rows} l.t ≡ shown;
-      reads : OnlyReads {G = g.R.Rows} l.fn.t l.t;
-      name : l.t.rows.ghost_name ≡ l.fn.t.rows.ghost_name;
-      uncounted : g.R.Rows.faults l.t.rows.now ≡ g.R.Rows.faults l.fn.t.rows.now;
-      ticked : l.fn.steps ≤ l.steps;
+      read : SoFar {G = g.R.Rows} l.fn.t l.t;
       below : ForSome l.link (λ n. n < length (shown table.Txs));
       few : ForSome l.link (λ n. n < 2 ^ 32);
       none : length (shown table.TxHeads) ≡ 0 → l.link ≡ None;
-      idle : length (shown table.TxHeads) ≡ 0 → l.steps ≡ l.fn.steps;
+      idle : length (shown table.TxHeads) ≡ 0 → reads_in {G = g.R.Rows} l.t ≡ reads_in {G = g.R.Rows} l.fn.t;
       walk : (counts : HeadCounts) (bs : List ListedBlock) (ls : lists.Lists) → g.R.Rows.tells → Hold counts bs ls shown → 0 < counts.txs
           → IsWalk (λ (x : Hash32). same_hash x l.txid) (share_bucket counts.txs l.txid) zero_hash (map id_of ls.txs) l.link;
-      steps : (counts : HeadCounts) (bs : List ListedBlock) (ls : lists.Lists) → g.R.Rows.tells → Hold counts bs ls shown → 0 < counts.txs
-          → l.steps + bucket_size counts.txs l.txid (take (end_of l.link) (map id_of ls.txs))
-          ≤ l.fn.steps + 1 + bucket_size counts.txs l.txid (map id_of ls.txs);
+      rows : (counts : HeadCounts) (bs : List ListedBlock) (ls : lists.Lists) → g.R.Rows.tells → Hold counts bs ls shown → 0 < counts.txs
+          → reads_in {G = g.R.Rows} l.t + bucket_size counts.txs l.txid (take (end_of l.link) (map id_of ls.txs))
+          ≤ reads_in {G = g.R.Rows} l.fn.t + 1 + bucket_size counts.txs l.txid (map id_of ls.txs);
     }
 
 abbrev pub decreases-loop-link : goal.decreases-loop-link

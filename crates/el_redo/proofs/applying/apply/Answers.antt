@@ -1,6 +1,7 @@
 use Rattle.std.proofs.Common.{◌≡◌, ◌≤◌, ◌++◌, ℕ, List, length, sym, ap, ◌∙◌, subst, true, false}
 use Rattle.std.specs.Prelude.{Err}
 use Rattle.std.proofs.lemmas.Result.{err_from_is_err_and}
+use Rattle.el_rows.specs.Reads.{CountedRows}
 use Rattle.el_rows.specs.Tables.{tables_of, limit_of}
 use Rattle.el_rows.specs.Changes.{Update, under}
 use Rattle.el_redo.specs.declared.faults.RedoFault.TheVariants as fault
@@ -25,7 +26,7 @@ returns-in_err-sealed-clause-no_commit c is update commit =
     let fault_is = sym p.1 ∙ is in
     let none : p.0 ≡ fault.NoCommit = cc in
     c.in_err-sealed.ensures.no_commit (ap (λ e. Err e) (sym p.2 ∙ none)) update.changes
-    (same_made (λ t. length (tables_of c.args.rows.now t)) update.counts c.in-Some.meta.0 update.changes (λ t. sym (counts t)) commit.made) rest
+    (same_made (λ t. length (tables_of c.args.rows.now.rows t)) update.counts c.in-Some.meta.0 update.changes (λ t. sym (counts t)) commit.made) rest
 
 pub returns-in-Ok-clause-ok : goal.returns-in-Ok-clause-ok
 returns-in-Ok-clause-ok c =
@@ -34,6 +35,6 @@ returns-in-Ok-clause-ok c =
       update,
       record { spelled = c.in-Some.ensures.some ∙ ap (λ (l : List ℕ). meta_row c.args.magic c.in-Some.meta.0 ++ l) made.1; made = made.2 },
       λ t. c.in-Ok.ensures.lists tt t
-          ∙ ap (λ (r : List (List (List ℕ))). under (tables_of r) c.in_ok-sealed.sealed.counts c.in_ok-sealed.sealed.changes t) c.edits.ensures.rows
+          ∙ ap (λ (r : CountedRows). under (tables_of r.rows) c.in_ok-sealed.sealed.counts c.in_ok-sealed.sealed.changes t) c.edits.ensures.rows
           ∙ made.3 t,
     )

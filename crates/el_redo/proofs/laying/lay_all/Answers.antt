@@ -13,8 +13,7 @@ not_empty (suc n) h = omega arith
 pub loop-rest-init : goal.loop-rest-init
 loop-rest-init c = record {
   read = none_read c.args.bytes.now (tables_in c.args.txn.now) c.args.counts.now c.requires.cut;
-  rows = refl;
-  name = refl;
+  alone = record { rows = refl; borrow = refl };
 }
 
 pub returns-in_default-clause-no_commit : goal.returns-in_default-clause-no_commit
@@ -37,6 +36,8 @@ pub loop-rest-preserved : goal.loop-rest-preserved
 loop-rest-preserved c = record {
   read = read_more c.args.bytes.now c.loop-rest.rest.now c.in-Some.after.now c.loop-rest.last (tables_in c.args.txn.now) c.args.counts.now (tables_in c.loop-rest.txn) (tables_in c.lay.new.txn)
       c.in-Some.key c.in-Some.row.now c.requires.limited c.loop-rest.invariant.read c.in-Some.ensures.next c.in-Some.ensures.spelled c.in_ok-lay.ensures.put c.in_ok-lay.ensures.near;
-  rows = c.lay.ensures.rows ∙ c.loop-rest.invariant.rows;
-  name = c.lay.ensures.name ∙ c.loop-rest.invariant.name;
+  alone = record {
+    rows = c.lay.ensures.alone.rows ∙ c.loop-rest.invariant.alone.rows;
+    borrow = c.lay.ensures.alone.borrow ∙ c.loop-rest.invariant.alone.borrow;
+  };
 }

@@ -23,7 +23,7 @@ pub returns-clause-lists : goal.returns-clause-lists
 returns-clause-lists g c counts bs l told hold numbered =
     let shown = tables_in {G = g.R.Rows} c.args.t.now in
     let after = tables_in {G = g.R.Rows} c.shrink.new.self in
-    let same = c.entry_row.ensures.tables in
+    let same = c.entry_row.ensures.read.tables in
     let n = c.count-count.result - 1 in
     let e = c.in_ok-entry.entry in
     let only = c.in_ok-entry.ensures.only told in

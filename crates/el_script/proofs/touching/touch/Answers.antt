@@ -18,7 +18,7 @@ pub returns-in_ok-add_script-in-None-clause-lists : goal.returns-in_ok-add_scrip
 returns-in_ok-add_script-in-None-clause-lists g c counts bs l told hold fits some =
     let shown = tables_in {G = g.R.Rows} c.args.t.now in
     let after = tables_in {G = g.R.Rows} c.add_script.new.t in
-    let same = c.find.ensures.tables in
+    let same = c.find.ensures.read.tables in
     let s = c.args.s.now in
     let next = c.in-Ok.found.head in
     let fresh = newest_none s l.scripts fits.numbered.once (sym (c.in-Ok.ensures.newest counts bs l told hold some) ∙ c.in-None.is) in
@@ -31,7 +31,7 @@ returns-in_ok-add_script-in-None-clause-number g c counts bs l told hold fits so
     let shown = tables_in {G = g.R.Rows} c.args.t.now in
     let s = c.args.s.now in
     let fresh = newest_none s l.scripts fits.numbered.once (sym (c.in-Ok.ensures.newest counts bs l told hold some) ∙ c.in-None.is) in
-    c.count-count.ensures.count ∙ ap (λ (T : Tables). length (T table.Scripts)) c.find.ensures.tables ∙ many_scripts counts bs l shown hold ∙ sym (number_next s l.scripts fresh)
+    c.count-count.ensures.count ∙ ap (λ (T : Tables). length (T table.Scripts)) c.find.ensures.read.tables ∙ many_scripts counts bs l shown hold ∙ sym (number_next s l.scripts fresh)
 
 pub returns-in_ok-add_script-in-None-clause-room : goal.returns-in_ok-add_script-in-None-clause-room
 returns-in_ok-add_script-in-None-clause-room g c counts bs l told hold fits some =
@@ -47,7 +47,7 @@ returns-in_ok-add_script-in-None-clause-room g c counts bs l told hold fits some
 pub returns-in_ok-touch_number-in-Some-clause-lists : goal.returns-in_ok-touch_number-in-Some-clause-lists
 returns-in_ok-touch_number-in-Some-clause-lists g c counts bs l told hold fits some =
     let hash = newest_hash c.args.s.now l.scripts c.in-Some.script fits.numbered.once (sym (c.in-Ok.ensures.newest counts bs l told hold some) ∙ c.in-Some.is) in
-    let before = subst (λ (T : Tables). Hold counts bs l T) (sym c.find.ensures.tables) hold in
+    let before = subst (λ (T : Tables). Hold counts bs l T) (sym c.find.ensures.read.tables) hold in
     subst (λ (h : Hash32). Hold counts bs (add_entry h c.args.tx l) (tables_in {G = g.R.Rows} c.touch_number.new.t)) hash (c.in_ok-touch_number-in-Some.ensures.lists counts bs l told before fits)
 
 pub returns-in_ok-touch_number-in-Some-clause-number : goal.returns-in_ok-touch_number-in-Some-clause-number
@@ -57,7 +57,7 @@ returns-in_ok-touch_number-in-Some-clause-number g c counts bs l told hold fits 
 pub returns-in_ok-touch_number-in-Some-clause-room : goal.returns-in_ok-touch_number-in-Some-clause-room
 returns-in_ok-touch_number-in-Some-clause-room g c counts bs l told hold fits some =
     let hash = newest_hash c.args.s.now l.scripts c.in-Some.script fits.numbered.once (sym (c.in-Ok.ensures.newest counts bs l told hold some) ∙ c.in-Some.is) in
-    let before = subst (λ (T : Tables). Hold counts bs l T) (sym c.find.ensures.tables) hold in
+    let before = subst (λ (T : Tables). Hold counts bs l T) (sym c.find.ensures.read.tables) hold in
     subst (λ (h : Hash32). touch_full h c.args.tx l ≡ None) hash (c.in_ok-touch_number-in-Some.ensures.room counts bs l told before fits)
 
 pub returns-in_err-add_script-in-None-clause-full : goal.returns-in_err-add_script-in-None-clause-full
@@ -67,13 +67,13 @@ returns-in_err-add_script-in-None-clause-full g c counts bs l told hold fits som
     let e_is : e ≡ connect.Full t rows = search (rules, is) in
     let s = c.args.s.now in
     let fresh = newest_none s l.scripts fits.numbered.once (sym (c.in-Ok.ensures.newest counts bs l told hold some) ∙ c.in-None.is) in
-    full_new counts bs s c.args.tx l shown e t rows hold fits fresh (subst (λ (T : Tables). IsScriptFault T e) c.find.ensures.tables c.in_err-add_script-in-None.ensures.fault) e_is
+    full_new counts bs s c.args.tx l shown e t rows hold fits fresh (subst (λ (T : Tables). IsScriptFault T e) c.find.ensures.read.tables c.in_err-add_script-in-None.ensures.fault) e_is
 
 pub returns-in_err-touch_number-in-Some-clause-full : goal.returns-in_err-touch_number-in-Some-clause-full
 returns-in_err-touch_number-in-Some-clause-full g c counts bs l told hold fits some t rows is =
     let e = c.in_err-touch_number-in-Some.field-0.0 in
     let e_is : e ≡ connect.Full t rows = search (rules, is) in
     let hash = newest_hash c.args.s.now l.scripts c.in-Some.script fits.numbered.once (sym (c.in-Ok.ensures.newest counts bs l told hold some) ∙ c.in-Some.is) in
-    let before = subst (λ (T : Tables). Hold counts bs l T) (sym c.find.ensures.tables) hold in
+    let before = subst (λ (T : Tables). Hold counts bs l T) (sym c.find.ensures.read.tables) hold in
     subst (λ (h : Hash32). touch_full h c.args.tx l ≡ Some (connect.Full t rows)) hash
     (c.in_err-touch_number-in-Some.ensures.full counts bs l told before fits t rows (ap (λ (f : ConnectFault). Err f) e_is))

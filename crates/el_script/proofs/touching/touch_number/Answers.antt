@@ -17,7 +17,7 @@ use Rattle.el_script.proofs.touching.touch_number.Goals as goal
 pub returns-then-branch-clause-lists : goal.returns-then-branch-clause-lists
 returns-then-branch-clause-lists g c counts bs l told hold fits =
     let shown = tables_in {G = g.R.Rows} c.args.t.now in
-    let same = c.script_row.ensures.tables in
+    let same = c.script_row.ensures.read.tables in
     let before = subst (λ (T : Tables). Hold counts bs l T) (sym same) hold in
     let n = c.args.script in
     let lt : n < length l.scripts = omega (arith, c.requires.below, many_scripts counts bs l shown hold) in
@@ -26,13 +26,13 @@ returns-then-branch-clause-lists g c counts bs l told hold fits =
     (c.in_ok-row.ensures.only told) entries c.if_below-last.ensures (c.in_ok-is_entry_of.ensures.is counts bs l no_entry told before) in
     let again = ap (λ (k : ℕ). is_tx c.args.tx (last_tx_of k l.entries)) (sym (hash_number n l.scripts fits.numbered.once lt)) ∙ sym told_tx ∙ c.if-branch.true in
     subst (λ (m : Lists). Hold counts bs m (tables_in {G = g.R.Rows} c.is_entry_of.new.t)) (sym (touch_again l (get_or l.scripts n zero_hash) c.args.tx (hash_there n l.scripts lt) again))
-    (subst (λ (T : Tables). Hold counts bs l T) (sym (c.is_entry_of.ensures.tables ∙ same)) hold)
+    (subst (λ (T : Tables). Hold counts bs l T) (sym (c.is_entry_of.ensures.read.tables ∙ same)) hold)
 
 pub returns-then-branch-clause-room : goal.returns-then-branch-clause-room
 returns-then-branch-clause-room g c counts bs l told hold fits =
     let after = tables_in {G = g.R.Rows} c.is_entry_of.new.t in
-    let same = c.is_entry_of.ensures.tables in
-    let scripts : length (after table.Scripts) ≡ c.count.result = ap (λ (T : Tables). length (T table.Scripts)) (same ∙ c.script_row.ensures.tables) ∙ sym c.count.ensures.count in
+    let same = c.is_entry_of.ensures.read.tables in
+    let scripts : length (after table.Scripts) ≡ c.count.result = ap (λ (T : Tables). length (T table.Scripts)) (same ∙ c.script_row.ensures.read.tables) ∙ sym c.count.ensures.count in
     let entries : length (after table.Entries) ≡ c.count-2.result = ap (λ (T : Tables). length (T table.Entries)) same ∙ sym c.count-2.ensures.count in
     room_left counts bs (get_or l.scripts c.args.script zero_hash) c.args.tx l after (returns-then-branch-clause-lists g c counts bs l told hold fits)
     (omega (arith, scripts, c.count.ensures.limit)) (omega (arith, entries, c.count-2.ensures.limit))
@@ -41,8 +41,8 @@ pub returns-clause-lists : goal.returns-clause-lists
 returns-clause-lists g c counts bs l told hold fits =
     let shown = tables_in {G = g.R.Rows} c.args.t.now in
     let after = tables_in {G = g.R.Rows} c.add_known.new.t in
-    let same = c.script_row.ensures.tables in
-    let both = c.is_entry_of.ensures.tables ∙ same in
+    let same = c.script_row.ensures.read.tables in
+    let both = c.is_entry_of.ensures.read.tables ∙ same in
     let before = subst (λ (T : Tables). Hold counts bs l T) (sym same) hold in
     let n = c.args.script in
     let tx = c.args.tx in
@@ -64,7 +64,7 @@ pub returns-clause-room : goal.returns-clause-room
 returns-clause-room g c counts bs l told hold fits =
     let shown = tables_in {G = g.R.Rows} c.args.t.now in
     let after = tables_in {G = g.R.Rows} c.add_known.new.t in
-    let both = c.is_entry_of.ensures.tables ∙ c.script_row.ensures.tables in
+    let both = c.is_entry_of.ensures.read.tables ∙ c.script_row.ensures.read.tables in
     let n = c.args.script in
     let tx = c.args.tx in
     let s = get_or l.scripts n zero_hash in
@@ -78,8 +78,8 @@ returns-clause-room g c counts bs l told hold fits =
 pub returns-clause-full : goal.returns-clause-full
 returns-clause-full g c counts bs l told hold fits t rows is =
     let shown = tables_in {G = g.R.Rows} c.args.t.now in
-    let same = c.script_row.ensures.tables in
-    let both = c.is_entry_of.ensures.tables ∙ same in
+    let same = c.script_row.ensures.read.tables in
+    let both = c.is_entry_of.ensures.read.tables ∙ same in
     let before = subst (λ (T : Tables). Hold counts bs l T) (sym same) hold in
     let n = c.args.script in
     let tx = c.args.tx in

@@ -28,7 +28,7 @@ returns-clause-lists g c counts bs l told hold some fit =
     let names = output_number (record { txid = txid_at a.tx l.txs; index = a.index }) (take a.tx l.txs) in
     let found : f ≡ replaced_output a.tx a.index l = of_value (λ (r : Option NamedOutput). r ≡ replaced_output a.tx a.index l) _ c.replaced.result c.map_err.result f c.map_err.ensures.cases c.in_ok-replaced.ensures.variant c.in_ok-replaced.was
     (c.replaced.ensures.replaced counts bs l told hold some) in
-    let before = subst (λ T. Hold counts bs l T) (sym c.replaced.ensures.tables) hold in
+    let before = subst (λ T. Hold counts bs l T) (sym c.replaced.ensures.read.tables) hold in
     let appended = c.in_ok-append_output.ensures.appended tb before in
     let rows = λ (y : NamedOutput) (is : f ≡ Some y). row_appended x tb y.number y.row (coin_number_is l.outs names y (sym is ∙ found)).1 in
     let gone = c.in_ok-bury.ensures.buried (out_appended x tb) told appended rows in

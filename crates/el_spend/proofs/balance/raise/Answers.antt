@@ -21,7 +21,7 @@ returns-clause-raised g c tb told same few =
     let fits = value (λ r. FitsScriptRow r) c.script_row.ensures.fits in
     let put : ScriptRow = record row { balance = c.saturating_add.result } in
     let on : OnTable shown after table.Scripts (set (shown table.Scripts) c.args.script (script_row_bytes put)) =
-    subst (λ (T : Tables). OnTable T after table.Scripts (set (T table.Scripts) c.args.script (script_row_bytes put))) c.script_row.ensures.tables c.in_ok-put_script.ensures.ok in
+    subst (λ (T : Tables). OnTable T after table.Scripts (set (T table.Scripts) c.args.script (script_row_bytes put))) c.script_row.ensures.read.tables c.in_ok-put_script.ensures.ok in
     raised_here shown after tb same c.args.script c.args.value c.saturating_add.result row is fits few (λ sum. (let e = c.saturating_add.ensures in omega (arith, e, sum))) on
 
 pub returns-clause-bytes : goal.returns-clause-bytes
@@ -31,5 +31,5 @@ returns-clause-bytes g c r told fits lt is =
     let same : r ≡ row = of_value (λ x. r ≡ x) _ c.script_row.result c.map_err.result row c.map_err.ensures.cases c.in_ok-row.ensures.variant c.in_ok-row.was (c.script_row.ensures.only r told fits is) in
     let put : ScriptRow = record row { balance = c.saturating_add.result } in
     let changed : put ≡ raised c.args.value row = ap (λ (b : ℕ). record row { balance = b }) c.saturating_add.ensures in
-    c.in_ok-put_script.ensures.ok.here ∙ ap (λ (T : Tables). set (T table.Scripts) c.args.script (script_row_bytes put)) c.script_row.ensures.tables
+    c.in_ok-put_script.ensures.ok.here ∙ ap (λ (T : Tables). set (T table.Scripts) c.args.script (script_row_bytes put)) c.script_row.ensures.read.tables
     ∙ ap (λ (x : ScriptRow). set (shown table.Scripts) c.args.script (script_row_bytes x)) (changed ∙ ap (raised c.args.value) (sym same))

@@ -8,6 +8,6 @@ use Rattle.el_spend.proofs.lookup.named_output.Goals as goal
 
 pub returns-in-Some-clause-named : goal.returns-in-Some-clause-named
 returns-in-Some-clause-named g c counts bs l told hold some =
-    let before = subst (λ T. Hold counts bs l T) (sym c.output_number.ensures.tables) hold in
+    let before = subst (λ T. Hold counts bs l T) (sym c.output_number.ensures.read.tables) hold in
     let number : Some c.in-Some.k ≡ lists.output_number c.args.o.now (take c.args.below l.txs) = sym c.in-Some.is ∙ c.in_ok-k.ensures.number counts bs l told hold some in
     if_ok c.found_output.result (c.found_output.ensures.found (tables_of counts bs l) told before) (λ f is. is ∙ ap (option_and_then (output_at l.outs)) number)

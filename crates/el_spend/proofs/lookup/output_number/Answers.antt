@@ -1,7 +1,7 @@
 use Rattle.std.proofs.Common.{◌≡◌, ◌<◌, ◌≤◌, ◌+◌, ℕ, List, Option, Some, None, map, take, get_or, ap, ap₂, sym, ◌∙◌, refl, subst, arith}
-use Rattle.el_rows.specs.Transaction.{tables_in}
+use Rattle.el_rows.specs.Transaction.{tables_in, reads_in}
 use Rattle.el_rows.specs.declared.tx_row.TxRow.{TxRow}
-use Rattle.el_rows.proofs.ReadsLemmas.{read_joined}
+use Rattle.el_rows.proofs.TransactionLemmas.{begun, more}
 use Rattle.el_tables.specs.ChainLists.{ListedBlock}
 use Rattle.el_tables.specs.Lists.{Lists, ListedTx}
 use Rattle.el_tables.specs.Tables.{HeadCounts, tables_of, greatest}
@@ -23,47 +23,43 @@ loop-link-init g c =
     let is = λ (counts : HeadCounts) (bs : List ListedBlock) (l : Lists) (told : g.R.Rows.tells) (hold : Hold counts bs l (tables_in {G = g.R.Rows} c.args.t.now)) (some : 0 < counts.txs).
     (let e : link ≡ greatest (has_txid o) l.txs = c.in_ok-link.ensures.newest counts bs l told hold some ∙ newest_is 0 o.txid l.txs in e) in
     record {
-      tables = c.newest.ensures.tables;
-      reads = c.newest.ensures.reads;
-      name = c.newest.ensures.name;
-      uncounted = c.in_ok-link.ensures.cause.uncounted;
-      ticked = c.newest.ensures.ticked;
+      read = begun c.in_ok-link.ensures.read;
       within = c.in_ok-link.ensures.below;
       none = c.in_ok-link.ensures.none;
       walk = λ counts bs l told hold some.
           subst (λ (k : Option ℕ). IsOlder o c.args.below no_tx l.txs k) (sym (is counts bs l told hold some)) (older_begins o c.args.below no_tx l.txs);
-      steps = λ counts bs l told hold some.
+      rows = λ counts bs l told hold some.
           let begun = older_begins o c.args.below no_tx l.txs in
           let few = older_all o c.args.below no_tx l.txs (greatest (has_txid o) l.txs) begun.here in
           let all : txs_with o.txid (take (end_of link) l.txs) ≤ txs_with o.txid l.txs =
           subst (λ (k : Option ℕ). txs_with o.txid (take (end_of k) l.txs) ≤ txs_with o.txid l.txs) (sym (is counts bs l told hold some)) few in
-          omega (arith, c.newest.ensures.steps counts bs l told hold some, all);
+          omega (arith, c.newest.ensures.rows counts bs l told hold some, all);
     }
 
-pub returns-in_err-row-clause-steps : goal.returns-in_err-row-clause-steps
-returns-in_err-row-clause-steps g c counts bs l told hold some =
+pub returns-in_err-row-clause-rows : goal.returns-in_err-row-clause-rows
+returns-in_err-row-clause-rows g c counts bs l told hold some =
     let o = c.args.o.now in
     let walk = subst (λ (k : Option ℕ). IsOlder o c.args.below no_tx l.txs k) c.in-Some.is (c.loop-link.invariant.walk counts bs l told hold some) in
     let one = older_left o c.args.below no_tx l.txs c.in-Some.n None walk (omega arith) in
     let bound = 1 + bucket_size counts.txs o.txid (map (λ (x : ListedTx). x.txid) l.txs) + txs_with o.txid l.txs in
-    let so_far = subst (λ (k : Option ℕ). c.loop-link.steps + txs_with o.txid (take (end_of k) l.txs) ≤ c.args.steps.now + bound) c.in-Some.is (c.loop-link.invariant.steps counts bs l told hold some) in
-    omega (arith, c.tx_row.ensures.tick, one, so_far)
+    let so_far = subst (λ (k : Option ℕ). (reads_in {G = g.R.Rows} c.loop-link.t) + txs_with o.txid (take (end_of k) l.txs) ≤ (reads_in {G = g.R.Rows} c.args.t.now) + bound) c.in-Some.is (c.loop-link.invariant.rows counts bs l told hold some) in
+    omega (arith, c.tx_row.ensures.rows, one, so_far)
 
-pub returns-then-o-row-clause-steps : goal.returns-then-o-row-clause-steps
-returns-then-o-row-clause-steps g c counts bs l told hold some =
+pub returns-then-o-row-clause-rows : goal.returns-then-o-row-clause-rows
+returns-then-o-row-clause-rows g c counts bs l told hold some =
     let o = c.args.o.now in
     let walk = subst (λ (k : Option ℕ). IsOlder o c.args.below no_tx l.txs k) c.in-Some.is (c.loop-link.invariant.walk counts bs l told hold some) in
     let one = older_left o c.args.below no_tx l.txs c.in-Some.n None walk (omega arith) in
     let bound = 1 + bucket_size counts.txs o.txid (map (λ (x : ListedTx). x.txid) l.txs) + txs_with o.txid l.txs in
-    let so_far = subst (λ (k : Option ℕ). c.loop-link.steps + txs_with o.txid (take (end_of k) l.txs) ≤ c.args.steps.now + bound) c.in-Some.is (c.loop-link.invariant.steps counts bs l told hold some) in
-    omega (arith, c.tx_row.ensures.tick, one, so_far)
+    let so_far = subst (λ (k : Option ℕ). (reads_in {G = g.R.Rows} c.loop-link.t) + txs_with o.txid (take (end_of k) l.txs) ≤ (reads_in {G = g.R.Rows} c.args.t.now) + bound) c.in-Some.is (c.loop-link.invariant.rows counts bs l told hold some) in
+    omega (arith, c.tx_row.ensures.rows, one, so_far)
 
 pub returns-then-o-row-clause-number : goal.returns-then-o-row-clause-number
 returns-then-o-row-clause-number g c counts bs l told hold some =
     let o = c.args.o.now in
     let n = c.in-Some.n in
     let walk = subst (λ (k : Option ℕ). IsOlder o c.args.below no_tx l.txs k) c.in-Some.is (c.loop-link.invariant.walk counts bs l told hold some) in
-    let before = subst (λ T. Hold counts bs l T) (sym c.loop-link.invariant.tables) hold in
+    let before = subst (λ T. Hold counts bs l T) (sym c.loop-link.invariant.read.tables) hold in
     let is = listed_row counts.txs l.txs n c.in_ok-row.row (c.in_ok-row.ensures.row (tables_of counts bs l) told before) in
     let outs = ap (λ (r : TxRow). r.outs) is in
     let first = ap (λ (r : TxRow). r.first_out) is in
@@ -79,13 +75,9 @@ loop-link-preserved g c =
     let begun = λ (counts : HeadCounts) (bs : List ListedBlock) (l : Lists) (told : g.R.Rows.tells) (hold : Hold counts bs l (tables_in {G = g.R.Rows} c.args.t.now)) (some : 0 < counts.txs).
     subst (λ (k : Option ℕ). IsOlder o c.args.below no_tx l.txs k) c.in-Some.is (c.loop-link.invariant.walk counts bs l told hold some) in
     let row_is = λ (counts : HeadCounts) (bs : List ListedBlock) (l : Lists) (told : g.R.Rows.tells) (hold : Hold counts bs l (tables_in {G = g.R.Rows} c.args.t.now)).
-    listed_row counts.txs l.txs n row (c.in_ok-row.ensures.row (tables_of counts bs l) told (subst (λ T. Hold counts bs l T) (sym c.loop-link.invariant.tables) hold)) in
+    listed_row counts.txs l.txs n row (c.in_ok-row.ensures.row (tables_of counts bs l) told (subst (λ T. Hold counts bs l T) (sym c.loop-link.invariant.read.tables) hold)) in
     record {
-      tables = c.tx_row.ensures.tables ∙ c.loop-link.invariant.tables;
-      reads = read_joined _ _ _ _ _ _ _ c.args.t.now.rows.now c.loop-link.t.rows.now c.tx_row.new.t.rows.now c.loop-link.invariant.reads c.tx_row.ensures.reads;
-      name = c.tx_row.ensures.name ∙ c.loop-link.invariant.name;
-      uncounted = c.in_ok-row.ensures.cause.uncounted ∙ c.loop-link.invariant.uncounted;
-      ticked = omega (arith, c.tx_row.ensures.ticked, c.loop-link.invariant.ticked);
+      read = more c.loop-link.invariant.read c.in_ok-row.ensures.read;
       within = λ x is. let less = less_than n row.older x (sym c.if_below-link.ensures ∙ is) in let lt = c.loop-link.invariant.within n c.in-Some.is in omega (arith, less, lt);
       none = λ empty. let both : Some n ≡ None = sym c.in-Some.is ∙ c.loop-link.invariant.none empty in cc;
       walk = λ counts bs l told hold some.
@@ -98,12 +90,12 @@ loop-link-preserved g c =
             | else-n-below-via-then-n-below+else-o-row w ↦ has_not o (get_or l.txs n no_tx) (omega (arith, w.if-o-row.false, outs))
             | else-n-below-via-else-n-below w ↦ absurd (omega (arith, lt, w.if-n-below.false))
           ]));
-      steps = λ counts bs l told hold some.
+      rows = λ counts bs l told hold some.
           let walk = begun counts bs l told hold some in
           let one = older_left o c.args.below no_tx l.txs n next walk (end_below n next (λ x is. less_than n row.older x (sym c.if_below-link.ensures ∙ is))) in
           let bound = 1 + bucket_size counts.txs o.txid (map (λ (x : ListedTx). x.txid) l.txs) + txs_with o.txid l.txs in
-          let so_far = subst (λ (k : Option ℕ). c.loop-link.steps + txs_with o.txid (take (end_of k) l.txs) ≤ c.args.steps.now + bound) c.in-Some.is (c.loop-link.invariant.steps counts bs l told hold some) in
-          omega (arith, c.tx_row.ensures.tick, one, so_far);
+          let so_far = subst (λ (k : Option ℕ). (reads_in {G = g.R.Rows} c.loop-link.t) + txs_with o.txid (take (end_of k) l.txs) ≤ (reads_in {G = g.R.Rows} c.args.t.now) + bound) c.in-Some.is (c.loop-link.invariant.rows counts bs l told hold some) in
+          omega (arith, c.tx_row.ensures.rows, one, so_far);
     }
 
 pub returns-clause-number : goal.returns-clause-number

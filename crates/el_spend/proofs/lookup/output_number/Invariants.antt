@@ -1,6 +1,7 @@
 use Rattle.std.proofs.Common.{◌≡◌, ◌<◌, ◌≤◌, ◌+◌, List, length, map, take, None}
 use Rattle.std.specs.Option.{ForSome}
-use Rattle.el_rows.specs.Transaction.{tables_in, OnlyReads}
+use Rattle.el_rows.specs.Transaction.{tables_in, reads_in}
+use Rattle.el_rows.proofs.TransactionLemmas.{SoFar}
 use Rattle.el_rows.specs.declared.table.Table.TheVariants as table
 use Rattle.el_tables.specs.ChainLists.{ListedBlock}
 use Rattle.el_tables.specs.Lists as lists
@@ -17,18 +18,14 @@ abbrev pub invariant-loop-link : goal.invariant-loop-link
 invariant-loop-link g l =
     let shown = tables_in {G = g.R.Rows} l.fn.t in
     record {
-      tables : tables_in {G = g.R.Rows} l.t ≡ shown;
-      reads : OnlyReads {G = g.R.Rows} l.fn.t l.t;
-      name : l.t.rows.ghost_name ≡ l.fn.t.rows.ghost_name;
-      uncounted : g.R.Rows.faults l.t.rows.now ≡ g.R.Rows.faults l.fn.t.rows.now;
-      ticked : l.fn.steps ≤ l.steps;
+      read : SoFar {G = g.R.Rows} l.fn.t l.t;
       within : ForSome l.link (λ n. n < length (shown table.Txs));
       none : length (shown table.TxHeads) ≡ 0 → l.link ≡ None;
       walk : (counts : HeadCounts) (bs : List ListedBlock) (ls : lists.Lists) → g.R.Rows.tells → Hold counts bs ls shown → 0 < counts.txs
           → IsOlder l.o l.below no_tx ls.txs l.link;
-      steps : (counts : HeadCounts) (bs : List ListedBlock) (ls : lists.Lists) → g.R.Rows.tells → Hold counts bs ls shown → 0 < counts.txs
-          → l.steps + txs_with l.o.txid (take (end_of l.link) ls.txs)
-          ≤ l.fn.steps + (1 + bucket_size counts.txs l.o.txid (map (λ (x : lists.ListedTx). x.txid) ls.txs) + txs_with l.o.txid ls.txs);
+      rows : (counts : HeadCounts) (bs : List ListedBlock) (ls : lists.Lists) → g.R.Rows.tells → Hold counts bs ls shown → 0 < counts.txs
+          → reads_in {G = g.R.Rows} l.t + txs_with l.o.txid (take (end_of l.link) ls.txs)
+          ≤ reads_in {G = g.R.Rows} l.fn.t + (1 + bucket_size counts.txs l.o.txid (map (λ (x : lists.ListedTx). x.txid) ls.txs) + txs_with l.o.txid ls.txs);
     }
 
 abbrev pub decreases-loop-link : goal.decreases-loop-link

@@ -30,7 +30,7 @@ returns-in_default-clause-lists g c counts bs l told hold some =
     let found = of_value (λ (f : Option NamedOutput). f ≡ coin_among o c.count-below.result l) _ c.coin.result c.map_err.result c.in_ok-found.found c.map_err.ensures.cases c.in_ok-found.ensures.variant c.in_ok-found.was
     (c.coin.ensures.coin counts bs l told hold some) in
     let all = among_all o c.count-below.result l (c.count-below.ensures.count ∙ count_txs counts bs l shown hold) in
-    let after = subst (λ T. Hold counts bs l T) (sym c.coin.ensures.tables) hold in
+    let after = subst (λ T. Hold counts bs l T) (sym c.coin.ensures.read.tables) hold in
     unspent_hold counts bs l (tables_in {G = g.R.Rows} c.coin.new.t) o c.args.by (coin_number_none l.outs (output_number o l.txs) (sym c.in_default.is ∙ found ∙ all)) after
 
 pub take_coin-requires-clause-fits : goal.take_coin-requires-clause-fits
@@ -57,6 +57,6 @@ returns-clause-lists g c counts bs l told hold some =
     (c.coin.ensures.coin counts bs l told hold some) in
     let all = among_all o c.count-below.result l (c.count-below.ensures.count ∙ count_txs counts bs l shown hold) in
     let is = coin_number_is l.outs (output_number o l.txs) coin (sym c.in-Some.is ∙ found ∙ all) in
-    let before = subst (λ T. Hold counts bs l T) (sym c.coin.ensures.tables) hold in
+    let before = subst (λ T. Hold counts bs l T) (sym c.coin.ensures.read.tables) hold in
     spent_hold counts bs l (tables_in {G = g.R.Rows} c.take_coin.new.t) o c.args.by coin.number is.0 is.2
     (c.in_ok-take_coin.ensures.taken (in_appended coin.number tb) (Spent c.args.by) told (c.in_ok-append_input.ensures.appended tb before) is.1 refl)

@@ -1,6 +1,6 @@
 use Rattle.std.proofs.Common.{◌≡◌, ◌+◌, ◌-◌, ◌≤◌, Some, ℕ, length, option_map, slice_get, get_or, ap, ap₂, sym, subst, ◌∙◌, arith}
 use Rattle.std.proofs.lemmas.List.{length-take-le}
-use Rattle.el_rows.specs.Transaction.{tables_in}
+use Rattle.el_rows.specs.Transaction.{tables_in, reads_in}
 use Rattle.el_rows.specs.declared.out_row.OutRow.{OutRow}
 use Rattle.el_rows.specs.declared.table.Table.TheVariants as table
 use Rattle.el_tables.specs.Disconnecting.{but_last, last, take_back_output}
@@ -32,7 +32,7 @@ returns-clause-lists g c counts bs l told hold some fit =
     let fields : row ≡ out_fields last_out = found_at out_fields l.outs n no_out row is in
     let tx : row.tx ≡ last_out.tx = ap (λ (r : OutRow). r.tx) fields in
     let named : last l.outs ≡ Some last_out = last_at l.outs n no_out listed in
-    let before = subst (λ T. Hold counts bs l T) (sym c.out_row.ensures.tables) hold in
+    let before = subst (λ T. Hold counts bs l T) (sym c.out_row.ensures.read.tables) hold in
     let gone = last_gone counts bs l middle last_out named (c.in_ok-drop_output.ensures.dropped tb last_out told before fields) in
     let left : Lists = record l { outs = but_last l.outs } in
     let number : n ≡ length (but_last l.outs) = sym (ap length (but_last_at l.outs n listed) ∙ length-take-le n l.outs (omega (arith, listed))) in
@@ -41,8 +41,8 @@ returns-clause-lists g c counts bs l told hold some fit =
     on_success _ _ c.unbury.result (c.unbury.ensures.lists counts bs left told gone some fits)
     (λ enc. subst (λ (m : Lists). Hold counts bs m (tables_in {G = g.R.Rows} c.unbury.new.t)) whole enc)
 
-pub returns-clause-steps : goal.returns-clause-steps
-returns-clause-steps g c counts bs l x told hold some is_last =
+pub returns-clause-rows : goal.returns-clause-rows
+returns-clause-rows g c counts bs l x told hold some is_last =
     let shown = tables_in {G = g.R.Rows} c.args.t.now in
     let middle = tables_in {G = g.R.Rows} c.drop_output.new.t in
     let n = c.count-count.result - 1 in
@@ -57,11 +57,11 @@ returns-clause-steps g c counts bs l x told hold some is_last =
     let fields : row ≡ out_fields last_out = found_at out_fields l.outs n no_out row is in
     let tx : row.tx ≡ last_out.tx = ap (λ (r : OutRow). r.tx) fields in
     let named : last l.outs ≡ Some last_out = last_at l.outs n no_out listed in
-    let before = subst (λ T. Hold counts bs l T) (sym c.out_row.ensures.tables) hold in
+    let before = subst (λ T. Hold counts bs l T) (sym c.out_row.ensures.read.tables) hold in
     let gone = last_gone counts bs l middle last_out named (c.in_ok-drop_output.ensures.dropped tb last_out told before fields) in
     let left : Lists = record l { outs = but_last l.outs } in
     let both : Some last_out ≡ Some x = sym named ∙ is_last in
     let same : last_out ≡ x = cc in
     let by : row.tx ≡ x.tx = tx ∙ ap (λ (y : ListedOut). y.tx) same in
-    let bound = subst (λ (k : ℕ). c.unbury.new.steps ≤ c.drop_output.new.steps + rows_to_find counts.txs (txid_at k l.txs) l + 2) by (c.unbury.ensures.steps counts bs left told gone some) in
-    omega (arith, bound, c.drop_output.ensures.tick, c.out_row.ensures.tick)
+    let bound = subst (λ (k : ℕ). (reads_in {G = g.R.Rows} c.unbury.new.t) ≤ (reads_in {G = g.R.Rows} c.drop_output.new.t) + rows_to_find counts.txs (txid_at k l.txs) l + 2) by (c.unbury.ensures.rows counts bs left told gone some) in
+    omega (arith, bound, c.drop_output.ensures.rows, c.out_row.ensures.rows)

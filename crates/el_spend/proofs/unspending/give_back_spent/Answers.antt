@@ -23,7 +23,7 @@ returns-in_default-clause-lists g c counts bs l told hold fit =
     let k = c.args.k in
     let found = of_value (λ (f : Option NamedOutput). f ≡ output_at l.outs k) _ c.found_output.result c.map_err.result c.in_ok-found.found c.map_err.ensures.cases c.in_ok-found.ensures.variant c.in_ok-found.was
     (c.found_output.ensures.found (tables_of counts bs l) told hold) in
-    let after = subst (λ T. Hold counts bs l T) (sym c.found_output.ensures.tables) hold in
+    let after = subst (λ T. Hold counts bs l T) (sym c.found_output.ensures.read.tables) hold in
     kept_hold counts bs l (tables_in {G = g.R.Rows} c.found_output.new.t) k (past_not_spent k l.outs (named_none l.outs (Some k) k (sym c.in_default.is ∙ found) refl)) after
 
 pub returns-in-Spent-clause-lists : goal.returns-in-Spent-clause-lists
@@ -32,7 +32,7 @@ returns-in-Spent-clause-lists g c counts bs l told hold fit =
     let output = c.in-Some.output in
     let found = of_value (λ (f : Option NamedOutput). f ≡ output_at l.outs k) _ c.found_output.result c.map_err.result c.in_ok-found.found c.map_err.ensures.cases c.in_ok-found.ensures.variant c.in_ok-found.was
     (c.found_output.ensures.found (tables_of counts bs l) told hold) in
-    let before = subst (λ T. Hold counts bs l T) (sym c.found_output.ensures.tables) hold in
+    let before = subst (λ T. Hold counts bs l T) (sym c.found_output.ensures.read.tables) hold in
     let is = named_gives l.outs (Some k) output (sym c.in-Some.is ∙ found) in
     let number : output.number ≡ k = (let both = is.0 in cc) in
     let spent = row_spent c.in-Spent.field-0 l.outs output.number output.row is.1 c.in-Spent.is in
@@ -47,7 +47,7 @@ returns-in_default-state-clause-lists g c counts bs l told hold fit =
     let output = c.in-Some.output in
     let found = of_value (λ (f : Option NamedOutput). f ≡ output_at l.outs k) _ c.found_output.result c.map_err.result c.in_ok-found.found c.map_err.ensures.cases c.in_ok-found.ensures.variant c.in_ok-found.was
     (c.found_output.ensures.found (tables_of counts bs l) told hold) in
-    let after = subst (λ T. Hold counts bs l T) (sym c.found_output.ensures.tables) hold in
+    let after = subst (λ T. Hold counts bs l T) (sym c.found_output.ensures.read.tables) hold in
     let is = named_gives l.outs (Some k) output (sym c.in-Some.is ∙ found) in
     let number : output.number ≡ k = (let both = is.0 in cc) in
     let kept = row_not_spent l.outs output.number output.row is.1 c.in_default-state.not-Spent in

@@ -27,8 +27,8 @@ returns-clause-lists g c counts bs l told hold fit =
     (c.in_row.ensures.row tb told hold) in
     let out : row.out ≡ get_or l.ins n 0 = ap (λ (r : InRow). r.out) (found_at in_fields l.ins n 0 row is) in
     let named : last l.ins ≡ Some row.out = last_at l.ins n 0 (omega (arith, long, many)) ∙ ap Some (sym out) in
-    let before = subst (λ T. Hold counts bs l T) (sym c.in_row.ensures.tables) hold in
+    let before = subst (λ T. Hold counts bs l T) (sym c.in_row.ensures.read.tables) hold in
     let given = c.in_ok-give_back_spent.ensures.lists counts bs l told before (subst (λ (r : Option ℕ). BalancesFit (give_back r l.outs)) named fit) in
-    let ins : length (middle table.Ins) ≡ n + 1 = ap length (c.give_back_spent.ensures.others table.Ins (λ q. cc) (λ q. cc)) ∙ ap (λ (T : Tables). length (T table.Ins)) c.in_row.ensures.tables ∙ long in
+    let ins : length (middle table.Ins) ≡ n + 1 = ap length (c.give_back_spent.ensures.others table.Ins (λ q. cc) (λ q. cc)) ∙ ap (λ (T : Tables). length (T table.Ins)) c.in_row.ensures.read.tables ∙ long in
     let enc = in_less middle after (tables_of counts bs (spent_given_back row.out l)) given n ins c.shrink.ensures.shrunk in
     subst (λ (r : Option ℕ). Encode after (tables_of counts bs (record l { outs = give_back r l.outs; ins = but_last l.ins }))) (sym named) enc

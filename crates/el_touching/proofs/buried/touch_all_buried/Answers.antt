@@ -1,6 +1,6 @@
 use Rattle.std.proofs.Common.{◌<◌, ◌≤◌, length, sym, subst, ◌∙◌, arith}
 use Rattle.el_rows.specs.Transaction.{tables_in}
-use Rattle.el_rows.proofs.ReadsLemmas.{read_joined}
+use Rattle.el_rows.proofs.TransactionLemmas.{more}
 use Rattle.el_buckets.specs.Rows.{Hold}
 use Rattle.el_buckets.proofs.Held.{count_txs}
 use Rattle.el_touching.specs.within.Found.{buries}
@@ -9,14 +9,10 @@ use Rattle.el_touching.proofs.buried.touch_all_buried.Goals as goal
 
 pub loop-tx-preserved : goal.loop-tx-preserved
 loop-tx-preserved g c = record {
-  tables = c.touch_buried.ensures.tables ∙ c.loop-tx.invariant.tables;
-  reads = read_joined _ _ _ _ _ _ _ c.args.t.now.rows.now c.loop-tx.t.rows.now c.touch_buried.new.t.rows.now c.loop-tx.invariant.reads c.touch_buried.ensures.reads;
-  name = c.touch_buried.ensures.name ∙ c.loop-tx.invariant.name;
-  uncounted = c.in_ok-touch_buried.ensures.cause.uncounted ∙ c.loop-tx.invariant.uncounted;
-  ticked = omega (arith, c.touch_buried.ensures.ticked, c.loop-tx.invariant.ticked);
+  read = more c.loop-tx.invariant.read c.in_ok-touch_buried.ensures.read;
   walk = λ counts bs l s told hold some.
       let many = count_txs counts bs l (tables_in {G = g.R.Rows} c.args.t.now) hold in
-      let before = subst (λ T. Hold counts bs l T) (sym c.loop-tx.invariant.tables) hold in
+      let before = subst (λ T. Hold counts bs l T) (sym c.loop-tx.invariant.read.tables) hold in
       let lt : c.loop-tx.tx < length l.txs = omega (arith, many, c.count-tx-end.ensures.count, c.loop-tx-test.true) in
       numbers_step (buries s l) c.loop-tx.tx (length l.txs) _ _ _ lt
       (c.loop-tx.invariant.walk counts bs l s told hold some) (c.in_ok-touch_buried.ensures.touched counts bs l s told before some);

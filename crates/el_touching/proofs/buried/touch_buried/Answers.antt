@@ -5,7 +5,7 @@ use Rattle.el_chain.proofs.TouchLemmas.{or_nothing}
 use Rattle.el_rows.specs.Tables.{Tables}
 use Rattle.el_rows.specs.declared.table.Table.TheVariants as table
 use Rattle.el_rows.specs.Transaction.{tables_in}
-use Rattle.el_rows.proofs.ReadsLemmas.{read_joined}
+use Rattle.el_rows.proofs.TransactionLemmas.{more}
 use Rattle.el_tables.specs.Tables.{tables_of, numbers_from}
 use Rattle.el_buckets.specs.Rows.{Hold}
 use Rattle.el_spend.proofs.Rows.{count_outs}
@@ -21,13 +21,9 @@ returns-then-is_none-clause-touched g c counts bs l s told hold some =
 
 pub loop-index-preserved : goal.loop-index-preserved
 loop-index-preserved g c = record {
-  tables = c.touch_buried_at.ensures.tables ∙ c.loop-index.invariant.tables;
-  reads = read_joined _ _ _ _ _ _ _ c.args.t.now.rows.now c.loop-index.t.rows.now c.touch_buried_at.new.t.rows.now c.loop-index.invariant.reads c.touch_buried_at.ensures.reads;
-  name = c.touch_buried_at.ensures.name ∙ c.loop-index.invariant.name;
-  uncounted = c.in_ok-touch_buried_at.ensures.cause.uncounted ∙ c.loop-index.invariant.uncounted;
-  ticked = omega (arith, c.touch_buried_at.ensures.ticked, c.loop-index.invariant.ticked);
+  read = more c.loop-index.invariant.read c.in_ok-touch_buried_at.ensures.read;
   walk = λ counts bs l s told hold some.
-      let before = subst (λ T. Hold counts bs l T) (sym c.loop-index.invariant.tables) hold in
+      let before = subst (λ T. Hold counts bs l T) (sym c.loop-index.invariant.read.tables) hold in
       numbers_step (λ (i : ℕ). buries_at s c.args.tx l (record { txid = c.in_ok-row.row.txid; index = i })) c.loop-index.index c.min-outs.result _ _ _ c.loop-index-test.true
       (c.loop-index.invariant.walk counts bs l s told hold some) (c.in_ok-touch_buried_at.ensures.touched counts bs l s told before some);
 }
@@ -38,7 +34,7 @@ returns-clause-touched g c counts bs l s told hold some =
     let old = list_any (same_hash s) c.args.touched.now in
     let told_tx = tx_read counts.txs l.txs 0 l.txs c.args.tx row (c.in_ok-row.ensures.row (tables_of counts bs l) told hold) in
     let test = λ (i : ℕ). buries_at s c.args.tx l (record { txid = row.txid; index = i }) in
-    let many : c.count.result ≡ length l.outs = c.count.ensures.count ∙ ap (λ (T : Tables). length (T table.Outs)) c.tx_row.ensures.tables ∙ count_outs (tables_in {G = g.R.Rows} c.args.t.now) (tables_in {G = g.R.Rows} c.args.t.now) (tables_of counts bs l) hold in
+    let many : c.count.result ≡ length l.outs = c.count.ensures.count ∙ ap (λ (T : Tables). length (T table.Outs)) c.tx_row.ensures.read.tables ∙ count_outs (tables_in {G = g.R.Rows} c.args.t.now) (tables_in {G = g.R.Rows} c.args.t.now) (tables_of counts bs l) hold in
     let capped : list_any test (numbers_from 0 c.min-outs.result) ≡ list_any test (numbers_from 0 row.outs) =
     any_capped test row.outs (length l.outs) c.min-outs.result (omega (arith, many, c.min-outs.ensures)) (λ i le. past_buries s c.args.tx l row.txid i le) in
     numbers_end test c.loop-index.index c.min-outs.result _ _ c.loop-index-test.false (c.loop-index.invariant.walk counts bs l s told hold some)

@@ -13,7 +13,7 @@ returns-in-Buried-clause-touched g c counts bs l s told hold some =
     let x = c.in-Some.found in
     let old = list_any (same_hash s) c.args.touched.now in
     let now = list_any (same_hash s) c.touch_script.new.touched in
-    let before = subst (λ T. Hold counts bs l T) (sym c.named_output.ensures.tables) hold in
+    let before = subst (λ T. Hold counts bs l T) (sym c.named_output.ensures.read.tables) hold in
     let found = sym c.in-Some.is ∙ c.in_ok-found.ensures.named counts bs l told hold some in
     let is = buried_here s c.args.tx c.in-Buried.by l x (output_number c.args.o.now (take c.args.tx l.txs)) found c.in-Buried.is c.if-by-tx.true in
     on_success (now ≡ (old || is_at s l.scripts x.row.script)) (now ≡ (old || buries_at s c.args.tx l c.args.o.now)) c.touch_script.result

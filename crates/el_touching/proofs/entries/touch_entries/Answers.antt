@@ -2,7 +2,7 @@ use Rattle.std.proofs.Common.{◌≡◌, ◌+◌, ◌-◌, ◌||◌, ℕ, refl, 
 use Rattle.std.specs.List.{list_any}
 use Rattle.el_chain.specs.Headers.{same_hash}
 use Rattle.el_rows.specs.Transaction.{tables_in}
-use Rattle.el_rows.proofs.ReadsLemmas.{read_joined, read_none}
+use Rattle.el_rows.proofs.TransactionLemmas.{more, nothing}
 use Rattle.el_tables.specs.Tables.{tables_of}
 use Rattle.el_buckets.specs.Rows.{Hold}
 use Rattle.el_touching.specs.within.Found.{is_entry_of}
@@ -13,11 +13,7 @@ pub loop-n-init : goal.loop-n-init
 loop-n-init g c =
     let shown = tables_in {G = g.R.Rows} c.args.t.now in
     record {
-      tables = refl;
-      reads = read_none _ _ _ _ _ _ _ c.args.t.now.rows.now c.requires.live (λ d told left. g.met.R.Rows.leaves_lists c.args.t.now.rows.now d told c.requires.live left);
-      name = refl;
-      uncounted = refl;
-      ticked = omega arith;
+      read = nothing c.args.t.now c.requires.live;
       within = omega (arith, c.count-n.ensures.count);
       walk = λ counts bs l s before own told hold split last.
           entries_begin (is_entry_of s l) l.entries before own c.count-n.result (list_any (same_hash s) c.args.touched.now) split (c.count-n.ensures.count ∙ count_entries counts bs l shown hold);
@@ -28,7 +24,7 @@ returns-then-entry-first-clause-touched g c counts bs l s before own told hold s
     let n = c.loop-n.n in
     let now = list_any (same_hash s) c.loop-n.touched in
     let all = list_any (same_hash s) c.args.touched.now || list_any (is_entry_of s l) own in
-    let here = subst (λ T. Hold counts bs l T) (sym c.loop-n.invariant.tables) hold in
+    let here = subst (λ T. Hold counts bs l T) (sym c.loop-n.invariant.read.tables) hold in
     let read = entry_read l.entries 0 l.entries (n - 1) c.in_ok-entry.entry (c.in_ok-entry.ensures.row (tables_of counts bs l) told here) in
     let one : n ≡ n - 1 + 1 = omega (arith, c.loop-n-test.true) in
     entry_ends (is_entry_of s l) c.args.first l.entries before own (n - 1) (listed_entry c.in_ok-entry.entry) now all split last read c.if-entry-first.true
@@ -38,18 +34,13 @@ pub loop-n-preserved : goal.loop-n-preserved
 loop-n-preserved g c =
     let n = c.loop-n.n in
     record {
-      tables = c.touch_script.ensures.tables ∙ c.entry_row.ensures.tables ∙ c.loop-n.invariant.tables;
-      reads = read_joined _ _ _ _ _ _ _ c.args.t.now.rows.now c.entry_row.new.t.rows.now c.touch_script.new.t.rows.now
-          (read_joined _ _ _ _ _ _ _ c.args.t.now.rows.now c.loop-n.t.rows.now c.entry_row.new.t.rows.now c.loop-n.invariant.reads c.entry_row.ensures.reads) c.touch_script.ensures.reads;
-      name = c.touch_script.ensures.name ∙ c.entry_row.ensures.name ∙ c.loop-n.invariant.name;
-      uncounted = c.in_ok-touch_script.ensures.cause.uncounted ∙ c.in_ok-entry.ensures.cause.uncounted ∙ c.loop-n.invariant.uncounted;
-      ticked = omega (arith, c.touch_script.ensures.ticked, c.entry_row.ensures.ticked, c.loop-n.invariant.ticked);
+      read = more (more c.loop-n.invariant.read c.in_ok-entry.ensures.read) c.in_ok-touch_script.ensures.read;
       within = omega (arith, c.loop-n.invariant.within);
       walk = λ counts bs l s before own told hold split last.
           let now = list_any (same_hash s) c.loop-n.touched in
           let all = list_any (same_hash s) c.args.touched.now || list_any (is_entry_of s l) own in
-          let here = subst (λ T. Hold counts bs l T) (sym c.loop-n.invariant.tables) hold in
-          let next = subst (λ T. Hold counts bs l T) (sym c.entry_row.ensures.tables) here in
+          let here = subst (λ T. Hold counts bs l T) (sym c.loop-n.invariant.read.tables) hold in
+          let next = subst (λ T. Hold counts bs l T) (sym c.entry_row.ensures.read.tables) here in
           let read = entry_read l.entries 0 l.entries (n - 1) c.in_ok-entry.entry (c.in_ok-entry.ensures.row (tables_of counts bs l) told here) in
           let one : n ≡ n - 1 + 1 = omega (arith, c.loop-n-test.true) in
           entry_step (is_entry_of s l) c.args.first l.entries before own (n - 1) (listed_entry c.in_ok-entry.entry) now (list_any (same_hash s) c.touch_script.new.touched) all split last read c.if-entry-first.false

@@ -2,7 +2,8 @@ use Rattle.std.proofs.Common.{◌≡◌, ◌≤◌, ◌||◌, ◌++◌, List, le
 use Rattle.std.specs.List.{list_any}
 use Rattle.el_base.specs.declared.hash.Hash32 as hash
 use Rattle.el_chain.specs.Headers.{same_hash}
-use Rattle.el_rows.specs.Transaction.{tables_in, OnlyReads}
+use Rattle.el_rows.specs.Transaction.{tables_in}
+use Rattle.el_rows.proofs.TransactionLemmas.{SoFar}
 use Rattle.el_rows.specs.declared.table.Table.TheVariants as table
 use Rattle.el_tables.specs.ChainLists.{ListedBlock}
 use Rattle.el_tables.specs.Lists.{Lists, ListedEntry}
@@ -16,11 +17,7 @@ abbrev pub invariant-loop-n : goal.invariant-loop-n
 invariant-loop-n g l =
     let shown = tables_in {G = g.R.Rows} l.fn.t in
     record {
-      tables : tables_in {G = g.R.Rows} l.t ≡ shown;
-      reads : OnlyReads {G = g.R.Rows} l.fn.t l.t;
-      name : l.t.rows.ghost_name ≡ l.fn.t.rows.ghost_name;
-      uncounted : g.R.Rows.faults l.t.rows.now ≡ g.R.Rows.faults l.fn.t.rows.now;
-      ticked : l.fn.steps ≤ l.steps;
+      read : SoFar {G = g.R.Rows} l.fn.t l.t;
       within : l.n ≤ length (shown table.Entries);
       walk : (counts : HeadCounts) (bs : List ListedBlock) (ls : Lists) (s : hash.Hash32) (before own : List ListedEntry) → g.R.Rows.tells → Hold counts bs ls shown
           → ls.entries ≡ before ++ own → AreLast l.first before own

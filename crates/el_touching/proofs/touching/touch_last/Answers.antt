@@ -28,8 +28,8 @@ returns-clause-touched g c chain b s told stand =
     let first : Some c.in-Some.first ≡ Some (length (positions chain)) =
     sym c.in-Some.is ∙ c.in_ok-first.ensures.first (heads_in all) (listed_blocks all) (lists all) told hold ∙ last_first chain b in
     let tells = subst (TellsLast s chain b) (all_told first) (last_told s chain b) in
-    let hold_2 = subst (λ T. Hold (heads_in all) (listed_blocks all) (lists all) T) (sym c.first_tx.ensures.tables) hold in
-    let hold_3 = subst (λ T. Hold (heads_in all) (listed_blocks all) (lists all) T) (sym c.touch_entries.ensures.tables) hold_2 in
+    let hold_2 = subst (λ T. Hold (heads_in all) (listed_blocks all) (lists all) T) (sym c.first_tx.ensures.read.tables) hold in
+    let hold_3 = subst (λ T. Hold (heads_in all) (listed_blocks all) (lists all) T) (sym c.touch_entries.ensures.read.tables) hold_2 in
     let old = list_any (same_hash s) c.args.touched.now in
     let mid = list_any (same_hash s) c.touch_entries.new.touched in
     let now = list_any (same_hash s) c.touch_all_buried.new.touched in

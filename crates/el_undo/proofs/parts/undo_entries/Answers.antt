@@ -1,5 +1,5 @@
 use Rattle.std.proofs.Common.{◌≡◌, ◌∙◌, ℕ, true, false, length, subst, sym, ap, arith}
-use Rattle.el_rows.proofs.ReadsLemmas.{read_joined}
+use Rattle.el_rows.proofs.TransactionLemmas.{more_edits, more_read}
 use Rattle.el_rows.specs.Transaction.{tables_in}
 use Rattle.el_tables.specs.Disconnecting.{last, is_entry_of, take_back_entries, take_back_entry}
 use Rattle.el_tables.specs.Lists.{Lists}
@@ -14,20 +14,15 @@ loop-done-preserved g c = record {
   lists = λ counts bs l told hold numbered.
       let back = c.loop-done.invariant.lists counts bs l told hold numbered in
       let is : is_entry_of c.args.tx (last back.now.entries) ≡ true = sym (c.in_ok-is_last_entry.ensures.is counts bs back.now told back.hold) ∙ c.if-not-branch.false in
-      let before = subst (λ T. Hold counts bs back.now T) (sym c.is_last_entry.ensures.tables) back.hold in
+      let before = subst (λ T. Hold counts bs back.now T) (sym c.is_last_entry.ensures.read.tables) back.hold in
       record {
         now = take_back_entry back.now;
         hold = c.in_ok-take_back_entry.ensures.lists counts bs back.now told before back.numbered;
         numbered = entry_back_numbers back.now back.numbered;
         whole = entry_on c.count-most.result c.loop-done.done c.args.tx l back.now c.loop-done-test.true back.whole is;
       };
-  others = λ u a b d. c.take_back_entry.ensures.others u a b d ∙ ap (λ T. T u) c.is_last_entry.ensures.tables ∙ c.loop-done.invariant.others u a b d;
-  reads = read_joined _ _ _ _ _ _ _ c.args.t.now.rows.now c.is_last_entry.new.t.rows.now c.take_back_entry.new.t.rows.now
-      (read_joined _ _ _ _ _ _ _ c.args.t.now.rows.now c.loop-done.t.rows.now c.is_last_entry.new.t.rows.now c.loop-done.invariant.reads c.is_last_entry.ensures.reads)
-      c.take_back_entry.ensures.reads;
-  name = c.take_back_entry.ensures.name ∙ c.is_last_entry.ensures.name ∙ c.loop-done.invariant.name;
-  uncounted = c.in_ok-take_back_entry.ensures.cause.uncounted ∙ c.in_ok-is_last_entry.ensures.cause.uncounted ∙ c.loop-done.invariant.uncounted;
-  ticked = omega (arith, c.take_back_entry.ensures.ticked, c.is_last_entry.ensures.ticked, c.loop-done.invariant.ticked);
+  others = λ u a b d. c.take_back_entry.ensures.others u a b d ∙ ap (λ T. T u) c.is_last_entry.ensures.read.tables ∙ c.loop-done.invariant.others u a b d;
+  edits = more_edits (more_read c.loop-done.invariant.edits c.in_ok-is_last_entry.ensures.read) c.in_ok-take_back_entry.ensures.edits;
   within = omega (arith, c.loop-done-test.true);
 }
 
@@ -35,7 +30,7 @@ pub returns-then-not-branch-clause-lists : goal.returns-then-not-branch-clause-l
 returns-then-not-branch-clause-lists g c counts bs l told hold numbered =
     let back = c.loop-done.invariant.lists counts bs l told hold numbered in
     let is : is_entry_of c.args.tx (last back.now.entries) ≡ false = sym (c.in_ok-is_last_entry.ensures.is counts bs back.now told back.hold) ∙ c.if-not-branch.true in
-    let after = subst (λ T. Hold counts bs back.now T) (sym c.is_last_entry.ensures.tables) back.hold in
+    let after = subst (λ T. Hold counts bs back.now T) (sym c.is_last_entry.ensures.read.tables) back.hold in
     let many : c.count-most.result ≡ length l.entries = c.count-most.ensures.count ∙ count_entries counts bs l (tables_in {G = g.R.Rows} c.args.t.now) hold in
     subst (λ (x : Lists). Hold counts bs x (tables_in {G = g.R.Rows} c.is_last_entry.new.t))
     (entry_stop c.count-most.result c.loop-done.done c.args.tx l back.now c.loop-done-test.true back.whole is ∙ ap (λ (k : ℕ). take_back_entries k c.args.tx l) many) after

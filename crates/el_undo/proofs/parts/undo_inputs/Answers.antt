@@ -1,5 +1,5 @@
 use Rattle.std.proofs.Common.{◌∙◌, ◌+◌, subst, sym, arith}
-use Rattle.el_rows.proofs.ReadsLemmas.{read_joined}
+use Rattle.el_rows.proofs.TransactionLemmas.{more_edits}
 use Rattle.el_rows.specs.Transaction.{tables_in}
 use Rattle.el_tables.specs.Disconnecting.{times, unspend}
 use Rattle.el_tables.specs.Lists.{Lists}
@@ -18,9 +18,6 @@ loop-done-preserved g c = record {
       subst (λ (x : Lists). Hold counts bs x (tables_in {G = g.R.Rows} c.unspend.new.t)) one
       (c.in_ok-unspend.ensures.lists counts bs (times n unspend l) told before fits);
   others = λ u a b d. c.unspend.ensures.others u a b d ∙ c.loop-done.invariant.others u a b d;
-  reads = read_joined _ _ _ _ _ _ _ c.args.t.now.rows.now c.loop-done.t.rows.now c.unspend.new.t.rows.now c.loop-done.invariant.reads c.unspend.ensures.reads;
-  name = c.unspend.ensures.name ∙ c.loop-done.invariant.name;
-  uncounted = c.in_ok-unspend.ensures.cause.uncounted ∙ c.loop-done.invariant.uncounted;
-  ticked = omega (arith, c.unspend.ensures.ticked, c.loop-done.invariant.ticked);
+  edits = more_edits c.loop-done.invariant.edits c.in_ok-unspend.ensures.edits;
   within = omega (arith, c.loop-done-test.true);
 }

@@ -1,5 +1,5 @@
 use Rattle.std.proofs.Common.{◌∙◌, ◌+◌, subst, sym, arith}
-use Rattle.el_rows.proofs.ReadsLemmas.{read_joined}
+use Rattle.el_rows.proofs.TransactionLemmas.{more_edits}
 use Rattle.el_rows.specs.Transaction.{tables_in}
 use Rattle.el_tables.specs.Disconnecting.{times, take_back_output}
 use Rattle.el_tables.specs.Lists.{Lists}
@@ -18,9 +18,6 @@ loop-done-preserved g c = record {
       subst (λ (x : Lists). Hold counts bs x (tables_in {G = g.R.Rows} c.take_back_out.new.t)) one
       (c.in_ok-take_back_out.ensures.lists counts bs (times n take_back_output l) told before some fits);
   others = λ u a b. c.take_back_out.ensures.others u a b ∙ c.loop-done.invariant.others u a b;
-  reads = read_joined _ _ _ _ _ _ _ c.args.t.now.rows.now c.loop-done.t.rows.now c.take_back_out.new.t.rows.now c.loop-done.invariant.reads c.take_back_out.ensures.reads;
-  name = c.take_back_out.ensures.name ∙ c.loop-done.invariant.name;
-  uncounted = c.in_ok-take_back_out.ensures.cause.uncounted ∙ c.loop-done.invariant.uncounted;
-  ticked = omega (arith, c.take_back_out.ensures.ticked, c.loop-done.invariant.ticked);
+  edits = more_edits c.loop-done.invariant.edits c.in_ok-take_back_out.ensures.edits;
   within = omega (arith, c.loop-done-test.true);
 }

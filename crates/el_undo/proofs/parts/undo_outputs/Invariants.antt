@@ -1,5 +1,6 @@
 use Rattle.std.proofs.Common.{◌≡◌, ◌≢◌, ◌<◌, ◌≤◌, List}
-use Rattle.el_rows.specs.Transaction.{tables_in, OnlyReads}
+use Rattle.el_rows.specs.Transaction.{tables_in}
+use Rattle.el_rows.proofs.TransactionLemmas.{EditedSoFar}
 use Rattle.el_rows.specs.declared.table.Table.{Table}
 use Rattle.el_rows.specs.declared.table.Table.TheVariants as table
 use Rattle.el_tables.specs.ChainLists.{ListedBlock}
@@ -18,9 +19,6 @@ invariant-loop-done g l =
       lists : (counts : HeadCounts) (bs : List ListedBlock) (ls : lists.Lists) → g.R.Rows.tells → Hold counts bs ls shown → 0 < counts.txs
           → FitAfter l.count take_back_output ls → Hold counts bs (times l.done take_back_output ls) (tables_in {G = g.R.Rows} l.t);
       others : (u : Table) → u ≢ table.Outs → u ≢ table.Scripts → tables_in {G = g.R.Rows} l.t u ≡ shown u;
-      reads : OnlyReads {G = g.R.Rows} l.fn.t l.t;
-      name : l.t.rows.ghost_name ≡ l.fn.t.rows.ghost_name;
-      uncounted : g.R.Rows.faults l.t.rows.now ≡ g.R.Rows.faults l.fn.t.rows.now;
-      ticked : l.fn.steps ≤ l.steps;
+      edits : EditedSoFar {G = g.R.Rows} l.fn.t l.t;
       within : l.done ≤ l.count;
     }

@@ -13,5 +13,5 @@ pub returns-in-Ok-Some-clause-lists : goal.returns-in-Ok-Some-clause-lists
 returns-in-Ok-Some-clause-lists g c counts bs l can told hold some =
     let found = rw c.in-Ok-Some.field-0-is at (c.in-Ok-Some.ensures.last counts bs l told hold) in
     let is = row_is c.in-Ok-Some.row can.tx l found can.is_last in
-    let before = subst (λ T. Hold counts bs l T) (sym c.last_tx.ensures.tables) hold in
+    let before = subst (λ T. Hold counts bs l T) (sym c.last_tx.ensures.read.tables) hold in
     c.undo_tx.ensures.lists counts bs l can told before some (sym (ap (λ (t : ListedTx). t.outs) is)) (sym (ap (λ (t : ListedTx). t.ins) is))

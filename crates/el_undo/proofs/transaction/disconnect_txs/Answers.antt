@@ -1,5 +1,5 @@
 use Rattle.std.proofs.Common.{◌∙◌, subst, arith}
-use Rattle.el_rows.proofs.ReadsLemmas.{read_joined}
+use Rattle.el_rows.proofs.TransactionLemmas.{more_edits}
 use Rattle.el_rows.specs.Transaction.{tables_in}
 use Rattle.el_tables.specs.Disconnecting.{times, disconnect_tx}
 use Rattle.el_tables.specs.Lists.{Lists}
@@ -15,9 +15,6 @@ loop-done-preserved g c = record {
       subst (λ (x : Lists). Hold counts bs x (tables_in {G = g.R.Rows} c.disconnect_tx.new.t)) (times_on n disconnect_tx l)
       (c.in_ok-disconnect_tx.ensures.lists counts bs (times n disconnect_tx l) (can n (omega (arith, c.loop-done-test.true))) told before some);
   blocks = c.disconnect_tx.ensures.blocks ∙ c.loop-done.invariant.blocks;
-  reads = read_joined _ _ _ _ _ _ _ c.args.t.now.rows.now c.loop-done.t.rows.now c.disconnect_tx.new.t.rows.now c.loop-done.invariant.reads c.disconnect_tx.ensures.reads;
-  name = c.disconnect_tx.ensures.name ∙ c.loop-done.invariant.name;
-  uncounted = c.in_ok-disconnect_tx.ensures.cause.uncounted ∙ c.loop-done.invariant.uncounted;
-  ticked = omega (arith, c.disconnect_tx.ensures.ticked, c.loop-done.invariant.ticked);
+  edits = more_edits c.loop-done.invariant.edits c.in_ok-disconnect_tx.ensures.edits;
   within = omega (arith, c.loop-done-test.true);
 }

@@ -16,16 +16,16 @@ returns-in_err-edit-clause-crash_failed g c chain told stand fits failed =
     let r = g.R.Rows in (
       chain,
       inl refl,
-      λ crash. only_read r.lists r.counts r.is_live r.tells_crash r.moment r.left_since r.shows c.args.self.now.rows c.edit.new.t.rows.now _ chain chain
-          (rw c.new-txn.ensures.below at c.edit.ensures.reads) stand c.drop-txn.ensures crash,
+      λ crash. only_read r.lists r.counts r.is_live r.tells_crash r.moment r.left_since r.shows g.met.R.Rows.leaves_lists c.args.self.now.rows c.edit.new.t.rows.now _ chain chain c.requires.live
+          (rw c.new-txn.ensures.below at c.edit.ensures.edits.only) stand c.drop-txn.ensures crash,
     )
 
 -- the row of the last block wasn't read
 pub returns-in_err-hash-clause-crash_failed : goal.returns-in_err-hash-clause-crash_failed
 returns-in_err-hash-clause-crash_failed g c chain told stand fits failed =
     let r = g.R.Rows in
-    let reads = read_joined r.lists r.counts r.is_live r.tells_crash r.moment r.left_since r.shows c.args.self.now.rows c.edit.new.t.rows.now c.hash_after.new.t.rows.now (rw c.new-txn.ensures.below at c.edit.ensures.reads) c.hash_after.ensures.reads in
-    (chain, inl refl, λ crash. only_read r.lists r.counts r.is_live r.tells_crash r.moment r.left_since r.shows c.args.self.now.rows c.hash_after.new.t.rows.now _ chain chain reads stand c.drop-txn-in_err-hash.ensures crash)
+    let reads = read_joined r.lists r.counts r.is_live r.tells_crash r.moment r.left_since c.args.self.now.rows c.edit.new.t.rows.now c.hash_after.new.t.rows.now (rw c.new-txn.ensures.below at c.edit.ensures.edits.only) c.hash_after.ensures.read.only in
+    (chain, inl refl, λ crash. only_read r.lists r.counts r.is_live r.tells_crash r.moment r.left_since r.shows g.met.R.Rows.leaves_lists c.args.self.now.rows c.hash_after.new.t.rows.now _ chain chain c.requires.live reads stand c.drop-txn-in_err-hash.ensures crash)
 
 -- it failed
 pub returns-in-Err-DiskFailed-clause-crash_failed : goal.returns-in-Err-DiskFailed-clause-crash_failed
@@ -34,12 +34,12 @@ returns-in-Err-DiskFailed-clause-crash_failed g c chain told stand fits failed =
     let p = c.args.plan.now in
     let mid = c.hash_after.new.t.rows.now in
     let there = under (r.lists mid) c.in_ok-sealed.sealed.counts c.in_ok-sealed.sealed.changes in
-    let reads = read_joined r.lists r.counts r.is_live r.tells_crash r.moment r.left_since r.shows c.args.self.now.rows c.edit.new.t.rows.now mid (rw c.new-txn.ensures.below at c.edit.ensures.reads) c.hash_after.ensures.reads in
+    let reads = read_joined r.lists r.counts r.is_live r.tells_crash r.moment r.left_since c.args.self.now.rows c.edit.new.t.rows.now mid (rw c.new-txn.ensures.below at c.edit.ensures.edits.only) c.hash_after.ensures.read.only in
     let done = c.in_ok-edit.ensures.moved chain told (same_stand _ (tables_in {G = r} c.new-txn.result) chain stand (c.new-txn.ensures.tables told)) fits in
-    let sealed = moved_rows p chain c.args.texts.now _ _ there done.0 done.1 (λ t. c.in_ok-sealed.ensures.tables t ∙ ap (λ (T : Tables). T t) c.hash_after.ensures.tables) in (
+    let sealed = moved_rows p chain c.args.texts.now _ _ there done.0 done.1 (λ t. c.in_ok-sealed.ensures.tables t ∙ ap (λ (T : Tables). T t) c.hash_after.ensures.read.tables) in (
       target p chain done.0,
       inr (done.0, done.1.next, refl),
-      λ crash. begun r.lists r.counts r.is_live r.tells_crash r.moment r.left_since r.shows c.args.self.now.rows mid _ there chain (target p chain done.0) reads stand sealed.stand (rw c.in_ok-sealed.ensures.rows at c.commit.ensures.crash crash) crash,
+      λ crash. begun r.lists r.counts r.is_live r.tells_crash r.moment r.left_since r.shows g.met.R.Rows.leaves_lists c.args.self.now.rows mid _ there chain (target p chain done.0) c.requires.live reads stand sealed.stand (rw c.in_ok-sealed.ensures.rows at c.commit.ensures.crash crash) crash,
     )
 
 -- the move is made
@@ -49,14 +49,14 @@ returns-in-Ok-clause-moved g c chain told stand fits =
     let p = c.args.plan.now in
     let mid = c.hash_after.new.t.rows.now in
     let there = under (r.lists mid) c.in_ok-sealed.sealed.counts c.in_ok-sealed.sealed.changes in
-    let reads = read_joined r.lists r.counts r.is_live r.tells_crash r.moment r.left_since r.shows c.args.self.now.rows c.edit.new.t.rows.now mid (rw c.new-txn.ensures.below at c.edit.ensures.reads) c.hash_after.ensures.reads in
+    let reads = read_joined r.lists r.counts r.is_live r.tells_crash r.moment r.left_since c.args.self.now.rows c.edit.new.t.rows.now mid (rw c.new-txn.ensures.below at c.edit.ensures.edits.only) c.hash_after.ensures.read.only in
     let done = c.in_ok-edit.ensures.moved chain told (same_stand _ (tables_in {G = r} c.new-txn.result) chain stand (c.new-txn.ensures.tables told)) fits in
-    let sealed = moved_rows p chain c.args.texts.now _ _ there done.0 done.1 (λ t. c.in_ok-sealed.ensures.tables t ∙ ap (λ (T : Tables). T t) c.hash_after.ensures.tables) in (
+    let sealed = moved_rows p chain c.args.texts.now _ _ there done.0 done.1 (λ t. c.in_ok-sealed.ensures.tables t ∙ ap (λ (T : Tables). T t) c.hash_after.ensures.read.tables) in (
       done.0,
       moved_rows p chain c.args.texts.now _ there _ done.0 sealed (rw c.in_ok-sealed.ensures.rows at c.in-Ok.ensures.lists told),
       tip_moved p chain c.args.texts.now _ _ done.0 _ done.1 c.requires.plan c.requires.of (rw c.as_slice.ensures at c.in_ok-hash.ensures.last)
           (λ none. c.in_ok-hash.ensures.tip (target p chain done.0) told done.1.stand (c.as_slice.ensures ∙ none)),
-      λ crash. begun r.lists r.counts r.is_live r.tells_crash r.moment r.left_since r.shows c.args.self.now.rows mid _ there chain (target p chain done.0) reads stand sealed.stand (rw c.in_ok-sealed.ensures.rows at c.commit.ensures.crash crash) crash,
+      λ crash. begun r.lists r.counts r.is_live r.tells_crash r.moment r.left_since r.shows g.met.R.Rows.leaves_lists c.args.self.now.rows mid _ there chain (target p chain done.0) c.requires.live reads stand sealed.stand (rw c.in_ok-sealed.ensures.rows at c.commit.ensures.crash crash) crash,
     )
 
 -- the number of blocks goes by the plan
@@ -67,5 +67,5 @@ returns-in-Ok-clause-top g c =
     c.in-Ok.ensures.counts table.Blocks
     ∙ sym (length-under (r.lists c.hash_after.new.t.rows.now) c.in_ok-sealed.sealed.counts c.in_ok-sealed.sealed.changes table.Blocks)
     ∙ ap length (c.in_ok-sealed.ensures.tables table.Blocks)
-    ∙ ap (λ (T : Tables). length (T table.Blocks)) c.hash_after.ensures.tables ∙ c.in_ok-edit.ensures.top
+    ∙ ap (λ (T : Tables). length (T table.Blocks)) c.hash_after.ensures.read.tables ∙ c.in_ok-edit.ensures.top
     ∙ ap (λ (n : ℕ). (n - p.back) + length p.forward) (c.new-txn.ensures.counts table.Blocks)

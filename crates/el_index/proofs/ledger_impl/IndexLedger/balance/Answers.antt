@@ -1,26 +1,30 @@
 use Rattle.std.proofs.Common.{refl}
 use Rattle.el_rows.specs.Transaction.{tables_in}
 use Rattle.el_stands.proofs.StandingLemmas.{same_stand}
-use Rattle.el_index.proofs.Kept.{quiet}
+use Rattle.el_index.proofs.Kept.{quiet, rows_read}
 use Rattle.el_index.proofs.ledger_impl.IndexLedger.balance.Goals as goal
 
 pub returns-clause-balance : goal.returns-clause-balance
 returns-clause-balance g c chain stands = c.in_ok-found.ensures.balance chain stands.told (same_stand (g.R.Rows.lists c.args.self.now.rows) (tables_in {G = g.R.Rows} c.new-txn.result) chain stands.stand (c.new-txn.ensures.tables stands.told))
 
 pub returns-clause-rows : goal.returns-clause-rows
-returns-clause-rows g c chain stands = c.balance.ensures.rows chain stands.told (same_stand (g.R.Rows.lists c.args.self.now.rows) (tables_in {G = g.R.Rows} c.new-txn.result) chain stands.stand (c.new-txn.ensures.tables stands.told))
+returns-clause-rows g c chain stands =
+    rows_read g.R.Rows.reads c.args.self.now.rows _ c.balance.new.t.rows.now _ _ c.new-txn.ensures.below c.drop-txn-2.ensures
+    (c.balance.ensures.rows chain stands.told (same_stand (g.R.Rows.lists c.args.self.now.rows) (tables_in {G = g.R.Rows} c.new-txn.result) chain stands.stand (c.new-txn.ensures.tables stands.told)))
 
 pub returns-in_err-found-clause-rows : goal.returns-in_err-found-clause-rows
-returns-in_err-found-clause-rows g c chain stands = c.balance.ensures.rows chain stands.told (same_stand (g.R.Rows.lists c.args.self.now.rows) (tables_in {G = g.R.Rows} c.new-txn.result) chain stands.stand (c.new-txn.ensures.tables stands.told))
+returns-in_err-found-clause-rows g c chain stands =
+    rows_read g.R.Rows.reads c.args.self.now.rows _ c.balance.new.t.rows.now _ _ c.new-txn.ensures.below c.drop-txn.ensures
+    (c.balance.ensures.rows chain stands.told (same_stand (g.R.Rows.lists c.args.self.now.rows) (tables_in {G = g.R.Rows} c.new-txn.result) chain stands.stand (c.new-txn.ensures.tables stands.told)))
 
 pub returns-in_err-found-clause-quiet : goal.returns-in_err-found-clause-quiet
 returns-in_err-found-clause-quiet g c =
     let r = g.R.Rows in
-    quiet r.lists r.counts r.is_live r.tells_crash r.moment r.left_since r.shows r.tells (λ l. l.rows) (λ l. l.tip) c.args.self.now _ c.balance.new.t.rows.now c.drop-txn.ensures refl c.requires.live
-    (rw c.new-txn.ensures.below at c.balance.ensures.reads)
+    quiet r.lists r.counts r.is_live r.tells_crash r.moment r.left_since r.tells (λ l. l.rows) (λ l. l.tip) c.args.self.now _ c.balance.new.t.rows.now c.drop-txn.ensures refl c.requires.live
+    (rw c.new-txn.ensures.below at c.balance.ensures.read.only)
 
 pub returns-clause-quiet : goal.returns-clause-quiet
 returns-clause-quiet g c =
     let r = g.R.Rows in
-    quiet r.lists r.counts r.is_live r.tells_crash r.moment r.left_since r.shows r.tells (λ l. l.rows) (λ l. l.tip) c.args.self.now _ c.balance.new.t.rows.now c.drop-txn-2.ensures refl c.requires.live
-    (rw c.new-txn.ensures.below at c.balance.ensures.reads)
+    quiet r.lists r.counts r.is_live r.tells_crash r.moment r.left_since r.tells (λ l. l.rows) (λ l. l.tip) c.args.self.now _ c.balance.new.t.rows.now c.drop-txn-2.ensures refl c.requires.live
+    (rw c.new-txn.ensures.below at c.balance.ensures.read.only)

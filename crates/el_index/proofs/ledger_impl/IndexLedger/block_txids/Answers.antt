@@ -2,7 +2,7 @@ use Rattle.std.proofs.Common.{refl}
 use Rattle.el_rows.specs.declared.table.Table.TheVariants as table
 use Rattle.el_rows.specs.Transaction.{tables_in}
 use Rattle.el_stands.proofs.StandingLemmas.{same_stand}
-use Rattle.el_index.proofs.Kept.{quiet, below_top}
+use Rattle.el_index.proofs.Kept.{quiet, below_top, rows_of_ids}
 use Rattle.el_index.proofs.ledger_impl.IndexLedger.block_txids.Goals as goal
 
 pub block_txids-requires-clause-within : goal.block_txids-requires-clause-within
@@ -14,11 +14,21 @@ returns-clause-txids g c chain stands = c.in_ok-found.ensures.txids chain stands
 pub returns-in_err-found-clause-quiet : goal.returns-in_err-found-clause-quiet
 returns-in_err-found-clause-quiet g c =
     let r = g.R.Rows in
-    quiet r.lists r.counts r.is_live r.tells_crash r.moment r.left_since r.shows r.tells (λ l. l.rows) (λ l. l.tip) c.args.self.now _ c.block_txids.new.t.rows.now c.drop-txn.ensures refl c.requires.live
-    (rw c.new-txn.ensures.below at c.block_txids.ensures.reads)
+    quiet r.lists r.counts r.is_live r.tells_crash r.moment r.left_since r.tells (λ l. l.rows) (λ l. l.tip) c.args.self.now _ c.block_txids.new.t.rows.now c.drop-txn.ensures refl c.requires.live
+    (rw c.new-txn.ensures.below at c.block_txids.ensures.read.only)
 
 pub returns-clause-quiet : goal.returns-clause-quiet
 returns-clause-quiet g c =
     let r = g.R.Rows in
-    quiet r.lists r.counts r.is_live r.tells_crash r.moment r.left_since r.shows r.tells (λ l. l.rows) (λ l. l.tip) c.args.self.now _ c.block_txids.new.t.rows.now c.drop-txn-2.ensures refl c.requires.live
-    (rw c.new-txn.ensures.below at c.block_txids.ensures.reads)
+    quiet r.lists r.counts r.is_live r.tells_crash r.moment r.left_since r.tells (λ l. l.rows) (λ l. l.tip) c.args.self.now _ c.block_txids.new.t.rows.now c.drop-txn-2.ensures refl c.requires.live
+    (rw c.new-txn.ensures.below at c.block_txids.ensures.read.only)
+
+pub returns-clause-rows : goal.returns-clause-rows
+returns-clause-rows g c chain stands =
+    rows_of_ids g.R.Rows.reads c.args.self.now.rows _ c.block_txids.new.t.rows.now _ _ c.new-txn.ensures.below c.drop-txn-2.ensures
+    (c.block_txids.ensures.rows chain stands.told (same_stand (g.R.Rows.lists c.args.self.now.rows) (tables_in {G = g.R.Rows} c.new-txn.result) chain stands.stand (c.new-txn.ensures.tables stands.told)))
+
+pub returns-in_err-found-clause-rows : goal.returns-in_err-found-clause-rows
+returns-in_err-found-clause-rows g c chain stands =
+    rows_of_ids g.R.Rows.reads c.args.self.now.rows _ c.block_txids.new.t.rows.now _ _ c.new-txn.ensures.below c.drop-txn.ensures
+    (c.block_txids.ensures.rows chain stands.told (same_stand (g.R.Rows.lists c.args.self.now.rows) (tables_in {G = g.R.Rows} c.new-txn.result) chain stands.stand (c.new-txn.ensures.tables stands.told)))

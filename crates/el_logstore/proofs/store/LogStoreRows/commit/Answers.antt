@@ -4,7 +4,7 @@ use Rattle.std.specs.Result.{IsErrAnd}
 use Rattle.el_rows.specs.declared.faults.CommitFault.{CommitFault}
 use Rattle.el_rows.specs.declared.faults.CommitFault.TheVariants as fault
 use Rattle.el_redo.specs.RedoBody.{redo_body}
-use Rattle.el_logstore.proofs.StoreLemmas.{rows_unchanged, kept_more, left_either}
+use Rattle.el_logstore.proofs.StoreLemmas.{rows_read, kept_more, left_either}
 use Rattle.el_logstore.proofs.store.LogStoreRows.commit.Goals as goal
 
 memory_of : (r : Result (Unit {0}) CommitFault) (e : CommitFault) → IsErrAnd r (λ x. x ≡ e) → IsErrOf r fault.Memory → IsErrOf {T = Unit {0}} (Err e) fault.Memory
@@ -12,7 +12,7 @@ memory_of (Ok x) e from memory = absurd from
 memory_of (Err x) e from memory = subst (λ (y : CommitFault). IsErrOf {T = Unit {0}} (Err y) fault.Memory) from memory
 
 pub returns-in_err-commit-clause-memory : goal.returns-in_err-commit-clause-memory
-returns-in_err-commit-clause-memory g c memory = rows_unchanged g.D.Disk g.N.NetworkMagic.magic c.args.self.now c.commit.new.self (c.in_err-commit.ensures.memory (memory_of c.from_residual-in_err-commit.result c.in_err-commit.field-0.0 c.from_residual-in_err-commit.ensures.1 memory)).same c.requires.live
+returns-in_err-commit-clause-memory g c memory = rows_read g.D.Disk g.N.NetworkMagic.magic c.args.self.now c.commit.new.self (c.in_err-commit.ensures.memory (memory_of c.from_residual-in_err-commit.result c.in_err-commit.field-0.0 c.from_residual-in_err-commit.ensures.1 memory)).same c.requires.live
 
 pub returns-in_err-append-clause-crash : goal.returns-in_err-append-clause-crash
 returns-in_err-append-clause-crash g c told =

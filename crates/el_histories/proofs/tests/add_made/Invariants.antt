@@ -1,5 +1,0 @@
-use Rattle.std.proofs.Common.{◌≡◌}
-use Rattle.el_histories.proofs.tests.add_made.Given as goal
-
-abbrev pub invariant-loop-value : goal.invariant-loop-value
-invariant-loop-value g l = l.txn.rows.ghost_name ≡ l.fn.txn.rows.ghost_name

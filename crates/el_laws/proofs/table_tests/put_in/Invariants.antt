@@ -1,4 +1,0 @@
-use Rattle.el_laws.proofs.table_tests.put_in.Given as goal
-
-abbrev pub invariant-loop-some : goal.invariant-loop-some
-invariant-loop-some g l = g.G.Ledger.is_live l.ledger

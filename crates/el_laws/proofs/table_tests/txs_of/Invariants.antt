@@ -1,6 +1,0 @@
-use Rattle.std.specs.List.{AllByRecursion}
-use Rattle.el_tx.specs.Encoding.{HasEncoding}
-use Rattle.el_laws.proofs.table_tests.txs_of.Given as goal
-
-abbrev pub invariant-loop-number : goal.invariant-loop-number
-invariant-loop-number l = AllByRecursion HasEncoding l.txs.items

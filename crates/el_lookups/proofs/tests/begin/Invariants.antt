@@ -1,8 +1,0 @@
-use Rattle.std.proofs.Common.{◌≡◌}
-use Rattle.el_lookups.proofs.tests.begin.Given as goal
-
-abbrev pub invariant-loop : goal.invariant-loop
-invariant-loop g l = record {
-  rows : l.txn.rows.now ≡ l.fn.txn.rows.now;
-  name : l.txn.rows.ghost_name ≡ l.fn.txn.rows.ghost_name;
-}

@@ -1,4 +1,0 @@
-use Rattle.el_touching.proofs.tests.device_fails.Given as goal
-
-abbrev pub ghosts-failing : goal.ghosts-failing
-ghosts-failing g a = record { name = a.blank.name; parts = a.blank.parts }

@@ -1,5 +1,0 @@
-use Rattle.std.proofs.Common.{◌≡◌}
-use Rattle.el_undo.proofs.tests.put_heads.Given as goal
-
-abbrev pub invariant-loop : goal.invariant-loop
-invariant-loop l = record { rows : l.txn.rows.now ≡ l.fn.txn.rows.now; name : l.txn.rows.ghost_name ≡ l.fn.txn.rows.ghost_name }
