@@ -1,10 +1,10 @@
 -- The found nodes, and what the tables keep beside them, where one more node is added.
-use Rattle.std.proofs.Common.{◌≡◌, ◌≢◌, ◌⊎◌, inl, inr, ℕ, zero, suc, ◌+◌, ◌<◌, ◌≤◌, Bool, true, false, cond, List, [], ◌∷◌, ◌++◌, length, take, map, Option, None, Some, refl, sym, ap, ◌∙◌, subst, arith, length-append}
-use Rattle.std.specs.List.{AllByRecursion, slice_get, find, list_any}
-use Rattle.std.specs.Option.{is_some, option_or, option_map}
+use Rattle.std.proofs.Common.{◌≡◌, ◌≢◌, inl, inr, ℕ, zero, suc, ◌+◌, ◌≤◌, Bool, true, false, cond, List, [], ◌∷◌, ◌++◌, length, map, Option, None, Some, refl, sym, ap, ◌∙◌, subst, arith}
+use Rattle.std.specs.List.{AllByRecursion, slice_get, find}
+use Rattle.std.specs.Option.{option_or, option_map}
 use Rattle.std.proofs.lemmas.Bool.{cases_Bool, or_parts, false≢true}
 use Rattle.std.proofs.lemmas.List.{length_push, take-append-le, take_at, map_push}
-use Rattle.std.proofs.lemmas.List.Folds.{find-append, list_any-append}
+use Rattle.std.proofs.lemmas.List.Folds.{find-append}
 use Rattle.std.proofs.lemmas.Option.{none-some, same_Some, slice_get_within}
 use Rattle.indexmap.specs.IndexMap.{IndexMap, get}
 use Rattle.el_base.proofs.Lists.{all_more, all_weaker}
@@ -15,8 +15,8 @@ use Rattle.el_chain.specs.Headers.{same_hash, has_hash, is_known, is_second, add
 use Rattle.el_chain.specs.Records.{IsNode}
 use Rattle.el_block.proofs.BlockRules.{still_differ}
 use Rattle.el_headers.specs.Adding.{IsNew}
-use Rattle.el_headers.specs.within.Tables.{greatest, names, AreNewest, AreOlder, open_count, Has, HasParent, HasHeight, AreHeights, IsHeight, IsParent, NoneLeft, Numbers, is_lowest}
-use Rattle.el_headers.proofs.Places.{hash_is, hash_same, at_one, at_left, at_last, at_more, any_from, greatest_more, greatest_passes, greatest_above}
+use Rattle.el_headers.specs.within.Tables.{greatest, names, AreOlder, open_count, Has, HasParent, HasHeight, AreHeights, IsHeight, IsParent, NoneLeft, Numbers, is_lowest}
+use Rattle.el_headers.proofs.Places.{hash_is, hash_same, at_left, at_last, at_more, greatest_more, greatest_passes, greatest_above}
 use Rattle.el_headers.proofs.Heights.{open_more, open_one_more, open_few}
 
 -- the genesis stays, and comes with the first node that names none

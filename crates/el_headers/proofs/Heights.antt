@@ -1,15 +1,15 @@
 -- Heights beside the nodes: how they stay right while nodes are attached one by one, and when the list of nodes grows.
-use Rattle.std.proofs.Common.{◌≡◌, ◌≢◌, ◌⊎◌, inl, inr, ℕ, zero, suc, ◌+◌, ◌<◌, ◌≤◌, Bool, true, false, cond, List, [], ◌∷◌, ◌++◌, length, take, set, get_or, not, Option, None, Some, refl, sym, ap, ◌∙◌, subst, arith, length-append, length-set, add-one}
+use Rattle.std.proofs.Common.{◌≡◌, ◌≢◌, ◌⊎◌, inl, inr, ℕ, zero, suc, ◌+◌, ◌<◌, ◌≤◌, Bool, true, false, cond, List, [], ◌∷◌, ◌++◌, length, take, set, get_or, not, Option, None, Some, refl, sym, ap, ◌∙◌, subst, arith, length-set}
 use Rattle.std.specs.List.{slice_get}
 use Rattle.std.specs.Option.{is_some}
-use Rattle.std.proofs.lemmas.Bool.{cases_Bool, cases_eq, cases_lt, false≢true}
+use Rattle.std.proofs.lemmas.Bool.{cases_eq, false≢true}
 use Rattle.std.proofs.lemmas.List.{length_push}
 use Rattle.std.proofs.lemmas.Option.{none-some, same_Some, slice_get_within, slice_get_read, slice_get-get_or, get_or_from_slice_get}
 use Rattle.indexmap.specs.IndexMap.{IndexMap, get}
 use Rattle.el_base.specs.declared.hash.Hash32.{Hash32}
 use Rattle.el_chain.specs.declared.node.Node.{Node}
-use Rattle.el_chain.specs.Headers.{same_hash, names_none, genesis}
-use Rattle.el_headers.specs.within.Tables.{greatest, names, AreNewest, AreOlder, open_count, is_open, is_open_height, attached_at, stacked, Has, HasParent, HasHeight, AreHeights, NoneLeft, IsUpTo, ChildrenLeft, StayKnown}
+use Rattle.el_chain.specs.Headers.{same_hash, names_none}
+use Rattle.el_headers.specs.within.Tables.{greatest, names, AreNewest, AreOlder, open_count, is_open_height, attached_at, stacked, Has, HasHeight, AreHeights, NoneLeft, IsUpTo, ChildrenLeft, StayKnown}
 use Rattle.el_headers.proofs.Places.{hash_is, hash_same, at_one, at_there, at_left, at_last, at_more, set_here, set_other, in_front, of_front, greatest_passes, greatest_above}
 
 -- a height is known or not

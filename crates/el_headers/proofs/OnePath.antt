@@ -1,17 +1,17 @@
 -- At most one path leads to a hash; paths stay paths, and go on.
-use Rattle.std.proofs.Common.{◌≡◌, ◌≢◌, ◌⊎◌, inl, inr, ℕ, zero, suc, ◌+◌, ◌<◌, ◌≤◌, Bool, true, false, cond, List, [], ◌∷◌, ◌++◌, length, map, Option, None, Some, refl, sym, ap, ◌∙◌, subst, arith}
-use Rattle.std.specs.Prelude.{Contains}
+use Rattle.std.proofs.Common.{◌≡◌, ◌≢◌, ◌⊎◌, inl, inr, ℕ, zero, suc, ◌≤◌, false, List, [], ◌∷◌, ◌++◌, length, Option, None, Some, Result, Ok, Err, refl, sym, ap, ◌∙◌, subst, arith}
+use Rattle.std.specs.Prelude.{Contains, IfOk, IfSome, IfNone}
 use Rattle.std.specs.List.{AllByRecursion, slice_get}
 use Rattle.std.proofs.lemmas.Bool.{cases_Bool, false≢true}
-use Rattle.std.proofs.lemmas.List.{length_push, append_assoc}
+use Rattle.std.proofs.lemmas.List.{length_push}
 use Rattle.std.proofs.lemmas.List.Elements.{Contains-append_left}
 use Rattle.el_base.proofs.Lists.{all_more, all_weaker}
 use Rattle.el_base.specs.declared.hash.Hash32.{Hash32}
 use Rattle.el_chain.specs.declared.node.Node.{Node}
-use Rattle.el_chain.specs.Headers.{is_known, is_second, added, names_none, genesis, IsFound, AreLinked, last_node, IsPath}
-use Rattle.el_headers.proofs.Places.{at_one}
+use Rattle.el_chain.specs.Headers.{has_hash, is_known, is_second, added, names_none, genesis, IsFound, AreLinked, last_node, IsPath}
+use Rattle.el_headers.proofs.Places.{at_one, any_from, hash_same}
 use Rattle.el_headers.proofs.Growing.{genesis_stays, one_place}
-use Rattle.el_headers.proofs.Paths.{place_of, member_at, found_at}
+use Rattle.el_headers.proofs.Paths.{place_of, member_at, found_at, path_before}
 
 -- a list is empty or has a last element
 ends : {X : Type 0} (xs : List X) → (xs ≡ []) ⊎ ((front : List X) × (x : X) × (xs ≡ front ++ x ∷ []))
@@ -112,6 +112,21 @@ one_path found h one other f p q =
   where
     same_first : (a b : Node) → genesis found ≡ Some a → genesis found ≡ Some b → a ≡ b
     same_first a b e k = cc
+
+pub if_ok_map : {T E : Type 0} (r : Result T E) (P Q : T → Type 0) → ((x : T) → P x → Q x) → IfOk r P → IfOk r Q
+if_ok_map (Ok x) P Q f h = f x h
+if_ok_map (Err e) P Q f h = tt
+
+-- what is found for the block that a node on a path names
+pub parent_on : (found : List Node) (h : Hash32) (path : List Node) (k : ℕ) (n : Node) (r : Option Node) → IsFound found → IsPath found h path → slice_get path (suc k) ≡ Some n
+    → IfSome r (λ m. Contains found m × (m.hash ≡ n.header.previous)) → IfNone r (is_known found n.header.previous ≡ false) → r ≡ slice_get path k
+parent_on found h path k n (Some m) f p at some none =
+    let b = path_before found h path k n p at in
+    ap Some (same_node found m b.0 f some.0 b.3 (some.1 ∙ b.2)) ∙ sym b.1
+parent_on found h path k n None f p at some none =
+    let b = path_before found h path k n p at in
+    let i = place_of found b.0 b.3 in
+    absurd (false≢true (sym none ∙ any_from (has_hash n.header.previous) found i.0 b.0 i.1 (hash_same b.0.hash n.header.previous (sym b.2))))
 
 -- a path stays one over more nodes
 path_over : (found more : List Node) (h : Hash32) (path : List Node) → IsPath found h path → IsPath (found ++ more) h path

@@ -1,20 +1,19 @@
 -- Paths: one leads to each attached node and none to another, and at most one leads to a hash.
-use Rattle.std.proofs.Common.{◌≡◌, ◌≢◌, ◌⊎◌, inl, inr, ℕ, zero, suc, ◌+◌, ◌<◌, ◌≤◌, Bool, true, false, cond, List, [], ◌∷◌, ◌++◌, length, map, get_or, reverse, Option, None, Some, refl, sym, ap, ◌∙◌, subst, arith}
+use Rattle.std.proofs.Common.{◌≡◌, ◌≢◌, inl, inr, ℕ, zero, suc, ◌+◌, ◌-◌, ◌<◌, ◌≤◌, Bool, true, false, cond, List, [], ◌∷◌, ◌++◌, length, map, drop, reverse, Option, None, Some, refl, sym, ap, ◌∙◌, subst, arith}
 use Rattle.std.specs.Prelude.{Contains}
 use Rattle.std.specs.List.{AllByRecursion, slice_get, find}
 use Rattle.std.proofs.lemmas.Bool.{cases_Bool, false≢true}
-use Rattle.std.proofs.lemmas.List.{length_push, append_assoc, reverse-append, length-reverse}
-use Rattle.std.proofs.lemmas.List.Elements.{Contains-append_left}
+use Rattle.std.proofs.lemmas.List.{length_push, reverse-append, length-reverse}
 use Rattle.std.proofs.lemmas.Option.{none-some, same_Some, slice_get_within, slice_get_read, get_or_from_slice_get}
-use Rattle.el_base.proofs.Lists.{all_more, all_weaker}
+use Rattle.el_base.proofs.Lists.{all_weaker}
 use Rattle.el_base.specs.declared.hash.Hash32.{Hash32}
 use Rattle.el_chain.specs.declared.node.Node.{Node}
 use Rattle.el_block.specs.Blocks.{AllDiffer}
-use Rattle.el_chain.specs.Headers.{is_known, is_second, added, names_none, genesis, IsFound, AreLinked, last_node, IsPath}
-use Rattle.el_headers.specs.within.Tables.{HasParent, HasHeight, AreHeights, IsParent, NoneLeft}
-use Rattle.el_headers.proofs.Places.{at_one, any_from, any_at}
+use Rattle.el_chain.specs.Headers.{names_none, genesis, AreLinked, last_node, IsPath}
+use Rattle.el_headers.specs.within.Tables.{HasHeight, AreHeights, HasPathFrom, IsParent, NoneLeft}
+use Rattle.el_headers.proofs.Places.{at_one}
 use Rattle.el_headers.proofs.Heights.{known_or_open, never_both}
-use Rattle.el_headers.proofs.Growing.{genesis_stays, one_place}
+use Rattle.el_headers.proofs.Growing.{one_place}
 
 -- members of a list by their places
 pub place_of : {X : Type 0} (xs : List X) (x : X) → Contains xs x → (i : ℕ) × (slice_get xs i ≡ Some x)
@@ -69,22 +68,29 @@ tail_path found h n rest t g = record {
 -- from a node of known height down to the genesis
 climb : (found : List Node) (heights : List (Option ℕ)) → AreHeights found heights [] NoneLeft → (h : Hash32) (k i : ℕ) (n : Node) (rest : List Node)
     → slice_get found i ≡ Some n → slice_get heights i ≡ Some (Some k) → Tail found h n rest
-    → (path : List Node) × IsPath found h path × (length path ≡ k + 1 + length rest)
+    → (path : List Node) × IsPath found h path × (length path ≡ k + 1 + length rest) × (drop k path ≡ n ∷ rest)
 climb found heights a h zero i n rest at known t =
-    (n ∷ rest, tail_path found h n rest t (a.sound i 0 n at known), omega arith)
+    (n ∷ rest, tail_path found h n rest t (a.sound i 0 n at known), omega arith, refl)
 climb found heights a h (suc k) i n rest at known t =
     let has : HasHeight found heights n (suc k) = a.sound i (suc k) n at known in
     let p = has.1 in
     let more = climb found heights a h k p.number p.parent (n ∷ rest) p.stands p.height_is (tail_more found h i n p.parent rest t at p.named has.0) in
     let long : length more.0 ≡ k + 1 + suc (length rest) = more.2 in
-    (more.0, more.1, omega arith)
+    (more.0, more.1, omega arith, next_drop k more.0 p.parent (n ∷ rest) more.3)
+  where
+    next_drop : (k : ℕ) (path : List Node) (m : Node) (after : List Node) → drop k path ≡ m ∷ after → drop (suc k) path ≡ after
+    next_drop zero [] m after e = absurd cc
+    next_drop zero (x ∷ xs) m after e = ap (drop 1) e
+    next_drop (suc k) [] m after e = absurd cc
+    next_drop (suc k) (x ∷ xs) m after e = next_drop k xs m after e
 
 pub path_there : (found : List Node) (heights : List (Option ℕ)) → AreHeights found heights [] NoneLeft → (i k : ℕ) (n : Node)
-    → slice_get found i ≡ Some n → slice_get heights i ≡ Some (Some k) → (path : List Node) × IsPath found n.hash path × (length path ≡ k + 1)
+    → slice_get found i ≡ Some n → slice_get heights i ≡ Some (Some k)
+    → (path : List Node) × IsPath found n.hash path × (length path ≡ k + 1) × (drop k path ≡ n ∷ [])
 path_there found heights a i k n at known =
     let p = climb found heights a n.hash k i n [] at known (tail_none found n) in
     let long : length p.0 ≡ k + 1 + 0 = p.2 in
-    (p.0, p.1, omega arith)
+    (p.0, p.1, omega arith, p.3)
 
 -- Each node of a path is attached.
 abbrev IsAttachedAt : List Node → List (Option ℕ) → Node → Type 0
@@ -185,18 +191,20 @@ climb_more found heights tip at height step parent passed after n c lt here is p
       long = ap length is ∙ more ∙ ap (λ (l : ℕ). l + 1) long;
     }
 
-pub climb_end : (found : List Node) (heights : List (Option ℕ)) (tip at height step : ℕ) (passed after path : List Node) (n : Node)
-    → AreHeights found heights [] NoneLeft → IsClimbing found heights tip at height step passed → height ≤ step → slice_get found at ≡ Some n
+pub climb_end : (found : List Node) (heights : List (Option ℕ)) (tip at height first step : ℕ) (passed after path : List Node) (n : Node)
+    → AreHeights found heights [] NoneLeft → IsClimbing found heights tip at height step passed → first ≤ height → step ≡ height - first → slice_get found at ≡ Some n
     → after ≡ passed ++ n ∷ [] → path ≡ reverse after
-    → ((last : Node) → slice_get found tip ≡ Some last → IsPath found last.hash path) × (length path ≡ height + 1)
-climb_end found heights tip at height step passed after path n a c le here is turned =
+    → (last : Node) → slice_get found tip ≡ Some last → HasPathFrom found last.hash height first path
+climb_end found heights tip at height first step passed after path n a c below last_step here is turned last there =
     let sum = c.sum in
-    let lowest : c.left ≡ 0 = omega arith in
-    let ends : genesis found ≡ Some n = a.sound at 0 n here (subst (λ (k : ℕ). slice_get heights at ≡ Some (Some k)) lowest c.height_is) in
+    let lowest : c.left ≡ first = omega arith in
+    let known = subst (λ (k : ℕ). slice_get heights at ≡ Some (Some k)) lowest c.height_is in
+    let p = climb found heights a last.hash first at n (reverse passed) here known (c.tail n last here there) in
     let whole : path ≡ n ∷ reverse passed = turned ∙ ap reverse is ∙ reversed passed n in
     let long = c.long in
-    let count : length path ≡ suc (length passed) = ap length whole ∙ ap suc (length-reverse passed) in
-    ((λ last there. subst (IsPath found last.hash) (sym whole) (tail_path found last.hash n (reverse passed) (c.tail n last here there) ends)), omega arith)
+    let turned_long = length-reverse passed in
+    let count : length p.0 ≡ first + 1 + length (reverse passed) = p.2 in
+    (p.0, p.1, omega arith, whole ∙ sym p.3)
 
 -- what holds of each found node holds of each node of a path
 pub path_nodes : (P : Node → Type 0) (found : List Node) (h : Hash32) (path : List Node) → AllByRecursion P found → IsPath found h path → AllByRecursion P path
@@ -212,3 +220,41 @@ path_nodes P found h path all p =
     each : (xs : List Node) (rest : List Node) → AllByRecursion P xs → AllByRecursion (Contains xs) rest → AllByRecursion P rest
     each xs [] h members = tt
     each xs (m ∷ ms) h members = let at = place_of xs m members.0 in (all_at xs at.0 m h at.1, each xs ms h members.1)
+
+pub all_drop : (P : Node → Type 0) (n : ℕ) (path : List Node) → AllByRecursion P path → AllByRecursion P (drop n path)
+all_drop P zero path h = h
+all_drop P (suc n) [] h = tt
+all_drop P (suc n) (x ∷ path) h = all_drop P n path h.1
+
+-- the node on a path before another
+pub path_before : (found : List Node) (h : Hash32) (path : List Node) (k : ℕ) (n : Node) → IsPath found h path → slice_get path (suc k) ≡ Some n
+    → (m : Node) × (slice_get path k ≡ Some m) × (n.header.previous ≡ m.hash) × Contains found m
+path_before found h path k n p at =
+    let first = found_at names_none found p.first p.begins in
+    let b = go found p.first p.rest k n (member_at found first.0 p.first first.1) p.members p.linked (subst (λ (xs : List Node). slice_get xs (suc k) ≡ Some n) p.whole at) in
+    (b.0, subst (λ (xs : List Node). slice_get xs k ≡ Some b.0) (sym p.whole) b.1, b.2, b.3)
+  where
+    go : (found : List Node) (m : Node) (rest : List Node) (k : ℕ) (n : Node) → Contains found m → AllByRecursion (Contains found) rest → AreLinked m.hash rest → slice_get (m ∷ rest) (suc k) ≡ Some n
+        → (b : Node) × (slice_get (m ∷ rest) k ≡ Some b) × (n.header.previous ≡ b.hash) × Contains found b
+    go found m [] k n here members linked at = absurd (none-some n at)
+    go found m (x ∷ xs) zero n here members linked at =
+        (m, refl, ap (λ (y : Node). y.header.previous) (sym (same_Some x n at)) ∙ linked.0, here)
+    go found m (x ∷ xs) (suc k) n here members linked at = go found x xs k n members.0 members.1 linked.1 at
+
+-- what stands last at its height
+pub last_at : (path : List Node) (k : ℕ) (n : Node) → drop k path ≡ n ∷ [] → slice_get path k ≡ Some n
+last_at [] zero n e = absurd cc
+last_at [] (suc k) n e = absurd cc
+last_at (x ∷ xs) zero n e = ap head e
+  where
+    head : List Node → Option Node
+    head [] = None
+    head (y ∷ ys) = Some y
+last_at (x ∷ xs) (suc k) n e = last_at xs k n e
+
+-- the nodes of a path that ends below a height
+pub drop_past : (n : ℕ) (path : List Node) → length path ≤ n → [] ≡ drop n path
+drop_past zero [] le = refl
+drop_past zero (x ∷ path) le = absurd (omega arith)
+drop_past (suc n) [] le = refl
+drop_past (suc n) (x ∷ path) le = drop_past n path (omega arith)

@@ -1,19 +1,18 @@
 -- The tables where one more node is put in.
-use Rattle.std.proofs.Common.{◌≡◌, ◌⊎◌, inl, inr, ℕ, zero, suc, ◌+◌, ◌<◌, ◌≤◌, ◌&&◌, Bool, true, false, cond, List, [], ◌∷◌, ◌++◌, length, map, Option, None, Some, refl, sym, ap, ◌∙◌, subst, arith}
+use Rattle.std.proofs.Common.{◌≡◌, inl, inr, ℕ, ◌+◌, ◌≤◌, Bool, true, false, cond, List, [], ◌∷◌, ◌++◌, length, Option, None, Some, refl, sym, ap, ◌∙◌, subst, arith}
 use Rattle.std.specs.Prelude.{vec_capacity}
 use Rattle.std.specs.List.{slice_get, list_any}
 use Rattle.std.specs.Option.{is_some, option_map}
 use Rattle.std.proofs.lemmas.Bool.{cases_Bool, false≢true}
 use Rattle.std.proofs.lemmas.List.{length_push}
-use Rattle.std.proofs.lemmas.Option.{none-some}
 use Rattle.indexmap.specs.IndexMap.{IndexMap, get}
 use Rattle.el_base.specs.declared.hash.Hash32.{Hash32}
 use Rattle.el_chain.specs.declared.node.Node.{Node}
-use Rattle.el_chain.specs.Headers.{same_hash, has_hash, is_known, is_second, added, names_none, genesis, IsFound, IsPath}
+use Rattle.el_chain.specs.Headers.{same_hash, has_hash, is_known, is_second, added, genesis, IsFound, IsPath}
 use Rattle.el_chain.specs.Records.{IsNode}
 use Rattle.el_headers.specs.Adding.{IsNew}
 use Rattle.el_headers.specs.declared.table.Table.{Table}
-use Rattle.el_headers.specs.within.Tables.{greatest, names, AreNewest, AreOlder, AreHeights, AreSame, IsTable, IsHeight, Keeps, Numbers, NoneLeft, StayKnown, open_count}
+use Rattle.el_headers.specs.within.Tables.{greatest, names, AreNewest, AreOlder, AreHeights, AreSame, IsTable, IsHeight, Keeps, NoneLeft, StayKnown, open_count}
 use Rattle.el_headers.proofs.Places.{any_at, any_from, at_last, greatest_passes, greatest_above}
 use Rattle.el_headers.proofs.Heights.{open_more, open_one_more, open_few}
 use Rattle.el_headers.proofs.Growing.{found_more, added_new, numbers_more, older_more, heights_attached, heights_waiting, first_more}

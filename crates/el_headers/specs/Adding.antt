@@ -1,5 +1,5 @@
 -- What a header tree answers: what became of a node that was added, and why there is no path.
-use Rattle.std.specs.Prelude.{◌≡◌, ℕ, ◌+◌, true, false, List, length}
+use Rattle.std.specs.Prelude.{◌≡◌, ℕ, ◌+◌, true, false, List, length, slice_get, Some}
 use Rattle.el_base.specs.declared.hash.Hash32.{Hash32}
 use Rattle.el_chain.specs.declared.node.Node.{Node}
 use Rattle.el_chain.specs.Headers.{is_known, is_second, added, IsPath}
@@ -26,3 +26,7 @@ abbrev pub HasNoPath : List Node → Hash32 → PathFault → Type 0
 HasNoPath found h Unknown = is_known found h ≡ false
 HasNoPath found h Unconnected = (is_known found h ≡ true) × ((path : List Node) → IsPath found h path → ⊥)
 HasNoPath found h Memory = (path : List Node) × IsPath found h path
+
+-- the path ends with that node, before which so many stand
+abbrev pub IsEndOf : List Node → Node → ℕ → Type 0
+IsEndOf path n height = (slice_get path height ≡ Some n) × (length path ≡ height + 1)

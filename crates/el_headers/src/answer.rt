@@ -3,6 +3,7 @@ ghost use Rattle.std.specs.Prelude.{◌≡◌};
 ghost use Rattle.el_headers.specs.declared.answer.PathFault.TheVariants as fault;
 
 use el_base::OutOfMemory;
+use el_chain::Node;
 use std::alloc::{AllocError, AllocFailed};
 
 /// What became of a node that was added to a header tree.
@@ -19,6 +20,15 @@ pub enum Added {
     Known,
     /// It names no block before it, and there is another such node already. It is not kept.
     SecondGenesis,
+}
+
+/// The last node of a path.
+#[derive(Clone, Copy, Debug, PartialEq, Eq)]
+pub struct PathEnd {
+    /// The node.
+    pub node: Node,
+    /// How many nodes stand before it on the path; 0 for the genesis.
+    pub height: u64,
 }
 
 /// Why a header tree gives no path.

@@ -9,6 +9,6 @@ mod path;
 mod table;
 mod tree;
 
-pub use answer::{Added, PathFault};
+pub use answer::{Added, PathEnd, PathFault};
 pub use laws::{found_stays_found, path_is_one, paths_stay_and_go_on};
 pub use tree::HeaderTree;

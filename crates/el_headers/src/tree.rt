@@ -1,15 +1,16 @@
 // The header tree.
-ghost use Rattle.std.specs.Prelude.{◌≡◌, ◌≤◌, ℕ, List, [], ◌∷◌, ◌++◌, Some, IfOk, IfErr, OnOk, OnErr, length, option_map};
+ghost use Rattle.std.specs.Prelude.{◌≡◌, ◌≢◌, ◌≤◌, ◌<◌, ℕ, suc, List, [], ◌∷◌, ◌++◌, Some, IfOk, IfErr, OnOk, OnErr, length, drop, option_map, slice_get};
 ghost use Rattle.std.specs.List.{AllByRecursion};
+ghost use Rattle.el_base.specs.declared.hash.Hash32 as hash_shape;
 ghost use Rattle.el_chain.specs.declared.node.Node as shape;
 ghost use Rattle.el_chain.specs.Headers.{IsFound, IsPath, added, genesis, is_known, is_second};
 ghost use Rattle.el_chain.specs.Records.{IsNode};
-ghost use Rattle.el_headers.specs.Adding.{HasNoPath, IsNew, Tells};
+ghost use Rattle.el_headers.specs.Adding.{HasNoPath, IsEndOf, IsNew, Tells};
 ghost use Rattle.el_headers.specs.within.Tables.{IsTable};
 
-use crate::answer::{Added, PathFault};
+use crate::answer::{Added, PathEnd, PathFault};
 use crate::attach::{NO_BLOCK, attach_waiting, height_of};
-use crate::path::path_in;
+use crate::path::{parent_in, path_end_in, path_in};
 use crate::table::{Table, empty_table, keep, make_room, number_of};
 use el_base::{Hash32, OutOfMemory};
 use el_chain::Node;
@@ -129,7 +130,59 @@ impl HeaderTree {
         ensures fault { IfErr result (HasNoPath self.now hash) }
         ensures found { IsFound self.now }
     {
-        path_in(alloc, &self.table, hash)
+        path_in(alloc, &self.table, hash, 0)
+    }
+
+    /// The nodes of the path to a hash from that height on, none where it ends below. The call costs as much
+    /// as these are many.
+    ///
+    /// # Errors
+    ///
+    /// As `path`.
+    pub fn path_from(
+        &self,
+        alloc: Global,
+        hash: Hash32,
+        height: u64,
+    ) -> Result<Vec<Node>, PathFault>
+        ensures after { (path : List shape.Node) → IsPath self.now hash path
+            → IfOk result (λ after. after.items ≡ drop height path) }
+        ensures there { IfOk result (λ after. (path : List shape.Node)
+            × IsPath self.now hash path × (after.items ≡ drop height path)) }
+        ensures nodes { IfOk result (λ after. AllByRecursion IsNode after.items) }
+        ensures short { IfOk result (λ after. length after.items ≤ length self.now) }
+        ensures fault { IfErr result (HasNoPath self.now hash) }
+        ensures found { IsFound self.now }
+    {
+        path_in(alloc, &self.table, hash, height)
+    }
+
+    /// The last node of the path to a hash, and its height. Takes no memory, and costs the same whatever the
+    /// path is.
+    ///
+    /// # Errors
+    ///
+    /// `PathFault::Unknown` and `PathFault::Unconnected`.
+    pub fn path_end(&self, hash: &Hash32) -> Result<PathEnd, PathFault>
+        ensures end { (path : List shape.Node) → IsPath self.now hash.now path
+            → IfOk result (λ e. IsEndOf path e.node e.height) }
+        ensures there { IfOk result (λ e. (path : List shape.Node) × IsPath self.now hash.now path) }
+        ensures hash { IfOk result (λ e. e.node.hash ≡ hash.now) }
+        ensures short { IfOk result (λ e. e.height < length self.now) }
+        ensures fault { IfErr result (HasNoPath self.now hash.now) }
+        ensures not_memory { IfErr result (λ e. e ≢ PathFault.Memory) }
+        ensures found { IsFound self.now }
+    {
+        path_end_in(&self.table, hash)
+    }
+
+    /// The node that a node names as the one before it, if it was added: on a path the one before. Takes no
+    /// memory, and costs the same whatever the path is.
+    pub fn parent(&self, node: &Node) -> Option<Node>
+        ensures { (hash : hash_shape.Hash32) (path : List shape.Node) (height : ℕ) → IsPath self.now hash path
+            → slice_get path (suc height) ≡ Some node.now → result ≡ slice_get path height }
+    {
+        parent_in(&self.table, node)
     }
 
     /// The hash of the genesis: the first node that named no block before it. Takes no memory.

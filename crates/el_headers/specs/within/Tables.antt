@@ -1,12 +1,12 @@
 -- The tables of a header tree. Its nodes are numbered from 0 in the order in which they were added; a node
 -- whose height is known is attached.
-use Rattle.std.specs.Prelude.{◌≡◌, ◌⊎◌, ℕ, zero, suc, ◌+◌, ◌<◌, ◌≤◌, Bool, true, false, if◌then◌else◌, List, [], ◌∷◌, ◌++◌, length, take, slice_set, Option, None, Some, option_map, slice_get}
+use Rattle.std.specs.Prelude.{◌≡◌, ◌⊎◌, ℕ, zero, suc, ◌+◌, ◌<◌, ◌≤◌, Bool, true, false, if◌then◌else◌, List, [], ◌∷◌, ◌++◌, length, take, drop, slice_set, Option, None, Some, option_map, slice_get}
 use Rattle.std.specs.Option.{option_or, is_some}
 use Rattle.std.specs.Vec.{vec_capacity, vec_len}
 use Rattle.indexmap.specs.IndexMap.{IndexMap, get, spare}
 use Rattle.el_base.specs.declared.hash.Hash32.{Hash32}
 use Rattle.el_chain.specs.declared.node.Node.{Node}
-use Rattle.el_chain.specs.Headers.{same_hash, has_hash, names_none, genesis, IsFound}
+use Rattle.el_chain.specs.Headers.{same_hash, has_hash, names_none, genesis, IsFound, IsPath}
 use Rattle.el_headers.specs.declared.table.Table.{Table}
 
 -- the greatest number of a node that passes the test, where the first has that number
@@ -178,3 +178,13 @@ pub record IsParent (nodes : List Node) (heights : List (Option ℕ)) (child par
   pub later : names_none node ≡ false
   pub lower : (height : ℕ) → slice_get heights child ≡ Some (Some (suc height))
       → slice_get heights parent ≡ Some (Some height)
+
+-- the node with the hash has that number, and is attached at that height
+abbrev pub IsPlace : List Node → List (Option ℕ) → Hash32 → ℕ → ℕ → Type 0
+IsPlace nodes heights h number height = (n : Node) × (slice_get nodes number ≡ Some n) × (n.hash ≡ h)
+    × (slice_get heights number ≡ Some (Some height))
+
+-- a path to the hash ends at that height, and these are its nodes from another height on
+abbrev pub HasPathFrom : List Node → Hash32 → ℕ → ℕ → List Node → Type 0
+HasPathFrom nodes h height first after = (path : List Node) × IsPath nodes h path × (length path ≡ height + 1)
+    × (after ≡ drop first path)

@@ -1,5 +1,4 @@
-use Rattle.std.proofs.Common.{◌≡◌, ◌∙◌, Some, None, arith}
-use Rattle.std.specs.List.{slice_get}
+use Rattle.std.proofs.Common.{◌∙◌, arith}
 use Rattle.el_headers.proofs.Heights.{read_open, read_known, some_open, attached_new, attached_same, stacked_new, stacked_same}
 use Rattle.el_headers.proofs.attach.attach.Goals as goal
 

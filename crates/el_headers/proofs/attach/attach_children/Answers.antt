@@ -1,9 +1,6 @@
-use Rattle.std.proofs.Common.{◌≡◌, ◌+◌, ◌<◌, ◌*◌, ◌∙◌, Some, None, length, get_or, refl, sym, ap, arith, subst}
-use Rattle.std.specs.List.{slice_get}
+use Rattle.std.proofs.Common.{◌∙◌, None, get_or, refl, arith}
 use Rattle.std.proofs.lemmas.Grind.{common_steps}
-use Rattle.std.proofs.lemmas.Option.{slice_get_read, slice_get_within}
-use Rattle.el_headers.specs.within.Tables.{AreHeights, ChildrenLeft, greatest, names, StayKnown}
-use Rattle.el_headers.proofs.Heights.{AtChild, Turn, at_child, child_within, fewer_left, turn, children_start}
+use Rattle.el_headers.proofs.Heights.{at_child, child_within, fewer_left, turn, children_start}
 use Rattle.el_headers.proofs.attach.attach_children.Goals as goal
 
 pub loop-newest-init : goal.loop-newest-init

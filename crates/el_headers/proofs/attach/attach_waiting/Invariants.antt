@@ -1,4 +1,4 @@
-use Rattle.std.proofs.Common.{◌≡◌, ◌+◌, ◌≤◌, length}
+use Rattle.std.proofs.Common.{◌+◌, ◌≤◌, length}
 use Rattle.std.specs.Prelude.{vec_capacity}
 use Rattle.el_headers.specs.within.Tables.{AreHeights, NoneLeft, StayKnown, open_count}
 use Rattle.el_headers.proofs.attach.attach_waiting.Given as goal

@@ -1,10 +1,7 @@
-use Rattle.std.proofs.Common.{◌≡◌, ℕ, refl, ◌+◌, ◌<◌, ◌≤◌, ◌∙◌, sym, ap, subst, suc, Some, None, false, length, rules, arith}
-use Rattle.std.specs.Prelude.{vec_len}
-use Rattle.std.specs.List.{slice_get}
-use Rattle.std.proofs.lemmas.Grind.{common_steps}
+use Rattle.std.proofs.Common.{◌≡◌, ℕ, refl, ◌+◌, ◌<◌, ◌∙◌, sym, ap, subst, suc, Some, false, length, rules, arith}
 use Rattle.std.proofs.lemmas.Option.{slice_get_read, slice_get_within}
-use Rattle.el_chain.specs.Headers.{names_none, has_hash}
-use Rattle.el_headers.specs.within.Tables.{IsHeight, greatest}
+use Rattle.el_chain.specs.Headers.{names_none}
+use Rattle.el_headers.specs.within.Tables.{IsHeight}
 use Rattle.el_headers.proofs.Growing.{unknown_parent, open_parent, known_parent, parent_at}
 use Rattle.el_headers.proofs.attach.height_of.Goals as goal
 

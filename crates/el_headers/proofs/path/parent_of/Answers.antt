@@ -1,6 +1,5 @@
-use Rattle.std.proofs.Common.{◌≡◌, ◌<◌, ◌∙◌, Some, length, refl, sym, arith, subst}
+use Rattle.std.proofs.Common.{◌<◌, ◌∙◌, length, refl, sym, arith, subst}
 use Rattle.std.specs.Option.{IsSome}
-use Rattle.std.specs.List.{slice_get}
 use Rattle.std.proofs.lemmas.Option.{slice_get_read, slice_get_within}
 use Rattle.el_headers.proofs.Growing.{parent_number, is_parent}
 use Rattle.el_headers.proofs.path.parent_of.Goals as goal

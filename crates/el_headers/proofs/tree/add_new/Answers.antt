@@ -1,8 +1,7 @@
-use Rattle.std.proofs.Common.{◌≡◌, ◌∙◌, ◌++◌, ◌∷◌, [], sym, ap, None, Some, Option, ℕ, List, length, cond, subst}
+use Rattle.std.proofs.Common.{◌∙◌, ◌∷◌, [], sym, ap, Some, Option, ℕ, List, length, cond, subst}
 use Rattle.std.specs.Option.{is_some}
-use Rattle.std.specs.Vec.{with_items}
 use Rattle.std.proofs.lemmas.List.{with_items_is}
-use Rattle.el_headers.specs.within.Tables.{IsTable, AreHeights, NoneLeft}
+use Rattle.el_headers.specs.within.Tables.{AreHeights, NoneLeft}
 use Rattle.el_headers.proofs.Putting.{put_new, put_path, put_no_path}
 use Rattle.el_headers.proofs.tree.add_new.Goals as goal
 

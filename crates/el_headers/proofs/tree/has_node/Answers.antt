@@ -1,4 +1,4 @@
-use Rattle.std.proofs.Common.{◌≡◌, ◌∙◌, ap}
+use Rattle.std.proofs.Common.{◌∙◌, ap}
 use Rattle.std.specs.Option.{is_some}
 use Rattle.el_chain.specs.Headers.{has_hash}
 use Rattle.el_headers.proofs.Putting.{any_greatest}
