@@ -1,32 +1,34 @@
 -- What the server makes of an arrival.
-use Rattle.std.proofs.Common.{◌≡◌, inl, inr, ℕ, ◌≤◌, ◌==◌, false, List, [], ◌∷◌, ◌++◌, length, map, drop, Option, Some, None, refl, sym, ap, ◌∙◌, append-nil, eqb-true, arith, length-append, length-drop, subst}
+use Rattle.std.proofs.Common.{◌≡◌, inl, inr, ℕ, zero, suc, ◌<◌, ◌≤◌, true, false, nat_lt, List, [], ◌∷◌, ◌++◌, length, map, drop, slice_get, Option, Some, None, refl, sym, ap, ◌∙◌, append-nil, subst, eq-eqb, arith, length-append, length-drop}
+use Rattle.std.specs.List.{AllByRecursion, AllZip, flat_map}
 use Rattle.std.proofs.lemmas.List.{length-map}
 use Rattle.el_outside.specs.Story.{ArrivalWithBytes, opened, brought, closed}
-use Rattle.el_chain.specs.declared.node.Node.{Node}
 use Rattle.el_chain.specs.Chains.{Chain}
+use Rattle.el_chain.specs.declared.node.Node.{Node}
 use Rattle.el_model.specs.Lines.{LineEvent, lines}
 use Rattle.el_model.specs.NodeAnswers.{node_limit}
-use Rattle.el_model.specs.Sessions.{Session}
+use Rattle.el_model.specs.Sessions.{Session, new_session}
 use Rattle.el_model.specs.World as model
-use Rattle.el_model.specs.World.{World, Event, joins, leaves, says, orders, nothing, events, after_hearing, added_lines, with_client, without_client, hearing, line_limit}
+use Rattle.el_model.specs.World.{World, Event, IsStill, nothing, joins, leaves, says, orders, events, after_hearing, added_lines, lines_said, is_peer, with_client, without_client, hearing, line_limit, client_limit}
 use Rattle.el_model.specs.Run as run
 use Rattle.el_model.specs.Run.{Turns}
 use Rattle.el_model.proofs.Cuts.{either, pieces}
 use Rattle.el_lines.specs.LineStates.{IsAt}
-use Rattle.el_core.specs.State.{State, ClientState, IsIdle, IsHeardOut, HasNoWork, HearsLeft, in_order, losing, SessionsAre, Stands}
+use Rattle.el_core.specs.State.{State, ClientState, IsIdle, IsMet, HearsLeft, in_order, losing, IsSession, Rising, SessionsAre, NodeLeaves, Stands, is_numbered}
 use Rattle.el_core.specs.Arrivals.{TookArrival, IsAfterArrival, Quietly, none, joined, departed, gone_from}
-use Rattle.el_core.specs.within.Clients.{IsFresh, Opens, node, first, one_more, Hears, Keeps, IsFed}
-use Rattle.el_core.proofs.Sessions.{said_all, at_end, gone_stands}
+use Rattle.el_core.specs.within.Clients.{IsFresh, Opens, node, joins as adds, one_more, Hears, nobody, client, Keeps, IsFed, IsPlace, replaced}
+use Rattle.el_core.proofs.Places.{not_same, no_some, zip_at, zip_replaced, rising_replaced, rising_more, all_at, all_map, one_mapped, one_there, none_mapped}
+use Rattle.el_core.proofs.Sessions.{said_all, gone_stands, zip_push, zip_length, zip_all}
 
 -- turns that do the same as what was done at once
-pub quiet_turns : (tells : Type 0) (world next : World) (done : List Event) → world.ahead ≡ [] → Quietly world done next → Turns tells world done [] [] [] next
+pub quiet_turns : (tells : Type 0) (world next : World) (done : List Event) → IsStill world → Quietly world done next → Turns tells world done [] [] [] next
 quiet_turns tells world next done still none = run.none
 quiet_turns tells world next done still (joined p few) =
     run.more [] [] [] [] world (joins p ∷ []) nothing [] (with_client p world) [] [] [] (with_client p world) run.none
-    (run.takes (joins p) still refl (rw few (refl, refl)) refl) (run.all (with_client p world) None)
+    (run.takes (joins p) still refl (rw few (refl, refl, refl))) (run.all (with_client p world) None)
 quiet_turns tells world next done still (departed p) =
     run.more [] [] [] [] world (leaves p ∷ []) nothing [] (without_client p world) [] [] [] (without_client p world) run.none
-    (run.takes (leaves p) still refl (refl, refl) refl) (run.all (without_client p world) None)
+    (run.takes (leaves p) still refl (refl, refl, refl)) (run.all (without_client p world) None)
 
 no_first : (a b : List Event) → [] ≡ a ++ b → a ≡ []
 no_first [] b e = refl
@@ -44,82 +46,106 @@ all_given ls given few none_left =
     let d = length-drop given ls in
     omega arith
 
-not_zero : (p : ℕ) → (p ≡ 0 → ⊥) → p == 0 ≡ false
-not_zero p other = elim (either (p == 0)) [
-  | inl h ↦ absurd (other (eqb-true p 0 h))
-  | inr h ↦ h
-]
+new_session_is : (p : ℕ) (c : ClientState) → IsFresh p c → IsSession None [] c (new_session p)
+new_session_is p c fresh = record {
+  peer = fresh.peer;
+  limit = fresh.limit;
+  met = λ n. record { kept = fresh.kept; at = fresh.at };
+  speaks = λ e. absurd (no_some c.peer (sym e));
+}
+
+-- the lines that bytes of one client add
+none_said : (p : ℕ) (bytes : List ℕ) (ys : List Session) → AllByRecursion (λ (y : Session). is_peer p y ≡ false) ys → flat_map (lines_said p bytes) ys ≡ []
+none_said p bytes [] all = refl
+none_said p bytes (y ∷ ys) all = rw all.0 (none_said p bytes ys all.1)
+
+none_above : (p : ℕ) (ys : List Session) → AllByRecursion (λ (y : Session). p < y.peer) ys → AllByRecursion (λ (y : Session). is_peer p y ≡ false) ys
+none_above p ys all = all_map _ _ ys (λ y l. not_same y.peer p (λ e. (let k : p < p = subst (λ (n : ℕ). p < n) e l in omega arith))) all
+
+one_said : (p : ℕ) (bytes : List ℕ) (ys : List Session) (i : ℕ) (s : Session) → Rising ys → slice_get ys i ≡ Some s → s.peer ≡ p
+    → flat_map (lines_said p bytes) ys ≡ map (says p) (added_lines line_limit s.heard bytes)
+one_said p bytes [] i s up at is = absurd (no_some s (sym at))
+one_said p bytes (y ∷ ys) zero s up at is =
+    let e : y ≡ s = cc in
+    let f : y.peer ≡ p = ap (λ (t : Session). t.peer) e ∙ is in
+    let all = subst (λ (q : ℕ). AllByRecursion (λ (u : Session). q < u.peer) ys) f up.0 in
+    rw (eq-eqb y.peer p f, none_said p bytes ys (none_above p ys all))
+    (append-nil (map (says p) (added_lines line_limit y.heard bytes)) ∙ ap (λ (t : Session). map (says p) (added_lines line_limit t.heard bytes)) e)
+one_said p bytes (y ∷ ys) (suc i) s up at is =
+    let l = all_at (λ (u : Session). y.peer < u.peer) ys i s up.0 at in
+    let e : is_peer p y ≡ false = not_same y.peer p (λ same. (let k : p < p = rw (same, is) at l in omega arith)) in
+    rw e (one_said p bytes ys i s up.1 at is)
 
 module _ {G : Type 0} (stands : G → Chain → Type 0) where
-  sessions_none : (s : State G) (world : World) → Stands stands s world [] → SessionsAre s.client s.surplus world.sessions []
-  sessions_none s world stood = subst (λ (l : List Event). SessionsAre s.client s.surplus world.sessions l) (no_second stood.ordered stood.said stood.left_is) stood.sessions
+  sessions_none : (s : State G) (world : World) → Stands stands s world [] → SessionsAre s.clients s.speaker s.surplus world.sessions []
+  sessions_none s world stood = subst (λ (l : List Event). SessionsAre s.clients s.speaker s.surplus world.sessions l) (no_second stood.ordered stood.said stood.left_is) stood.sessions
 
   -- only the clients change
-  clients_change : (s : State G) (world : World) (client : Option ClientState) (surplus : Option ℕ) (ss : List Session) (left : List Event) → Stands stands s world []
-      → SessionsAre client surplus ss left → Stands stands (record s { client = client; surplus = surplus }) (record world { sessions = ss }) left
-  clients_change s world client surplus ss left stood are = record {
+  clients_change : (s : State G) (world : World) (clients : List ClientState) (speaker surplus : Option ℕ) (ss : List Session) (left : List Event) → Stands stands s world []
+      → SessionsAre clients speaker surplus ss left
+      → Stands stands (record s { clients = clients; speaker = speaker; surplus = surplus }) (record world { sessions = ss }) left
+  clients_change s world clients speaker surplus ss left stood are = record {
     chain = stood.chain;
     magic = stood.magic;
     found = stood.found;
     ahead = stood.ahead;
-    ordered = stood.ordered;
-    node = stood.node;
+    ordered = [];
+    node = subst (λ (l : List Event). NodeLeaves s.node world.heard l) (no_first stood.ordered stood.said stood.left_is) stood.node;
     said = left;
     sessions = are;
-    left_is = rw (no_first stood.ordered stood.said stood.left_is) refl;
+    left_is = refl;
   }
 
-  -- a peer comes
-  first_taken : (s : State G) (world : World) (p : ℕ) (c : ClientState) → (p ≡ 0 → ⊥) → IsIdle s → Stands stands s world [] → IsFresh p c
-      → (client : Option ClientState) → client ≡ None → SessionsAre client s.surplus world.sessions [] → TookArrival stands (opened p) world (record s { client = Some c })
-  first_taken s world p c other idle stood fresh client none_yet are =
-      let empty : world.sessions ≡ [] = by s.surplus idle.surplus (rw none_yet at are) in
-      let here : SessionsAre (Some c) s.surplus (with_client p world).sessions [] = rw idle.surplus (record {
-        heard = [];
-        alone = rw (empty, fresh.peer) refl;
-        limit = fresh.limit;
-        leaves_left = in_order 0 fresh.kept fresh.at (omega arith) refl;
+  -- a client joins
+  joined_taken : (s : State G) (world : World) (p : ℕ) (c : ClientState) → (p ≡ 0 → ⊥) → IsIdle s → AllByRecursion (λ (d : ClientState). d.peer < p) s.clients → Stands stands s world [] → IsFresh p c
+      → nat_lt (length s.clients) client_limit ≡ true → TookArrival stands (opened p) world (record s { clients = s.clients ++ c ∷ [] })
+  joined_taken s world p c other idle newest stood fresh few =
+      let are : SessionsAre s.clients None None world.sessions [] = rw (idle.speaker, idle.surplus) at (sessions_none s world stood) in
+      let here : SessionsAre (s.clients ++ c ∷ []) s.speaker s.surplus (with_client p world).sessions [] = rw (idle.speaker, idle.surplus) (record {
+        each = zip_push (IsSession None []) s.clients world.sessions c (new_session p) are.each (new_session_is p c fresh);
+        rising = rising_more world.sessions (new_session p) are.rising
+            (zip_all (IsSession None []) (λ (d : ClientState). d.peer < p) (λ (u : Session). u.peer < p) s.clients world.sessions (λ d u r l. rw r.peer at l) are.each newest);
+        leaves_left = tt;
       }) in
       record {
         done = joins p ∷ [];
         left = [];
         next = with_client p world;
-        whole = rw (not_zero p other) refl;
-        quietly = joined p (rw empty refl);
-        stood = clients_change s world (Some c) s.surplus (with_client p world).sessions [] stood here;
+        whole = rw (not_same p 0 other) refl;
+        quietly = joined p (rw (← zip_length (IsSession None []) s.clients world.sessions are.each) few);
+        stood = clients_change s world (s.clients ++ c ∷ []) s.speaker s.surplus (with_client p world).sessions [] stood here;
         after = inl (refl, idle.surplus);
       }
-    where
-      by : (surplus : Option ℕ) → surplus ≡ None → SessionsAre None surplus world.sessions [] → world.sessions ≡ []
-      by None unused are = are.0
-      by (Some q) unused are = absurd are
 
-  more_taken : (s : State G) (world : World) (p : ℕ) (c : ClientState) → (p ≡ 0 → ⊥) → Stands stands s world [] → HasNoWork s.client → s.client ≡ Some c → s.surplus ≡ None
+  -- a client too many comes
+  more_taken : (s : State G) (world : World) (p : ℕ) → (p ≡ 0 → ⊥) → IsIdle s → Stands stands s world [] → nat_lt (length s.clients) client_limit ≡ false
       → TookArrival stands (opened p) world (record s { surplus = Some p })
-  more_taken s world p c other stood idle some unused =
-      let heard_out : IsHeardOut c = rw some at idle in
-      let are : SessionsAre (Some c) None world.sessions [] = rw (some, unused) at (sessions_none s world stood) in
+  more_taken s world p other idle stood many =
+      let are : SessionsAre s.clients None None world.sessions [] = rw (idle.speaker, idle.surplus) at (sessions_none s world stood) in
       record {
         done = [];
         left = joins p ∷ [];
         next = world;
-        whole = rw (not_zero p other) refl;
+        whole = rw (not_same p 0 other) refl;
         quietly = none;
-        stood = clients_change s world s.client (Some p) world.sessions (joins p ∷ []) stood (rw some (record {
-          heard = are.heard;
-          alone = are.alone;
-          limit = are.limit;
-          leaves_left = record {
-            kept = heard_out.kept;
-            at = at_end c are.heard [] heard_out.kept heard_out.given_all are.limit are.leaves_left;
-            joins_is = refl;
-          };
-        }));
+        stood = clients_change s world s.clients s.speaker (Some p) world.sessions (joins p ∷ []) stood
+            (rw idle.speaker (record {
+              each = zip_again s.clients world.sessions are.each;
+              rising = are.rising;
+              leaves_left = (refl, rw (← zip_length (IsSession None []) s.clients world.sessions are.each) many);
+            }));
         after = inr (inl (refl, refl));
       }
+    where
+      zip_again : (cs : List ClientState) (ss : List Session) → AllZip (IsSession None []) cs ss → AllZip (IsSession None (joins p ∷ [])) cs ss
+      zip_again [] [] z = tt
+      zip_again [] (y ∷ ys) z = absurd z
+      zip_again (x ∷ xs) [] z = absurd z
+      zip_again (x ∷ xs) (y ∷ ys) z =
+          (record { peer = z.0.peer; limit = z.0.limit; met = z.0.met; speaks = λ e. absurd (no_some x.peer (sym e)) }, zip_again xs ys z.1)
 
-  pub opened_taken : (s next : State G) (world : World) (p : ℕ) → IsIdle s → Stands stands s world [] → Opens p s next → TookArrival stands (opened p) world next
-  opened_taken s next world p idle stood (node zero same) = rw (same, zero) (record {
+  pub opened_taken : (s next : State G) (world : World) (p : ℕ) → IsIdle s → AllByRecursion (λ (d : ClientState). d.peer < p) s.clients → Stands stands s world [] → Opens p s next → TookArrival stands (opened p) world next
+  opened_taken s next world p idle newest stood (node is_zero same) = rw (same, is_zero) (record {
     done = [];
     left = [];
     next = world;
@@ -128,9 +154,8 @@ module _ {G : Type 0} (stands : G → Chain → Type 0) where
     stood = stood;
     after = inr (inr (refl, idle.surplus));
   })
-  opened_taken s next world p idle stood (first other c fresh none_yet made) =
-      rw made (first_taken s world p c other idle stood fresh s.client none_yet (sessions_none s world stood))
-  opened_taken s next world p idle stood (one_more other c some made) = rw made (more_taken s world p c other stood idle.heard some idle.surplus)
+  opened_taken s next world p idle newest stood (adds other c fresh few made) = rw made (joined_taken s world p c other idle newest stood fresh few)
+  opened_taken s next world p idle newest stood (one_more other many made) = rw made (more_taken s world p other idle stood many)
 
   -- a client goes
   pub closed_taken : (s : State G) (world : World) (p : ℕ) → IsIdle s → Stands stands s world [] → TookArrival stands (closed p) world (gone_from s p)
@@ -157,26 +182,111 @@ module _ {G : Type 0} (stands : G → Chain → Type 0) where
     after = after;
   }
 
+  -- bytes of a client come
+  more_lines : (heard bytes : List ℕ) → length (lines line_limit heard) ≤ length (lines line_limit (heard ++ bytes))
+  more_lines heard bytes = rw (pieces line_limit heard bytes) (simp length-append (omega arith))
+
+  more_left : (c next : ClientState) (heard bytes : List ℕ) → IsMet c heard → Keeps bytes c next → HearsLeft next (heard ++ bytes) (map (says c.peer) (added_lines line_limit heard bytes))
+  more_left c next heard bytes met keeps = elim (either next.lost) [
+    | inl h ↦ losing h (rw keeps.peer (said_all c.peer (added_lines line_limit heard bytes)))
+    | inr h ↦
+        let fed = rw h at keeps.kept in
+        in_order (length (lines line_limit heard)) h (fed heard (length (lines line_limit heard)) met.at) (more_lines heard bytes) (rw keeps.peer refl)
+  ]
+
+  speaks_now : (p : ℕ) (left : List Event) (c kept : ClientState) (x : Session) (bytes : List ℕ) → c.peer ≡ p → left ≡ map (says p) (added_lines line_limit x.heard bytes) → Keeps bytes c kept → IsSession None [] c x
+      → IsSession (Some p) left kept (record x { heard = x.heard ++ bytes })
+  speaks_now p left c kept x bytes is whole keeps s = record {
+    peer = keeps.peer ∙ s.peer;
+    limit = keeps.limit ∙ s.limit;
+    met = λ n. absurd (n (ap (λ (q : ℕ). Some q) (sym (keeps.peer ∙ is))));
+    speaks = λ e. rw (whole, ← is) (more_left c kept x.heard bytes (s.met (λ f. no_some c.peer (sym f))) keeps);
+  }
+
+  pub client_taken : (s : State G) (world : World) (p : ℕ) (bytes : List ℕ) (i : ℕ) (c kept : ClientState) → (p ≡ 0 → ⊥) → IsIdle s → Stands stands s world [] → slice_get s.clients i ≡ Some c → c.peer ≡ p
+      → Keeps bytes c kept → TookArrival stands (brought p bytes) world (record s { clients = replaced i (Some kept) s.clients; speaker = Some p })
+  client_taken s world p bytes i c kept other idle stood at is keeps =
+      let are : SessionsAre s.clients None None world.sessions [] = rw (idle.speaker, idle.surplus) at (sessions_none s world stood) in
+      let z = zip_at (IsSession None []) s.clients world.sessions i c are.each at in
+      let x = z.0 in
+      let xp : x.peer ≡ p = sym z.2.peer ∙ is in
+      let left = map (says p) (added_lines line_limit x.heard bytes) in
+      let heard : map (hearing p bytes) world.sessions ≡ replaced i (Some (record x { heard = x.heard ++ bytes })) world.sessions =
+      one_mapped p (λ (y : Session). record y { heard = y.heard ++ bytes }) world.sessions i x are.rising z.1 xp in
+      let ss = replaced i (Some (record x { heard = x.heard ++ bytes })) world.sessions in
+      let now_are : SessionsAre (replaced i (Some kept) s.clients) (Some p) None ss left = record {
+        each = zip_replaced (IsSession None []) (IsSession (Some p) left) s.clients world.sessions i x (Some kept) (Some (record x { heard = x.heard ++ bytes })) are.each are.rising z.1
+            (λ d y r differ. record {
+              peer = r.peer;
+              limit = r.limit;
+              met = λ n. r.met (λ f. no_some d.peer (sym f));
+              speaks = λ e. absurd (differ (sym r.peer ∙ sym (same_number p d.peer e) ∙ sym xp));
+            })
+            (speaks_now p left c kept x bytes is refl keeps z.2);
+        rising = rising_replaced world.sessions i x (Some (record x { heard = x.heard ++ bytes })) are.rising z.1 refl;
+        leaves_left = one_there p ss i (record x { heard = x.heard ++ bytes }) (at_replaced world.sessions i x (record x { heard = x.heard ++ bytes }) z.1) xp;
+      } in
+      let now : Stands stands (record s { clients = replaced i (Some kept) s.clients; speaker = Some p; surplus = s.surplus }) (record world { sessions = ss }) left =
+      clients_change s world (replaced i (Some kept) s.clients) (Some p) s.surplus ss left stood
+      (subst (λ (u : Option ℕ). SessionsAre (replaced i (Some kept) s.clients) (Some p) u ss left) (sym idle.surplus) now_are) in
+      record {
+        done = [];
+        left = left;
+        next = record world { sessions = ss };
+        whole = rw (not_same p 0 other) (one_said p bytes world.sessions i x are.rising z.1 xp);
+        quietly = rw (not_same p 0 other, heard) none;
+        stood = now;
+        after = (rw (not_same p 0 other, heard) refl, idle.surplus);
+      }
+    where
+      same_number : (a b : ℕ) → ◌≡◌ {A = Option ℕ} (Some a) (Some b) → a ≡ b
+      same_number a b e = cc
+
+      at_replaced : (ys : List Session) (j : ℕ) (y n : Session) → slice_get ys j ≡ Some y → slice_get (replaced j (Some n) ys) j ≡ Some n
+      at_replaced [] j y n at = absurd (no_some y (sym at))
+      at_replaced (u ∷ ys) zero y n at = refl
+      at_replaced (u ∷ ys) (suc j) y n at = at_replaced ys j y n at
+
+  -- bytes of nobody come
+  pub nobody_taken : (s : State G) (world : World) (p : ℕ) (bytes : List ℕ) → (p ≡ 0 → ⊥) → IsIdle s → Stands stands s world [] → IsPlace p s.clients None → TookArrival stands (brought p bytes) world s
+  nobody_taken s world p bytes other idle stood absent =
+      let are : SessionsAre s.clients None None world.sessions [] = rw (idle.speaker, idle.surplus) at (sessions_none s world stood) in
+      let no : AllByRecursion (λ (y : Session). is_peer p y ≡ false) world.sessions =
+      zip_all (IsSession None []) (λ (d : ClientState). is_numbered p d ≡ false) (λ (y : Session). is_peer p y ≡ false) s.clients world.sessions (λ d y r l. rw r.peer at l) are.each absent in
+      let same = none_mapped p (λ (y : Session). record y { heard = y.heard ++ bytes }) world.sessions no in
+      record {
+        done = [];
+        left = [];
+        next = world;
+        whole = rw (not_same p 0 other) (none_said p bytes world.sessions no);
+        quietly = rw (not_same p 0 other, same) none;
+        stood = stood;
+        after = (rw (not_same p 0 other, same) refl, idle.surplus);
+      }
+
+  pub heard_taken : (s next : State G) (world : World) (p : ℕ) (bytes : List ℕ) → (p ≡ 0 → ⊥) → IsIdle s → Stands stands s world [] → Hears p bytes s next → TookArrival stands (brought p bytes) world next
+  heard_taken s next world p bytes other idle stood (nobody absent same) = rw same (nobody_taken s world p bytes other idle stood absent)
+  heard_taken s next world p bytes other idle stood (client i c kept at is keeps made) = rw made (client_taken s world p bytes i c kept other idle stood at is keeps)
+
   -- bytes of the node come
   pub node_taken : (s next : State G) (world : World) (p : ℕ) (bytes : List ℕ) → p ≡ 0 → IsIdle s → Stands stands s world [] → next ≡ record s { node = next.node }
       → next.node.limit ≡ s.node.limit → IsFed s.node bytes next.node → TookArrival stands (brought p bytes) world next
-  node_taken s next world p bytes zero idle stood same limit fed =
+  node_taken s next world p bytes zero_is idle stood same limit fed =
       let n = stood.node in
       let all : n.given ≡ length (lines node_limit world.heard) =
       all_given (lines node_limit world.heard) n.given n.few (sym n.left_is ∙ no_first stood.ordered stood.said stood.left_is) in
       let at' = fed world.heard n.given n.at in
-      let none_said = no_second stood.ordered stood.said stood.left_is in
-      rw zero (record {
+      rw zero_is (record {
         done = [];
         left = map orders (added_lines node_limit world.heard bytes);
         next = record world { heard = world.heard ++ bytes };
         whole = refl;
         quietly = none;
         stood = record {
-          chain = rw (ap (λ (t : State G). t.ledger) same) stood.chain;
-          magic = ap (λ (t : State G). t.magic) same ∙ stood.magic;
-          found = ap (λ (t : State G). t.found) same ∙ stood.found;
-          ahead = ap (λ (t : State G). t.ahead) same ∙ stood.ahead;
+          chain = rw (ap (λ (u : State G). u.ledger) same) stood.chain;
+          magic = ap (λ (u : State G). u.magic) same ∙ stood.magic;
+          found = ap (λ (u : State G). u.found) same ∙ stood.found;
+          ahead = ap (λ (u : State G). u.ahead) same ∙ stood.ahead;
           ordered = map orders (added_lines node_limit world.heard bytes);
           node = record {
             limit = limit ∙ n.limit;
@@ -186,76 +296,16 @@ module _ {G : Type 0} (stands : G → Chain → Type 0) where
             left_is = rw all refl;
           };
           said = [];
-          sessions = rw (ap (λ (t : State G). t.client) same, ap (λ (t : State G). t.surplus) same) (sessions_none s world stood);
+          sessions = rw (ap (λ (u : State G). u.clients) same, ap (λ (u : State G). u.speaker) same, ap (λ (u : State G). u.surplus) same) (sessions_none s world stood);
           left_is = sym (append-nil (map orders (added_lines node_limit world.heard bytes)));
         };
-        after = (refl, ap (λ (t : State G). t.surplus) same ∙ idle.surplus);
+        after = (refl, ap (λ (u : State G). u.surplus) same ∙ idle.surplus);
       })
-
-  -- bytes of a client come
-  more_lines : (heard bytes : List ℕ) → length (lines line_limit heard) ≤ length (lines line_limit (heard ++ bytes))
-  more_lines heard bytes = rw (pieces line_limit heard bytes) (simp length-append (omega arith))
-
-  more_left : (c next : ClientState) (heard bytes : List ℕ) → IsHeardOut c → c.buffer.limit ≡ line_limit → HearsLeft c heard [] → Keeps bytes c next
-      → HearsLeft next (heard ++ bytes) (map (says c.peer) (added_lines line_limit heard bytes))
-  more_left c next heard bytes idle limit hears keeps = elim (either next.lost) [
-    | inl h ↦ losing h (rw keeps.peer (said_all c.peer (added_lines line_limit heard bytes)))
-    | inr h ↦
-        let fed = rw h at keeps.kept in
-        in_order (length (lines line_limit heard)) h (fed heard (length (lines line_limit heard)) (at_end c heard [] idle.kept idle.given_all limit hears))
-        (more_lines heard bytes) (rw keeps.peer refl)
-  ]
-
-  heard_by : (s : State G) (world : World) (p : ℕ) (bytes : List ℕ) (client now : Option ClientState) → p == 0 ≡ false → Stands stands s world [] → HasNoWork client
-      → SessionsAre client None world.sessions [] → Hears p bytes client now → s.surplus ≡ None → TookArrival stands (brought p bytes) world (record s { client = now })
-  heard_by s world p bytes None now other stood idle are hears unused = rw hears (record {
-    done = [];
-    left = [];
-    next = record world { sessions = map (hearing p bytes) world.sessions };
-    whole = rw (other, are.0) refl;
-    quietly = rw other none;
-    stood = clients_change s world None s.surplus (map (hearing p bytes) world.sessions) [] stood (rw (unused, are.0) (refl, tt));
-    after = (rw other refl, unused);
-  })
-  heard_by s world p bytes (Some c) now other stood idle are hears unused = elim (either (c.peer == p)) [
-    | inl h ↦
-        let own = rw h at hears in
-        let same : p ≡ c.peer = sym (eqb-true c.peer p h) in
-        rw own.2 (record {
-          done = [];
-          left = map (says c.peer) (added_lines line_limit are.heard bytes);
-          next = record world { sessions = map (hearing p bytes) world.sessions };
-          whole = rw (other, are.alone, h, append-nil (map (says p) (added_lines line_limit are.heard bytes)), same) refl;
-          quietly = rw other none;
-          stood = clients_change s world (Some own.0) s.surplus (map (hearing p bytes) world.sessions) (map (says c.peer) (added_lines line_limit are.heard bytes)) stood (rw unused (record {
-            heard = are.heard ++ bytes;
-            alone = rw (are.alone, h, own.1.peer) refl;
-            limit = own.1.limit ∙ are.limit;
-            leaves_left = more_left c own.0 are.heard bytes idle are.limit are.leaves_left own.1;
-          }));
-          after = (rw other refl, unused);
-        })
-    | inr h ↦ rw (let e = rw h at hears in e) (record {
-      done = [];
-      left = [];
-      next = record world { sessions = map (hearing p bytes) world.sessions };
-      whole = rw (other, are.alone, h) refl;
-      quietly = rw other none;
-      stood = clients_change s world (Some c) s.surplus (map (hearing p bytes) world.sessions) [] stood
-          (rw unused (record { heard = are.heard; alone = rw (are.alone, h) refl; limit = are.limit; leaves_left = are.leaves_left }));
-      after = (rw other refl, unused);
-    })
-  ]
-
-  pub heard_taken : (s next : State G) (world : World) (p : ℕ) (bytes : List ℕ) → (p ≡ 0 → ⊥) → IsIdle s → Stands stands s world [] → next ≡ record s { client = next.client }
-      → Hears p bytes s.client next.client → TookArrival stands (brought p bytes) world next
-  heard_taken s next world p bytes other idle stood same hears =
-      rw same (heard_by s world p bytes s.client next.client (not_zero p other) stood idle.heard (rw idle.surplus at (sessions_none s world stood)) hears idle.surplus)
 
   -- before any arrival
   pub new_stands : (s : State G) (chain : Chain) (magic : List ℕ) (found : List Node) (files : ℕ → List ℕ) → stands s.ledger chain → s.magic ≡ magic → s.found ≡ found → s.ahead ≡ []
-      → s.client ≡ None → s.surplus ≡ None → s.node.limit ≡ node_limit → IsAt s.node [] 0 → Stands stands s (model.quiet_world chain magic found files) []
-  new_stands s chain magic found files stood m f a c u limit at' = record {
+      → s.clients ≡ [] → s.speaker ≡ None → s.surplus ≡ None → s.node.limit ≡ node_limit → IsAt s.node [] 0 → Stands stands s (model.quiet_world chain magic found files) []
+  new_stands s chain magic found files stood m f a c sp u limit at' = record {
     chain = stood;
     magic = m;
     found = f;
@@ -263,6 +313,6 @@ module _ {G : Type 0} (stands : G → Chain → Type 0) where
     ordered = [];
     node = record { limit = limit; given = 0; at = at'; few = omega arith; left_is = refl };
     said = [];
-    sessions = rw (c, u) (refl, tt);
+    sessions = rw (c, sp, u) (record { each = tt; rising = tt; leaves_left = tt });
     left_is = refl;
   }

@@ -1,23 +1,28 @@
 -- Why a client is closed by a turn.
-use Rattle.std.proofs.Common.{◌≡◌, ◌⊎◌, inl, inr, ℕ, ◌+◌, ◌≤◌, ◌==◌, true, false, List, [], ◌∷◌, ◌++◌, length, map, drop, Option, Some, None, ap, sym, ◌∙◌, subst, eqb-true}
-use Rattle.std.specs.Prelude.{IfSome}
-use Rattle.std.specs.List.{slice_get}
+use Rattle.std.proofs.Common.{◌≡◌, ◌⊎◌, inl, inr, ℕ, ◌+◌, ◌≤◌, true, false, true≢false, List, [], ◌∷◌, ◌++◌, length, map, drop, Option, Some, None, ap, sym, ◌∙◌, subst, eqb-true}
+use Rattle.std.specs.Prelude.{IfSome, Contains}
+use Rattle.std.specs.List.{slice_get, AllZip, list_any}
+use Rattle.std.proofs.lemmas.Option.{slice_get_within, get_or_from_slice_get}
+use Rattle.std.proofs.lemmas.List.Elements.{Contains-get_or}
 use Rattle.el_outside.specs.Story.{Closing}
 use Rattle.el_outside.specs.declared.link.Why.TheVariants as why
 use Rattle.el_chain.specs.Chains.{Chain}
 use Rattle.el_model.specs.Lines.{LineEvent, line, too_long, lines}
 use Rattle.el_model.specs.NodeAnswers.{node_limit}
+use Rattle.el_model.specs.Sessions.{Session}
 use Rattle.el_model.specs.World as model
-use Rattle.el_model.specs.World.{World, Event, joins, says, orders, closes_long, closes_surplus, reply_to, is_client, line_limit}
+use Rattle.el_model.specs.World.{World, Event, joins, says, orders, closes_long, closes_surplus, reply_to, is_client, is_peer, line_limit}
 use Rattle.el_model.specs.Run.{closes_memory, IsNodesTurn}
 use Rattle.el_model.proofs.Cuts.{either}
 use Rattle.el_lines.specs.LineStates.{LineState}
 use Rattle.el_lines.specs.declared.line_buffer.LineEvent.TheVariants as event
-use Rattle.el_core.specs.State.{State, ClientState, HearsLeft, in_order, losing, SessionsAre, NodeLeaves, Stands}
+use Rattle.el_core.specs.State.{State, ClientState, HearsLeft, in_order, losing, IsSession, SessionsAre, NodeLeaves, Stands}
 use Rattle.el_core.specs.Turn.{HasLost, MeetsLine, outs_of, closing_of}
-use Rattle.el_core.specs.within.Clients.{Gives, NextIsLine, ClientTurn, ClientSteps, loses, departs, answers, waits, PeersTurn, closes, has_turn}
+use Rattle.el_core.specs.within.Clients.{Gives, NextIsLine, ClientTurn, nobody, gone, steps, loses, departs, answers, waits, PeersTurn, closes, has_turn}
 use Rattle.el_core.specs.declared.out.Outs as code
+use Rattle.el_core.proofs.Places.{there_at}
 use Rattle.el_core.proofs.Sessions.{left_first, left_none, ordered, all_met}
+use Rattle.el_core.proofs.Peers.{Speaking, speaking, gone_not}
 
 -- the next event is none of the node's: then no line of the node is left
 said_next : (b : LineState) (heard : List ℕ) (own said : List Event) (e : Event) (rest : List Event) → NodeLeaves b heard own → e ∷ rest ≡ own ++ said → ((met : LineEvent) → e ≡ orders met → ⊥)
@@ -108,18 +113,8 @@ meets c heard left p kept limit hears next_line is =
 gives_line : (c : ClientState) (b : LineState) (bytes : List ℕ) → Gives c.buffer (line bytes) b → NextIsLine c.buffer
 gives_line c b bytes gives = λ fed given at few. (bytes, (gives fed given at).0)
 
-memory_of : (chain : Chain) (rose : ℕ → Type 0) (c : ClientState) (o : code.Outs) (next : Option ClientState) (world : World) (left : List Event) (p : ℕ) → SessionsAre (Some c) None world.sessions left
-    → ClientTurn chain rose c (Some o) next → CloseIs (outs_of o).closing p → HasLost p (Some c) ⊎ MeetsLine p left
-memory_of chain rose c o next world left p are (loses o' lost some is gone still) told = inl (same_peer c.peer p (closing_is o o' _ p some is told), lost)
-memory_of chain rose c o next world left p are (departs o' kept next_line some is gone still) told =
-    inr (meets c are.heard left p kept are.limit are.leaves_left next_line (same_peer c.peer p (closing_is o o' _ p some is told)))
-memory_of chain rose c o next world left p are (answers o' (event.Line bytes) b kept limit gives (inl a) some) told =
-    absurd (reply_other (outs_of o) c.peer p a.0.0 (ap outs_of (same_outs o o' some) ∙ a.0.2) told)
-memory_of chain rose c o next world left p are (answers o' (event.Line bytes) b kept limit gives (inr a) some) told =
-    inr (meets c are.heard left p kept are.limit are.leaves_left (gives_line c b bytes gives) (same_peer c.peer p (closing_is o o' _ p some a.0 told)))
-memory_of chain rose c o next world left p are (answers o' (event.TooLong most) b kept limit gives a some) told =
-    absurd (long_other c.peer p (closing_is o o' _ p some a.0 told))
-memory_of chain rose c o next world left p are (waits idle none same still) told = absurd (no_outs o none)
+contains_at : (cs : List ClientState) (i : ℕ) (c : ClientState) → slice_get cs i ≡ Some c → Contains cs c
+contains_at cs i c at = subst (λ (x : ClientState). Contains cs x) (get_or_from_slice_get cs i c c at) (Contains-get_or cs i c (slice_get_within cs i c at))
 
 other_event : (p q : ℕ) (bytes : List ℕ) (xs ys : List Event) → ◌≡◌ {A = List Event} (says p too_long ∷ xs) (says q (line bytes) ∷ ys) → ⊥
 other_event p q bytes xs ys e = cc
@@ -128,39 +123,15 @@ other_event p q bytes xs ys e = cc
 abbrev LongBy : ℕ → Option code.Outs → Type 0
 LongBy p o = (o' : code.Outs) × (o ≡ Some o') × (outs_of o' ≡ closes_long p)
 
-long_of : (chain : Chain) (rose : ℕ → Type 0) (c : ClientState) (o : Option code.Outs) (next : Option ClientState) (world : World) (rest : List Event) (p : ℕ)
-    → SessionsAre (Some c) None world.sessions (says p too_long ∷ rest) → c.peer ≡ p → (HasLost p (Some c) → ⊥) → ClientTurn chain rose c o next → LongBy p o
-long_of chain rose c o next world rest p are same kept (loses o' lost some is gone still) = absurd (kept (same, lost))
-long_of chain rose c o next world rest p are same kept (departs o' k next_line some is gone still) =
-    let m = meets c are.heard (says p too_long ∷ rest) p k are.limit are.leaves_left next_line same in
-    absurd (other_event p p m.bytes rest m.rest m.is)
-long_of chain rose c o next world rest p are same kept (answers o' (event.Line bytes) b k limit gives a some) =
-    let m = meets c are.heard (says p too_long ∷ rest) p k are.limit are.leaves_left (gives_line c b bytes gives) same in
-    absurd (other_event p p m.bytes rest m.rest m.is)
-long_of chain rose c o next world rest p are same kept (answers o' (event.TooLong most) b k limit gives a some) = (o', some, a.0 ∙ ap closes_long same)
-long_of chain rose c o next world rest p are same kept (waits idle none same_client still) =
-    let d = ordered c are.heard (says p too_long ∷ rest) idle.kept are.leaves_left in
-    let none_after = left_none (says c.peer) (lines line_limit are.heard) d.given (all_met c are.heard d.given are.limit idle.given_all d.at) in
-    absurd (let e = d.left_is ∙ none_after in cc)
+-- who speaks says what is next
+says_first : (q p : ℕ) (e : LineEvent) (ls : List LineEvent) (rest : List Event) → ◌≡◌ {A = List Event} (says p e ∷ rest) (map (says q) ls) → q ≡ p
+says_first q p e [] rest is = absurd (let f = is in cc)
+says_first q p e (l ∷ ls) rest is = cc
 
--- the one client is that peer
-is_one : (c : ClientState) (world : World) (heard : List ℕ) (p : ℕ) → world.sessions ≡ record { peer = c.peer; heard = heard } ∷ [] → is_client p world ≡ true → c.peer ≡ p
-is_one c world heard p alone client = elim (either (c.peer == p)) [
-  | inl h ↦ eqb-true c.peer p h
-  | inr h ↦ absurd (let e = rw (alone, h) at client in cc)
-]
+whose : (c : ClientState) (heard : List ℕ) (p : ℕ) (e : LineEvent) (rest : List Event) → HearsLeft c heard (says p e ∷ rest) → c.peer ≡ p
+whose c heard p e rest (in_order given kept at few is) = says_first c.peer p e (drop given (lines line_limit heard)) rest is
+whose c heard p e rest (losing lost all_said) = sym all_said.0
 
-long_by : (chain : Chain) (rose : ℕ → Type 0) (client : Option ClientState) (o : Option code.Outs) (next : Option ClientState) (world : World) (rest : List Event) (p : ℕ)
-    → SessionsAre client None world.sessions (says p too_long ∷ rest) → is_client p world ≡ true → (HasLost p client → ⊥) → ClientSteps chain rose client o next → LongBy p o
-long_by chain rose None o next world rest p are is kept steps = absurd (let e = rw are.0 at is in cc)
-long_by chain rose (Some c) o next world rest p are is kept steps = long_of chain rose c o next world rest p are (is_one c world are.heard p are.alone is) kept steps
-
--- while a client too many waits, no line is left
-no_line : (client : Option ClientState) (world : World) (rest : List Event) (p q : ℕ) (e : LineEvent) → SessionsAre client (Some q) world.sessions (says p e ∷ rest) → ⊥
-no_line None world rest p q e are = are
-no_line (Some c) world rest p q e are = let f = are.leaves_left.joins_is in cc
-
--- who joins is the one too many
 no_joining : (q p : ℕ) (ls : List LineEvent) (rest : List Event) → joins p ∷ rest ≡ map (says q) ls → ⊥
 no_joining q p [] rest e = cc
 no_joining q p (l ∷ ls) rest e = cc
@@ -172,44 +143,92 @@ waits_hears : (c : ClientState) (heard : List ℕ) (rest : List Event) (p : ℕ)
 waits_hears c heard rest p (in_order given kept at few is) = no_joining c.peer p (drop given (lines line_limit heard)) rest is
 waits_hears c heard rest p (losing lost all_said) = all_said.0
 
-waits_by : (client : Option ClientState) (surplus : Option ℕ) (world : World) (p : ℕ) (rest : List Event) → SessionsAre client surplus world.sessions (joins p ∷ rest) → surplus ≡ Some p
-waits_by None None world p rest are = absurd are.1.0.1
-waits_by None (Some q) world p rest are = absurd are
-waits_by (Some c) None world p rest are = absurd (waits_hears c are.heard rest p are.leaves_left)
-waits_by (Some c) (Some q) world p rest are = ap Some (joined q p rest are.leaves_left.joins_is)
+-- the client that speaks is there
+spoken : (q : ℕ) (left : List Event) (cs : List ClientState) (ss : List Session) → AllZip (IsSession (Some q) left) cs ss → list_any (is_peer q) ss ≡ true → (c : ClientState) × (heard : List ℕ) × HearsLeft c heard left
+spoken q left [] [] z there = absurd (true≢false (sym there))
+spoken q left [] (y ∷ ys) z there = absurd z
+spoken q left (x ∷ xs) [] z there = absurd z
+spoken q left (x ∷ xs) (y ∷ ys) z there = elim (either (is_peer q y)) [
+  | inl h ↦ (x, y.heard, z.0.speaks (ap (λ (n : ℕ). Some n) (sym (z.0.peer ∙ eqb-true y.peer q h))))
+  | inr h ↦ spoken q left xs ys z.1 (rw h at there)
+]
+
+waits_by : (clients : List ClientState) (speaker surplus : Option ℕ) (ss : List Session) (p : ℕ) (rest : List Event) → SessionsAre clients speaker surplus ss (joins p ∷ rest) → surplus ≡ Some p
+waits_by clients None None ss p rest are = absurd are.leaves_left.0.1
+waits_by clients None (Some q) ss p rest are = ap Some (joined q p rest are.leaves_left.0)
+waits_by clients (Some q) None ss p rest are = let s = spoken q (joins p ∷ rest) clients ss are.each are.leaves_left in absurd (waits_hears s.0 s.1 rest p s.2)
+waits_by clients (Some q) (Some r) ss p rest are = absurd are.leaves_left
+
+-- while a client too many waits, no line is left
+no_line : (clients : List ClientState) (speaker : Option ℕ) (ss : List Session) (rest : List Event) (p q : ℕ) (e : LineEvent) → SessionsAre clients speaker (Some q) ss (says p e ∷ rest) → ⊥
+no_line clients None ss rest p q e are = let f = are.leaves_left.0 in cc
+no_line clients (Some r) ss rest p q e are = are.leaves_left
 
 module _ {G : Type 0} (stands : G → Chain → Type 0) where
-  pub waiting : (s : State G) (world : World) (p : ℕ) (rest : List Event) → Stands stands s world (joins p ∷ rest) → s.surplus ≡ Some p
-  waiting s world p rest stood =
+  pub waiting_joins : (s : State G) (world : World) (p : ℕ) (rest : List Event) → Stands stands s world (joins p ∷ rest) → s.surplus ≡ Some p
+  waiting_joins s world p rest stood =
       let n = said_next s.node world.heard stood.ordered stood.said (joins p) rest stood.node stood.left_is (orders_no_joining p) in
-      waits_by s.client s.surplus world p rest (rw n.1 at stood.sessions)
+      waits_by s.clients s.speaker s.surplus world.sessions p rest (rw n.1 at stood.sessions)
 
   -- a line of a client is next: then none of the node's is
   pub none_ordered_before : (s : State G) (world : World) (p : ℕ) (e : LineEvent) (rest : List Event) (stood : Stands stands s world (says p e ∷ rest))
       → (stood.ordered ≡ []) × (stood.said ≡ says p e ∷ rest)
   none_ordered_before s world p e rest stood = said_next s.node world.heard stood.ordered stood.said (says p e) rest stood.node stood.left_is (orders_no_line p e)
 
-  pub peers_memory : (old new : State G) (world : World) (left : List Event) (chain : Chain) (rose : ℕ → Type 0) (o : code.Outs) (p : ℕ) (stood : Stands stands old world left) → stood.ordered ≡ []
-      → PeersTurn chain rose old (Some o) new → CloseIs (outs_of o).closing p → HasLost p old.client ⊎ MeetsLine p left
-  peers_memory old new world left chain rose o p stood none (closes q o' is some outs_is next still) told = absurd (surplus_other q p (closing_is o o' _ p some outs_is told))
-  peers_memory old new world left chain rose o p stood none (has_turn unused steps next) told =
-      let l : left ≡ stood.said = stood.left_is ∙ ap (λ (x : List Event). x ++ stood.said) none in
-      rw l (by old.client (rw unused at stood.sessions) steps)
-    where
-      by : (client : Option ClientState) → SessionsAre client None world.sessions stood.said → ClientSteps chain rose client (Some o) new.client → HasLost p client ⊎ MeetsLine p stood.said
-      by None are s = absurd (no_outs o s.0)
-      by (Some c) are s = memory_of chain rose c o new.client world stood.said p are s told
+  memory_of : (chain : Chain) (rose : ℕ → Type 0) (s : State G) (world : World) (c : ClientState) (o : code.Outs) (next : Option ClientState) (left : List Event) (p q i : ℕ) → Speaking s world left q i c
+      → slice_get s.clients i ≡ Some c → ClientTurn chain rose c (Some o) next → CloseIs (outs_of o).closing p → HasLost p s.clients ⊎ MeetsLine p left
+  memory_of chain rose s world c o next left p q i w at (loses o' lost some is gone_is still) told = inl (c, contains_at s.clients i c at, same_peer c.peer p (closing_is o o' _ p some is told), lost)
+  memory_of chain rose s world c o next left p q i w at (departs o' kept next_line some is gone_is still) told =
+      inr (meets c w.session.heard left p kept w.is.limit w.hears next_line (same_peer c.peer p (closing_is o o' _ p some is told)))
+  memory_of chain rose s world c o next left p q i w at (answers o' (event.Line bytes) b st kept limit gives (inl a) now_is some) told =
+      absurd (reply_other (outs_of o) c.peer p a.0.0 (ap outs_of (same_outs o o' some) ∙ a.0.2) told)
+  memory_of chain rose s world c o next left p q i w at (answers o' (event.Line bytes) b st kept limit gives (inr a) now_is some) told =
+      inr (meets c w.session.heard left p kept w.is.limit w.hears (gives_line c b bytes gives) (same_peer c.peer p (closing_is o o' _ p some a.0 told)))
+  memory_of chain rose s world c o next left p q i w at (answers o' (event.TooLong most) b st kept limit gives a now_is some) told =
+      absurd (long_other c.peer p (closing_is o o' _ p some a.0 told))
+  memory_of chain rose s world c o next left p q i w at (waits idle none_is same still) told = absurd (no_outs o none_is)
 
-  pub peers_long : (old new : State G) (world : World) (p : ℕ) (rest : List Event) (chain : Chain) (rose : ℕ → Type 0) (o : Option code.Outs) → Stands stands old world (says p too_long ∷ rest)
-      → is_client p world ≡ true → (HasLost p old.client → ⊥) → PeersTurn chain rose old o new → LongBy p o
-  peers_long old new world p rest chain rose o stood is kept (closes q o' waits_q some outs_is next still) =
-      let n = none_ordered_before old world p too_long rest stood in
-      absurd (no_line old.client world rest p q too_long (rw (waits_q, n.1) at stood.sessions))
-  peers_long old new world p rest chain rose o stood is kept (has_turn unused steps next) =
-      let n = none_ordered_before old world p too_long rest stood in
-      long_by chain rose old.client o new.client world rest p (rw (unused, n.1) at stood.sessions) is kept steps
+  pub peers_memory : (old new : State G) (world : World) (left : List Event) (chain : Chain) (rose : ℕ → Type 0) (o : code.Outs) (p : ℕ) (stood : Stands stands old world left) → stood.ordered ≡ []
+      → PeersTurn chain rose old (Some o) new → CloseIs (outs_of o).closing p → HasLost p old.clients ⊎ MeetsLine p left
+  peers_memory old new world left chain rose o p stood none (closes q o' is some outs_is next still) told = absurd (surplus_other q p (closing_is o o' _ p some outs_is told))
+  peers_memory old new world left chain rose o p stood none (has_turn unused (nobody no_speaker none_is next still)) told = absurd (no_outs o none_is)
+  peers_memory old new world left chain rose o p stood none (has_turn unused (gone q is absent none_is next still)) told = absurd (no_outs o none_is)
+  peers_memory old new world left chain rose o p stood none (has_turn unused (steps q i c now is at peer_is turn next)) told =
+      let l : left ≡ stood.said = stood.left_is ∙ ap (λ (x : List Event). x ++ stood.said) none in
+      rw l (memory_of chain rose old world c o now stood.said p q i (speaking old world stood.said q i c (rw (is, unused) at stood.sessions) at peer_is) at turn told)
 
   pub found_memory : (old new : State G) (world : World) (left : List Event) (chain : Chain) (rose : ℕ → Type 0) (o : Option code.Outs) (p : ℕ) (stood : Stands stands old world left) → stood.ordered ≡ []
-      → PeersTurn chain rose old o new → IfSome o (λ out. out.close ≡ Some (p, why.Memory) → HasLost p old.client ⊎ MeetsLine p left)
+      → PeersTurn chain rose old o new → IfSome o (λ out. out.close ≡ Some (p, why.Memory) → HasLost p old.clients ⊎ MeetsLine p left)
   found_memory old new world left chain rose None p stood none turn = tt
   found_memory old new world left chain rose (Some o) p stood none turn = λ told. peers_memory old new world left chain rose o p stood none turn (ap closing_of told)
+
+  long_of : (chain : Chain) (rose : ℕ → Type 0) (s : State G) (world : World) (c : ClientState) (o : Option code.Outs) (next : Option ClientState) (rest : List Event) (p q i : ℕ) → Speaking s world (says p too_long ∷ rest) q i c
+      → slice_get s.clients i ≡ Some c → (HasLost p s.clients → ⊥) → ClientTurn chain rose c o next → LongBy p o
+  long_of chain rose s world c o next rest p q i w at kept (loses o' lost some is gone_is still) = absurd (kept (c, contains_at s.clients i c at, whose c w.session.heard p too_long rest w.hears, lost))
+  long_of chain rose s world c o next rest p q i w at kept (departs o' k next_line some is gone_is still) =
+      let m = meets c w.session.heard (says p too_long ∷ rest) p k w.is.limit w.hears next_line (whose c w.session.heard p too_long rest w.hears) in
+      absurd (other_event p p m.bytes rest m.rest m.is)
+  long_of chain rose s world c o next rest p q i w at kept (answers o' (event.Line bytes) b st k limit gives a now_is some) =
+      let m = meets c w.session.heard (says p too_long ∷ rest) p k w.is.limit w.hears (gives_line c b bytes gives) (whose c w.session.heard p too_long rest w.hears) in
+      absurd (other_event p p m.bytes rest m.rest m.is)
+  long_of chain rose s world c o next rest p q i w at kept (answers o' (event.TooLong most) b st k limit gives a now_is some) = (o', some, a.0 ∙ ap closes_long (whose c w.session.heard p too_long rest w.hears))
+  long_of chain rose s world c o next rest p q i w at kept (waits idle none_is now_is still) =
+      let d = ordered c w.session.heard (says p too_long ∷ rest) idle.kept w.hears in
+      let none_after = left_none (says c.peer) (lines line_limit w.session.heard) d.given (all_met c w.session.heard d.given w.is.limit idle.given_all d.at) in
+      absurd (let e = d.left_is ∙ none_after in cc)
+
+  pub peers_long : (old new : State G) (world : World) (p : ℕ) (rest : List Event) (chain : Chain) (rose : ℕ → Type 0) (o : Option code.Outs) → Stands stands old world (says p too_long ∷ rest)
+      → is_client p world ≡ true → (HasLost p old.clients → ⊥) → PeersTurn chain rose old o new → LongBy p o
+  peers_long old new world p rest chain rose o stood is_one kept (closes q o' waits_q some outs_is next still) =
+      let n = none_ordered_before old world p too_long rest stood in
+      absurd (no_line old.clients old.speaker world.sessions rest p q too_long (rw (waits_q, n.1) at stood.sessions))
+  peers_long old new world p rest chain rose o stood is_one kept (has_turn unused (nobody no_speaker none_is next still)) =
+      let n = none_ordered_before old world p too_long rest stood in
+      let are : SessionsAre old.clients None None world.sessions (says p too_long ∷ rest) = rw (no_speaker, unused, n.1) at stood.sessions in
+      let v = are.leaves_left.0 in
+      absurd (there_at p world.sessions is_one (rw v.1 v.2))
+  peers_long old new world p rest chain rose o stood is_one kept (has_turn unused (gone q is absent none_is next still)) =
+      absurd (gone_not q old.clients world.sessions stood.said (rw (is, unused) at stood.sessions) absent)
+  peers_long old new world p rest chain rose o stood is_one kept (has_turn unused (steps q i c now is at peer_is turn next)) =
+      let n = none_ordered_before old world p too_long rest stood in
+      long_of chain rose old world c o now rest p q i (speaking old world (says p too_long ∷ rest) q i c (rw (is, unused, n.1) at stood.sessions) at peer_is) at kept turn

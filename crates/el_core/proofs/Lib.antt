@@ -1,9 +1,12 @@
 pub mod Events
-pub mod Moved
-pub mod Compared
 pub mod Sessions
 pub mod Peers
 pub mod Noded
 pub mod Turned
 pub mod Causes
 pub mod Arriving
+pub mod Places
+pub mod Replacing
+pub mod Replying
+pub mod Measured
+pub mod Numbers

@@ -1,47 +1,68 @@
 -- Turns of the node, over what the server keeps and the world that it stands for.
-use Rattle.std.proofs.Common.{◌≡◌, inl, inr, ℕ, ◌+◌, List, [], ◌∷◌, ◌++◌, map, drop, Option, Some, None, refl, ap, sym, ◌∙◌, append-nil, append_assoc, arith, subst}
+use Rattle.std.proofs.Common.{◌≡◌, inl, inr, ℕ, zero, suc, ◌+◌, ◌==◌, Bool, true, length, eqb-true, List, [], ◌∷◌, ◌++◌, map, drop, Option, Some, Result, Ok, Err, refl, ap, sym, ◌∙◌, arith, subst}
 use Rattle.std.specs.List.{AllByRecursion, slice_get}
 use Rattle.std.proofs.lemmas.Option.{slice_get_within}
+use Rattle.el_outside.specs.declared.archive.Archive as archive
 use Rattle.el_outside.specs.Counts.{RoseBy}
-use Rattle.el_outside.specs.Files.{AllGrow, IsFile}
-use Rattle.el_outside.specs.Moments.{LeavesOnly}
+use Rattle.el_outside.specs.Devices as device
+use Rattle.el_outside.specs.Devices.{Device, Rose, failures, faults}
+use Rattle.el_outside.proofs.Stories.{all_grow_none}
+use Rattle.el_chain.specs.declared.moves.Plan.{Plan}
 use Rattle.el_chain.specs.declared.node.Node.{Node}
 use Rattle.el_chain.specs.Chains.{Chain}
-use Rattle.el_chain.specs.Headers.{IsPath}
-use Rattle.el_chain.specs.Moves.{shorter}
-use Rattle.el_model.specs.Keeping.{Either}
-use Rattle.el_model.specs.Lines.{LineEvent, line, too_long, lines}
-use Rattle.el_model.specs.NodeLines as said_line
+use Rattle.el_model.specs.declared.ledger.Ledger as ledger
+use Rattle.el_model.specs.NodeSteps.{Leads}
+use Rattle.el_model.specs.Lines.{LineEvent, lines}
 use Rattle.el_model.specs.NodeAnswers.{node_limit}
-use Rattle.el_model.specs.Plans.{back_of, rest_of, left_of, plan_of}
+use Rattle.el_model.specs.Plans.{IsMoving, plan_of}
+use Rattle.el_model.specs.Side.{Side, Moving, OrdersLine}
 use Rattle.el_model.specs.World as model
-use Rattle.el_model.specs.World.{World, Event, orders, Outs, reply_to, Takes, IsBusy, found_after}
+use Rattle.el_model.specs.World.{World, Event, orders, reply_to, IsStill, IsBusy}
 use Rattle.el_model.specs.Run as run
-use Rattle.el_model.specs.Run.{OneTurn, Loss, link_losses, archive_losses, disk_losses, IsNodesTurn, Stops}
+use Rattle.el_model.specs.Run.{OneTurn, IsNodesTurn}
+use Rattle.el_model.specs.Flights.{later, first, IsFirstMove, IsMoveOf, IsUnderWay, before as not_moved, in_move}
+use Rattle.el_model.proofs.LedgerMoves.{LeavesOwn, asked_none, asked_moved}
 use Rattle.el_lines.specs.LineStates.{LineState}
+use Rattle.el_sync.specs.Steps.{NodeStep, RoseWith, StopsAt}
+use Rattle.el_sync.specs.declared.fault.StepFault.{StepFault}
+use Rattle.el_sync.specs.declared.moving.Step.{Step}
+use Rattle.el_sync.specs.declared.fault.StepFault.TheVariants as fault
 use Rattle.el_core.specs.State.{State, NodeLeaves, Stands}
-use Rattle.el_model.specs.Flights.{later, first, IsUnderWay, before, in_move}
-use Rattle.el_core.specs.Turn.{LeadsTo, TookTurn, TurnFailed, GoesTo}
+use Rattle.el_core.specs.Turn.{TookTurn, TurnFailed, GoesTo, outs_of}
+use Rattle.el_core.specs.within.Answering.{Answered, NodeKeeps}
 use Rattle.el_core.specs.within.Clients.{Gives}
-use Rattle.el_core.specs.within.Moving as part
-use Rattle.el_core.specs.within.Moving.{MoveTurn, PathTurn, TipTurn, BlockTurn, NodeTurn, MoveFailed, PathFailed, TipFailed, LineFailed, RoseWith}
-use Rattle.el_core.specs.declared.fault.StepFault.{StepFault}
-use Rattle.el_core.specs.declared.fault.StepFault.TheVariants as fault
-use Rattle.el_core.proofs.Moved.{rose_still}
-use Rattle.el_core.proofs.Compared.{moving_any}
+use Rattle.el_core.specs.declared.out.Outs.{Outs}
 use Rattle.el_core.proofs.Sessions.{left_first}
 
-pub all_grow_self : (a : ℕ → List ℕ) → AllGrow a a
-all_grow_self a = λ file. ([], sym (append-nil (a file)))
+-- a count that stays rose by none
+pub rose_still : (a b : ℕ) → b ≡ a → RoseBy a b 0
+rose_still a b same = omega arith
 
-pub grows_on : (a b c : ℕ → List ℕ) → AllGrow a b → AllGrow b c → AllGrow a c
-grows_on a b c g h = λ file. ((g file).0 ++ (h file).0, (h file).1 ∙ ap (λ (l : List ℕ). l ++ (h file).0) (g file).1 ∙ append_assoc (a file) (g file).0 (h file).0)
+-- calls of the block files and of the ledger's device alone failed
+pub rose_of : (of_link ab aa db da : ℕ) (losses : List Device) → failures device.link losses ≡ 0 → RoseBy ab aa (failures device.archive losses) → RoseBy db da (failures device.disk losses)
+    → Rose (faults of_link ab db) (faults of_link aa da) losses
+rose_of of_link ab aa db da losses no_link of_files of_disk device.link = rw no_link (rose_still of_link of_link refl)
+rose_of of_link ab aa db da losses no_link of_files of_disk device.archive = of_files
+rose_of of_link ab aa db da losses no_link of_files of_disk device.disk = of_disk
 
-file_grew : (a b : ℕ → List ℕ) (file : ℕ) (bytes after : List ℕ) → AllGrow a b → IsFile (b file) bytes after → IsFile (a file) bytes after
-file_grew a b file bytes after g is = record {
-  grew = ((g file).0 ++ is.grew.0, is.grew.1 ∙ ap (λ (l : List ℕ). l ++ is.grew.0) (g file).1 ∙ append_assoc (a file) (g file).0 is.grew.0);
-  grows = is.grows;
-}
+pub moving_any : (b : ℕ) (ns : List Node) → (ns ≡ [] → ⊥) → IsMoving b ns
+moving_any zero [] some = absurd (some refl)
+moving_any zero (n ∷ ns) some = tt
+moving_any (suc b) ns some = tt
+
+-- whether nothing is ahead
+pub nil_if : (xs : List Node) (b : Bool) → b ≡ true → b ≡ (length xs == 0) → xs ≡ []
+nil_if [] b yes_b is = refl
+nil_if (x ∷ xs) b yes_b is = absurd (let e = eqb-true (length (x ∷ xs)) 0 (sym is ∙ yes_b) in omega arith)
+
+fault_same : (a b : StepFault) → ◌≡◌ {A = Result Outs StepFault} (Err a) (Err b) → a ≡ b
+fault_same a b e = cc
+
+-- what is said of one kind of moves holds of another
+pub under_way_by : (tells : Type 0) (files : ℕ → List ℕ) (chain : Chain) (P Q : Plan → Type 0) (next : Chain) → ((p : Plan) → P p → Q p) → IsUnderWay tells files chain P next
+    → IsUnderWay tells files chain Q next
+under_way_by tells files chain P Q next gives (not_moved is) = not_moved is
+under_way_by tells files chain P Q next gives (in_move p move flight) = in_move p (gives p move) flight
 
 -- the node's next line, and what is left after it
 pub record NextOrder (b : LineState) (heard : List ℕ) (ordered : List Event) (e : LineEvent) : Type 0 where
@@ -66,226 +87,166 @@ next_order b next heard ordered e n same gives =
       };
     }
 
-module _ {G C : Type 0} (stands : G → Chain → Type 0) (tells_crash : Type 0) (means : C → Chain → Type 0) (moment : G → ℕ) (left_since : G → ℕ → C → Type 0) (tells : Type 0) where
-  -- What is known beside a turn of the node.
-  pub record Around (old new : State G) (world : World) (left : List Event) (fb fa : ℕ → List ℕ) (db da : ℕ) : Type 0 where
-    pub stood : Stands stands old world left
-    pub told : tells → AllGrow world.files fb
-    pub grows : tells → AllGrow fb fa
-    pub disk : da ≡ db
+module _ {G A : Type 0} (l : ledger.Ghosts G) (f : archive.Ghosts A) where
+  -- no memory was found, and nothing was done
+  pub stops_still : (old : G) (files : A) (chain : Chain) (is_move : Plan → Type 0) → LeavesOwn l → l.is_live old → l.stands old chain → StopsAt l f old old files chain is_move fault.Memory
+  stops_still old files chain is_move own live stood =
+      let moved = asked_moved l old old chain own live (asked_none l old) stood in
+      record { next = chain; flight = not_moved refl; crash = moved.crash; still = λ m. refl; stood = λ m. moved }
+
+  pub step_still : (old : G) (files : A) → l.is_live old → NodeKeeps l f old old files files (Err fault.Memory)
+  step_still old files live = record {
+    live = tt;
+    still_live = λ e. live;
+    keeps = λ t. all_grow_none (f.bytes files);
+    archive_more = omega arith;
+    archive_rose = inl (rose_still (f.faults files) (f.faults files) refl);
+    disk_rose = record { counted = λ e. absurd cc; uncounted = tt; others_uncounted = λ other. refl };
+  }
+
+  -- what the step kept, the turn keeps
+  pub keeps_ok : (old new : G) (before after : A) (step : Step) (o : Outs) → NodeStep l f old new before after (Ok step) → NodeKeeps l f old new before after (Ok o)
+  keeps_ok old new before after step o k = record {
+    live = k.live;
+    still_live = λ e. absurd cc;
+    keeps = k.keeps;
+    archive_more = k.archive_more;
+    archive_rose = tt;
+    disk_rose = record { counted = λ e. absurd cc; uncounted = k.disk_rose.uncounted; others_uncounted = tt };
+  }
+
+  pub keeps_err : (old new : G) (before after : A) (e : StepFault) → NodeStep l f old new before after (Err e) → NodeKeeps l f old new before after (Err e)
+  keeps_err old new before after e k = record {
+    live = tt;
+    still_live = λ is. k.still_live (ap Err (fault_same e fault.Memory is));
+    keeps = k.keeps;
+    archive_more = k.archive_more;
+    archive_rose = k.archive_rose;
+    disk_rose = record {
+      counted = λ is. k.disk_rose.counted (ap Err (fault_same e fault.DiskFailed is));
+      uncounted = tt;
+      others_uncounted = k.disk_rose.others_uncounted;
+    };
+  }
+
+  pub found_same : (leads : List ℕ → List Device → Side → Type 0) (old new : G) (before after : A) (side : Side) (text : List ℕ) (found same ahead : List Node) → found ≡ same
+      → Leads l f leads old new before after side text found ahead → Leads l f leads old new before after side text same ahead
+  found_same leads old new before after side text found same ahead is led = subst (λ (fs : List Node). Leads l f leads old new before after side text fs ahead) is led
+
+  -- What is known of a turn of the node, which leaves the clients as they were.
+  pub record NodeTurned (leads : List ℕ → List Device → Side → Type 0) (old new : State G) (before after : A) (world : World) (left : List Event) (o : Outs) : Type 0 where
+    pub stood : Stands l.stands old world left
+    pub answered : Answered l f leads old new before after world.side o
     pub magic : new.magic ≡ old.magic
-    pub client : new.client ≡ old.client
+    pub clients : new.clients ≡ old.clients
+    pub speaker : new.speaker ≡ old.speaker
     pub surplus : new.surplus ≡ old.surplus
 
   -- what is sent to the node goes to it
-  to_node_goes : (o : Outs) (text : List ℕ) (next : World) (surplus : Option ℕ) → o ≡ reply_to 0 text → AllByRecursion (GoesTo next surplus) o.messages
+  to_node_goes : (o : model.Outs) (text : List ℕ) (next : World) (surplus : Option ℕ) → o ≡ reply_to 0 text → AllByRecursion (GoesTo next surplus) o.messages
   to_node_goes o text next surplus is = rw is (inl refl, tt)
 
-  -- a turn that leaves the clients as they were
-  built : (old new : State G) (world : World) (left : List Event) (fb fa : ℕ → List ℕ) (ab aa db da : ℕ) (o : Outs) (text : List ℕ) (r : Around old new world left fb fa db da)
-      (next : World) (done ordered : List Event) (losses : List Loss) → left ≡ done ++ (ordered ++ r.stood.said) → OneTurn tells world done o losses next → o ≡ reply_to 0 text
-      → LeadsTo stands tells_crash means moment left_since old.ledger new.ledger world.chain next.chain → new.found ≡ next.found → new.ahead ≡ next.ahead → next.magic ≡ world.magic
-      → NodeLeaves new.node next.heard ordered → next.sessions ≡ world.sessions → (tells → AllGrow next.files fa) → link_losses losses ≡ 0 → disk_losses losses ≡ 0
-      → RoseBy ab aa (archive_losses losses)
-      → TookTurn stands (LeadsTo stands tells_crash means moment left_since old.ledger new.ledger) tells fa ab aa db da world left o new
-  built old new world left fb fa ab aa db da o text r next done ordered losses whole turn sends led found ahead magic node sessions files no_link no_disk archive = record {
-    done = done;
-    rest = ordered ++ r.stood.said;
-    losses = losses;
-    next = next;
-    whole = whole;
-    turn = turn;
-    stood = record {
-      chain = led.stood;
-      magic = r.magic ∙ r.stood.magic ∙ sym magic;
-      found = found;
-      ahead = ahead;
-      ordered = ordered;
-      node = node;
-      said = r.stood.said;
-      sessions = rw (r.client, r.surplus, sessions) r.stood.sessions;
-      left_is = refl;
-    };
-    led = led;
-    told = files;
-    sends_to = to_node_goes o text next new.surplus sends;
-    no_link = no_link;
-    archive_rose = archive;
-    disk_rose = rw no_disk (rose_still db da r.disk);
-  }
+  built : (leads : List ℕ → List Device → Side → Type 0) (old new : State G) (before after : A) (world : World) (left : List Event) (o : Outs) (r : NodeTurned leads old new before after world left o)
+      (done ordered : List Event) → left ≡ done ++ (ordered ++ r.stood.said) → OneTurn f.tells world done (outs_of o) r.answered.led.losses (record world { side = r.answered.led.next })
+      → NodeLeaves new.node world.heard ordered → TookTurn l f old new before after world left (outs_of o)
+  built leads old new before after world left o r done ordered whole turn node =
+      let led = r.answered.led in
+      record {
+        done = done;
+        rest = ordered ++ r.stood.said;
+        losses = led.losses;
+        next = record world { side = led.next };
+        whole = whole;
+        turn = turn;
+        stood = record {
+          chain = led.moved.stood;
+          magic = r.magic ∙ r.stood.magic ∙ sym led.magic_is;
+          found = led.found_is;
+          ahead = led.ahead_is;
+          ordered = ordered;
+          node = node;
+          said = r.stood.said;
+          sessions = rw (r.clients, r.speaker, r.surplus) r.stood.sessions;
+          left_is = refl;
+        };
+        moved = led.moved;
+        told = led.told;
+        sends_to = to_node_goes (outs_of o) r.answered.text (record world { side = led.next }) new.surplus r.answered.sends;
+        rose = led.rose;
+      }
 
   -- the next move of the node's last tip line
-  pub ahead_step : (old new : State G) (world : World) (left : List Event) (fb fa : ℕ → List ℕ) (ab aa db da : ℕ) (o : Outs) (text : List ℕ) (r : Around old new world left fb fa db da)
-      → (world.ahead ≡ [] → ⊥) → o ≡ reply_to 0 text → new.found ≡ old.found → new.node ≡ old.node
-      → MoveTurn tells fa world.chain 0 world.ahead (LeadsTo stands tells_crash means moment left_since old.ledger new.ledger world.chain) new.ahead (λ n. RoseBy ab aa n) text
-      → TookTurn stands (LeadsTo stands tells_crash means moment left_since old.ledger new.ledger) tells fa ab aa db da world left o new
-  ahead_step old new world left fb fa ab aa db da o text r some sends found node (part.committed blocks moves led left_is text_is still) =
-      built old new world left fb fa ab aa db da o text r (record world { chain = shorter 0 world.chain ++ blocks; ahead = left_of world.ahead; files = fa }) [] r.stood.ordered [] r.stood.left_is
-      (run.works (moving_any 0 world.ahead some) refl (model.commits fa blocks (λ t. grows_on world.files fb fa (r.told t) (r.grows t)) moves refl (sends ∙ ap (reply_to 0) text_is)) refl)
-      sends led (found ∙ r.stood.found) left_is refl (rw node r.stood.node) refl (λ t. all_grow_self fa) refl refl still
-  ahead_step old new world left fb fa ab aa db da o text r some sends found node (part.refused e told why led none still) =
-      built old new world left fb fa ab aa db da o text r (record world { ahead = []; files = fa }) [] r.stood.ordered [] r.stood.left_is
-      (run.works (moving_any 0 world.ahead some) refl (model.refuses fa e text (λ t. grows_on world.files fb fa (r.told t) (r.grows t)) told why refl sends) refl)
-      sends led (found ∙ r.stood.found) none refl (rw node r.stood.node) refl (λ t. all_grow_self fa) refl refl still
-  ahead_step old new world left fb fa ab aa db da o text r some sends found node (part.failed led none text_is rose) =
-      built old new world left fb fa ab aa db da o text r (record world { ahead = []; files = fa }) [] r.stood.ordered (run.archive ∷ []) r.stood.left_is
-      (run.fails run.archive (run.in_later_move fa (moving_any 0 world.ahead some) refl refl (λ t. grows_on world.files fb fa (r.told t) (r.grows t)) (sends ∙ ap (reply_to 0) text_is) refl) refl)
-      sends led (found ∙ r.stood.found) none refl (rw node r.stood.node) refl (λ t. all_grow_self fa) refl refl rose
+  pub ahead_step : (old new : State G) (before after : A) (world : World) (left : List Event) (o : Outs)
+      → NodeTurned (Moving f.tells world.side 0 world.side.ahead) old new before after world left o → (world.side.ahead ≡ [] → ⊥) → new.node ≡ old.node
+      → TookTurn l f old new before after world left (outs_of o)
+  ahead_step old new before after world left o r some node =
+      let a = r.answered in
+      built (Moving f.tells world.side 0 world.side.ahead) old new before after world left o r [] r.stood.ordered r.stood.left_is
+      (run.works (moving_any 0 world.side.ahead some) refl (record { text = a.text; side = a.led.next; led = a.led.led; outs_is = a.sends; next_is = refl }))
+      (rw node r.stood.node)
 
   -- a line of the node: the rest of the events
   rest_after : (left said ordered rest : List Event) (e : LineEvent) → left ≡ ordered ++ said → ordered ≡ orders e ∷ rest → left ≡ (orders e ∷ []) ++ (rest ++ said)
-  rest_after left said ordered rest e is first_is = is ∙ ap (λ (l : List Event). l ++ said) first_is
+  rest_after left said ordered rest e is first_is = is ∙ ap (λ (es : List Event). es ++ said) first_is
 
-  -- a line that is only answered
-  answered_only : (old new : State G) (world : World) (left : List Event) (fb fa : ℕ → List ℕ) (ab aa db da : ℕ) (o : Outs) (text : List ℕ) (r : Around old new world left fb fa db da)
-      (e : LineEvent) (n : NextOrder new.node world.heard r.stood.ordered e) → world.ahead ≡ [] → o ≡ reply_to 0 text → Takes tells world (orders e) o world
-      → LeadsTo stands tells_crash means moment left_since old.ledger new.ledger world.chain world.chain → new.found ≡ world.found → new.ahead ≡ [] → RoseBy ab aa 0
-      → TookTurn stands (LeadsTo stands tells_crash means moment left_since old.ledger new.ledger) tells fa ab aa db da world left o new
-  answered_only old new world left fb fa ab aa db da o text r e n still sends takes led found none rose =
-      built old new world left fb fa ab aa db da o text r world (orders e ∷ []) n.rest [] (rest_after left r.stood.said r.stood.ordered n.rest e r.stood.left_is n.first_is)
-      (run.takes (orders e) still refl takes refl) sends led found (none ∙ sym still) refl n.node refl (λ t. grows_on world.files fb fa (r.told t) (r.grows t)) refl refl rose
-
-  -- a tip line along a path
-  pub path_step : (old new : State G) (world : World) (left : List Event) (fb fa : ℕ → List ℕ) (ab aa db da : ℕ) (o : Outs) (text : List ℕ) (r : Around old new world left fb fa db da)
-      (bytes hash : List ℕ) (path : List Node) (n : NextOrder new.node world.heard r.stood.ordered (line bytes)) → world.ahead ≡ [] → o ≡ reply_to 0 text → new.found ≡ world.found
-      → said_line.ReadsNodeLine bytes (said_line.tip hash) → IsPath world.found (record { 0 = hash }) path
-      → PathTurn tells fa world.chain path (LeadsTo stands tells_crash means moment left_since old.ledger new.ledger world.chain) new.ahead (λ m. RoseBy ab aa m) text
-      → TookTurn stands (LeadsTo stands tells_crash means moment left_since old.ledger new.ledger) tells fa ab aa db da world left o new
-  path_step old new world left fb fa ab aa db da o text r bytes hash path n still sends found reads is_path (part.deep deep led none text_is rose) =
-      answered_only old new world left fb fa ab aa db da o text r (line bytes) n still sends
-      (Some (said_line.tip hash), reads, model.along path is_path (model.deep deep (sends ∙ ap (reply_to 0) text_is) refl)) led found none rose
-  path_step old new world left fb fa ab aa db da o text r bytes hash path n still sends found reads is_path (part.there back none_left led none text_is rose) =
-      answered_only old new world left fb fa ab aa db da o text r (line bytes) n still sends
-      (Some (said_line.tip hash), reads, model.along path is_path (model.there back none_left (sends ∙ ap (reply_to 0) text_is) refl)) led found none rose
-  path_step old new world left fb fa ab aa db da o text r bytes hash path n still sends found reads is_path (part.moves few moving (part.committed blocks moves led left_is text_is rose)) =
-      let back = back_of world.chain path in
-      built old new world left fb fa ab aa db da o text r (record world { chain = shorter back world.chain ++ blocks; ahead = left_of (rest_of world.chain path); files = fa })
-      (orders (line bytes) ∷ []) n.rest [] (rest_after left r.stood.said r.stood.ordered n.rest (line bytes) r.stood.left_is n.first_is)
-      (run.takes (orders (line bytes)) still refl (
-        Some (said_line.tip hash),
-        reads,
-        model.along path is_path
-            (model.moves few moving (model.commits fa blocks (λ t. grows_on world.files fb fa (r.told t) (r.grows t)) moves refl (sends ∙ ap (reply_to 0) text_is))),
-      ) refl)
-      sends led found left_is refl n.node refl (λ t. all_grow_self fa) refl refl rose
-  path_step old new world left fb fa ab aa db da o text r bytes hash path n still sends found reads is_path (part.moves few moving (part.refused e told why led none rose)) =
-      built old new world left fb fa ab aa db da o text r (record world { ahead = []; files = fa })
-      (orders (line bytes) ∷ []) n.rest [] (rest_after left r.stood.said r.stood.ordered n.rest (line bytes) r.stood.left_is n.first_is)
-      (run.takes (orders (line bytes)) still refl (
-        Some (said_line.tip hash),
-        reads,
-        model.along path is_path
-            (model.moves few moving (model.refuses fa e text (λ t. grows_on world.files fb fa (r.told t) (r.grows t)) told why refl sends)),
-      ) refl)
-      sends led found none refl n.node refl (λ t. all_grow_self fa) refl refl rose
-  path_step old new world left fb fa ab aa db da o text r bytes hash path n still sends found reads is_path (part.moves few moving (part.failed led none text_is rose)) =
-      built old new world left fb fa ab aa db da o text r (record world { files = fa })
-      (orders (line bytes) ∷ []) n.rest (run.archive ∷ []) (rest_after left r.stood.said r.stood.ordered n.rest (line bytes) r.stood.left_is n.first_is)
-      (run.fails run.archive
-      (run.in_first_move bytes hash path fa still reads is_path few moving refl refl (λ t. grows_on world.files fb fa (r.told t) (r.grows t)) (sends ∙ ap (reply_to 0) text_is) refl) refl)
-      sends led found (none ∙ sym still) refl n.node refl (λ t. all_grow_self fa) refl refl rose
-
-  pub node_step : (old new : State G) (world : World) (left : List Event) (fb fa : ℕ → List ℕ) (ab aa db da : ℕ) (o : Outs) (text : List ℕ) (r : Around old new world left fb fa db da)
-      (e : LineEvent) (n : NextOrder new.node world.heard r.stood.ordered e) → world.ahead ≡ [] → o ≡ reply_to 0 text
-      → NodeTurn tells fb fa world.magic world.found world.chain e new.found (LeadsTo stands tells_crash means moment left_since old.ledger new.ledger world.chain) new.ahead (λ m. RoseBy ab aa m) text
-      → TookTurn stands (LeadsTo stands tells_crash means moment left_since old.ledger new.ledger) tells fa ab aa db da world left o new
-  node_step old new world left fb fa ab aa db da o text r e n still sends (part.long is found led none text_is rose) =
-      answered_only old new world left fb fa ab aa db da o text r too_long (rw is at n) still sends (sends ∙ ap (reply_to 0) text_is, refl) led found none rose
-  node_step old new world left fb fa ab aa db da o text r e n still sends (part.wrong bytes is nothing_said found led none text_is rose) =
-      answered_only old new world left fb fa ab aa db da o text r (line bytes) (rw is at n) still sends (None, nothing_said, (sends ∙ ap (reply_to 0) text_is, refl)) led found none rose
-  node_step old new world left fb fa ab aa db da o text r e n still sends (part.later bytes tx is (inl reads) found led none text_is rose) =
-      answered_only old new world left fb fa ab aa db da o text r (line bytes) (rw is at n) still sends (Some (said_line.tx tx), reads, (sends ∙ ap (reply_to 0) text_is, refl)) led found none rose
-  node_step old new world left fb fa ab aa db da o text r e n still sends (part.later bytes tx is (inr reads) found led none text_is rose) =
-      answered_only old new world left fb fa ab aa db da o text r (line bytes) (rw is at n) still sends (Some (said_line.dropped tx), reads, (sends ∙ ap (reply_to 0) text_is, refl)) led found none rose
-  node_step old new world left fb fa ab aa db da o text r e n still sends (part.looks bytes file at is reads led none (part.looked node is_node record_is found_is text_is rose)) =
-      let n' = rw is at n in
-      built old new world left fb fa ab aa db da o text r (record world { found = found_after world.found node; files = fa })
-      (orders (line bytes) ∷ []) n'.rest [] (rest_after left r.stood.said r.stood.ordered n'.rest (line bytes) r.stood.left_is n'.first_is)
-      (run.takes (orders (line bytes)) still refl (
-        Some (said_line.block file at),
-        reads,
-        (
-          node,
-          fa,
-          record {
-            node = is_node;
-            grows = λ t. grows_on world.files fb fa (r.told t) (r.grows t);
-            record_is = λ t. let k = record_is t in (k.0, file_grew world.files fb file k.0 (fa file) (r.told t) k.1, k.2);
-          },
-          sends ∙ ap (reply_to 0) text_is,
-          refl,
-        ),
-      ) refl)
-      sends led found_is (none ∙ sym still) refl n'.node refl (λ t. all_grow_self fa) refl refl rose
-  node_step old new world left fb fa ab aa db da o text r e n still sends (part.looks bytes file at is reads led none (part.failed found_is text_is rose)) =
-      let n' = rw is at n in
-      built old new world left fb fa ab aa db da o text r (record world { files = fa })
-      (orders (line bytes) ∷ []) n'.rest (run.archive ∷ []) (rest_after left r.stood.said r.stood.ordered n'.rest (line bytes) r.stood.left_is n'.first_is)
-      (run.fails run.archive (run.in_block bytes file at fa still reads refl refl (λ t. grows_on world.files fb fa (r.told t) (r.grows t)) (sends ∙ ap (reply_to 0) text_is) refl) refl)
-      sends led found_is (none ∙ sym still) refl n'.node refl (λ t. all_grow_self fa) refl refl rose
-  node_step old new world left fb fa ab aa db da o text r e n still sends (part.tips bytes h is reads found (part.unknown unknown led none text_is rose)) =
-      answered_only old new world left fb fa ab aa db da o text r (line bytes) (rw is at n) still sends
-      (Some (said_line.tip h.0), reads, model.unknown unknown (sends ∙ ap (reply_to 0) text_is) refl) led found none rose
-  node_step old new world left fb fa ab aa db da o text r e n still sends (part.tips bytes h is reads found (part.unconnected known no_path led none text_is rose)) =
-      answered_only old new world left fb fa ab aa db da o text r (line bytes) (rw is at n) still sends
-      (Some (said_line.tip h.0), reads, model.unconnected known no_path (sends ∙ ap (reply_to 0) text_is) refl) led found none rose
-  node_step old new world left fb fa ab aa db da o text r e n still sends (part.tips bytes h is reads found (part.along path is_path turn)) =
-      path_step old new world left fb fa ab aa db da o text r bytes h.0 path (rw is at n) still sends found reads is_path turn
+  pub node_step : (old new : State G) (before after : A) (world : World) (left : List Event) (o : Outs) (e : LineEvent)
+      (r : NodeTurned (OrdersLine f.tells world.side e) old new before after world left o) → NextOrder new.node world.heard r.stood.ordered e → IsStill world
+      → TookTurn l f old new before after world left (outs_of o)
+  node_step old new before after world left o e r n still =
+      let a = r.answered in
+      built (OrdersLine f.tells world.side e) old new before after world left o r (orders e ∷ []) n.rest
+      (rest_after left r.stood.said r.stood.ordered n.rest e r.stood.left_is n.first_is)
+      (run.takes (orders e) still refl (record { text = a.text; side = a.led.next; led = a.led.led; outs_is = a.sends; next_is = refl }))
+      n.node
 
   -- ---- turns that fail
 
   -- by how much the counts rose
-  pub record FailCounts (e : StepFault) (ab aa db da : ℕ) : Type 0 where
-    pub archive : RoseWith e (λ n. RoseBy ab aa n)
-    pub disk : e ≡ fault.DiskFailed → RoseBy db da 1
-    pub others : (e ≡ fault.DiskFailed → ⊥) → da ≡ db
+  pub record FailCounts (e : StepFault) (before after : A) (old new : G) : Type 0 where
+    pub archive : RoseWith e (λ n. RoseBy (f.faults before) (f.faults after) n)
+    pub disk : e ≡ fault.DiskFailed → RoseBy (l.faults old) (l.faults new) 1
+    pub others : (e ≡ fault.DiskFailed → ⊥) → l.faults new ≡ l.faults old
 
-  failed_so : (is_live : G → Type 0) (old : State G) (ledger : G) (world : World) (left : List Event) (fa : ℕ → List ℕ) (ab aa db da : ℕ) (e : StepFault) → IsNodesTurn world left
-      → FailCounts e ab aa db da → (next : Chain) → IsUnderWay tells fa world left next
-      → (tells_crash → LeavesOnly moment left_since old.ledger ledger (Either means world.chain next)) → (e ≡ fault.Memory → next ≡ world.chain)
-      → (e ≡ fault.Memory → stands ledger world.chain × is_live ledger)
-      → TurnFailed stands is_live (λ chain next. tells_crash → LeavesOnly moment left_since old.ledger ledger (Either means chain next)) tells fa ab aa db da world left ledger e
-  failed_so is_live old ledger world left fa ab aa db da fault.DiskFailed nodes counts next way crash still stood = record {
-    losses = run.disk ∷ [];
+  failed_so : (old new : G) (before after : A) (world : World) (left : List Event) (e : StepFault) → IsNodesTurn world left
+      → FailCounts e before after old new → StopsAt l f old new after world.side.chain (IsMoveOf world left) e → (e ≡ fault.Memory → l.is_live new)
+      → TurnFailed l f old new before after world left e
+  failed_so old new before after world left fault.DiskFailed nodes counts stops live = record {
+    losses = device.disk ∷ [];
     stops = run.disk_failed refl nodes refl refl refl;
     within = tt;
-    no_link = refl;
-    archive_rose = counts.archive;
-    disk_rose = counts.disk refl;
-    next = next;
-    under_way = way;
-    crash = crash;
-    still = still;
-    stood = stood;
+    rose = λ of_link. rose_of of_link (f.faults before) (f.faults after) (l.faults old) (l.faults new) (device.disk ∷ []) refl counts.archive (counts.disk refl);
+    stops_at = stops;
+    live = live;
   }
-  failed_so is_live old ledger world left fa ab aa db da fault.Memory nodes counts next way crash still stood = elim counts.archive [
-    | inl none ↦ record {
-      losses = [];
-      stops = run.no_memory refl nodes refl refl refl;
-      within = tt;
-      no_link = refl;
-      archive_rose = none;
-      disk_rose = rose_still db da (counts.others (λ e. let bad = e in cc));
-      next = next;
-      under_way = way;
-      crash = crash;
-      still = still;
-      stood = stood;
-    }
-    | inr one ↦ record {
-      losses = run.archive ∷ [];
-      stops = run.untold refl nodes refl refl refl;
-      within = tt;
-      no_link = refl;
-      archive_rose = one;
-      disk_rose = rose_still db da (counts.others (λ e. let bad = e in cc));
-      next = next;
-      under_way = way;
-      crash = crash;
-      still = still;
-      stood = stood;
-    }
-  ]
+  failed_so old new before after world left fault.Memory nodes counts stops live =
+      let no_disk = rose_still (l.faults old) (l.faults new) (counts.others (λ e. let bad = e in cc)) in
+      elim counts.archive [
+        | inl none ↦ record {
+          losses = [];
+          stops = run.no_memory refl nodes refl refl refl;
+          within = tt;
+          rose = λ of_link. rose_of of_link (f.faults before) (f.faults after) (l.faults old) (l.faults new) [] refl none no_disk;
+          stops_at = stops;
+          live = live;
+        }
+        | inr one ↦ record {
+          losses = device.archive ∷ [];
+          stops = run.untold refl nodes refl refl refl;
+          within = tt;
+          rose = λ of_link. rose_of of_link (f.faults before) (f.faults after) (l.faults old) (l.faults new) (device.archive ∷ []) refl one no_disk;
+          stops_at = stops;
+          live = live;
+        }
+      ]
+
+  stops_by : (old new : G) (after : A) (chain : Chain) (P Q : Plan → Type 0) (e : StepFault) → ((p : Plan) → P p → Q p) → StopsAt l f old new after chain P e → StopsAt l f old new after chain Q e
+  stops_by old new after chain P Q e gives r = record {
+    next = r.next;
+    flight = under_way_by f.tells (f.bytes after) chain P Q r.next gives r.flight;
+    crash = r.crash;
+    still = r.still;
+    stood = r.stood;
+  }
 
   nodes_busy : (world : World) (left : List Event) → IsBusy world → IsNodesTurn world left
   nodes_busy world [] busy = busy
@@ -294,29 +255,16 @@ module _ {G C : Type 0} (stands : G → Chain → Type 0) (tells_crash : Type 0)
   nodes_busy world (model.leaves p ∷ left) busy = busy
   nodes_busy world (model.says p said ∷ left) busy = busy
 
-  pub ahead_failed : (is_live : G → Type 0) (old : State G) (ledger : G) (world : World) (left : List Event) (fa : ℕ → List ℕ) (ab aa db da : ℕ) (e : StepFault) → (world.ahead ≡ [] → ⊥)
-      → FailCounts e ab aa db da → (e ≡ fault.Memory → is_live ledger)
-      → MoveFailed tells fa world.chain 0 world.ahead (LeadsTo stands tells_crash means moment left_since old.ledger ledger world.chain)
-      (λ next. tells_crash → LeavesOnly moment left_since old.ledger ledger (Either means world.chain next)) e
-      → TurnFailed stands is_live (λ chain next. tells_crash → LeavesOnly moment left_since old.ledger ledger (Either means chain next)) tells fa ab aa db da world left ledger e
-  ahead_failed is_live old ledger world left fa ab aa db da e some counts live f =
-      let busy = moving_any 0 world.ahead some in
-      failed_so is_live old ledger world left fa ab aa db da e (nodes_busy world left busy) counts f.next (in_move (plan_of 0 world.ahead) (later busy refl) f.flight) f.crash
-      f.still (λ m. ((f.stood m).stood, live m))
+  pub ahead_failed : (old new : G) (before after : A) (world : World) (left : List Event) (e : StepFault) → (world.side.ahead ≡ [] → ⊥)
+      → FailCounts e before after old new → (e ≡ fault.Memory → l.is_live new) → StopsAt l f old new after world.side.chain (λ (p : Plan). p ≡ plan_of 0 world.side.ahead) e
+      → TurnFailed l f old new before after world left e
+  ahead_failed old new before after world left e some counts live r =
+      let busy = moving_any 0 world.side.ahead some in
+      failed_so old new before after world left e (nodes_busy world left busy) counts (stops_by old new after world.side.chain _ (IsMoveOf world left) e (λ p is. later busy is) r) live
 
-  pub line_failed : (is_live : G → Type 0) (old : State G) (ledger : G) (world : World) (left rest : List Event) (fa : ℕ → List ℕ) (ab aa db da : ℕ) (e : StepFault) (said : LineEvent)
-      → world.ahead ≡ [] → left ≡ orders said ∷ rest → FailCounts e ab aa db da → (e ≡ fault.Memory → is_live ledger)
-      → LineFailed tells fa world.found world.chain said (LeadsTo stands tells_crash means moment left_since old.ledger ledger world.chain)
-      (λ next. tells_crash → LeavesOnly moment left_since old.ledger ledger (Either means world.chain next)) e
-      → TurnFailed stands is_live (λ chain next. tells_crash → LeavesOnly moment left_since old.ledger ledger (Either means chain next)) tells fa ab aa db da world left ledger e
-  line_failed is_live old ledger world left rest fa ab aa db da e said still is counts live (part.unmoved memory leads crash) =
-      failed_so is_live old ledger world left fa ab aa db da e (rw is tt) counts world.chain (before refl) crash (λ m. refl) (λ m. (leads.stood, live m))
-  line_failed is_live old ledger world left rest fa ab aa db da e said still is counts live (part.tips bytes h said_is reads (part.unmoved memory leads crash)) =
-      failed_so is_live old ledger world left fa ab aa db da e (rw is tt) counts world.chain (before refl) crash (λ m. refl) (λ m. (leads.stood, live m))
-  line_failed is_live old ledger world left rest fa ab aa db da e said still is counts live (part.tips bytes h said_is reads (part.along path is_path (part.unmoved crash leads))) =
-      failed_so is_live old ledger world left fa ab aa db da e (rw is tt) counts world.chain (before refl) crash (λ m. refl) (λ m. ((leads m).stood, live m))
-  line_failed is_live old ledger world left rest fa ab aa db da e said still is counts live (part.tips bytes h said_is reads (part.along path is_path (part.in_move few moving f))) =
-      failed_so is_live old ledger world left fa ab aa db da e (rw is tt) counts f.next
-      (in_move (plan_of (back_of world.chain path) (rest_of world.chain path))
-      (first bytes h.0 path rest still (is ∙ ap (λ (s : LineEvent). orders s ∷ rest) said_is) reads is_path few moving refl) f.flight) f.crash
-      f.still (λ m. ((f.stood m).stood, live m))
+  pub line_failed : (old new : G) (before after : A) (world : World) (left rest : List Event) (e : StepFault) (said : LineEvent)
+      → IsStill world → left ≡ orders said ∷ rest → FailCounts e before after old new → (e ≡ fault.Memory → l.is_live new)
+      → StopsAt l f old new after world.side.chain (IsFirstMove world.side said) e → TurnFailed l f old new before after world left e
+  line_failed old new before after world left rest e said still is counts live r =
+      failed_so old new before after world left e (rw is tt) counts
+      (stops_by old new after world.side.chain (IsFirstMove world.side said) (IsMoveOf world left) e (λ p move. first said rest still is move) r) live

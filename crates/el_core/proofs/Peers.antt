@@ -1,47 +1,36 @@
--- Turns of a client, or of one too many.
-use Rattle.std.proofs.Common.{◌≡◌, ◌⊎◌, inl, inr, ℕ, ◌+◌, ◌≤◌, Bool, true, false, List, [], ◌∷◌, ◌++◌, length, map, drop, Option, Some, None, refl, ap, sym, ◌∙◌, append-nil, append_assoc, arith, subst, eq-eqb}
-use Rattle.std.specs.Prelude.{MatchBool, IfSome, IfNone, if◌then◌else◌}
-use Rattle.std.specs.List.{AllByRecursion, slice_get}
+-- Turns of the client that speaks, and of one too many.
+use Rattle.std.proofs.Common.{◌≡◌, ◌⊎◌, inl, inr, ℕ, zero, suc, ◌+◌, ◌≤◌, Bool, true, false, not, List, [], ◌∷◌, ◌++◌, length, map, filter, drop, slice_get, Option, Some, None, refl, sym, ap, ◌∙◌, append-nil, append_assoc, subst, arith, true≢false}
+use Rattle.std.specs.Prelude.{MatchBool, IfSome, IfNone, find}
+use Rattle.std.specs.List.{AllByRecursion, AllZip, list_any}
 use Rattle.std.proofs.lemmas.Option.{slice_get_within}
+use Rattle.el_outside.specs.declared.archive.Archive as archive
 use Rattle.el_outside.specs.Counts.{RoseBy}
+use Rattle.el_outside.specs.Devices as device
+use Rattle.el_outside.specs.Devices.{Device, failures}
 use Rattle.el_outside.specs.Files.{AllGrow}
-use Rattle.el_chain.specs.Chains.{Chain}
+use Rattle.el_outside.proofs.Stories.{rose_none}
+use Rattle.el_model.specs.declared.ledger.Ledger as ledger
+use Rattle.el_model.specs.LedgerCalls.{Moved}
 use Rattle.el_model.specs.Lines.{LineEvent, line, too_long, lines}
 use Rattle.el_model.specs.NodeAnswers.{node_limit}
-use Rattle.el_model.specs.declared.method.Method.{Method}
-use Rattle.el_model.specs.Replies.{Asks, replies, answered, too_large}
+use Rattle.el_model.specs.Replies.{replies}
 use Rattle.el_model.specs.Sessions.{Session}
-use Rattle.el_model.specs.World.{World, Event, joins, says, orders, leaves, Takes, Outs, reply_to, nothing, closes_long, closes_surplus, is_client, is_peer, with_session, without_client, line_limit}
+use Rattle.el_model.specs.World as model
+use Rattle.el_model.specs.World.{World, Event, IsStill, joins, says, orders, leaves, Takes, Outs, reply_to, nothing, closes_long, closes_surplus, is_client, is_peer, without_client, line_limit}
 use Rattle.el_model.specs.Run as run
-use Rattle.el_model.specs.Run.{OneTurn, Turns, Loss, link_losses, disk_losses, closes_memory}
+use Rattle.el_model.specs.Run.{OneTurn, Turns, closes_memory}
 use Rattle.el_lines.specs.LineStates.{LineState, IsAt}
 use Rattle.el_lines.specs.declared.line_buffer.LineEvent.TheVariants as event
-use Rattle.el_core.specs.State.{State, ClientState, HasGivenAll, HearsLeft, in_order, SessionsAre, AllVoid, IsSaidBy, NodeLeaves, Stands}
-use Rattle.el_core.specs.Turn.{LeadsTo, TookTurn, IsDone, GoesTo, outs_of}
-use Rattle.el_core.specs.within.Clients.{RequestText, listed as shows_list, failed as device_failed, ReplyText, replied, failed, Gives, ClientTurn, ClientSteps, loses, departs, answers, waits, PeersTurn, closes, has_turn}
+use Rattle.el_core.specs.State.{State, ClientState, HasGivenAll, HearsLeft, in_order, IsSession, SessionsAre, Leaves, AllVoid, IsSaidBy, NodeLeaves, Stands, is_numbered}
+use Rattle.el_core.specs.Turn.{TookTurn, IsDone, GoesTo, outs_of}
+use Rattle.el_core.specs.within.Clients.{ReplyText, replied, failed, Gives, ClientTurn, loses, departs, answers, waits, nobody, gone, steps, PeersTurn, closes, has_turn, replaced, left_if, speaker_after}
 use Rattle.el_core.specs.declared.out.Outs as code
-use Rattle.el_core.proofs.Moved.{rose_still}
-use Rattle.el_core.proofs.Sessions.{said_all, void_all, one_client, one_found, one_gone, left_first, left_none, ordered, left_void, all_met}
+use Rattle.el_core.proofs.Noded.{rose_of}
+use Rattle.el_core.proofs.Places.{Both, IfThere, same_some, no_some, zip_at, zip_replaced, rising_replaced, one_mapped, one_filtered, one_found, one_there, gone_itself, found_none, none_there}
+use Rattle.el_core.proofs.Sessions.{said_all, void_all, left_first, left_none, ordered, left_void, all_met, zip_all}
 
--- the reply to a request
-pub reply_text : (chain : Chain) (m : Method) (bytes id script : List ℕ) (rose : ℕ → Type 0) (text : List ℕ) → Asks bytes m id script → RequestText chain m id script rose text
-    → ReplyText chain bytes rose text
-reply_text chain m bytes id script rose text asks (shows_list (inl few) still) =
-    replied (λ session. answered m id script asks few.0 (ap (λ (t : List ℕ). replies session t) few.1)) still
-reply_text chain m bytes id script rose text asks (shows_list (inr many) still) =
-    replied (λ session. too_large m id script asks many.0 (ap (λ (t : List ℕ). replies session t) many.1)) still
-reply_text chain m bytes id script rose text asks (device_failed is rose_one) = failed m id script asks is rose_one
-
--- a session that stays as it was
-one_same : (world : World) (p : ℕ) (heard : List ℕ) → world.sessions ≡ record { peer = p; heard = heard } ∷ [] → world ≡ with_session p (record { peer = p; heard = heard }) world
-one_same world p heard e = ap (λ (ss : List Session). record world { sessions = ss }) (same world.sessions e)
-  where
-    same : (ss : List Session) → ss ≡ record { peer = p; heard = heard } ∷ []
-        → ss ≡ map (λ (session : Session). if is_peer p session then record { peer = p; heard = heard } else session) ss
-    same ss e = rw (e, eq-eqb p p refl) refl
-
-if_true : (A B : Type 0) (b : Bool) → b ≡ true → A → MatchBool b A B
-if_true A B b e a = rw e a
+same_number : (a b : ℕ) → ◌≡◌ {A = Option ℕ} (Some a) (Some b) → a ≡ b
+same_number a b e = cc
 
 -- nothing of the node is left
 pub none_ordered : (b : LineState) (heard : List ℕ) (ordered : List Event) → NodeLeaves b heard ordered → HasGivenAll b → ordered ≡ []
@@ -68,125 +57,229 @@ next_event c b e heard left kept limit hears gives =
       few = let lt = slice_get_within (lines line_limit heard) o.given e listed' in omega arith;
     }
 
-module _ {G C : Type 0} (stands : G → Chain → Type 0) (tells_crash : Type 0) (means : C → Chain → Type 0) (moment : G → ℕ) (left_since : G → ℕ → C → Type 0) (tells : Type 0) where
+-- the clients and sessions where the one that speaks changes, or goes
+speaker_changes : (clients : List ClientState) (sessions : List Session) (p i : ℕ) (c : ClientState) (x : Session) (left rest : List Event) (speaker : Option ℕ) (now : Option ClientState) (session : Option Session)
+    → SessionsAre clients (Some p) None sessions left → slice_get sessions i ≡ Some x → x.peer ≡ p → (speaker ≡ Some p) ⊎ (speaker ≡ None) → Both (IsSession speaker rest) now session
+    → IfThere (λ (n : Session). n.peer ≡ x.peer) session → Leaves speaker None (replaced i session sessions) rest
+    → SessionsAre (replaced i now clients) speaker None (replaced i session sessions) rest
+speaker_changes clients sessions p i c x left rest speaker now session are at is either_is both same leaves_left = record {
+  each = zip_replaced (IsSession (Some p) left) (IsSession speaker rest) clients sessions i x now session are.each are.rising at
+      (λ d y r differ. record {
+        peer = r.peer;
+        limit = r.limit;
+        met = λ n. r.met (λ e. differ (sym r.peer ∙ sym (same_number p d.peer e) ∙ sym is));
+        speaks = λ e. absurd (other d y r differ either_is e);
+      }) both;
+  rising = rising_replaced sessions i x session are.rising at same;
+  leaves_left = leaves_left;
+}
+  where
+    other : (d : ClientState) (y : Session) → IsSession (Some p) left d y → (y.peer ≡ x.peer → ⊥) → (speaker ≡ Some p) ⊎ (speaker ≡ None) → speaker ≡ Some d.peer → ⊥
+    other d y r differ (inl s) e = differ (sym r.peer ∙ sym (same_number p d.peer (sym s ∙ e)) ∙ sym is)
+    other d y r differ (inr s) e = no_some d.peer (sym e ∙ s)
+
+replaced_same : (ys : List Session) (i : ℕ) (x : Session) → slice_get ys i ≡ Some x → replaced i (Some x) ys ≡ ys
+replaced_same [] i x at = refl
+replaced_same (y ∷ ys) zero x at = ap (λ (t : Session). t ∷ ys) (sym (same_some y x at))
+replaced_same (y ∷ ys) (suc i) x at = ap (λ (l : List Session). y ∷ l) (replaced_same ys i x at)
+
+at_replaced : (ys : List Session) (j : ℕ) (y n : Session) → slice_get ys j ≡ Some y → slice_get (replaced j (Some n) ys) j ≡ Some n
+at_replaced [] j y n at = absurd (no_some y (sym at))
+at_replaced (u ∷ ys) zero y n at = refl
+at_replaced (u ∷ ys) (suc j) y n at = at_replaced ys j y n at
+
+if_true : (A B : Type 0) (b : Bool) → b ≡ true → A → MatchBool b A B
+if_true A B b e a = rw e a
+
+if_false : (A B : Type 0) (b : Bool) → b ≡ false → B → MatchBool b A B
+if_false A B b e x = rw e x
+
+-- the client that speaks, with its session
+pub record Speaking {G : Type 0} (old : State G) (world : World) (said : List Event) (p i : ℕ) (c : ClientState) : Type 0 where
+  pub are : SessionsAre old.clients (Some p) None world.sessions said
+  pub session : Session
+  pub session_at : slice_get world.sessions i ≡ Some session
+  pub is : IsSession (Some p) said c session
+  pub peer : session.peer ≡ p
+  pub hears : HearsLeft c session.heard said
+
+pub speaking : {G : Type 0} (old : State G) (world : World) (said : List Event) (p i : ℕ) (c : ClientState) → SessionsAre old.clients (Some p) None world.sessions said → slice_get old.clients i ≡ Some c → c.peer ≡ p
+    → Speaking old world said p i c
+speaking old world said p i c are at peer_is =
+    let z = zip_at (IsSession (Some p) said) old.clients world.sessions i c are.each at in
+    record {
+      are = are;
+      session = z.0;
+      session_at = z.1;
+      is = z.2;
+      peer = sym z.2.peer ∙ peer_is;
+      hears = z.2.speaks (ap (λ (n : ℕ). Some n) (sym peer_is));
+    }
+
+-- who speaks has a session, and so it is there
+pub gone_not : (p : ℕ) (clients : List ClientState) (sessions : List Session) (said : List Event) → SessionsAre clients (Some p) None sessions said → AllByRecursion (λ (d : ClientState). is_numbered p d ≡ false) clients → ⊥
+gone_not p clients sessions said are absent =
+    let none = zip_all (IsSession (Some p) said) (λ (d : ClientState). is_numbered p d ≡ false) (λ (y : Session). is_peer p y ≡ false) clients sessions (λ d y k e. rw (← k.peer) e) are.each absent in
+    true≢false (sym are.leaves_left ∙ none_there p sessions none)
+
+module _ {G A : Type 0} (l : ledger.Ghosts G) (f : archive.Ghosts A) where
   -- What is known beside a turn where the node has nothing left.
-  pub record Beside (old new : State G) (world : World) (left : List Event) (files : ℕ → List ℕ) : Type 0 where
-    pub stood : Stands stands old world left
-    pub told : tells → AllGrow world.files files
+  pub record Beside (old new : State G) (world : World) (left : List Event) : Type 0 where
+    pub stood : Stands l.stands old world left
     pub none_left : stood.ordered ≡ []
-    pub still : world.ahead ≡ []
-    pub led : LeadsTo stands tells_crash means moment left_since old.ledger new.ledger world.chain world.chain
+    pub still : IsStill world
+    pub moved : Moved l old.ledger new.ledger world.side.chain world.side.chain
     pub magic : new.magic ≡ old.magic
     pub found : new.found ≡ old.found
     pub ahead : new.ahead ≡ old.ahead
     pub node : new.node ≡ old.node
 
-  left_said : (old new : State G) (world : World) (left : List Event) (files : ℕ → List ℕ) (r : Beside old new world left files) → left ≡ r.stood.said
-  left_said old new world left files r = r.stood.left_is ∙ ap (λ (l : List Event). l ++ r.stood.said) r.none_left
+  left_said : (old new : State G) (world : World) (left : List Event) (r : Beside old new world left) → left ≡ r.stood.said
+  left_said old new world left r = r.stood.left_is ∙ ap (λ (es : List Event). es ++ r.stood.said) r.none_left
 
-  stood_after : (old new : State G) (world : World) (left : List Event) (files : ℕ → List ℕ) (r : Beside old new world left files) (ss : List Session) (rest : List Event)
-      → SessionsAre new.client new.surplus ss rest → Stands stands new (record world { sessions = ss }) rest
-  stood_after old new world left files r ss rest are = record {
-    chain = r.led.stood;
+  stood_after : (old new : State G) (world : World) (left : List Event) (r : Beside old new world left) (ss : List Session) (rest : List Event)
+      → SessionsAre new.clients new.speaker new.surplus ss rest → Stands l.stands new (record world { sessions = ss }) rest
+  stood_after old new world left r ss rest are = record {
+    chain = r.moved.stood;
     magic = r.magic ∙ r.stood.magic;
     found = r.found ∙ r.stood.found;
     ahead = r.ahead ∙ r.stood.ahead;
     ordered = [];
-    node = rw r.node (subst (λ (l : List Event). NodeLeaves old.node world.heard l) r.none_left r.stood.node);
+    node = rw r.node (subst (λ (es : List Event). NodeLeaves old.node world.heard es) r.none_left r.stood.node);
     said = rest;
     sessions = are;
     left_is = refl;
   }
 
-  built : (old new : State G) (world : World) (left : List Event) (files : ℕ → List ℕ) (ab db da : ℕ) (o : Outs) (r : Beside old new world left files) (ss : List Session)
-      (done rest : List Event) (losses : List Loss) → left ≡ done ++ rest → OneTurn tells world done o losses (record world { sessions = ss }) → SessionsAre new.client new.surplus ss rest
-      → AllByRecursion (GoesTo (record world { sessions = ss }) new.surplus) o.messages → link_losses losses ≡ 0 → run.archive_losses losses ≡ 0 → RoseBy db da (disk_losses losses)
-      → TookTurn stands (LeadsTo stands tells_crash means moment left_since old.ledger new.ledger) tells files ab ab db da world left o new
-  built old new world left files ab db da o r ss done rest losses whole turn are sends no_link no_archive disk = record {
+  built : (old new : State G) (files : A) (world : World) (left : List Event) (o : Outs) (r : Beside old new world left) (told : f.tells → AllGrow world.side.files (f.bytes files)) (ss : List Session)
+      (done rest : List Event) (losses : List Device) → left ≡ done ++ rest → OneTurn f.tells world done o losses (record world { sessions = ss }) → SessionsAre new.clients new.speaker new.surplus ss rest
+      → AllByRecursion (GoesTo (record world { sessions = ss }) new.surplus) o.messages → failures device.link losses ≡ 0 → failures device.archive losses ≡ 0 → RoseBy (l.faults old.ledger) (l.faults new.ledger) (failures device.disk losses)
+      → TookTurn l f old new files files world left o
+  built old new files world left o r told ss done rest losses whole turn are sends no_link no_archive disk = record {
     done = done;
     rest = rest;
     losses = losses;
     next = record world { sessions = ss };
     whole = whole;
     turn = turn;
-    stood = stood_after old new world left files r ss rest are;
-    led = r.led;
-    told = r.told;
+    stood = stood_after old new world left r ss rest are;
+    moved = r.moved;
+    told = told;
     sends_to = sends;
-    no_link = no_link;
-    archive_rose = rw no_archive (rose_still ab ab refl);
-    disk_rose = disk;
+    rose = λ of_link. rose_of of_link (f.faults files) (f.faults files) (l.faults old.ledger) (l.faults new.ledger) losses no_link (rw no_archive (rose_none (f.faults files))) disk;
   }
 
   -- a client too many is closed
-  surplus_step : (old new : State G) (world : World) (left : List Event) (files : ℕ → List ℕ) (ab db da : ℕ) (o : Outs) (r : Beside old new world left files) (client : Option ClientState) (p : ℕ)
-      → SessionsAre client (Some p) world.sessions r.stood.said → new.client ≡ client → new.surplus ≡ None → o ≡ closes_surplus p → RoseBy db da 0
-      → TookTurn stands (LeadsTo stands tells_crash means moment left_since old.ledger new.ledger) tells files ab ab db da world left o new
-  surplus_step old new world left files ab db da o r None p are client surplus is still = absurd are
-  surplus_step old new world left files ab db da o r (Some c) p are client surplus is still =
-      let w = are.leaves_left in
-      built old new world left files ab db da o r world.sessions (joins p ∷ []) [] [] (left_said old new world left files r ∙ w.joins_is)
-      (run.takes (joins p) r.still refl (rw are.alone (is, refl)) refl)
-      (rw (client, surplus) (record {
-        heard = are.heard;
-        alone = are.alone;
-        limit = are.limit;
-        leaves_left = in_order (length (lines line_limit are.heard)) w.kept w.at (omega arith)
-            (sym (left_none (says c.peer) (lines line_limit are.heard) (length (lines line_limit are.heard)) refl));
-      }))
+  surplus_step : (old new : State G) (files : A) (world : World) (left : List Event) (o : Outs) (r : Beside old new world left) (told : f.tells → AllGrow world.side.files (f.bytes files)) (speaker : Option ℕ) (p : ℕ)
+      → SessionsAre old.clients speaker (Some p) world.sessions r.stood.said → new.clients ≡ old.clients → new.speaker ≡ speaker → new.surplus ≡ None → o ≡ closes_surplus p → RoseBy (l.faults old.ledger) (l.faults new.ledger) 0
+      → TookTurn l f old new files files world left o
+  surplus_step old new files world left o r told (Some q) p are clients speaker unused is still = absurd are.leaves_left
+  surplus_step old new files world left o r told None p are clients speaker unused is still =
+      built old new files world left o r told world.sessions (joins p ∷ []) [] [] (left_said old new world left r ∙ are.leaves_left.0)
+      (run.takes (joins p) r.still refl (if_false _ _ _ are.leaves_left.1 (is, refl, refl)))
+      (rw (clients, speaker, unused) (record { each = again old.clients world.sessions are.each; rising = are.rising; leaves_left = tt }))
       (rw is tt) refl refl still
+    where
+      again : (cs : List ClientState) (ss : List Session) → AllZip (IsSession None r.stood.said) cs ss → AllZip (IsSession None []) cs ss
+      again [] [] z = tt
+      again [] (y ∷ ys) z = absurd z
+      again (x ∷ xs) [] z = absurd z
+      again (x ∷ xs) (y ∷ ys) z =
+          (record { peer = z.0.peer; limit = z.0.limit; met = z.0.met; speaks = λ e. absurd (no_some x.peer (sym e)) }, again xs ys z.1)
 
-  -- a client is closed as out of memory
-  memory_step : (old new : State G) (world : World) (left : List Event) (files : ℕ → List ℕ) (ab db da : ℕ) (o : Outs) (r : Beside old new world left files) (c : ClientState)
-      → SessionsAre (Some c) None world.sessions r.stood.said → new.client ≡ None → new.surplus ≡ None → o ≡ closes_memory c.peer → RoseBy db da 0 ⊎ RoseBy db da 1
-      → TookTurn stands (LeadsTo stands tells_crash means moment left_since old.ledger new.ledger) tells files ab ab db da world left o new
-  memory_step old new world left files ab db da o r c are client surplus is rose =
-      let l = left_said old new world left files r in
-      let void : SessionsAre new.client new.surplus (without_client c.peer world).sessions left =
-      rw (client, surplus, l) (one_gone world c.peer are.heard are.alone, left_void c are.heard r.stood.said are.leaves_left) in
+  -- the client is closed, with these events done
+  goes : (old new : State G) (files : A) (world : World) (left : List Event) (o : Outs) (r : Beside old new world left) (told : f.tells → AllGrow world.side.files (f.bytes files)) (p i : ℕ) (c : ClientState) (w : Speaking old world r.stood.said p i c)
+      (done rest : List Event) (losses : List Device) → left ≡ done ++ rest → OneTurn f.tells world done o losses (without_client p world) → AllVoid (filter (λ (y : Session). not (is_peer p y)) world.sessions) rest
+      → new.clients ≡ replaced i None old.clients → new.speaker ≡ None → new.surplus ≡ None → o.messages ≡ [] → failures device.link losses ≡ 0 → failures device.archive losses ≡ 0 → RoseBy (l.faults old.ledger) (l.faults new.ledger) (failures device.disk losses)
+      → TookTurn l f old new files files world left o
+  goes old new files world left o r told p i c w done rest losses whole turn void clients speaker unused none_sent no_link no_archive disk =
+      let gone_is = one_filtered p world.sessions i w.session w.are.rising w.session_at w.peer in
+      let void' : AllVoid (replaced i None world.sessions) rest = subst (λ (ss : List Session). AllVoid ss rest) gone_is void in
+      let turn' : OneTurn f.tells world done o losses (record world { sessions = replaced i None world.sessions }) =
+      subst (λ (ss : List Session). OneTurn f.tells world done o losses (record world { sessions = ss })) gone_is turn in
+      built old new files world left o r told (replaced i None world.sessions) done rest losses whole turn'
+      (rw (clients, speaker, unused) (speaker_changes old.clients world.sessions p i c w.session r.stood.said rest None None None w.are w.session_at w.peer (inr refl) tt tt void'))
+      (rw none_sent tt) no_link no_archive disk
+
+  -- the client stays, and these events are left
+  stays : (old new : State G) (files : A) (world : World) (left : List Event) (o : Outs) (r : Beside old new world left) (told : f.tells → AllGrow world.side.files (f.bytes files)) (p i : ℕ) (c now : ClientState) (w : Speaking old world r.stood.said p i c)
+      (done rest : List Event) (losses : List Device) → left ≡ done ++ rest → OneTurn f.tells world done o losses (record world { sessions = replaced i (Some w.session) world.sessions })
+      → IsSession (Some p) rest now w.session → new.clients ≡ replaced i (Some now) old.clients → new.speaker ≡ Some p → new.surplus ≡ None
+      → AllByRecursion (GoesTo (record world { sessions = replaced i (Some w.session) world.sessions }) None) o.messages → failures device.link losses ≡ 0 → failures device.archive losses ≡ 0 → RoseBy (l.faults old.ledger) (l.faults new.ledger) (failures device.disk losses)
+      → TookTurn l f old new files files world left o
+  stays old new files world left o r told p i c now w done rest losses whole turn session clients speaker unused sends no_link no_archive disk =
+      built old new files world left o r told (replaced i (Some w.session) world.sessions) done rest losses whole turn
+      (rw (clients, speaker, unused) (speaker_changes old.clients world.sessions p i c w.session r.stood.said rest (Some p) (Some now) (Some w.session) w.are w.session_at w.peer (inl refl) session refl
+      (one_there p (replaced i (Some w.session) world.sessions) i w.session (at_replaced world.sessions i w.session w.session w.session_at) w.peer)))
+      (rw unused sends) no_link no_archive disk
+
+  -- it is closed as out of memory
+  memory_step : (old new : State G) (files : A) (world : World) (left : List Event) (o : Outs) (r : Beside old new world left) (told : f.tells → AllGrow world.side.files (f.bytes files)) (p i : ℕ) (c : ClientState) (w : Speaking old world r.stood.said p i c)
+      → c.peer ≡ p → new.clients ≡ replaced i None old.clients → new.speaker ≡ None → new.surplus ≡ None → o ≡ closes_memory p → RoseBy (l.faults old.ledger) (l.faults new.ledger) 0 ⊎ RoseBy (l.faults old.ledger) (l.faults new.ledger) 1
+      → TookTurn l f old new files files world left o
+  memory_step old new files world left o r told p i c w peer_is clients speaker unused is rose =
+      let said_is = left_said old new world left r in
+      let there = one_there p world.sessions i w.session w.session_at w.peer in
+      let void : AllVoid (filter (λ (y : Session). not (is_peer p y)) world.sessions) left = rw said_is (left_void _ c w.session.heard r.stood.said (rw peer_is (gone_itself p world.sessions)) w.hears) in
       elim rose [
-        | inl still ↦ built old new world left files ab db da o r (without_client c.peer world).sessions [] left [] refl
-            (run.departs c.peer (one_client world c.peer are.heard are.alone) refl is refl (inl refl)) void (rw is tt) refl refl still
-        | inr one ↦ built old new world left files ab db da o r (without_client c.peer world).sessions [] left (run.disk ∷ []) refl
-            (run.departs c.peer (one_client world c.peer are.heard are.alone) refl is refl (inr refl)) void (rw is tt) refl refl one
+        | inl still ↦ goes old new files world left o r told p i c w [] left [] refl (run.departs p there refl is refl (inl refl)) void clients speaker unused (ap (λ (x : Outs). x.messages) is) refl refl still
+        | inr one ↦ goes old new files world left o r told p i c w [] left (device.disk ∷ []) refl (run.departs p there refl is refl (inr refl)) void clients speaker unused (ap (λ (x : Outs). x.messages) is) refl refl one
       ]
 
-  -- a client gets its reply
-  reply_step : (old new : State G) (world : World) (left : List Event) (files : ℕ → List ℕ) (ab db da : ℕ) (o : Outs) (r : Beside old new world left files) (c : ClientState) (b : LineState)
-      (bytes text : List ℕ) (are : SessionsAre (Some c) None world.sessions r.stood.said) → c.lost ≡ false → b.limit ≡ c.buffer.limit → Gives c.buffer (line bytes) b
-      → ReplyText world.chain bytes (λ n. RoseBy db da n) text → o ≡ reply_to c.peer text → new.client ≡ Some (record c { buffer = b }) → new.surplus ≡ None
-      → TookTurn stands (LeadsTo stands tells_crash means moment left_since old.ledger new.ledger) tells files ab ab db da world left o new
-  reply_step old new world left files ab db da o r c b bytes text are kept limit gives (replied reply rose) is client surplus =
-      let n = next_event c b (line bytes) are.heard r.stood.said kept are.limit are.leaves_left gives in
-      let session : Session = record { peer = c.peer; heard = are.heard } in
-      built old new world left files ab db da o r world.sessions (says c.peer (line bytes) ∷ []) (map (says c.peer) (drop (n.given + 1) (lines line_limit are.heard))) []
-      (left_said old new world left files r ∙ n.first)
-      (run.takes (says c.peer (line bytes)) r.still refl
-      (rw (one_found world c.peer are.heard are.alone) (replies session text, reply session, is, one_same world c.peer are.heard are.alone)) refl)
-      (rw (client, surplus) (record { heard = are.heard; alone = are.alone; limit = limit ∙ are.limit; leaves_left = in_order (n.given + 1) kept n.at n.few refl }))
-      (rw is (inr (one_client world c.peer are.heard are.alone, surplus), tt)) refl refl rose
-  reply_step old new world left files ab db da o r c b bytes text are kept limit gives (failed m id script asks text_is rose) is client surplus =
-      let n = next_event c b (line bytes) are.heard r.stood.said kept are.limit are.leaves_left gives in
-      built old new world left files ab db da o r world.sessions (says c.peer (line bytes) ∷ []) (map (says c.peer) (drop (n.given + 1) (lines line_limit are.heard))) (run.disk ∷ [])
-      (left_said old new world left files r ∙ n.first)
-      (run.fails run.disk
-      (run.in_request c.peer m bytes id script r.still (one_client world c.peer are.heard are.alone) asks refl refl (is ∙ ap (reply_to c.peer) text_is) refl) refl)
-      (rw (client, surplus) (record { heard = are.heard; alone = are.alone; limit = limit ∙ are.limit; leaves_left = in_order (n.given + 1) kept n.at n.few refl }))
-      (rw is (inr (one_client world c.peer are.heard are.alone, surplus), tt)) refl refl rose
-
   -- a line that is too long closes it
-  long_step : (old new : State G) (world : World) (left : List Event) (files : ℕ → List ℕ) (ab db da : ℕ) (o : Outs) (r : Beside old new world left files) (c : ClientState) (b : LineState)
-      (are : SessionsAre (Some c) None world.sessions r.stood.said) → c.lost ≡ false → Gives c.buffer too_long b → o ≡ closes_long c.peer → new.client ≡ None → new.surplus ≡ None → RoseBy db da 0
-      → TookTurn stands (LeadsTo stands tells_crash means moment left_since old.ledger new.ledger) tells files ab ab db da world left o new
-  long_step old new world left files ab db da o r c b are kept gives is client surplus still =
-      let n = next_event c b too_long are.heard r.stood.said kept are.limit are.leaves_left gives in
-      let rest = map (says c.peer) (drop (n.given + 1) (lines line_limit are.heard)) in
-      built old new world left files ab db da o r (without_client c.peer world).sessions (says c.peer too_long ∷ []) rest []
-      (left_said old new world left files r ∙ n.first)
-      (run.takes (says c.peer too_long) r.still refl
-      (if_true _ _ (is_client c.peer world) (one_client world c.peer are.heard are.alone) (is, refl)) refl)
-      (rw (client, surplus) (one_gone world c.peer are.heard are.alone, void_all c.peer _ (said_all c.peer (drop (n.given + 1) (lines line_limit are.heard)))))
-      (rw is tt) refl refl still
+  long_step : (old new : State G) (files : A) (world : World) (left : List Event) (o : Outs) (r : Beside old new world left) (told : f.tells → AllGrow world.side.files (f.bytes files)) (p i : ℕ) (c : ClientState) (b : LineState)
+      (w : Speaking old world r.stood.said p i c) → c.peer ≡ p → c.lost ≡ false → Gives c.buffer too_long b → new.clients ≡ replaced i None old.clients → new.speaker ≡ None → new.surplus ≡ None → o ≡ closes_long p → RoseBy (l.faults old.ledger) (l.faults new.ledger) 0
+      → TookTurn l f old new files files world left o
+  long_step old new files world left o r told p i c b w peer_is kept gives clients speaker unused is still =
+      let n = next_event c b too_long w.session.heard r.stood.said kept w.is.limit w.hears gives in
+      let rest = map (says c.peer) (drop (n.given + 1) (lines line_limit w.session.heard)) in
+      let there = one_there p world.sessions i w.session w.session_at w.peer in
+      goes old new files world left o r told p i c w (says c.peer too_long ∷ []) rest [] (left_said old new world left r ∙ n.first)
+      (rw peer_is (run.takes (says p too_long) r.still refl (if_true _ _ (is_client p world) there (is, refl, refl))))
+      (subst (λ (q : ℕ). AllVoid (filter (λ (y : Session). not (is_peer p y)) world.sessions) (map (says q) (drop (n.given + 1) (lines line_limit w.session.heard)))) (sym peer_is)
+      (void_all _ p _ (gone_itself p world.sessions) (said_all p (drop (n.given + 1) (lines line_limit w.session.heard)))))
+      clients speaker unused (ap (λ (x : Outs). x.messages) is) refl refl still
+
+  -- it gets its reply
+  reply_step : (old new : State G) (files : A) (world : World) (left : List Event) (o : Outs) (r : Beside old new world left) (told : f.tells → AllGrow world.side.files (f.bytes files)) (p i : ℕ) (c : ClientState) (b : LineState)
+      (bytes text : List ℕ) (w : Speaking old world r.stood.said p i c) → c.peer ≡ p → c.lost ≡ false → b.limit ≡ c.buffer.limit → Gives c.buffer (line bytes) b
+      → ReplyText world.side.chain bytes (λ n. RoseBy (l.faults old.ledger) (l.faults new.ledger) n) text → o ≡ reply_to p text → new.clients ≡ replaced i (Some (record c { buffer = b })) old.clients → new.speaker ≡ Some p → new.surplus ≡ None
+      → TookTurn l f old new files files world left o
+  reply_step old new files world left o r told p i c b bytes text w peer_is kept limit gives replying is clients speaker unused =
+      let n = next_event c b (line bytes) w.session.heard r.stood.said kept w.is.limit w.hears gives in
+      let rest = map (says c.peer) (drop (n.given + 1) (lines line_limit w.session.heard)) in
+      let there = one_there p (replaced i (Some w.session) world.sessions) i w.session (at_replaced world.sessions i w.session w.session w.session_at) w.peer in
+      let session : IsSession (Some p) rest (record c { buffer = b }) w.session = record {
+        peer = w.is.peer;
+        limit = limit ∙ w.is.limit;
+        met = λ e. absurd (e (ap (λ (q : ℕ). Some q) (sym peer_is)));
+        speaks = λ e. in_order (n.given + 1) kept n.at n.few refl;
+      } in
+      let sends : AllByRecursion (GoesTo (record world { sessions = replaced i (Some w.session) world.sessions }) None) o.messages = rw is (inr (there, refl), tt) in
+      let same_world = replaced_same world.sessions i w.session w.session_at in
+      by n.given n.first replying session sends there same_world
+    where
+      rest_of : ℕ → List Event
+      rest_of given = map (says c.peer) (drop (given + 1) (lines line_limit w.session.heard))
+
+      by : (given : ℕ) → r.stood.said ≡ says c.peer (line bytes) ∷ rest_of given → ReplyText world.side.chain bytes (λ n. RoseBy (l.faults old.ledger) (l.faults new.ledger) n) text → IsSession (Some p) (rest_of given) (record c { buffer = b }) w.session
+          → AllByRecursion (GoesTo (record world { sessions = replaced i (Some w.session) world.sessions }) None) o.messages → list_any (is_peer p) (replaced i (Some w.session) world.sessions) ≡ true
+          → replaced i (Some w.session) world.sessions ≡ world.sessions
+          → TookTurn l f old new files files world left o
+      by given first (replied reply rose) session sends there same_world =
+          stays old new files world left o r told p i c (record c { buffer = b }) w (says c.peer (line bytes) ∷ []) (rest_of given) []
+          (left_said old new world left r ∙ first)
+          (rw peer_is (run.takes (says p (line bytes)) r.still refl
+          (rw (one_found p world.sessions i w.session w.are.rising w.session_at w.peer) (model.replied (replies w.session text) (reply w.session) is
+          (ap (λ (ss : List Session). record world { sessions = ss }) (sym (one_mapped p (λ (y : Session). w.session) world.sessions i w.session w.are.rising w.session_at w.peer))) refl))))
+          session clients speaker unused sends refl refl rose
+      by given first (failed m id script asks text_is rose) session sends there same_world =
+          stays old new files world left o r told p i c (record c { buffer = b }) w (says c.peer (line bytes) ∷ []) (rest_of given) (device.disk ∷ [])
+          (left_said old new world left r ∙ first)
+          (rw peer_is (run.takes (says p (line bytes)) r.still refl
+          (rw (one_found p world.sessions i w.session w.are.rising w.session_at w.peer) (model.failed m id script asks (is ∙ ap (reply_to p) text_is)
+          (ap (λ (ss : List Session). record world { sessions = ss }) same_world) refl))))
+          session clients speaker unused sends refl refl rose
 
   same_outs : (o p : code.Outs) → ◌≡◌ {A = Option code.Outs} (Some o) (Some p) → o ≡ p
   same_outs o p e = cc
@@ -194,77 +287,113 @@ module _ {G C : Type 0} (stands : G → Chain → Type 0) (tells_crash : Type 0)
   no_outs : (o : code.Outs) → ◌≡◌ {A = Option code.Outs} (Some o) None → ⊥
   no_outs o e = cc
 
-  client_step : (old new : State G) (world : World) (left : List Event) (files : ℕ → List ℕ) (ab db da : ℕ) (o : code.Outs) (r : Beside old new world left files) (c : ClientState)
-      → SessionsAre (Some c) None world.sessions r.stood.said → new.surplus ≡ None → ClientTurn world.chain (λ n. RoseBy db da n) c (Some o) new.client
-      → TookTurn stands (LeadsTo stands tells_crash means moment left_since old.ledger new.ledger) tells files ab ab db da world left (outs_of o) new
-  client_step old new world left files ab db da o r c are surplus (loses o' lost some is gone still) =
-      memory_step old new world left files ab db da (outs_of o) r c are gone surplus (ap outs_of (same_outs o o' some) ∙ is) (inl still)
-  client_step old new world left files ab db da o r c are surplus (departs o' kept next_line some is gone still) =
-      memory_step old new world left files ab db da (outs_of o) r c are gone surplus (ap outs_of (same_outs o o' some) ∙ is) (inl still)
-  client_step old new world left files ab db da o r c are surplus (answers o' (event.Line bytes) b kept limit gives (inl a) some) =
-      reply_step old new world left files ab db da (outs_of o) r c b bytes a.0.0 are kept limit gives a.0.1 (ap outs_of (same_outs o o' some) ∙ a.0.2) a.1 surplus
-  client_step old new world left files ab db da o r c are surplus (answers o' (event.Line bytes) b kept limit gives (inr a) some) =
-      memory_step old new world left files ab db da (outs_of o) r c are a.1 surplus (ap outs_of (same_outs o o' some) ∙ a.0) a.2
-  client_step old new world left files ab db da o r c are surplus (answers o' (event.TooLong most) b kept limit gives a some) =
-      long_step old new world left files ab db da (outs_of o) r c b are kept gives (ap outs_of (same_outs o o' some) ∙ a.0) a.1 surplus a.2
-  client_step old new world left files ab db da o r c are surplus (waits idle none same still) = absurd (no_outs o none)
-
-  -- a line of a peer that is no client has no effect
-  void_event : (world : World) (e : Event) → world.sessions ≡ [] → (p : ℕ) × IsSaidBy p e → Takes tells world e nothing world
-  void_event world (joins q) empty v = absurd v.1
-  void_event world (leaves q) empty v = absurd v.1
-  void_event world (orders q) empty v = absurd v.1
-  void_event world (says q (line bytes)) empty v = rw empty (refl, refl)
-  void_event world (says q too_long) empty v = rw empty (refl, refl)
-
-  void_more : (world : World) (done left : List Event) → world.sessions ≡ [] → world.ahead ≡ [] → AllVoid left → Turns tells world done [] [] [] world → Turns tells world (done ++ left) [] [] [] world
-  void_more world done [] empty still void turns = rw (append-nil done) turns
-  void_more world done (e ∷ es) empty still void turns =
-      let one : Turns tells world (done ++ e ∷ []) [] [] [] world =
-      run.more done [] [] [] world (e ∷ []) nothing [] world [] [] [] world turns (run.takes e still refl (void_event world e empty void.0) refl) (run.all world None) in
-      let more = void_more world (done ++ e ∷ []) es empty still void.1 one in
-      rw (append_assoc done (e ∷ []) es) at more
-
-  peers_done : (old new : State G) (world : World) (left : List Event) (files : ℕ → List ℕ) (db da : ℕ) (r : Beside old new world left files) (client : Option ClientState)
-      → SessionsAre client None world.sessions r.stood.said → new.surplus ≡ None → ClientSteps world.chain (λ n. RoseBy db da n) client None new.client → IsDone stands tells world left new
-  peers_done old new world left files db da r None are surplus steps = record {
-    turns = void_more world [] left are.0 r.still (rw (left_said old new world left files r) are.1) run.none;
-    still = r.still;
-    stood = stood_after old new world left files r world.sessions [] (rw (steps.1, surplus) (are.0, tt));
-  }
-  peers_done old new world left files db da r (Some c) are surplus (loses o' lost some is gone still) = absurd (no_outs o' (sym some))
-  peers_done old new world left files db da r (Some c) are surplus (departs o' kept next_line some is gone still) = absurd (no_outs o' (sym some))
-  peers_done old new world left files db da r (Some c) are surplus (answers o' e b kept limit gives a some) = absurd (no_outs o' (sym some))
-  peers_done old new world left files db da r (Some c) are surplus (waits idle none same still) =
-      let d = ordered c are.heard r.stood.said idle.kept are.leaves_left in
-      let none_after = left_none (says c.peer) (lines line_limit are.heard) d.given (all_met c are.heard d.given are.limit idle.given_all d.at) in
-      let none_left' : left ≡ [] = left_said old new world left files r ∙ d.left_is ∙ none_after in
-      record {
-        turns = rw none_left' run.none;
-        still = r.still;
-        stood = stood_after old new world left files r world.sessions []
-            (rw (same, surplus) (record { heard = are.heard; alone = are.alone; limit = are.limit; leaves_left = in_order d.given idle.kept d.at d.few (sym none_after) }));
-      }
+  speaker_step : (old new : State G) (files : A) (world : World) (left : List Event) (o : code.Outs) (r : Beside old new world left) (told : f.tells → AllGrow world.side.files (f.bytes files)) (p i : ℕ) (c : ClientState) (now : Option ClientState)
+      → Speaking old world r.stood.said p i c → c.peer ≡ p → new.clients ≡ replaced i now old.clients → new.speaker ≡ speaker_after (Some o) now → new.surplus ≡ None
+      → ClientTurn world.side.chain (λ n. RoseBy (l.faults old.ledger) (l.faults new.ledger) n) c (Some o) now
+      → TookTurn l f old new files files world left (outs_of o)
+  speaker_step old new files world left o r told p i c now w peer_is clients speaker unused (loses o' lost some is gone_is still) =
+      memory_step old new files world left (outs_of o) r told p i c w peer_is (clients ∙ ap (λ (n : Option ClientState). replaced i n old.clients) gone_is) (speaker ∙ ap (λ (n : Option ClientState). speaker_after (Some o) n) gone_is) unused
+      (ap outs_of (same_outs o o' some) ∙ is ∙ ap closes_memory peer_is) (inl still)
+  speaker_step old new files world left o r told p i c now w peer_is clients speaker unused (departs o' kept next_line some is gone_is still) =
+      memory_step old new files world left (outs_of o) r told p i c w peer_is (clients ∙ ap (λ (n : Option ClientState). replaced i n old.clients) gone_is) (speaker ∙ ap (λ (n : Option ClientState). speaker_after (Some o) n) gone_is) unused
+      (ap outs_of (same_outs o o' some) ∙ is ∙ ap closes_memory peer_is) (inl still)
+  speaker_step old new files world left o r told p i c now w peer_is clients speaker unused (answers o' (event.Line bytes) b st kept limit gives (inl a) now_is some) =
+      let n : now ≡ Some (record c { buffer = b }) = now_is ∙ ap (λ (x : Bool). left_if x (record c { buffer = b })) a.1 in
+      reply_step old new files world left (outs_of o) r told p i c b bytes a.0.0 w peer_is kept limit gives a.0.1 (ap outs_of (same_outs o o' some) ∙ a.0.2 ∙ ap (λ (q : ℕ). reply_to q a.0.0) peer_is)
+      (clients ∙ ap (λ (m : Option ClientState). replaced i m old.clients) n) (speaker ∙ ap (λ (m : Option ClientState). speaker_after (Some o) m) n ∙ ap (λ (q : ℕ). Some q) peer_is) unused
+  speaker_step old new files world left o r told p i c now w peer_is clients speaker unused (answers o' (event.Line bytes) b st kept limit gives (inr a) now_is some) =
+      let n : now ≡ None = now_is ∙ ap (λ (x : Bool). left_if x (record c { buffer = b })) a.1 in
+      memory_step old new files world left (outs_of o) r told p i c w peer_is (clients ∙ ap (λ (m : Option ClientState). replaced i m old.clients) n) (speaker ∙ ap (λ (m : Option ClientState). speaker_after (Some o) m) n) unused
+      (ap outs_of (same_outs o o' some) ∙ a.0 ∙ ap closes_memory peer_is) a.2
+  speaker_step old new files world left o r told p i c now w peer_is clients speaker unused (answers o' (event.TooLong most) b st kept limit gives a now_is some) =
+      let n : now ≡ None = now_is ∙ ap (λ (x : Bool). left_if x (record c { buffer = b })) a.1 in
+      long_step old new files world left (outs_of o) r told p i c b w peer_is kept gives (clients ∙ ap (λ (m : Option ClientState). replaced i m old.clients) n) (speaker ∙ ap (λ (m : Option ClientState). speaker_after (Some o) m) n) unused
+      (ap outs_of (same_outs o o' some) ∙ a.0 ∙ ap closes_long peer_is) a.2
+  speaker_step old new files world left o r told p i c now w peer_is clients speaker unused (waits idle none_is same still) = absurd (no_outs o none_is)
 
   -- a turn where the node has nothing left
-  pub peers_step : (old new : State G) (world : World) (left : List Event) (files : ℕ → List ℕ) (ab db da : ℕ) (o : Option code.Outs) (r : Beside old new world left files)
-      → PeersTurn world.chain (λ n. RoseBy db da n) old o new
-      → IfSome o (λ out. TookTurn stands (LeadsTo stands tells_crash means moment left_since old.ledger new.ledger) tells files ab ab db da world left (outs_of out) new)
-  peers_step old new world left files ab db da None r turn = tt
-  peers_step old new world left files ab db da (Some o) r (closes p o' is some outs_is next still) =
-      surplus_step old new world left files ab db da (outs_of o) r old.client p (rw is at r.stood.sessions) (ap (λ (s : State G). s.client) next) (ap (λ (s : State G). s.surplus) next)
+  pub peers_step : (old new : State G) (files : A) (world : World) (left : List Event) (o : Option code.Outs) (r : Beside old new world left) (told : f.tells → AllGrow world.side.files (f.bytes files))
+      → PeersTurn world.side.chain (λ n. RoseBy (l.faults old.ledger) (l.faults new.ledger) n) old o new
+      → IfSome o (λ out. TookTurn l f old new files files world left (outs_of out))
+  peers_step old new files world left None r told turn = tt
+  peers_step old new files world left (Some o) r told (closes p o' is some outs_is next still) =
+      surplus_step old new files world left (outs_of o) r told old.speaker p (rw is at r.stood.sessions) (ap (λ (s : State G). s.clients) next) (ap (λ (s : State G). s.speaker) next) (ap (λ (s : State G). s.surplus) next)
       (ap outs_of (same_outs o o' some) ∙ outs_is) still
-  peers_step old new world left files ab db da (Some o) r (has_turn unused steps next) =
-      by old.client (rw unused at r.stood.sessions) steps
-    where
-      by : (client : Option ClientState) → SessionsAre client None world.sessions r.stood.said → ClientSteps world.chain (λ n. RoseBy db da n) client (Some o) new.client
-          → TookTurn stands (LeadsTo stands tells_crash means moment left_since old.ledger new.ledger) tells files ab ab db da world left (outs_of o) new
-      by None are s = absurd (no_outs o s.0)
-      by (Some c) are s = client_step old new world left files ab db da o r c are (ap (λ (s : State G). s.surplus) next ∙ unused) s
+  peers_step old new files world left (Some o) r told (has_turn unused (nobody no_speaker none_is next still)) = absurd (no_outs o none_is)
+  peers_step old new files world left (Some o) r told (has_turn unused (gone p is absent none_is next still)) = absurd (no_outs o none_is)
+  peers_step old new files world left (Some o) r told (has_turn unused (steps p i c now is at peer_is turn next)) =
+      speaker_step old new files world left o r told p i c now (speaking old world r.stood.said p i c (rw (is, unused) at r.stood.sessions) at peer_is) peer_is
+      (ap (λ (s : State G). s.clients) next) (ap (λ (s : State G). s.speaker) next) (ap (λ (s : State G). s.surplus) next ∙ unused) turn
 
-  pub peers_none : (old new : State G) (world : World) (left : List Event) (files : ℕ → List ℕ) (db da : ℕ) (o : Option code.Outs) (r : Beside old new world left files)
-      → PeersTurn world.chain (λ n. RoseBy db da n) old o new → IfNone o (IsDone stands tells world left new)
-  peers_none old new world left files db da (Some o) r turn = tt
-  peers_none old new world left files db da None r (closes p o' is some outs_is next still) = absurd (no_outs o' (sym some))
-  peers_none old new world left files db da None r (has_turn unused steps next) =
-      peers_done old new world left files db da r old.client (rw unused at r.stood.sessions) (ap (λ (s : State G). s.surplus) next ∙ unused) steps
+  -- lines of clients that are none of these have no effect
+  void_event : (world : World) (e : Event) → (p : ℕ) × IsSaidBy p e × (find (is_peer p) world.sessions ≡ None) → Takes f.tells world e nothing [] world
+  void_event world (joins q) v = absurd v.1
+  void_event world (leaves q) v = absurd v.1
+  void_event world (orders q) v = absurd v.1
+  void_event world (says q (line bytes)) v =
+      let n : find (is_peer q) world.sessions ≡ None = rw v.1 v.2 in
+      rw n (refl, refl, refl)
+  void_event world (says q too_long) v =
+      let n : find (is_peer q) world.sessions ≡ None = rw v.1 v.2 in
+      if_false _ _ _ (none_there q world.sessions (found_none q world.sessions n)) (refl, refl, refl)
+
+  void_more : (world : World) (done left : List Event) → IsStill world → AllVoid world.sessions left → Turns f.tells world done [] [] [] world → Turns f.tells world (done ++ left) [] [] [] world
+  void_more world done [] still void turns = rw (append-nil done) turns
+  void_more world done (e ∷ es) still void turns =
+      let one : Turns f.tells world (done ++ e ∷ []) [] [] [] world =
+      run.more done [] [] [] world (e ∷ []) nothing [] world [] [] [] world turns (run.takes e still refl (void_event world e void.0)) (run.all world None) in
+      let more = void_more world (done ++ e ∷ []) es still void.1 one in
+      rw (append_assoc done (e ∷ []) es) at more
+
+  zip_none : (said : List Event) (cs : List ClientState) (ss : List Session) → AllZip (IsSession None said) cs ss → AllZip (IsSession None []) cs ss
+  zip_none said [] [] z = tt
+  zip_none said [] (y ∷ ys) z = absurd z
+  zip_none said (x ∷ xs) [] z = absurd z
+  zip_none said (x ∷ xs) (y ∷ ys) z =
+      (record { peer = z.0.peer; limit = z.0.limit; met = z.0.met; speaks = λ e. absurd (no_some x.peer (sym e)) }, zip_none said xs ys z.1)
+
+  -- nobody spoke, or the one that spoke has no line left
+  done_so : (old new : State G) (world : World) (left : List Event) (r : Beside old new world left) → SessionsAre new.clients None None world.sessions [] → new.speaker ≡ None → new.surplus ≡ None
+      → AllVoid world.sessions r.stood.said → IsDone l.stands f.tells world left new
+  done_so old new world left r are speaker unused void = record {
+    turns = void_more world [] left r.still (rw (left_said old new world left r) void) run.none;
+    still = r.still;
+    stood = stood_after old new world left r world.sessions [] (rw (speaker, unused) are);
+  }
+
+  -- no line of the one that speaks is left
+  waited : (old new : State G) (world : World) (left : List Event) (r : Beside old new world left) (p i : ℕ) (c : ClientState) (now : Option ClientState) (w : Speaking old world r.stood.said p i c)
+      → new.clients ≡ replaced i now old.clients → new.speaker ≡ None → new.surplus ≡ None → ClientTurn world.side.chain (λ n. RoseBy (l.faults old.ledger) (l.faults new.ledger) n) c None now → IsDone l.stands f.tells world left new
+  waited old new world left r p i c now w clients speaker unused (loses o' lost some is gone_is still) = absurd (no_outs o' (sym some))
+  waited old new world left r p i c now w clients speaker unused (departs o' kept next_line some is gone_is still) = absurd (no_outs o' (sym some))
+  waited old new world left r p i c now w clients speaker unused (answers o' e b st kept limit gives a now_is some) = absurd (no_outs o' (sym some))
+  waited old new world left r p i c now w clients speaker unused (waits idle none_is now_is still) =
+      let d = ordered c w.session.heard r.stood.said idle.kept w.hears in
+      let all = all_met c w.session.heard d.given w.is.limit idle.given_all d.at in
+      let none_after : r.stood.said ≡ [] = d.left_is ∙ left_none (says c.peer) (lines line_limit w.session.heard) d.given all in
+      let session : IsSession None [] c w.session = record {
+        peer = w.is.peer;
+        limit = w.is.limit;
+        met = λ e. record { kept = idle.kept; at = subst (λ (n : ℕ). IsAt c.buffer w.session.heard n) all d.at };
+        speaks = λ e. absurd (no_some c.peer (sym e));
+      } in
+      let are : SessionsAre (replaced i (Some c) old.clients) None None (replaced i (Some w.session) world.sessions) [] =
+      speaker_changes old.clients world.sessions p i c w.session r.stood.said [] None (Some c) (Some w.session) w.are w.session_at w.peer (inr refl) session refl tt in
+      let are' = subst (λ (ss : List Session). SessionsAre (replaced i (Some c) old.clients) None None ss []) (replaced_same world.sessions i w.session w.session_at) are in
+      done_so old new world left r (rw (clients ∙ ap (λ (n : Option ClientState). replaced i n old.clients) now_is) are') speaker unused (rw none_after tt)
+
+  -- where a turn finds nothing to do, nothing is left
+  pub peers_none : (old new : State G) (world : World) (left : List Event) (o : Option code.Outs) (r : Beside old new world left)
+      → PeersTurn world.side.chain (λ n. RoseBy (l.faults old.ledger) (l.faults new.ledger) n) old o new → IfNone o (IsDone l.stands f.tells world left new)
+  peers_none old new world left (Some o) r turn = tt
+  peers_none old new world left None r (closes p o' is some outs_is next still) = absurd (no_outs o' (sym some))
+  peers_none old new world left None r (has_turn unused (nobody no_speaker none_is next still)) =
+      let are : SessionsAre old.clients None None world.sessions r.stood.said = rw (no_speaker, unused) at r.stood.sessions in
+      done_so old new world left r (rw (ap (λ (s : State G). s.clients) next) (record { each = zip_none r.stood.said old.clients world.sessions are.each; rising = are.rising; leaves_left = tt }))
+      (ap (λ (s : State G). s.speaker) next ∙ no_speaker) (ap (λ (s : State G). s.surplus) next ∙ unused) are.leaves_left
+  peers_none old new world left None r (has_turn unused (gone p is absent none_is next still)) =
+      let are : SessionsAre old.clients (Some p) None world.sessions r.stood.said = rw (is, unused) at r.stood.sessions in
+      absurd (gone_not p old.clients world.sessions r.stood.said are absent)
+  peers_none old new world left None r (has_turn unused (steps p i c now is at peer_is turn next)) =
+      waited old new world left r p i c now (speaking old world r.stood.said p i c (rw (is, unused) at r.stood.sessions) at peer_is)
+      (ap (λ (s : State G). s.clients) next) (ap (λ (s : State G). s.speaker) next) (ap (λ (s : State G). s.surplus) next ∙ unused) turn

@@ -1,11 +1,11 @@
 -- What the server makes of an arrival, before its turns.
-use Rattle.std.specs.Prelude.{◌≡◌, ◌⊎◌, ℕ, ◌==◌, nat_lt, true, if◌then◌else◌, List, [], ◌∷◌, ◌++◌, length, Option, Some, None}
+use Rattle.std.specs.Prelude.{◌≡◌, ◌⊎◌, ℕ, ◌==◌, nat_lt, true, not, filter, ◌<◌, ◌≤◌, if◌then◌else◌, List, [], ◌∷◌, ◌++◌, length, Option, Some, None}
 use Rattle.el_outside.specs.Story.{ArrivalWithBytes, opened, brought, closed, quiet, ended}
 use Rattle.el_outside.specs.declared.link.Arrival.{Arrival}
 use Rattle.el_outside.specs.declared.link.Arrival.TheVariants as arrival
 use Rattle.el_chain.specs.Chains.{Chain}
 use Rattle.el_model.specs.World.{World, Event, joins, leaves, with_client, without_client, client_limit, events, after_hearing}
-use Rattle.el_core.specs.State.{State, ClientState, Stands}
+use Rattle.el_core.specs.State.{State, ClientState, Stands, is_numbered}
 
 -- the arrival with all the bytes that were handed over
 abbrev pub with_all_bytes : Arrival → List ℕ → ArrivalWithBytes
@@ -45,11 +45,25 @@ pub record TookArrival {G : Type 0} (stands : G → Chain → Type 0) (arrival :
   pub stood : Stands stands s next left
   pub after : IsAfterArrival arrival world next s.surplus
 
--- the client, unless it is this one
-abbrev pub option_kept : ℕ → Option ClientState → Option ClientState
-option_kept p None = None
-option_kept p (Some c) = if c.peer == p then None else Some c
+-- the clients without this one
+abbrev pub kept_clients : ℕ → List ClientState → List ClientState
+kept_clients p clients = filter (λ (c : ClientState). not (is_numbered p c)) clients
+
+-- nobody speaks any more where it was this client
+abbrev pub kept_speaker : ℕ → Option ℕ → Option ℕ
+kept_speaker p None = None
+kept_speaker p (Some q) = if q == p then None else Some q
 
 -- a client goes
 abbrev pub gone_from : {G : Type 0} → State G → ℕ → State G
-gone_from s p = record s { client = option_kept p s.client }
+gone_from s p = record s { clients = kept_clients p s.clients; speaker = kept_speaker p s.speaker }
+
+-- who comes has a number above this one
+abbrev pub IsAbove : ℕ → Arrival → Type 0
+IsAbove last (arrival.Opened p) = last < p
+IsAbove last other = Unit {0}
+
+-- who comes has none above this one
+abbrev pub IsUpTo : ℕ → Arrival → Type 0
+IsUpTo now (arrival.Opened p) = p ≤ now
+IsUpTo now other = Unit {0}

@@ -1,12 +1,12 @@
 -- What the server keeps, and which world it stands for.
-use Rattle.std.specs.Prelude.{◌≡◌, ℕ, ◌+◌, ◌*◌, ◌≤◌, Bool, true, false, List, [], ◌∷◌, ◌++◌, length, map, drop, Option, Some, None}
-use Rattle.std.specs.List.{AllByRecursion}
+use Rattle.std.specs.Prelude.{◌≡◌, ℕ, ◌+◌, ◌*◌, ◌≤◌, ◌<◌, ◌==◌, nat_lt, ⊤, Bool, true, false, List, [], ◌∷◌, ◌++◌, length, map, find, drop, Option, Some, None}
+use Rattle.std.specs.List.{AllByRecursion, AllZip, list_any}
 use Rattle.el_chain.specs.declared.node.Node.{Node}
 use Rattle.el_chain.specs.Chains.{Chain}
 use Rattle.el_model.specs.Lines.{lines}
 use Rattle.el_model.specs.NodeAnswers.{node_limit}
 use Rattle.el_model.specs.Sessions.{Session}
-use Rattle.el_model.specs.World.{World, Event, says, orders, joins, leaves, line_limit}
+use Rattle.el_model.specs.World.{World, Event, says, orders, joins, leaves, is_peer, line_limit, client_limit}
 use Rattle.el_lines.specs.LineStates.{LineState, IsAt, held}
 
 -- What is kept of a client: its bytes, as a line buffer keeps them that was fed all of them, and whether
@@ -17,15 +17,17 @@ pub record ClientState : Type 0 where
   pub lost : Bool
 
 -- the ledger, of some type; the network's magic; the nodes that were found; the node's bytes, as a line
--- buffer keeps them; the blocks that its last tip line is still to put in; the client, and a client too many
--- that isn't closed yet
+-- buffer keeps them; the blocks that its last tip line is still to put in; the clients, in the order in which
+-- they came; the one whose bytes came last, until all of its lines are met; and a client too many that isn't
+-- closed yet
 pub record State (G : Type 0) : Type 0 where
   pub ledger : G
   pub magic : List ℕ
   pub found : List Node
   pub node : LineState
   pub ahead : List Node
-  pub client : Option ClientState
+  pub clients : List ClientState
+  pub speaker : Option ℕ
   pub surplus : Option ℕ
 
 -- all lines of the bytes that were fed, which are cut at each byte 10, were given
@@ -41,10 +43,18 @@ abbrev pub HasNoWork : Option ClientState → Type 0
 HasNoWork None = Unit {0}
 HasNoWork (Some c) = IsHeardOut c
 
+-- the client has this number
+abbrev pub is_numbered : ℕ → ClientState → Bool
+is_numbered p c = c.peer == p
+
+-- no client has a greater number
+abbrev pub AreUpTo : ℕ → List ClientState → Type 0
+AreUpTo last clients = AllByRecursion (λ (c : ClientState). c.peer ≤ last) clients
+
 -- the work of the last arrival is done
 pub record IsIdle {G : Type 0} (s : State G) : Type 0 where
   pub ahead : s.ahead ≡ []
-  pub heard : HasNoWork s.client
+  pub speaker : s.speaker ≡ None
   pub surplus : s.surplus ≡ None
 
 -- a line takes at least one byte, and the closing comes last
@@ -52,9 +62,23 @@ abbrev pub work_of_client : Option ClientState → ℕ
 work_of_client None = 0
 work_of_client (Some c) = held c.buffer + 1
 
+-- of all of these
+abbrev pub work_of_clients : List ClientState → ℕ
+work_of_clients [] = 0
+work_of_clients (c ∷ cs) = work_of_client (Some c) + work_of_clients cs
+
+-- where a client speaks, of all of them, so that it needn't be known which
+abbrev pub work_of_speaker : Option ℕ → List ClientState → ℕ
+work_of_speaker None clients = 0
+work_of_speaker (Some p) clients = work_of_clients clients
+
 abbrev pub work_of_surplus : Option ℕ → ℕ
 work_of_surplus None = 0
 work_of_surplus (Some p) = 1
+
+-- where a client speaks, and of one too many
+abbrev pub work_of_peers : {G : Type 0} → State G → ℕ
+work_of_peers s = work_of_speaker s.speaker s.clients + work_of_surplus s.surplus
 
 -- a line of the node takes at least one byte, finds one more node at most, and leaves no more blocks to put
 -- in than there are found nodes
@@ -63,9 +87,7 @@ work_of_node bytes found ahead = bytes * (found + bytes + 1) + ahead
 
 -- at most how many turns are left
 abbrev pub work : {G : Type 0} → State G → ℕ
-work s =
-    work_of_node (held s.node) (length s.found) (length s.ahead)
-    + (work_of_client s.client + work_of_surplus s.surplus)
+work s = work_of_node (held s.node) (length s.found) (length s.ahead) + work_of_peers s
 
 -- the event is a line of the client
 abbrev pub IsSaidBy : ℕ → Event → Type 0
@@ -74,11 +96,12 @@ IsSaidBy p (joins q) = ⊥
 IsSaidBy p (leaves q) = ⊥
 IsSaidBy p (orders met) = ⊥
 
--- lines of some clients, which have no effect where nobody is connected
-abbrev pub AllVoid : List Event → Type 0
-AllVoid left = AllByRecursion (λ e. (p : ℕ) × IsSaidBy p e) left
+-- lines of clients that are none of these, which have no effect
+abbrev pub AllVoid : List Session → List Event → Type 0
+AllVoid sessions left =
+    AllByRecursion (λ e. (p : ℕ) × IsSaidBy p e × (find (is_peer p) sessions ≡ None)) left
 
--- The client's bytes, all of which it sent since it came, leave these events where no client too many waits.
+-- The client's bytes, all of which it sent since it came, leave these events.
 pub data HearsLeft (c : ClientState) (heard : List ℕ) (left : List Event) : Type 0 where
   -- the lines that weren't met yet
   in_order : (given : ℕ) → c.lost ≡ false → IsAt c.buffer heard given
@@ -88,28 +111,38 @@ pub data HearsLeft (c : ClientState) (heard : List ℕ) (left : List Event) : Ty
   -- some lines of the client, whose bytes were lost where memory ran out
   losing : c.lost ≡ true → AllByRecursion (IsSaidBy c.peer) left → HearsLeft c heard left
 
--- And where one does: that it joins, since all lines of the client were met before.
-pub record HasSurplus (c : ClientState) (p : ℕ) (heard : List ℕ) (left : List Event) : Type 0 where
+-- All lines of the client were met.
+pub record IsMet (c : ClientState) (heard : List ℕ) : Type 0 where
   pub kept : c.lost ≡ false
   pub at : IsAt c.buffer heard (length (lines line_limit heard))
-  pub joins_is : left ≡ joins p ∷ []
 
-abbrev pub ClientLeaves : ClientState → Option ℕ → List ℕ → List Event → Type 0
-ClientLeaves c None heard left = HearsLeft c heard left
-ClientLeaves c (Some p) heard left = HasSurplus c p heard left
-
--- the one session is the client's
-pub record IsSession (c : ClientState) (surplus : Option ℕ) (sessions : List Session) (left : List Event)
-    : Type 0 where
-  pub heard : List ℕ
-  pub alone : sessions ≡ record { peer = c.peer; heard = heard } ∷ []
+-- The session is the client's. Of the client that speaks these events are left, and of each other one all
+-- lines were met.
+pub record IsSession (speaker : Option ℕ) (left : List Event) (c : ClientState) (x : Session) : Type 0 where
+  pub peer : c.peer ≡ x.peer
   pub limit : c.buffer.limit ≡ line_limit
-  pub leaves_left : ClientLeaves c surplus heard left
+  pub met : (speaker ≡ Some c.peer → ⊥) → IsMet c x.heard
+  pub speaks : speaker ≡ Some c.peer → HearsLeft c x.heard left
 
-abbrev pub SessionsAre : Option ClientState → Option ℕ → List Session → List Event → Type 0
-SessionsAre None None sessions left = (sessions ≡ []) × AllVoid left
-SessionsAre None (Some p) sessions left = ⊥
-SessionsAre (Some c) surplus sessions left = IsSession c surplus sessions left
+-- their numbers rise
+abbrev pub Rising : List Session → Type 0
+Rising [] = ⊤
+Rising (x ∷ xs) = AllByRecursion (λ (y : Session). x.peer < y.peer) xs × Rising xs
+
+-- Which events are left: those of the client that speaks, or that a client too many joins.
+abbrev pub Leaves : Option ℕ → Option ℕ → List Session → List Event → Type 0
+Leaves None None sessions left = AllVoid sessions left
+Leaves None (Some p) sessions left =
+    (left ≡ joins p ∷ []) × (nat_lt (length sessions) client_limit ≡ false)
+Leaves (Some p) None sessions left = list_any (is_peer p) sessions ≡ true
+Leaves (Some p) (Some q) sessions left = ⊥
+
+-- The sessions are the clients', place by place, and these events are left.
+pub record SessionsAre (clients : List ClientState) (speaker surplus : Option ℕ) (sessions : List Session)
+    (left : List Event) : Type 0 where
+  pub each : AllZip (IsSession speaker left) clients sessions
+  pub rising : Rising sessions
+  pub leaves_left : Leaves speaker surplus sessions left
 
 -- The node's bytes, all of which it has sent, leave these lines.
 pub record NodeLeaves (node : LineState) (heard : List ℕ) (left : List Event) : Type 0 where
@@ -123,12 +156,12 @@ pub record NodeLeaves (node : LineState) (heard : List ℕ) (left : List Event) 
 -- what the clients' bytes leave. `stands` says for which chains its ledger stands.
 pub record Stands {G : Type 0} (stands : G → Chain → Type 0) (s : State G) (world : World) (left : List Event)
     : Type 0 where
-  pub chain : stands s.ledger world.chain
-  pub magic : s.magic ≡ world.magic
-  pub found : s.found ≡ world.found
-  pub ahead : s.ahead ≡ world.ahead
+  pub chain : stands s.ledger world.side.chain
+  pub magic : s.magic ≡ world.side.magic
+  pub found : s.found ≡ world.side.found
+  pub ahead : s.ahead ≡ world.side.ahead
   pub ordered : List Event
   pub node : NodeLeaves s.node world.heard ordered
   pub said : List Event
-  pub sessions : SessionsAre s.client s.surplus world.sessions said
+  pub sessions : SessionsAre s.clients s.speaker s.surplus world.sessions said
   pub left_is : left ≡ ordered ++ said

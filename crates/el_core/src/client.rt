@@ -1,23 +1,22 @@
-// The one client and its bytes.
+// A client and its bytes.
 ghost use Rattle.std.specs.Prelude.{◌≡◌, ◌⊎◌, ◌<◌, ◌≤◌, [], false, None, Some, OnOk, OnErr, OnSome, IfOk, IfSome, IfNone, length, vec_capacity};
 ghost use Rattle.el_outside.specs.Counts.{RoseBy};
 ghost use Rattle.el_chain.specs.Chains.{Chain};
-ghost use Rattle.el_model.specs.Keeping.{Quiet};
+ghost use Rattle.el_model.specs.LedgerCalls.{Asked};
 ghost use Rattle.el_model.specs.World.{line_limit, reply_to};
 ghost use Rattle.el_lines.specs.LineStates.{as_listed, held};
 ghost use Rattle.el_core.specs.State.{HasGivenAll, HasNoWork, IsHeardOut, work_of_client};
 ghost use Rattle.el_core.specs.Turn.{outs_of};
-ghost use Rattle.el_core.specs.within.Clients.{IsFresh, Keeps, Gives, NextIsLine, SendsReply, Answers, ClientTurn};
+ghost use Rattle.el_core.specs.within.Clients.{IsFresh, Keeps, Gives, NextIsLine, SendsReply, Answers, ClientTurn, left_if};
 
 use crate::out::Outs;
 use crate::reply::reply;
-use el_base::{Bytes, Listed, OutOfMemory, Steps};
+use el_base::{Bytes, Listed, OutOfMemory};
 use el_lines::{LineBuffer, LineEvent};
 use el_model::{LINE_LIMIT, Ledger};
 use el_outside::{Peer, Why};
 use std::alloc::Global;
 use std::marker::Model;
-use std::sync::ledger::Ledger as Counts;
 
 /// A connected client, which contracts see as a `ClientState`.
 #[derive(Debug, Drop)]
@@ -131,79 +130,70 @@ pub fn closing(alloc: Global, p: Peer, why: Why) -> Outs
 }
 
 // The message with the reply to a line.
-fn replying<G: Ledger, L: Counts + Send>(
+fn replying<G: Ledger>(
     alloc: Global,
     ledger: &mut G,
     p: Peer,
     line: &[u8],
-    steps: &mut Steps<L>,
 ) -> Result<Outs, OutOfMemory>
     requires live { G.is_live ledger.old }
     ensures reply { (chain : Chain) → G.stands ledger.old chain → IfOk result (λ o.
         SendsReply chain line.now (λ n. RoseBy (G.faults ledger.old) (G.faults ledger.new) n) p (outs_of o)) }
-    ensures quiet { Quiet G.is_live G.height G.tip G.buckets G.stands G.tells_crash
-        G.means G.moment G.left_since ledger.old ledger.new }
+    ensures quiet { Asked ⟦<G as Ledger>⟧ ledger.old ledger.new }
     ensures disk_rose { RoseBy (G.faults ledger.old) (G.faults ledger.new) 0
         ⊎ RoseBy (G.faults ledger.old) (G.faults ledger.new) 1 }
 {
-    let text = reply(alloc, ledger, line, steps)?;
+    let text = reply(alloc, ledger, line)?;
     sending(alloc, p, text)
 }
 
-// What a client gets for what was met in its bytes: the reply to a line, or its closing.
-fn answer<G: Ledger, L: Counts + Send>(
-    alloc: Global,
-    ledger: &mut G,
-    client: Client,
-    met: LineEvent,
-    steps: &mut Steps<L>,
-) -> (Outs, Option<Client>)
+// What a client gets for what was met in its bytes: the reply to a line, or its closing; and whether it
+// stays.
+fn answer<G: Ledger>(alloc: Global, ledger: &mut G, peer: Peer, met: LineEvent) -> (Outs, bool)
     requires live { G.is_live ledger.old }
     ensures answers { (chain : Chain) → G.stands ledger.old chain → Answers chain
-        (λ n. RoseBy (G.faults ledger.old) (G.faults ledger.new) n) client met (outs_of result.0) result.1 }
-    ensures quiet { Quiet G.is_live G.height G.tip G.buckets G.stands G.tells_crash
-        G.means G.moment G.left_since ledger.old ledger.new }
+        (λ n. RoseBy (G.faults ledger.old) (G.faults ledger.new) n) peer met (outs_of result.0) result.1 }
+    ensures quiet { Asked ⟦<G as Ledger>⟧ ledger.old ledger.new }
     ensures disk_more { G.faults ledger.old ≤ G.faults ledger.new }
-    ensures no_more { work_of_client result.1 ≤ work_of_client (Some client) }
 {
-    let peer = client.peer();
     match met {
-        LineEvent::TooLong { limit: _ } => (closing(alloc, peer, Why::Long), None),
-        LineEvent::Line(line) => match replying(alloc, ledger, peer, line.as_slice(), steps) {
-            Ok(outs) => (outs, Some(client)),
-            Err(_) => (closing(alloc, peer, Why::Memory), None),
+        LineEvent::TooLong { limit: _ } => (closing(alloc, peer, Why::Long), false),
+        LineEvent::Line(line) => match replying(alloc, ledger, peer, line.as_slice()) {
+            Ok(outs) => (outs, true),
+            Err(_) => (closing(alloc, peer, Why::Memory), false),
         },
     }
 }
 
-/// One turn of a client: the reply to its next line, its closing, or nothing where no whole line is left.
-pub fn client_turn<G: Ledger, L: Counts + Send>(
+/// One turn of a client: the reply to its next line, its closing, or nothing where no whole line is left; and
+/// whether the client stays.
+pub fn client_turn<G: Ledger>(
     alloc: Global,
     ledger: &mut G,
-    client: Client,
-    steps: &mut Steps<L>,
-) -> (Option<Outs>, Option<Client>)
+    client: &mut Client,
+) -> (Option<Outs>, bool)
     requires live { G.is_live ledger.old }
     ensures turn { (chain : Chain) → G.stands ledger.old chain → ClientTurn chain
-        (λ n. RoseBy (G.faults ledger.old) (G.faults ledger.new) n) client result.0 result.1 }
-    ensures quiet { Quiet G.is_live G.height G.tip G.buckets G.stands G.tells_crash
-        G.means G.moment G.left_since ledger.old ledger.new }
+        (λ n. RoseBy (G.faults ledger.old) (G.faults ledger.new) n) client.old result.0
+        (left_if result.1 client.new) }
+    ensures quiet { Asked ⟦<G as Ledger>⟧ ledger.old ledger.new }
     ensures still { IfNone result.0 (G.faults ledger.new ≡ G.faults ledger.old) }
     ensures disk_more { G.faults ledger.old ≤ G.faults ledger.new }
-    ensures less { OnSome result.0 (work_of_client result.1 < work_of_client (Some client)) }
-    ensures done { IfNone result.0 (HasNoWork result.1) }
+    ensures less { OnSome result.0 (work_of_client (left_if result.1 client.new)
+        < work_of_client (Some client.old)) }
+    ensures done { IfNone result.0 (HasNoWork (left_if result.1 client.new)) }
+    ensures same { client.new.peer ≡ client.old.peer }
 {
-    let mut client = client;
     let peer = client.peer();
     if client.is_lost() {
-        return (Some(closing(alloc, peer, Why::Memory)), None);
+        return (Some(closing(alloc, peer, Why::Memory)), false);
     }
     match client.next_line() {
-        Err(_) => (Some(closing(alloc, peer, Why::Memory)), None),
-        Ok(None) => (None, Some(client)),
+        Err(_) => (Some(closing(alloc, peer, Why::Memory)), false),
+        Ok(None) => (None, true),
         Ok(Some(met)) => {
-            let (outs, client) = answer(alloc, ledger, client, met, steps);
-            (Some(outs), client)
+            let (outs, stays) = answer(alloc, ledger, peer, met);
+            (Some(outs), stays)
         }
     }
 }

@@ -4,16 +4,11 @@
 //! turn gives messages to send and at most one client to close.
 #![tactic(auto)]
 
-mod ahead;
 mod client;
-mod comparing;
-mod fault;
-mod moving;
-mod orders;
+mod clients;
 mod out;
 mod reply;
 mod server;
 
-pub use fault::StepFault;
 pub use out::Outs;
 pub use server::Server;

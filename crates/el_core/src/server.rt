@@ -1,38 +1,41 @@
 // The server: a pure core that takes arrivals and answers by turns.
 ghost use Rattle.std.specs.Prelude.{◌≡◌, ◌≢◌, ◌⊎◌, ◌<◌, ◌≤◌, ◌+◌, ℕ, List, [], ◌∷◌, None, Some, true, OnSome, OnOk, OnErr, IfOk, IfErr, IfSome, IfNone, IsErrOf, length};
-ghost use Rattle.el_outside.specs.Counts.{RoseBy, CountsOnly};
+ghost use Rattle.el_outside.specs.Counts.{RoseBy};
 ghost use Rattle.el_outside.specs.Files.{AllGrow};
-ghost use Rattle.el_outside.specs.Moments.{LeavesOnly};
+ghost use Rattle.el_chain.specs.declared.moves.Plan as moves;
 ghost use Rattle.el_chain.specs.Chains.{Chain};
-ghost use Rattle.el_model.specs.Keeping.{Quiet, Either};
+ghost use Rattle.el_model.specs.Flights.{IsFirstMove};
+ghost use Rattle.el_model.specs.LedgerCalls.{Asked};
 ghost use Rattle.el_model.specs.Lines.{too_long};
-ghost use Rattle.el_model.specs.World.{World, Event, joins, says, is_client, quiet_world, without_client, reply_to};
+ghost use Rattle.el_model.specs.NodeSteps.{IsAt};
+ghost use Rattle.el_model.specs.Plans.{plan_of};
+ghost use Rattle.el_model.specs.Run.{MayStarve};
+ghost use Rattle.el_model.specs.Side.{Side, Moving, OrdersLine};
+ghost use Rattle.el_model.specs.World.{World, Event, joins, says, is_client, IsStill, quiet_world, without_client, reply_to};
 ghost use Rattle.el_lines.specs.LineStates.{as_listed, held};
-ghost use Rattle.el_core.specs.State.{IsIdle, Stands, HasGivenAll, HasNoWork, work, work_of_client, work_of_surplus};
-ghost use Rattle.el_core.specs.Arrivals.{TookArrival, with_all_bytes, gone_from};
-ghost use Rattle.el_core.specs.Turn.{LeadsTo, TookTurn, TurnFailed, IsDone, HasLost, MeetsLine, ClosesLong, outs_of};
-ghost use Rattle.el_core.specs.within.Clients.{Hears, Opens, Gives, NextIsLine, ClientSteps, PeersTurn};
-ghost use Rattle.el_core.specs.within.Moving.{MoveTurn, MoveFailed, NodeTurn, LineFailed, RoseWith};
+ghost use Rattle.el_sync.specs.Steps.{IsFrom, StopsAt};
+ghost use Rattle.el_core.specs.State.{AreUpTo, IsIdle, Stands, HasGivenAll, work, work_of_peers};
+ghost use Rattle.el_core.specs.Arrivals.{TookArrival, IsAbove, IsUpTo, with_all_bytes, gone_from};
+ghost use Rattle.el_core.specs.Turn.{TookTurn, TurnFailed, IsDone, HasLost, MeetsLine, ClosesLong, outs_of};
+ghost use Rattle.el_core.specs.within.Answering.{Answered, NodeKeeps, sources_of};
+ghost use Rattle.el_core.specs.within.Clients.{Hears, Opens, Gives, NextIsLine, SpeakerSteps, PeersTurn};
 
-use crate::ahead::Ahead;
-use crate::client::{Client, client_turn, closing, room_for_one, sending_in};
-use crate::fault::StepFault;
-use crate::moving::move_next;
-use crate::orders::order;
+use crate::client::{Client, closing, room_for_one, sending_in};
+use crate::clients::Clients;
 use crate::out::Outs;
-use el_base::{OutOfMemory, Steps};
+use el_base::OutOfMemory;
 use el_headers::HeaderTree;
 use el_lines::{LineBuffer, LineEvent};
-use el_model::{Ledger, NODE_LINE_LIMIT};
+use el_model::{CLIENT_LIMIT, Ledger, NODE_LINE_LIMIT};
 use el_outside::{Archive, Arrival, Peer, Why};
+use el_sync::{Ahead, Sources, StepFault, move_next, order};
 use std::alloc::Global;
 use std::marker::Model;
 use std::mem;
-use std::sync::ledger::Ledger as Counts;
 
 /// The server's state: the ledger that it answers from, the headers that were found, the node's bytes and
-/// what its last tip line is still to do, its client, and a client too many that isn't closed yet. Contracts
-/// see it as a `State`, which stands for a `World` of the model.
+/// what its last tip line is still to do, its clients, which of them speaks, and a client too many that isn't
+/// closed yet. Contracts see it as a `State`, which stands for a `World` of the model.
 ///
 /// An arrival is taken by `take`; then `turn` is called until it answers None, and only then the next arrival
 /// is taken. What a turn gives is sent and closed before the next turn, and a client to whom a message can't
@@ -41,11 +44,11 @@ use std::sync::ledger::Ledger as Counts;
 pub struct Server<G: Ledger> {
     alloc: Global,
     ledger: G,
-    magic: [u8; 4],
-    tree: HeaderTree,
+    sources: Sources,
     node: LineBuffer,
     ahead: Ahead,
-    client: Option<Client>,
+    clients: Clients,
+    speaker: Option<Peer>,
     surplus: Option<Peer>,
 }
 
@@ -56,17 +59,18 @@ impl<G: Ledger> Model for Server<G> {
     ghost use Rattle.el_chain.specs.Records.{IsNode};
     ghost use Rattle.el_model.specs.NodeAnswers.{node_limit};
     ghost use Rattle.el_core.specs.State.{State};
-    ghost use Rattle.el_core.specs.within.Linked.{named};
+    ghost use Rattle.el_sync.specs.Steps.{named};
 
     ghost Value = { State G };
 
     ghost view = { λ s. record {
       ledger = s.ledger;
-      magic = s.magic;
-      found = s.tree;
+      magic = s.sources.magic;
+      found = s.sources.tree;
       node = s.node;
       ahead = s.ahead;
-      client = s.client;
+      clients = s.clients;
+      speaker = s.speaker;
       surplus = s.surplus;
     } };
 
@@ -82,15 +86,16 @@ impl<G: Ledger> Server<G> {
         ensures stands { (chain : Chain) (files : ℕ → List ℕ) → G.stands ledger chain
             → Stands G.stands result (quiet_world chain magic tree files) [] }
         ensures idle { IsIdle result }
+        ensures clients { result.clients ≡ [] }
     {
         Server {
             alloc,
             ledger,
-            magic,
-            tree,
+            sources: Sources { tree, magic },
             node: LineBuffer::new(alloc, NODE_LINE_LIMIT),
             ahead: Ahead::none(alloc),
-            client: None,
+            clients: Clients::new(alloc),
+            speaker: None,
             surplus: None,
         }
     }
@@ -102,11 +107,11 @@ impl<G: Ledger> Server<G> {
         let Server {
             alloc: _,
             ledger,
-            magic: _,
-            tree: _,
+            sources: _,
             node: _,
             ahead: _,
-            client: _,
+            clients: _,
+            speaker: _,
             surplus: _,
         } = self;
         ledger
@@ -117,17 +122,21 @@ impl<G: Ledger> Server<G> {
     ///
     /// # Errors
     ///
-    /// `OutOfMemory` for the node's bytes, which are then lost; the server is as it was.
+    /// `OutOfMemory` for the node's bytes, which are then lost, or for a new client; the server is as it was.
     pub fn take(&mut self, arrival: Arrival, bytes: &[u8]) -> Result<(), OutOfMemory>
         requires idle { IsIdle self.old }
+        // Who comes has a greater number than each client.
+        requires new { (last : ℕ) × AreUpTo last self.old.clients × IsAbove last arrival }
         ensures taken { (world : World) → Stands G.stands self.old world []
             → OnOk result (TookArrival G.stands (with_all_bytes arrival bytes.now) world self.new) }
         ensures refused { OnErr result (self.new ≡ self.old) }
-        ensures memory { OnErr result ((n : ℕ) × (arrival ≡ Arrival.Bytes 0 n)) }
+        ensures memory { OnErr result (MayStarve (with_all_bytes arrival bytes.now)) }
         ensures ledger { self.new.ledger ≡ self.old.ledger }
+        ensures numbers { (last now : ℕ) → last ≤ now → AreUpTo last self.old.clients → IsUpTo now arrival
+            → OnOk result (AreUpTo now self.new.clients) }
     {
         match arrival {
-            Arrival::Opened(p) => self.open(p),
+            Arrival::Opened(p) => self.open(p)?,
             Arrival::Bytes(p, _) => {
                 if p == 0 {
                     self.node.feed(bytes)?;
@@ -142,28 +151,30 @@ impl<G: Ledger> Server<G> {
         Ok(())
     }
 
-    // A peer comes: the client, one too many, or the node, which is none.
-    fn open(&mut self, p: Peer)
-        ensures { Opens p self.old self.new }
+    // A peer comes: a client, one too many, or the node, which is none.
+    fn open(&mut self, p: Peer) -> Result<(), OutOfMemory>
+        ensures opens { OnOk result (Opens p self.old self.new) }
+        ensures same { OnErr result (self.new ≡ self.old) }
+        ensures client { OnErr result (p ≡ 0 → ⊥) }
     {
         if p == 0 {
-            return;
+            return Ok(());
         }
-        match self.client {
-            None => self.client = Some(Client::new(self.alloc, p)),
-            Some(_) => self.surplus = Some(p),
+        if self.clients.len() < CLIENT_LIMIT {
+            self.clients.push(Client::new(self.alloc, p))?;
+        } else {
+            self.surplus = Some(p);
         }
+        Ok(())
     }
 
     // Bytes of a client come.
     fn hear(&mut self, p: Peer, bytes: &[u8])
-        ensures client { Hears p bytes.now self.old.client self.new.client }
-        ensures same { self.new ≡ record self.old { client = self.new.client } }
+        ensures { Hears p bytes.now self.old self.new }
     {
-        if let Some(client) = &mut self.client {
-            if client.peer() == p {
-                client.hear(bytes);
-            }
+        if let Some(i) = self.clients.place_of(p) {
+            self.clients.hear(i, bytes);
+            self.speaker = Some(p);
         }
     }
 
@@ -174,6 +185,7 @@ impl<G: Ledger> Server<G> {
         ensures stands { self.old.surplus ≡ None → (world : World) (rest : List Event)
             → Stands G.stands self.old world rest → Stands G.stands self.new (without_client p world) rest }
         ensures no_more { work self.new ≤ work self.old }
+        ensures numbers { (last : ℕ) → AreUpTo last self.old.clients → AreUpTo last self.new.clients }
     {
         self.forget(p);
     }
@@ -182,50 +194,35 @@ impl<G: Ledger> Server<G> {
     fn forget(&mut self, p: Peer)
         ensures { self.new ≡ gone_from self.old p }
     {
-        if let Some(client) = &self.client {
-            if client.peer() == p {
-                self.client = None;
-            }
+        self.clients.forget(p);
+        if self.speaker == Some(p) {
+            self.speaker = None;
         }
     }
 
     // The next move of the node's last tip line.
-    fn turn_ahead<A: Archive, L: Counts + Send>(
-        &mut self,
-        archive: &mut A,
-        steps: &mut Steps<L>,
-    ) -> Result<Outs, StepFault>
+    fn turn_ahead<A: Archive>(&mut self, archive: &mut A) -> Result<Outs, StepFault>
         requires live { G.is_live self.old.ledger }
         requires some { self.old.ahead ≢ [] }
-        ensures moving { (chain : Chain) → G.stands self.old.ledger chain → IfOk result (λ o. (text : List ℕ)
-            × (outs_of o ≡ reply_to 0 text) × MoveTurn A.tells (A.bytes archive.new) chain 0 self.old.ahead
-            (LeadsTo G.stands G.tells_crash G.means G.moment G.left_since
-            self.old.ledger self.new.ledger chain)
-            self.new.ahead (λ n. RoseBy (A.faults archive.old) (A.faults archive.new) n) text) }
-        ensures stopped { (chain : Chain) → G.stands self.old.ledger chain → IfErr result (λ e.
-            MoveFailed A.tells (A.bytes archive.new) chain 0 self.old.ahead
-            (LeadsTo G.stands G.tells_crash G.means G.moment G.left_since
-            self.old.ledger self.new.ledger chain)
-            (λ next. G.tells_crash
-            → LeavesOnly G.moment G.left_since self.old.ledger self.new.ledger
-            (Either G.means chain next)) e) }
+        ensures moving { (side : Side)
+            → IsAt ⟦<G as Ledger>⟧ ⟦<A as Archive>⟧ self.old.ledger archive.old side
+            → side.found ≡ self.old.found → IfOk result (Answered ⟦<G as Ledger>⟧ ⟦<A as Archive>⟧
+            (Moving A.tells side 0 self.old.ahead) self.old self.new archive.old archive.new side) }
+        ensures sends { IfOk result (λ o. (text : List ℕ) × (outs_of o ≡ reply_to 0 text)) }
+        ensures stopped { (chain : Chain) → G.stands self.old.ledger chain → IfErr result (
+            StopsAt ⟦<G as Ledger>⟧ ⟦<A as Archive>⟧ self.old.ledger self.new.ledger archive.new chain
+            (λ (p : moves.Plan). p ≡ plan_of 0 self.old.ahead)) }
         ensures some { self.old.ahead ≢ [] }
         ensures fewer { OnOk result (length self.new.ahead < length self.old.ahead) }
         ensures same { self.new ≡ record self.old { ledger = self.new.ledger; ahead = self.new.ahead } }
-        ensures live { OnOk result (G.is_live self.new.ledger) }
-        ensures still_live { IsErrOf result StepFault.Memory → G.is_live self.new.ledger }
-        ensures keeps { A.tells → AllGrow (A.bytes archive.old) (A.bytes archive.new) }
-        ensures archive_more { A.faults archive.old ≤ A.faults archive.new }
-        ensures archive_rose { IfErr result (λ e.
-            RoseWith e (λ n. RoseBy (A.faults archive.old) (A.faults archive.new) n)) }
-        ensures disk_rose { CountsOnly (G.faults self.old.ledger) (G.faults self.new.ledger)
-            StepFault.DiskFailed result }
+        ensures step { NodeKeeps ⟦<G as Ledger>⟧ ⟦<A as Archive>⟧ self.old.ledger self.new.ledger
+            archive.old archive.new result }
     {
         let Ok(room) = room_for_one(self.alloc) else {
             return Err(StepFault::Memory);
         };
         let rest = mem::replace(&mut self.ahead, Ahead::none(self.alloc));
-        match move_next(self.alloc, &mut self.ledger, 0, rest, archive, steps) {
+        match move_next(self.alloc, &mut self.ledger, 0, rest, archive) {
             Ok(step) => {
                 self.ahead = step.left;
                 Ok(sending_in(room, 0, step.text))
@@ -235,28 +232,18 @@ impl<G: Ledger> Server<G> {
     }
 
     // A line of the node.
-    fn turn_node<A: Archive, L: Counts + Send>(
-        &mut self,
-        met: LineEvent,
-        archive: &mut A,
-        steps: &mut Steps<L>,
-    ) -> Result<Outs, StepFault>
+    fn turn_node<A: Archive>(&mut self, met: LineEvent, archive: &mut A) -> Result<Outs, StepFault>
         requires live { G.is_live self.old.ledger }
         requires still { self.old.ahead ≡ [] }
-        ensures node_turn { (chain : Chain) → G.stands self.old.ledger chain
-            → IfOk result (λ o. (text : List ℕ) × (outs_of o ≡ reply_to 0 text)
-            × NodeTurn A.tells (A.bytes archive.old) (A.bytes archive.new)
-            self.old.magic self.old.found chain (as_listed met) self.new.found
-            (LeadsTo G.stands G.tells_crash G.means G.moment G.left_since
-            self.old.ledger self.new.ledger chain)
-            self.new.ahead (λ n. RoseBy (A.faults archive.old) (A.faults archive.new) n) text) }
-        ensures stopped { (chain : Chain) → G.stands self.old.ledger chain → IfErr result (λ e.
-            LineFailed A.tells (A.bytes archive.new) self.old.found chain (as_listed met)
-            (LeadsTo G.stands G.tells_crash G.means G.moment G.left_since
-            self.old.ledger self.new.ledger chain)
-            (λ next. G.tells_crash
-            → LeavesOnly G.moment G.left_since self.old.ledger self.new.ledger
-            (Either G.means chain next)) e) }
+        ensures node { (side : Side) → IsAt ⟦<G as Ledger>⟧ ⟦<A as Archive>⟧ self.old.ledger archive.old side
+            → IsFrom (sources_of self.old) side → IfOk result (Answered ⟦<G as Ledger>⟧ ⟦<A as Archive>⟧
+            (OrdersLine A.tells side (as_listed met)) self.old self.new archive.old archive.new side) }
+        ensures sends { IfOk result (λ o. (text : List ℕ) × (outs_of o ≡ reply_to 0 text)) }
+        ensures stopped { (side : Side)
+            → IsAt ⟦<G as Ledger>⟧ ⟦<A as Archive>⟧ self.old.ledger archive.old side
+            → IsFrom (sources_of self.old) side → IfErr result (
+            StopsAt ⟦<G as Ledger>⟧ ⟦<A as Archive>⟧ self.old.ledger self.new.ledger archive.new side.chain
+            (IsFirstMove side (as_listed met))) }
         ensures still { self.old.ahead ≡ [] }
         ensures fewer { OnOk result (length self.new.ahead ≤ length self.old.found) }
         ensures more { OnOk result (length self.new.found ≤ length self.old.found + 1) }
@@ -265,14 +252,8 @@ impl<G: Ledger> Server<G> {
           found = self.new.found;
           ahead = self.new.ahead;
         } }
-        ensures live { OnOk result (G.is_live self.new.ledger) }
-        ensures still_live { IsErrOf result StepFault.Memory → G.is_live self.new.ledger }
-        ensures keeps { A.tells → AllGrow (A.bytes archive.old) (A.bytes archive.new) }
-        ensures archive_more { A.faults archive.old ≤ A.faults archive.new }
-        ensures archive_rose { IfErr result (λ e.
-            RoseWith e (λ n. RoseBy (A.faults archive.old) (A.faults archive.new) n)) }
-        ensures disk_rose { CountsOnly (G.faults self.old.ledger) (G.faults self.new.ledger)
-            StepFault.DiskFailed result }
+        ensures step { NodeKeeps ⟦<G as Ledger>⟧ ⟦<A as Archive>⟧ self.old.ledger self.new.ledger
+            archive.old archive.new result }
     {
         let Ok(room) = room_for_one(self.alloc) else {
             return Err(StepFault::Memory);
@@ -280,11 +261,9 @@ impl<G: Ledger> Server<G> {
         match order(
             self.alloc,
             &mut self.ledger,
-            &mut self.tree,
-            self.magic,
+            &mut self.sources,
             archive,
             met,
-            steps,
         ) {
             Ok(step) => {
                 self.ahead = step.left;
@@ -302,26 +281,40 @@ impl<G: Ledger> Server<G> {
         self.surplus.take()
     }
 
-    // A turn of the client.
-    fn turn_client<L: Counts + Send>(&mut self, steps: &mut Steps<L>) -> Option<Outs>
+    // A turn of the client that speaks.
+    fn turn_client(&mut self) -> Option<Outs>
         requires live { G.is_live self.old.ledger }
-        ensures client_steps { (chain : Chain) → G.stands self.old.ledger chain → ClientSteps chain
-            (λ n. RoseBy (G.faults self.old.ledger) (G.faults self.new.ledger) n)
-            self.old.client result self.new.client }
-        ensures quiet { Quiet G.is_live G.height G.tip G.buckets G.stands G.tells_crash
-            G.means G.moment G.left_since self.old.ledger self.new.ledger }
+        ensures speaker_steps { (chain : Chain) → G.stands self.old.ledger chain → SpeakerSteps chain
+            (λ n. RoseBy (G.faults self.old.ledger) (G.faults self.new.ledger) n) self.old result self.new }
+        ensures quiet { Asked ⟦<G as Ledger>⟧ self.old.ledger self.new.ledger }
         ensures still { IfNone result (G.faults self.new.ledger ≡ G.faults self.old.ledger) }
         ensures disk_more { G.faults self.old.ledger ≤ G.faults self.new.ledger }
-        ensures same { self.new ≡ record self.old { ledger = self.new.ledger; client = self.new.client } }
-        ensures less { OnSome result (work_of_client self.new.client < work_of_client self.old.client) }
-        ensures done { IfNone result (HasNoWork self.new.client) }
+        ensures same { self.new ≡ record self.old {
+          ledger = self.new.ledger;
+          clients = self.new.clients;
+          speaker = self.new.speaker;
+        } }
+        ensures less { OnSome result (work_of_peers self.new < work_of_peers self.old) }
+        ensures done { IfNone result (self.new.speaker ≡ None) }
+        ensures numbers { (last : ℕ) → AreUpTo last self.old.clients → AreUpTo last self.new.clients }
     {
-        match self.client.take() {
-            None => None,
-            Some(client) => {
-                let (outs, client) = client_turn(self.alloc, &mut self.ledger, client, steps);
-                self.client = client;
-                outs
+        let Some(p) = self.speaker else {
+            return None;
+        };
+        let Some(i) = self.clients.place_of(p) else {
+            self.speaker = None;
+            return None;
+        };
+        let (outs, stays) = self.clients.turn(self.alloc, &mut self.ledger, i);
+        if !stays {
+            self.speaker = None;
+            return outs;
+        }
+        match outs {
+            Some(outs) => Some(outs),
+            None => {
+                self.speaker = None;
+                None
             }
         }
     }
@@ -342,52 +335,47 @@ impl<G: Ledger> Server<G> {
         self.node.next_line()
     }
 
-    // A turn where the node has nothing left: the client too many is closed, or the client has its turn.
-    fn turn_peers<L: Counts + Send>(&mut self, steps: &mut Steps<L>) -> Option<Outs>
+    // A turn where the node has nothing left: the client too many is closed, or the one that speaks has its
+    // turn.
+    fn turn_peers(&mut self) -> Option<Outs>
         requires live { G.is_live self.old.ledger }
         ensures peers { (chain : Chain) → G.stands self.old.ledger chain → PeersTurn chain
             (λ n. RoseBy (G.faults self.old.ledger) (G.faults self.new.ledger) n) self.old result self.new }
-        ensures quiet { Quiet G.is_live G.height G.tip G.buckets G.stands G.tells_crash
-            G.means G.moment G.left_since self.old.ledger self.new.ledger }
+        ensures quiet { Asked ⟦<G as Ledger>⟧ self.old.ledger self.new.ledger }
         ensures still { IfNone result (G.faults self.new.ledger ≡ G.faults self.old.ledger) }
         ensures disk_more { G.faults self.old.ledger ≤ G.faults self.new.ledger }
         ensures same { self.new ≡ record self.old {
           ledger = self.new.ledger;
-          client = self.new.client;
+          clients = self.new.clients;
+          speaker = self.new.speaker;
           surplus = self.new.surplus;
         } }
-        ensures less { OnSome result (work_of_client self.new.client + work_of_surplus self.new.surplus
-            < work_of_client self.old.client + work_of_surplus self.old.surplus) }
+        ensures less { OnSome result (work_of_peers self.new < work_of_peers self.old) }
         ensures unused { self.new.surplus ≡ None }
-        ensures done { IfNone result (HasNoWork self.new.client × (self.new.surplus ≡ None)) }
+        ensures done { IfNone result ((self.new.speaker ≡ None) × (self.new.surplus ≡ None)) }
+        ensures numbers { (last : ℕ) → AreUpTo last self.old.clients → AreUpTo last self.new.clients }
     {
         match self.take_surplus() {
             Some(p) => Some(closing(self.alloc, p, Why::Clients)),
-            None => self.turn_client(steps),
+            None => self.turn_client(),
         }
     }
 
     /// Does the next piece of work: the next move of the node's last tip line, its next line, or what is left
-    /// of the client. None exactly where none is left to do; the start of a line, which is kept until its end
-    /// comes, is no work.
+    /// of the client that speaks. None exactly where none is left to do; the start of a line, which is kept until
+    /// its end comes, is no work.
     ///
     /// # Errors
     ///
     /// In a line of the node: `StepFault::DiskFailed` where a call on the index's device failed, and
     /// `StepFault::Memory` where memory runs out.
-    pub fn turn<A: Archive, L: Counts + Send>(
-        &mut self,
-        archive: &mut A,
-        steps: &mut Steps<L>,
-    ) -> Result<Option<Outs>, StepFault>
+    pub fn turn<A: Archive>(&mut self, archive: &mut A) -> Result<Option<Outs>, StepFault>
         requires live { G.is_live self.old.ledger }
         // It takes the next event, or does what an event left, as `Run` allows.
         ensures step { (world : World) (left : List Event) → Stands G.stands self.old world left
-            → (A.tells → AllGrow world.files (A.bytes archive.old)) → IfOk result (λ found. IfSome found (λ o.
-            TookTurn G.stands
-            (LeadsTo G.stands G.tells_crash G.means G.moment G.left_since self.old.ledger self.new.ledger)
-            A.tells (A.bytes archive.new) (A.faults archive.old) (A.faults archive.new)
-            (G.faults self.old.ledger) (G.faults self.new.ledger) world left (outs_of o) self.new)) }
+            → (A.tells → AllGrow world.side.files (A.bytes archive.old)) → IfOk result (λ found.
+            IfSome found (λ o. TookTurn ⟦<G as Ledger>⟧ ⟦<A as Archive>⟧ self.old self.new archive.old archive.new world left
+            (outs_of o))) }
         // Where nothing is done, nothing is left.
         ensures done { (world : World) (left : List Event) → Stands G.stands self.old world left
             → IfOk result (λ found. IfNone found (IsDone G.stands A.tells world left self.new)) }
@@ -396,21 +384,17 @@ impl<G: Ledger> Server<G> {
             × (A.faults archive.new ≡ A.faults archive.old))) }
         // Where it fails, the server stops.
         ensures failed { (world : World) (left : List Event) → Stands G.stands self.old world left
-            → (A.tells → AllGrow world.files (A.bytes archive.old)) → IfErr result (λ e.
-            TurnFailed G.stands G.is_live
-            (λ chain next. G.tells_crash
-            → LeavesOnly G.moment G.left_since self.old.ledger self.new.ledger
-            (Either G.means chain next))
-            A.tells (A.bytes archive.new) (A.faults archive.old) (A.faults archive.new)
-            (G.faults self.old.ledger) (G.faults self.new.ledger) world left self.new.ledger e) }
+            → (A.tells → AllGrow world.side.files (A.bytes archive.old)) → IfErr result (λ e.
+            TurnFailed ⟦<G as Ledger>⟧ ⟦<A as Archive>⟧ self.old.ledger self.new.ledger
+            archive.old archive.new world left e) }
         // A closing as out of memory stands for lost bytes, or for a whole line or its reply that found none.
         ensures memory { (world : World) (left : List Event) (p : ℕ) → Stands G.stands self.old world left
             → IfOk result (λ found. IfSome found (λ o. o.close ≡ Some (p, Why.Memory)
-            → HasLost p self.old.client ⊎ MeetsLine p left)) }
+            → HasLost p self.old.clients ⊎ MeetsLine p left)) }
         // A client's next line that is too long closes it as that, where none of its bytes were lost.
         ensures long { (world : World) (p : ℕ) (rest : List Event)
-            → Stands G.stands self.old world (says p too_long ∷ rest) → world.ahead ≡ []
-            → is_client p world ≡ true → (HasLost p self.old.client → ⊥) → ClosesLong p result }
+            → Stands G.stands self.old world (says p too_long ∷ rest) → IsStill world
+            → is_client p world ≡ true → (HasLost p self.old.clients → ⊥) → ClosesLong p result }
         // Who joins by a turn is one too many.
         ensures waiting { (world : World) (p : ℕ) (rest : List Event)
             → Stands G.stands self.old world (joins p ∷ rest) → self.old.surplus ≡ Some p }
@@ -419,6 +403,7 @@ impl<G: Ledger> Server<G> {
             (self.new.surplus ≡ None) ⊎ (self.new.surplus ≡ self.old.surplus)) }
         ensures less { IfOk result (λ found. IfSome found (λ o. work self.new < work self.old)) }
         ensures idle { IfOk result (λ found. IfNone found (IsIdle self.new)) }
+        ensures numbers { (last : ℕ) → AreUpTo last self.old.clients → AreUpTo last self.new.clients }
         ensures live { OnOk result (G.is_live self.new.ledger) }
         ensures keeps { A.tells → AllGrow (A.bytes archive.old) (A.bytes archive.new) }
         // Also over a ledger that stands for no chain, and also where it fails.
@@ -428,15 +413,15 @@ impl<G: Ledger> Server<G> {
             → RoseBy (G.faults self.old.ledger) (G.faults self.new.ledger) 1 }
     {
         if !self.ahead.is_empty() {
-            return match self.turn_ahead(archive, steps) {
+            return match self.turn_ahead(archive) {
                 Ok(outs) => Ok(Some(outs)),
                 Err(fault) => Err(fault),
             };
         }
         match self.next_line() {
             Err(_) => Err(StepFault::Memory),
-            Ok(None) => Ok(self.turn_peers(steps)),
-            Ok(Some(met)) => match self.turn_node(met, archive, steps) {
+            Ok(None) => Ok(self.turn_peers()),
+            Ok(Some(met)) => match self.turn_node(met, archive) {
                 Ok(outs) => Ok(Some(outs)),
                 Err(fault) => Err(fault),
             },

@@ -1,5 +1,7 @@
--- What the server's parts do with its client.
-use Rattle.std.specs.Prelude.{◌≡◌, ◌⊎◌, ◌==◌, ℕ, ◌+◌, ◌≤◌, ◌<◌, true, false, List, [], ◌++◌, length, Option, Some, None, MatchBool, slice_get}
+-- What the server's parts do with its clients.
+use Rattle.std.specs.List.{AllByRecursion}
+use Rattle.std.specs.Option.{is_some}
+use Rattle.std.specs.Prelude.{IfSome, OnSome, nat_lt, Bool, take, zero, suc, ◌∷◌, ◌≡◌, ◌⊎◌, ℕ, ◌+◌, ◌≤◌, ◌<◌, true, false, List, [], ◌++◌, length, Option, Some, None, MatchBool, slice_get}
 use Rattle.el_chain.specs.Chains.{Chain}
 use Rattle.el_model.specs.Lines.{LineEvent, line, lines}
 use Rattle.el_model.specs.declared.method.Method.{Method}
@@ -7,11 +9,11 @@ use Rattle.el_model.specs.Replies.{IsReply, replies, Asks, disk_text, answer_tex
 use Rattle.el_model.specs.Run.{closes_memory}
 use Rattle.el_model.specs.Sessions.{Session}
 use Rattle.el_model.specs.World as model
-use Rattle.el_model.specs.World.{line_limit, reply_to, closes_long, closes_surplus}
+use Rattle.el_model.specs.World.{client_limit, line_limit, reply_to, closes_long, closes_surplus}
 use Rattle.el_lines.specs.LineStates.{LineState, IsAt, as_listed}
 use Rattle.el_lines.specs.declared.line_buffer.LineEvent as met
 use Rattle.el_lines.specs.declared.line_buffer.LineEvent.TheVariants as event
-use Rattle.el_core.specs.State.{State, ClientState, IsHeardOut}
+use Rattle.el_core.specs.State.{State, ClientState, IsHeardOut, is_numbered, work_of_client}
 use Rattle.el_core.specs.Turn.{outs_of}
 use Rattle.el_core.specs.declared.out.Outs.{Outs}
 
@@ -22,13 +24,13 @@ pub record IsFresh (p : ℕ) (c : ClientState) : Type 0 where
   pub at : IsAt c.buffer [] 0
   pub kept : c.lost ≡ false
 
--- a peer comes: it is the client, one too many, or the node, which is none
+-- a peer comes: it is a client, one too many, or the node, which is none
 pub data Opens {G : Type 0} (p : ℕ) (s next : State G) : Type 0 where
   node : p ≡ 0 → next ≡ s → Opens p s next
-  first : (p ≡ 0 → ⊥) → (c : ClientState) → IsFresh p c → s.client ≡ None
-      → next ≡ record s { client = Some c } → Opens p s next
-  one_more : (p ≡ 0 → ⊥) → (c : ClientState) → s.client ≡ Some c → next ≡ record s { surplus = Some p }
-      → Opens p s next
+  joins : (p ≡ 0 → ⊥) → (c : ClientState) → IsFresh p c → nat_lt (length s.clients) client_limit ≡ true
+      → next ≡ record s { clients = s.clients ++ c ∷ [] } → Opens p s next
+  one_more : (p ≡ 0 → ⊥) → nat_lt (length s.clients) client_limit ≡ false
+      → next ≡ record s { surplus = Some p } → Opens p s next
 
 -- the bytes were fed
 abbrev pub IsFed : LineState → List ℕ → LineState → Type 0
@@ -36,15 +38,36 @@ IsFed b bytes next = (fed : List ℕ) (given : ℕ) → IsAt b fed given → IsA
 
 -- the client's bytes are kept, or lost where memory runs out
 pub record Keeps (bytes : List ℕ) (c next : ClientState) : Type 0 where
-  pub peer : next.peer ≡ c.peer
   pub limit : next.buffer.limit ≡ c.buffer.limit
+  pub peer : next.peer ≡ c.peer
   pub kept : MatchBool next.lost (next.buffer ≡ c.buffer) (IsFed c.buffer bytes next.buffer)
 
--- bytes of a peer come, which is the client or nobody
-abbrev pub Hears : ℕ → List ℕ → Option ClientState → Option ClientState → Type 0
-Hears p bytes None next = next ≡ None
-Hears p bytes (Some c) next =
-    MatchBool (c.peer == p) ((kept : ClientState) × Keeps bytes c kept × (next ≡ Some kept)) (next ≡ Some c)
+-- the list with another client at that place, or without it
+abbrev pub replaced : {A : Type 0} → ℕ → Option A → List A → List A
+replaced i next [] = []
+replaced zero (Some y) (x ∷ xs) = y ∷ xs
+replaced zero None (x ∷ xs) = xs
+replaced (suc i) next (x ∷ xs) = x ∷ replaced i next xs
+
+-- there is no client with this number, or the first stands there
+abbrev pub IsPlace : ℕ → List ClientState → Option ℕ → Type 0
+IsPlace p clients None = AllByRecursion (λ (c : ClientState). is_numbered p c ≡ false) clients
+IsPlace p clients (Some i) =
+    (c : ClientState) × (slice_get clients i ≡ Some c) × (c.peer ≡ p)
+    × AllByRecursion (λ (d : ClientState). is_numbered p d ≡ false) (take i clients)
+
+-- the client at that place keeps its bytes, or that there was no memory for them
+abbrev pub HearsAt : ℕ → List ℕ → List ClientState → List ClientState → Type 0
+HearsAt i bytes clients next =
+    (c kept : ClientState) × (slice_get clients i ≡ Some c) × Keeps bytes c kept
+    × (next ≡ replaced i (Some kept) clients)
+
+-- bytes of a peer come, which is a client or nobody; it then speaks
+pub data Hears {G : Type 0} (p : ℕ) (bytes : List ℕ) (s next : State G) : Type 0 where
+  nobody : IsPlace p s.clients None → next ≡ s → Hears p bytes s next
+  client : (i : ℕ) (c kept : ClientState) → slice_get s.clients i ≡ Some c → c.peer ≡ p → Keeps bytes c kept
+      → next ≡ record s { clients = replaced i (Some kept) s.clients; speaker = Some p }
+      → Hears p bytes s next
 
 -- the next event of the bytes that were fed, and the buffer after it
 abbrev pub Gives : LineState → LineEvent → LineState → Type 0
@@ -82,13 +105,17 @@ abbrev pub SendsReply : Chain → List ℕ → (ℕ → Type 0) → ℕ → mode
 SendsReply chain bytes rose p outs =
     (text : List ℕ) × ReplyText chain bytes rose text × (outs ≡ reply_to p text)
 
--- what is sent or closed for an event of a client, and what is kept of the client
-abbrev pub Answers : Chain → (ℕ → Type 0) → ClientState → met.LineEvent → model.Outs
-    → Option ClientState → Type 0
-Answers chain rose c (event.Line bytes) outs next =
-    (SendsReply chain bytes rose c.peer outs × (next ≡ Some c))
-    ⊎ ((outs ≡ closes_memory c.peer) × (next ≡ None) × (rose 0 ⊎ rose 1))
-Answers chain rose c (event.TooLong limit) outs next = (outs ≡ closes_long c.peer) × (next ≡ None) × rose 0
+-- the client, where it stays
+abbrev pub left_if : Bool → ClientState → Option ClientState
+left_if true c = Some c
+left_if false c = None
+
+-- what is sent or closed for an event of this client, and whether it stays
+abbrev pub Answers : Chain → (ℕ → Type 0) → ℕ → met.LineEvent → model.Outs → Bool → Type 0
+Answers chain rose p (event.Line bytes) outs stays =
+    (SendsReply chain bytes rose p outs × (stays ≡ true))
+    ⊎ ((outs ≡ closes_memory p) × (stays ≡ false) × (rose 0 ⊎ rose 1))
+Answers chain rose p (event.TooLong limit) outs stays = (outs ≡ closes_long p) × (stays ≡ false) × rose 0
 
 -- a turn of a client
 pub data ClientTurn (chain : Chain) (rose : ℕ → Type 0) (c : ClientState) (outs : Option Outs)
@@ -100,21 +127,48 @@ pub data ClientTurn (chain : Chain) (rose : ℕ → Type 0) (c : ClientState) (o
   departs : (o : Outs) → c.lost ≡ false → NextIsLine c.buffer → outs ≡ Some o
       → outs_of o ≡ closes_memory c.peer → next ≡ None → rose 0 → ClientTurn chain rose c outs next
   -- its next event
-  answers : (o : Outs) (e : met.LineEvent) (b : LineState) → c.lost ≡ false → b.limit ≡ c.buffer.limit
-      → Gives c.buffer (as_listed e) b → Answers chain rose (record c { buffer = b }) e (outs_of o) next
+  answers : (o : Outs) (e : met.LineEvent) (b : LineState) (stays : Bool) → c.lost ≡ false
+      → b.limit ≡ c.buffer.limit → Gives c.buffer (as_listed e) b
+      → Answers chain rose c.peer e (outs_of o) stays → next ≡ left_if stays (record c { buffer = b })
       → outs ≡ Some o → ClientTurn chain rose c outs next
   -- no line is left
   waits : IsHeardOut c → outs ≡ None → next ≡ Some c → rose 0 → ClientTurn chain rose c outs next
 
--- a turn of the client, if there is one
-abbrev pub ClientSteps : Chain → (ℕ → Type 0) → Option ClientState → Option Outs → Option ClientState → Type 0
-ClientSteps chain rose None outs next = (outs ≡ None) × (next ≡ None) × rose 0
-ClientSteps chain rose (Some c) outs next = ClientTurn chain rose c outs next
+-- A turn of the client at that place, which is left or not: what `says` says of both.
+pub record TurnsAt (says : ClientState → Option ClientState → Type 0) (i : ℕ) (clients : List ClientState)
+    (outs : Option Outs) (stays : Bool) (next : List ClientState) : Type 0 where
+  pub client : ClientState
+  pub left : Option ClientState
+  pub at : slice_get clients i ≡ Some client
+  pub next_is : next ≡ replaced i left clients
+  pub stays_is : stays ≡ is_some left
+  pub same : IfSome left (λ d. d.peer ≡ client.peer)
+  pub less : OnSome outs (work_of_client left < work_of_client (Some client))
+  pub said : says client left
 
--- a turn where the node has nothing left: a client too many is closed, or the client has its turn
+-- who speaks after a turn of the client that spoke
+abbrev pub speaker_after : Option Outs → Option ClientState → Option ℕ
+speaker_after None left = None
+speaker_after (Some o) None = None
+speaker_after (Some o) (Some c) = Some c.peer
+
+-- a turn of the client that speaks, if there is one
+pub data SpeakerSteps {G : Type 0} (chain : Chain) (rose : ℕ → Type 0) (s : State G) (outs : Option Outs)
+    (next : State G) : Type 0 where
+  nobody : s.speaker ≡ None → outs ≡ None → next ≡ s → rose 0 → SpeakerSteps chain rose s outs next
+  gone : (p : ℕ) → s.speaker ≡ Some p → IsPlace p s.clients None → outs ≡ None
+      → next ≡ record s { speaker = None } → rose 0 → SpeakerSteps chain rose s outs next
+  steps : (p i : ℕ) (c : ClientState) (left : Option ClientState) → s.speaker ≡ Some p
+      → slice_get s.clients i ≡ Some c → c.peer ≡ p → ClientTurn chain rose c outs left
+      → next ≡ record s {
+        ledger = next.ledger;
+        clients = replaced i left s.clients;
+        speaker = speaker_after outs left;
+      } → SpeakerSteps chain rose s outs next
+
+-- a turn where the node has nothing left: a client too many is closed, or the client that speaks has its turn
 pub data PeersTurn {G : Type 0} (chain : Chain) (rose : ℕ → Type 0) (s : State G) (outs : Option Outs)
     (next : State G) : Type 0 where
   closes : (p : ℕ) (o : Outs) → s.surplus ≡ Some p → outs ≡ Some o → outs_of o ≡ closes_surplus p
       → next ≡ record s { surplus = None } → rose 0 → PeersTurn chain rose s outs next
-  has_turn : s.surplus ≡ None → ClientSteps chain rose s.client outs next.client
-      → next ≡ record s { ledger = next.ledger; client = next.client } → PeersTurn chain rose s outs next
+  has_turn : s.surplus ≡ None → SpeakerSteps chain rose s outs next → PeersTurn chain rose s outs next

@@ -3,7 +3,7 @@ use Rattle.el_core.proofs.client.Client.hear.Goals as goal
 
 pub returns-in-Ok : goal.returns-in-Ok
 returns-in-Ok c = rw (← c.self.view_is) (record {
-  peer = refl;
   limit = c.feed.ensures.limit;
+  peer = refl;
   kept = λ fed given at. c.in-Ok.ensures.at fed given at;
 })

@@ -4,4 +4,4 @@ use Rattle.el_core.proofs.server.Server.new.Goals as goal
 
 pub returns-clause-stands : goal.returns-clause-stands
 returns-clause-stands g c = λ chain files stood.
-    new_stands g.G.Ledger.stands _ chain c.args.magic c.args.tree files stood refl refl c.none.ensures refl refl c.new.ensures.limit c.new.ensures.at
+    new_stands g.G.Ledger.stands _ chain c.args.magic c.args.tree files stood refl refl c.none.ensures c.new-2.ensures refl refl c.new.ensures.limit c.new.ensures.at

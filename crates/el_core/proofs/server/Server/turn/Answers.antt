@@ -1,68 +1,57 @@
 use Rattle.std.proofs.Common.{◌∙◌, ap, Ok, Err}
-use Rattle.el_core.proofs.Compared.{nil_if}
+use Rattle.el_core.proofs.Noded.{nil_if}
 use Rattle.el_core.proofs.server.Server.turn.Goals as goal
 use Rattle.el_core.specs.Turn.{outs_of, closing_of}
-use Rattle.el_core.proofs.Causes.{waiting, none_ordered_before, none_given, none_unread, reply_other, found_memory, peers_long}
+use Rattle.el_core.proofs.Causes.{waiting_joins, none_ordered_before, none_given, none_unread, reply_other, found_memory, peers_long}
 use Rattle.el_core.proofs.Peers.{none_ordered}
 use Rattle.el_lines.specs.LineStates.{as_listed}
 use Rattle.std.proofs.Common.{length, ◌==◌}
 use Rattle.el_core.specs.State.{State}
 use Rattle.el_core.proofs.Noded.{ahead_failed}
-use Rattle.el_core.proofs.Turned.{ahead_turned, node_turned, peers_turned, peers_ended, node_failed, peers_idle, unread_failed, ahead_less, line_less}
+use Rattle.el_core.proofs.Measured.{ahead_less, line_less, peers_idle}
+use Rattle.el_core.proofs.Turned.{ahead_turned, node_turned, peers_turned, peers_ended, node_failed, unread_failed}
 
 pub returns-in-Ok-clause-step : goal.returns-in-Ok-clause-step
 returns-in-Ok-clause-step g c = λ world left stood told.
-    let a = g.A.Archive in
-    let l = g.G.Ledger in
     let e = c.in-Ok.ensures in
-    ahead_turned l.is_live l.height l.tip l.buckets l.stands l.tells_crash l.means l.moment l.left_since l.faults a.tells c.args.self.now c.turn_ahead.new.self world left
-    (a.bytes c.args.archive.now) (a.bytes c.turn_ahead.new.archive) (a.faults c.args.archive.now) (a.faults c.turn_ahead.new.archive) (outs_of c.in-Ok.outs)
-    stood told e.keeps e.disk_rose.uncounted e.some e.same e.moving
+    ahead_turned g.G.Ledger g.A.Archive c.args.self.now c.turn_ahead.new.self c.args.archive.now c.turn_ahead.new.archive world left c.in-Ok.outs stood told e.some e.same e.moving
 
 pub returns-in-Ok-clause-less : goal.returns-in-Ok-clause-less
 returns-in-Ok-clause-less g c = ahead_less c.args.self.now c.turn_ahead.new.self c.in-Ok.ensures.fewer c.in-Ok.ensures.same
 
 pub returns-in-Err-clause-failed : goal.returns-in-Err-clause-failed
 returns-in-Err-clause-failed g c = λ world left stood told.
-    let a = g.A.Archive in
-    let l = g.G.Ledger in
     let e = c.in-Err.ensures in
-    ahead_failed l.stands l.tells_crash l.means l.moment l.left_since a.tells l.is_live c.args.self.now c.turn_ahead.new.self.ledger world left (a.bytes c.turn_ahead.new.archive)
-    (a.faults c.args.archive.now) (a.faults c.turn_ahead.new.archive) (l.faults c.args.self.now.ledger) (l.faults c.turn_ahead.new.self.ledger) c.in-Err.fault
+    let k = e.step in
+    ahead_failed g.G.Ledger g.A.Archive c.args.self.now.ledger c.turn_ahead.new.self.ledger c.args.archive.now c.turn_ahead.new.archive world left c.in-Err.fault
     (λ none. e.some (stood.ahead ∙ none))
-    (record { archive = e.archive_rose; disk = λ is. e.disk_rose.counted (ap Err is); others = λ other. e.disk_rose.others_uncounted other })
-    (λ is. e.still_live (ap Err is)) (rw stood.ahead at (e.stopped world.chain stood.chain))
+    (record { archive = k.archive_rose; disk = λ is. k.disk_rose.counted (ap Err is); others = λ other. k.disk_rose.others_uncounted other })
+    (λ is. k.still_live (ap Err is)) (rw stood.ahead at (e.stopped world.side.chain stood.chain))
 
 pub returns-in-Err-next_line-clause-failed : goal.returns-in-Err-next_line-clause-failed
 returns-in-Err-next_line-clause-failed g c = λ world left stood told.
-    let a = g.A.Archive in
-    let l = g.G.Ledger in
-    unread_failed l.is_live l.height l.tip l.buckets l.stands l.tells_crash l.means l.moment l.left_since l.faults a.tells c.args.self.now c.next_line.new.self world left
-    (a.bytes c.args.archive.now) (a.faults c.args.archive.now) c.requires.live (λ m n d t h i j. g.met.G.Ledger.leaves_own m n d t h i j) c.in-Err-next_line.ensures.refused stood c.in-Err-next_line.ensures.line
+    unread_failed g.G.Ledger g.A.Archive c.args.self.now c.next_line.new.self c.args.archive.now world left (λ m n d t h i j. g.met.G.Ledger.leaves_own m n d t h i j) c.requires.live
+    c.in-Err-next_line.ensures.refused stood c.in-Err-next_line.ensures.line
 
 pub returns-in-Ok-None-clause-step : goal.returns-in-Ok-None-clause-step
 returns-in-Ok-None-clause-step g c = λ world left stood told.
-    let a = g.A.Archive in
-    let l = g.G.Ledger in
     let all = rw c.in-Ok-None.field-0-is at c.in-Ok-None.ensures.none in
     let unchanged = rw c.in-Ok-None.field-0-is at c.in-Ok-None.ensures.unchanged in
     let p = rw unchanged at c.turn_peers.ensures.peers in
     let q = rw unchanged at c.turn_peers.ensures.quiet in
     let s = rw unchanged at c.turn_peers.ensures.same in
-    peers_turned l.is_live l.height l.tip l.buckets l.stands l.tells_crash l.means l.moment l.left_since l.faults a.tells c.args.self.now c.turn_peers.new.self world left
-    (a.bytes c.args.archive.now) (a.faults c.args.archive.now) c.turn_peers.result stood told (nil_if c.args.self.now.ahead c.is_empty.result c.if-not-is_empty.false (c.is_empty.ensures ∙ ap (λ (s : State g.row.G.Denot). length s.ahead == 0) c.self.view_is)) all s q p
+    peers_turned g.G.Ledger g.A.Archive c.args.self.now c.turn_peers.new.self c.args.archive.now world left c.turn_peers.result (λ m n d t h i j. g.met.G.Ledger.leaves_own m n d t h i j) c.requires.live
+    stood told (nil_if c.args.self.now.ahead c.is_empty.result c.if-not-is_empty.false (c.is_empty.ensures ∙ ap (λ (s : State g.row.G.Denot). length s.ahead == 0) c.self.view_is)) all s q p
 
 pub returns-in-Ok-None-clause-done : goal.returns-in-Ok-None-clause-done
 returns-in-Ok-None-clause-done g c = λ world left stood.
-    let a = g.A.Archive in
-    let l = g.G.Ledger in
     let all = rw c.in-Ok-None.field-0-is at c.in-Ok-None.ensures.none in
     let unchanged = rw c.in-Ok-None.field-0-is at c.in-Ok-None.ensures.unchanged in
     let p = rw unchanged at c.turn_peers.ensures.peers in
     let q = rw unchanged at c.turn_peers.ensures.quiet in
     let s = rw unchanged at c.turn_peers.ensures.same in
-    peers_ended l.is_live l.height l.tip l.buckets l.stands l.tells_crash l.means l.moment l.left_since l.faults a.tells c.args.self.now c.turn_peers.new.self world left
-    c.turn_peers.result stood (nil_if c.args.self.now.ahead c.is_empty.result c.if-not-is_empty.false (c.is_empty.ensures ∙ ap (λ (s : State g.row.G.Denot). length s.ahead == 0) c.self.view_is)) all s q p
+    peers_ended g.G.Ledger g.A.Archive c.args.self.now c.turn_peers.new.self world left c.turn_peers.result (λ m n d t h i j. g.met.G.Ledger.leaves_own m n d t h i j) c.requires.live
+    stood (nil_if c.args.self.now.ahead c.is_empty.result c.if-not-is_empty.false (c.is_empty.ensures ∙ ap (λ (s : State g.row.G.Denot). length s.ahead == 0) c.self.view_is)) all s q p
 
 pub returns-in-Ok-None-clause-idle : goal.returns-in-Ok-None-clause-idle
 returns-in-Ok-None-clause-idle g c =
@@ -72,12 +61,9 @@ returns-in-Ok-None-clause-idle g c =
 
 pub returns-in-Ok-turn_node-clause-step : goal.returns-in-Ok-turn_node-clause-step
 returns-in-Ok-turn_node-clause-step g c = λ world left stood told.
-    let a = g.A.Archive in
-    let l = g.G.Ledger in
     let e = c.in-Ok-turn_node.ensures in
-    node_turned l.is_live l.height l.tip l.buckets l.stands l.tells_crash l.means l.moment l.left_since l.faults a.tells c.args.self.now c.next_line.new.self c.turn_node.new.self world left
-    (a.bytes c.args.archive.now) (a.bytes c.turn_node.new.archive) (a.faults c.args.archive.now) (a.faults c.turn_node.new.archive) (outs_of c.in-Ok-turn_node.outs) (as_listed c.in-Ok-Some.met)
-    stood told e.keeps e.disk_rose.uncounted e.still c.in-Ok-Some.ensures.same c.in-Ok-Some.ensures.limit (rw c.in-Ok-Some.field-0-is at c.in-Ok-Some.ensures.met) e.same e.node_turn
+    node_turned g.G.Ledger g.A.Archive c.args.self.now c.next_line.new.self c.turn_node.new.self c.args.archive.now c.turn_node.new.archive world left c.in-Ok-turn_node.outs
+    (as_listed c.in-Ok-Some.met) stood told e.still c.in-Ok-Some.ensures.same c.in-Ok-Some.ensures.limit (rw c.in-Ok-Some.field-0-is at c.in-Ok-Some.ensures.met) e.same e.node
 
 pub returns-in-Ok-turn_node-clause-less : goal.returns-in-Ok-turn_node-clause-less
 returns-in-Ok-turn_node-clause-less g c =
@@ -86,36 +72,35 @@ returns-in-Ok-turn_node-clause-less g c =
 
 pub returns-in-Err-turn_node-clause-failed : goal.returns-in-Err-turn_node-clause-failed
 returns-in-Err-turn_node-clause-failed g c = λ world left stood told.
-    let a = g.A.Archive in
-    let l = g.G.Ledger in
     let e = c.in-Err-turn_node.ensures in
-    node_failed l.is_live l.height l.tip l.buckets l.stands l.tells_crash l.means l.moment l.left_since l.faults a.tells c.args.self.now c.next_line.new.self c.turn_node.new.self.ledger world left
-    (a.bytes c.turn_node.new.archive) (a.faults c.args.archive.now) (a.faults c.turn_node.new.archive) (as_listed c.in-Ok-Some.met) c.in-Err-turn_node.fault
-    stood e.still c.in-Ok-Some.ensures.same c.in-Ok-Some.ensures.limit (rw c.in-Ok-Some.field-0-is at c.in-Ok-Some.ensures.met)
-    (record { archive = e.archive_rose; disk = λ is. e.disk_rose.counted (ap Err is); others = λ other. e.disk_rose.others_uncounted other })
-    (λ is. e.still_live (ap Err is)) e.stopped
+    let k = e.step in
+    node_failed g.G.Ledger g.A.Archive c.args.self.now c.next_line.new.self c.turn_node.new.self.ledger c.args.archive.now c.turn_node.new.archive world left
+    (as_listed c.in-Ok-Some.met) c.in-Err-turn_node.fault
+    stood told e.still c.in-Ok-Some.ensures.same c.in-Ok-Some.ensures.limit (rw c.in-Ok-Some.field-0-is at c.in-Ok-Some.ensures.met)
+    (record { archive = k.archive_rose; disk = λ is. k.disk_rose.counted (ap Err is); others = λ other. k.disk_rose.others_uncounted other })
+    (λ is. k.still_live (ap Err is)) e.stopped
 
 pub returns-in-Ok-clause-waiting : goal.returns-in-Ok-clause-waiting
-returns-in-Ok-clause-waiting g c = λ world p rest stood. waiting g.G.Ledger.stands c.args.self.now world p rest stood
+returns-in-Ok-clause-waiting g c = λ world p rest stood. waiting_joins g.G.Ledger.stands c.args.self.now world p rest stood
 
 pub returns-in-Err-clause-waiting : goal.returns-in-Err-clause-waiting
-returns-in-Err-clause-waiting g c = λ world p rest stood. waiting g.G.Ledger.stands c.args.self.now world p rest stood
+returns-in-Err-clause-waiting g c = λ world p rest stood. waiting_joins g.G.Ledger.stands c.args.self.now world p rest stood
 
 pub returns-in-Err-next_line-clause-waiting : goal.returns-in-Err-next_line-clause-waiting
-returns-in-Err-next_line-clause-waiting g c = λ world p rest stood. waiting g.G.Ledger.stands c.args.self.now world p rest stood
+returns-in-Err-next_line-clause-waiting g c = λ world p rest stood. waiting_joins g.G.Ledger.stands c.args.self.now world p rest stood
 
 pub returns-in-Ok-None-clause-waiting : goal.returns-in-Ok-None-clause-waiting
-returns-in-Ok-None-clause-waiting g c = λ world p rest stood. waiting g.G.Ledger.stands c.args.self.now world p rest stood
+returns-in-Ok-None-clause-waiting g c = λ world p rest stood. waiting_joins g.G.Ledger.stands c.args.self.now world p rest stood
 
 pub returns-in-Ok-turn_node-clause-waiting : goal.returns-in-Ok-turn_node-clause-waiting
-returns-in-Ok-turn_node-clause-waiting g c = λ world p rest stood. waiting g.G.Ledger.stands c.args.self.now world p rest stood
+returns-in-Ok-turn_node-clause-waiting g c = λ world p rest stood. waiting_joins g.G.Ledger.stands c.args.self.now world p rest stood
 
 pub returns-in-Err-turn_node-clause-waiting : goal.returns-in-Err-turn_node-clause-waiting
-returns-in-Err-turn_node-clause-waiting g c = λ world p rest stood. waiting g.G.Ledger.stands c.args.self.now world p rest stood
+returns-in-Err-turn_node-clause-waiting g c = λ world p rest stood. waiting_joins g.G.Ledger.stands c.args.self.now world p rest stood
 
 pub returns-in-Ok-clause-memory : goal.returns-in-Ok-clause-memory
 returns-in-Ok-clause-memory g c = λ world left p stood told.
-    let t = c.in-Ok.ensures.moving world.chain stood.chain in
+    let t = c.in-Ok.ensures.sends in
     absurd (reply_other (outs_of c.in-Ok.outs) 0 p t.0 t.1 (ap closing_of told))
 
 pub returns-in-Ok-clause-long : goal.returns-in-Ok-clause-long
@@ -134,19 +119,19 @@ returns-in-Ok-None-clause-memory g c = λ world left p stood.
     let all = rw c.in-Ok-None.field-0-is at c.in-Ok-None.ensures.none in
     let unchanged = rw c.in-Ok-None.field-0-is at c.in-Ok-None.ensures.unchanged in
     let turn = rw unchanged at c.turn_peers.ensures.peers in
-    found_memory g.G.Ledger.stands c.args.self.now c.turn_peers.new.self world left world.chain _ c.turn_peers.result p stood
-    (none_ordered c.args.self.now.node world.heard stood.ordered stood.node all) (turn world.chain stood.chain)
+    found_memory g.G.Ledger.stands c.args.self.now c.turn_peers.new.self world left world.side.chain _ c.turn_peers.result p stood
+    (none_ordered c.args.self.now.node world.heard stood.ordered stood.node all) (turn world.side.chain stood.chain)
 
 pub returns-in-Ok-None-clause-long : goal.returns-in-Ok-None-clause-long
 returns-in-Ok-None-clause-long g c = λ world p rest stood still is kept.
     let unchanged = rw c.in-Ok-None.field-0-is at c.in-Ok-None.ensures.unchanged in
     let turn = rw unchanged at c.turn_peers.ensures.peers in
-    let l = peers_long g.G.Ledger.stands c.args.self.now c.turn_peers.new.self world p rest world.chain _ c.turn_peers.result stood is kept (turn world.chain stood.chain) in
+    let l = peers_long g.G.Ledger.stands c.args.self.now c.turn_peers.new.self world p rest world.side.chain _ c.turn_peers.result stood is kept (turn world.side.chain stood.chain) in
     (l.0, ap Ok l.1, l.2)
 
 pub returns-in-Ok-turn_node-clause-memory : goal.returns-in-Ok-turn_node-clause-memory
 returns-in-Ok-turn_node-clause-memory g c = λ world left p stood told.
-    let t = c.in-Ok-turn_node.ensures.node_turn world.chain (rw (ap (λ (s : State g.row.G.Denot). s.ledger) c.in-Ok-Some.ensures.same) stood.chain) in
+    let t = c.in-Ok-turn_node.ensures.sends in
     absurd (reply_other (outs_of c.in-Ok-turn_node.outs) 0 p t.0 t.1 (ap closing_of told))
 
 pub returns-in-Ok-turn_node-clause-long : goal.returns-in-Ok-turn_node-clause-long
@@ -158,3 +143,8 @@ pub returns-in-Err-turn_node-clause-long : goal.returns-in-Err-turn_node-clause-
 returns-in-Err-turn_node-clause-long g c = λ world p rest stood still is kept.
     let n = none_ordered_before g.G.Ledger.stands c.args.self.now world p _ rest stood in
     absurd (none_given c.args.self.now.node c.next_line.new.self.node world.heard stood.ordered _ stood.node n.0 (rw c.in-Ok-Some.field-0-is at c.in-Ok-Some.ensures.met))
+
+pub returns-in-Ok-None-clause-numbers : goal.returns-in-Ok-None-clause-numbers
+returns-in-Ok-None-clause-numbers g c = λ last up.
+    let unchanged = rw c.in-Ok-None.field-0-is at c.in-Ok-None.ensures.unchanged in
+    c.turn_peers.ensures.numbers last (rw unchanged up)

@@ -1,16 +1,32 @@
-use Rattle.std.specs.Prelude.{Err}
-use Rattle.el_model.proofs.Quiets.{quiet_none}
-use Rattle.el_core.specs.declared.fault.StepFault.TheVariants as fault
-use Rattle.el_core.proofs.Moved.{quiet_leads, unmoved_failed}
+use Rattle.el_model.specs.Side.{Moving}
+use Rattle.el_core.proofs.Noded.{found_same, stops_still, step_still, keeps_ok, keeps_err}
 use Rattle.el_core.proofs.server.Server.turn_ahead.Goals as goal
 
 pub returns-in-Ok-move_next-clause-moving : goal.returns-in-Ok-move_next-clause-moving
-returns-in-Ok-move_next-clause-moving g c = rw (← c.self.view_is) (λ chain stands.
-    (c.in-Ok-move_next.step.text, c.sending_in.ensures, rw c.replace-rest.ensures.value at (c.in-Ok-move_next.ensures.moving chain stands)))
+returns-in-Ok-move_next-clause-moving g c = rw (← c.self.view_is) (λ side at found. record {
+  text = c.in-Ok-move_next.step.text;
+  sends = c.sending_in.ensures;
+  led = found_same g.G.Ledger g.A.Archive (Moving g.A.Archive.tells side 0 c.self.inside.ahead) c.self.inside.ledger
+      c.move_next.new.ledger c.args.archive.now c.move_next.new.archive side c.in-Ok-move_next.step.text side.found
+      c.self.inside.sources.tree c.in-Ok-move_next.step.left found
+      (rw c.replace-rest.ensures.value at (c.in-Ok-move_next.ensures.moving side at));
+})
+
+pub returns-in-Ok-move_next-clause-sends : goal.returns-in-Ok-move_next-clause-sends
+returns-in-Ok-move_next-clause-sends g c = (c.in-Ok-move_next.step.text, c.sending_in.ensures)
 
 pub returns-in_default-clause-stopped : goal.returns-in_default-clause-stopped
 returns-in_default-clause-stopped g c = λ chain stands.
-    let l = g.G.Ledger in
-    unmoved_failed {T = Unit {0}} (Err fault.Memory) l.stands l.tells_crash l.means l.moment l.left_since c.args.self.now.ledger c.args.self.now.ledger g.A.Archive.tells _ chain 0 c.args.self.now.ahead
-    (quiet_leads l.is_live l.height l.tip l.buckets l.stands l.tells_crash l.means l.moment l.left_since c.args.self.now.ledger c.args.self.now.ledger chain
-    (quiet_none l.is_live l.height l.tip l.buckets l.stands l.tells_crash l.means l.moment l.left_since c.args.self.now.ledger c.requires.live (λ a d e f h i j. g.met.G.Ledger.leaves_own a d e f h i j)) stands)
+    stops_still g.G.Ledger g.A.Archive c.args.self.now.ledger c.args.archive.now chain _ (λ m n d t h i j. g.met.G.Ledger.leaves_own m n d t h i j) c.requires.live stands
+
+pub returns-in_default-clause-step : goal.returns-in_default-clause-step
+returns-in_default-clause-step g c = step_still g.G.Ledger g.A.Archive c.args.self.now.ledger c.args.archive.now c.requires.live
+
+pub returns-in-Err-clause-stopped : goal.returns-in-Err-clause-stopped
+returns-in-Err-clause-stopped g c = rw (← c.self.view_is) (rw c.replace-rest.ensures.value at c.in-Err.ensures.stopped)
+
+pub returns-in-Ok-move_next-clause-step : goal.returns-in-Ok-move_next-clause-step
+returns-in-Ok-move_next-clause-step g c = rw (← c.self.view_is) (keeps_ok g.G.Ledger g.A.Archive _ _ _ _ c.in-Ok-move_next.step _ c.in-Ok-move_next.ensures.step)
+
+pub returns-in-Err-clause-step : goal.returns-in-Err-clause-step
+returns-in-Err-clause-step g c = rw (← c.self.view_is) (keeps_err g.G.Ledger g.A.Archive _ _ _ _ c.in-Err.fault c.in-Err.ensures.step)
