@@ -1,14 +1,7 @@
-pub mod Arrivals
-pub mod Deliveries
 pub mod FileLemmas
 pub mod IndexDisks
 pub mod LifeLemmas
 pub mod MemLives
 pub mod Openings
-pub mod Openness
-pub mod Progresses
 pub mod Rises
-pub mod Runs
-pub mod Sendings
 pub mod Servings
-pub mod Turned

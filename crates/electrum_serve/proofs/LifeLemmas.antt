@@ -8,7 +8,8 @@ use Rattle.el_outside.specs.Disk.{Image}
 use Rattle.el_chain.specs.Chains.{Chain}
 use Rattle.el_journal.specs.declared.mark.TheConstants.{JOURNAL}
 use Rattle.el_model.specs.World.{World}
-use Rattle.el_model.specs.Run.{Loss, Stop}
+use Rattle.el_outside.specs.Devices.{Device}
+use Rattle.el_model.specs.Run.{Stop}
 use Rattle.el_model.specs.Flights.{acked}
 use Rattle.el_logstore.specs.Images.{no_rows}
 use Rattle.el_rows.specs.declared.table.Table.{Table}
@@ -24,7 +25,10 @@ use Rattle.electrum_serve.specs.Calls.{Call, CallEnds}
 use Rattle.electrum_serve.specs.Ends.{serve, IndexEnds, UnopenedEnds, ServeEnds, IsServed}
 use Rattle.electrum_serve.specs.Lives.{IsLeftBy, AreLives, GoOn, none, one}
 use Rattle.electrum_serve.specs.within.Lived.{Lived}
-use Rattle.electrum_serve.specs.Runs.{Counts, Traffic, RunEnds, IsRun, IsHalted}
+use Rattle.el_loop.specs.Counts.{Counts}
+use Rattle.el_loop.specs.Runs.{Traffic, RunEnds, IsRun, IsHalted}
+use Rattle.el_loop.specs.declared.end.End.{End}
+use Rattle.el_loop.specs.declared.end.End.TheVariants as end
 use Rattle.electrum_serve.specs.declared.status.Status.{Status}
 use Rattle.electrum_serve.specs.declared.status.Status.TheVariants as status
 use Rattle.electrum_serve.proofs.Servings.{only_served, same_networks}
@@ -45,11 +49,11 @@ module _ (P : Chain → Chain → Type 0) where
   both a b = (refl, refl)
 
   run_pinned : (tells : Type 0) (first : World) (node : Bool) (files : ℕ → List ℕ) (c : Counts) (t : Traffic)
-      (failed : List Loss) → IsRun tells first node P files c t failed
+      (failed : List Device) → IsRun tells first node P files c t failed
       → Pinned P (λ Q. IsRun tells first node Q files c t failed)
   run_pinned tells first node files c t failed r = record {
-    acked = r.world.chain;
-    flight = r.world.chain;
+    acked = r.world.side.chain;
+    flight = r.world.side.chain;
     leaves = r.crash;
     ends = record {
       losses = r.losses;
@@ -57,7 +61,7 @@ module _ (P : Chain → Chain → Type 0) where
       run = r.run;
       grown = r.grown;
       counted = r.counted;
-      crash = both r.world.chain r.world.chain;
+      crash = both r.world.side.chain r.world.side.chain;
     };
   }
 
@@ -87,36 +91,31 @@ module _ (P : Chain → Chain → Type 0) where
       record { acked = k.acked; flight = k.flight; leaves = k.leaves; ends = ends }
 
   ends_pinned : (tells : Type 0) (first : World) (node : Bool) (files : ℕ → List ℕ) (c : Counts) (t : Traffic)
-      (s : Status) → RunEnds tells first node P files c t s
-      → Pinned P (λ Q. RunEnds tells first node Q files c t s)
-  ends_pinned tells first node files c t status.Ended r =
+      (e : End) → RunEnds tells first node P files c t e
+      → Pinned P (λ Q. RunEnds tells first node Q files c t e)
+  ends_pinned tells first node files c t end.Ended r =
       with_more (λ X k. (k, r.1)) (run_pinned tells first node files c t _ r.0)
-  ends_pinned tells first node files c t status.Usage r = absurd r
-  ends_pinned tells first node files c t status.BadIndex r = absurd r
-  ends_pinned tells first node files c t status.ArchiveFailed r = absurd r
-  ends_pinned tells first node files c t status.DiskFailed r = halt_pinned tells first node files c t _ r
-  ends_pinned tells first node files c t status.LinkFailed (inl r) =
+  ends_pinned tells first node files c t end.DiskFailed r = halt_pinned tells first node files c t _ r
+  ends_pinned tells first node files c t end.LinkFailed (inl r) =
       with_more (λ X k. inl (k, r.1)) (run_pinned tells first node files c t _ r.0)
-  ends_pinned tells first node files c t status.LinkFailed (inr r) =
+  ends_pinned tells first node files c t end.LinkFailed (inr r) =
       with_more (λ X k. inr k) (halt_pinned tells first node files c t _ r)
-  ends_pinned tells first node files c t status.OutOfMemory r = halt_pinned tells first node files c t _ r
-  ends_pinned tells first node files c t status.TurnsSpent r =
+  ends_pinned tells first node files c t end.OutOfMemory r = halt_pinned tells first node files c t _ r
+  ends_pinned tells first node files c t end.TurnsSpent r =
       with_more (λ X k. (k, r.1, r.2)) (run_pinned tells first node files c t _ r.0)
-  ends_pinned tells first node files c t status.OtherChain r = absurd r
-  ends_pinned tells first node files c t status.BadChain r = absurd r
 
   module _ {A : Type 0} (tells : Type 0) (bytes : A → ℕ → List ℕ) (file_count : A → ℕ) (magic : List ℕ)
       (chain : Chain) (c : Counts) (before after : A) (t : Traffic) where
-    served_pinned : (s : Status) → IsServed tells bytes file_count magic chain P c before after t s
-        → Pinned P (λ Q. IsServed tells bytes file_count magic chain Q c before after t s)
-    served_pinned s r = with_more (λ X k. record {
+    served_pinned : (e : End) → IsServed tells bytes file_count magic chain P c before after t e
+        → Pinned P (λ Q. IsServed tells bytes file_count magic chain Q c before after t e)
+    served_pinned e r = with_more (λ X k. record {
       now = r.now;
       nodes = r.nodes;
       scanned = r.scanned;
       same = r.same;
       grows = r.grows;
       run = k;
-    }) (ends_pinned tells _ true (bytes after) c t s r.run)
+    }) (ends_pinned tells _ true (bytes after) c t e r.run)
 
     alone : {Q : (Chain → Chain → Type 0) → Type 0} → (a b : Chain) → P a b → Q (these a b) → Pinned P Q
     alone a b leaves ends = record { acked = a; flight = b; leaves = leaves; ends = ends }
@@ -183,8 +182,10 @@ module _ {D A K : Type 0} (of_disk : disk.Ghosts D) (of_files : archive.Ghosts A
   -- a life, and those after it, whichever chain it finds
   one_more : (was flight chain : Chain) (l : Call D A K) (more : List (Call D A K))
       → (chain ≡ was) ⊎ (chain ≡ flight) → (e : Ended l was flight chain)
-      → GoOn of_disk of_files of_link e.acked e.in_flight more → GoOn of_disk of_files of_link was flight (l ∷ more)
-  one_more was flight chain l more from e then = one was flight l more chain e.acked e.in_flight from e.ends then
+      → GoOn of_disk of_files of_link e.acked e.in_flight more → GoOn of_disk of_files of_link was flight
+      (l ∷ more)
+  one_more was flight chain l more from e then = one was flight l more chain e.acked e.in_flight from e.ends
+      then
 
   -- how the life ends on a disk that the one before may have left, by the chain that it finds
   pub record Found (l : Call D A K) (was flight : Chain) : Type 0 where
@@ -192,7 +193,8 @@ module _ {D A K : Type 0} (of_disk : disk.Ghosts D) (of_files : archive.Ghosts A
     pub from : (chain ≡ was) ⊎ (chain ≡ flight)
     pub end : Ended l was flight chain
 
-  pub found : (d : D) (was flight : Chain) (l : Call D A K) → of_disk.tells → LeavesOneOf of_disk magic d was flight
+  pub found : (d : D) (was flight : Chain) (l : Call D A K) → of_disk.tells → LeavesOneOf of_disk magic d was
+      flight
       → IsLeftBy of_disk d l.before.disk → IsServe l.words magic → IsCall of_disk of_files of_link l
       → Found l was flight
   found d was flight l told left is serves call =
@@ -226,8 +228,10 @@ module _ {D A K : Type 0} (of_disk : disk.Ghosts D) (of_files : archive.Ghosts A
   pub lived_more : (d : D) (was flight : Chain) (l : Call D A K) (files files_after : List A)
       (links links_after : List K) (ends : List Status) (f : Found l was flight)
       → IsLeftBy of_disk d l.before.disk
-      → Lived of_disk of_files of_link l.after.disk f.end.acked f.end.in_flight l.words l.turns files files_after links links_after ends
-      → Lived of_disk of_files of_link d was flight l.words l.turns (l.before.files ∷ files) (l.after.files ∷ files_after)
+      → Lived of_disk of_files of_link l.after.disk f.end.acked f.end.in_flight l.words l.turns files
+      files_after links links_after ends
+      → Lived of_disk of_files of_link d was flight l.words l.turns (l.before.files ∷ files)
+      (l.after.files ∷ files_after)
       (l.before.link ∷ links) (l.after.link ∷ links_after) (l.status ∷ ends)
   lived_more d was flight l files files_after links links_after ends f is then = record {
     lives = l ∷ then.lives;
@@ -249,7 +253,8 @@ module _ {D A K : Type 0} (of_disk : disk.Ghosts D) (of_files : archive.Ghosts A
 
 -- no lives
 pub lived_none : {D A K : Type 0} (of_disk : disk.Ghosts D) (of_files : archive.Ghosts A)
-    (of_link : link.Ghosts K) (d : D) (was flight : Chain) (words : List (List ℕ)) (turns : ℕ) (files : List A)
+    (of_link : link.Ghosts K) (d : D) (was flight : Chain) (words : List (List ℕ)) (turns : ℕ)
+    (files : List A)
     (links : List K) (ends : List Status) → length files ≡ 0 → length links ≡ length files
     → length ends ≡ length files
     → Lived of_disk of_files of_link d was flight words turns files files links links ends
@@ -257,14 +262,24 @@ lived_none of_disk of_files of_link d was flight words turns [] [] [] e0 e1 e2 =
     record { lives = []; over = tt; are = tt; go_on = none was flight }
 lived_none of_disk of_files of_link d was flight words turns [] [] (e ∷ es) e0 e1 e2 = absurd (omega arith)
 lived_none of_disk of_files of_link d was flight words turns [] (k ∷ ks) ends e0 e1 e2 = absurd (omega arith)
-lived_none of_disk of_files of_link d was flight words turns (a ∷ more) links ends e0 e1 e2 = absurd (omega arith)
+lived_none of_disk of_files of_link d was flight words turns (a ∷ more) links ends e0 e1 e2 = absurd
+    (omega arith)
 
 -- 3. Empty files
 
 no_rows_stand : StandFor no_rows []
 no_rows_stand = stands no_rows [] (record { each = tt }) (record {
   each = each;
-  fit = record { blocks = tt; txs = tt; tx_heads = tt; outs = tt; ins = tt; scripts = tt; script_heads = tt; entries = tt };
+  fit = record {
+    blocks = tt;
+    txs = tt;
+    tx_heads = tt;
+    outs = tt;
+    ins = tt;
+    scripts = tt;
+    script_heads = tt;
+    entries = tt;
+  };
 })
   where
     each : (u : Table) → no_rows u ≡ bytes_of (tables_of (heads_in []) (listed_blocks []) (lists [])) u

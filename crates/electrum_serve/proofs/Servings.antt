@@ -6,18 +6,24 @@ use Rattle.el_outside.proofs.Stories.{rose_none}
 use Rattle.el_chain.specs.declared.node.Node.{Node}
 use Rattle.el_chain.specs.Chains.{Chain}
 use Rattle.el_model.specs.World.{World}
-use Rattle.el_model.specs.Run.{Stop, Loss, archive, disk, link_losses, archive_losses, disk_losses}
+use Rattle.el_outside.specs.Devices.{Device, archive, disk, failures, link}
+use Rattle.el_model.specs.Run.{Stop}
 use Rattle.el_words.specs.Words.{IsOnceOf, IsServeOf, network_magic}
 use Rattle.el_words.specs.Commands.{IsServe, IsOnce}
 use Rattle.electrum_serve.specs.Opened.{IsScanned, nodes_of_chain}
 use Rattle.electrum_serve.specs.OtherChain.{is_other_chain}
-use Rattle.electrum_serve.specs.Runs.{Counts, Faults, Rose, IsCounted, Traffic, no_traffic, counts, faults, RunEnds, IsRun, IsHalted}
-use Rattle.electrum_serve.specs.Ends.{Ends, usage, serve, once, IndexEnds, IsSilent, ServeEnds, UnopenedEnds, OnceEnds, IsServed, IsServedOnce, IsBadFile, IsUnserved}
+use Rattle.el_outside.specs.Devices.{Faults, Rose, faults}
+use Rattle.el_loop.specs.Counts.{Counts, counts}
+use Rattle.el_loop.specs.Runs.{IsCounted, Traffic, no_traffic, RunEnds, IsRun, IsHalted}
+use Rattle.electrum_serve.specs.Ends.{Ends, usage, serve, once, IndexEnds, IsSilent, ServeEnds, UnopenedEnds, OnceEnds, IsServed, IsServedOnce, IsBadFile}
+use Rattle.electrum_serve.specs.Statuses.{status_of_end}
 use Rattle.electrum_serve.specs.within.Unread.{unread_status, start_status}
 use Rattle.electrum_serve.specs.declared.file.FileFault.{FileFault}
 use Rattle.electrum_serve.specs.declared.file.FileFault.TheVariants as fault
 use Rattle.electrum_serve.specs.declared.opening.StartFault.{StartFault}
 use Rattle.electrum_serve.specs.declared.opening.StartFault.TheVariants as start
+use Rattle.el_loop.specs.declared.end.End.{End}
+use Rattle.el_loop.specs.declared.end.End.TheVariants as end
 use Rattle.electrum_serve.specs.declared.status.Status.{Status}
 use Rattle.electrum_serve.specs.declared.status.Status.TheVariants as status
 use Rattle.el_words.specs.declared.words.Network.{Network}
@@ -73,19 +79,19 @@ only_served is (once magic other e) =
     absurd (let a = is.is_serve.words_are in let b = other.is_once.words_are in cc)
 
 -- a run told in other words: what a crash leaves, and how often calls failed
-module _ (c : Counts) (of_before of_after : Faults) (rises : (losses : List Loss)
+module _ (c : Counts) (of_before of_after : Faults) (rises : (losses : List Device)
     → Rose c.faults_before c.faults_after losses → Rose of_before of_after losses)
     (P Q : Chain → Chain → Type 0) (gives : (a b : Chain) → P a b → Q a b) where
   abbrev pub told : Counts
   told = record c { faults_before = of_before; faults_after = of_after }
 
-  counted_told : (t : Traffic) (losses failed : List Loss) → IsCounted c t losses failed
+  counted_told : (t : Traffic) (losses failed : List Device) → IsCounted c t losses failed
       → IsCounted told t losses failed
   counted_told t losses failed k =
       record { calls = k.calls; turns = k.turns; rose = rises (losses ++ failed) k.rose }
 
   run_told : (tells : Type 0) (first : World) (node : Bool) (files : ℕ → List ℕ) (t : Traffic)
-      (failed : List Loss) → IsRun tells first node P files c t failed
+      (failed : List Device) → IsRun tells first node P files c t failed
       → IsRun tells first node Q files told t failed
   run_told tells first node files t failed r = record {
     losses = r.losses;
@@ -93,7 +99,7 @@ module _ (c : Counts) (of_before of_after : Faults) (rises : (losses : List Loss
     run = r.run;
     grown = r.grown;
     counted = counted_told t r.losses failed r.counted;
-    crash = gives r.world.chain r.world.chain r.crash;
+    crash = gives r.world.side.chain r.world.side.chain r.crash;
   }
 
   halt_told : (tells : Type 0) (first : World) (node : Bool) (files : ℕ → List ℕ) (t : Traffic) (stop : Stop)
@@ -110,35 +116,32 @@ module _ (c : Counts) (of_before of_after : Faults) (rises : (losses : List Loss
   }
 
   pub ends_told : (tells : Type 0) (first : World) (node : Bool) (files : ℕ → List ℕ) (t : Traffic)
-      (s : Status) → RunEnds tells first node P files c t s → RunEnds tells first node Q files told t s
-  ends_told tells first node files t status.Ended r = (run_told tells first node files t _ r.0, r.1)
-  ends_told tells first node files t status.Usage r = r
-  ends_told tells first node files t status.BadIndex r = r
-  ends_told tells first node files t status.ArchiveFailed r = r
-  ends_told tells first node files t status.DiskFailed r = halt_told tells first node files t _ r
-  ends_told tells first node files t status.LinkFailed (inl r) =
-      inl (run_told tells first node files t _ r.0, r.1)
-  ends_told tells first node files t status.LinkFailed (inr r) = inr (halt_told tells first node files t _ r)
-  ends_told tells first node files t status.OutOfMemory r = halt_told tells first node files t _ r
-  ends_told tells first node files t status.TurnsSpent r = (run_told tells first node files t _ r.0, r.1, r.2)
-  ends_told tells first node files t status.OtherChain r = r
-  ends_told tells first node files t status.BadChain r = r
+      (e : End) → RunEnds tells first node P files c t e → RunEnds tells first node Q files told t e
+  ends_told tells first node files t end.Ended r = (run_told tells first node files t _ r.0, r.1)
+  ends_told tells first node files t end.DiskFailed r = halt_told tells first node files t _ r
+  ends_told tells first node files t end.LinkFailed (inl r) = inl (
+    run_told tells first node files t _ r.0,
+    r.1,
+  )
+  ends_told tells first node files t end.LinkFailed (inr r) = inr (halt_told tells first node files t _ r)
+  ends_told tells first node files t end.OutOfMemory r = halt_told tells first node files t _ r
+  ends_told tells first node files t end.TurnsSpent r = (run_told tells first node files t _ r.0, r.1, r.2)
 
-  silent_told : (t : Traffic) (losses : List Loss) → IsSilent c t losses → IsSilent told t losses
+  silent_told : (t : Traffic) (losses : List Device) → IsSilent c t losses → IsSilent told t losses
   silent_told t losses k =
       record { traffic = k.traffic; calls = k.calls; rose = rises losses k.rose }
 
   served_told : {A : Type 0} (tells : Type 0) (bytes : A → ℕ → List ℕ) (file_count : A → ℕ) (magic : List ℕ)
-      (chain : Chain) (before after : A) (t : Traffic) (s : Status)
-      → IsServed tells bytes file_count magic chain P c before after t s
-      → IsServed tells bytes file_count magic chain Q told before after t s
-  served_told tells bytes file_count magic chain before after t s r = record {
+      (chain : Chain) (before after : A) (t : Traffic) (e : End)
+      → IsServed tells bytes file_count magic chain P c before after t e
+      → IsServed tells bytes file_count magic chain Q told before after t e
+  served_told tells bytes file_count magic chain before after t e r = record {
     now = r.now;
     nodes = r.nodes;
     scanned = r.scanned;
     same = r.same;
     grows = r.grows;
-    run = ends_told tells _ true (bytes after) t s r.run;
+    run = ends_told tells _ true (bytes after) t e r.run;
   }
 
   pub serve_told : {A : Type 0} (tells : Type 0) (bytes : A → ℕ → List ℕ) (file_count : A → ℕ)
@@ -168,40 +171,47 @@ module _ (c : Counts) (of_before of_after : Faults) (rises : (losses : List Loss
   serve_told tells bytes file_count magic chain before after t status.BadChain r = r
 
 -- a count that stays 0 counts nothing, and another count may stay
-pub stays_still : (d n : ℕ) → RoseBy 0 0 n → RoseBy d d n
+stays_still : (d n : ℕ) → RoseBy 0 0 n → RoseBy d d n
 stays_still d n r = omega arith
+
+pub with_disk : (of_link of_archive link_now archive_now of_disk : ℕ) (losses : List Device)
+    → Rose (faults of_link of_archive 0) (faults link_now archive_now 0) losses
+    → Rose (faults of_link of_archive of_disk) (faults link_now archive_now of_disk) losses
+with_disk of_link of_archive link_now archive_now of_disk losses rose link = rose link
+with_disk of_link of_archive link_now archive_now of_disk losses rose archive = rose archive
+with_disk of_link of_archive link_now archive_now of_disk losses rose disk =
+    stays_still of_disk (failures disk losses) (rose disk)
 
 -- a node and clients were served
 pub served_ends : {A : Type 0} (tells : Type 0) (bytes : A → ℕ → List ℕ) (file_count : A → ℕ)
     (magic : List ℕ) (chain : Chain) (leaves : Chain → Chain → Type 0) (c : Counts) (before after : A)
-    (t : Traffic) (s : Status)
-    → (IsUnserved s → ⊥) → IsServed tells bytes file_count magic chain leaves c before after t s
-    → ServeEnds tells bytes file_count magic chain leaves c before after t s
-served_ends tells bytes file_count magic chain leaves c before after t status.Ended none served = served
-served_ends tells bytes file_count magic chain leaves c before after t status.Usage none served = absurd (none tt)
-served_ends tells bytes file_count magic chain leaves c before after t status.BadIndex none served = absurd (none tt)
-served_ends tells bytes file_count magic chain leaves c before after t status.ArchiveFailed none served = absurd (none tt)
-served_ends tells bytes file_count magic chain leaves c before after t status.DiskFailed none served = inr served
-served_ends tells bytes file_count magic chain leaves c before after t status.LinkFailed none served = served
-served_ends tells bytes file_count magic chain leaves c before after t status.OutOfMemory none served = inr served
-served_ends tells bytes file_count magic chain leaves c before after t status.TurnsSpent none served = served
-served_ends tells bytes file_count magic chain leaves c before after t status.OtherChain none served = absurd (none tt)
-served_ends tells bytes file_count magic chain leaves c before after t status.BadChain none served = absurd (none tt)
+    (t : Traffic) (e : End) → IsServed tells bytes file_count magic chain leaves c before after t e
+    → ServeEnds tells bytes file_count magic chain leaves c before after t (status_of_end e)
+served_ends tells bytes file_count magic chain leaves c before after t end.Ended served = served
+served_ends tells bytes file_count magic chain leaves c before after t end.DiskFailed served = inr served
+served_ends tells bytes file_count magic chain leaves c before after t end.LinkFailed served = served
+served_ends tells bytes file_count magic chain leaves c before after t end.OutOfMemory served = inr served
+served_ends tells bytes file_count magic chain leaves c before after t end.TurnsSpent served = served
 
 -- a count that is as it was
 as_before : (a b : ℕ) → b ≡ a → RoseBy a b 0
 as_before a b e = omega arith
 
 -- nothing went over the link, and the other counts rose by these losses
-silent : (turns calls of_link low high of_disk now : ℕ) (losses : List Loss) → link_losses losses ≡ 0
-    → RoseBy low high (archive_losses losses) → RoseBy of_disk now (disk_losses losses)
+silent : (turns calls of_link low high of_disk now : ℕ) (losses : List Device) → failures link losses ≡ 0
+    → RoseBy low high (failures archive losses) → RoseBy of_disk now (failures disk losses)
     → IsSilent (counts turns calls calls (faults of_link low of_disk) (faults of_link high now))
     no_traffic losses
 silent turns calls of_link low high of_disk now losses none files index = record {
   traffic = refl;
   calls = refl;
-  rose = record { link = rw none (rose_none of_link); archive = files; disk = index };
+  rose = rose;
 }
+  where
+    rose : Rose (faults of_link low of_disk) (faults of_link high now) losses
+    rose link = rw none (rose_none of_link)
+    rose archive = files
+    rose disk = index
 
 -- nobody was served from an index that is open
 pub start_ends : {A T : Type 0} (tells : Type 0) (bytes : A → ℕ → List ℕ) (file_count : A → ℕ)
@@ -255,35 +265,30 @@ pub unopened_ends : (was flight : Chain) (leaves : Chain → Chain → Type 0)
     → UnopenedEnds was flight leaves
     (counts turns calls calls (faults of_link of_archive low) (faults of_link of_archive high))
     no_traffic s
-unopened_ends was flight leaves turns calls of_link of_archive low high s good is left counted uncounted = elim is [
-  | inl bad ↦ absurd (good bad)
-  | inr (inl failed) ↦ rw failed (
-    silent turns calls of_link of_archive of_archive low high (disk ∷ []) refl (rose_none of_archive)
-        (counted failed),
-    left,
-  )
-  | inr (inr memory) ↦ rw memory (
-    silent turns calls of_link of_archive of_archive low high [] refl (rose_none of_archive)
-        (as_before low high (uncounted (λ e. cc))),
-    left,
-  )
-]
+unopened_ends was flight leaves turns calls of_link of_archive low high s good is left counted uncounted =
+    elim is [
+      | inl bad ↦ absurd (good bad)
+      | inr (inl failed) ↦ rw failed (
+        silent turns calls of_link of_archive of_archive low high (disk ∷ []) refl (rose_none of_archive)
+            (counted failed),
+        left,
+      )
+      | inr (inr memory) ↦ rw memory (
+        silent turns calls of_link of_archive of_archive low high [] refl (rose_none of_archive)
+            (as_before low high (uncounted (λ e. cc))),
+        left,
+      )
+    ]
 
 -- clients were served without a node
 pub served_once : (tells : Type 0) (magic : List ℕ) (c : Counts) (before after : ℕ → List ℕ)
-    (t : Traffic) (s : Status)
-    → (IsUnserved s → ⊥) → s ≢ status.DiskFailed → IsServedOnce tells magic c before after t s
-    → OnceEnds tells magic c before after t s
-served_once tells magic c before after t status.Ended none safe served = served
-served_once tells magic c before after t status.Usage none safe served = absurd (none tt)
-served_once tells magic c before after t status.BadIndex none safe served = absurd (none tt)
-served_once tells magic c before after t status.ArchiveFailed none safe served = absurd (none tt)
-served_once tells magic c before after t status.DiskFailed none safe served = absurd (safe refl)
-served_once tells magic c before after t status.LinkFailed none safe served = served
-served_once tells magic c before after t status.OutOfMemory none safe served = inr served
-served_once tells magic c before after t status.TurnsSpent none safe served = served
-served_once tells magic c before after t status.OtherChain none safe served = absurd (none tt)
-served_once tells magic c before after t status.BadChain none safe served = absurd (none tt)
+    (t : Traffic) (e : End) → e ≢ end.DiskFailed → IsServedOnce tells magic c before after t e
+    → OnceEnds tells magic c before after t (status_of_end e)
+served_once tells magic c before after t end.Ended safe served = served
+served_once tells magic c before after t end.DiskFailed safe served = absurd (safe refl)
+served_once tells magic c before after t end.LinkFailed safe served = served
+served_once tells magic c before after t end.OutOfMemory safe served = inr served
+served_once tells magic c before after t end.TurnsSpent safe served = served
 
 -- the block files can't be read
 pub unread_ends : {T : Type 0} (tells : Type 0) (magic : List ℕ) (turns calls of_link low high of_disk : ℕ)

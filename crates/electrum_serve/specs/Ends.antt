@@ -4,17 +4,21 @@ use Rattle.el_outside.specs.Files.{AllGrow, IsFile}
 use Rattle.el_chain.specs.declared.node.Node.{Node}
 use Rattle.el_chain.specs.Chains.{Chain}
 use Rattle.el_model.specs.World.{quiet_world}
-use Rattle.el_model.specs.Run.{Loss, archive, disk}
+use Rattle.el_outside.specs.Devices.{Device, archive, disk}
 use Rattle.el_words.specs.Commands.{IsNoCommand, IsServe, IsOnce}
 use Rattle.electrum_serve.specs.File.{GivesNoChain}
 use Rattle.electrum_serve.specs.Opened.{all_added, nodes_of_chain, IsScanned, IsRead}
 use Rattle.electrum_serve.specs.OtherChain.{is_other_chain}
-use Rattle.electrum_serve.specs.Runs.{Counts, Traffic, no_traffic, Rose, RunEnds}
+use Rattle.el_outside.specs.Devices.{Rose}
+use Rattle.el_loop.specs.Counts.{Counts}
+use Rattle.el_loop.specs.Runs.{Traffic, no_traffic, RunEnds}
+use Rattle.el_loop.specs.declared.end.End.{End}
+use Rattle.el_loop.specs.declared.end.End.TheVariants as end
 use Rattle.electrum_serve.specs.declared.status.Status.{Status}
 use Rattle.electrum_serve.specs.declared.status.Status.TheVariants as status
 
 -- the link was not called, and these calls failed
-pub record IsSilent (c : Counts) (t : Traffic) (losses : List Loss) : Type 0 where
+pub record IsSilent (c : Counts) (t : Traffic) (losses : List Device) : Type 0 where
   pub traffic : t ≡ no_traffic
   pub calls : c.calls_after ≡ c.calls_before
   pub rose : Rose c.faults_before c.faults_after losses
@@ -24,7 +28,7 @@ pub record IsSilent (c : Counts) (t : Traffic) (losses : List Loss) : Type 0 whe
 -- after it.
 pub record IsServed {A : Type 0} (tells : Type 0) (bytes : A → ℕ → List ℕ) (file_count : A → ℕ)
     (magic : List ℕ) (chain : Chain) (leaves : Chain → Chain → Type 0) (c : Counts) (before after : A)
-    (t : Traffic) (s : Status) : Type 0 where
+    (t : Traffic) (e : End) : Type 0 where
   pub now : A
   pub nodes : List Node
   pub scanned : IsScanned tells bytes file_count magic before now nodes
@@ -32,7 +36,7 @@ pub record IsServed {A : Type 0} (tells : Type 0) (bytes : A → ℕ → List �
   pub grows : tells → AllGrow (bytes now) (bytes after)
   pub run : RunEnds tells
       (quiet_world chain magic (all_added (all_added [] (nodes_of_chain chain)) nodes) (bytes now)) true
-      leaves (bytes after) c t s
+      leaves (bytes after) c t e
 
 -- the block files are those of another chain than the index's
 pub record IsOtherChain {A : Type 0} (tells : Type 0) (bytes : A → ℕ → List ℕ) (file_count : A → ℕ)
@@ -46,11 +50,11 @@ pub record IsOtherChain {A : Type 0} (tells : Type 0) (bytes : A → ℕ → Lis
 abbrev pub ServeEnds : {A : Type 0} → Type 0 → (A → ℕ → List ℕ) → (A → ℕ) → List ℕ → Chain
     → (Chain → Chain → Type 0) → Counts → A → A → Traffic → Status → Type 0
 ServeEnds tells bytes file_count magic chain leaves c before after t status.Ended =
-    IsServed tells bytes file_count magic chain leaves c before after t status.Ended
+    IsServed tells bytes file_count magic chain leaves c before after t end.Ended
 ServeEnds tells bytes file_count magic chain leaves c before after t status.LinkFailed =
-    IsServed tells bytes file_count magic chain leaves c before after t status.LinkFailed
+    IsServed tells bytes file_count magic chain leaves c before after t end.LinkFailed
 ServeEnds tells bytes file_count magic chain leaves c before after t status.TurnsSpent =
-    IsServed tells bytes file_count magic chain leaves c before after t status.TurnsSpent
+    IsServed tells bytes file_count magic chain leaves c before after t end.TurnsSpent
 -- a call of the block files failed before the first arrival
 ServeEnds tells bytes file_count magic chain leaves c before after t status.ArchiveFailed =
     IsSilent c t (archive ∷ []) × leaves chain chain
@@ -59,11 +63,11 @@ ServeEnds tells bytes file_count magic chain leaves c before after t status.Othe
 -- a call of the index's device failed before the first arrival, or in the run
 ServeEnds tells bytes file_count magic chain leaves c before after t status.DiskFailed =
     (IsSilent c t (disk ∷ []) × leaves chain chain)
-    ⊎ IsServed tells bytes file_count magic chain leaves c before after t status.DiskFailed
+    ⊎ IsServed tells bytes file_count magic chain leaves c before after t end.DiskFailed
 -- out of memory before the first arrival, or in the run
 ServeEnds tells bytes file_count magic chain leaves c before after t status.OutOfMemory =
     (IsSilent c t [] × leaves chain chain)
-    ⊎ IsServed tells bytes file_count magic chain leaves c before after t status.OutOfMemory
+    ⊎ IsServed tells bytes file_count magic chain leaves c before after t end.OutOfMemory
 ServeEnds tells bytes file_count magic chain leaves c before after t other = ⊥
 
 -- How a call with the words of `serve` ends where the index isn't opened. A crash leaves then what it left
@@ -99,14 +103,14 @@ IsUnopened other = ⊥
 -- Clients were served without a node, from the chain that file 0 gives, with its headers. No crash is spoken
 -- of.
 pub record IsServedOnce (tells : Type 0) (magic : List ℕ) (c : Counts) (before after : ℕ → List ℕ)
-    (t : Traffic) (s : Status) : Type 0 where
+    (t : Traffic) (e : End) : Type 0 where
   pub now : ℕ → List ℕ
   pub nodes : List Node
   pub chain : Chain
   pub read : IsRead tells before now magic nodes chain
   pub grows : tells → AllGrow now after
   pub run : RunEnds tells (quiet_world chain magic (all_added [] nodes) now) false (λ acked flight. Unit {0})
-      after c t s
+      after c t e
 
 -- file 0, as it was when its size was told, gives no chain
 abbrev pub IsBadFile : Type 0 → List ℕ → (ℕ → List ℕ) → (ℕ → List ℕ) → Type 0
@@ -115,16 +119,16 @@ IsBadFile tells magic before after =
 
 -- How a call with the words of `once` ends.
 abbrev pub OnceEnds : Type 0 → List ℕ → Counts → (ℕ → List ℕ) → (ℕ → List ℕ) → Traffic → Status → Type 0
-OnceEnds tells magic c before after t status.Ended = IsServedOnce tells magic c before after t status.Ended
+OnceEnds tells magic c before after t status.Ended = IsServedOnce tells magic c before after t end.Ended
 OnceEnds tells magic c before after t status.LinkFailed =
-    IsServedOnce tells magic c before after t status.LinkFailed
+    IsServedOnce tells magic c before after t end.LinkFailed
 OnceEnds tells magic c before after t status.TurnsSpent =
-    IsServedOnce tells magic c before after t status.TurnsSpent
+    IsServedOnce tells magic c before after t end.TurnsSpent
 -- a call of the block files failed before the first arrival
 OnceEnds tells magic c before after t status.ArchiveFailed = IsSilent c t (archive ∷ [])
 -- out of memory before the first arrival, or in the run
 OnceEnds tells magic c before after t status.OutOfMemory =
-    IsSilent c t [] ⊎ IsServedOnce tells magic c before after t status.OutOfMemory
+    IsSilent c t [] ⊎ IsServedOnce tells magic c before after t end.OutOfMemory
 -- file 0 gives no chain
 OnceEnds tells magic c before after t status.BadChain = IsBadFile tells magic before after × IsSilent c t []
 OnceEnds tells magic c before after t other = ⊥

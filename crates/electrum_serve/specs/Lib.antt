@@ -1,6 +1,5 @@
 pub mod File
 pub mod Statuses
-pub mod Runs
 pub mod Opened
 pub mod OtherChain
 pub mod Ends

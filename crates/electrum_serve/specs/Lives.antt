@@ -44,7 +44,8 @@ AreOver (l ∷ ls) words turns (a ∷ as_) (b ∷ bs) (k ∷ ks) (j ∷ js) (e �
     IsOver l words turns a b k j e × AreOver ls words turns as_ bs ks js es
 AreOver ls words turns files files_after links links_after ends = ⊥
 
-module _ {D A K : Type 0} (of_disk : disk.Ghosts D) (of_files : archive.Ghosts A) (of_link : link.Ghosts K) where
+module _ {D A K : Type 0} (of_disk : disk.Ghosts D) (of_files : archive.Ghosts A)
+    (of_link : link.Ghosts K) where
   -- Each life is a run from the chain that its opening found, which is one of the two of the life before: the
   -- one that was acknowledged, or the one in flight.
   pub data GoOn : Chain → Chain → List (Call D A K) → Type 0 where

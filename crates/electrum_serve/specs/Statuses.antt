@@ -1,7 +1,30 @@
--- How the program tells its end: the exit status, and a line on standard error.
-use Rattle.std.specs.Prelude.{ℕ, List, [], ◌∷◌, ◌++◌, codes}
+-- How the program ends, and how it tells that: the exit status, and a line on standard error.
+use Rattle.std.specs.Prelude.{◌≡◌, ℕ, List, [], ◌∷◌, ◌++◌, codes, Option, None, Some}
+use Rattle.el_outside.specs.Devices.{Device, link, archive, disk}
+use Rattle.el_loop.specs.Counts.{Counts, IsCaused}
+use Rattle.el_loop.specs.declared.end.End.{End}
+use Rattle.el_loop.specs.declared.end.End.TheVariants as end
 use Rattle.electrum_serve.specs.declared.status.Status.{Status}
 use Rattle.electrum_serve.specs.declared.status.Status.TheVariants as status
+
+-- how it ends where its run ends so
+abbrev pub status_of_end : End → Status
+status_of_end end.Ended = status.Ended
+status_of_end end.DiskFailed = status.DiskFailed
+status_of_end end.LinkFailed = status.LinkFailed
+status_of_end end.OutOfMemory = status.OutOfMemory
+status_of_end end.TurnsSpent = status.TurnsSpent
+
+-- the device whose failure ends it
+abbrev pub failed_device : Status → Option Device
+failed_device status.ArchiveFailed = Some archive
+failed_device status.DiskFailed = Some disk
+failed_device status.LinkFailed = Some link
+failed_device other = None
+
+-- the counts show the cause of such an end
+abbrev pub ShowsCause : Counts → Status → Type 0
+ShowsCause c s = IsCaused c (failed_device s) (s ≡ status.TurnsSpent)
 
 -- the exit status
 abbrev pub code_of : Status → ℕ

@@ -7,13 +7,11 @@ ghost use Rattle.electrum_serve.specs.IndexDisks.{LeavesOneOf, LeavesAsBefore, I
 ghost use Rattle.electrum_serve.specs.within.Unread.{open_status};
 
 use crate::status::Status;
-use el_base::Steps;
 use el_index::Index;
 use el_logstore::{LogStore, images_stand_in_one_way, open_log};
 use el_outside::Disk;
 use el_redo::{NetworkMagic, OpenFault};
 use std::alloc::Global;
-use std::sync::ledger::Ledger as Counts;
 
 // How the program ends where the index can't be opened.
 fn status_of(fault: OpenFault) -> Status
@@ -33,10 +31,9 @@ fn status_of(fault: OpenFault) -> Status
 ///
 /// How the program then ends, with the disk: `BadIndex` where what is on it is no index of the network,
 /// `DiskFailed` where a call of it failed, `OutOfMemory`.
-pub fn open_index<D: Disk, N: NetworkMagic, L: Counts>(
+pub fn open_index<D: Disk, N: NetworkMagic>(
     alloc: Global,
     disk: D,
-    steps: &mut Steps<L>,
 ) -> Result<Index<LogStore<D, N>>, (Status, D)>
     ensures live { IfOk result (λ i. ⟦<Index<LogStore<D, N>> as el_model::Ledger>⟧.is_live i) }
     // It stands for what the disk stands for as it reads.
@@ -66,7 +63,7 @@ pub fn open_index<D: Disk, N: NetworkMagic, L: Counts>(
         Ok(store) => store,
         Err((fault, disk)) => return Err((status_of(fault), disk)),
     };
-    match Index::over(alloc, store, steps) {
+    match Index::over(alloc, store) {
         Ok(index) => Ok(index),
         Err((_, store)) => Err((Status::DiskFailed, store.into_disk())),
     }

@@ -7,17 +7,15 @@ ghost use Rattle.el_tx.specs.declared.types.Header as shape;
 ghost use Rattle.el_block.specs.Blocks as blocks;
 ghost use Rattle.el_chain.specs.Chains.{Chain};
 ghost use Rattle.el_chain.specs.Records.{IsNode};
-ghost use Rattle.el_model.specs.Keeping.{Quiet};
+ghost use Rattle.el_model.specs.LedgerCalls.{Asked};
 ghost use Rattle.el_model.specs.Plans.{blocks_in};
 ghost use Rattle.electrum_serve.specs.Opened.{nodes_of_chain};
 
-use el_base::Steps;
 use el_chain::Node;
 use el_model::{Ledger, QueryFault};
 use el_outside::{DiskFailed, Place};
 use el_tx::{block_hash, decode_header};
 use std::alloc::Global;
-use std::sync::ledger::Ledger as Counts;
 
 // What is known of a block with this header, whose record stands at the place.
 fn node_with(header: &[u8; 80], place: Place) -> Node
@@ -33,22 +31,17 @@ fn node_with(header: &[u8; 80], place: Place) -> Node
 }
 
 // What is known of the block of that height.
-fn node_of<G: Ledger, L: Counts + Send>(
-    ledger: &mut G,
-    h: u32,
-    steps: &mut Steps<L>,
-) -> Result<Node, DiskFailed>
+fn node_of<G: Ledger>(ledger: &mut G, h: u32) -> Result<Node, DiskFailed>
     requires live { G.is_live ledger.old }
     requires within { MatchOption (G.height ledger.old) ⊥ (λ top. h ≤ top) }
     ensures of_chain { (chain : Chain) → G.stands ledger.old chain
         → IfOk result (λ n. slice_get (nodes_of_chain chain) h ≡ Some n) }
     ensures node { IfOk result IsNode }
-    ensures quiet { Quiet G.is_live G.height G.tip G.buckets G.stands G.tells_crash
-        G.means G.moment G.left_since ledger.old ledger.new }
+    ensures quiet { Asked ⟦<G as Ledger>⟧ ledger.old ledger.new }
     ensures cause { HasCause (G.faults ledger.old) (G.faults ledger.new) result }
 {
-    let header = ledger.header(h, steps)?;
-    let place = ledger.place(h, steps)?;
+    let header = ledger.header(h)?;
+    let place = ledger.place(h)?;
     Ok(node_with(&header, place))
 }
 
@@ -64,23 +57,18 @@ fn count_of<G: Ledger>(ledger: &G) -> usize
 }
 
 /// What is known of the blocks of the ledger's chain, in their order.
-pub fn nodes_of<G: Ledger, L: Counts + Send>(
-    alloc: Global,
-    ledger: &mut G,
-    steps: &mut Steps<L>,
-) -> Result<Vec<Node>, QueryFault>
+pub fn nodes_of<G: Ledger>(alloc: Global, ledger: &mut G) -> Result<Vec<Node>, QueryFault>
     requires live { G.is_live ledger.old }
     ensures of_chain { (chain : Chain) → G.stands ledger.old chain
         → IfOk result (λ found. found.items ≡ nodes_of_chain chain) }
     ensures nodes { IfOk result (λ found. AllByRecursion IsNode found.items) }
-    ensures quiet { Quiet G.is_live G.height G.tip G.buckets G.stands G.tells_crash
-        G.means G.moment G.left_since ledger.old ledger.new }
+    ensures quiet { Asked ⟦<G as Ledger>⟧ ledger.old ledger.new }
     ensures cause { CountsOnly (G.faults ledger.old) (G.faults ledger.new) QueryFault.DiskFailed result }
 {
     let count = count_of(ledger);
     let mut nodes = Vec::new(alloc);
     for h in 0..count {
-        let node = node_of(ledger, h as u32, steps)?;
+        let node = node_of(ledger, h as u32)?;
         nodes.push(node)?;
     }
     Ok(nodes)

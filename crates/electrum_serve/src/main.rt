@@ -8,7 +8,6 @@ mod lives;
 mod opening;
 mod other_chain;
 mod program;
-mod running;
 mod serving;
 mod starting;
 mod status;

@@ -5,7 +5,7 @@ ghost use Rattle.el_outside.specs.Counts.{OnlyReads, CountsOnly};
 ghost use Rattle.el_chain.specs.Chains.{Chain};
 ghost use Rattle.el_chain.specs.Records.{IsNode};
 ghost use Rattle.el_chain.specs.declared.node.Node as shape;
-ghost use Rattle.el_model.specs.Keeping.{Quiet};
+ghost use Rattle.el_model.specs.LedgerCalls.{Asked};
 ghost use Rattle.electrum_serve.specs.Opened.{IsScanned, all_added, nodes_of_chain};
 ghost use Rattle.electrum_serve.specs.OtherChain as other;
 ghost use Rattle.electrum_serve.specs.within.Unread.{start_fault, index_fault};
@@ -13,14 +13,13 @@ ghost use Rattle.electrum_serve.specs.within.Unread.{start_fault, index_fault};
 use crate::file::{FileFault, scan_fault};
 use crate::index_headers::nodes_of;
 use crate::other_chain::is_other_chain;
-use el_base::{OutOfMemory, Steps};
+use el_base::OutOfMemory;
 use el_chain::Node;
 use el_files::scan;
 use el_headers::HeaderTree;
 use el_model::{Ledger, QueryFault};
 use el_outside::Archive;
 use std::alloc::Global;
-use std::sync::ledger::Ledger as Counts;
 
 /// Why nobody is served from an index that is open.
 #[derive(Clone, Copy, Debug, PartialEq, Eq)]
@@ -120,12 +119,11 @@ fn tree_of_chain(
 }
 
 /// The tree of the headers of the ledger's chain and then of those of all block files.
-pub fn open_headers<G: Ledger, A: Archive, L: Counts + Send>(
+pub fn open_headers<G: Ledger, A: Archive>(
     alloc: Global,
     ledger: &mut G,
     archive: &mut A,
     magic: [u8; 4],
-    steps: &mut Steps<L>,
 ) -> Result<HeaderTree, StartFault>
     requires live { G.is_live ledger.old }
     ensures opened { (chain : Chain) → G.stands ledger.old chain → IfOk result (λ tree.
@@ -137,13 +135,12 @@ pub fn open_headers<G: Ledger, A: Archive, L: Counts + Send>(
         → (nodes : List shape.Node)
         × IsScanned A.tells A.bytes A.file_count magic archive.old archive.new nodes
         × (other.is_other_chain (nodes_of_chain chain) nodes ≡ true) }
-    ensures quiet { Quiet G.is_live G.height G.tip G.buckets G.stands G.tells_crash
-        G.means G.moment G.left_since ledger.old ledger.new }
+    ensures quiet { Asked ⟦<G as Ledger>⟧ ledger.old ledger.new }
     ensures cause { CountsOnly (G.faults ledger.old) (G.faults ledger.new) StartFault.DiskFailed result }
     ensures only_reads { OnlyReads A.tells (A.bytes archive.old) (A.bytes archive.new)
         (A.faults archive.old) (A.faults archive.new) StartFault.ArchiveFailed result }
 {
-    let index = match nodes_of(alloc, ledger, steps) {
+    let index = match nodes_of(alloc, ledger) {
         Ok(index) => index,
         Err(fault) => return Err(index_fault_of(fault)),
     };

@@ -9,27 +9,27 @@ ghost use Rattle.el_logstore.specs.Images.{IsBadIndex};
 ghost use Rattle.el_words.specs.Words.{network_magic, texts};
 ghost use Rattle.el_words.specs.Commands.{IsNoCommand, IsServe};
 ghost use Rattle.electrum_serve.specs.IndexDisks.{LeavesOneOf, LeavesAsBefore, IsIndexDisk, IsCall};
-ghost use Rattle.electrum_serve.specs.Calls.{call, counts_of, devices};
+ghost use Rattle.el_loop.specs.Counts.{counts_of, devices};
+ghost use Rattle.electrum_serve.specs.Calls.{call};
 ghost use Rattle.electrum_serve.specs.File.{GivesNoChain};
 ghost use Rattle.electrum_serve.specs.Opened.{IsRead, all_added};
-ghost use Rattle.electrum_serve.specs.Runs.{Traffic, IsCaused};
+ghost use Rattle.electrum_serve.specs.Statuses.{ShowsCause};
+ghost use Rattle.el_loop.specs.Runs.{Traffic};
 ghost use Rattle.electrum_serve.specs.Ends.{OnceEnds, IndexEnds, IsUnserved, IsUnopened};
 ghost use Rattle.electrum_serve.specs.within.Unread.{unread_status};
 
 use crate::file::{FileFault, read_chain};
 use crate::index_disk::open_index;
 use crate::opening::tree_of;
-use crate::starting::{serve_from, serve_index};
+use crate::starting::serve_index;
 use crate::status::Status;
-use el_base::Steps;
 use el_headers::HeaderTree;
+use el_loop::{RunOptions, serve_from};
 use el_model::PlainLedger;
 use el_outside::{Archive, Disk, Link};
 use el_redo::{Mainnet, NetworkMagic, Regtest, Testnet3};
 use el_words::{Network, once_of, serve_of};
 use std::alloc::Global;
-use std::marker::Brand;
-use std::sync::ledger::{Blank, Ledger as Counts};
 
 // How the program ends where file 0 can't be read.
 fn status_of(fault: FileFault) -> Status
@@ -67,17 +67,13 @@ fn open_file<A: Archive>(
 }
 
 // `serve`: a node and clients, from the index on the disk and the headers of all block files.
-fn serve_disk<D: Disk, N: NetworkMagic, A: Archive, K: Link, L: Counts + Send>(
+fn serve_disk<D: Disk, N: NetworkMagic, A: Archive, K: Link>(
     alloc: Global,
     disk: D,
     archive: &mut A,
     link: &mut K,
     turns: u64,
-    blank: Blank,
 ) -> (Status, D)
-    requires name { blank.name ≡ L.name }
-    requires parts { blank.parts ≡ L.parts }
-    requires some { 0 < blank.parts }
     ensures ends { (was flight chain : Chain) → IsIndexDisk ⟦<D as Disk>⟧ N.magic disk was flight chain
         → (traffic : Traffic)
         × (K.tells → GoesOn (K.story link.old) (K.story link.new)
@@ -94,24 +90,15 @@ fn serve_disk<D: Disk, N: NetworkMagic, A: Archive, K: Link, L: Counts + Send>(
     ensures kept { D.tells → result.0 ≡ Status.BadIndex → LeavesAsBefore ⟦<D as Disk>⟧ disk result.1 }
     ensures kept_counts { result.0 ≡ Status.BadIndex → D.faults result.1 ≡ D.faults disk }
     ensures kept_files { result.0 ≡ Status.BadIndex → archive.new ≡ archive.old }
-    ensures causes { IsCaused (counts_of D.faults ⟦<A as Archive>⟧ ⟦<K as Link>⟧ turns
+    ensures causes { ShowsCause (counts_of D.faults ⟦<A as Archive>⟧ ⟦<K as Link>⟧ turns
         (devices disk archive.old link.old) (devices result.1 archive.new link.new)) result.0 }
     ensures read { result.0 ≢ Status.Usage }
     ensures unserved { IsUnserved result.0 → link.new ≡ link.old }
     ensures keeps { A.tells → AllGrow (A.bytes archive.old) (A.bytes archive.new) }
 {
-    let mut steps = Steps::<L>::new(blank);
-    match open_index::<D, N, L>(alloc, disk, &mut steps) {
+    match open_index::<D, N>(alloc, disk) {
         Ok(index) => {
-            let (status, index) = serve_index(
-                alloc,
-                index,
-                N::magic(),
-                archive,
-                link,
-                turns,
-                &mut steps,
-            );
+            let (status, index) = serve_index(alloc, index, N::magic(), archive, link, turns);
             (status, index.into_rows().into_disk())
         }
         Err((status, disk)) => (status, disk),
@@ -119,18 +106,14 @@ fn serve_disk<D: Disk, N: NetworkMagic, A: Archive, K: Link, L: Counts + Send>(
 }
 
 // `serve` for a network.
-fn serve_network<D: Disk, A: Archive, K: Link, L: Counts + Send>(
+fn serve_network<D: Disk, A: Archive, K: Link>(
     alloc: Global,
     network: Network,
     disk: D,
     archive: &mut A,
     link: &mut K,
     turns: u64,
-    blank: Blank,
 ) -> (Status, D)
-    requires name { blank.name ≡ L.name }
-    requires parts { blank.parts ≡ L.parts }
-    requires some { 0 < blank.parts }
     ensures ends { (was flight chain : Chain)
         → IsIndexDisk ⟦<D as Disk>⟧ (network_magic network) disk was flight chain
         → (traffic : Traffic)
@@ -149,55 +132,47 @@ fn serve_network<D: Disk, A: Archive, K: Link, L: Counts + Send>(
     ensures kept { D.tells → result.0 ≡ Status.BadIndex → LeavesAsBefore ⟦<D as Disk>⟧ disk result.1 }
     ensures kept_counts { result.0 ≡ Status.BadIndex → D.faults result.1 ≡ D.faults disk }
     ensures kept_files { result.0 ≡ Status.BadIndex → archive.new ≡ archive.old }
-    ensures causes { IsCaused (counts_of D.faults ⟦<A as Archive>⟧ ⟦<K as Link>⟧ turns
+    ensures causes { ShowsCause (counts_of D.faults ⟦<A as Archive>⟧ ⟦<K as Link>⟧ turns
         (devices disk archive.old link.old) (devices result.1 archive.new link.new)) result.0 }
     ensures read { result.0 ≢ Status.Usage }
     ensures unserved { IsUnserved result.0 → link.new ≡ link.old }
     ensures keeps { A.tells → AllGrow (A.bytes archive.old) (A.bytes archive.new) }
 {
     match network {
-        Network::Main => serve_disk::<D, Mainnet, A, K, L>(
-            alloc, disk, archive, link, turns, blank,
-        ),
-        Network::Testnet3 => serve_disk::<D, Testnet3, A, K, L>(
-            alloc, disk, archive, link, turns, blank,
-        ),
-        Network::Regtest => serve_disk::<D, Regtest, A, K, L>(
-            alloc, disk, archive, link, turns, blank,
-        ),
+        Network::Main => serve_disk::<D, Mainnet, A, K>(alloc, disk, archive, link, turns),
+        Network::Testnet3 => serve_disk::<D, Testnet3, A, K>(alloc, disk, archive, link, turns),
+        Network::Regtest => serve_disk::<D, Regtest, A, K>(alloc, disk, archive, link, turns),
     }
 }
 
 // `once`: clients without a node, from the chain and the headers of file 0.
-fn serve_file<A: Archive, K: Link, L: Counts + Send>(
+fn serve_file<A: Archive, K: Link>(
     alloc: Global,
     magic: [u8; 4],
     archive: &mut A,
     link: &mut K,
     turns: u64,
-    blank: Blank,
 ) -> Status
-    requires name { blank.name ≡ L.name }
-    requires parts { blank.parts ≡ L.parts }
-    requires some { 0 < blank.parts }
     ensures ends { (disk : ℕ) → (traffic : Traffic)
         × (K.tells → GoesOn (K.story link.old) (K.story link.new)
         traffic.arrivals traffic.messages traffic.closings)
         × OnceEnds A.tells magic (counts_of (λ d. d) ⟦<A as Archive>⟧ ⟦<K as Link>⟧ turns
         (devices disk archive.old link.old) (devices disk archive.new link.new))
         (A.bytes archive.old) (A.bytes archive.new) traffic result }
-    ensures causes { (disk : ℕ) → IsCaused (counts_of (λ d. d) ⟦<A as Archive>⟧ ⟦<K as Link>⟧ turns
+    ensures causes { (disk : ℕ) → ShowsCause (counts_of (λ d. d) ⟦<A as Archive>⟧ ⟦<K as Link>⟧ turns
         (devices disk archive.old link.old) (devices disk archive.new link.new)) result }
     ensures unserved { IsUnserved result → link.new ≡ link.old }
     ensures keeps { A.tells → AllGrow (A.bytes archive.old) (A.bytes archive.new) }
 {
     match open_file(alloc, archive, magic) {
         Ok((tree, ledger)) => {
-            let mut steps = Steps::<L>::new(blank);
-            let (status, _) = serve_from(
-                alloc, ledger, tree, magic, archive, link, false, turns, &mut steps,
-            );
-            status
+            let options = RunOptions {
+                magic,
+                node: false,
+                turns,
+            };
+            let (end, _) = serve_from(alloc, ledger, tree, archive, link, options);
+            Status::of_end(end)
         }
         Err(fault) => status_of(fault),
     }
@@ -230,7 +205,7 @@ pub fn serve<D: Disk, A: Archive, K: Link>(
     ensures kept_counts { result.0 ≡ Status.BadIndex → D.faults result.1 ≡ D.faults disk }
     ensures kept_files { result.0 ≡ Status.BadIndex → archive.new ≡ archive.old }
     // Whatever the devices tell, each failure that is told was counted.
-    ensures causes { IsCaused (counts_of D.faults ⟦<A as Archive>⟧ ⟦<K as Link>⟧ turns
+    ensures causes { ShowsCause (counts_of D.faults ⟦<A as Archive>⟧ ⟦<K as Link>⟧ turns
         (devices disk archive.old link.old) (devices result.1 archive.new link.new)) result.0 }
     // Other words are refused, and then no device is called.
     ensures refused { IsNoCommand (texts words.now) → result.0 ≡ Status.Usage }
@@ -242,19 +217,11 @@ pub fn serve<D: Disk, A: Archive, K: Link>(
     ensures keeps { A.tells → AllGrow (A.bytes archive.old) (A.bytes archive.new) }
 {
     if let Some(serve) = serve_of(words) {
-        return serve_network::<D, A, K, Brand>(
-            alloc,
-            serve.network,
-            disk,
-            archive,
-            link,
-            turns,
-            Blank::new(1),
-        );
+        return serve_network::<D, A, K>(alloc, serve.network, disk, archive, link, turns);
     }
     match once_of(words) {
         Some(network) => (
-            serve_file::<A, K, Brand>(alloc, network.magic(), archive, link, turns, Blank::new(1)),
+            serve_file::<A, K>(alloc, network.magic(), archive, link, turns),
             disk,
         ),
         None => (Status::Usage, disk),

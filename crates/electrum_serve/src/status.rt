@@ -1,6 +1,8 @@
 // How the program ends.
 ghost use Rattle.std.specs.Prelude.{◌≡◌};
-ghost use Rattle.electrum_serve.specs.Statuses.{code_of, line_of};
+ghost use Rattle.electrum_serve.specs.Statuses.{code_of, line_of, status_of_end};
+
+use el_loop::End;
 
 /// How a call of `serve` ended.
 #[derive(Clone, Copy, Debug, PartialEq, Eq)]
@@ -28,6 +30,19 @@ pub enum Status {
 }
 
 impl Status {
+    /// How the program ends where its run ends so.
+    pub fn of_end(end: End) -> Status
+        ensures { result ≡ status_of_end end }
+    {
+        match end {
+            End::Ended => Status::Ended,
+            End::DiskFailed => Status::DiskFailed,
+            End::LinkFailed => Status::LinkFailed,
+            End::OutOfMemory => Status::OutOfMemory,
+            End::TurnsSpent => Status::TurnsSpent,
+        }
+    }
+
     /// The exit status of the program.
     pub fn code(self) -> u8
         ensures { result ≡ code_of self }

@@ -1,6 +1,4 @@
 // Calls over a ledger that already has a chain, as an index of an earlier life has.
-ghost use Rattle.std.specs.Prelude.{◌≡◌, ◌≤◌, ◌<◌};
-
 use crate::file::read_chain;
 use crate::starting::serve_index;
 use crate::status::Status;
@@ -10,13 +8,10 @@ use crate::tests::bringing::Step::{Opens, Says};
 use crate::tests::bringing::{Step, coming, transcript};
 use crate::tests::calls::TURNS;
 use crate::tests::names::named;
-use el_base::Steps;
 use el_fakes::{SteadyArchive, SteadyLink};
 use el_gen::{BLOCK_1, GENESIS};
 use el_model::PlainLedger;
 use std::alloc::Global;
-use std::marker::Brand;
-use std::sync::ledger::{Blank, Ledger as Counts};
 use std::test::Fail;
 
 // A ledger with the first blocks of the first branch.
@@ -30,34 +25,6 @@ fn ledger_of(alloc: Global, count: u32) -> Result<PlainLedger, Fail> {
 }
 
 // How a call over such a ledger ends, and what is sent and closed.
-fn call_counted<L: Counts + Send>(
-    alloc: Global,
-    count: u32,
-    files: Files,
-    magic: [u8; 4],
-    steps: &[Step<'_>],
-    blank: Blank,
-) -> Result<(Status, String), Fail>
-    requires name { blank.name ≡ L.name }
-    requires parts { blank.parts ≡ L.parts }
-    requires some { 0 < blank.parts }
-{
-    let mut rows = Steps::<L>::new(blank);
-    let ledger = ledger_of(alloc, count)?;
-    let mut archive = SteadyArchive::new(files_of(alloc, files)?).ok_or("no such files")?;
-    let mut link = SteadyLink::new(alloc, coming(alloc, steps, 1_000)?)?;
-    let (status, _) = serve_index(
-        alloc,
-        ledger,
-        magic,
-        &mut archive,
-        &mut link,
-        TURNS,
-        &mut rows,
-    );
-    Ok((status, transcript(alloc, link.sent(), link.closed())?))
-}
-
 fn call(
     alloc: Global,
     count: u32,
@@ -65,7 +32,11 @@ fn call(
     magic: [u8; 4],
     steps: &[Step<'_>],
 ) -> Result<(Status, String), Fail> {
-    call_counted::<Brand>(alloc, count, files, magic, steps, Blank::new(1))
+    let ledger = ledger_of(alloc, count)?;
+    let mut archive = SteadyArchive::new(files_of(alloc, files)?).ok_or("no such files")?;
+    let mut link = SteadyLink::new(alloc, coming(alloc, steps, 1_000)?)?;
+    let (status, _) = serve_index(alloc, ledger, magic, &mut archive, &mut link, TURNS);
+    Ok((status, transcript(alloc, link.sent(), link.closed())?))
 }
 
 const TIP: &[Step<'static>] = &[

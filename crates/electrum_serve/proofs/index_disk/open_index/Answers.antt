@@ -1,3 +1,4 @@
+use Rattle.std.proofs.Common.{arith}
 use Rattle.el_stands.proofs.StandingLemmas.{same_stand}
 use Rattle.electrum_serve.proofs.IndexDisks.{keeps_as, unread_leaves, not_bad, told_bad}
 use Rattle.electrum_serve.proofs.index_disk.open_index.Goals as goal
@@ -25,17 +26,19 @@ returns-in-Err-over-clause-unopened g c = λ was flight chain is. (
   λ e. absurd cc,
   λ image now.
       let over = c.in-Err-over.ensures.failed.crash is.told in
+      let before = over.before (g.D.Disk.moment c.in-Ok.store.journal.disk) image (omega arith) (
+        is.told,
+        g.met.D.Disk.earlier c.in-Err-over.store.journal.disk _ _ image is.told over.later
+            (rw c.into_disk.ensures.disk at now),
+      ) in
       unread_leaves _ (g.D.Disk.seen c.args.disk) was flight _ image
       (λ a shows. c.images_stand_in_one_way.ensures.one _ _ a _ (g.met.D.Disk.small c.args.disk _ is.told)
       shows (c.in-Ok.ensures.shows is.told))
       (is.left _ (g.met.D.Disk.reads_an_image c.args.disk is.told))
-      (over.each image (
-        is.told,
-        g.met.D.Disk.earlier c.in-Err-over.store.journal.disk _ _ image is.told over.later
-            (rw c.into_disk.ensures.disk at now),
-      )),
+      (c.in-Ok.ensures.leaves is.told image before.1),
 )
 
 pub returns-in-Err-clause-kept : goal.returns-in-Err-clause-kept
 returns-in-Err-clause-kept g c = λ told bad. keeps_as g.D.Disk c.args.disk c.in-Err.disk
-    (λ t u image le left. g.met.D.Disk.earlier c.in-Err.disk t u image told le left) (c.in-Err.ensures.crash told)
+    (λ t u image le left. g.met.D.Disk.earlier c.in-Err.disk t u image told le left)
+    (c.in-Err.ensures.crash told)

@@ -2,7 +2,7 @@ use Rattle.std.proofs.Common.{◌≡◌, take}
 use Rattle.std.specs.List.{AllByRecursion}
 use Rattle.el_chain.specs.Chains.{Chain}
 use Rattle.el_chain.specs.Records.{IsNode}
-use Rattle.el_model.specs.Keeping.{Quiet}
+use Rattle.el_model.specs.LedgerCalls.{Asked}
 use Rattle.electrum_serve.specs.Opened.{nodes_of_chain}
 use Rattle.electrum_serve.proofs.index_headers.nodes_of.Given as goal
 
@@ -11,8 +11,7 @@ abbrev pub invariant-loop-h : goal.invariant-loop-h
 invariant-loop-h g l =
     let d = g.G.Ledger in
     record {
-      quiet : Quiet d.is_live d.height d.tip d.buckets d.stands d.tells_crash d.means d.moment d.left_since
-          l.initial.ledger l.ledger;
+      quiet : Asked d l.initial.ledger l.ledger;
       still : d.faults l.ledger ≡ d.faults l.initial.ledger;
       nodes : AllByRecursion IsNode l.nodes.items;
       so_far : (chain : Chain) → d.stands l.initial.ledger chain

@@ -1,5 +1,6 @@
 use Rattle.el_words.specs.Words.{texts}
-use Rattle.electrum_serve.specs.Calls.{call, devices}
+use Rattle.el_loop.specs.Counts.{devices}
+use Rattle.electrum_serve.specs.Calls.{call}
 use Rattle.electrum_serve.proofs.LifeLemmas.{found, lived_more, lived_none}
 use Rattle.electrum_serve.proofs.lives.+live_on.Goals as goal
 

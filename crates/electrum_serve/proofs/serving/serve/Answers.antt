@@ -3,8 +3,8 @@ use Rattle.el_outside.proofs.Stories.{goes_none}
 use Rattle.el_words.specs.Words.{texts}
 use Rattle.el_words.specs.Commands.{IsNoCommand}
 use Rattle.electrum_serve.specs.Ends.{usage, serve, once}
-use Rattle.electrum_serve.specs.Runs.{no_traffic}
-use Rattle.electrum_serve.proofs.Progresses.{all_rose_none}
+use Rattle.el_loop.specs.Runs.{no_traffic}
+use Rattle.el_outside.proofs.Devices.{all_rose_none}
 use Rattle.electrum_serve.proofs.Rises.{caused_none}
 use Rattle.electrum_serve.proofs.Servings.{is_serve, is_once, one_network}
 use Rattle.electrum_serve.proofs.serving.serve.Goals as goal

@@ -1,7 +1,7 @@
 use Rattle.std.proofs.Common.{◌≡◌, ◌∙◌, inl, inr, ap}
 use Rattle.el_outside.proofs.Stories.{goes_none}
 use Rattle.electrum_serve.specs.IndexDisks.{LeavesOneOf}
-use Rattle.electrum_serve.specs.Runs.{no_traffic}
+use Rattle.el_loop.specs.Runs.{no_traffic}
 use Rattle.electrum_serve.proofs.Servings.{serve_told, unopened_ends}
 use Rattle.electrum_serve.proofs.serving.serve_disk.Goals as goal
 
@@ -28,8 +28,8 @@ returns-in-Ok-clause-causes g c =
 pub returns-in-Ok-clause-is_bad : goal.returns-in-Ok-clause-is_bad
 returns-in-Ok-clause-is_bad g c = λ told wanted found is. absurd (c.in-Ok.ensures.is_bad told wanted found is)
 
-pub returns-clause-ends : goal.returns-clause-ends
-returns-clause-ends g c = λ was flight chain is.
+pub returns-in-Err-clause-ends : goal.returns-in-Err-clause-ends
+returns-in-Err-clause-ends g c = λ was flight chain is.
     let u = c.in-Err.ensures.unopened was flight chain is in (
       no_traffic,
       λ t. goes_none _,
@@ -47,5 +47,5 @@ returns-in-Ok-clause-kept_counts g c = λ bad. absurd (rw bad at c.serve_index-s
 pub returns-in-Ok-clause-kept_files : goal.returns-in-Ok-clause-kept_files
 returns-in-Ok-clause-kept_files g c = λ bad. absurd (rw bad at c.serve_index-status.ensures.opened)
 
-pub returns-clause-kept_counts : goal.returns-clause-kept_counts
-returns-clause-kept_counts g c = λ bad. c.in-Err.ensures.others_uncounted (λ failed. absurd cc)
+pub returns-in-Err-clause-kept_counts : goal.returns-in-Err-clause-kept_counts
+returns-in-Err-clause-kept_counts g c = λ bad. c.in-Err.ensures.others_uncounted (λ failed. absurd cc)

@@ -1,9 +1,11 @@
 use Rattle.std.proofs.Common.{ap, refl, Err, arith}
 use Rattle.el_outside.proofs.Stories.{goes_none, all_grow_more}
 use Rattle.el_model.specs.Plain.{IsPlain}
-use Rattle.electrum_serve.specs.Runs.{no_traffic, faults}
-use Rattle.electrum_serve.proofs.Rises.{caused_still, unread_caused}
-use Rattle.electrum_serve.proofs.Servings.{served_once, ends_told, stays_still, unread_ends}
+use Rattle.el_outside.specs.Devices as device
+use Rattle.el_outside.specs.Devices.{faults}
+use Rattle.el_loop.specs.Runs.{no_traffic}
+use Rattle.electrum_serve.proofs.Rises.{caused_still, unread_caused, run_caused, serves}
+use Rattle.electrum_serve.proofs.Servings.{served_once, ends_told, with_disk, unread_ends}
 use Rattle.electrum_serve.proofs.serving.serve_file.Goals as goal
 
 pub returns-in-Ok-clause-ends : goal.returns-in-Ok-clause-ends
@@ -11,31 +13,29 @@ returns-in-Ok-clause-ends g c = λ disk.
     let o = c.in-Ok.ensures.opened in
     let plain : IsPlain c.in-Ok.ledger c.in-Ok.ledger = record { is = refl; good = o.1.good } in
     let r = rw (o.2, c.in-Ok.ensures.only_reads.uncounted) at
-    (c.serve_from-status.ensures.ends c.in-Ok.ledger plain) in (
+    (c.serve_from-end.ensures.ends c.in-Ok.ledger plain) in (
       r.0,
       r.1,
-      served_once g.A.Archive.tells c.args.magic _ _ _ r.0 _ c.serve_from-status.ensures.serves
-          (λ failed. let rose = c.serve_from-status.ensures.causes.disk failed in omega arith) (record {
+      rw c.of_end.ensures (served_once g.A.Archive.tells c.args.magic _ _ _ r.0 _
+          (λ failed. let rose = c.serve_from-end.ensures.causes.rose device.disk (rw failed refl) in omega
+          arith) (record {
             now = g.A.Archive.bytes c.open_file.new.archive;
             nodes = o.0;
             chain = c.in-Ok.ledger;
             read = o.1;
-            grows = c.serve_from-status.ensures.keeps;
-            run = ends_told _ (faults (g.K.Link.faults c.args.link.now) (g.A.Archive.faults c.args.archive.now) disk)
-                (faults (g.K.Link.faults c.serve_from-status.new.link)
-                (g.A.Archive.faults c.serve_from-status.new.archive) disk)
-                (λ losses rose. record {
-                  link = rose.link;
-                  archive = rose.archive;
-                  disk = stays_still disk _ rose.disk;
-                })
+            grows = c.serve_from-end.ensures.keeps;
+            run = ends_told _ (faults (g.K.Link.faults c.args.link.now)
+                (g.A.Archive.faults c.args.archive.now) disk)
+                (faults (g.K.Link.faults c.serve_from-end.new.link)
+                (g.A.Archive.faults c.serve_from-end.new.archive) disk)
+                (with_disk _ _ _ _ disk)
                 _ _ (λ acked flight left. tt) g.A.Archive.tells _ _ _ r.0 _ r.2;
-          }),
+          })),
     )
 
 pub returns-in-Ok-clause-keeps : goal.returns-in-Ok-clause-keeps
 returns-in-Ok-clause-keeps g c = λ t. all_grow_more _ _ _ (c.in-Ok.ensures.only_reads.keeps t)
-    (c.serve_from-status.ensures.keeps t)
+    (c.serve_from-end.ensures.keeps t)
 
 pub returns-in-Err-clause-ends : goal.returns-in-Err-clause-ends
 returns-in-Err-clause-ends g c = λ disk. (
@@ -47,8 +47,11 @@ returns-in-Err-clause-ends g c = λ disk. (
 
 pub returns-in-Ok-clause-causes : goal.returns-in-Ok-clause-causes
 returns-in-Ok-clause-causes g c = λ disk.
-    caused_still _ _ _ _ _ _ _ disk _
-    (rw c.in-Ok.ensures.only_reads.uncounted at c.serve_from-status.ensures.causes)
+    rw c.of_end.ensures (caused_still _ _ _ _ _ _ _ disk _ (run_caused _ _
+    (rw c.in-Ok.ensures.only_reads.uncounted at c.serve_from-end.ensures.causes)))
+
+pub returns-in-Ok-clause-unserved : goal.returns-in-Ok-clause-unserved
+returns-in-Ok-clause-unserved g c = λ unserved. absurd (serves _ (rw c.of_end.ensures at unserved))
 
 pub returns-in-Err-clause-causes : goal.returns-in-Err-clause-causes
 returns-in-Err-clause-causes g c = λ disk.

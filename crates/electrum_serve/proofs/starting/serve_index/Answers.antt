@@ -1,7 +1,7 @@
 use Rattle.std.proofs.Common.{ap, Err, inl}
 use Rattle.el_outside.proofs.Stories.{goes_none, all_grow_more}
-use Rattle.electrum_serve.specs.Runs.{no_traffic}
-use Rattle.electrum_serve.proofs.Rises.{start_caused, opened_end, start_opened}
+use Rattle.el_loop.specs.Runs.{no_traffic}
+use Rattle.electrum_serve.proofs.Rises.{start_caused, opened_end, start_opened, run_caused, serves}
 use Rattle.electrum_serve.proofs.Servings.{served_ends, start_ends}
 use Rattle.electrum_serve.proofs.starting.serve_index.Goals as goal
 
@@ -10,23 +10,23 @@ returns-in-Ok-clause-ends g c = λ chain stood.
     let o = c.in-Ok.ensures.opened chain stood in
     let here = c.in-Ok.ensures.quiet.stays.still_stands chain stood in
     let r = rw (o.2, c.in-Ok.ensures.only_reads.uncounted, c.in-Ok.ensures.cause.uncounted) at
-    (c.serve_from.ensures.ends chain here) in (
+    (c.serve_from-end.ensures.ends chain here) in (
       r.0,
       r.1,
-      served_ends g.A.Archive.tells g.A.Archive.bytes g.A.Archive.file_count c.args.magic chain _ _ _ _ r.0 _
-          c.serve_from.ensures.serves (record {
+      rw c.of_end.ensures (served_ends g.A.Archive.tells g.A.Archive.bytes g.A.Archive.file_count c.args.magic
+          chain _ _ _ _ r.0 _ (record {
             now = c.open_headers.new.archive;
             nodes = o.0;
             scanned = o.1;
             same = o.3;
-            grows = c.serve_from.ensures.keeps;
+            grows = c.serve_from-end.ensures.keeps;
             run = r.2;
-          }),
+          })),
     )
 
 pub returns-in-Ok-clause-keeps : goal.returns-in-Ok-clause-keeps
 returns-in-Ok-clause-keeps g c = λ t. all_grow_more _ _ _ (c.in-Ok.ensures.only_reads.keeps t)
-    (c.serve_from.ensures.keeps t)
+    (c.serve_from-end.ensures.keeps t)
 
 pub returns-in-Err-clause-ends : goal.returns-in-Err-clause-ends
 returns-in-Err-clause-ends g c = λ chain stood. (
@@ -42,10 +42,15 @@ returns-in-Err-clause-ends g c = λ chain stood. (
 
 pub returns-in-Ok-clause-causes : goal.returns-in-Ok-clause-causes
 returns-in-Ok-clause-causes g c =
-    rw (c.in-Ok.ensures.only_reads.uncounted, c.in-Ok.ensures.cause.uncounted) at c.serve_from.ensures.causes
+    rw c.of_end.ensures (run_caused _ _
+    (rw (c.in-Ok.ensures.only_reads.uncounted, c.in-Ok.ensures.cause.uncounted) at
+    c.serve_from-end.ensures.causes))
+
+pub returns-in-Ok-clause-unserved : goal.returns-in-Ok-clause-unserved
+returns-in-Ok-clause-unserved g c = λ unserved. absurd (serves _ (rw c.of_end.ensures at unserved))
 
 pub returns-in-Ok-clause-opened : goal.returns-in-Ok-clause-opened
-returns-in-Ok-clause-opened g c = opened_end _ c.serve_from.ensures.serves
+returns-in-Ok-clause-opened g c = rw c.of_end.ensures (opened_end _)
 
 pub returns-in-Err-clause-causes : goal.returns-in-Err-clause-causes
 returns-in-Err-clause-causes g c =

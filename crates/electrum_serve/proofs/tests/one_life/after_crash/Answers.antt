@@ -1,5 +1,5 @@
 use Rattle.std.proofs.Common.{ap}
-use Rattle.el_core.proofs.Compared.{if_ok_map}
+use Rattle.el_headers.proofs.OnePath.{if_ok_map}
 use Rattle.el_mem_disk.specs.Disks.{DiskState}
 use Rattle.electrum_serve.proofs.MemLives.{crash_reads, crash_images}
 use Rattle.electrum_serve.proofs.tests.one_life.after_crash.Goals as goal

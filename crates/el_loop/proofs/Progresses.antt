@@ -1,0 +1,338 @@
+-- Turns, one after the other, and what went over the link meanwhile.
+use Rattle.std.proofs.Common.{◌≡◌, inl, inr, ℕ, List, [], ◌++◌, None, refl, ap, sym, ◌∙◌, append-nil, append_assoc, Option}
+use Rattle.el_outside.specs.declared.archive.Archive as archive
+use Rattle.el_outside.specs.declared.link.Link as link
+use Rattle.el_outside.specs.Counts.{RoseBy}
+use Rattle.el_outside.specs.Devices as device
+use Rattle.el_outside.specs.Devices.{Device, failures, faults, Rose}
+use Rattle.el_outside.specs.Files.{AllGrow}
+use Rattle.el_outside.specs.Story.{Message, Closing}
+use Rattle.el_outside.specs.declared.link.Why.{Why}
+use Rattle.el_outside.proofs.Devices.{failures_on, all_rose_none, all_rose_on}
+use Rattle.el_outside.proofs.Stories.{goes_none, goes_more, rose_none, all_grow_none, all_grow_more}
+use Rattle.el_chain.specs.Chains.{Chain}
+use Rattle.el_model.specs.declared.ledger.Ledger as ledger
+use Rattle.el_model.specs.LedgerCalls.{failed_calls}
+use Rattle.el_model.specs.World.{World, Event, Outs}
+use Rattle.el_model.specs.Run.{Turns, none, more, Stop, Stops, disk_failed, no_memory, untold, unsent, files_at, Delivers, all, sends, loses, lost_by, IsDeparture, LostBy, by_disk, by_link, by_memory}
+use Rattle.el_model.specs.Flights.{FliesAt, IsUnderWay, IsMoveOf}
+use Rattle.el_core.specs.State.{State, Stands}
+use Rattle.el_core.specs.Turn.{TookTurn, TurnFailed, IsWithin, IsDone, stop_of}
+use Rattle.el_sync.specs.declared.fault.StepFault.{StepFault}
+use Rattle.el_sync.specs.declared.fault.StepFault.TheVariants as fault
+use Rattle.el_loop.specs.within.Sending.{StoppedSending}
+use Rattle.el_loop.specs.within.Progress.{ClientsAreOpen, CanDeliver, Delivered, Snapshot, snapshot, failed, IsReady, Progress, Finished, Stopped}
+use Rattle.el_loop.proofs.Turned.{after_turn, still_waiting, turn_to_one}
+
+-- these losses are of calls of the link
+record OfLink (losses : List Device) : Type 0 where
+  no_archive : failures device.archive losses ≡ 0
+  no_disk : failures device.disk losses ≡ 0
+
+lost_more : (reason : Why) (ls : List Device) → IsDeparture reason → OfLink ls → OfLink (lost_by reason ++ ls)
+lost_more reason ls (inl gone) h = rw gone (record { no_archive = h.no_archive; no_disk = h.no_disk })
+lost_more reason ls (inr memory) h = rw memory h
+
+-- sending loses nothing but calls of the link
+sending_loses : (w : World) (ms : List Message) (c : Option Closing) (sent : List Message) (cs : List Closing)
+    (ls : List Device) (next : World) → Delivers w ms c sent cs ls next → OfLink ls
+sending_loses w ms c sent cs ls next (all _ _) = record { no_archive = refl; no_disk = refl }
+sending_loses w ms c sent cs ls next (sends w' m ms' c' sent' cs' ls' next' d) =
+    sending_loses w' ms' c' sent' cs' ls' next' d
+sending_loses w ms c sent cs ls next (loses w' m ms' c' reason sent' cs' ls' next' client departure d) =
+    lost_more reason ls' departure (sending_loses _ _ _ sent' cs' ls' next' d)
+
+last_lost : (stop : Stop) (ls : List Device) → LostBy stop ls → OfLink ls
+last_lost by_disk ls lost = absurd lost
+last_lost by_link ls lost = rw lost (record { no_archive = refl; no_disk = refl })
+last_lost by_memory ls lost = rw lost (record { no_archive = refl; no_disk = refl })
+
+both_of_link : (xs ys : List Device) → OfLink xs → OfLink ys → OfLink (xs ++ ys)
+both_of_link xs ys a b = record {
+  no_archive = rw (failures_on device.archive xs ys, a.no_archive, b.no_archive) refl;
+  no_disk = rw (failures_on device.disk xs ys, a.no_disk, b.no_disk) refl;
+}
+
+-- calls of the link failed so often
+link_rose : (low high of_files of_ledger : ℕ) (losses : List Device) → OfLink losses
+    → RoseBy low high (failures device.link losses)
+    → Rose (faults low of_files of_ledger) (faults high of_files of_ledger) losses
+link_rose low high of_files of_ledger losses alone rose device.link = rose
+link_rose low high of_files of_ledger losses alone rose device.archive = rw alone.no_archive
+    (rose_none of_files)
+link_rose low high of_files of_ledger losses alone rose device.disk = rw alone.no_disk (rose_none of_ledger)
+
+-- turns after turns
+pub turns_then : (tells : Type 0) (first world last : World) (done es : List Event) (ms ns : List Message)
+    (cs ds : List Closing) (ls ks : List Device)
+    → Turns tells first done ms cs ls world → Turns tells world es ns ds ks last
+    → Turns tells first (done ++ es) (ms ++ ns) (cs ++ ds) (ls ++ ks) last
+turns_then tells first world last done es ms ns cs ds ls ks before none =
+    rw (append-nil done, append-nil ms, append-nil cs, append-nil ls) before
+turns_then tells first world last done es ms ns cs ds ls ks before
+    (more past ms' cs' ls' mid now outs failed left sent closed lost next so_far turn delivers) =
+    let one : Turns tells first (done ++ (past ++ now)) (ms ++ (ms' ++ sent)) (cs ++ (cs' ++ closed))
+    (ls ++ (ls' ++ (failed ++ lost))) next =
+    rw (
+      ← append_assoc done past now,
+      ← append_assoc ms ms' sent,
+      ← append_assoc cs cs' closed,
+      ← append_assoc ls ls' (failed ++ lost),
+    )
+    (more (done ++ past) (ms ++ ms') (cs ++ cs') (ls ++ ls') mid now outs failed left sent closed lost next
+    (turns_then tells first world mid done past ms ms' cs cs' ls ls' before so_far) turn delivers) in
+    one
+
+-- the block files where a turn failed, and the chain that is then in flight
+within_files : {tells : Type 0} {world : World} {left : List Event} {stop : Stop} {sent : List Message}
+    {closings : List Closing} {losses : List Device} (stops : Stops tells world left stop sent closings
+    losses)
+    → IsWithin stops → files_at stops ≡ world.side.files
+within_files (disk_failed by nodes silent closed lost) within = refl
+within_files (no_memory by nodes silent closed lost) within = refl
+within_files (untold by nodes silent closed lost) within = refl
+within_files (unsent done rest outs failed after front back m lost last next whole turn cut node delivers by
+    all')
+    within = absurd within
+
+for_memory : (e : StepFault) → stop_of e ≡ by_memory → e ≡ fault.Memory
+for_memory fault.DiskFailed by = absurd cc
+for_memory fault.Memory by = refl
+
+within_flies : {tells : Type 0} {world : World} {left : List Event} {sent : List Message}
+    {closings : List Closing} {losses : List Device} (e : StepFault)
+    (stops : Stops tells world left (stop_of e) sent closings losses) → IsWithin stops → (now : ℕ → List ℕ)
+    (next : Chain) → (tells → AllGrow world.side.files now) → IsUnderWay tells now world.side.chain
+    (IsMoveOf world left) next
+    → (e ≡ fault.Memory → next ≡ world.side.chain) → FliesAt stops now next
+within_flies e (disk_failed by nodes silent closed lost) within now next grows way still =
+    (now, λ told. (grows told, all_grow_none now), way)
+within_flies e (no_memory by nodes silent closed lost) within now next grows way still = still
+    (for_memory e by)
+within_flies e (untold by nodes silent closed lost) within now next grows way still = still (for_memory e by)
+within_flies e (unsent done rest outs failed after front back m lost last next' whole turn cut node delivers
+    by all')
+    within now next grows way still = absurd within
+
+module _ {G A K : Type 0} (of_ledger : ledger.Ghosts G) (of_files : archive.Ghosts A)
+    (of_link : link.Ghosts K) where
+  -- before the first turn
+  pub begins : (first : World) (all' : List Event) (now : Snapshot G A K)
+      → Stands of_ledger.stands now.server first all' → IsReady of_ledger of_files of_link first now
+      → Progress of_ledger of_files of_link first all' now now
+  begins first all' now stood ready = record {
+    done = [];
+    left = all';
+    messages = [];
+    closings = [];
+    losses = [];
+    world = first;
+    whole = refl;
+    turns = none;
+    stood = stood;
+    went = record {
+      story = λ t. goes_none (of_link.story now.link);
+      rose = all_rose_none (failed of_ledger of_files of_link now);
+    };
+    ready = ready;
+  }
+
+  -- what a turn gave can be sent and closed
+  pub can_deliver : (world : World) (left : List Event) (outs : Outs) (s turned : State G) (files files' : A)
+      (k : K) → Stands of_ledger.stands s world left
+      → (t : TookTurn of_ledger of_files s turned files files' world left outs)
+      → (of_link.tells → ClientsAreOpen s world (of_link.story k))
+      → CanDeliver of_ledger.stands of_link.tells turned t.next t.rest outs (of_link.story k)
+  can_deliver world left outs s turned files files' k stood t are = record {
+    can_send = record {
+      stood = t.stood;
+      sends_to = t.sends_to;
+      one_peer = (turn_to_one of_files.tells world t.done outs t.losses t.next t.turn).0;
+      to_one = (turn_to_one of_files.tells world t.done outs t.losses t.next t.turn).1;
+      are_open = λ told. (after_turn of_ledger.stands of_files.tells (of_link.story k) s world left t.rest
+          t.done
+          outs t.losses t.next stood t.whole t.turn (are told)).sessions;
+    };
+    can_close = λ told. (after_turn of_ledger.stands of_files.tells (of_link.story k) s world left t.rest
+        t.done
+        outs t.losses t.next stood t.whole t.turn (are told)).closing;
+  }
+
+  -- what was lost in a turn, and in sending what it gave
+  turn_rose : (s turned later : State G) (files files' : A) (k k' : K) (xs ys : List Device)
+      → ((of_link : ℕ) → Rose (failed_calls of_ledger of_files of_link s.ledger files)
+      (failed_calls of_ledger of_files of_link turned.ledger files') xs)
+      → OfLink ys → RoseBy (of_link.faults k) (of_link.faults k') (failures device.link ys)
+      → later.ledger ≡ turned.ledger
+      → Rose (failed of_ledger of_files of_link (snapshot s files k))
+      (failed of_ledger of_files of_link (snapshot later files' k')) (xs ++ ys)
+  turn_rose s turned later files files' k k' xs ys in_turn alone in_sending same =
+      rw same (all_rose_on (failed of_ledger of_files of_link (snapshot s files k))
+      (failed of_ledger of_files of_link (snapshot turned files' k))
+      (failed of_ledger of_files of_link (snapshot turned files' k')) xs ys (in_turn (of_link.faults k))
+      (link_rose (of_link.faults k) (of_link.faults k') (of_files.faults files')
+      (of_ledger.faults turned.ledger)
+      ys alone in_sending))
+
+  -- one more turn, and what it gave, sent and closed
+  pub progress_more : (first : World) (all' : List Event) (before : Snapshot G A K) (s turned later : State G)
+      (files files' : A) (k k' : K) (outs : Outs)
+      → (p : Progress of_ledger of_files of_link first all' before (snapshot s files k))
+      → (t : TookTurn of_ledger of_files s turned files files' p.world p.left outs)
+      → Delivered of_ledger.stands of_link.tells t.next t.rest outs turned (of_link.story k)
+      (of_link.faults k)
+      later (of_link.story k') (of_link.faults k')
+      → Progress of_ledger of_files of_link first all' before (snapshot later files' k')
+  progress_more first all' before s turned later files files' k k' outs p t d =
+      let alone = sending_loses t.next outs.messages outs.closing d.sent d.closings d.losses d.next d.delivers
+      in
+      record {
+        done = p.done ++ t.done;
+        left = t.rest;
+        messages = p.messages ++ d.sent;
+        closings = p.closings ++ d.closings;
+        losses = p.losses ++ (t.losses ++ d.losses);
+        world = d.next;
+        whole = p.whole ∙ ap (λ (l : List Event). p.done ++ l) t.whole
+            ∙ sym (append_assoc p.done t.done t.rest);
+        turns = more p.done p.messages p.closings p.losses p.world t.done outs t.losses t.next d.sent
+            d.closings
+            d.losses d.next p.turns t.turn d.delivers;
+        stood = d.stood;
+        went = record {
+          story = λ told. goes_more (of_link.story before.link) (of_link.story k) (of_link.story k') [] []
+              p.messages d.sent p.closings d.closings (p.went.story told) (d.story told);
+          rose = all_rose_on (failed of_ledger of_files of_link before)
+              (failed of_ledger of_files of_link (snapshot s files k))
+              (failed of_ledger of_files of_link (snapshot later files' k')) p.losses (t.losses ++ d.losses)
+              p.went.rose (turn_rose s turned later files files' k k' t.losses d.losses t.rose alone d.rose
+              d.ledger);
+        };
+        ready = record {
+          are_open = λ told. record {
+            sessions = d.are_open told;
+            surplus = λ q e.
+                let w = still_waiting of_ledger.stands of_files.tells s turned p.world p.left t.rest t.done
+                outs
+                t.losses t.next q p.stood t.whole t.turn t.stood (sym d.surplus ∙ e) in
+                let here = (p.ready.are_open told).surplus q w.waited in
+                let then' = w.stays here.1 in
+                d.others q told then'.1 here.0 then'.0;
+          };
+          grown = λ told. rw d.files (t.told told);
+        };
+      }
+
+  -- the work is done
+  pub finished : (first : World) (all' : List Event) (before : Snapshot G A K) (s turned : State G)
+      (files files' : A) (k : K)
+      → (p : Progress of_ledger of_files of_link first all' before (snapshot s files k))
+      → IsDone of_ledger.stands of_files.tells p.world p.left turned → turned.surplus ≡ None
+      → (of_ledger.faults turned.ledger ≡ of_ledger.faults s.ledger)
+      × (of_files.faults files' ≡ of_files.faults files)
+      → (of_files.tells → AllGrow (of_files.bytes files) (of_files.bytes files'))
+      → Finished of_ledger of_files of_link first all' before (snapshot turned files' k)
+  finished first all' before s turned files files' k p d unused same grows =
+      let both = turns_then of_files.tells first p.world p.world p.done p.left p.messages [] p.closings []
+      p.losses [] p.turns d.turns in
+      record {
+        messages = p.messages;
+        closings = p.closings;
+        losses = p.losses;
+        world = p.world;
+        turns = rw p.whole (rw (append-nil p.messages, append-nil p.closings, append-nil p.losses) at both);
+        still = d.still;
+        stood = d.stood;
+        went = record { story = p.went.story; rose = rw (same.0, same.1) p.went.rose };
+        ready = record {
+          are_open = λ told. record {
+            sessions = (p.ready.are_open told).sessions;
+            surplus = λ q e. absurd (let f = sym e ∙ unused in cc);
+          };
+          grown = λ told. all_grow_more p.world.side.files (of_files.bytes files) (of_files.bytes files')
+              (p.ready.grown told) (grows told);
+        };
+      }
+
+  -- a turn failed
+  pub stopped_turn : (leaves : Chain → Chain → Type 0) (first : World) (all' : List Event)
+      (before : Snapshot G A K) (s turned : State G) (files files' : A) (k : K) (stop : Stop) (e : StepFault)
+      → (p : Progress of_ledger of_files of_link first all' before (snapshot s files k))
+      → (t : TurnFailed of_ledger of_files s.ledger turned.ledger files files' p.world p.left e)
+      → leaves p.world.side.chain t.stops_at.next
+      → (of_files.tells → AllGrow (of_files.bytes files) (of_files.bytes files')) → stop ≡ stop_of e
+      → Stopped of_ledger of_files of_link leaves first all' stop before (snapshot turned files' k)
+  stopped_turn leaves first all' before s turned files files' k stop e p t left grows is =
+      let grown = λ (told : of_files.tells). all_grow_more p.world.side.files (of_files.bytes files)
+      (of_files.bytes files') (p.ready.grown told) (grows told) in
+      rw is (record {
+        done = p.done;
+        left = p.left;
+        whole = p.whole;
+        messages = p.messages;
+        closings = p.closings;
+        losses = p.losses;
+        world = p.world;
+        turns = p.turns;
+        sent = [];
+        closed = [];
+        lost = t.losses;
+        stops = t.stops;
+        grown = λ told. rw (within_files t.stops t.within) (grown told);
+        went = record {
+          story = λ told. rw (append-nil p.messages, append-nil p.closings) (p.went.story told);
+          rose = all_rose_on (failed of_ledger of_files of_link before)
+              (failed of_ledger of_files of_link (snapshot s files k))
+              (failed of_ledger of_files of_link (snapshot turned files' k)) p.losses t.losses p.went.rose
+              (t.rose (of_link.faults k));
+        };
+        flight = t.stops_at.next;
+        is_flight = within_flies e t.stops t.within (of_files.bytes files') t.stops_at.next grown
+            t.stops_at.flight t.stops_at.still;
+        crash = left;
+      })
+
+  -- an answer to the node was not sent
+  pub stopped_sending : (leaves : Chain → Chain → Type 0) (first : World) (all' : List Event)
+      (before : Snapshot G A K) (s turned later : State G) (files files' : A) (k k' : K) (outs : Outs)
+      (stop : Stop)
+      → (p : Progress of_ledger of_files of_link first all' before (snapshot s files k))
+      → (t : TookTurn of_ledger of_files s turned files files' p.world p.left outs)
+      → StoppedSending of_link.tells t.next outs.messages stop turned (of_link.story k) (of_link.faults k)
+      later
+      (of_link.story k') (of_link.faults k')
+      → leaves p.world.side.chain t.next.side.chain
+      → Stopped of_ledger of_files of_link leaves first all' stop before (snapshot later files' k')
+  stopped_sending leaves first all' before s turned later files files' k k' outs stop p t d crash =
+      let alone = both_of_link d.losses d.last
+      (sending_loses t.next d.front None d.sent d.closings d.losses d.next d.delivers)
+      (last_lost stop d.last d.lost) in
+      record {
+        done = p.done;
+        left = p.left;
+        whole = p.whole;
+        messages = p.messages;
+        closings = p.closings;
+        losses = p.losses;
+        world = p.world;
+        turns = p.turns;
+        sent = d.sent;
+        closed = d.closings;
+        lost = t.losses ++ (d.losses ++ d.last);
+        stops = unsent t.done t.rest outs t.losses t.next d.front d.more d.m d.losses d.last d.next t.whole
+            t.turn d.whole d.node d.delivers d.lost refl;
+        grown = t.told;
+        went = record {
+          story = λ told. goes_more (of_link.story before.link) (of_link.story k) (of_link.story k') [] []
+              p.messages d.sent p.closings d.closings (p.went.story told) (d.story told);
+          rose = all_rose_on (failed of_ledger of_files of_link before)
+              (failed of_ledger of_files of_link (snapshot s files k))
+              (failed of_ledger of_files of_link (snapshot later files' k')) p.losses
+              (t.losses ++ (d.losses ++ d.last)) p.went.rose
+              (turn_rose s turned later files files' k k' t.losses (d.losses ++ d.last) t.rose alone d.rose
+              d.ledger);
+        };
+        flight = t.next.side.chain;
+        is_flight = refl;
+        crash = crash;
+      }

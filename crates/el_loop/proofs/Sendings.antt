@@ -1,0 +1,373 @@
+-- The messages of a turn.
+use Rattle.std.proofs.Common.{◌≡◌, ◌≢◌, inl, inr, ℕ, ◌+◌, ◌==◌, true, false, List, [], ◌∷◌, ◌++◌, length, Some, None, refl, ap, sym, ◌∙◌, append-nil, append_assoc, IsTrue, eqb-true, eq-eqb, Option, take, drop, get_or, ◌<◌}
+use Rattle.std.specs.Prelude.{MatchBool}
+use Rattle.std.specs.Option.{option_to_list}
+use Rattle.std.specs.List.{AllByRecursion}
+use Rattle.std.proofs.lemmas.List.{take_more, drop_more, map-append, take-append-drop}
+use Rattle.el_outside.specs.Counts.{RoseBy}
+use Rattle.el_outside.specs.Story.{Story, Message, Closing, GoesOn, is_open}
+use Rattle.el_outside.specs.declared.link.Why.{Why}
+use Rattle.el_outside.specs.declared.link.SendFault.{SendFault}
+use Rattle.el_outside.specs.declared.link.SendFault.TheVariants as fault
+use Rattle.el_outside.proofs.Devices.{failures_on}
+use Rattle.el_outside.proofs.Stories.{goes_none, goes_more, rose_more, rose_none}
+use Rattle.el_chain.specs.Chains.{Chain}
+use Rattle.el_model.specs.World.{World, Event, is_client, without_client}
+use Rattle.el_outside.specs.Devices.{Device, link, failures}
+use Rattle.el_model.specs.Run.{lost_by, IsDeparture, Delivers, all, sends, loses as lets_go, to_others, unless_of, Stop}
+use Rattle.el_model.proofs.Cuts.{either}
+use Rattle.el_core.specs.State.{State, Stands}
+use Rattle.el_core.specs.Turn.{GoesTo, messages_of}
+use Rattle.el_loop.specs.declared.halt.Halt.{Halt}
+use Rattle.el_loop.specs.within.Sending.{stop_of, LossOf, Forgets, Sent, sent, loses, Unsent, AllOpen, Delivering, whole, broken, SentAll, StoppedSending, closing_left, first_some}
+use Rattle.el_loop.proofs.Openness.{closed_open, all_sent, all_others, client_open}
+
+-- a message to the node that was not sent
+pub unsent_node : {G : Type 0} (tells : Type 0) (p : ℕ) (f : SendFault) (reason : Why) (h : Halt)
+    (s : State G) (before after : Story) (low high : ℕ)
+    → p ≡ 0 → LossOf f reason h → (f ≡ fault.Gone → RoseBy low high 1) → (f ≡ fault.Memory → high ≡ low)
+    → (tells → after ≡ before)
+    → Unsent tells p (stop_of h) s before low s after high
+unsent_node tells p fault.Gone reason h s before after low high node lost gone memory same =
+    rw lost.1 (record {
+      node = node;
+      losses = link ∷ [];
+      lost = refl;
+      rose = gone refl;
+      same = refl;
+      story = same;
+    })
+unsent_node tells p fault.Memory reason h s before after low high node lost gone memory same =
+    rw lost.1 (record {
+      node = node;
+      losses = [];
+      lost = refl;
+      rose = rw (memory refl) (rose_none low);
+      same = refl;
+      story = same;
+    })
+
+-- why it is closed is a departure, which was counted
+lost_so : (f : SendFault) (reason : Why) (h : Halt) (low high : ℕ) → LossOf f reason h
+    → (f ≡ fault.Gone → RoseBy low high 1) → (f ≡ fault.Memory → high ≡ low)
+    → IsDeparture reason × RoseBy low high (failures link (lost_by reason))
+lost_so fault.Gone reason h low high lost gone memory = (inl lost.0, rw lost.0 (gone refl))
+lost_so fault.Memory reason h low high lost gone memory =
+    (inr lost.0, rw lost.0 (rw (memory refl) (rose_none low)))
+
+-- one to a client that was not sent
+pub lost_client : {G : Type 0} (stands : G → Chain → Type 0) (tells : Type 0) (m : Message) (f : SendFault)
+    (reason : Why) (h : Halt) (s next : State G) (before mid after : Story)
+    (low middle high : ℕ) → m.peer ≢ 0 → LossOf f reason h → (f ≡ fault.Gone → RoseBy low middle 1)
+    → (f ≡ fault.Memory → middle ≡ low) → high ≡ middle
+    → Forgets stands s m.peer next → (tells → mid ≡ before)
+    → (tells → MatchBool (is_open mid m.peer)
+    (GoesOn mid after [] [] (record { peer = m.peer; why = reason } ∷ [])) (after ≡ mid))
+    → Sent stands tells m (Some m.peer) s before low next after high
+lost_client stands tells m f reason h s next before mid after low middle high client lost gone memory still
+    forgets same closing =
+    let so = lost_so f reason h low middle lost gone memory in
+    loses reason refl client so.0 forgets (rw still so.1) (λ t open'.
+    let e = same t in
+    let c = rw e at (closing t) in
+    closed_open before after m.peer reason open' c)
+
+-- all of some messages are delivered
+all_delivered : (w : World) (ms : List Message) (c : Option Closing)
+    → Delivers w ms c ms (option_to_list c) [] w
+all_delivered w [] c = all w c
+all_delivered w (m ∷ ms) c = sends w m ms c ms (option_to_list c) [] w (all_delivered w ms c)
+
+-- some, then one is lost
+then_lost : (w : World) (front : List Message) (m : Message) (more : List Message) (c : Option Closing)
+    (reason : Why) → is_client m.peer w ≡ true → IsDeparture reason
+    → Delivers w (front ++ m ∷ more) c (front ++ to_others m.peer more)
+    (record { peer = m.peer; why = reason } ∷ option_to_list (unless_of m.peer c)) (lost_by reason ++ [])
+    (without_client m.peer w)
+then_lost w [] m more c reason client departure =
+    lets_go w m more c reason (to_others m.peer more) (option_to_list (unless_of m.peer c)) []
+    (without_client m.peer w) client departure
+    (all_delivered (without_client m.peer w) (to_others m.peer more) (unless_of m.peer c))
+then_lost w (x ∷ xs) m more c reason client departure =
+    sends w x (xs ++ m ∷ more) c (xs ++ to_others m.peer more) _ _ _
+    (then_lost w xs m more c reason client departure)
+
+-- what was sent, with the closing
+pub delivers : (w : World) (ms sent' : List Message) (cs : List Closing) (ls : List Device) (next : World)
+    (lost : Option ℕ) (c : Option Closing) → Delivering w ms sent' cs ls next lost
+    → Delivers w ms c sent' (cs ++ option_to_list (closing_left lost c)) ls next
+delivers w ms sent' cs ls next None c (whole is none lossless same) =
+    rw (is, none, lossless, same) (all_delivered w ms c)
+delivers w ms sent' cs ls next (Some p) c
+    (broken front m more reason is client departure are closed' lost' gone) =
+    rw (is, are, closed', lost', gone) (rw append-nil at (then_lost w front m more c reason client departure))
+
+-- before the first message
+pub sent_none : {G : Type 0} (stands : G → Chain → Type 0) (tells : Type 0) (w : World) (rest : List Event)
+    (s : State G) (story : Story) (low : ℕ)
+    → Stands stands s w rest → (tells → AllOpen story w.sessions)
+    → SentAll stands tells w rest [] None s story low s story low
+sent_none stands tells w rest s story low stood are = record {
+  sent = [];
+  closings = [];
+  losses = [];
+  next = w;
+  delivers = whole refl refl refl refl;
+  stood = stood;
+  ledger = refl;
+  surplus = refl;
+  story = λ t. goes_none story;
+  are_open = are;
+  rose = rose_none low;
+}
+
+same_not : (p : ℕ) → (p == p) ≡ false → ⊥
+same_not p e = absurd (let f = eq-eqb p p refl in cc)
+
+others_but : (p : ℕ) (xs : List Message) (m : Message) → m.peer ≡ p
+    → to_others p (xs ++ m ∷ []) ≡ to_others p xs
+others_but p [] m is = elim (either (m.peer == p)) [
+  | inl h ↦ rw h refl
+  | inr h ↦ absurd (let e = rw is at h in same_not p e)
+]
+others_but p (x ∷ xs) m is = elim (either (x.peer == p)) [
+  | inl h ↦ rw h (others_but p xs m is)
+  | inr h ↦ rw h (ap (λ (l : List Message). x ∷ l) (others_but p xs m is))
+]
+
+others_and : (p : ℕ) (xs : List Message) (m : Message) → m.peer ≢ p
+    → to_others p (xs ++ m ∷ []) ≡ to_others p xs ++ m ∷ []
+others_and p [] m not_p = elim (either (m.peer == p)) [
+  | inl h ↦ absurd (not_p (eqb-true m.peer p h))
+  | inr h ↦ rw h refl
+]
+others_and p (x ∷ xs) m not_p = elim (either (x.peer == p)) [
+  | inl h ↦ rw h (others_and p xs m not_p)
+  | inr h ↦ rw h (ap (λ (l : List Message). x ∷ l) (others_and p xs m not_p))
+]
+
+step_skip : (w : World) (ms sent' : List Message) (cs : List Closing) (ls : List Device) (next : World)
+    (m : Message) (p : ℕ) → m.peer ≡ p
+    → Delivering w ms sent' cs ls next (Some p) → Delivering w (ms ++ m ∷ []) sent' cs ls next (Some p)
+step_skip w ms sent' cs ls next m p is
+    (broken front x more reason split client departure are closed' lost' gone) =
+    broken front x (more ++ m ∷ []) reason (rw split (append_assoc front (x ∷ more) (m ∷ []))) client
+    departure
+    (are ∙ ap (λ (l : List Message). front ++ l) (sym (others_but x.peer more m is))) closed' lost' gone
+
+step_sent : (w : World) (ms sent' : List Message) (cs : List Closing) (ls : List Device) (next : World)
+    (m : Message) (lost : Option ℕ) → lost ≢ Some m.peer
+    → Delivering w ms sent' cs ls next lost → Delivering w (ms ++ m ∷ []) (sent' ++ m ∷ []) cs ls next lost
+step_sent w ms sent' cs ls next m None differs (whole is none lossless same) =
+    whole (rw is refl) none lossless same
+step_sent w ms sent' cs ls next m (Some p) differs
+    (broken front x more reason split client departure are closed' lost' gone) =
+    broken front x (more ++ m ∷ []) reason (rw split (append_assoc front (x ∷ more) (m ∷ []))) client
+    departure
+    (rw are (append_assoc front (to_others x.peer more) (m ∷ [])
+    ∙ ap (λ (l : List Message). front ++ l)
+    (sym (others_and x.peer more m (λ e. differs (ap Some (sym e))))))) closed' lost' gone
+
+step_lost : (w : World) (ms sent' : List Message) (cs : List Closing) (ls : List Device) (next : World)
+    (m : Message) (reason : Why) → is_client m.peer w ≡ true → IsDeparture reason
+    → Delivering w ms sent' cs ls next None
+    → Delivering w (ms ++ m ∷ []) sent' (cs ++ record { peer = m.peer; why = reason } ∷ [])
+    (ls ++ lost_by reason) (without_client m.peer w) (Some m.peer)
+step_lost w ms sent' cs ls next m reason client departure (whole is none lossless same) =
+    broken ms m [] reason refl client departure (is ∙ sym (append-nil ms)) (rw none refl)
+    (rw lossless refl) refl
+
+same_next : (w : World) (ms sent' : List Message) (cs : List Closing) (ls : List Device) (next : World)
+    → Delivering w ms sent' cs ls next None → next ≡ w
+same_next w ms sent' cs ls next (whole is none lossless same) = same
+
+-- one more message, to a client that is lost
+pub sent_skip : {G : Type 0} (stands : G → Chain → Type 0) (tells : Type 0) (w : World) (rest : List Event)
+    (ms : List Message) (m : Message) (lost : Option ℕ) (s now : State G)
+    (before after : Story) (low high : ℕ) → lost ≡ Some m.peer
+    → SentAll stands tells w rest ms lost s before low now after high
+    → SentAll stands tells w rest (ms ++ m ∷ []) lost s before low now after high
+sent_skip stands tells w rest ms m lost s now before after low high is far = record {
+  sent = far.sent;
+  closings = far.closings;
+  losses = far.losses;
+  next = far.next;
+  delivers = rw is (step_skip w ms far.sent far.closings far.losses far.next m m.peer refl
+      (rw is at far.delivers));
+  stood = far.stood;
+  ledger = far.ledger;
+  surplus = far.surplus;
+  story = far.story;
+  are_open = far.are_open;
+  rose = far.rose;
+}
+
+-- one more, which was sent
+sent_go : {G : Type 0} (stands : G → Chain → Type 0) (tells : Type 0) (w : World) (rest : List Event)
+    (ms : List Message) (m : Message) (lost : Option ℕ) (s now later : State G)
+    (before mid after : Story) (low middle high : ℕ) → lost ≢ Some m.peer → later ≡ now → high ≡ middle
+    → (tells → GoesOn mid after [] (m ∷ []) [])
+    → SentAll stands tells w rest ms lost s before low now mid middle
+    → SentAll stands tells w rest (ms ++ m ∷ []) lost s before low later after high
+sent_go stands tells w rest ms m lost s now later before mid after low middle high differs same still goes
+    far = record {
+      sent = far.sent ++ m ∷ [];
+      closings = far.closings;
+      losses = far.losses;
+      next = far.next;
+      delivers = step_sent w ms far.sent far.closings far.losses far.next m lost differs far.delivers;
+      stood = rw same far.stood;
+      ledger = rw same far.ledger;
+      surplus = rw same far.surplus;
+      story = λ t.
+          let both = goes_more before mid after [] [] far.sent (m ∷ []) far.closings []
+          (far.story t) (goes t) in
+          rw (append-nil far.closings) at both;
+      are_open = λ t. all_sent mid after far.next.sessions (m ∷ []) (goes t) (far.are_open t);
+      rose = rw still far.rose;
+    }
+
+-- one more, whose client is lost
+sent_lost : {G : Type 0} (stands : G → Chain → Type 0) (tells : Type 0) (w : World) (rest : List Event)
+    (ms : List Message) (m : Message) (reason : Why) (s now later : State G)
+    (before mid after : Story) (low middle high : ℕ) → is_client m.peer w ≡ true → s.surplus ≡ None
+    → IsDeparture reason → Forgets stands now m.peer later
+    → RoseBy middle high (failures link (lost_by reason))
+    → (tells → IsTrue (is_open mid m.peer)
+    → GoesOn mid after [] [] (record { peer = m.peer; why = reason } ∷ []))
+    → SentAll stands tells w rest ms None s before low now mid middle
+    → SentAll stands tells w rest (ms ++ m ∷ []) (Some m.peer) s before low later after high
+sent_lost stands tells w rest ms m reason s now later before mid after low middle high client alone departure
+    forgets rose closing far =
+    let same = same_next w ms far.sent far.closings far.losses far.next far.delivers in
+    record {
+      sent = far.sent;
+      closings = far.closings ++ record { peer = m.peer; why = reason } ∷ [];
+      losses = far.losses ++ lost_by reason;
+      next = without_client m.peer w;
+      delivers = step_lost w ms far.sent far.closings far.losses far.next m reason client departure
+          far.delivers;
+      stood = forgets.stood (far.surplus ∙ alone) w rest (rw same at far.stood);
+      ledger = forgets.ledger ∙ far.ledger;
+      surplus = forgets.surplus ∙ far.surplus;
+      story = λ t.
+          let are = rw same at (far.are_open t) in
+          let goes = closing t (client_open mid w.sessions m.peer client are) in
+          let both = goes_more before mid after [] [] far.sent [] far.closings
+          (record { peer = m.peer; why = reason } ∷ []) (far.story t) goes in
+          rw (append-nil far.sent) at both;
+      are_open = λ t.
+          let are = rw same at (far.are_open t) in
+          let goes = closing t (client_open mid w.sessions m.peer client are) in
+          all_others mid after w.sessions m.peer reason goes are;
+      rose = rw (failures_on link far.losses (lost_by reason)) (rose_more low middle high
+          (failures link far.losses)
+          (failures link (lost_by reason)) far.rose rose);
+    }
+
+all_mid : (P : Message → Type 0) (xs ys : List Message) (m : Message) → AllByRecursion P (xs ++ m ∷ ys) → P m
+all_mid P [] ys m h = h.0
+all_mid P (x ∷ xs) ys m h = all_mid P xs ys m h.1
+
+all_front : (P : Message → Type 0) (xs ys : List Message) → AllByRecursion P (xs ++ ys) → AllByRecursion P xs
+all_front P [] ys h = tt
+all_front P (x ∷ xs) ys h = (h.0, all_front P xs ys h.1)
+
+-- the client that is lost is the one to which all messages go
+lost_is_one : (w : World) (ms sent' : List Message) (cs : List Closing) (ls : List Device) (next : World)
+    (q p : ℕ) → Delivering w ms sent' cs ls next (Some q) → AllByRecursion (λ (m : Message). m.peer ≡ p) ms
+    → q ≡ p
+lost_is_one w ms sent' cs ls next q p
+    (broken front x more reason split client departure are closed' lost' gone) to_one =
+    all_mid (λ (m : Message). m.peer ≡ p) front more x (rw split at to_one)
+
+to_client : (next : World) (surplus : Option ℕ) (m : Message) → m.peer ≢ 0 → GoesTo next surplus m
+    → (is_client m.peer next ≡ true) × (surplus ≡ None)
+to_client next surplus m client (inl node) = absurd (client node)
+to_client next surplus m client (inr is) = is
+
+-- one more, to which this happened
+pub sent_more : {G : Type 0} (stands : G → Chain → Type 0) (tells : Type 0) (w : World) (rest : List Event)
+    (ms : List Message) (m : Message) (lost out : Option ℕ)
+    (s now later : State G) (before mid after : Story) (low middle high : ℕ) (p : ℕ)
+    → AllByRecursion (λ (x : Message). x.peer ≡ p) ms → m.peer ≡ p → GoesTo w s.surplus m → lost ≢ Some m.peer
+    → Sent stands tells m out now mid middle later after high
+    → SentAll stands tells w rest ms lost s before low now mid middle
+    → SentAll stands tells w rest (ms ++ m ∷ []) (first_some out lost) s before low later after high
+sent_more stands tells w rest ms m lost out s now later before mid after low middle high p to_one here goes_to
+    differs (sent is same still goes) far =
+    rw is (sent_go stands tells w rest ms m lost s now later before mid after low middle high differs same
+    still goes far)
+sent_more stands tells w rest ms m None out s now later before mid after low middle high p to_one here goes_to
+    differs (loses reason is client departure forgets rose closing) far =
+    let to = to_client w s.surplus m client goes_to in
+    rw is (sent_lost stands tells w rest ms m reason s now later before mid after low middle high to.0 to.1
+    departure forgets rose closing far)
+sent_more stands tells w rest ms m (Some q) out s now later before mid after low middle high p to_one here
+    goes_to differs (loses reason is client departure forgets rose closing) far =
+    let first = lost_is_one w ms far.sent far.closings far.losses far.next q p far.delivers to_one in
+    absurd (differs (ap Some (first ∙ sym here)))
+
+-- the messages before one that was not sent
+front_delivers : (w : World) (ms sent' : List Message) (cs : List Closing) (ls : List Device) (next : World)
+    (lost : Option ℕ) → Delivering w ms sent' cs ls next lost
+    → Delivers w ms None sent' cs ls next
+front_delivers w ms sent' cs ls next None d = rw append-nil at (delivers w ms sent' cs ls next None None d)
+front_delivers w ms sent' cs ls next (Some p) d =
+    rw append-nil at (delivers w ms sent' cs ls next (Some p) None d)
+
+pub stopped_at : {G : Type 0} (stands : G → Chain → Type 0) (tells : Type 0) (w : World) (rest : List Event)
+    (all' front more : List Message) (m : Message) (lost : Option ℕ) (p : ℕ)
+    (stop : Stop) (s now later : State G) (before mid after : Story) (low middle high : ℕ)
+    → all' ≡ front ++ m ∷ more → m.peer ≡ p
+    → Unsent tells p stop now mid middle later after high
+    → SentAll stands tells w rest front lost s before low now mid middle
+    → StoppedSending tells w all' stop s before low later after high
+stopped_at {G} stands tells w rest all' front more m lost p stop s now later before mid after low middle high
+    split is un far = record {
+      front = front;
+      m = m;
+      more = more;
+      whole = split;
+      node = is ∙ un.node;
+      sent = far.sent;
+      closings = far.closings;
+      losses = far.losses;
+      last = un.losses;
+      next = far.next;
+      delivers = front_delivers w front far.sent far.closings far.losses far.next lost far.delivers;
+      lost = un.lost;
+      ledger = ap (λ (x : State G). x.ledger) un.same ∙ far.ledger;
+      story = λ t. rw (un.story t) (far.story t);
+      rose = rw (failures_on link far.losses un.losses) (rose_more low middle high (failures link far.losses)
+          (failures link un.losses) far.rose un.rose);
+    }
+
+abbrev pub message_of : ℕ × List ℕ → Message
+message_of x = record { peer = x.0; text = x.1 }
+
+-- one message of some
+pub more_messages : (xs : List (ℕ × List ℕ)) (i : ℕ) (r : ℕ × List ℕ) → i < length xs → r ≡ get_or xs i r
+    → messages_of (take (i + 1) xs) ≡ messages_of (take i xs) ++ message_of r ∷ []
+more_messages xs i r lt is =
+    ap messages_of (take_more xs i r lt) ∙ map-append message_of (take i xs) (get_or xs i r ∷ [])
+    ∙ ap (λ (x : ℕ × List ℕ). messages_of (take i xs) ++ message_of x ∷ []) (sym is)
+
+pub here_messages : (xs : List (ℕ × List ℕ)) (i : ℕ) (r : ℕ × List ℕ) → i < length xs → r ≡ get_or xs i r
+    → messages_of xs ≡ messages_of (take i xs) ++ message_of r ∷ messages_of (drop (i + 1) xs)
+here_messages xs i r lt is =
+    ap messages_of (sym (take-append-drop i xs)) ∙ map-append message_of (take i xs) (drop i xs)
+    ∙ ap (λ (l : List (ℕ × List ℕ)). messages_of (take i xs) ++ messages_of l) (drop_more xs i r lt)
+    ∙ ap (λ (x : ℕ × List ℕ). messages_of (take i xs) ++ message_of x ∷ messages_of (drop (i + 1) xs))
+    (sym is)
+
+pub message_goes : (P : Message → Type 0) (xs : List (ℕ × List ℕ)) (i : ℕ) (r : ℕ × List ℕ) → i < length xs
+    → r ≡ get_or xs i r → AllByRecursion P (messages_of xs) → P (message_of r)
+message_goes P xs i r lt is h = all_mid P (messages_of (take i xs)) (messages_of (drop (i + 1) xs))
+    (message_of r) (rw (here_messages xs i r lt is) at h)
+
+pub front_goes : (P : Message → Type 0) (xs : List (ℕ × List ℕ)) (i : ℕ) (r : ℕ × List ℕ) → i < length xs
+    → r ≡ get_or xs i r → AllByRecursion P (messages_of xs) → AllByRecursion P (messages_of (take i xs))
+front_goes P xs i r lt is h =
+    all_front P (messages_of (take i xs)) (message_of r ∷ messages_of (drop (i + 1) xs))
+    (rw (here_messages xs i r lt is) at h)

@@ -1,0 +1,114 @@
+-- How a run over the link ends.
+use Rattle.std.specs.Prelude.{◌≡◌, ◌⊎◌, ℕ, ◌+◌, ◌≤◌, List, [], ◌∷◌, ◌++◌, length, map, Bool, true, false, ◌==◌}
+use Rattle.std.specs.List.{AllByRecursion}
+use Rattle.el_outside.specs.Counts.{RoseBy}
+use Rattle.el_outside.specs.Files.{AllGrow}
+use Rattle.el_outside.specs.Story.{ArrivalWithBytes, opened, brought, closed, quiet, ended, Message, Closing}
+use Rattle.el_chain.specs.Chains.{Chain}
+use Rattle.el_model.specs.World.{World, without_node}
+use Rattle.el_outside.specs.Devices.{Device, link}
+use Rattle.el_model.specs.Run.{Run, Halts, Stop, by_disk, by_link, by_memory, files_left}
+use Rattle.el_model.specs.Flights.{acked, Flies}
+use Rattle.el_outside.specs.Devices.{Rose}
+use Rattle.el_loop.specs.Counts.{Counts}
+use Rattle.el_loop.specs.declared.end.End.{End}
+use Rattle.el_loop.specs.declared.end.End.TheVariants as end
+
+-- the arrival ends the run: nothing comes any more, or peer 0 left
+abbrev pub is_end : ArrivalWithBytes → Bool
+is_end (opened p) = false
+is_end (brought p bytes) = false
+is_end (closed p) = p == 0
+is_end quiet = false
+is_end ended = true
+
+-- no arrival ends the run
+abbrev pub NoneEnds : List ArrivalWithBytes → Type 0
+NoneEnds arrivals = AllByRecursion (λ a. is_end a ≡ false) arrivals
+
+-- the last arrival ends the run, and none before
+pub record LastEnds (arrivals : List ArrivalWithBytes) : Type 0 where
+  pub front : List ArrivalWithBytes
+  pub last : ArrivalWithBytes
+  pub whole : arrivals ≡ front ++ last ∷ []
+  pub before : NoneEnds front
+  pub ends : is_end last ≡ true
+
+-- no arrival before the last ends the run
+pub record NoneEndsBefore (arrivals : List ArrivalWithBytes) : Type 0 where
+  pub front : List ArrivalWithBytes
+  pub last : ArrivalWithBytes
+  pub whole : arrivals ≡ front ++ last ∷ []
+  pub before : NoneEnds front
+
+-- What went over the link in a call: what was taken, sent and closed.
+pub record Traffic : Type 0 where
+  pub arrivals : List ArrivalWithBytes
+  pub messages : List Message
+  pub closings : List Closing
+
+-- nothing was taken, sent or closed
+abbrev pub no_traffic : Traffic
+no_traffic = record { arrivals = []; messages = []; closings = [] }
+
+-- the last call of `next` failed, or none did
+abbrev pub next_failed : List Device
+next_failed = link ∷ []
+
+-- Each call of `next` brought an arrival, or failed. Each failed call of a device is one of those, or one
+-- that something was answered or closed for.
+pub record IsCounted (c : Counts) (t : Traffic) (losses failed : List Device) : Type 0 where
+  pub calls : RoseBy c.calls_before c.calls_after (length t.arrivals + length failed)
+  pub turns : length t.arrivals + length failed ≤ c.turns
+  pub rose : Rose c.faults_before c.faults_after (losses ++ failed)
+
+-- how arrivals are taken, with a node or without one
+abbrev pub taken : Bool → List ArrivalWithBytes → List ArrivalWithBytes
+taken true arrivals = arrivals
+taken false arrivals = map without_node arrivals
+
+-- The traffic is that of a run from the first world, all turns of which were made. `tells` is whether the
+-- block files tell their bytes, and `files` are those as they are in the end. `leaves` says of two chains
+-- that all that a crash may leave in the end stands for the one, which is acknowledged, or for the other,
+-- which is in flight.
+pub record IsRun (tells : Type 0) (first : World) (node : Bool) (leaves : Chain → Chain → Type 0)
+    (files : ℕ → List ℕ) (c : Counts) (t : Traffic) (failed : List Device) : Type 0 where
+  pub losses : List Device
+  pub world : World
+  pub run : Run tells first (taken node t.arrivals) t.messages t.closings losses world
+  pub grown : tells → AllGrow world.side.files files
+  pub counted : IsCounted c t losses failed
+  pub crash : leaves world.side.chain world.side.chain
+
+-- The traffic is that of a run that stopped so in its last arrival. `files` are the block files as they are
+-- in the end: they have all that each turn had of them.
+pub record IsHalted (tells : Type 0) (first : World) (node : Bool) (leaves : Chain → Chain → Type 0)
+    (files : ℕ → List ℕ) (c : Counts) (t : Traffic) (stop : Stop) : Type 0 where
+  pub losses : List Device
+  pub halts : Halts tells first stop (taken node t.arrivals) t.messages t.closings losses
+  pub grown : tells → AllGrow (files_left halts.stops) files
+  pub counted : IsCounted c t losses []
+  pub last : NoneEndsBefore t.arrivals
+  pub flight : Chain
+  pub is_flight : Flies halts.stops files flight
+  pub crash : leaves (acked halts.stops) flight
+
+-- How a run ends.
+abbrev pub RunEnds : Type 0 → World → Bool → (Chain → Chain → Type 0) → (ℕ → List ℕ) → Counts → Traffic
+    → End → Type 0
+-- nothing comes any more, or peer 0 left
+RunEnds tells first node leaves files c t end.Ended =
+    IsRun tells first node leaves files c t [] × LastEnds t.arrivals
+-- the last call of `next` failed, or an answer to the node couldn't be sent
+RunEnds tells first node leaves files c t end.LinkFailed =
+    (IsRun tells first node leaves files c t next_failed × NoneEnds t.arrivals)
+    ⊎ IsHalted tells first node leaves files c t by_link
+-- all calls of `next` were made, and none ended the run
+RunEnds tells first node leaves files c t end.TurnsSpent =
+    IsRun tells first node leaves files c t [] × NoneEnds t.arrivals × (length t.arrivals ≡ c.turns)
+-- a call of the index's device failed in a turn of the node
+RunEnds tells first node leaves files c t end.DiskFailed =
+    IsHalted tells first node leaves files c t by_disk
+-- no memory was found for bytes of the node, for a new client, in a turn of the node, or for an answer to it
+RunEnds tells first node leaves files c t end.OutOfMemory =
+    IsHalted tells first node leaves files c t by_memory

@@ -1,0 +1,170 @@
+-- What the server has done of an arrival's events, and what went over the link meanwhile.
+use Rattle.std.specs.Prelude.{◌≡◌, ◌≤◌, ◌==◌, ℕ, false, List, [], ◌++◌, length, IsTrue, Option, None, Some, Bool, if◌then◌else◌}
+use Rattle.el_outside.specs.declared.archive.Archive as archive
+use Rattle.el_outside.specs.declared.link.Link as link
+use Rattle.el_outside.specs.Counts.{RoseBy}
+use Rattle.el_outside.specs.Devices as device
+use Rattle.el_outside.specs.Devices.{Device, failures, Faults, Rose}
+use Rattle.el_outside.specs.Files.{AllGrow}
+use Rattle.el_outside.specs.Story.{Story, ArrivalWithBytes, Message, Closing, GoesOn, is_open}
+use Rattle.el_chain.specs.Chains.{Chain}
+use Rattle.el_model.specs.declared.ledger.Ledger as ledger
+use Rattle.el_model.specs.LedgerCalls.{failed_calls}
+use Rattle.el_model.specs.World.{World, Event, is_client, without_node, IsStill, Outs}
+use Rattle.el_model.specs.Run.{Stop, Turns, Stops, files_at, StopsIn, files_left, Delivers, Run}
+use Rattle.el_model.specs.Flights.{acked, FliesAt, Flies}
+use Rattle.el_core.specs.State.{State, Stands}
+use Rattle.el_loop.specs.Runs.{NoneEnds, taken}
+use Rattle.el_loop.specs.within.Sending.{AllOpen, CanSend}
+
+-- the clients of the world, and the one too many, are open
+pub record ClientsAreOpen {G : Type 0} (s : State G) (world : World) (story : Story) : Type 0 where
+  pub sessions : AllOpen story world.sessions
+  pub surplus : (p : ℕ) → s.surplus ≡ Some p → IsTrue (is_open story p) × (is_client p world ≡ false)
+
+-- the client to close is open, and none of the world
+abbrev pub CanClose : World → Story → Option Closing → Type 0
+CanClose next story None = Unit {0}
+CanClose next story (Some c) = IsTrue (is_open story c.peer) × (is_client c.peer next ≡ false)
+
+-- this peer is not the one to close
+abbrev pub IsNotClosed : ℕ → Option Closing → Type 0
+IsNotClosed p None = Unit {0}
+IsNotClosed p (Some c) = (p == c.peer) ≡ false
+
+-- What a turn gave can be sent and closed.
+pub record CanDeliver {G : Type 0} (stands : G → Chain → Type 0) (tells : Type 0) (s : State G) (next : World)
+    (rest : List Event) (outs : Outs) (story : Story) : Type 0 where
+  pub can_send : CanSend stands tells s next rest story outs.messages
+  pub can_close : tells → CanClose next story outs.closing
+
+-- It was sent and closed, as far as no client was lost.
+pub record Delivered {G : Type 0} (stands : G → Chain → Type 0) (tells : Type 0) (world : World)
+    (rest : List Event) (outs : Outs) (s : State G) (before : Story) (low : ℕ) (now : State G) (after : Story)
+    (high : ℕ) : Type 0 where
+  pub sent : List Message
+  pub closings : List Closing
+  pub losses : List Device
+  pub next : World
+  pub delivers : Delivers world outs.messages outs.closing sent closings losses next
+  pub stood : Stands stands now next rest
+  pub ledger : now.ledger ≡ s.ledger
+  pub surplus : now.surplus ≡ s.surplus
+  pub files : next.side.files ≡ world.side.files
+  pub story : tells → GoesOn before after [] sent closings
+  pub are_open : tells → AllOpen after next.sessions
+  pub others : (q : ℕ) → tells → IsNotClosed q outs.closing → IsTrue (is_open before q)
+      → is_client q world ≡ false → IsTrue (is_open after q) × (is_client q next ≡ false)
+  pub rose : RoseBy low high (failures device.link losses)
+
+-- the server, the block files and the link between two calls
+pub record Snapshot (G A K : Type 0) : Type 0 where
+  pub server : State G
+  pub files : A
+  pub link : K
+
+abbrev pub snapshot : {G A K : Type 0} → State G → A → K → Snapshot G A K
+snapshot server files link = record { server = server; files = files; link = link }
+
+-- an arrival as it is taken, with a node or without one
+abbrev pub taken_one : Bool → ArrivalWithBytes → ArrivalWithBytes
+taken_one node a = if node then a else without_node a
+
+-- So many calls of `next` were made so far, and no count of failed calls fell.
+pub record CountedSoFar (calls calls_before calls_after : ℕ) (before after : Faults) : Type 0 where
+  pub called : RoseBy calls_before calls_after calls
+  pub more : (device : Device) → before device ≤ after device
+
+module _ {G A K : Type 0} (of_ledger : ledger.Ghosts G) (of_files : archive.Ghosts A)
+    (of_link : link.Ghosts K) where
+  -- how often calls of the devices have failed
+  abbrev pub failed : Snapshot G A K → Faults
+  failed now = failed_calls of_ledger of_files (of_link.faults now.link) now.server.ledger now.files
+
+  -- The world's clients are open, and the block files have what the world has of them.
+  pub record IsReady (world : World) (now : Snapshot G A K) : Type 0 where
+    pub are_open : of_link.tells → ClientsAreOpen now.server world (of_link.story now.link)
+    pub grown : of_files.tells → AllGrow world.side.files (of_files.bytes now.files)
+
+  -- This went over the link meanwhile, and each failed call is one of these losses.
+  pub record WentOn (before now : Snapshot G A K) (arrivals : List ArrivalWithBytes) (messages : List Message)
+      (closings : List Closing) (losses : List Device) : Type 0 where
+    pub story : of_link.tells
+        → GoesOn (of_link.story before.link) (of_link.story now.link) arrivals messages closings
+    pub rose : Rose (failed before) (failed now) losses
+
+  -- Of these events some are done, and the others are left.
+  pub record Progress (first : World) (all : List Event) (before now : Snapshot G A K) : Type 0 where
+    pub done : List Event
+    pub left : List Event
+    pub messages : List Message
+    pub closings : List Closing
+    pub losses : List Device
+    pub world : World
+    pub whole : all ≡ done ++ left
+    pub turns : Turns of_files.tells first done messages closings losses world
+    pub stood : Stands of_ledger.stands now.server world left
+    pub went : WentOn before now [] messages closings losses
+    pub ready : IsReady world now
+
+  -- All of these events are done, and the node's last line leaves nothing to do.
+  pub record Finished (first : World) (all : List Event) (before now : Snapshot G A K) : Type 0 where
+    pub messages : List Message
+    pub closings : List Closing
+    pub losses : List Device
+    pub world : World
+    pub turns : Turns of_files.tells first all messages closings losses world
+    pub still : IsStill world
+    pub stood : Stands of_ledger.stands now.server world []
+    pub went : WentOn before now [] messages closings losses
+    pub ready : IsReady world now
+
+  -- The run stops among the turns for these events. `leaves` says of two chains that what a crash leaves
+  -- stands for the one or for the other.
+  pub record Stopped (leaves : Chain → Chain → Type 0) (first : World) (all : List Event) (stop : Stop)
+      (before now : Snapshot G A K) : Type 0 where
+    pub done : List Event
+    pub left : List Event
+    pub whole : all ≡ done ++ left
+    pub messages : List Message
+    pub closings : List Closing
+    pub losses : List Device
+    pub world : World
+    pub turns : Turns of_files.tells first done messages closings losses world
+    pub sent : List Message
+    pub closed : List Closing
+    pub lost : List Device
+    pub stops : Stops of_files.tells world left stop sent closed lost
+    pub grown : of_files.tells → AllGrow (files_at stops) (of_files.bytes now.files)
+    pub went : WentOn before now [] (messages ++ sent) (closings ++ closed) (losses ++ lost)
+    pub flight : Chain
+    pub is_flight : FliesAt stops (of_files.bytes now.files) flight
+    pub crash : leaves world.side.chain flight
+
+  -- The run stops in this arrival.
+  pub record StoppedIn (leaves : Chain → Chain → Type 0) (world : World) (arrival : ArrivalWithBytes)
+      (stop : Stop) (before now : Snapshot G A K) : Type 0 where
+    pub messages : List Message
+    pub closings : List Closing
+    pub losses : List Device
+    pub stops : StopsIn of_files.tells world arrival stop messages closings losses
+    pub grown : of_files.tells → AllGrow (files_left stops) (of_files.bytes now.files)
+    pub went : WentOn before now [] messages closings losses
+    pub flight : Chain
+    pub is_flight : Flies stops (of_files.bytes now.files) flight
+    pub crash : leaves (acked stops) flight
+
+  -- The arrivals so far, none of which ended the run: as many as `next` was called.
+  pub record Going (first : World) (node : Bool) (count : ℕ) (before now : Snapshot G A K) : Type 0 where
+    pub arrivals : List ArrivalWithBytes
+    pub messages : List Message
+    pub closings : List Closing
+    pub losses : List Device
+    pub world : World
+    pub run : Run of_files.tells first (taken node arrivals) messages closings losses world
+    pub stood : Stands of_ledger.stands now.server world []
+    pub none_ends : NoneEnds arrivals
+    pub counted : length arrivals ≡ count
+    pub went : WentOn before now arrivals messages closings losses
+    pub calls : RoseBy (of_link.calls before.link) (of_link.calls now.link) (length arrivals)
+    pub ready : IsReady world now

@@ -1,0 +1,185 @@
+// The run over the arrivals.
+ghost use Rattle.std.specs.Prelude.{◌≡◌, ◌≤◌, ℕ, List, [], length, OnOk, IfErr};
+ghost use Rattle.el_outside.specs.Files.{AllGrow};
+ghost use Rattle.el_outside.specs.Story.{GoesOn, with_bytes};
+ghost use Rattle.el_model.specs.World.{World, Event, events, after_hearing};
+ghost use Rattle.el_model.specs.Keeping.{LeavesEither};
+ghost use Rattle.el_core.specs.State.{State, Stands, AreUpTo, IsIdle};
+ghost use Rattle.el_core.specs.Arrivals.{with_all_bytes, IsAfterArrival, IsAbove, IsUpTo};
+ghost use Rattle.el_loop.specs.Counts.{counts_of, devices, IsCaused, failed_device};
+ghost use Rattle.el_loop.specs.Runs.{Traffic, RunEnds, is_end};
+ghost use Rattle.el_loop.specs.within.Sending.{RisesFor, stop_of};
+ghost use Rattle.el_loop.specs.within.Progress.{ClientsAreOpen, IsReady, Finished, Stopped, StoppedIn, snapshot, taken_one};
+
+use crate::end::End;
+use crate::halt::{Halt, halt_of};
+use crate::options::RunOptions;
+use crate::sending::deliver;
+use el_core::Server;
+use el_model::Ledger;
+use el_outside::{Archive, Arrival, BUFFER_SIZE, Link};
+
+// Takes turns until no work is left.
+fn work_off<G: Ledger, A: Archive, K: Link>(
+    server: &mut Server<G>,
+    archive: &mut A,
+    link: &mut K,
+) -> Result<(), Halt>
+    requires live { G.is_live server.old.ledger }
+    ensures finished { (world : World) (all : List Event) → Stands G.stands server.old world all
+        → IsReady ⟦<G as Ledger>⟧ ⟦<A as Archive>⟧ ⟦<K as Link>⟧ world
+        (snapshot server.old archive.old link.old)
+        → OnOk result (Finished ⟦<G as Ledger>⟧ ⟦<A as Archive>⟧ ⟦<K as Link>⟧ world all
+        (snapshot server.old archive.old link.old) (snapshot server.new archive.new link.new)) }
+    ensures stopped { (world : World) (all : List Event) → Stands G.stands server.old world all
+        → IsReady ⟦<G as Ledger>⟧ ⟦<A as Archive>⟧ ⟦<K as Link>⟧ world
+        (snapshot server.old archive.old link.old)
+        → IfErr result (λ halt. Stopped ⟦<G as Ledger>⟧ ⟦<A as Archive>⟧ ⟦<K as Link>⟧
+        (LeavesEither G.tells_crash G.means G.moment G.left_since server.new.ledger) world all (stop_of halt)
+        (snapshot server.old archive.old link.old) (snapshot server.new archive.new link.new)) }
+    ensures idle { OnOk result (IsIdle server.new) }
+    ensures live { OnOk result (G.is_live server.new.ledger) }
+    ensures numbers { (last : ℕ) → AreUpTo last server.old.clients
+        → OnOk result (AreUpTo last server.new.clients) }
+    ensures keeps { A.tells → AllGrow (A.bytes archive.old) (A.bytes archive.new) }
+    ensures same_calls { K.calls link.new ≡ K.calls link.old }
+    ensures same_last { K.last link.new ≡ K.last link.old }
+    ensures link_counts { RisesFor (K.faults link.old) (K.faults link.new) Halt.Link result }
+    ensures archive_more { A.faults archive.old ≤ A.faults archive.new }
+    ensures disk_counts { RisesFor (G.faults server.old.ledger) (G.faults server.new.ledger)
+        Halt.Disk result }
+{
+    loop {
+        match server.turn(archive) {
+            Ok(Some(outs)) => match deliver(server, link, &outs) {
+                Ok(()) => {}
+                Err(halt) => return Err(halt),
+            },
+            Ok(None) => return Ok(()),
+            Err(fault) => return Err(halt_of(fault)),
+        }
+    }
+}
+
+// Whether the arrival ends the run.
+fn ends(arrival: Arrival) -> bool
+    ensures { (buf : List ℕ) → result ≡ is_end (with_bytes arrival buf) }
+{
+    match arrival {
+        Arrival::Ended => true,
+        Arrival::Closed(p) => p == 0,
+        _ => false,
+    }
+}
+
+// The bytes that an arrival brings, which stand first in the buffer.
+fn brought(arrival: Arrival, buf: &[u8]) -> &[u8]
+    requires { length buf.now ≡ BUFFER_SIZE }
+    ensures { with_all_bytes arrival result.now ≡ with_bytes arrival buf.now }
+{
+    match arrival {
+        Arrival::Bytes(_, n) if n <= buf.len() => &buf[..n],
+        _ => buf,
+    }
+}
+
+// An arrival as it is taken, with a node or without one.
+fn as_taken(arrival: Arrival, node: bool) -> Arrival
+    ensures taken { (bytes : List ℕ)
+        → with_all_bytes result bytes ≡ taken_one node (with_all_bytes arrival bytes) }
+    ensures above { (last : ℕ) → IsAbove last arrival → IsAbove last result }
+    ensures up_to { (now : ℕ) → IsUpTo now arrival → IsUpTo now result }
+{
+    match arrival {
+        Arrival::Bytes(0, _) if !node => Arrival::Quiet,
+        other => other,
+    }
+}
+
+// Takes an arrival, and all turns that it asks for.
+fn serve_arrival<G: Ledger, A: Archive, K: Link>(
+    server: &mut Server<G>,
+    archive: &mut A,
+    link: &mut K,
+    arrival: Arrival,
+    bytes: &[u8],
+) -> Result<(), Halt>
+    requires live { G.is_live server.old.ledger }
+    requires idle { IsIdle server.old }
+    requires new { (last : ℕ) × AreUpTo last server.old.clients × IsAbove last arrival }
+    ensures served { (world : World) → Stands G.stands server.old world []
+        → (A.tells → AllGrow world.side.files (A.bytes archive.old))
+        → (K.tells → (next : World) (s : State G)
+        → IsAfterArrival (with_all_bytes arrival bytes.now) world next s.surplus
+        → ClientsAreOpen s next (K.story link.old))
+        → OnOk result (Finished ⟦<G as Ledger>⟧ ⟦<A as Archive>⟧ ⟦<K as Link>⟧
+        (after_hearing (with_all_bytes arrival bytes.now) world)
+        (events world (with_all_bytes arrival bytes.now))
+        (snapshot server.old archive.old link.old) (snapshot server.new archive.new link.new)) }
+    ensures stopped { (world : World) → Stands G.stands server.old world []
+        → (A.tells → AllGrow world.side.files (A.bytes archive.old))
+        → (K.tells → (next : World) (s : State G)
+        → IsAfterArrival (with_all_bytes arrival bytes.now) world next s.surplus
+        → ClientsAreOpen s next (K.story link.old))
+        → IfErr result (λ halt. StoppedIn ⟦<G as Ledger>⟧ ⟦<A as Archive>⟧ ⟦<K as Link>⟧
+        (LeavesEither G.tells_crash G.means G.moment G.left_since server.new.ledger)
+        world (with_all_bytes arrival bytes.now) (stop_of halt)
+        (snapshot server.old archive.old link.old) (snapshot server.new archive.new link.new)) }
+    ensures idle { OnOk result (IsIdle server.new) }
+    ensures live { OnOk result (G.is_live server.new.ledger) }
+    ensures numbers { (last now : ℕ) → last ≤ now → AreUpTo last server.old.clients → IsUpTo now arrival
+        → OnOk result (AreUpTo now server.new.clients) }
+    ensures keeps { A.tells → AllGrow (A.bytes archive.old) (A.bytes archive.new) }
+    ensures same_calls { K.calls link.new ≡ K.calls link.old }
+    ensures same_last { K.last link.new ≡ K.last link.old }
+    ensures link_counts { RisesFor (K.faults link.old) (K.faults link.new) Halt.Link result }
+    ensures archive_more { A.faults archive.old ≤ A.faults archive.new }
+    ensures disk_counts { RisesFor (G.faults server.old.ledger) (G.faults server.new.ledger)
+        Halt.Disk result }
+{
+    match server.take(arrival, bytes) {
+        Ok(()) => work_off(server, archive, link),
+        Err(_) => Err(Halt::Memory),
+    }
+}
+
+/// Serves the arrivals that calls of `next` bring, as the options say.
+pub fn run<G: Ledger, A: Archive, K: Link>(
+    server: &mut Server<G>,
+    archive: &mut A,
+    link: &mut K,
+    options: RunOptions,
+) -> End
+    requires live { G.is_live server.old.ledger }
+    requires idle { IsIdle server.old }
+    requires nobody { server.old.clients ≡ [] }
+    ensures ends { (first : World) → Stands G.stands server.old first [] → first.sessions ≡ []
+        → first.side.files ≡ A.bytes archive.old
+        → (traffic : Traffic)
+        × (K.tells → GoesOn (K.story link.old) (K.story link.new)
+        traffic.arrivals traffic.messages traffic.closings)
+        × RunEnds A.tells first options.node
+        (LeavesEither G.tells_crash G.means G.moment G.left_since server.new.ledger)
+        (A.bytes archive.new) (counts_of G.faults ⟦<A as Archive>⟧ ⟦<K as Link>⟧ options.turns
+        (devices server.old.ledger archive.old link.old)
+        (devices server.new.ledger archive.new link.new)) traffic result }
+    ensures causes { IsCaused (counts_of G.faults ⟦<A as Archive>⟧ ⟦<K as Link>⟧ options.turns
+        (devices server.old.ledger archive.old link.old)
+        (devices server.new.ledger archive.new link.new)) (failed_device result) (result ≡ End.TurnsSpent) }
+    ensures keeps { A.tells → AllGrow (A.bytes archive.old) (A.bytes archive.new) }
+{
+    let mut buf = [0u8; BUFFER_SIZE];
+    for _turn in 0..options.turns {
+        let Ok(arrival) = link.next(&mut buf) else {
+            return End::LinkFailed;
+        };
+        let taken = as_taken(arrival, options.node);
+        if let Err(halt) = serve_arrival(server, archive, link, taken, brought(arrival, &buf)) {
+            return halt.end();
+        }
+        if ends(arrival) {
+            return End::Ended;
+        }
+    }
+    End::TurnsSpent
+}
