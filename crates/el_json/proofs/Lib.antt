@@ -4,3 +4,4 @@ mod Batches
 mod Naming
 mod Printable
 mod Pairs
+mod Written

@@ -7,6 +7,7 @@ ghost use Rattle.serde_json.specs.View.{view, items_of};
 ghost use Rattle.serde_json.specs.Written.{compact_text};
 ghost use Rattle.el_json.specs.Lines.{value_of, IsPrintable};
 
+use crate::printing::compact_text;
 use el_base::{OutOfMemory, Text};
 use serde_json::{Map, Value as Json};
 use std::alloc::Global;
@@ -99,7 +100,7 @@ impl Answer {
         ensures reads_back { IfOk result (λ text. depth self.now ≤ max_depth
             → value_of text.items ≡ Some self.now) }
     {
-        let text = self.value.to_vec(alloc)?;
+        let text = compact_text(alloc, &self.value)?;
         Ok(text)
     }
 }

@@ -5,6 +5,7 @@
 mod answer;
 mod elements;
 mod params;
+mod printing;
 mod reading;
 mod request;
 
@@ -13,6 +14,3 @@ pub use elements::Elements;
 pub use params::{Names, Param, Params, Places};
 pub use reading::read_line;
 pub use request::{Envelope, Item, LineFault, Request};
-
-#[cfg(test)]
-mod tests;

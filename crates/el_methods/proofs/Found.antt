@@ -15,8 +15,8 @@ use Rattle.el_tx.specs.Hashing.{full_encoding}
 use Rattle.el_model.specs.Queries.{newest, place_at, spot_of, find_tx}
 use Rattle.el_methods.specs.Results.{transaction_get}
 use Rattle.el_methods.specs.Outcomes.{IsAnswer}
-use Rattle.el_methods.specs.declared.refusal.Refusal.{Refusal}
-use Rattle.el_methods.specs.declared.refusal.Refusal.TheVariants as refusal
+use Rattle.el_calls.specs.declared.refusal.Refusal.{Refusal}
+use Rattle.el_calls.specs.declared.refusal.Refusal.TheVariants as refusal
 use Rattle.el_methods.specs.declared.stop.Stop.{Stop}
 use Rattle.el_methods.specs.declared.stop.Stop.TheVariants as stop
 

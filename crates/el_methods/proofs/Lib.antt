@@ -1,8 +1,8 @@
 mod Heights
 mod Found
 mod Subscribing
-mod BatchLoop
-mod Places
+pub mod Places
 mod Printable
-mod Losing
 mod ManyHeaders
+mod Served
+mod Unchanged

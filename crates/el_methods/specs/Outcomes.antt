@@ -1,7 +1,8 @@
 -- What a call answers, beside what is defined: a device may have failed, which its count tells.
 use Rattle.std.specs.Prelude.{◌≡◌, ⊤, ℕ, Result, Ok, Err}
 use Rattle.serde_json.specs.Data.{Data}
-use Rattle.el_methods.specs.declared.refusal.Refusal.{Refusal}
+use Rattle.el_json.specs.Lines.{IsPrintable}
+use Rattle.el_calls.specs.declared.refusal.Refusal.{Refusal}
 use Rattle.el_methods.specs.declared.stop.Stop.{Stop}
 use Rattle.el_methods.specs.declared.stop.Stop.TheVariants as stop
 
@@ -42,3 +43,8 @@ IsDiskCounted disk (Err stop.Disk) = disk 1
 IsDiskCounted disk (Err stop.Archive) = ⊥
 IsDiskCounted disk (Err stop.Changed) = ⊥
 IsDiskCounted disk (Err stop.Memory) = disk 0
+
+-- An answer can be printed: none of its numbers is a float.
+abbrev pub IsPrintableAnswer : {E : Type 0} → Result Data E → Type 0
+IsPrintableAnswer (Ok found) = IsPrintable found
+IsPrintableAnswer (Err r) = ⊤

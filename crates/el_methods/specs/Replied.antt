@@ -9,15 +9,16 @@ use Rattle.el_chain.specs.declared.node.Node.{Node}
 use Rattle.el_model.specs.Queries.{balance, unspent}
 use Rattle.el_methods.specs.Results as result
 use Rattle.el_methods.specs.Results.{whole, listed, entry_value, coin_value, balance_value}
-use Rattle.el_methods.specs.Sessions.{Subscription, is_shared}
-use Rattle.el_methods.specs.declared.call.Version.{Version}
-use Rattle.el_methods.specs.declared.call.Version.TheVariants as version
-use Rattle.el_methods.specs.declared.call.VersionParts.{VersionParts}
-use Rattle.el_methods.specs.declared.refusal.Refusal.TheVariants as refusal
+use Rattle.el_calls.specs.Versions.{is_shared}
+use Rattle.el_methods.specs.Sessions.{Subscription}
+use Rattle.el_methods.specs.declared.session.Version.{Version}
+use Rattle.el_methods.specs.declared.session.Version.TheVariants as version
+use Rattle.el_calls.specs.declared.call.VersionParts.{VersionParts}
+use Rattle.el_calls.specs.declared.refusal.Refusal.TheVariants as refusal
 use Rattle.el_methods.specs.declared.session.Session.{Session}
-use Rattle.el_methods.specs.declared.call.Call.{Call}
-use Rattle.el_methods.specs.declared.call.Call.TheVariants as call
-use Rattle.el_methods.specs.declared.refusal.Refusal.{Refusal}
+use Rattle.el_calls.specs.declared.call.Call.{Call}
+use Rattle.el_calls.specs.declared.call.Call.TheVariants as call
+use Rattle.el_calls.specs.declared.refusal.Refusal.{Refusal}
 
 -- the answer, after which this is kept
 abbrev pub with_session : Session → Result Data Refusal → Result (Data × Session) Refusal
@@ -30,7 +31,8 @@ with_headers s (Ok answer) = Ok (answer.0, record s { headers = answer.1 })
 with_headers s (Err r) = Err r
 
 -- it has other subscriptions
-abbrev pub with_subscriptions : Session → Result (Data × List Subscription) Refusal → Result (Data × Session) Refusal
+abbrev pub with_subscriptions :
+    Session → Result (Data × List Subscription) Refusal → Result (Data × Session) Refusal
 with_subscriptions s (Ok answer) = Ok (answer.0, record s { subs = answer.1 })
 with_subscriptions s (Err r) = Err r
 

@@ -22,12 +22,12 @@ use Rattle.el_chain.specs.declared.node.Node.{Node}
 use Rattle.el_chain.specs.declared.placed.Placed.{Placed}
 use Rattle.el_model.specs.Queries.{header_at, height_of, hashes_to, newest, txids_at}
 use Rattle.el_model.specs.declared.limits.TheConstants.{ENTRY_LIMIT}
-use Rattle.el_methods.specs.Methods.{◌>>=◌}
+use Rattle.el_calls.specs.Methods.{◌>>=◌}
 use Rattle.el_methods.specs.Sessions.{Subscription, is_subscribed, subscribed}
 use Rattle.el_methods.specs.declared.blocks.TheConstants.{HEADER_LIMIT}
 use Rattle.el_methods.specs.declared.session.TheConstants.{SUBSCRIPTION_LIMIT}
-use Rattle.el_methods.specs.declared.refusal.Refusal.{Refusal}
-use Rattle.el_methods.specs.declared.refusal.Refusal.TheVariants as refusal
+use Rattle.el_calls.specs.declared.refusal.Refusal.{Refusal}
+use Rattle.el_calls.specs.declared.refusal.Refusal.TheVariants as refusal
 
 -- 1. Values of JSON
 
@@ -95,7 +95,8 @@ header_count chain start count = min count (min HEADER_LIMIT (length chain - sta
 
 -- the bytes of so many headers from that height on
 abbrev pub headers_bytes : Chain → ℕ → ℕ → List ℕ
-headers_bytes chain start n = flat_map (λ (b : Placed). header_encoding b.block.header) (take n (drop start chain))
+headers_bytes chain start n =
+    flat_map (λ (b : Placed). header_encoding b.block.header) (take n (drop start chain))
 
 abbrev pub headers_value : ℕ → List ℕ → Data
 headers_value n bytes =
@@ -104,8 +105,8 @@ headers_value n bytes =
 -- with the proof of the last one's block hash, of that height, among block hashes
 abbrev pub headers_among : List Hash32 → ℕ → ℕ → List ℕ → Data
 headers_among list last n bytes =
-    object_of ((codes "branch", hashes (branch_of list last)) ∷ (codes "count", whole n) ∷ (codes "hex", hex bytes)
-    ∷ (codes "max", whole HEADER_LIMIT) ∷ (codes "root", shown_hash (root list)) ∷ [])
+    object_of ((codes "branch", hashes (branch_of list last)) ∷ (codes "count", whole n)
+    ∷ (codes "hex", hex bytes) ∷ (codes "max", whole HEADER_LIMIT) ∷ (codes "root", shown_hash (root list)) ∷ [])
 
 -- the checkpoint is above the tip, or below the last of some headers
 abbrev pub is_bad_for_headers : Chain → ℕ → ℕ → ℕ → Bool
@@ -120,10 +121,12 @@ headers_proved chain start n cp_height =
 
 abbrev pub some_headers : Chain → ℕ → ℕ → ℕ → Result Data Refusal
 some_headers chain start n cp_height =
-    if cp_height == 0 then Ok (headers_value n (headers_bytes chain start n)) else headers_proved chain start n cp_height
+    if cp_height == 0 then Ok (headers_value n (headers_bytes chain start n))
+    else headers_proved chain start n cp_height
 
 abbrev pub block_headers : Chain → ℕ → ℕ → ℕ → Result Data Refusal
-block_headers chain start count cp_height = some_headers chain start (header_count chain start count) cp_height
+block_headers chain start count cp_height =
+    some_headers chain start (header_count chain start count) cp_height
 
 -- 4. blockchain.headers.subscribe
 
@@ -187,7 +190,8 @@ id_from_pos chain height pos merkle = do
 -- the values as a list, which may not be too long
 abbrev pub listed : {A : Type 0} → (A → Data) → List A → Result Data Refusal
 listed value xs =
-    if nat_lt ENTRY_LIMIT (length xs) then Err refusal.HistoryTooLarge else Ok (array (items_of (map value xs)))
+    if nat_lt ENTRY_LIMIT (length xs) then Err refusal.HistoryTooLarge
+    else Ok (array (items_of (map value xs)))
 
 abbrev pub balance_value : ℕ → Data
 balance_value sum = object_of ((codes "confirmed", whole sum) ∷ (codes "unconfirmed", whole 0) ∷ [])
@@ -228,7 +232,8 @@ abbrev pub is_one_too_many : List Subscription → Hash32 → Bool
 is_one_too_many subs s = nat_le SUBSCRIPTION_LIMIT (length subs) && not (is_subscribed s subs)
 
 -- the answer, and the subscriptions after it
-abbrev pub script_hash_subscribe : Chain → List Subscription → Hash32 → Result (Data × List Subscription) Refusal
+abbrev pub script_hash_subscribe :
+    Chain → List Subscription → Hash32 → Result (Data × List Subscription) Refusal
 script_hash_subscribe chain subs s =
     if is_one_too_many subs s then Err refusal.TooManySubscriptions
     else Ok (told (status chain s.0), subscribed s (status chain s.0) subs)

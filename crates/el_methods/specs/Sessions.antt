@@ -1,9 +1,8 @@
 -- What the server keeps of a client for its requests (Electrum Protocol 1.4).
-use Rattle.std.specs.Prelude.{◌==◌, nat_lt, nat_le, Bool, if◌then◌else◌, ◌&&◌, ◌||◌, List, [], ◌∷◌, Option}
+use Rattle.std.specs.Prelude.{Bool, if◌then◌else◌, List, [], ◌∷◌, Option}
 use Rattle.std.specs.List.{list_any}
 use Rattle.std.specs.Str.{bytes_eq}
 use Rattle.el_base.specs.declared.hash.Hash32.{Hash32}
-use Rattle.el_methods.specs.declared.call.VersionParts.{VersionParts}
 
 -- a subscription: the script hash, and the status that the client was last told
 abbrev pub Subscription : Type 0
@@ -22,16 +21,3 @@ is_subscribed s subs = list_any (is_to s) subs
 abbrev pub subscribed : Hash32 → Option Hash32 → List Subscription → List Subscription
 subscribed s told [] = (s, told) ∷ []
 subscribed s told (sub ∷ subs) = if is_to s sub then (sub.0, told) ∷ subs else sub ∷ subscribed s told subs
-
--- the one version is not above the other: parts compare as numbers, the first ones first
-abbrev pub is_up_to : VersionParts → VersionParts → Bool
-is_up_to a b =
-    nat_lt a.major b.major
-    || (a.major == b.major && (nat_lt a.minor b.minor || (a.minor == b.minor && nat_le a.patch b.patch)))
-
-abbrev pub served : VersionParts
-served = record { major = 1; minor = 4; patch = 0 }
-
--- the version that is served is among those that the client takes
-abbrev pub is_shared : VersionParts → VersionParts → Bool
-is_shared least most = is_up_to least served && is_up_to served most

@@ -3,25 +3,24 @@ ghost use Rattle.std.specs.Prelude.{◌≡◌, ◌+◌, ◌-◌, ◌^◌, ◌≤
 ghost use Rattle.el_outside.specs.Counts.{RoseBy};
 ghost use Rattle.el_chain.specs.Chains.{Chain};
 ghost use Rattle.el_model.specs.Keeping.{Quiet};
-ghost use Rattle.el_methods.specs.Envelopes.{IsPrintableAnswer};
 ghost use Rattle.el_methods.specs.Results as defined;
-ghost use Rattle.el_methods.specs.Results.{headers_bytes};
-ghost use Rattle.el_methods.specs.Outcomes.{IsAnswer, IsReplyWith, IsDiskCounted};
+ghost use Rattle.el_methods.specs.Results.{header_count, headers_bytes};
+ghost use Rattle.el_methods.specs.RowBounds.{proof_rows};
+ghost use Rattle.el_methods.specs.Outcomes.{IsAnswer, IsReplyWith, IsDiskCounted, IsPrintableAnswer};
 ghost use Rattle.el_model.specs.Queries.{hashes_to};
 ghost use Rattle.el_methods.specs.Results.{told_tip};
 ghost use Rattle.el_methods.specs.within.Tops.{blocks_of};
-ghost use Rattle.el_methods.specs.declared.refusal.Refusal as shape;
+ghost use Rattle.el_calls.specs.declared.refusal.Refusal as shape;
 ghost use Rattle.el_methods.specs.declared.stop.Stop.TheVariants as stop;
 
-use crate::refusal::Refusal;
 use crate::stop::Stop;
 use crate::texts::{hashes_of, hex_of, shown_of};
-use el_base::{Hash32, OutOfMemory, Steps};
+use el_base::{Hash32, OutOfMemory};
+use el_calls::Refusal;
 use el_json::{Answer, Members};
 use el_merkle::branch;
 use el_model::Ledger;
 use std::alloc::Global;
-use std::sync::ledger::Ledger as Counts;
 
 /// How many headers a reply of `blockchain.block.headers` may have.
 pub const HEADER_LIMIT: u64 = 2016;
@@ -49,7 +48,8 @@ fn header_count(top: Option<u32>, start: u64, count: u64) -> u32
 
 // Whether the checkpoint is above the tip, or below the last of so many headers.
 fn is_bad(top: Option<u32>, start: u64, count: u32, cp_height: u64) -> bool
-    ensures { result ≡ (nat_le (blocks_of top) cp_height || (nat_lt 0 count && nat_lt (cp_height + 1) (start + count))) }
+    ensures { result ≡ (nat_le (blocks_of top) cp_height
+        || (nat_lt 0 count && nat_lt (cp_height + 1) (start + count))) }
 {
     let blocks = match top {
         Some(top) => u64::from(top) + 1,
@@ -60,12 +60,11 @@ fn is_bad(top: Option<u32>, start: u64, count: u32, cp_height: u64) -> bool
 }
 
 // The bytes of so many headers from that height on.
-fn headers_from<G: Ledger, L: Counts + Send>(
+fn headers_from<G: Ledger>(
     alloc: Global,
     ledger: &mut G,
     start: u32,
     count: u32,
-    steps: &mut Steps<L>,
 ) -> Result<Vec<u8>, Stop>
     requires live { G.is_live ledger.old }
     requires within { MatchOption (G.height ledger.old) ⊥ (λ top. start + count ≤ top + 1) }
@@ -73,14 +72,14 @@ fn headers_from<G: Ledger, L: Counts + Send>(
     ensures bytes { (chain : Chain) → G.stands ledger.old chain
         → IfOk result (λ v. v.items ≡ headers_bytes chain start count) }
     ensures never { IfErr result (λ e. (r : shape.Refusal) → e ≡ stop.Refused r → ⊥) }
-    ensures rows { steps.new ≤ steps.old + count }
+    ensures rows { G.reads ledger.new ≤ G.reads ledger.old + count }
     ensures quiet { Quiet G.is_live G.height G.tip G.buckets G.stands G.tells_crash
-        G.means G.moment G.left_since ledger.old ledger.new }
+        G.moment G.left_since ledger.old ledger.new }
     ensures counted { IsDiskCounted (λ n. RoseBy (G.faults ledger.old) (G.faults ledger.new) n) result }
 {
     let mut bytes = Vec::new(alloc);
     for i in 0..count {
-        match ledger.header(start + i, steps) {
+        match ledger.header(start + i) {
             Ok(header) => bytes.extend_from_slice(header.as_slice())?,
             Err(_) => return Err(Stop::Disk),
         }
@@ -123,12 +122,11 @@ fn headers_among(
 }
 
 // Headers alone.
-fn headers_plain<G: Ledger, L: Counts + Send>(
+fn headers_plain<G: Ledger>(
     alloc: Global,
     ledger: &mut G,
     start: u32,
     count: u32,
-    steps: &mut Steps<L>,
 ) -> Result<Answer, Stop>
     requires live { G.is_live ledger.old }
     requires within { MatchOption (G.height ledger.old) ⊥ (λ top. start + count ≤ top + 1) }
@@ -136,12 +134,12 @@ fn headers_plain<G: Ledger, L: Counts + Send>(
     ensures answer { (chain : Chain) → G.stands ledger.old chain
         → IsAnswer (Ok (defined.headers_value count (headers_bytes chain start count))) result }
     ensures printable { IsPrintableAnswer result }
-    ensures rows { steps.new ≤ steps.old + count }
+    ensures rows { G.reads ledger.new ≤ G.reads ledger.old + count }
     ensures quiet { Quiet G.is_live G.height G.tip G.buckets G.stands G.tells_crash
-        G.means G.moment G.left_since ledger.old ledger.new }
+        G.moment G.left_since ledger.old ledger.new }
     ensures counted { IsDiskCounted (λ n. RoseBy (G.faults ledger.old) (G.faults ledger.new) n) result }
 {
-    match headers_from(alloc, ledger, start, count, steps) {
+    match headers_from(alloc, ledger, start, count) {
         Ok(bytes) => {
             let answer = headers_value(alloc, count, bytes.as_slice())?;
             Ok(answer)
@@ -152,13 +150,12 @@ fn headers_plain<G: Ledger, L: Counts + Send>(
 }
 
 // Headers, and the proof of the last one.
-fn headers_proved<G: Ledger, L: Counts + Send>(
+fn headers_proved<G: Ledger>(
     alloc: Global,
     ledger: &mut G,
     start: u32,
     count: u32,
     cp_height: u32,
-    steps: &mut Steps<L>,
 ) -> Result<Answer, Stop>
     requires live { G.is_live ledger.old }
     requires within { MatchOption (G.height ledger.old) ⊥ (λ top. cp_height ≤ top) }
@@ -168,16 +165,17 @@ fn headers_proved<G: Ledger, L: Counts + Send>(
         → IsAnswer (Ok (defined.headers_among (hashes_to chain cp_height) (start + count - 1) count
         (headers_bytes chain start count))) result }
     ensures printable { IsPrintableAnswer result }
+    ensures rows { G.reads ledger.new ≤ G.reads ledger.old + (count + (cp_height + 1)) }
     ensures quiet { Quiet G.is_live G.height G.tip G.buckets G.stands G.tells_crash
-        G.means G.moment G.left_since ledger.old ledger.new }
+        G.moment G.left_since ledger.old ledger.new }
     ensures counted { IsDiskCounted (λ n. RoseBy (G.faults ledger.old) (G.faults ledger.new) n) result }
 {
-    let bytes = match headers_from(alloc, ledger, start, count, steps) {
+    let bytes = match headers_from(alloc, ledger, start, count) {
         Ok(bytes) => bytes,
         Err(Stop::Disk) => return Err(Stop::Disk),
         Err(_) => return Err(Stop::Memory),
     };
-    let list = match ledger.hashes(alloc, cp_height, steps) {
+    let list = match ledger.hashes(alloc, cp_height) {
         Ok(list) => list,
         Err(fault) => return Err(Stop::from(fault)),
     };
@@ -193,20 +191,22 @@ fn headers_proved<G: Ledger, L: Counts + Send>(
 /// hex, as many as there are, but no more than `count` and `HEADER_LIMIT`, and where `cp_height` isn't 0
 /// the branch that leads from the last one's block hash to the root over the block hashes of heights 0 to
 /// `cp_height`.
-pub fn block_headers<G: Ledger, L: Counts + Send>(
+pub fn block_headers<G: Ledger>(
     alloc: Global,
     ledger: &mut G,
     start_height: u64,
     count: u64,
     cp_height: u64,
-    steps: &mut Steps<L>,
 ) -> Result<Answer, Stop>
     requires live { G.is_live ledger.old }
     ensures answer { (chain : Chain) → G.stands ledger.old chain
         → IsAnswer (defined.block_headers chain start_height count cp_height) result }
     ensures printable { IsPrintableAnswer result }
+    ensures rows { (chain : Chain) → G.stands ledger.old chain
+        → G.reads ledger.new ≤ G.reads ledger.old
+        + (header_count chain start_height count + proof_rows cp_height) }
     ensures quiet { Quiet G.is_live G.height G.tip G.buckets G.stands G.tells_crash
-        G.means G.moment G.left_since ledger.old ledger.new }
+        G.moment G.left_since ledger.old ledger.new }
     ensures counted { IsDiskCounted (λ n. RoseBy (G.faults ledger.old) (G.faults ledger.new) n) result }
 {
     let top = ledger.height();
@@ -219,16 +219,9 @@ pub fn block_headers<G: Ledger, L: Counts + Send>(
         return Ok(answer);
     }
     if cp_height == 0 {
-        return headers_plain(alloc, ledger, start_height as u32, n, steps);
+        return headers_plain(alloc, ledger, start_height as u32, n);
     }
-    headers_proved(
-        alloc,
-        ledger,
-        start_height as u32,
-        n,
-        cp_height as u32,
-        steps,
-    )
+    headers_proved(alloc, ledger, start_height as u32, n, cp_height as u32)
 }
 
 // The answer with the tip's header.
@@ -244,25 +237,24 @@ fn tip_value(alloc: Global, height: u32, header: &[u8]) -> Result<Answer, OutOfM
 
 /// The answer to `blockchain.headers.subscribe` (Electrum Protocol 1.4): the height and the header of the
 /// tip. The client is then told each new one.
-pub fn headers_subscribe<G: Ledger, L: Counts + Send>(
+pub fn headers_subscribe<G: Ledger>(
     alloc: Global,
     ledger: &mut G,
     is_told: &mut bool,
-    steps: &mut Steps<L>,
 ) -> Result<Answer, Stop>
     requires live { G.is_live ledger.old }
     ensures answer { (chain : Chain) → G.stands ledger.old chain
         → IsReplyWith (told_tip (defined.headers_subscribe chain)) is_told.old is_told.new result }
     ensures printable { IsPrintableAnswer result }
-    ensures rows { steps.new ≤ steps.old + 1 }
+    ensures rows { G.reads ledger.new ≤ G.reads ledger.old + 1 }
     ensures quiet { Quiet G.is_live G.height G.tip G.buckets G.stands G.tells_crash
-        G.means G.moment G.left_since ledger.old ledger.new }
+        G.moment G.left_since ledger.old ledger.new }
     ensures counted { IsDiskCounted (λ n. RoseBy (G.faults ledger.old) (G.faults ledger.new) n) result }
 {
     let Some(height) = ledger.height() else {
         return Err(Stop::Refused(Refusal::NoBlocks));
     };
-    let header = match ledger.header(height, steps) {
+    let header = match ledger.header(height) {
         Ok(header) => header,
         Err(_) => return Err(Stop::Disk),
     };

@@ -1,14 +1,13 @@
 // What the server offers.
 ghost use Rattle.std.specs.Prelude.{◌≡◌, IfOk, OnOk, codes};
 ghost use Rattle.serde_json.specs.Data.{string, put};
-ghost use Rattle.el_methods.specs.Envelopes.{IsPrintableAnswer};
 ghost use Rattle.el_methods.specs.Results as defined;
-ghost use Rattle.el_methods.specs.Outcomes.{IsAnswer, IsCounted};
+ghost use Rattle.el_methods.specs.Outcomes.{IsAnswer, IsCounted, IsPrintableAnswer};
 
-use crate::refusal::Refusal;
 use crate::stop::Stop;
 use crate::texts::shown_of;
 use el_base::{Hash32, OutOfMemory};
+use el_calls::Refusal;
 use el_headers::HeaderTree;
 use el_json::{Answer, Members};
 use std::alloc::Global;

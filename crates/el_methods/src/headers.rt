@@ -1,23 +1,22 @@
 // Headers, and proofs of their heights.
-ghost use Rattle.std.specs.Prelude.{◌≡◌, ◌≤◌, ◌<◌, ℕ, IfOk, IfSome, IfNone, MatchOption, ok_or, Ok, codes, length};
+ghost use Rattle.std.specs.Prelude.{◌≡◌, ◌≤◌, ◌<◌, ◌+◌, ℕ, IfOk, IfSome, IfNone, MatchOption, ok_or, Ok, codes, length};
 ghost use Rattle.el_outside.specs.Counts.{RoseBy};
 ghost use Rattle.el_chain.specs.Chains.{Chain};
 ghost use Rattle.el_model.specs.Keeping.{Quiet};
 ghost use Rattle.el_model.specs.Queries.{header_at, hashes_to};
-ghost use Rattle.el_methods.specs.Envelopes.{IsPrintableAnswer};
 ghost use Rattle.el_methods.specs.Results as defined;
 ghost use Rattle.el_methods.specs.Results.{hex};
-ghost use Rattle.el_methods.specs.Outcomes.{IsAnswer, IsDiskCounted};
+ghost use Rattle.el_methods.specs.RowBounds.{proof_rows};
+ghost use Rattle.el_methods.specs.Outcomes.{IsAnswer, IsDiskCounted, IsPrintableAnswer};
 
-use crate::refusal::Refusal;
 use crate::stop::Stop;
 use crate::texts::{hashes_of, hex_of, shown_of};
-use el_base::{Hash32, OutOfMemory, Steps};
+use el_base::{Hash32, OutOfMemory};
+use el_calls::Refusal;
 use el_json::{Answer, Members};
 use el_merkle::branch;
 use el_model::Ledger;
 use std::alloc::Global;
-use std::sync::ledger::Ledger as Counts;
 
 // The height, where it isn't above the top.
 pub(crate) fn height_within(top: Option<u32>, height: u64) -> Option<u32>
@@ -35,22 +34,18 @@ pub(crate) fn height_within(top: Option<u32>, height: u64) -> Option<u32>
 }
 
 // The header alone.
-fn header_alone<G: Ledger, L: Counts + Send>(
-    alloc: Global,
-    ledger: &mut G,
-    height: u32,
-    steps: &mut Steps<L>,
-) -> Result<Answer, Stop>
+fn header_alone<G: Ledger>(alloc: Global, ledger: &mut G, height: u32) -> Result<Answer, Stop>
     requires live { G.is_live ledger.old }
     requires within { MatchOption (G.height ledger.old) ⊥ (λ top. height ≤ top) }
     ensures answer { (chain : Chain) → G.stands ledger.old chain
         → IsAnswer (defined.of_header chain height hex) result }
     ensures printable { IsPrintableAnswer result }
+    ensures rows { G.reads ledger.new ≤ G.reads ledger.old + 1 }
     ensures quiet { Quiet G.is_live G.height G.tip G.buckets G.stands G.tells_crash
-        G.means G.moment G.left_since ledger.old ledger.new }
+        G.moment G.left_since ledger.old ledger.new }
     ensures counted { IsDiskCounted (λ n. RoseBy (G.faults ledger.old) (G.faults ledger.new) n) result }
 {
-    match ledger.header(height, steps) {
+    match ledger.header(height) {
         Ok(header) => {
             let answer = hex_of(alloc, header.as_slice())?;
             Ok(answer)
@@ -79,13 +74,12 @@ fn proof_of(
 }
 
 // The block hashes up to the checkpoint, and in them the proof of the header.
-fn header_among<G: Ledger, L: Counts + Send>(
+fn header_among<G: Ledger>(
     alloc: Global,
     ledger: &mut G,
     header: &[u8],
     height: u32,
     cp_height: u32,
-    steps: &mut Steps<L>,
 ) -> Result<Answer, Stop>
     requires live { G.is_live ledger.old }
     requires within { MatchOption (G.height ledger.old) ⊥ (λ top. cp_height ≤ top) }
@@ -93,11 +87,12 @@ fn header_among<G: Ledger, L: Counts + Send>(
     ensures answer { (chain : Chain) → G.stands ledger.old chain
         → IsAnswer (Ok (defined.header_proof chain height cp_height header.now)) result }
     ensures printable { IsPrintableAnswer result }
+    ensures rows { G.reads ledger.new ≤ G.reads ledger.old + (cp_height + 1) }
     ensures quiet { Quiet G.is_live G.height G.tip G.buckets G.stands G.tells_crash
-        G.means G.moment G.left_since ledger.old ledger.new }
+        G.moment G.left_since ledger.old ledger.new }
     ensures counted { IsDiskCounted (λ n. RoseBy (G.faults ledger.old) (G.faults ledger.new) n) result }
 {
-    match ledger.hashes(alloc, cp_height, steps) {
+    match ledger.hashes(alloc, cp_height) {
         Ok(list) => {
             if (height as usize) < list.len() {
                 let answer = proof_of(alloc, header, list.as_slice(), height)?;
@@ -111,12 +106,11 @@ fn header_among<G: Ledger, L: Counts + Send>(
 }
 
 // The header and its proof.
-fn header_proved<G: Ledger, L: Counts + Send>(
+fn header_proved<G: Ledger>(
     alloc: Global,
     ledger: &mut G,
     height: u32,
     cp_height: u32,
-    steps: &mut Steps<L>,
 ) -> Result<Answer, Stop>
     requires live { G.is_live ledger.old }
     requires within { MatchOption (G.height ledger.old) ⊥ (λ top. cp_height ≤ top) }
@@ -124,12 +118,13 @@ fn header_proved<G: Ledger, L: Counts + Send>(
     ensures answer { (chain : Chain) → G.stands ledger.old chain
         → IsAnswer (defined.of_header chain height (defined.header_proof chain height cp_height)) result }
     ensures printable { IsPrintableAnswer result }
+    ensures rows { G.reads ledger.new ≤ G.reads ledger.old + (1 + (cp_height + 1)) }
     ensures quiet { Quiet G.is_live G.height G.tip G.buckets G.stands G.tells_crash
-        G.means G.moment G.left_since ledger.old ledger.new }
+        G.moment G.left_since ledger.old ledger.new }
     ensures counted { IsDiskCounted (λ n. RoseBy (G.faults ledger.old) (G.faults ledger.new) n) result }
 {
-    match ledger.header(height, steps) {
-        Ok(header) => header_among(alloc, ledger, header.as_slice(), height, cp_height, steps),
+    match ledger.header(height) {
+        Ok(header) => header_among(alloc, ledger, header.as_slice(), height, cp_height),
         Err(_) => Err(Stop::Disk),
     }
 }
@@ -137,19 +132,19 @@ fn header_proved<G: Ledger, L: Counts + Send>(
 /// The answer to `blockchain.block.header` (Electrum Protocol 1.4): the header of that height in hex, and
 /// where `cp_height` isn't 0 the branch that leads from the block's hash to the root over the block hashes of
 /// heights 0 to `cp_height`.
-pub fn block_header<G: Ledger, L: Counts + Send>(
+pub fn block_header<G: Ledger>(
     alloc: Global,
     ledger: &mut G,
     height: u64,
     cp_height: u64,
-    steps: &mut Steps<L>,
 ) -> Result<Answer, Stop>
     requires live { G.is_live ledger.old }
     ensures answer { (chain : Chain) → G.stands ledger.old chain
         → IsAnswer (defined.block_header chain height cp_height) result }
     ensures printable { IsPrintableAnswer result }
+    ensures rows { G.reads ledger.new ≤ G.reads ledger.old + (1 + proof_rows cp_height) }
     ensures quiet { Quiet G.is_live G.height G.tip G.buckets G.stands G.tells_crash
-        G.means G.moment G.left_since ledger.old ledger.new }
+        G.moment G.left_since ledger.old ledger.new }
     ensures counted { IsDiskCounted (λ n. RoseBy (G.faults ledger.old) (G.faults ledger.new) n) result }
 {
     let top = ledger.height();
@@ -157,7 +152,7 @@ pub fn block_header<G: Ledger, L: Counts + Send>(
         return Err(Stop::Refused(Refusal::NoSuchHeight));
     };
     if cp_height == 0 {
-        return header_alone(alloc, ledger, h, steps);
+        return header_alone(alloc, ledger, h);
     }
     let Some(checkpoint) = height_within(top, cp_height) else {
         return Err(Stop::Refused(Refusal::BadCheckpoint));
@@ -165,5 +160,5 @@ pub fn block_header<G: Ledger, L: Counts + Send>(
     if checkpoint < h {
         return Err(Stop::Refused(Refusal::BadCheckpoint));
     }
-    header_proved(alloc, ledger, h, checkpoint, steps)
+    header_proved(alloc, ledger, h, checkpoint)
 }

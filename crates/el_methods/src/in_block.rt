@@ -1,22 +1,22 @@
 // Transactions by their places in a block.
-ghost use Rattle.std.specs.Prelude.{◌≡◌, ◌<◌, ◌≤◌, ℕ, IfOk, IfSome, IfNone, length};
+ghost use Rattle.std.specs.Prelude.{◌≡◌, ◌<◌, ◌≤◌, ◌+◌, ℕ, IfOk, IfSome, IfNone, length};
 ghost use Rattle.el_outside.specs.Counts.{RoseBy};
 ghost use Rattle.el_chain.specs.Chains.{Chain};
 ghost use Rattle.el_model.specs.Keeping.{Quiet};
-ghost use Rattle.el_methods.specs.Envelopes.{IsPrintableAnswer};
+ghost use Rattle.el_model.specs.Queries.{txids_at};
 ghost use Rattle.el_methods.specs.Results as defined;
-ghost use Rattle.el_methods.specs.Outcomes.{IsAnswer, IsDiskCounted};
+ghost use Rattle.el_methods.specs.RowBounds.{ids_rows};
+ghost use Rattle.el_methods.specs.Outcomes.{IsAnswer, IsDiskCounted, IsPrintableAnswer};
 
 use crate::headers::height_within;
-use crate::refusal::Refusal;
 use crate::stop::Stop;
 use crate::texts::{hashes_of, shown_of};
-use el_base::{Hash32, OutOfMemory, Steps};
+use el_base::{Hash32, OutOfMemory};
+use el_calls::Refusal;
 use el_json::{Answer, Members};
 use el_merkle::branch;
 use el_model::Ledger;
 use std::alloc::Global;
-use std::sync::ledger::Ledger as Counts;
 
 // Where the txid stands first among these.
 fn place_among(id: &Hash32, ids: &[Hash32]) -> Option<usize>
@@ -47,25 +47,26 @@ fn merkle_value(
 
 /// The answer to `blockchain.transaction.get_merkle` (Electrum Protocol 1.4): the place of the transaction
 /// in the block of that height, and the branch that leads from its txid to the block's Merkle root.
-pub fn get_merkle<G: Ledger, L: Counts + Send>(
+pub fn get_merkle<G: Ledger>(
     alloc: Global,
     ledger: &mut G,
     id: &Hash32,
     height: u64,
-    steps: &mut Steps<L>,
 ) -> Result<Answer, Stop>
     requires live { G.is_live ledger.old }
     ensures answer { (chain : Chain) → G.stands ledger.old chain
         → IsAnswer (defined.get_merkle chain id.now height) result }
     ensures printable { IsPrintableAnswer result }
+    ensures rows { (chain : Chain) → G.stands ledger.old chain
+        → G.reads ledger.new ≤ G.reads ledger.old + ids_rows (txids_at chain height) }
     ensures quiet { Quiet G.is_live G.height G.tip G.buckets G.stands G.tells_crash
-        G.means G.moment G.left_since ledger.old ledger.new }
+        G.moment G.left_since ledger.old ledger.new }
     ensures counted { IsDiskCounted (λ n. RoseBy (G.faults ledger.old) (G.faults ledger.new) n) result }
 {
     let Some(h) = height_within(ledger.height(), height) else {
         return Err(Stop::Refused(Refusal::NoSuchHeight));
     };
-    let ids = match ledger.block_txids(alloc, h, steps) {
+    let ids = match ledger.block_txids(alloc, h) {
         Ok(ids) => ids,
         Err(fault) => return Err(Stop::from(fault)),
     };
@@ -112,26 +113,27 @@ fn place_within(count: usize, pos: u64) -> Option<usize>
 
 /// The answer to `blockchain.transaction.id_from_pos` (Electrum Protocol 1.4): the txid at a place of the
 /// block of that height, and with `merkle` the branch that leads from it to the block's Merkle root.
-pub fn id_from_pos<G: Ledger, L: Counts + Send>(
+pub fn id_from_pos<G: Ledger>(
     alloc: Global,
     ledger: &mut G,
     height: u64,
     tx_pos: u64,
     merkle: bool,
-    steps: &mut Steps<L>,
 ) -> Result<Answer, Stop>
     requires live { G.is_live ledger.old }
     ensures answer { (chain : Chain) → G.stands ledger.old chain
         → IsAnswer (defined.id_from_pos chain height tx_pos merkle) result }
     ensures printable { IsPrintableAnswer result }
+    ensures rows { (chain : Chain) → G.stands ledger.old chain
+        → G.reads ledger.new ≤ G.reads ledger.old + ids_rows (txids_at chain height) }
     ensures quiet { Quiet G.is_live G.height G.tip G.buckets G.stands G.tells_crash
-        G.means G.moment G.left_since ledger.old ledger.new }
+        G.moment G.left_since ledger.old ledger.new }
     ensures counted { IsDiskCounted (λ n. RoseBy (G.faults ledger.old) (G.faults ledger.new) n) result }
 {
     let Some(h) = height_within(ledger.height(), height) else {
         return Err(Stop::Refused(Refusal::NoSuchHeight));
     };
-    let ids = match ledger.block_txids(alloc, h, steps) {
+    let ids = match ledger.block_txids(alloc, h) {
         Ok(ids) => ids,
         Err(fault) => return Err(Stop::from(fault)),
     };

@@ -1,5 +1,5 @@
 // What the chain has of a script hash.
-ghost use Rattle.std.specs.Prelude.{◌≡◌, ◌+◌, ◌*◌, ◌≤◌, ℕ, IfOk, Ok, length, map};
+ghost use Rattle.std.specs.Prelude.{◌≡◌, ◌+◌, ◌≤◌, ℕ, IfOk, Ok, map};
 ghost use Rattle.serde_json.specs.Data.{array};
 ghost use Rattle.serde_json.specs.View.{items_of};
 ghost use Rattle.el_outside.specs.Counts.{RoseBy};
@@ -7,20 +7,19 @@ ghost use Rattle.el_chain.specs.Chains.{Chain};
 ghost use Rattle.el_chain.specs.History.{history};
 ghost use Rattle.el_model.specs.Keeping.{Quiet};
 ghost use Rattle.el_model.specs.Queries as asked;
-ghost use Rattle.el_methods.specs.Envelopes.{IsPrintableAnswer};
 ghost use Rattle.el_methods.specs.Results as defined;
 ghost use Rattle.el_methods.specs.Results.{listed};
-ghost use Rattle.el_methods.specs.Outcomes.{IsAnswer, IsDiskCounted};
+ghost use Rattle.el_methods.specs.RowBounds.{script_rows, history_rows};
+ghost use Rattle.el_methods.specs.Outcomes.{IsAnswer, IsDiskCounted, IsPrintableAnswer};
 
-use crate::refusal::Refusal;
 use crate::stop::Stop;
 use crate::texts::shown_of;
-use el_base::{Hash32, OutOfMemory, Steps};
+use el_base::{Hash32, OutOfMemory};
+use el_calls::Refusal;
 use el_chain::{Coin, Entry};
 use el_json::{Answer, Answers, Members};
 use el_model::{ENTRY_LIMIT, Ledger};
 use std::alloc::Global;
-use std::sync::ledger::Ledger as Counts;
 
 fn balance_value(alloc: Global, sum: u64) -> Result<Answer, OutOfMemory>
     ensures value { IfOk result (λ a. a ≡ defined.balance_value sum) }
@@ -33,23 +32,18 @@ fn balance_value(alloc: Global, sum: u64) -> Result<Answer, OutOfMemory>
 }
 
 /// The answer to `blockchain.scripthash.get_balance` (Electrum Protocol 1.4), in satoshi.
-pub fn get_balance<G: Ledger, L: Counts + Send>(
-    alloc: Global,
-    ledger: &mut G,
-    s: &Hash32,
-    steps: &mut Steps<L>,
-) -> Result<Answer, Stop>
+pub fn get_balance<G: Ledger>(alloc: Global, ledger: &mut G, s: &Hash32) -> Result<Answer, Stop>
     requires live { G.is_live ledger.old }
     ensures answer { (chain : Chain) → G.stands ledger.old chain
         → IsAnswer (Ok (defined.balance_value (asked.balance chain s.now.0))) result }
     ensures printable { IsPrintableAnswer result }
-    ensures rows { (chain : Chain) → G.stands ledger.old chain → steps.new ≤ steps.old
-        + (1 + asked.scripts_in_bucket chain (G.buckets ledger.old) s.now.0) }
+    ensures rows { (chain : Chain) → G.stands ledger.old chain
+        → G.reads ledger.new ≤ G.reads ledger.old + script_rows chain (G.buckets ledger.old) s.now.0 }
     ensures quiet { Quiet G.is_live G.height G.tip G.buckets G.stands G.tells_crash
-        G.means G.moment G.left_since ledger.old ledger.new }
+        G.moment G.left_since ledger.old ledger.new }
     ensures counted { IsDiskCounted (λ n. RoseBy (G.faults ledger.old) (G.faults ledger.new) n) result }
 {
-    match ledger.balance(s, steps) {
+    match ledger.balance(s) {
         Ok(sum) => {
             let answer = balance_value(alloc, sum)?;
             Ok(answer)
@@ -80,24 +74,18 @@ fn entries_value(alloc: Global, entries: &[Entry]) -> Result<Answer, OutOfMemory
 
 /// The answer to `blockchain.scripthash.get_history` (Electrum Protocol 1.4): the history, if it has no
 /// more than `ENTRY_LIMIT` entries.
-pub fn get_history<G: Ledger, L: Counts + Send>(
-    alloc: Global,
-    ledger: &mut G,
-    s: &Hash32,
-    steps: &mut Steps<L>,
-) -> Result<Answer, Stop>
+pub fn get_history<G: Ledger>(alloc: Global, ledger: &mut G, s: &Hash32) -> Result<Answer, Stop>
     requires live { G.is_live ledger.old }
     ensures answer { (chain : Chain) → G.stands ledger.old chain
         → IsAnswer (listed defined.entry_value (history chain s.now.0)) result }
     ensures printable { IsPrintableAnswer result }
-    ensures rows { (chain : Chain) → G.stands ledger.old chain → steps.new ≤ steps.old
-        + (1 + asked.scripts_in_bucket chain (G.buckets ledger.old) s.now.0
-        + 2 * length (history chain s.now.0)) }
+    ensures rows { (chain : Chain) → G.stands ledger.old chain
+        → G.reads ledger.new ≤ G.reads ledger.old + history_rows chain (G.buckets ledger.old) s.now.0 }
     ensures quiet { Quiet G.is_live G.height G.tip G.buckets G.stands G.tells_crash
-        G.means G.moment G.left_since ledger.old ledger.new }
+        G.moment G.left_since ledger.old ledger.new }
     ensures counted { IsDiskCounted (λ n. RoseBy (G.faults ledger.old) (G.faults ledger.new) n) result }
 {
-    let entries = match ledger.history(alloc, s, steps) {
+    let entries = match ledger.history(alloc, s) {
         Ok(entries) => entries,
         Err(fault) => return Err(Stop::from(fault)),
     };
@@ -136,24 +124,19 @@ fn coins_value(alloc: Global, coins: &[Coin]) -> Result<Answer, OutOfMemory>
 
 /// The answer to `blockchain.scripthash.listunspent` (Electrum Protocol 1.4): the coins, if there are no
 /// more than `ENTRY_LIMIT`.
-pub fn list_unspent<G: Ledger, L: Counts + Send>(
-    alloc: Global,
-    ledger: &mut G,
-    s: &Hash32,
-    steps: &mut Steps<L>,
-) -> Result<Answer, Stop>
+pub fn list_unspent<G: Ledger>(alloc: Global, ledger: &mut G, s: &Hash32) -> Result<Answer, Stop>
     requires live { G.is_live ledger.old }
     ensures answer { (chain : Chain) → G.stands ledger.old chain
         → IsAnswer (listed defined.coin_value (asked.unspent chain s.now.0)) result }
     ensures printable { IsPrintableAnswer result }
-    ensures rows { (chain : Chain) → G.stands ledger.old chain → steps.new ≤ steps.old
-        + (1 + asked.scripts_in_bucket chain (G.buckets ledger.old) s.now.0
-        + 2 * length (history chain s.now.0) + asked.outputs_of_history chain s.now.0) }
+    ensures rows { (chain : Chain) → G.stands ledger.old chain
+        → G.reads ledger.new ≤ G.reads ledger.old
+        + (history_rows chain (G.buckets ledger.old) s.now.0 + asked.outputs_of_history chain s.now.0) }
     ensures quiet { Quiet G.is_live G.height G.tip G.buckets G.stands G.tells_crash
-        G.means G.moment G.left_since ledger.old ledger.new }
+        G.moment G.left_since ledger.old ledger.new }
     ensures counted { IsDiskCounted (λ n. RoseBy (G.faults ledger.old) (G.faults ledger.new) n) result }
 {
-    let coins = match ledger.unspent(alloc, s, steps) {
+    let coins = match ledger.unspent(alloc, s) {
         Ok(coins) => coins,
         Err(fault) => return Err(Stop::from(fault)),
     };

@@ -3,11 +3,16 @@ ghost use Rattle.std.specs.Prelude.{◌≡◌, ◌<◌, ◌≤◌, ℕ, List, []
 ghost use Rattle.el_methods.specs.Sessions.{is_subscribed, subscribed};
 ghost use Rattle.el_methods.specs.declared.session.SubsFault.TheVariants as fault;
 
-use crate::call::Version;
 use el_base::{Hash32, OutOfMemory};
 use indexmap::IndexMap;
 use std::alloc::Global;
 use std::marker::Model;
+
+/// A version of the protocol that client and server share.
+#[derive(Clone, Copy, Debug, PartialEq, Eq)]
+pub enum Version {
+    V14,
+}
 
 /// How many subscriptions a client may have.
 pub const SUBSCRIPTION_LIMIT: usize = 50_000;
@@ -89,7 +94,8 @@ impl Subs {
     pub fn subscribe(&mut self, s: Hash32, told: Option<Hash32>) -> Result<(), SubsFault>
         ensures ok { OnOk result (self.new ≡ subscribed s told self.old) }
         ensures err { OnErr result (self.new ≡ self.old) }
-        ensures room { OnOk result ((is_subscribed s self.old ≡ false) → length self.old < SUBSCRIPTION_LIMIT) }
+        ensures room { OnOk result ((is_subscribed s self.old ≡ false)
+            → length self.old < SUBSCRIPTION_LIMIT) }
         ensures full { IfErr result (λ e. (held : ℕ) → e ≡ fault.TooMany held
             → (held ≡ length self.old) × (SUBSCRIPTION_LIMIT ≤ held) × (is_subscribed s self.old ≡ false)) }
     {

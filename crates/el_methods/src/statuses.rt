@@ -1,27 +1,24 @@
 // Statuses of script hashes, and subscriptions to them.
-ghost use Rattle.std.specs.Prelude.{◌≡◌, ◌+◌, ◌*◌, ◌≤◌, ◌++◌, ◌∷◌, [], ℕ, IfOk, IfErr, OnOk, length, flat_map};
+ghost use Rattle.std.specs.Prelude.{◌≡◌, ◌+◌, ◌≤◌, ◌++◌, ◌∷◌, [], ℕ, IfOk, IfErr, OnOk, flat_map};
 ghost use Rattle.el_outside.specs.Counts.{RoseBy};
 ghost use Rattle.el_chain.specs.Chains.{Chain};
-ghost use Rattle.el_chain.specs.History.{history};
 ghost use Rattle.el_model.specs.Keeping.{Quiet};
-ghost use Rattle.el_model.specs.Queries as asked;
-ghost use Rattle.el_methods.specs.Envelopes.{IsPrintableAnswer};
 ghost use Rattle.el_methods.specs.Results as defined;
 ghost use Rattle.el_methods.specs.Results.{status_entry, status_of_text, told};
-ghost use Rattle.el_methods.specs.Outcomes.{IsReplyWith, IsDiskCounted};
-ghost use Rattle.el_methods.specs.declared.refusal.Refusal as shape;
+ghost use Rattle.el_methods.specs.RowBounds.{history_rows};
+ghost use Rattle.el_methods.specs.Outcomes.{IsReplyWith, IsDiskCounted, IsPrintableAnswer};
+ghost use Rattle.el_calls.specs.declared.refusal.Refusal as shape;
 ghost use Rattle.el_methods.specs.declared.stop.Stop.TheVariants as stop;
 
-use crate::refusal::Refusal;
 use crate::session::{SUBSCRIPTION_LIMIT, Subs};
 use crate::stop::Stop;
 use crate::texts::hex_of;
-use el_base::{Hash32, OutOfMemory, Steps, sha256};
+use el_base::{Hash32, OutOfMemory, sha256};
+use el_calls::Refusal;
 use el_chain::Entry;
 use el_json::Answer;
 use el_model::Ledger;
 use std::alloc::Global;
-use std::sync::ledger::Ledger as Counts;
 
 // Adds what an entry adds to the text of a status.
 fn push_entry(alloc: Global, text: &mut Vec<u8>, entry: &Entry) -> Result<(), OutOfMemory>
@@ -57,24 +54,18 @@ fn status_of(text: &[u8]) -> Option<Hash32>
 }
 
 // The status of a script hash.
-fn view_status<G: Ledger, L: Counts + Send>(
-    alloc: Global,
-    ledger: &mut G,
-    s: &Hash32,
-    steps: &mut Steps<L>,
-) -> Result<Option<Hash32>, Stop>
+fn view_status<G: Ledger>(alloc: Global, ledger: &mut G, s: &Hash32) -> Result<Option<Hash32>, Stop>
     requires live { G.is_live ledger.old }
     ensures status { (chain : Chain) → G.stands ledger.old chain
         → IfOk result (λ t. t ≡ defined.status chain s.now.0) }
     ensures never { IfErr result (λ e. (r : shape.Refusal) → e ≡ stop.Refused r → ⊥) }
-    ensures rows { (chain : Chain) → G.stands ledger.old chain → steps.new ≤ steps.old
-        + (1 + asked.scripts_in_bucket chain (G.buckets ledger.old) s.now.0
-        + 2 * length (history chain s.now.0)) }
+    ensures rows { (chain : Chain) → G.stands ledger.old chain
+        → G.reads ledger.new ≤ G.reads ledger.old + history_rows chain (G.buckets ledger.old) s.now.0 }
     ensures quiet { Quiet G.is_live G.height G.tip G.buckets G.stands G.tells_crash
-        G.means G.moment G.left_since ledger.old ledger.new }
+        G.moment G.left_since ledger.old ledger.new }
     ensures counted { IsDiskCounted (λ n. RoseBy (G.faults ledger.old) (G.faults ledger.new) n) result }
 {
-    match ledger.history(alloc, s, steps) {
+    match ledger.history(alloc, s) {
         Ok(entries) => {
             let text = status_text(alloc, entries.as_slice())?;
             Ok(status_of(text.as_slice()))
@@ -96,28 +87,26 @@ fn told_of(alloc: Global, status: Option<Hash32>) -> Result<Answer, OutOfMemory>
 
 /// The answer to `blockchain.scripthash.subscribe` (Electrum Protocol 1.4): the status of the script hash.
 /// The client is then subscribed to it, and was told that status.
-pub fn script_hash_subscribe<G: Ledger, L: Counts + Send>(
+pub fn script_hash_subscribe<G: Ledger>(
     alloc: Global,
     ledger: &mut G,
     subs: &mut Subs,
     s: Hash32,
-    steps: &mut Steps<L>,
 ) -> Result<Answer, Stop>
     requires live { G.is_live ledger.old }
     ensures answer { (chain : Chain) → G.stands ledger.old chain
         → IsReplyWith (defined.script_hash_subscribe chain subs.old s) subs.old subs.new result }
     ensures printable { IsPrintableAnswer result }
-    ensures rows { (chain : Chain) → G.stands ledger.old chain → steps.new ≤ steps.old
-        + (1 + asked.scripts_in_bucket chain (G.buckets ledger.old) s.0
-        + 2 * length (history chain s.0)) }
+    ensures rows { (chain : Chain) → G.stands ledger.old chain
+        → G.reads ledger.new ≤ G.reads ledger.old + history_rows chain (G.buckets ledger.old) s.0 }
     ensures quiet { Quiet G.is_live G.height G.tip G.buckets G.stands G.tells_crash
-        G.means G.moment G.left_since ledger.old ledger.new }
+        G.moment G.left_since ledger.old ledger.new }
     ensures counted { IsDiskCounted (λ n. RoseBy (G.faults ledger.old) (G.faults ledger.new) n) result }
 {
     if subs.held() >= SUBSCRIPTION_LIMIT && !subs.holds(&s) {
         return Err(Stop::Refused(Refusal::TooManySubscriptions));
     }
-    let status = match view_status(alloc, ledger, &s, steps) {
+    let status = match view_status(alloc, ledger, &s) {
         Ok(status) => status,
         Err(stop) => return Err(stop),
     };

@@ -1,50 +1,47 @@
 // Transactions of the chain.
-ghost use Rattle.std.specs.Prelude.{◌≡◌, ℕ, List, [], Some, None, IfOk, IfErr, IfSome, IfNone, Ok, Err};
+ghost use Rattle.std.specs.Prelude.{◌≡◌, ◌+◌, ◌≤◌, ℕ, List, [], Some, None, IfOk, IfErr, IfSome, IfNone, Ok, Err};
 ghost use Rattle.el_outside.specs.Counts.{RoseBy};
 ghost use Rattle.el_outside.specs.Files.{AllGrow};
 ghost use Rattle.el_chain.specs.Chains.{Chain};
 ghost use Rattle.el_chain.specs.declared.node.Spot as place;
 ghost use Rattle.el_files.specs.Reading.{text_at, IsOtherTx};
 ghost use Rattle.el_model.specs.Keeping.{Quiet};
-ghost use Rattle.el_model.specs.Queries.{find_tx};
-ghost use Rattle.el_methods.specs.Envelopes.{IsPrintableAnswer};
+ghost use Rattle.el_model.specs.Queries.{find_tx, txs_in_bucket};
 ghost use Rattle.el_methods.specs.Results as defined;
 ghost use Rattle.el_methods.specs.Results.{hex};
 ghost use Rattle.el_methods.specs.Archives.{HasTransactions, HasChanged};
-ghost use Rattle.el_methods.specs.Outcomes.{IsAnswer, IsCounted, IsDiskCounted};
+ghost use Rattle.el_methods.specs.Outcomes.{IsAnswer, IsCounted, IsDiskCounted, IsPrintableAnswer};
 ghost use Rattle.el_methods.specs.declared.stop.Stop.TheVariants as stop;
-ghost use Rattle.el_methods.specs.declared.refusal.Refusal as shape;
-ghost use Rattle.el_methods.specs.declared.refusal.Refusal.TheVariants as refusal;
+ghost use Rattle.el_calls.specs.declared.refusal.Refusal as shape;
+ghost use Rattle.el_calls.specs.declared.refusal.Refusal.TheVariants as refusal;
 
-use crate::refusal::Refusal;
 use crate::stop::Stop;
 use crate::texts::hex_of;
-use el_base::{Hash32, Steps};
+use el_base::Hash32;
+use el_calls::Refusal;
 use el_chain::{ReadFault, Spot};
 use el_files::read_tx;
 use el_json::Answer;
 use el_model::Ledger;
 use el_outside::Archive;
 use std::alloc::Global;
-use std::sync::ledger::Ledger as Counts;
 
 // Where the newest transaction with that txid stands.
-fn spot_of<G: Ledger, L: Counts + Send>(
-    ledger: &mut G,
-    id: &Hash32,
-    steps: &mut Steps<L>,
-) -> Result<Spot, Stop>
+fn spot_of<G: Ledger>(ledger: &mut G, id: &Hash32) -> Result<Spot, Stop>
     requires live { G.is_live ledger.old }
     ensures found { (chain : Chain) → G.stands ledger.old chain
         → IfOk result (λ spot. find_tx chain id.now ≡ Some spot) }
     ensures none { (chain : Chain) → G.stands ledger.old chain
         → IfErr result (λ e. (r : shape.Refusal) → e ≡ stop.Refused r
         → (r ≡ refusal.NoSuchTransaction) × (find_tx chain id.now ≡ None)) }
+    ensures rows { (chain : Chain) → G.stands ledger.old chain
+        → G.reads ledger.new ≤ G.reads ledger.old
+        + (2 + txs_in_bucket chain (G.buckets ledger.old) id.now.0) }
     ensures quiet { Quiet G.is_live G.height G.tip G.buckets G.stands G.tells_crash
-        G.means G.moment G.left_since ledger.old ledger.new }
+        G.moment G.left_since ledger.old ledger.new }
     ensures counted { IsDiskCounted (λ n. RoseBy (G.faults ledger.old) (G.faults ledger.new) n) result }
 {
-    match ledger.find_tx(id, steps) {
+    match ledger.find_tx(id) {
         Ok(Some(spot)) => Ok(spot),
         Ok(None) => Err(Stop::Refused(Refusal::NoSuchTransaction)),
         Err(_) => Err(Stop::Disk),
@@ -81,13 +78,12 @@ fn text_of<A: Archive>(
 
 /// The answer to `blockchain.transaction.get` (Electrum Protocol 1.4): the bytes of the newest transaction
 /// with that txid, in hex. Verbose ones are not served.
-pub fn transaction_get<G: Ledger, A: Archive, L: Counts + Send>(
+pub fn transaction_get<G: Ledger, A: Archive>(
     alloc: Global,
     ledger: &mut G,
     archive: &mut A,
     id: Hash32,
     verbose: bool,
-    steps: &mut Steps<L>,
 ) -> Result<Answer, Stop>
     requires live { G.is_live ledger.old }
     // Where the block files have the chain's transactions at their places.
@@ -99,8 +95,10 @@ pub fn transaction_get<G: Ledger, A: Archive, L: Counts + Send>(
         → IfErr result (λ e. e ≡ stop.Changed → (spot : place.Spot) × (find_tx chain id ≡ Some spot)
         × HasChanged spot id (A.bytes archive.new spot.place.file)) }
     ensures printable { IsPrintableAnswer result }
+    ensures rows { (chain : Chain) → G.stands ledger.old chain
+        → G.reads ledger.new ≤ G.reads ledger.old + (2 + txs_in_bucket chain (G.buckets ledger.old) id.0) }
     ensures quiet { Quiet G.is_live G.height G.tip G.buckets G.stands G.tells_crash
-        G.means G.moment G.left_since ledger.old ledger.new }
+        G.moment G.left_since ledger.old ledger.new }
     ensures grows { A.tells → AllGrow (A.bytes archive.old) (A.bytes archive.new) }
     ensures counted { IsCounted (λ n. RoseBy (G.faults ledger.old) (G.faults ledger.new) n)
         (λ n. RoseBy (A.faults archive.old) (A.faults archive.new) n) result }
@@ -108,7 +106,7 @@ pub fn transaction_get<G: Ledger, A: Archive, L: Counts + Send>(
     if verbose {
         return Err(Stop::Refused(Refusal::VerboseNotServed));
     }
-    let spot = match spot_of(ledger, &id, steps) {
+    let spot = match spot_of(ledger, &id) {
         Ok(spot) => spot,
         Err(stop) => return Err(stop),
     };

@@ -1,7 +1,7 @@
 use Rattle.std.proofs.Common.{◌∙◌, sym, subst, Result}
 use Rattle.serde_json.specs.Data.{Data}
 use Rattle.el_methods.specs.Outcomes.{IsAnswer}
-use Rattle.el_methods.specs.declared.refusal.Refusal.{Refusal}
+use Rattle.el_calls.specs.declared.refusal.Refusal.{Refusal}
 use Rattle.el_methods.proofs.ManyHeaders.{count_is, plain_headers}
 use Rattle.el_methods.proofs.blocks.block_headers.Goals as goal
 

@@ -8,8 +8,7 @@ pub loop-i-init : goal.loop-i-init
 loop-i-init g c =
     let l = g.G.Ledger in
     record {
-      quiet = quiet_none l.is_live l.height l.tip l.buckets l.stands l.tells_crash l.means l.moment l.left_since c.args.ledger.now c.requires.live
-          (λ k chain left told live stood x. g.met.G.Ledger.leaves_own k chain left told live stood x);
+      quiet = quiet_none l.is_live l.height l.tip l.buckets l.stands l.tells_crash l.moment l.left_since c.args.ledger.now;
       bytes = λ chain stands. c.new-bytes.ensures.items;
       rows = omega arith;
       unfailed = refl;
@@ -22,7 +21,7 @@ loop-i-preserved g c =
     let more = c.header.ensures.rows in
     let rows = before.rows in
     record {
-      quiet = quiet_on l.is_live l.height l.tip l.buckets l.stands l.tells_crash l.means l.moment l.left_since _ _ _ before.quiet c.header.ensures.quiet;
+      quiet = quiet_on l.is_live l.height l.tip l.buckets l.stands l.tells_crash l.moment l.left_since _ _ _ before.quiet c.header.ensures.quiet;
       bytes = λ chain stands.
           let stood = before.quiet.stays.still_stands chain stands in
           c.in_ok-extend_from_slice-in-Ok.ensures.items ∙ ap (λ bs. bs ++ c.as_slice.result.now) (before.bytes chain stands)
@@ -35,11 +34,11 @@ loop-i-preserved g c =
 pub returns-in_err-extend_from_slice-in-Ok-clause-quiet : goal.returns-in_err-extend_from_slice-in-Ok-clause-quiet
 returns-in_err-extend_from_slice-in-Ok-clause-quiet g c =
     let l = g.G.Ledger in
-    quiet_on l.is_live l.height l.tip l.buckets l.stands l.tells_crash l.means l.moment l.left_since _ _ _
+    quiet_on l.is_live l.height l.tip l.buckets l.stands l.tells_crash l.moment l.left_since _ _ _
     c.loop-i.invariant.quiet c.header.ensures.quiet
 
 pub returns-in-Err-clause-quiet : goal.returns-in-Err-clause-quiet
 returns-in-Err-clause-quiet g c =
     let l = g.G.Ledger in
-    quiet_on l.is_live l.height l.tip l.buckets l.stands l.tells_crash l.means l.moment l.left_since _ _ _
+    quiet_on l.is_live l.height l.tip l.buckets l.stands l.tells_crash l.moment l.left_since _ _ _
     c.loop-i.invariant.quiet c.header.ensures.quiet

@@ -8,8 +8,8 @@ abbrev pub invariant-loop-i : goal.invariant-loop-i
 invariant-loop-i g l =
     let d = g.G.Ledger in
     record {
-      quiet : Quiet d.is_live d.height d.tip d.buckets d.stands d.tells_crash d.means d.moment d.left_since l.initial.ledger l.ledger;
+      quiet : Quiet d.is_live d.height d.tip d.buckets d.stands d.tells_crash d.moment d.left_since l.initial.ledger l.ledger;
       bytes : (chain : Chain) → d.stands l.initial.ledger chain → l.bytes.items ≡ headers_bytes chain l.start l.i;
-      rows : l.steps ≤ l.initial.steps + l.i;
+      rows : d.reads l.ledger ≤ d.reads l.initial.ledger + l.i;
       unfailed : d.faults l.ledger ≡ d.faults l.initial.ledger;
     }

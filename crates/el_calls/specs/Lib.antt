@@ -1,0 +1,4 @@
+pub mod Refusals
+pub mod Names
+pub mod Versions
+pub mod Methods

@@ -1,0 +1,167 @@
+-- What each method takes (Electrum Protocol 1.4, "Protocol Methods"): the names of its parameters in their
+-- order, and the call by what is given for them.
+use Rattle.std.specs.Prelude.{◌≡◌, ℕ, false, if◌then◌else◌, List, [], ◌∷◌, Option, Some, None, ok_or, is_some, Bool, Result, Ok, Err, codes}
+use Rattle.serde_json.specs.Data.{Data}
+use Rattle.serde_json.specs.Find.{as_bool, as_str, as_object}
+use Rattle.el_base.specs.declared.hash.Hash32.{Hash32}
+use Rattle.el_json.specs.declared.params.Params.{Params}
+use Rattle.el_json.specs.Parameters.{given, has_only, number_in, hash_in}
+use Rattle.el_calls.specs.declared.method.Method.{Method}
+use Rattle.el_calls.specs.declared.method.Method.TheVariants as method
+use Rattle.el_calls.specs.declared.call.Call.{Call}
+use Rattle.el_calls.specs.declared.call.Call.TheVariants as call
+use Rattle.el_calls.specs.declared.refusal.Refusal.{Refusal}
+use Rattle.el_calls.specs.declared.refusal.Refusal.TheVariants.{InvalidParams}
+use Rattle.el_calls.specs.declared.refusal.Refusal.TheVariants as refusal
+use Rattle.el_calls.specs.Names.{name_of}
+use Rattle.el_calls.specs.Versions.{versions_in, served, is_hex_text}
+
+-- what comes first, and then what comes of it, unless it was refused
+infixl 10 ◌>>=◌
+abbrev pub ◌>>=◌ : {A B : Type 0} → Result A Refusal → (A → Result B Refusal) → Result B Refusal
+(Ok x) >>= f = f x
+(Err e) >>= f = Err e
+
+-- A parameter that must be given, of this kind.
+abbrev pub needed : {A : Type 0} → (Data → Option A) → Option Data → Result A Refusal
+needed kind None = Err InvalidParams
+needed kind (Some d) = ok_or (kind d) InvalidParams
+
+-- A parameter that may be left out, and then has this value.
+abbrev pub otherwise : {A : Type 0} → A → (Data → Option A) → Option Data → Result A Refusal
+otherwise value kind None = Ok value
+otherwise value kind (Some d) = ok_or (kind d) InvalidParams
+
+-- the kind of what passes the test
+abbrev pub passing : (Data → Bool) → Data → Option (Unit {0})
+passing test d = if test d then Some tt else None
+
+abbrev pub is_text : Data → Bool
+is_text d = is_some (as_str d)
+
+abbrev pub is_object : Data → Bool
+is_object d = is_some (as_object d)
+
+-- nothing else is given than these parameters
+abbrev pub only : List (List ℕ) → Params → Result (Unit {0}) Refusal
+only names p = if has_only names p then Ok tt else Err InvalidParams
+
+-- one row of the table
+pub record Row : Type 0 where
+  pub names : List (List ℕ)
+  pub call : Params → Result Call Refusal
+
+-- a method without parameters
+abbrev pub plain : Call → Row
+plain c = record { names = []; call = λ p. Ok c }
+
+-- a method of a script hash
+abbrev pub of_script_hash : (Hash32 → Call) → Row
+of_script_hash make = record {
+  names = codes "scripthash" ∷ [];
+  call = λ p. do
+    script_hash ← needed hash_in (given p 0 (codes "scripthash"))
+    Ok (make script_hash);
+}
+
+-- The table of methods.
+abbrev pub row_of : Method → Row
+row_of method.ServerVersion = record {
+  names = codes "client_name" ∷ codes "protocol_version" ∷ [];
+  call = λ p. do
+    client_name ← otherwise tt (passing is_text) (given p 0 (codes "client_name"))
+    versions ← otherwise (served, served) versions_in (given p 1 (codes "protocol_version"))
+    Ok (call.ServerVersion versions.0 versions.1);
+}
+row_of method.ServerBanner = plain call.ServerBanner
+row_of method.ServerDonationAddress = plain call.ServerDonationAddress
+row_of method.ServerFeatures = plain call.ServerFeatures
+row_of method.ServerPing = plain call.ServerPing
+row_of method.ServerPeersSubscribe = plain call.ServerPeersSubscribe
+row_of method.ServerAddPeer = record {
+  names = codes "features" ∷ [];
+  call = λ p. do
+    features ← needed (passing is_object) (given p 0 (codes "features"))
+    Ok call.ServerAddPeer;
+}
+row_of method.BlockHeader = record {
+  names = codes "height" ∷ codes "cp_height" ∷ [];
+  call = λ p. do
+    height ← needed number_in (given p 0 (codes "height"))
+    cp_height ← otherwise 0 number_in (given p 1 (codes "cp_height"))
+    Ok (call.BlockHeader height cp_height);
+}
+row_of method.BlockHeaders = record {
+  names = codes "start_height" ∷ codes "count" ∷ codes "cp_height" ∷ [];
+  call = λ p. do
+    start_height ← needed number_in (given p 0 (codes "start_height"))
+    count ← needed number_in (given p 1 (codes "count"))
+    cp_height ← otherwise 0 number_in (given p 2 (codes "cp_height"))
+    Ok (call.BlockHeaders start_height count cp_height);
+}
+row_of method.EstimateFee = record {
+  names = codes "number" ∷ [];
+  call = λ p. do
+    number ← needed number_in (given p 0 (codes "number"))
+    Ok call.EstimateFee;
+}
+row_of method.RelayFee = plain call.RelayFee
+row_of method.HeadersSubscribe = plain call.HeadersSubscribe
+row_of method.GetBalance = of_script_hash call.GetBalance
+row_of method.GetHistory = of_script_hash call.GetHistory
+row_of method.GetMempool = of_script_hash call.GetMempool
+row_of method.ListUnspent = of_script_hash call.ListUnspent
+row_of method.ScriptHashSubscribe = of_script_hash call.ScriptHashSubscribe
+row_of method.Broadcast = record {
+  names = codes "raw_tx" ∷ [];
+  call = λ p. do
+    raw_tx ← needed (passing is_hex_text) (given p 0 (codes "raw_tx"))
+    Ok call.Broadcast;
+}
+row_of method.TransactionGet = record {
+  names = codes "tx_hash" ∷ codes "verbose" ∷ [];
+  call = λ p. do
+    tx_hash ← needed hash_in (given p 0 (codes "tx_hash"))
+    verbose ← otherwise false as_bool (given p 1 (codes "verbose"))
+    Ok (call.TransactionGet tx_hash verbose);
+}
+row_of method.GetMerkle = record {
+  names = codes "tx_hash" ∷ codes "height" ∷ [];
+  call = λ p. do
+    tx_hash ← needed hash_in (given p 0 (codes "tx_hash"))
+    height ← needed number_in (given p 1 (codes "height"))
+    Ok (call.GetMerkle tx_hash height);
+}
+row_of method.IdFromPos = record {
+  names = codes "height" ∷ codes "tx_pos" ∷ codes "merkle" ∷ [];
+  call = λ p. do
+    height ← needed number_in (given p 0 (codes "height"))
+    tx_pos ← needed number_in (given p 1 (codes "tx_pos"))
+    merkle ← otherwise false as_bool (given p 2 (codes "merkle"))
+    Ok (call.IdFromPos height tx_pos merkle);
+}
+row_of method.FeeHistogram = plain call.FeeHistogram
+
+-- The call of this method with these parameters: none may be missing, one too many, unknown or not of its
+-- kind.
+abbrev pub called : Method → Params → Result Call Refusal
+called m p = do
+  nothing ← only (row_of m).names p
+  (row_of m).call p
+
+-- What a request by that name asks for: an unknown name comes before what is given.
+pub data IsCalled (name : List ℕ) (p : Params) (asked : Result Call Refusal) : Type 0 where
+  known : (m : Method) → name ≡ name_of m → asked ≡ called m p → IsCalled name p asked
+  unknown : ((m : Method) → name ≡ name_of m → ⊥) → asked ≡ Err refusal.UnknownMethod → IsCalled name p asked
+
+-- what is given for a script hash alone
+abbrev pub script_hash_in : Params → Result Hash32 Refusal
+script_hash_in p = do
+  nothing ← only (codes "scripthash" ∷ []) p
+  needed hash_in (given p 0 (codes "scripthash"))
+
+-- a call without parameters
+abbrev pub plain_call : Call → Params → Result Call Refusal
+plain_call c p = do
+  nothing ← only [] p
+  Ok c

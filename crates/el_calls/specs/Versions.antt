@@ -1,0 +1,100 @@
+-- Versions of the protocol as clients name them (Electrum Protocol 1.4, server.version): one to three parts
+-- with dots between, each of one to four digits. Parts that are missing are 0.
+use Rattle.std.specs.Prelude.{ℕ, ◌+◌, ◌*◌, ◌-◌, ◌%◌, length, ◌==◌, nat_lt, nat_le, ◌&&◌, ◌||◌, Bool, false, if◌then◌else◌, List, [], ◌∷◌, Option, Some, None, option_and_then}
+use Rattle.std.specs.List.{list_all}
+use Rattle.std.specs.Char.{is_ascii_digit, is_ascii_hexdigit}
+use Rattle.serde_json.specs.Data.{Data}
+use Rattle.serde_json.specs.Find.{as_str}
+use Rattle.el_json.specs.Parameters.{pair_in}
+use Rattle.el_calls.specs.declared.call.VersionParts.{VersionParts}
+
+infixl 10 ◌>>=◌
+abbrev pub ◌>>=◌ : {A B : Type 0} → Option A → (A → Option B) → Option B
+(Some x) >>= f = f x
+None >>= f = None
+
+-- what stands before the first dot (46), and what after it
+abbrev pub cut_at_dot : List ℕ → List ℕ × Option (List ℕ)
+cut_at_dot [] = ([], None)
+cut_at_dot (b ∷ bs) = if b == 46 then ([], Some bs) else (b ∷ (cut_at_dot bs).0, (cut_at_dot bs).1)
+
+-- a digit (48 is '0')
+abbrev pub digit_of : ℕ → Option ℕ
+digit_of b = if is_ascii_digit b then Some (b - 48) else None
+
+abbrev pub next_digit : Option ℕ → ℕ → Option ℕ
+next_digit before b = do
+  n ← before
+  d ← digit_of b
+  Some (n * 10 + d)
+
+-- one to four digits
+abbrev pub part_of : List ℕ → Option ℕ
+part_of [] = None
+part_of (a ∷ []) = digit_of a
+part_of (a ∷ b ∷ []) = next_digit (digit_of a) b
+part_of (a ∷ b ∷ c ∷ []) = next_digit (next_digit (digit_of a) b) c
+part_of (a ∷ b ∷ c ∷ d ∷ []) = next_digit (next_digit (next_digit (digit_of a) b) c) d
+part_of (a ∷ b ∷ c ∷ d ∷ e ∷ rest) = None
+
+-- the last part, if there is one
+abbrev pub part_or_zero : Option (List ℕ) → Option ℕ
+part_or_zero None = Some 0
+part_or_zero (Some text) = part_of text
+
+abbrev pub rest_of : Option (List ℕ) → List ℕ × Option (List ℕ)
+rest_of None = (48 ∷ [], None)
+rest_of (Some text) = cut_at_dot text
+
+-- the version whose first part is that text, and whose others are in what was cut
+abbrev pub version_with : List ℕ → List ℕ × Option (List ℕ) → Option VersionParts
+version_with first cut = do
+  major ← part_of first
+  minor ← part_of cut.0
+  patch ← part_or_zero cut.1
+  Some (record { major = major; minor = minor; patch = patch })
+
+abbrev pub version_of : List ℕ → Option VersionParts
+version_of text = version_with (cut_at_dot text).0 (rest_of (cut_at_dot text).1)
+
+abbrev pub version_in : Data → Option VersionParts
+version_in d = option_and_then version_of (as_str d)
+
+abbrev pub versions_with : Option (List ℕ) → Option (Data × Data) → Option (VersionParts × VersionParts)
+versions_with (Some text) pair = do
+  version ← version_of text
+  Some (version, version)
+versions_with None (Some pair) = do
+  first ← version_in pair.0
+  second ← version_in pair.1
+  Some (first, second)
+versions_with None None = None
+
+-- The least and the most version that the client takes: a list of exactly two, or one that stands for both.
+abbrev pub versions_in : Data → Option (VersionParts × VersionParts)
+versions_in d = versions_with (as_str d) (pair_in d)
+
+-- the one version is not above the other: parts compare as numbers, the first ones first
+abbrev pub is_up_to : VersionParts → VersionParts → Bool
+is_up_to a b =
+    nat_lt a.major b.major
+    || (a.major == b.major && (nat_lt a.minor b.minor || (a.minor == b.minor && nat_le a.patch b.patch)))
+
+abbrev pub served : VersionParts
+served = record { major = 1; minor = 4; patch = 0 }
+
+-- the version that is served is among those that the client takes
+abbrev pub is_shared : VersionParts → VersionParts → Bool
+is_shared least most = is_up_to least served && is_up_to served most
+
+-- an even number of hex digits
+abbrev pub are_hex_bytes : List ℕ → Bool
+are_hex_bytes text = (length text % 2 == 0) && list_all is_ascii_hexdigit text
+
+abbrev pub are_hex_bytes_in : Option (List ℕ) → Bool
+are_hex_bytes_in None = false
+are_hex_bytes_in (Some text) = are_hex_bytes text
+
+-- a text of them
+abbrev pub is_hex_text : Data → Bool
+is_hex_text d = are_hex_bytes_in (as_str d)

@@ -1,0 +1,64 @@
+// Calls: methods with what is given for their parameters.
+use el_base::Hash32;
+
+/// The parts of a version that a client names, each below 10,000.
+#[derive(Clone, Copy, Debug, PartialEq, Eq)]
+pub struct VersionParts {
+    pub major: u16,
+    pub minor: u16,
+    pub patch: u16,
+}
+
+/// The version that is served.
+pub(crate) const SERVED: VersionParts = VersionParts {
+    major: 1,
+    minor: 4,
+    patch: 0,
+};
+
+/// A method with what is given for its parameters, or their defaults.
+#[derive(Clone, Copy, Debug, PartialEq, Eq)]
+pub enum Call {
+    ServerVersion {
+        least: VersionParts,
+        most: VersionParts,
+    },
+    ServerBanner,
+    ServerDonationAddress,
+    ServerFeatures,
+    ServerPing,
+    ServerPeersSubscribe,
+    ServerAddPeer,
+    BlockHeader {
+        height: u64,
+        cp_height: u64,
+    },
+    BlockHeaders {
+        start_height: u64,
+        count: u64,
+        cp_height: u64,
+    },
+    EstimateFee,
+    RelayFee,
+    HeadersSubscribe,
+    GetBalance(Hash32),
+    GetHistory(Hash32),
+    GetMempool(Hash32),
+    ListUnspent(Hash32),
+    ScriptHashSubscribe(Hash32),
+    Broadcast,
+    TransactionGet {
+        tx_hash: Hash32,
+        verbose: bool,
+    },
+    GetMerkle {
+        tx_hash: Hash32,
+        height: u64,
+    },
+    IdFromPos {
+        height: u64,
+        tx_pos: u64,
+        merkle: bool,
+    },
+    FeeHistogram,
+}

@@ -1,0 +1,3 @@
+mod BatchLoop
+mod Losing
+mod LineEnds

@@ -1,0 +1,135 @@
+-- What is lost while a line is answered.
+use Rattle.std.proofs.Common.{◌≡◌, sym, subst, ℕ, ◌+◌, nat_lt, true, false, List, [], ◌∷◌, ◌++◌, Result, Ok, Err, refl}
+use Rattle.std.proofs.Common.{append_assoc, append-nil, arith}
+use Rattle.std.specs.Prelude.{OnOk, IfOk, IsErrAnd, MatchResult}
+use Rattle.serde_json.specs.Data.{Data}
+use Rattle.el_outside.specs.Counts.{RoseBy}
+use Rattle.el_outside.proofs.Stories.{rose_none, rose_more}
+use Rattle.el_chain.specs.Chains.{Chain}
+use Rattle.el_chain.specs.declared.node.Node.{Node}
+use Rattle.el_json.specs.declared.request.Request.{Request}
+use Rattle.el_json.specs.declared.request.Item.TheVariants.{Good}
+use Rattle.el_replies.specs.Batches.{InTime, Step, Cut, CutStep, with_reply}
+use Rattle.el_replies.specs.Losses.{Loss, disk, archive, changed, disk_losses, archive_losses}
+use Rattle.el_replies.specs.Losses.{losses_of, IsTold, AnswersOf, Loses}
+use Rattle.el_replies.specs.Losses as told
+use Rattle.el_replies.specs.Requested.{IsAnswered}
+use Rattle.el_replies.specs.Requested as reply
+use Rattle.el_methods.specs.Outcomes.{IsCounted}
+use Rattle.el_calls.specs.declared.refusal.Refusal.{Refusal}
+use Rattle.el_calls.specs.declared.refusal.Refusal.TheVariants as refusal
+use Rattle.el_methods.specs.declared.session.Session.{Session}
+use Rattle.el_replies.specs.declared.batch.Replies.{Replies}
+use Rattle.el_replies.specs.declared.batch.TheConstants.{BATCH_LIMIT}
+use Rattle.el_methods.specs.declared.stop.Stop.{Stop}
+use Rattle.el_methods.specs.declared.stop.Stop.TheVariants as stop
+
+disk_more : (xs ys : List Loss) → disk_losses (xs ++ ys) ≡ disk_losses xs + disk_losses ys
+disk_more [] ys = omega arith
+disk_more (disk ∷ xs) ys = let e = disk_more xs ys in omega arith
+disk_more (archive ∷ xs) ys = disk_more xs ys
+disk_more (changed ∷ xs) ys = disk_more xs ys
+
+archive_more : (xs ys : List Loss) → archive_losses (xs ++ ys) ≡ archive_losses xs + archive_losses ys
+archive_more [] ys = omega arith
+archive_more (disk ∷ xs) ys = archive_more xs ys
+archive_more (archive ∷ xs) ys = let e = archive_more xs ys in omega arith
+archive_more (changed ∷ xs) ys = archive_more xs ys
+
+-- the counts are those of what was lost
+counts : (d a : ℕ → Type 0) (given : Result Data Stop) → IsCounted d a given
+    → d (disk_losses (losses_of given)) × a (archive_losses (losses_of given))
+counts d a (Ok answer) h = h
+counts d a (Err (stop.Refused r)) h = h
+counts d a (Err stop.Disk) h = h
+counts d a (Err stop.Archive) h = h
+counts d a (Err stop.Changed) h = h
+counts d a (Err stop.Memory) h = h
+
+pub with_losses : (chain : Chain) (found : List Node) (r : Request) (s t : Session) (d e a b : ℕ)
+    (answered : Result Data Refusal)
+    → IsAnswered chain found r s (λ n. RoseBy d e n) (λ n. RoseBy a b n) answered t
+    → Loses d e a b (λ before after. AnswersOf chain found before r s answered after t)
+with_losses chain found r s t d e a b answered (reply.refused x c is same p q) =
+    record { lost = []; done = λ before. ([], told.refused x c is same refl, refl); disk_count = p; archive_count = q }
+with_losses chain found r s t d e a b answered (reply.asked c given is tells so count) =
+    let n = counts (λ n. RoseBy d e n) (λ n. RoseBy a b n) given count in
+    record {
+      lost = losses_of given;
+      done = λ before. (losses_of given, told.asked c given is tells so refl, refl);
+      disk_count = n.0;
+      archive_count = n.1;
+    }
+
+-- what else was done then
+pub so : {d e a b : ℕ} (one other : List Loss → List Loss → Type 0)
+    → ((x y : List Loss) → one x y → other x y) → Loses d e a b one → Loses d e a b other
+so one other f h = record {
+  lost = h.lost;
+  done = λ before. f before (before ++ h.lost) (h.done before);
+  disk_count = h.disk_count;
+  archive_count = h.archive_count;
+}
+
+-- nothing was lost
+pub unlost : (d e a b : ℕ) (does : List Loss → List Loss → Type 0) → RoseBy d e 0 → RoseBy a b 0
+    → ((before : List Loss) → does before before) → Loses d e a b does
+unlost d e a b does p q h = record {
+  lost = [];
+  done = λ before. subst (λ after. does before after) (sym (append-nil before)) (h before);
+  disk_count = p;
+  archive_count = q;
+}
+
+pub none_lost : (d a : ℕ) (does : List Loss → List Loss → Type 0)
+    → ((before : List Loss) → does before before) → Loses d d a a does
+none_lost d a does h = unlost d d a a does (rose_none d) (rose_none a) h
+
+-- one thing was done after the other
+pub both : {d e f a b c : ℕ} (one other all : List Loss → List Loss → Type 0)
+    → ((x y z : List Loss) → one x y → other y z → all x z)
+    → Loses d e a b one → Loses e f b c other → Loses d f a c all
+both {d} {e} {f} {a} {b} {c} one other all links h k = record {
+  lost = h.lost ++ k.lost;
+  done = λ before. subst (λ after. all before after) (append_assoc before h.lost k.lost)
+      (links before (before ++ h.lost) ((before ++ h.lost) ++ k.lost) (h.done before)
+      (k.done (before ++ h.lost)));
+  disk_count = subst (λ n. RoseBy d f n) (sym (disk_more h.lost k.lost))
+      (rose_more d e f (disk_losses h.lost) (disk_losses k.lost) h.disk_count k.disk_count);
+  archive_count = subst (λ n. RoseBy a c n) (sym (archive_more h.lost k.lost))
+      (rose_more a b c (archive_losses h.lost) (archive_losses k.lost) h.archive_count k.archive_count);
+}
+
+-- what holds of both results
+pub done_or : {T E : Type 0} (r : Result T E) (C P Q : Type 0) → (C → P) → Q → OnOk r C
+    → MatchResult r (λ x. P) (λ e. Q)
+done_or (Ok x) C P Q f q h = f h
+done_or (Err e) C P Q f q h = q
+
+pub found_or : {T E : Type 0} (r : Result T E) (C P : T → Type 0) (Q : Type 0) → ((x : T) → C x → P x)
+    → Q → IfOk r C → MatchResult r P (λ e. Q)
+found_or (Ok x) C P Q f q h = f x h
+found_or (Err e) C P Q f q h = q
+
+-- what holds of a result that is an error
+pub failed : {T E : Type 0} (r : Result T E) (F : E → Type 0) (P : T → Type 0) (Q : Type 0) → IsErrAnd r F → Q
+    → MatchResult r P (λ e. Q)
+failed (Ok x) F P Q is q = absurd is
+failed (Err e) F P Q is q = q
+
+-- a request in a batch, before the limit was passed and after
+module _ {X : Type 0} (answers : X → Request → Session → Result Data Refusal → X → Session → Type 0) where
+  pub step_late : (r : Request) (x : X) (s t : Session) (b c : Replies) → nat_lt BATCH_LIMIT b.size ≡ true
+      → t ≡ s → c ≡ with_reply r.id (Err refusal.BatchTooLarge) b → Step answers (Good r) x s b x t c
+  step_late r x s t b c late same is = rw late (refl, same, is)
+
+  pub cut_late : (r : Request) (x : X) (s : Session) (b : Replies) → nat_lt BATCH_LIMIT b.size ≡ true
+      → CutStep answers (Good r) x s b x
+  cut_late r x s b late = rw late refl
+
+  pub in_time : {T E : Type 0} (result : Result T E) (r : Request) (x y : X) (s t : Session) (b c : Replies)
+      → nat_lt BATCH_LIMIT b.size ≡ false
+      → MatchResult result (λ z. InTime answers r x s b y t c) (λ e. Cut answers r x s y)
+      → MatchResult result (λ z. Step answers (Good r) x s b y t c) (λ e. CutStep answers (Good r) x s b y)
+  in_time (Ok z) r x y s t b c early h = rw early h
+  in_time (Err e) r x y s t b c early h = rw early h

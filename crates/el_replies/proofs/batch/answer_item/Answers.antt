@@ -1,0 +1,52 @@
+use Rattle.std.proofs.Common.{◌≡◌, refl, nat_lt, true, false, arith, sym, subst}
+use Rattle.std.specs.Prelude.{MatchResult}
+use Rattle.std.proofs.lemmas.Bool.Decides.{nat_tests}
+use Rattle.el_json.specs.declared.request.Item.{Item}
+use Rattle.el_replies.proofs.Losing.{so, none_lost, step_late, cut_late, in_time, done_or}
+use Rattle.el_replies.specs.Batches.{Step, CutStep}
+use Rattle.el_replies.specs.Losses.{AnswersOf}
+use Rattle.el_replies.specs.declared.batch.TheConstants.{BATCH_LIMIT}
+use Rattle.el_replies.proofs.batch.answer_item.Goals as goal
+
+pub returns-then-replies-gt-BATCH_LIMIT-clause-answered :
+    goal.returns-then-replies-gt-BATCH_LIMIT-clause-answered
+returns-then-replies-gt-BATCH_LIMIT-clause-answered g c = λ tells chain stands has.
+    let limit = c.if-replies-gt-BATCH_LIMIT.true in
+    let late : nat_lt BATCH_LIMIT c.args.replies.now.size ≡ true = grind (arith, nat_tests) in
+    let answers = AnswersOf chain c.args.holdings.now.tree in
+    none_lost _ _ _ (λ before.
+    let P : Item → Type 0 = λ i. MatchResult c.add_reply.result
+    (λ z. Step answers i before c.args.session.now c.args.replies.now before c.args.session.now
+    c.add_reply.new.replies)
+    (λ e. CutStep answers i before c.args.session.now c.args.replies.now before) in
+    subst P (sym c.in-Good.is) (done_or c.add_reply.result _ _ _
+    (λ is. step_late answers c.in-Good.request before c.args.session.now c.args.session.now c.args.replies.now
+    c.add_reply.new.replies late refl is)
+    (cut_late answers c.in-Good.request before c.args.session.now c.args.replies.now late)
+    c.add_reply.ensures))
+
+pub returns-else-replies-gt-BATCH_LIMIT-clause-answered :
+    goal.returns-else-replies-gt-BATCH_LIMIT-clause-answered
+returns-else-replies-gt-BATCH_LIMIT-clause-answered g c = λ tells chain stands has.
+    let limit = c.if-replies-gt-BATCH_LIMIT.false in
+    let early : nat_lt BATCH_LIMIT c.args.replies.now.size ≡ false = grind (arith, nat_tests) in
+    let answers = AnswersOf chain c.args.holdings.now.tree in
+    so _ _ (λ x y h.
+    let P : Item → Type 0 = λ i. MatchResult c.answer_in_time.result
+    (λ z. Step answers i x c.args.session.now c.args.replies.now y c.answer_in_time.new.session
+    c.answer_in_time.new.replies)
+    (λ e. CutStep answers i x c.args.session.now c.args.replies.now y) in
+    subst P (sym c.in-Good.is) (in_time answers c.answer_in_time.result c.in-Good.request x y
+    c.args.session.now c.answer_in_time.new.session c.args.replies.now c.answer_in_time.new.replies early h))
+    (c.answer_in_time.ensures.answered tells chain stands has)
+
+pub returns-in-Invalid-clause-answered : goal.returns-in-Invalid-clause-answered
+returns-in-Invalid-clause-answered g c = λ tells chain stands has.
+    let answers = AnswersOf chain c.args.holdings.now.tree in
+    none_lost _ _ _ (λ before.
+    let P : Item → Type 0 = λ i. MatchResult c.add_reply-in-Invalid.result
+    (λ z. Step answers i before c.args.session.now c.args.replies.now before c.args.session.now
+    c.add_reply-in-Invalid.new.replies)
+    (λ e. CutStep answers i before c.args.session.now c.args.replies.now before) in
+    subst P (sym c.in-Invalid.is) (done_or c.add_reply-in-Invalid.result _ _ _ (λ is. (refl, refl, is)) refl
+    c.add_reply-in-Invalid.ensures))

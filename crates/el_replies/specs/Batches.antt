@@ -1,0 +1,88 @@
+-- Batches of requests (JSON-RPC 2.0, section 6): one reply after the other, until their texts have too many
+-- bytes.
+use Rattle.std.specs.Prelude.{◌≡◌, ◌⊎◌, ℕ, ◌+◌, ◌||◌, nat_lt, Bool, true, false, if◌then◌else◌, MatchBool}
+use Rattle.std.specs.Prelude.{List, [], ◌∷◌, ◌++◌, length, Option, Some, None, Result, Err}
+use Rattle.serde_json.specs.Data.{Data}
+use Rattle.serde_json.specs.Written.{compact_text}
+use Rattle.el_json.specs.declared.request.Request.{Request}
+use Rattle.el_json.specs.declared.request.Item.{Item}
+use Rattle.el_json.specs.declared.request.Item.TheVariants.{Good, Invalid}
+use Rattle.el_replies.specs.Envelopes.{reply_value}
+use Rattle.el_calls.specs.declared.refusal.Refusal.{Refusal}
+use Rattle.el_calls.specs.declared.refusal.Refusal.TheVariants as refusal
+use Rattle.el_methods.specs.declared.session.Session.{Session}
+use Rattle.el_replies.specs.declared.batch.Replies.{Replies}
+use Rattle.el_replies.specs.declared.batch.TheConstants.{BATCH_LIMIT}
+
+-- one text more, after a comma (44) where it isn't the first; its bytes count until the limit is passed
+abbrev pub added : List ℕ → Replies → Replies
+added text b = record {
+  text = (if b.any then b.text ++ 44 ∷ [] else b.text) ++ text;
+  size = if nat_lt BATCH_LIMIT b.size then b.size else b.size + length text;
+  any = true;
+  closes = b.closes;
+}
+
+-- A client that is told this is closed after the line.
+abbrev pub is_closing : Result Data Refusal → Bool
+is_closing (Err refusal.VersionNotShared) = true
+is_closing answered = false
+
+abbrev pub noted : Result Data Refusal → Replies → Replies
+noted answered b = record b { closes = b.closes || is_closing answered }
+
+-- the reply to the request with that id; a notification gets none, but takes effect
+abbrev pub with_reply : Option Data → Result Data Refusal → Replies → Replies
+with_reply None answered b = noted answered b
+with_reply (Some id) answered b = added (compact_text (reply_value id answered)) (noted answered b)
+
+-- `answers` says how a request may be answered in a state, and which state comes of it.
+module _ {X : Type 0} (answers : X → Request → Session → Result Data Refusal → X → Session → Type 0) where
+  -- a request before the limit was passed
+  abbrev pub InTime : Request → X → Session → Replies → X → Session → Replies → Type 0
+  InTime r x s b y t c =
+      (answered : Result Data Refusal) × answers x r s answered y t × (c ≡ with_reply r.id answered b)
+
+  -- an element; a request after the limit was passed has no effect
+  abbrev pub Step : Item → X → Session → Replies → X → Session → Replies → Type 0
+  Step (Good r) x s b y t c =
+      MatchBool (nat_lt BATCH_LIMIT b.size)
+      ((y ≡ x) × (t ≡ s) × (c ≡ with_reply r.id (Err refusal.BatchTooLarge) b))
+      (InTime r x s b y t c)
+  Step (Invalid id) x s b y t c = (y ≡ x) × (t ≡ s) × (c ≡ with_reply (Some id) (Err refusal.Invalid) b)
+
+  -- the elements in order
+  abbrev pub Steps : List Item → X → Session → Replies → X → Session → Replies → Type 0
+  Steps [] x s b y t c = (y ≡ x) × (t ≡ s) × (c ≡ b)
+  Steps (i ∷ is) x s b y t c =
+      (between : X) × (session : Session) × (replies : Replies) × Step i x s b between session replies
+      × Steps is between session replies y t c
+
+  -- Memory ran out at a request before the limit was passed: it has no effect, or it was answered and its
+  -- reply found no memory. The session isn't used again.
+  abbrev pub Cut : Request → X → Session → X → Type 0
+  Cut r x s y = (y ≡ x) ⊎ ((answered : Result Data Refusal) × (t : Session) × answers x r s answered y t)
+
+  -- at an element
+  abbrev pub CutStep : Item → X → Session → Replies → X → Type 0
+  CutStep (Good r) x s b y = MatchBool (nat_lt BATCH_LIMIT b.size) (y ≡ x) (Cut r x s y)
+  CutStep (Invalid id) x s b y = y ≡ x
+
+  -- at one of the elements after those before it, or after all of them
+  abbrev pub CutSteps : List Item → X → Session → Replies → X → Type 0
+  CutSteps [] x s b y = y ≡ x
+  CutSteps (i ∷ is) x s b y =
+      CutStep i x s b y
+      ⊎ ((between : X) × (session : Session) × (replies : Replies) × Step i x s b between session replies
+      × CutSteps is between session replies y)
+
+-- what the elements that are left make of these values completes what all of them make of those
+module _ {X : Type 0} (answers : X → Request → Session → Result Data Refusal → X → Session → Type 0) where
+  abbrev pub Completes : List Item → X → Session → Replies → List Item → X → Session → Replies → Type 0
+  Completes left y t c all x s b =
+      (z : X) (u : Session) (d : Replies) → Steps answers left y t c z u d → Steps answers all x s b z u d
+
+  -- also where memory runs out
+  abbrev pub CutCompletes : List Item → X → Session → Replies → List Item → X → Session → Replies → Type 0
+  CutCompletes left y t c all x s b =
+      (z : X) → CutSteps answers left y t c z → CutSteps answers all x s b z

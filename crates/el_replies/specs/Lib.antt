@@ -1,0 +1,5 @@
+pub mod Envelopes
+pub mod Requested
+pub mod Losses
+pub mod Batches
+pub mod LineReplies

@@ -1,0 +1,11 @@
+//! What comes of a client's line: its requests are answered in order, and the replies printed.
+#![tactic(auto)]
+
+mod batch;
+mod line;
+mod replies;
+mod requested;
+
+pub use batch::{BATCH_LIMIT, Replies, answer_items};
+pub use line::{LineReply, reply_line};
+pub use requested::answer_request;

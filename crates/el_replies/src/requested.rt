@@ -1,0 +1,65 @@
+// The answer to a request.
+ghost use Rattle.std.specs.Prelude.{◌≡◌, ℕ, IfOk, OnErr, MatchOption, Some, None};
+ghost use Rattle.el_outside.specs.Counts.{RoseBy};
+ghost use Rattle.el_outside.specs.Files.{AllGrow};
+ghost use Rattle.el_chain.specs.Chains.{Chain};
+ghost use Rattle.el_model.specs.Keeping.{Quiet};
+ghost use Rattle.el_methods.specs.Archives.{HasTransactions};
+ghost use Rattle.el_replies.specs.Requested.{IsAnswered, told_of};
+ghost use Rattle.el_methods.specs.Outcomes.{IsPrintableAnswer};
+
+use el_base::OutOfMemory;
+use el_calls::{Refusal, call_of};
+use el_json::{Answer, Request};
+use el_methods::{Holdings, Session, Stop, answer};
+use el_model::Ledger;
+use el_outside::Archive;
+use std::alloc::Global;
+
+// What the client is told of a call.
+fn told_of(given: Result<Answer, Stop>) -> Option<Result<Answer, Refusal>>
+    ensures { result ≡ told_of given }
+{
+    match given {
+        Ok(answer) => Some(Ok(answer)),
+        Err(Stop::Refused(refusal)) => Some(Err(refusal)),
+        Err(Stop::Disk) => Some(Err(Refusal::DiskFailed)),
+        Err(Stop::Archive) => Some(Err(Refusal::ArchiveFailed)),
+        Err(Stop::Changed) => Some(Err(Refusal::ArchiveChanged)),
+        Err(Stop::Memory) => None,
+    }
+}
+
+/// The answer to a request: what is defined, or that a device failed.
+pub fn answer_request<G: Ledger, A: Archive>(
+    alloc: Global,
+    ledger: &mut G,
+    archive: &mut A,
+    holdings: &Holdings,
+    session: &mut Session,
+    request: &Request,
+) -> Result<Result<Answer, Refusal>, OutOfMemory>
+    requires live { G.is_live ledger.old }
+    ensures answered { A.tells → (chain : Chain) → G.stands ledger.old chain
+        → HasTransactions (A.bytes archive.new) chain → IfOk result
+        (λ told. IsAnswered chain holdings.now.tree request.now session.old
+        (λ n. RoseBy (G.faults ledger.old) (G.faults ledger.new) n)
+        (λ n. RoseBy (A.faults archive.old) (A.faults archive.new) n) told session.new) }
+    // Where memory runs out nothing is lost.
+    ensures unlost { OnErr result (RoseBy (G.faults ledger.old) (G.faults ledger.new) 0
+        × RoseBy (A.faults archive.old) (A.faults archive.new) 0) }
+    ensures printable { IfOk result IsPrintableAnswer }
+    ensures quiet { Quiet G.is_live G.height G.tip G.buckets G.stands G.tells_crash
+        G.moment G.left_since ledger.old ledger.new }
+    ensures grows { A.tells → AllGrow (A.bytes archive.old) (A.bytes archive.new) }
+{
+    let call = match call_of(request.method.as_str(), &request.params) {
+        Ok(call) => call,
+        Err(refusal) => return Ok(Err(refusal)),
+    };
+    let given = answer(alloc, ledger, archive, holdings, session, call);
+    match told_of(given) {
+        Some(told) => Ok(told),
+        None => Err(OutOfMemory),
+    }
+}
