@@ -47,7 +47,7 @@ keys_put t (u ∷ us) all apart = elim (cases_Bool (is_gt (shown_cmp t u))) [
   | inr g ↦ rw g (all, apart)
 ]
 
-keys_in_order : (ts : List Tx) → KeysApart txid ts → KeysApart txid (by_shown ts)
+pub keys_in_order : (ts : List Tx) → KeysApart txid ts → KeysApart txid (by_shown ts)
 keys_in_order [] apart = tt
 keys_in_order (t ∷ ts) apart = keys_put t (by_shown ts) (all_in_order shown_cmp (λ (u : Tx). txid t ≡ txid u → ⊥) ts apart.0) (keys_in_order ts apart.1)
 

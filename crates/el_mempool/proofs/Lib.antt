@@ -13,3 +13,4 @@ pub mod Departures
 pub mod Moved
 pub mod Sifted
 pub mod Worth
+pub mod ShownOrder

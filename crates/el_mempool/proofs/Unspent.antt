@@ -143,7 +143,7 @@ agree_back h k (x ∷ xs) e = (sym e.0, agree_back h k xs e.1)
 abbrev pub is_listed : List Tx → List ℕ → Coin → Bool
 is_listed kept s c = bytes_eq c.script.0 s && not (is_taken c.outpoint kept)
 
-filter_agree : {X : Type 0} (p q : X → Bool) (xs : List X) → AllByRecursion (λ x. p x ≡ q x) xs → filter p xs ≡ filter q xs
+pub filter_agree : {X : Type 0} (p q : X → Bool) (xs : List X) → AllByRecursion (λ x. p x ≡ q x) xs → filter p xs ≡ filter q xs
 filter_agree p q [] h = refl
 filter_agree p q (x ∷ xs) h = let here = h.0 in rw here (by (q x) (filter_agree p q xs h.1))
   where
@@ -151,12 +151,12 @@ filter_agree p q (x ∷ xs) h = let here = h.0 in rw here (by (q x) (filter_agre
     by true e = ap (λ l. x ∷ l) e
     by false e = e
 
-filter_none : {X : Type 0} (p : X → Bool) (xs : List X) → AllByRecursion (λ x. p x ≡ false) xs → filter p xs ≡ []
+pub filter_none : {X : Type 0} (p : X → Bool) (xs : List X) → AllByRecursion (λ x. p x ≡ false) xs → filter p xs ≡ []
 filter_none p [] h = refl
 filter_none p (x ∷ xs) h = let here = h.0 in rw here (filter_none p xs h.1)
 
 -- no output has the script hash: none is listed
-unfunded : (kept : List Tx) (s : List ℕ) (id : Hash32) (n : ℕ) (os : List TxOut) → list_any (λ (o : TxOut). bytes_eq (script_hash_of o) s) os ≡ false
+pub unfunded : (kept : List Tx) (s : List ℕ) (id : Hash32) (n : ℕ) (os : List TxOut) → list_any (λ (o : TxOut). bytes_eq (script_hash_of o) s) os ≡ false
     → AllByRecursion (λ (c : Coin). is_listed kept s c ≡ false) (coins_made id 0 n os)
 unfunded kept s id n [] h = tt
 unfunded kept s id n (o ∷ os) h =
@@ -174,7 +174,7 @@ output_at id t done o os n is outputs size =
     rw (same, place) refl
 
 -- the coins of a transaction that is kept before and after
-both_listed : (old new : List Tx) (s : List ℕ) (t : Tx) (id : Hash32) (done : List TxOut) (n : ℕ) (os : List TxOut) → txid t ≡ id → t.outputs ≡ done ++ os → length done ≡ n
+pub both_listed : (old new : List Tx) (s : List ℕ) (t : Tx) (id : Hash32) (done : List TxOut) (n : ℕ) (os : List TxOut) → txid t ≡ id → t.outputs ≡ done ++ os → length done ≡ n
     → ((o : Outpoint) (v : Held) → id ≡ o.txid → output_of o t ≡ Some v → has_script s v ≡ true → is_taken o old ≡ is_taken o new)
     → AllByRecursion (λ (c : Coin). is_listed old s c ≡ is_listed new s c) (coins_made id 0 n os)
 both_listed old new s t id done n [] is outputs size same = tt
@@ -202,7 +202,7 @@ listed_in gone all s (t ∷ ts) = elim (cases_Bool (gone (txid t))) [
   | inr g ↦ rw g (filter-append (is_listed (rest gone all) s) (made t) (flat_map made (filter (λ (u : Tx). not (gone (txid u))) ts)) ∙ ap (λ l. filter (is_listed (rest gone all) s) (made t) ++ l) (listed_in gone all s ts))
 ]
 
-flat_agree : {X Y : Type 0} (f g : X → List Y) (xs : List X) → AllByRecursion (λ x. f x ≡ g x) xs → flat_map f xs ≡ flat_map g xs
+pub flat_agree : {X Y : Type 0} (f g : X → List Y) (xs : List X) → AllByRecursion (λ x. f x ≡ g x) xs → flat_map f xs ≡ flat_map g xs
 flat_agree f g [] h = refl
 flat_agree f g (x ∷ xs) h = ap (λ l. l ++ flat_map f xs) h.0 ∙ ap (λ l. g x ++ l) (flat_agree f g xs h.1)
 

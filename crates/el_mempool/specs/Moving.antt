@@ -20,7 +20,8 @@ look_same k l = int_eq k.flag l.flag && nat_eq k.fee l.fee
 -- at the script hash clients see another thing of the transaction by the second entry than by the first
 abbrev pub differs_at : List ℕ → KeptTx → KeptTx → Bool
 differs_at s k l =
-    if look_same k l then just_one (is_at_script s k) (is_at_script s l) else is_at_script s k || is_at_script s l
+    if look_same k l then just_one (is_at_script s k) (is_at_script s l)
+    else is_at_script s k || is_at_script s l
 
 -- The sift over a chain comes to a transaction after those that it kept: at the script hash clients see
 -- another thing of it than before, over the one chain and with all that were kept there.

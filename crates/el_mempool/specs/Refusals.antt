@@ -60,7 +60,8 @@ total_bytes kept = sum_by (λ (t : Tx). length (full_encoding t)) kept
 -- so much is kept now, and with one more of that size a limit would be passed
 abbrev pub full : PoolLimits → ℕ → ℕ → ℕ → Option PoolFault
 full limits count bytes size =
-    where_so (nat_lt limits.count (count + 1) || nat_lt limits.bytes (bytes + size)) (refusal.Full count bytes)
+    where_so (nat_lt limits.count (count + 1) || nat_lt limits.bytes (bytes + size))
+    (refusal.Full count bytes)
 
 -- for what the transaction is: a coinbase's form, one of the chain, one that is kept
 abbrev pub known_refusal : Chain → List Tx → Tx → Option PoolFault

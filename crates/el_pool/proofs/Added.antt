@@ -18,13 +18,14 @@ use Rattle.el_mempool.specs.declared.held.KeptTx.{KeptTx}
 use Rattle.el_mempool.specs.declared.entry.PoolLimits.{PoolLimits}
 use Rattle.el_mempool.specs.declared.fault.PoolFault.{PoolFault}
 use Rattle.el_mempool.specs.declared.fault.PoolFault.TheVariants as refusal
-use Rattle.el_pool.specs.declared.table.Table.{Table}
+use Rattle.el_kept.specs.declared.table.Table.{Table}
 use Rattle.el_mempool.specs.Sift.{named, any_takes}
 use Rattle.el_mempool.specs.Refusals.{where_so, missing, spender_of, conflict, known_refusal, coin_refusal, room_refusal, tx_refusal}
 use Rattle.el_mempool.specs.Standing.{source_at, sources, kept_tx, StandsFor, is_at_script}
 use Rattle.el_mempool.specs.Adding.{Joined}
-use Rattle.el_pool.specs.within.Tables.{standing, by_txid, IsTable, IsOver, Joins}
-use Rattle.el_pool.proofs.Entries.{entry_found}
+use Rattle.el_kept.specs.Tables.{standing, by_txid, IsTable}
+use Rattle.el_pool.specs.within.Tables.{IsOver, Joins}
+use Rattle.el_kept.proofs.Entries.{entry_found}
 use Rattle.el_pool.proofs.Refusing.{takers_are}
 use Rattle.el_mempool.proofs.Joining.{both_none, is_free, stands_more}
 use Rattle.el_mempool.proofs.Arrivals.{arrival_changes}

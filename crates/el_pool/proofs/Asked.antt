@@ -17,18 +17,19 @@ use Rattle.el_mempool.specs.declared.held.Held.{Held}
 use Rattle.el_mempool.specs.declared.held.Source.{Source}
 use Rattle.el_mempool.specs.declared.held.KeptTx.{KeptTx}
 use Rattle.el_mempool.specs.declared.fault.PoolFault.TheVariants as refusal
-use Rattle.el_pool.specs.declared.table.Table.{Table}
+use Rattle.el_kept.specs.declared.table.Table.{Table}
 use Rattle.el_mempool.specs.Sift.{coin_held, coin_named, output_among, named, is_confirmed, may_join}
 use Rattle.el_mempool.specs.Refusals.{missing}
 use Rattle.el_mempool.specs.Standing.{source_at, sources}
-use Rattle.el_pool.specs.within.Tables.{by_txid, IsOver}
+use Rattle.el_kept.specs.Tables.{by_txid}
+use Rattle.el_pool.specs.within.Tables.{IsOver}
 use Rattle.el_mempool.proofs.Sifting.{joins_of}
 use Rattle.el_mempool.proofs.Confirmed.{hash_same, unconfirmed_none}
 use Rattle.el_mempool.proofs.Dropping.{output_apart}
 use Rattle.el_mempool.proofs.Arrivals.{fresh_from}
 use Rattle.el_mempool.proofs.Sifted.{AreFresh}
 use Rattle.el_mempool.proofs.Changes.{apart_from}
-use Rattle.el_pool.proofs.Entries.{found_standing, held_is}
+use Rattle.el_kept.proofs.Entries.{found_standing, held_is}
 
 -- what the table says that an outpoint names
 pub output_is : (t : Table) (chain : Chain) (kept : List Tx) (o : Outpoint) → IsOver t chain kept

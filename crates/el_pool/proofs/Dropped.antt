@@ -18,20 +18,22 @@ use Rattle.el_chain.specs.Headers.{same_hash}
 use Rattle.el_chain.proofs.CoinLists.{same_gives, same_from}
 use Rattle.el_mempool.specs.declared.held.Held.{Held}
 use Rattle.el_mempool.specs.declared.held.KeptTx.{KeptTx}
-use Rattle.el_pool.specs.declared.table.Table.{Table}
+use Rattle.el_kept.specs.declared.table.Table.{Table}
 use Rattle.el_mempool.specs.Sift.{output_among, named, any_takes, is_confirmed, may_join, sift, other_than}
 use Rattle.el_mempool.specs.Unconfirmed.{concerns}
 use Rattle.el_mempool.specs.Refusals.{is_kept, spender_of, kept_with}
 use Rattle.el_mempool.specs.Standing.{kept_tx, has_entry, StandsFor, AreChanged}
-use Rattle.el_pool.specs.within.Tables.{standing, by_txid, takes_from, IsTable, IsOver}
-use Rattle.el_pool.specs.within.Going.{has, slot, size, slot_at_script, without, AreThere, Gathers}
+use Rattle.el_kept.specs.Tables.{standing, by_txid, takes_from, IsTable}
+use Rattle.el_pool.specs.within.Tables.{IsOver}
+use Rattle.el_kept.specs.Tables.{has, slot, slot_at_script, without}
+use Rattle.el_pool.specs.within.Going.{size, AreThere, Gathers}
 use Rattle.el_mempool.proofs.Sifting.{joins_of}
 use Rattle.el_mempool.proofs.Confirmed.{hash_self, hash_same, unconfirmed_none}
 use Rattle.el_mempool.proofs.Named.{AreNamed, AllNamed, all_named}
 use Rattle.el_mempool.proofs.Dropping.{names_gone, IsDropped}
 use Rattle.el_mempool.proofs.Picked.{KeysApart}
 use Rattle.el_mempool.proofs.Changes.{apart_from}
-use Rattle.el_pool.proofs.Entries.{found_standing, entry_found, any_sources}
+use Rattle.el_kept.proofs.Entries.{found_standing, entry_found, any_sources, found_is}
 use Rattle.el_pool.proofs.Asked.{output_is}
 use Rattle.el_pool.proofs.Refusing.{takers_are}
 use Rattle.el_mempool.proofs.Arrivals.{entry_at, fresh_from}
@@ -78,24 +80,6 @@ entry_there id (k ∷ ks) = by (same_hash id k.txid) (entry_there id ks)
     by : (b : Bool) → has_entry id ks ≡ is_some (by_txid id ks) → (b || has_entry id ks) ≡ is_some (cond b (Some k) (by_txid id ks))
     by true e = refl
     by false e = e
-
-pub entry_with : (id : Hash32) (chain : Chain) (all ts : List Tx) → by_txid id (map (kept_tx chain all) ts) ≡ option_map (kept_tx chain all) (kept_with id ts)
-entry_with id chain all [] = refl
-entry_with id chain all (t ∷ ts) = by (same_hash id (txid t)) (entry_with id chain all ts)
-  where
-    by : (b : Bool) → by_txid id (map (kept_tx chain all) ts) ≡ option_map (kept_tx chain all) (kept_with id ts)
-        → cond b (Some (kept_tx chain all t)) (by_txid id (map (kept_tx chain all) ts)) ≡ option_map (kept_tx chain all) (cond b (Some t) (kept_with id ts))
-    by true e = refl
-    by false e = e
-
--- what is found under a txid
-pub found_is : (table : Table) (chain : Chain) (kept : List Tx) (id : Hash32) → IsTable table (standing table.kept.entries) → StandsFor (standing table.kept.entries) chain kept
-    → slot table id ≡ option_map (kept_tx chain kept) (kept_with id kept)
-found_is table chain kept id t h = found_standing id table.kept.entries t.right t.once ∙ ap (by_txid id) h.are ∙ entry_with id chain kept kept
-
-pub found_for : (table : Table) (entries : List KeptTx) (id : Hash32) (x : Option KeptTx) → IsTable table (standing table.kept.entries) → standing table.kept.entries ≡ entries → x ≡ slot table id
-    → (chain : Chain) (kept : List Tx) → StandsFor entries chain kept → x ≡ option_map (kept_tx chain kept) (kept_with id kept)
-found_for table entries id x t same is chain kept h = is ∙ found_is table chain kept id t (rw (← same) at h)
 
 -- ---- who takes an output
 

@@ -10,7 +10,8 @@ use Rattle.el_base.specs.declared.hash.Hash32.{Hash32}
 use Rattle.el_tx.specs.declared.types.Outpoint.{Outpoint}
 use Rattle.el_chain.specs.Headers.{same_hash}
 use Rattle.el_chain.proofs.TouchLemmas.{any_added}
-use Rattle.el_pool.specs.within.Going.{has, with_taker, output, AreThere, Grown, Gathers}
+use Rattle.el_kept.specs.Tables.{has}
+use Rattle.el_pool.specs.within.Going.{with_taker, output, AreThere, Grown, Gathers}
 use Rattle.el_mempool.proofs.Confirmed.{hash_self, hash_same}
 
 some_hash : (x y : Hash32) → Some x ≡ Some y → x ≡ y

@@ -1,13 +1,12 @@
-pub mod Entries
 pub mod Walks
 pub mod Exchanged
 pub mod Whole
 pub mod Asked
 pub mod Refusing
 pub mod Added
-pub mod Slots
-pub mod Cleared
 pub mod Gathered
 pub mod Dropped
 pub mod Renewed
 pub mod Sifts
+pub mod Relisted
+pub mod Backward

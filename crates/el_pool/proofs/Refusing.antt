@@ -30,15 +30,16 @@ use Rattle.el_mempool.specs.declared.held.KeptTx.{KeptTx}
 use Rattle.el_mempool.specs.declared.entry.PoolLimits.{PoolLimits}
 use Rattle.el_mempool.specs.declared.fault.PoolFault.{PoolFault}
 use Rattle.el_mempool.specs.declared.fault.PoolFault.TheVariants as refusal
-use Rattle.el_pool.specs.declared.table.Table.{Table}
+use Rattle.el_kept.specs.declared.table.Table.{Table}
 use Rattle.el_mempool.specs.Unconfirmed.{flag, fee}
 use Rattle.el_pool.proofs.Asked.{output_is}
 use Rattle.el_mempool.proofs.Joining.{both_none, names_all}
 use Rattle.el_mempool.specs.Sift.{output_among, named, held_by, total_held, any_takes, is_confirmed, output_held}
 use Rattle.el_mempool.specs.Refusals.{is_kept, spender_of, conflict, where_so, total_bytes, room_refusal, has_coinbase_form, known_refusal, coin_refusal, missing, tx_refusal, IsRefused}
 use Rattle.el_mempool.specs.Standing.{source_at, sources, kept_tx}
-use Rattle.el_pool.specs.within.Tables.{by_txid, takes_from, conflict_by, total_sources, output_at, flag_by, room_by, IsOver}
-use Rattle.el_pool.proofs.Entries.{found_standing, entry_found, taker_is}
+use Rattle.el_kept.specs.Tables.{by_txid, takes_from}
+use Rattle.el_pool.specs.within.Tables.{conflict_by, total_sources, output_at, flag_by, room_by, IsOver}
+use Rattle.el_kept.proofs.Entries.{found_standing, entry_found, taker_is}
 use Rattle.el_mempool.proofs.Named.{AreNamed, all_named}
 
 -- a transaction with the txid is kept
@@ -152,10 +153,6 @@ third_known table chain kept t id found b h is form says none last =
     let apart : is_confirmed chain (txid t) ≡ false = ap (is_confirmed chain) (sym is) ∙ sym (confirmed_is chain id) ∙ ap is_some (sym says) ∙ none in
     let known : is_kept (txid t) kept ≡ b = ap (λ x. is_kept x kept) (sym is) ∙ sym (known_is table chain kept id h) ∙ last in
     rw (form, apart, known) refl
-
-pub copied_some : {T : Type 0} (x : Option (Bor T)) → is_some (option_copied x) ≡ is_some x
-copied_some None = refl
-copied_some (Some b) = refl
 
 -- ---- the inputs, and all together
 

@@ -1,11 +1,11 @@
 -- A kept transaction over another chain: what its inputs take there, and whether it may be kept.
-use Rattle.std.proofs.Common.{◌≡◌, ℕ, ◌+◌, ◌<◌, true, false, Bool, if◌then◌else◌, not, ◌&&◌, ◌||◌, List, [], ◌∷◌, ◌++◌, length, drop, get_or, Option, None, Some, refl, ap, sym, ◌∙◌, append_assoc}
+use Rattle.std.proofs.Common.{◌≡◌, ℕ, ◌+◌, ◌<◌, true, false, Bool, if◌then◌else◌, not, ◌&&◌, ◌||◌, List, [], ◌∷◌, ◌++◌, length, take, drop, get_or, Option, None, Some, refl, ap, sym, ◌∙◌, append_assoc}
 use Rattle.std.proofs.lemmas.Bool.{and_left, and_right, and_from, true≢false}
 use Rattle.std.specs.List.{list_any}
-use Rattle.std.specs.Prelude.{option_map, option_to_list, nat_lt, IfNone}
+use Rattle.std.specs.Prelude.{map, option_map, option_to_list, nat_lt, IfNone}
 use Rattle.std.specs.Option.{is_some}
 use Rattle.indexmap.specs.IndexMap.{get}
-use Rattle.std.proofs.lemmas.List.{drop_more}
+use Rattle.std.proofs.lemmas.List.{drop_more, take_more, map-append}
 use Rattle.el_base.proofs.Lists.{left_at}
 use Rattle.el_tx.specs.declared.types.Outpoint.{Outpoint}
 use Rattle.el_tx.specs.declared.types.TxIn.{TxIn}
@@ -18,14 +18,15 @@ use Rattle.el_model.specs.Queries.{find_tx}
 use Rattle.el_mempool.specs.declared.held.Held.{Held}
 use Rattle.el_mempool.specs.declared.held.Source.{Source}
 use Rattle.el_mempool.specs.declared.held.KeptTx.{KeptTx}
-use Rattle.el_pool.specs.declared.table.Table.{Table}
+use Rattle.el_kept.specs.declared.table.Table.{Table}
 use Rattle.el_mempool.specs.Sift.{named, any_takes, is_taken, each_takes, held_by, total_held, is_confirmed, may_join}
 use Rattle.el_mempool.specs.Refusals.{spender_of}
 use Rattle.el_mempool.specs.Standing.{source_at, sources}
-use Rattle.el_pool.specs.within.Tables.{is_source_of, total_sources, IsOver}
+use Rattle.el_kept.specs.Tables.{is_source_of}
+use Rattle.el_pool.specs.within.Tables.{total_sources, IsOver}
 use Rattle.el_pool.specs.within.Renewal.{source_with, renewed, all_take, are_free, IsEntry}
 use Rattle.el_mempool.proofs.Named.{AreNamed}
-use Rattle.el_pool.proofs.Entries.{any_sources}
+use Rattle.el_kept.proofs.Entries.{any_sources, spender_taken}
 use Rattle.el_pool.proofs.Refusing.{takers_are, sources_sum, outputs_sum, confirmed_is}
 
 -- ---- inputs one after the other
@@ -50,6 +51,15 @@ stops chain kept ss n s found held lt item says none before =
     let left = left_at ss n s lt item in
     let gone : named chain kept s.from ≡ None = sym says ∙ none in
     rw (left, gone) at before.1
+
+pub from_more : (ss : List Source) (n : ℕ) (d : Source) (v : Held) (found : List Source) → n < length ss
+    → map (λ (s : Source). s.from) found ≡ map (λ (s : Source). s.from) (take n ss)
+    → map (λ (s : Source). s.from) (found ++ source_with (get_or ss n d) v ∷ []) ≡ map (λ (s : Source). s.from) (take (n + 1) ss)
+from_more ss n d v found lt same =
+    map-append (λ (s : Source). s.from) found (source_with (get_or ss n d) v ∷ [])
+    ∙ ap (λ l. l ++ (get_or ss n d).from ∷ []) same
+    ∙ sym (map-append (λ (s : Source). s.from) (take n ss) (get_or ss n d ∷ []))
+    ∙ ap (map (λ (s : Source). s.from)) (sym (take_more ss n d lt))
 
 -- ---- an entry's inputs and the transaction's
 
@@ -80,14 +90,6 @@ take_is before chain all kept (i ∷ is) h = by (named before all i.from) h.0 (t
 abbrev pub each_free : List Tx → List TxIn → Bool
 each_free kept [] = true
 each_free kept (i ∷ is) = not (is_taken i.from kept) && (not (any_takes i.from is) && each_free kept is)
-
-pub spender_taken : (o : Outpoint) (kept : List Tx) → is_some (option_map txid (spender_of o kept)) ≡ is_taken o kept
-spender_taken o [] = refl
-spender_taken o (t ∷ ts) = by (any_takes o t.inputs) (spender_taken o ts)
-  where
-    by : (b : Bool) → is_some (option_map txid (spender_of o ts)) ≡ is_taken o ts → is_some (option_map txid (if b then Some t else spender_of o ts)) ≡ (b || is_taken o ts)
-    by true e = refl
-    by false e = e
 
 free_is : (table : Table) (before chain : Chain) (all kept : List Tx) (is : List TxIn) → IsOver table chain kept → AreNamed before all is
     → are_free (get same_outpoint table.spenders) (sources before all is) ≡ each_free kept is

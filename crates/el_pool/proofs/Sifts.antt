@@ -15,23 +15,24 @@ use Rattle.el_chain.specs.Headers.{same_hash}
 use Rattle.el_mempool.specs.declared.held.Held.{Held}
 use Rattle.el_mempool.specs.declared.held.Source.{Source}
 use Rattle.el_mempool.specs.declared.held.KeptTx.{KeptTx}
-use Rattle.el_pool.specs.declared.table.Table.{Table}
+use Rattle.el_kept.specs.declared.table.Table.{Table}
 use Rattle.el_mempool.specs.Sift.{named, output_held, total_held, each_takes, may_join, joined, sift}
 use Rattle.el_mempool.specs.Refusals.{is_kept}
 use Rattle.el_mempool.specs.Standing.{source_at, sources, kept_tx, is_at_script, StandsFor, AreChanged}
 use Rattle.el_mempool.specs.Moving.{differs_at, step_differs, any_differs}
-use Rattle.el_pool.specs.within.Tables.{standing, by_txid, flag_by, total_sources, IsTable, IsOver}
+use Rattle.el_kept.specs.Tables.{standing, by_txid, IsTable}
+use Rattle.el_pool.specs.within.Tables.{flag_by, total_sources, IsOver}
 use Rattle.el_pool.specs.within.Renewal.{with_takes, IsEntry, IsSifted}
 use Rattle.el_mempool.proofs.Named.{AllNamed, all_named}
 use Rattle.el_mempool.proofs.Picked.{KeysApart}
 use Rattle.el_mempool.proofs.Changes.{apart_from}
 use Rattle.el_mempool.proofs.Joining.{free_joins, stands_with}
 use Rattle.el_mempool.proofs.Sifted.{NoneKept, none_more, none_of_nothing, joins_named, sift_changes}
-use Rattle.el_pool.proofs.Entries.{entry_found}
+use Rattle.el_kept.proofs.Entries.{entry_found}
 use Rattle.el_pool.proofs.Refusing.{takers_are, flag_is, fee_is}
-use Rattle.el_pool.proofs.Renewed.{spender_taken}
+use Rattle.el_kept.proofs.Entries.{spender_taken}
 use Rattle.el_pool.proofs.Added.{none_of}
-use Rattle.el_pool.proofs.Slots.{Slot}
+use Rattle.el_kept.proofs.Slots.{Slot}
 
 -- ---- one of them
 

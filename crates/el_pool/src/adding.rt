@@ -7,18 +7,18 @@ ghost use Rattle.el_tx.specs.declared.types.Tx as shape;
 ghost use Rattle.el_mempool.specs.Adding.{Joined};
 ghost use Rattle.el_mempool.specs.Refusals.{IsRefused};
 ghost use Rattle.el_mempool.specs.Standing.{StandsFor};
-ghost use Rattle.el_pool.specs.within.Tables.{standing, IsTable};
+ghost use Rattle.el_kept.specs.Tables.{standing, IsTable, HasFewSlots};
+ghost use Rattle.el_kept.specs.Listings.{AreListed};
 
 use crate::examining::examine;
-use crate::putting::join;
-use crate::table::Table;
 use crate::touching::touched_by;
-use el_base::{Hash32, Steps};
+use el_base::Hash32;
 use el_chain::Touched;
+use el_kept::{Listing, Table, join};
 use el_mempool::{PoolFault, PoolLimits};
 use el_model::Ledger;
 use std::alloc::Global;
-use std::sync::ledger::Ledger as Counts;
+use std::collections::BTreeSet;
 
 /// Adds the transaction that the bytes encode after the others, and gives its txid and the script hashes that
 /// changed.
@@ -26,32 +26,36 @@ use std::sync::ledger::Ledger as Counts;
 /// # Errors
 ///
 /// The first refusal; `DiskFailed`, `Memory`. Then the table is as it was.
-pub fn add_to<G: Ledger, L: Counts + Send>(
+pub fn add_to<G: Ledger>(
     alloc: Global,
     table: &mut Table,
+    listings: &mut BTreeSet<Listing>,
     limits: &PoolLimits,
     ledger: &mut G,
     bytes: &[u8],
-    steps: &mut Steps<L>,
 ) -> Result<(Hash32, Touched), PoolFault>
     requires live { G.is_live ledger.old }
     requires table { IsTable table.old (standing table.old.kept.entries) }
+    requires listed { AreListed listings.old (standing table.old.kept.entries) }
     ensures joined { (chain : Chain) (kept : List shape.Tx)
         → StandsFor (standing table.old.kept.entries) chain kept → G.stands ledger.old chain
-        → IfOk result (λ r. Joined limits.now chain kept bytes.now (standing table.new.kept.entries) r.0 r.1) }
+        → IfOk result (λ r.
+        Joined limits.now chain kept bytes.now (standing table.new.kept.entries) r.0 r.1) }
     ensures refused { (chain : Chain) (kept : List shape.Tx)
         → StandsFor (standing table.old.kept.entries) chain kept → G.stands ledger.old chain
         → IfErr result (λ e. (e ≡ PoolFault.Memory) ⊎ ((e ≡ PoolFault.DiskFailed)
         ⊎ IsRefused limits.now chain kept bytes.now e)) }
     ensures table { IsTable table.new (standing table.new.kept.entries) }
+    ensures listed { AreListed listings.new (standing table.new.kept.entries) }
+    ensures slots { HasFewSlots table.old → HasFewSlots table.new }
     ensures same { OnErr result (table.new.kept.entries ≡ table.old.kept.entries) }
     ensures quiet { Quiet G.is_live G.height G.tip G.buckets G.stands G.tells_crash
-        G.means G.moment G.left_since ledger.old ledger.new }
+        G.moment G.left_since ledger.old ledger.new }
     ensures cause { CountsOnly (G.faults ledger.old) (G.faults ledger.new) PoolFault.DiskFailed result }
 {
-    let entry = examine(alloc, table, limits, ledger, bytes, steps)?;
+    let entry = examine(alloc, table, limits, ledger, bytes)?;
     let id = entry.txid;
     let touched = touched_by(alloc, &entry)?;
-    join(table, entry)?;
+    join(table, listings, entry, touched.list())?;
     Ok((id, touched))
 }

@@ -15,23 +15,21 @@ use crate::asking::sources_of;
 use crate::conflicts::conflict_of;
 use crate::reading::{is_coinbase_form, whole_tx};
 use crate::room::{fee_of, flag_of, lack_of};
-use crate::table::{Table, kept_under};
-use el_base::{Bytes, Hash32, Listed, OutOfMemory, Steps, sha256};
+use el_base::{Bytes, Hash32, Listed, OutOfMemory, sha256};
+use el_kept::{Table, kept_under};
 use el_mempool::{Held, KeptTx, PoolFault, PoolLimits, Source};
 use el_model::Ledger;
 use el_outside::DiskFailed;
 use el_tx::{Tx, TxOut, txid};
 use std::alloc::Global;
-use std::sync::ledger::Ledger as Counts;
 
 // The refusal of the transaction with that txid for what it is: a coinbase's form, one of the chain, one that
 // is kept.
-fn known_of<G: Ledger, L: Counts + Send>(
+fn known_of<G: Ledger>(
     table: &Table,
     ledger: &mut G,
     tx: &Tx,
     id: &Hash32,
-    steps: &mut Steps<L>,
 ) -> Result<Option<PoolFault>, DiskFailed>
     requires live { G.is_live ledger.old }
     requires id { id.now ≡ hashing.txid tx.now }
@@ -39,13 +37,13 @@ fn known_of<G: Ledger, L: Counts + Send>(
         → G.stands ledger.old chain → IfOk result (λ refusal. refusal ≡ known_refusal chain kept tx.now) }
     ensures other { result ≢ Ok (Some PoolFault.DiskFailed) }
     ensures quiet { Quiet G.is_live G.height G.tip G.buckets G.stands G.tells_crash
-        G.means G.moment G.left_since ledger.old ledger.new }
+        G.moment G.left_since ledger.old ledger.new }
     ensures cause { HasCause (G.faults ledger.old) (G.faults ledger.new) result }
 {
     if is_coinbase_form(tx) {
         return Ok(Some(PoolFault::CoinbaseForm));
     }
-    if ledger.find_tx(id, steps)?.is_some() {
+    if ledger.find_tx(id)?.is_some() {
         return Ok(Some(PoolFault::Confirmed));
     }
     if kept_under(table, id).is_some() {
@@ -55,13 +53,12 @@ fn known_of<G: Ledger, L: Counts + Send>(
 }
 
 // What the inputs of the transaction with that txid take, where each takes a coin of its own.
-fn take_coins<G: Ledger, L: Counts + Send>(
+fn take_coins<G: Ledger>(
     alloc: Global,
     table: &Table,
     ledger: &mut G,
     tx: &Tx,
     id: Hash32,
-    steps: &mut Steps<L>,
 ) -> Result<Vec<Source>, PoolFault>
     requires live { G.is_live ledger.old }
     requires id { id ≡ hashing.txid tx.now }
@@ -73,12 +70,12 @@ fn take_coins<G: Ledger, L: Counts + Send>(
         → G.stands ledger.old chain → IfErr result (λ e. (e ≡ PoolFault.Memory) ⊎ ((e ≡ PoolFault.DiskFailed)
         ⊎ (coin_refusal chain kept tx.now ≡ Some e))) }
     ensures quiet { Quiet G.is_live G.height G.tip G.buckets G.stands G.tells_crash
-        G.means G.moment G.left_since ledger.old ledger.new }
+        G.moment G.left_since ledger.old ledger.new }
     ensures cause { CountsOnly (G.faults ledger.old) (G.faults ledger.new) PoolFault.DiskFailed result }
 {
     let inputs = tx.inputs.as_slice();
-    let found = sources_of(alloc, table, ledger, inputs, steps)?;
-    match conflict_of(table, id, inputs) {
+    let found = sources_of(alloc, table, ledger, inputs)?;
+    match conflict_of(alloc, table, id, inputs)? {
         Some(refusal) => Err(refusal),
         None => Ok(found),
     }
@@ -88,7 +85,7 @@ fn take_coins<G: Ledger, L: Counts + Send>(
 fn held_by(alloc: Global, outputs: &[TxOut]) -> Result<Vec<Held>, OutOfMemory>
     ensures { IfOk result (λ held. held.items ≡ map output_held outputs.now) }
 {
-    let mut held = Vec::new(alloc);
+    let mut held = Vec::with_capacity(alloc, outputs.len())?;
     for output in outputs {
         held.push(Held {
             value: output.value,
@@ -135,13 +132,12 @@ fn kept_of(
 /// # Errors
 ///
 /// Its first refusal; `DiskFailed`, `Memory`.
-pub fn examine<G: Ledger, L: Counts + Send>(
+pub fn examine<G: Ledger>(
     alloc: Global,
     table: &Table,
     limits: &PoolLimits,
     ledger: &mut G,
     bytes: &[u8],
-    steps: &mut Steps<L>,
 ) -> Result<KeptTx, PoolFault>
     requires live { G.is_live ledger.old }
     ensures joins { (chain : Chain) (kept : List shape.Tx) → IsOver table.now chain kept
@@ -150,16 +146,16 @@ pub fn examine<G: Ledger, L: Counts + Send>(
         → G.stands ledger.old chain → IfErr result (λ e. (e ≡ PoolFault.Memory) ⊎ ((e ≡ PoolFault.DiskFailed)
         ⊎ IsRefused limits.now chain kept bytes.now e)) }
     ensures quiet { Quiet G.is_live G.height G.tip G.buckets G.stands G.tells_crash
-        G.means G.moment G.left_since ledger.old ledger.new }
+        G.moment G.left_since ledger.old ledger.new }
     ensures cause { CountsOnly (G.faults ledger.old) (G.faults ledger.new) PoolFault.DiskFailed result }
 {
     let tx = whole_tx(alloc, bytes)?;
     let id = txid(alloc, &tx)?;
     let outputs = tx.outputs.as_slice();
-    if let Some(refusal) = known_of(table, ledger, &tx, &id, steps)? {
+    if let Some(refusal) = known_of(table, ledger, &tx, &id)? {
         return Err(refusal);
     }
-    let inputs = take_coins(alloc, table, ledger, &tx, id, steps)?;
+    let inputs = take_coins(alloc, table, ledger, &tx, id)?;
     if let Some(refusal) = lack_of(table, limits, inputs.as_slice(), outputs, bytes.len()) {
         return Err(refusal);
     }

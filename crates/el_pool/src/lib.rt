@@ -8,15 +8,10 @@ mod conflicts;
 mod examining;
 mod moving;
 mod pool;
-mod putting;
 mod reading;
 mod removing;
 mod renewing;
 mod room;
-mod table;
 mod touching;
 
 pub use pool::Pool;
-
-#[cfg(test)]
-mod tests;

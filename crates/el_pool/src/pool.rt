@@ -9,39 +9,43 @@ ghost use Rattle.el_tx.specs.Hashing.{txid};
 ghost use Rattle.el_mempool.specs.Adding.{Joined};
 ghost use Rattle.el_mempool.specs.Refusals.{IsRefused, spender_of, kept_with};
 ghost use Rattle.el_mempool.specs.Sift.{sift, other_than};
+ghost use Rattle.el_mempool.specs.Unconfirmed.{pool_history, pool_unspent};
 ghost use Rattle.el_mempool.specs.Standing.{StandsFor, AreChanged, has_entry, kept_tx};
 
 use crate::adding::add_to;
 use crate::moving::sift_table;
 use crate::removing::drop_from;
-use crate::table::{Table, empty_table, kept_under, taker_in};
-use el_base::{Hash32, OutOfMemory, Steps};
-use el_chain::Touched;
-use el_mempool::{KeptTx, PoolFault, PoolLimits};
+use el_base::{Hash32, OutOfMemory};
+use el_chain::{Coin, Touched};
+use el_kept::{Listing, Table, empty_table, entries_at, kept_under, outs_at, taker_in};
+use el_mempool::{KeptTx, PoolEntry, PoolFault, PoolLimits};
 use el_model::{Ledger, QueryFault};
 use el_tx::Outpoint;
 use std::alloc::Global;
+use std::collections::BTreeSet;
 use std::marker::Model;
-use std::sync::ledger::Ledger as Counts;
 
 /// Unconfirmed transactions in their order of arrival, kept as long as the chain and the ones before them
 /// leave each of their inputs a coin.
-#[derive(Debug, Drop)]
+#[derive(Drop)]
 pub struct Pool {
     alloc: Global,
     table: Table,
+    listings: BTreeSet<Listing>,
     limits: PoolLimits,
 }
 
 impl Model for Pool {
     ghost use Rattle.el_mempool.specs.Standing.{PoolState};
-    ghost use Rattle.el_pool.specs.within.Tables.{standing, IsTable};
+    ghost use Rattle.el_kept.specs.Tables.{standing, IsTable, HasFewSlots};
+    ghost use Rattle.el_kept.specs.Listings.{AreListed};
 
     ghost Value = { PoolState };
 
     ghost view = { λ p. record { entries = standing p.table.kept.entries; limits = p.limits } };
 
-    ghost invariant = { λ p. IsTable p.table (standing p.table.kept.entries) };
+    ghost invariant = { λ p. IsTable p.table (standing p.table.kept.entries)
+        × AreListed p.listings (standing p.table.kept.entries) × HasFewSlots p.table };
 }
 
 impl Pool {
@@ -53,6 +57,7 @@ impl Pool {
         Pool {
             alloc,
             table: empty_table(alloc),
+            listings: BTreeSet::new(alloc),
             limits,
         }
     }
@@ -63,11 +68,10 @@ impl Pool {
     /// # Errors
     ///
     /// The first refusal; `DiskFailed`, `Memory`. Then the set is as it was.
-    pub fn add<G: Ledger, L: Counts + Send>(
+    pub fn add<G: Ledger>(
         &mut self,
         ledger: &mut G,
         bytes: &[u8],
-        steps: &mut Steps<L>,
     ) -> Result<(Hash32, Touched), PoolFault>
         requires live { G.is_live ledger.old }
         ensures joined { (chain : Chain) (kept : List shape.Tx) → StandsFor self.old.entries chain kept
@@ -79,16 +83,16 @@ impl Pool {
         ensures same { OnErr result (self.new ≡ self.old) }
         ensures limits { self.new.limits ≡ self.old.limits }
         ensures quiet { Quiet G.is_live G.height G.tip G.buckets G.stands G.tells_crash
-            G.means G.moment G.left_since ledger.old ledger.new }
+            G.moment G.left_since ledger.old ledger.new }
         ensures cause { CountsOnly (G.faults ledger.old) (G.faults ledger.new) PoolFault.DiskFailed result }
     {
         add_to(
             self.alloc,
             &mut self.table,
+            &mut self.listings,
             &self.limits,
             ledger,
             bytes,
-            steps,
         )
     }
 
@@ -106,7 +110,7 @@ impl Pool {
         ensures same { OnErr result (self.new ≡ self.old) }
         ensures limits { self.new.limits ≡ self.old.limits }
     {
-        drop_from(self.alloc, &mut self.table, txid)
+        drop_from(self.alloc, &mut self.table, &mut self.listings, txid)
     }
 
     /// Keeps what the sift keeps over the ledger's chain, whichever that now is, and gives the script
@@ -115,11 +119,7 @@ impl Pool {
     /// # Errors
     ///
     /// `DiskFailed`, `Memory`; then the set is not used again.
-    pub fn after_move<G: Ledger, L: Counts + Send>(
-        &mut self,
-        ledger: &mut G,
-        steps: &mut Steps<L>,
-    ) -> Result<Touched, QueryFault>
+    pub fn after_move<G: Ledger>(&mut self, ledger: &mut G) -> Result<Touched, QueryFault>
         requires live { G.is_live ledger.old }
         ensures sifted { (before chain : Chain) (kept : List shape.Tx)
             → StandsFor self.old.entries before kept → G.stands ledger.old chain
@@ -127,10 +127,10 @@ impl Pool {
             × AreChanged before kept chain (sift chain kept) touched) }
         ensures limits { self.new.limits ≡ self.old.limits }
         ensures quiet { Quiet G.is_live G.height G.tip G.buckets G.stands G.tells_crash
-            G.means G.moment G.left_since ledger.old ledger.new }
+            G.moment G.left_since ledger.old ledger.new }
         ensures cause { CountsOnly (G.faults ledger.old) (G.faults ledger.new) QueryFault.DiskFailed result }
     {
-        sift_table(self.alloc, &mut self.table, ledger, steps)
+        sift_table(self.alloc, &mut self.table, &mut self.listings, ledger)
     }
 
     /// What is kept of the transaction with that txid; None exactly where it isn't kept. Takes no memory.
@@ -139,6 +139,26 @@ impl Pool {
             → option_copied result ≡ option_map (kept_tx chain kept) (kept_with txid.now kept) }
     {
         kept_under(&self.table, txid)
+    }
+
+    /// What clients see of the kept transactions that concern the script hash, in inner order, by the texts
+    /// that show their txids (`blockchain.scripthash.get_mempool` of Electrum Protocol 1.4). Fails only where
+    /// memory runs out.
+    pub fn entries(&self, script_hash: &Hash32) -> Result<Vec<PoolEntry>, OutOfMemory>
+        ensures { (chain : Chain) (kept : List shape.Tx) → StandsFor self.now.entries chain kept
+            → IfOk result (λ found. found.items ≡ pool_history chain kept script_hash.now.0) }
+    {
+        entries_at(self.alloc, &self.table, &self.listings, script_hash)
+    }
+
+    /// The outputs of kept transactions that have the script hash, in inner order, and that no kept one
+    /// spends, as coins with height 0, by the texts that show their txids and then by index
+    /// (`blockchain.scripthash.listunspent` of Electrum Protocol 1.4). Fails only where memory runs out.
+    pub fn outs(&self, script_hash: &Hash32) -> Result<Vec<Coin>, OutOfMemory>
+        ensures { (chain : Chain) (kept : List shape.Tx) → StandsFor self.now.entries chain kept
+            → IfOk result (λ found. found.items ≡ pool_unspent kept script_hash.now.0) }
+    {
+        outs_at(self.alloc, &self.table, &self.listings, script_hash)
     }
 
     /// The txid of the kept transaction that spends the outpoint; None exactly where none does. Takes no

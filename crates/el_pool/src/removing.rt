@@ -1,10 +1,9 @@
 // A kept transaction is dropped, with all that spend it.
-ghost use Rattle.std.specs.Prelude.{◌≡◌, ◌||◌, true, Option, filter, List, [], ◌∷◌, None, Some, Ok, IfOk, IfSome, OnOk, OnErr, length, if◌then◌else◌, slice_get};
+ghost use Rattle.std.specs.Prelude.{◌≡◌, ◌||◌, List, [], None, Ok, IfOk, IfSome, OnOk, OnErr, slice_get};
 ghost use Rattle.std.specs.List.{list_any};
-ghost use Rattle.std.specs.Option.{is_some, option_flatten};
-ghost use Rattle.indexmap.specs.IndexMap.{get, insert_entry, IsUnique};
+ghost use Rattle.std.specs.Option.{is_some};
+ghost use Rattle.indexmap.specs.IndexMap.{get};
 ghost use Rattle.el_base.specs.declared.hash.Hash32 as shape;
-ghost use Rattle.el_mempool.specs.declared.held.KeptTx as kept_shape;
 ghost use Rattle.el_block.specs.Blocks.{AllDiffer};
 ghost use Rattle.el_chain.specs.Headers.{same_hash};
 ghost use Rattle.el_chain.specs.Chains.{Chain};
@@ -12,18 +11,17 @@ ghost use Rattle.el_tx.specs.Hashing.{same_outpoint};
 ghost use Rattle.el_tx.specs.declared.types.Tx as tx_shape;
 ghost use Rattle.el_mempool.specs.Sift.{sift, other_than};
 ghost use Rattle.el_mempool.specs.Standing.{StandsFor, AreChanged, has_entry};
-ghost use Rattle.el_tx.specs.declared.types.Outpoint as outpoint_shape;
-ghost use Rattle.el_pool.specs.within.Going.{with_taker, slot, size, slot_at_script, without, Grown, Gathers};
-ghost use Rattle.el_pool.specs.within.Tables.{standing, is_source_of, IsTable};
+ghost use Rattle.el_kept.specs.Tables.{standing, slot, slot_at_script, IsTable, HasFewSlots};
+ghost use Rattle.el_kept.specs.Listings.{AreListed};
+ghost use Rattle.el_pool.specs.within.Going.{with_taker, size, Grown, Gathers};
 
-use crate::table::{Table, kept_under, taker_in};
 use crate::touching::{touch_inputs, touch_outputs};
 use el_base::{Hash32, OutOfMemory};
 use el_chain::Touched;
-use el_mempool::{KeptTx, Source};
+use el_kept::{Listing, Table, kept_under, take_out_all, taker_in, tidy};
 use el_tx::Outpoint;
-use indexmap::IndexMap;
 use std::alloc::Global;
+use std::collections::BTreeSet;
 
 // How many outputs the kept transaction has; no memory holds more than can be named.
 fn outputs_of(table: &Table, id: &Hash32) -> Result<u32, OutOfMemory>
@@ -50,7 +48,8 @@ fn add_taker(by: Option<Hash32>, gone: &mut Touched) -> Result<(), OutOfMemory>
 
 // Adds the takers of the outputs of the kept transaction.
 fn add_takers(table: &Table, id: &Hash32, gone: &mut Touched) -> Result<(), OutOfMemory>
-    ensures { OnOk result (Grown (get same_outpoint table.now.spenders) id.now (size (slot table.now id.now)) gone.old gone.new) }
+    ensures { OnOk result (Grown (get same_outpoint table.now.spenders) id.now (size (slot table.now id.now))
+        gone.old gone.new) }
 {
     let count = outputs_of(table, id)?;
     for index in 0..count {
@@ -69,7 +68,8 @@ fn at(gone: &Touched, number: usize) -> Option<Hash32>
 
 /// The txid and those of all kept transactions that spend its outputs, directly or not.
 pub fn gather(alloc: Global, table: &Table, txid: &Hash32) -> Result<Touched, OutOfMemory>
-    ensures { IfOk result (Gathers (get same_outpoint table.now.spenders) (λ id. size (slot table.now id)) txid.now []) }
+    ensures { IfOk result (Gathers (get same_outpoint table.now.spenders) (λ id. size (slot table.now id))
+        txid.now []) }
 {
     let mut gone = Touched::new(alloc);
     gone.add(*txid)?;
@@ -109,98 +109,25 @@ pub fn touched_by_all(alloc: Global, table: &Table, ids: &[Hash32]) -> Result<To
     Ok(touched)
 }
 
-// Nobody takes the outpoint.
-fn free_taker(spenders: &mut IndexMap<Outpoint, Hash32>, outpoint: &Outpoint)
-    ensures { (o : outpoint_shape.Outpoint) → get same_outpoint spenders.new o
-        ≡ (if same_outpoint outpoint.now o then None else get same_outpoint spenders.old o) }
-{
-    spenders.swap_remove(outpoint);
-}
-
-// Nobody takes what the inputs take.
-fn free_takers(spenders: &mut IndexMap<Outpoint, Hash32>, inputs: &[Source])
-    ensures { (o : outpoint_shape.Outpoint) → get same_outpoint spenders.new o
-        ≡ (if list_any (is_source_of o) inputs.now then None else get same_outpoint spenders.old o) }
-{
-    for source in inputs {
-        free_taker(spenders, &source.from);
-    }
-}
-
-// Takes the entry out of its slot, which stays.
-fn clear_slot(kept: &mut IndexMap<Hash32, Option<KeptTx>>, id: &Hash32) -> Option<KeptTx>
-    requires { is_some (option_flatten (get same_hash kept.old id.now)) ≡ true }
-    ensures was { result ≡ option_flatten (get same_hash kept.old id.now) }
-    ensures entries { kept.new.entries ≡ insert_entry same_hash kept.old.entries id.now None }
-    ensures unique { IsUnique same_hash kept.new }
-{
-    match kept.insert(*id, None) {
-        Ok(Some(entry)) => entry,
-        _ => None,
-    }
-}
-
-// Takes the slots away whose transactions were dropped.
-fn remove_empty(kept: &mut IndexMap<Hash32, Option<KeptTx>>)
-    ensures filtered { kept.new.entries ≡ filter (λ (e : shape.Hash32 × Option kept_shape.KeptTx). is_some e.1) kept.old.entries }
-    ensures unique { IsUnique same_hash kept.new }
-{
-    kept.retain(
-        |_txid: &Hash32, slot: &mut Option<KeptTx>| -> bool
-            ensures { (result ≡ is_some slot.old) × (slot.new ≡ slot.old) }
-        { slot.is_some() },
-    );
-}
-
-// Takes the transaction out of the table; nothing changes where it isn't kept.
-fn take_out(table: &mut Table, id: &Hash32)
-    requires { IsTable table.old (standing table.old.kept.entries) }
-    ensures { IsTable table.new (without (id.now ∷ []) (standing table.old.kept.entries)) }
-{
-    if kept_under(table, id).is_none() {
-        return;
-    }
-    if let Some(entry) = clear_slot(&mut table.kept, id) {
-        free_takers(&mut table.spenders, entry.inputs.as_slice());
-        table.count = table.count.saturating_sub(1);
-        table.bytes = table.bytes.saturating_sub(entry.bytes.len() as u64);
-    }
-}
-
-/// Takes the transactions out of the table.
-pub fn take_out_all(table: &mut Table, ids: &[Hash32])
-    requires { IsTable table.old (standing table.old.kept.entries) }
-    ensures { IsTable table.new (without ids.now (standing table.old.kept.entries)) }
-{
-    for id in ids {
-        take_out(table, id);
-    }
-}
-
-// Takes the slots away whose transactions were dropped, once they outnumber the kept ones.
-fn tidy(table: &mut Table)
-    requires { IsTable table.old (standing table.old.kept.entries) }
-    ensures { IsTable table.new (standing table.old.kept.entries) }
-{
-    if (table.kept.len() as u64) / 2 > table.count {
-        remove_empty(&mut table.kept);
-    }
-}
-
 /// Takes the transaction with that txid out of the table, with all that spend it, directly or not, and
 /// gives the script hashes that changed; None exactly where it isn't kept.
 pub fn drop_from(
     alloc: Global,
     table: &mut Table,
+    listings: &mut BTreeSet<Listing>,
     txid: &Hash32,
 ) -> Result<Option<Touched>, OutOfMemory>
     requires table { IsTable table.old (standing table.old.kept.entries) }
+    requires listed { AreListed listings.old (standing table.old.kept.entries) }
     ensures kept { IfOk result (λ r. is_some r ≡ has_entry txid.now (standing table.old.kept.entries)) }
-    ensures stands { (chain : Chain) (kept : List tx_shape.Tx) → StandsFor (standing table.old.kept.entries) chain kept
+    ensures stands { (chain : Chain) (kept : List tx_shape.Tx)
+        → StandsFor (standing table.old.kept.entries) chain kept
         → IfOk result (λ r. IfSome r (λ touched.
         StandsFor (standing table.new.kept.entries) chain (sift chain (other_than txid.now kept))
         × AreChanged chain kept chain (sift chain (other_than txid.now kept)) touched)) }
     ensures table { IsTable table.new (standing table.new.kept.entries) }
+    ensures listed { AreListed listings.new (standing table.new.kept.entries) }
+    ensures slots { HasFewSlots table.old → HasFewSlots table.new }
     ensures absent { result ≡ Ok None → table.new.kept.entries ≡ table.old.kept.entries }
     ensures same { OnErr result (table.new.kept.entries ≡ table.old.kept.entries) }
 {
@@ -209,7 +136,7 @@ pub fn drop_from(
     }
     let gone = gather(alloc, table, txid)?;
     let touched = touched_by_all(alloc, table, gone.list())?;
-    take_out_all(table, gone.list());
+    take_out_all(table, listings, gone.list());
     tidy(table);
     Ok(Some(touched))
 }

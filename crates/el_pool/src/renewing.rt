@@ -1,26 +1,26 @@
 // A kept transaction over another chain.
-ghost use Rattle.std.specs.Prelude.{◌≡◌, true, false, List, IfOk, IfNone, IfSome};
-ghost use Rattle.std.specs.List.{list_any};
+ghost use Rattle.std.specs.Prelude.{◌≡◌, true, false, None, List, map, IfOk, IfNone, IfSome};
+ghost use Rattle.std.specs.List.{AllByRecursion, list_any};
 ghost use Rattle.indexmap.specs.IndexMap.{get};
 ghost use Rattle.el_outside.specs.Counts.{CountsOnly};
 ghost use Rattle.el_chain.specs.Chains.{Chain};
 ghost use Rattle.el_model.specs.Keeping.{Quiet};
 ghost use Rattle.el_tx.specs.declared.types.Tx as shape;
 ghost use Rattle.el_tx.specs.Hashing.{same_outpoint};
+ghost use Rattle.el_mempool.specs.declared.held.Source as source_shape;
 ghost use Rattle.el_mempool.specs.Sift.{may_join};
 ghost use Rattle.el_mempool.specs.Standing.{sources};
-ghost use Rattle.el_pool.specs.within.Tables.{IsOver, is_source_of};
+ghost use Rattle.el_kept.specs.Tables.{is_source_of};
+ghost use Rattle.el_pool.specs.within.Tables.{IsOver};
 ghost use Rattle.el_pool.specs.within.Renewal as renewal;
 
 use crate::asking::named;
 use crate::room::{held_in, taken_by};
-use crate::table::{Table, taker_in};
-use el_base::Steps;
+use el_kept::{Table, taker_in};
 use el_mempool::{KeptTx, Source};
 use el_model::{Ledger, QueryFault};
 use el_tx::Outpoint;
 use std::alloc::Global;
-use std::sync::ledger::Ledger as Counts;
 
 // Whether one of the inputs takes the outpoint. Takes no memory.
 fn any_from(inputs: &[Source], outpoint: &Outpoint) -> bool
@@ -50,26 +50,29 @@ fn are_free(table: &Table, inputs: &[Source]) -> bool
 }
 
 // The inputs with what they now take; None where one takes nothing.
-fn taken_again<G: Ledger, L: Counts + Send>(
+fn taken_again<G: Ledger>(
     alloc: Global,
     table: &Table,
     ledger: &mut G,
     inputs: &[Source],
-    steps: &mut Steps<L>,
 ) -> Result<Option<Vec<Source>>, QueryFault>
     requires live { G.is_live ledger.old }
     ensures found { (chain : Chain) (kept : List shape.Tx) → IsOver table.now chain kept
         → G.stands ledger.old chain → IfOk result (λ r. IfSome r (λ found.
-        (found.items ≡ renewal.renewed chain kept inputs.now) × (renewal.all_take chain kept inputs.now ≡ true))) }
+        (found.items ≡ renewal.renewed chain kept inputs.now)
+        × (renewal.all_take chain kept inputs.now ≡ true))) }
+    ensures from { IfOk result (λ r. IfSome r (λ found. map (λ (s : source_shape.Source). s.from) found.items
+        ≡ map (λ (s : source_shape.Source). s.from) inputs.now)) }
     ensures missing { (chain : Chain) (kept : List shape.Tx) → IsOver table.now chain kept
-        → G.stands ledger.old chain → IfOk result (λ r. IfNone r (renewal.all_take chain kept inputs.now ≡ false)) }
+        → G.stands ledger.old chain
+        → IfOk result (λ r. IfNone r (renewal.all_take chain kept inputs.now ≡ false)) }
     ensures quiet { Quiet G.is_live G.height G.tip G.buckets G.stands G.tells_crash
-        G.means G.moment G.left_since ledger.old ledger.new }
+        G.moment G.left_since ledger.old ledger.new }
     ensures cause { CountsOnly (G.faults ledger.old) (G.faults ledger.new) QueryFault.DiskFailed result }
 {
-    let mut found = Vec::new(alloc);
+    let mut found = Vec::with_capacity(alloc, inputs.len())?;
     for input in inputs {
-        match named(table, ledger, &input.from, steps)? {
+        match named(table, ledger, &input.from)? {
             Some(held) => found.push(Source {
                 from: input.from,
                 held,
@@ -82,12 +85,11 @@ fn taken_again<G: Ledger, L: Counts + Send>(
 
 /// What the inputs of the transaction take over the ledger's chain after those of the table; None where it
 /// may not be kept there.
-pub fn renewed<G: Ledger, L: Counts + Send>(
+pub fn renewed<G: Ledger>(
     alloc: Global,
     table: &Table,
     ledger: &mut G,
     entry: &KeptTx,
-    steps: &mut Steps<L>,
 ) -> Result<Option<Vec<Source>>, QueryFault>
     requires live { G.is_live ledger.old }
     ensures stays { (before chain : Chain) (all kept : List shape.Tx) (t : shape.Tx)
@@ -97,18 +99,20 @@ pub fn renewed<G: Ledger, L: Counts + Send>(
     ensures goes { (before chain : Chain) (all kept : List shape.Tx) (t : shape.Tx)
         → renewal.IsEntry before all t entry.now → IsOver table.now chain kept → G.stands ledger.old chain
         → IfOk result (λ r. IfNone r (may_join chain kept t ≡ false)) }
+    ensures free { IfOk result (λ r. IfSome r (λ found. AllByRecursion (λ (s : source_shape.Source).
+        get same_outpoint table.now.spenders s.from ≡ None) found.items)) }
     ensures quiet { Quiet G.is_live G.height G.tip G.buckets G.stands G.tells_crash
-        G.means G.moment G.left_since ledger.old ledger.new }
+        G.moment G.left_since ledger.old ledger.new }
     ensures cause { CountsOnly (G.faults ledger.old) (G.faults ledger.new) QueryFault.DiskFailed result }
 {
-    if ledger.find_tx(&entry.txid, steps)?.is_some() {
+    if ledger.find_tx(&entry.txid)?.is_some() {
         return Ok(None);
     }
     let inputs = entry.inputs.as_slice();
     if !are_free(table, inputs) {
         return Ok(None);
     }
-    let Some(found) = taken_again(alloc, table, ledger, inputs, steps)? else {
+    let Some(found) = taken_again(alloc, table, ledger, inputs)? else {
         return Ok(None);
     };
     if taken_by(found.as_slice()) < held_in(entry.outputs.as_slice()) {

@@ -5,8 +5,8 @@ ghost use Rattle.el_mempool.specs.Sift.{total_held};
 ghost use Rattle.el_tx.specs.Encoding.{total_value, max_money};
 ghost use Rattle.el_pool.specs.within.Tables.{room_by, total_sources, is_output_at, flag_by};
 
-use crate::table::{Table, output_in};
 use el_base::OutOfMemory;
+use el_kept::{Table, output_in};
 use el_mempool::{Held, PoolFault, PoolLimits, Source};
 use el_tx::TxOut;
 

@@ -57,8 +57,12 @@ pub fn touch_entry(entry: &KeptTx, touched: &mut Touched) -> Result<(), OutOfMem
     Ok(())
 }
 
-// Those of the outputs and of the coins that the inputs take, each once.
-fn scripts_of(alloc: Global, outputs: &[Held], inputs: &[Source]) -> Result<Touched, OutOfMemory>
+/// Those of the outputs and of the coins that the inputs take, each once.
+pub fn scripts_of(
+    alloc: Global,
+    outputs: &[Held],
+    inputs: &[Source],
+) -> Result<Touched, OutOfMemory>
     ensures each { (s : shape.Hash32) → IfOk result (λ found. list_any (same_hash s) found
         ≡ (list_any (has_script s.0) outputs.now || list_any (is_coin_at s.0) inputs.now)) }
     ensures once { IfOk result AllDiffer }
@@ -81,8 +85,8 @@ pub fn touched_by(alloc: Global, entry: &KeptTx) -> Result<Touched, OutOfMemory>
     Ok(touched)
 }
 
-// Whether the coins that the inputs take have the same script hashes, one by one. Takes no memory.
-fn have_same_scripts(old: &[Source], new: &[Source]) -> bool
+/// Whether the coins that the inputs take have the same script hashes, one by one. Takes no memory.
+pub fn have_same_scripts(old: &[Source], new: &[Source]) -> bool
     ensures { result ≡ true → (s : List ℕ)
         → list_any (is_coin_at s) old.now ≡ list_any (is_coin_at s) new.now }
 {

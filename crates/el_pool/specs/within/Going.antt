@@ -7,31 +7,17 @@ use Rattle.el_base.specs.declared.hash.Hash32.{Hash32}
 use Rattle.el_tx.specs.declared.types.Outpoint.{Outpoint}
 use Rattle.el_chain.specs.Headers.{same_hash}
 use Rattle.el_mempool.specs.declared.held.KeptTx.{KeptTx}
-use Rattle.el_pool.specs.declared.table.Table.{Table}
-use Rattle.el_mempool.specs.Standing.{is_at_script}
-
--- the txid is one of these
-abbrev pub has : List Hash32 → Hash32 → Bool
-has ids x = list_any (same_hash x) ids
+use Rattle.el_kept.specs.Tables.{has}
 
 -- these, with one more unless it is there
 abbrev pub with_taker : Option Hash32 → List Hash32 → List Hash32
 with_taker None ids = ids
 with_taker (Some x) ids = if has ids x then ids else ids ++ x ∷ []
 
--- the entry that stands under a txid
-abbrev pub slot : Table → Hash32 → Option KeptTx
-slot t id = option_flatten (get same_hash t.kept id)
-
 -- how many outputs it has
 abbrev pub size : Option KeptTx → ℕ
 size None = 0
 size (Some k) = length k.outputs
-
--- an output of it has the script hash, or a coin that it takes
-abbrev pub slot_at_script : List ℕ → Option KeptTx → Bool
-slot_at_script s None = false
-slot_at_script s (Some k) = is_at_script s k
 
 -- an output of the transaction
 abbrev pub output : Hash32 → ℕ → Outpoint
@@ -42,7 +28,8 @@ abbrev pub AreThere : (Outpoint → Option Hash32) → Hash32 → ℕ → List H
 AreThere taker id n ids = (i : ℕ) → i < n → (x : Hash32) → taker (output id i) ≡ Some x → has ids x ≡ true
 
 -- The takers of the first n outputs of the transaction were added, and nothing else.
-pub record Grown (taker : Outpoint → Option Hash32) (id : Hash32) (n : ℕ) (old new : List Hash32) : Type 0 where
+pub record Grown (taker : Outpoint → Option Hash32) (id : Hash32) (n : ℕ)
+    (old new : List Hash32) : Type 0 where
   pub more : List Hash32
   pub is : new ≡ old ++ more
   pub comes : (x : Hash32) → has new x ≡ true
@@ -57,7 +44,3 @@ pub record Gathers (taker : Outpoint → Option Hash32) (sizes : Hash32 → ℕ)
   pub comes : (x : Hash32) → has ids x ≡ true
       → (x ≡ start) ⊎ ((o : Outpoint) × (has ids o.txid ≡ true) × (taker o ≡ Some x))
   pub there : (id : Hash32) → has ids id ≡ true → (has left id ≡ true) ⊎ AreThere taker id (sizes id) ids
-
--- the entries with none of these txids
-abbrev pub without : List Hash32 → List KeptTx → List KeptTx
-without ids ks = filter (λ (k : KeptTx). not (has ids k.txid)) ks

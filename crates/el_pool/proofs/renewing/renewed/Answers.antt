@@ -2,6 +2,9 @@ use Rattle.std.proofs.Common.{◌≡◌, ◌∙◌, sym, false}
 use Rattle.std.proofs.lemmas.Bool.{lt-ltb, le-ltb}
 use Rattle.el_pool.specs.within.Renewal.{all_take}
 use Rattle.el_pool.proofs.Renewed.{if_none, when_confirmed, when_taken, when_missing, when_short, when_stays}
+use Rattle.indexmap.specs.IndexMap.{get}
+use Rattle.el_tx.specs.Hashing.{same_outpoint}
+use Rattle.el_pool.proofs.Relisted.{free_from}
 use Rattle.el_pool.proofs.renewing.renewed.Goals as goal
 
 pub returns-then-is_some-clause-goes : goal.returns-then-is_some-clause-goes
@@ -31,3 +34,8 @@ returns-clause-stays g c = λ before chain all kept t e over stood.
     when_stays c.args.table.now before chain all kept t c.args.entry.now e over c.in_ok-find_tx.field-0 c.as_slice-inputs.result.now c.in-Some.found.items c.as_slice.result.now c.as_slice-2.result.now
     c.taken_by.result c.held_in.result c.are_free.result (c.in_ok-find_tx.ensures.spot chain stood) (sym c.is_some.ensures ∙ c.if-is_some.false) c.as_slice-inputs.ensures c.are_free.ensures
     c.if-not-are_free.false found.1 found.0 c.as_slice.ensures.value c.as_slice-2.ensures c.taken_by.ensures c.held_in.ensures (le-ltb c.taken_by.result c.held_in.result c.if-taken_by-held_in.false)
+
+pub returns-clause-free : goal.returns-clause-free
+returns-clause-free g c =
+    free_from (get same_outpoint c.args.table.now.spenders) c.as_slice-inputs.result.now c.in-Some.found.items
+    (rw c.in-Some.is at c.in_ok-found.ensures.from) (sym c.are_free.ensures ∙ c.if-not-are_free.false)

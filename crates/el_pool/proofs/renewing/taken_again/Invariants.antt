@@ -1,4 +1,6 @@
-use Rattle.std.proofs.Common.{◌≡◌, List}
+use Rattle.std.proofs.Common.{◌≡◌, List, take}
+use Rattle.std.specs.Prelude.{map}
+use Rattle.el_mempool.specs.declared.held.Source.{Source}
 use Rattle.el_chain.specs.Chains.{Chain}
 use Rattle.el_tx.specs.declared.types.Tx.{Tx}
 use Rattle.el_model.specs.Keeping.{Quiet}
@@ -11,9 +13,10 @@ abbrev pub invariant-loop-input : goal.invariant-loop-input
 invariant-loop-input g l =
     let d = g.G.Ledger in
     record {
-      quiet : Quiet d.is_live d.height d.tip d.buckets d.stands d.tells_crash d.means d.moment d.left_since
+      quiet : Quiet d.is_live d.height d.tip d.buckets d.stands d.tells_crash d.moment d.left_since
           l.initial.ledger l.ledger;
       still : d.faults l.ledger ≡ d.faults l.initial.ledger;
+      from : map (λ (s : Source). s.from) l.found.items ≡ map (λ (s : Source). s.from) (take l.input-index l.inputs);
       so_far : (chain : Chain) (kept : List Tx) → IsOver l.table chain kept → d.stands l.initial.ledger chain
           → SoFar chain kept l.inputs l.input-index l.found.items;
     }
