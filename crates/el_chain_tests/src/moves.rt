@@ -11,15 +11,13 @@ use crate::records::{
     BLOCK_0, BLOCK_1, HALVES, NO_HASH, SCRIPT_1, SCRIPT_100, SCRIPT_101, add, halves, plan_of,
     spent, tip_hash,
 };
-use el_base::{Bytes, Hash32, Listed, Steps};
+use el_base::{Bytes, Hash32, Listed};
 use el_block::BlockFault;
 use el_chain::{ConnectFault, MoveFault, Moved, PlainChain, Plan};
 use el_fakes::MemArchive;
 use el_model::{Ledger, Mark, PlainLedger, Stop, go_on};
 use el_outside::Archive;
 use std::alloc::Global;
-use std::marker::Brand;
-use std::sync::ledger::{Blank, Ledger as Counts};
 use std::test::Fail;
 
 // The hashes of the blocks after the first two: one that spends the first half of the spent coin, and one of
@@ -140,70 +138,58 @@ fn before(ledger: &PlainLedger, back: u32) -> Option<Hash32>
 }
 
 /// Takes so many blocks back and puts in the blocks of the records from one number to before another.
-pub fn move_in<A: Archive, L: Counts + Send>(
+pub fn move_in<A: Archive>(
     alloc: Global,
     ledger: &mut PlainLedger,
     back: u32,
     records: (&[Bytes], usize, usize),
     archive: &mut A,
-    steps: &mut Steps<L>,
 ) -> Result<Result<Moved, MoveFault>, Fail> {
     let (records, from, to) = records;
     let Some(hash) = before(ledger, back) else {
         return Err(Fail::new("too few blocks"));
     };
     let (plan, _) = plan_of(alloc, back, records, from, to, hash)?;
-    Ok(ledger.go(alloc, &plan, archive, steps))
+    Ok(ledger.go(alloc, &plan, archive))
 }
 
 /// The same, where nothing is wrong with the blocks.
-pub fn moved<L: Counts + Send>(
+pub fn moved(
     alloc: Global,
     ledger: &mut PlainLedger,
     back: u32,
     records: (&[Bytes], usize, usize),
-    steps: &mut Steps<L>,
 ) -> Result<Moved, Fail> {
     let mut archive = archive_of(alloc, records.0, NONE_WRONG)?;
-    let moved = move_in(alloc, ledger, back, records, &mut archive, steps)??;
+    let moved = move_in(alloc, ledger, back, records, &mut archive)??;
     Ok(moved)
 }
 
 // A ledger of the first block.
-fn first_alone<L: Counts + Send>(
-    alloc: Global,
-    records: &[Bytes],
-    steps: &mut Steps<L>,
-) -> Result<PlainLedger, Fail> {
+fn first_alone(alloc: Global, records: &[Bytes]) -> Result<PlainLedger, Fail> {
     let mut ledger = PlainLedger::over(PlainChain::new(alloc));
-    moved(alloc, &mut ledger, 0, (records, 0, 1), steps)?;
+    moved(alloc, &mut ledger, 0, (records, 0, 1))?;
     Ok(ledger)
 }
 
 // What a script hash has: its number of entries, and what its coins hold together.
-fn has_of<L: Counts + Send>(
-    alloc: Global,
-    ledger: &mut PlainLedger,
-    script: &str,
-    steps: &mut Steps<L>,
-) -> Result<(usize, u64), Fail> {
+fn has_of(alloc: Global, ledger: &mut PlainLedger, script: &str) -> Result<(usize, u64), Fail> {
     let hash = Hash32::from_shown(script)?;
-    let found = ledger.history(alloc, &hash, steps)?;
-    let balance = ledger.balance(&hash, steps)?;
+    let found = ledger.history(alloc, &hash)?;
+    let balance = ledger.balance(&hash)?;
     Ok((found.len(), balance))
 }
 
 /// Whether the ledger stands at that block, and these script hashes have so many entries and so much of
 /// satoshi.
-pub fn stands_at<L: Counts + Send>(
+pub fn stands_at(
     alloc: Global,
     ledger: &mut PlainLedger,
     tip: (u32, &str),
     scripts: &[(&str, usize, u64)],
-    steps: &mut Steps<L>,
 ) -> Result<bool, Fail> {
     for (script, entries, balance) in scripts {
-        if has_of(alloc, ledger, *script, steps)? != (*entries, *balance) {
+        if has_of(alloc, ledger, *script)? != (*entries, *balance) {
             return Ok(false);
         }
     }
@@ -226,13 +212,13 @@ pub fn touches(moved: &Moved, scripts: &[&str]) -> bool {
 }
 
 // Whether three blocks after the first lead to the last of the four, and touch the three scripts.
-fn puts_in_three<L: Counts + Send>(alloc: Global, steps: &mut Steps<L>) -> Result<bool, Fail> {
+fn puts_in_three(alloc: Global) -> Result<bool, Fail> {
     let records = four(alloc, NONE_WRONG)?;
-    let mut ledger = first_alone(alloc, records.as_slice(), steps)?;
-    let moved = moved(alloc, &mut ledger, 0, (records.as_slice(), 1, 4), steps)?;
+    let mut ledger = first_alone(alloc, records.as_slice())?;
+    let moved = moved(alloc, &mut ledger, 0, (records.as_slice(), 1, 4))?;
     let led = moved.height == Some(3) && is_shown(moved.tip, Some(BLOCK_3));
     let touched = touches(&moved, [SCRIPT_1, SCRIPT_100, SCRIPT_101].as_slice());
-    Ok(led && touched && stands_at(alloc, &mut ledger, (3, BLOCK_3), &ALL_FOUR, steps)?)
+    Ok(led && touched && stands_at(alloc, &mut ledger, (3, BLOCK_3), &ALL_FOUR)?)
 }
 
 // The fault that a move is to be stopped by: the third block misses a coin or has a bad Merkle root, a header
@@ -284,19 +270,14 @@ fn fault_of(wanted: Wanted<'_>) -> Result<MoveFault, Fail> {
 
 // Whether the move of three blocks, of which something is wrong, is refused by that fault and changes
 // nothing.
-fn is_refused<L: Counts + Send>(
-    alloc: Global,
-    wrong: Wrong,
-    wanted: Wanted<'_>,
-    steps: &mut Steps<L>,
-) -> Result<bool, Fail> {
+fn is_refused(alloc: Global, wrong: Wrong, wanted: Wanted<'_>) -> Result<bool, Fail> {
     let records = four(alloc, wrong)?;
-    let mut ledger = first_alone(alloc, records.as_slice(), steps)?;
+    let mut ledger = first_alone(alloc, records.as_slice())?;
     let mut archive = archive_of(alloc, records.as_slice(), wrong)?;
     let some = (records.as_slice(), 1, 4);
-    let found = move_in(alloc, &mut ledger, 0, some, &mut archive, steps)?.err();
+    let found = move_in(alloc, &mut ledger, 0, some, &mut archive)?.err();
     let told = found == Some(fault_of(wanted)?);
-    Ok(told && stands_at(alloc, &mut ledger, (0, BLOCK_0), &FIRST_ALONE, steps)?)
+    Ok(told && stands_at(alloc, &mut ledger, (0, BLOCK_0), &FIRST_ALONE)?)
 }
 
 // What the scripts of 1, 100 and 101 have after the first block.
@@ -375,12 +356,9 @@ const WRONG: [(Wrong, Wanted<'static>); 9] = [
 ];
 
 // The first case, counted from 0, that isn't refused so.
-fn not_refused<L: Counts + Send>(
-    alloc: Global,
-    steps: &mut Steps<L>,
-) -> Result<Option<usize>, Fail> {
+fn not_refused(alloc: Global) -> Result<Option<usize>, Fail> {
     for (number, (wrong, wanted)) in WRONG.iter().enumerate() {
-        if !is_refused(alloc, *wrong, *wanted, steps)? {
+        if !is_refused(alloc, *wrong, *wanted)? {
             return Ok(Some(number));
         }
     }
@@ -468,18 +446,14 @@ fn records_of(alloc: Global, told: Told<'_>) -> Result<Vec<Bytes>, Fail> {
 }
 
 // Makes the moves, and tells whether the marks are these.
-fn is_told<L: Counts + Send>(
-    alloc: Global,
-    told: Told<'_>,
-    steps: &mut Steps<L>,
-) -> Result<bool, Fail> {
+fn is_told(alloc: Global, told: Told<'_>) -> Result<bool, Fail> {
     let records = records_of(alloc, told)?;
     let plans = two_moves(alloc, records.as_slice(), told.first)?;
     let mut archive = archive_of(alloc, records.as_slice(), NONE_WRONG)?;
     let mut ledger = PlainLedger::new(alloc);
     let mut sent = Listed::new(alloc);
     let plans = plans.as_slice();
-    let end = go_on(alloc, &mut ledger, plans, &mut archive, &mut sent, steps);
+    let end = go_on(alloc, &mut ledger, plans, &mut archive, &mut sent);
     let wanted = match told.two {
         Some(_) => Ok(()),
         None => Err(Stop::Refused),
@@ -488,9 +462,9 @@ fn is_told<L: Counts + Send>(
 }
 
 // The first case, counted from 0, that isn't told so.
-fn not_told<L: Counts + Send>(alloc: Global, steps: &mut Steps<L>) -> Result<Option<usize>, Fail> {
+fn not_told(alloc: Global) -> Result<Option<usize>, Fail> {
     for (number, told) in TOLD.iter().enumerate() {
-        if !is_told(alloc, *told, steps)? {
+        if !is_told(alloc, *told)? {
             return Ok(Some(number));
         }
     }
@@ -514,15 +488,14 @@ const MOVES: [(usize, Option<u32>, Option<&str>); 3] = [
 ];
 
 // Whether a move of so many of the blocks leads there.
-fn leads_to<L: Counts + Send>(
+fn leads_to(
     alloc: Global,
     records: &[Bytes],
     case: (usize, Option<u32>, Option<&str>),
-    steps: &mut Steps<L>,
 ) -> Result<bool, Fail> {
     let (count, height, tip) = case;
     let mut ledger = PlainLedger::new(alloc);
-    let moved = moved(alloc, &mut ledger, 0, (records, 0, count), steps)?;
+    let moved = moved(alloc, &mut ledger, 0, (records, 0, count))?;
     Ok(
         moved.height == height
             && is_shown(moved.tip, tip)
@@ -532,10 +505,10 @@ fn leads_to<L: Counts + Send>(
 }
 
 // The first number of coinbases that doesn't lead there.
-fn not_led<L: Counts + Send>(alloc: Global, steps: &mut Steps<L>) -> Result<Option<usize>, Fail> {
+fn not_led(alloc: Global) -> Result<Option<usize>, Fail> {
     let records = coinbases(alloc, 16)?;
     for case in MOVES {
-        if !leads_to(alloc, records.as_slice(), case, steps)? {
+        if !leads_to(alloc, records.as_slice(), case)? {
             return Ok(Some(case.0));
         }
     }
@@ -545,21 +518,16 @@ fn not_led<L: Counts + Send>(alloc: Global, steps: &mut Steps<L>) -> Result<Opti
 // Whether three blocks are put in; then the first case of each table that isn't as it must be.
 type Wrongs = (bool, Option<usize>, Option<usize>, Option<usize>);
 
-fn moves_forth<L: Counts + Send>(alloc: Global, blank: Blank) -> Result<Wrongs, Fail>
-    requires name { blank.name ≡ L.name }
-    requires parts { blank.parts ≡ L.parts }
-    requires some { 0 < blank.parts }
-{
-    let mut steps = Steps::<L>::new(blank);
-    let three = puts_in_three(alloc, &mut steps)?;
-    let refused = not_refused(alloc, &mut steps)?;
-    let told = not_told(alloc, &mut steps)?;
-    Ok((three, refused, told, not_led(alloc, &mut steps)?))
+fn moves_forth(alloc: Global) -> Result<Wrongs, Fail> {
+    let three = puts_in_three(alloc)?;
+    let refused = not_refused(alloc)?;
+    let told = not_told(alloc)?;
+    Ok((three, refused, told, not_led(alloc)?))
 }
 
 #[test]
 fn puts_blocks_in(rt: HostRuntime) -> Result<(), Fail> {
-    let wrongs = moves_forth::<Brand>(rt.alloc(), Blank::new(1))?;
+    let wrongs = moves_forth(rt.alloc())?;
     assert_eq!(rt; wrongs, (true, None, None, None));
     Ok(())
 }

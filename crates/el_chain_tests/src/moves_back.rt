@@ -6,12 +6,10 @@ use crate::moves::{
     NONE_WRONG, Wrong, archive_of, coinbases, four, move_in, moved, stands_at, touches,
 };
 use crate::records::{BLOCK_0, BLOCK_1, SCRIPT_1, SCRIPT_100, SCRIPT_101, add};
-use el_base::{Bytes, Hash32, Steps};
+use el_base::{Bytes, Hash32};
 use el_chain::MoveFault;
 use el_model::{Ledger, PlainLedger};
 use std::alloc::Global;
-use std::marker::Brand;
-use std::sync::ledger::{Blank, Ledger as Counts};
 use std::test::Fail;
 
 // The hashes of the blocks of heights 2 and 101 of a chain of coinbases, which has the time of height 100
@@ -23,17 +21,13 @@ const COINBASES_101: &str = "d5ad342de53338cc69e0dd31b02cae137d407036ba9db3cce4b
 const OTHER_4: &str = "552ad6ab34961783bd0bc993d6213f2230ba4bee3f17b163d585a1cdc83cddf7";
 
 // A ledger of the blocks of the records, sixteen in a move.
-fn ledger_of<L: Counts + Send>(
-    alloc: Global,
-    records: &[Bytes],
-    steps: &mut Steps<L>,
-) -> Result<PlainLedger, Fail> {
+fn ledger_of(alloc: Global, records: &[Bytes]) -> Result<PlainLedger, Fail> {
     let mut ledger = PlainLedger::new(alloc);
     for start in 0..7usize {
         let from = 16 * start;
         let to = records.len().min(from + 16);
         if from < to {
-            moved(alloc, &mut ledger, 0, (records, from, to), steps)?;
+            moved(alloc, &mut ledger, 0, (records, from, to))?;
         }
     }
     Ok(ledger)
@@ -49,17 +43,16 @@ fn five(alloc: Global) -> Result<Vec<Bytes>, Fail> {
 }
 
 // Whether both ledgers answer alike for the script hash, which has five coins.
-fn answer_alike<L: Counts + Send>(
+fn answer_alike(
     alloc: Global,
     one: &mut PlainLedger,
     other: &mut PlainLedger,
-    steps: &mut Steps<L>,
 ) -> Result<bool, Fail> {
     let script = Hash32::from_shown(SCRIPT_101)?;
-    let entries = one.history(alloc, &script, steps)?;
-    let alike = entries.as_slice() == other.history(alloc, &script, steps)?.as_slice();
-    let coins = one.unspent(alloc, &script, steps)?;
-    let others = other.unspent(alloc, &script, steps)?;
+    let entries = one.history(alloc, &script)?;
+    let alike = entries.as_slice() == other.history(alloc, &script)?.as_slice();
+    let coins = one.unspent(alloc, &script)?;
+    let others = other.unspent(alloc, &script)?;
     Ok(alike && coins.as_slice() == others.as_slice() && coins.len() == 5)
 }
 
@@ -69,50 +62,42 @@ const ALL: [(&str, usize, u64); 1] = [(SCRIPT_101, 102, 510_000_000_000)];
 const FIVE: [(&str, usize, u64); 1] = [(SCRIPT_101, 5, 25_000_000_000)];
 
 // A ledger of 102 blocks, of which a hundred are taken back, and the last three of five others put in.
-fn turned<L: Counts + Send>(
-    alloc: Global,
-    others: &[Bytes],
-    steps: &mut Steps<L>,
-) -> Result<PlainLedger, Fail> {
+fn turned(alloc: Global, others: &[Bytes]) -> Result<PlainLedger, Fail> {
     let records = coinbases(alloc, 102)?;
-    let mut ledger = ledger_of(alloc, records.as_slice(), steps)?;
-    if !stands_at(alloc, &mut ledger, (101, COINBASES_101), &ALL, steps)? {
+    let mut ledger = ledger_of(alloc, records.as_slice())?;
+    if !stands_at(alloc, &mut ledger, (101, COINBASES_101), &ALL)? {
         return Err(Fail::new("the first chain stands otherwise"));
     }
-    moved(alloc, &mut ledger, 100, (others, 2, 5), steps)?;
+    moved(alloc, &mut ledger, 100, (others, 2, 5))?;
     Ok(ledger)
 }
 
 // Whether it then stands at the last of the others, and answers as if they had been put in alone.
-fn takes_a_hundred<L: Counts + Send>(alloc: Global, steps: &mut Steps<L>) -> Result<bool, Fail> {
+fn takes_a_hundred(alloc: Global) -> Result<bool, Fail> {
     let others = five(alloc)?;
-    let mut ledger = turned(alloc, others.as_slice(), steps)?;
-    let stands = stands_at(alloc, &mut ledger, (4, OTHER_4), &FIVE, steps)?;
-    let mut anew = ledger_of(alloc, others.as_slice(), steps)?;
-    Ok(stands && answer_alike(alloc, &mut ledger, &mut anew, steps)?)
+    let mut ledger = turned(alloc, others.as_slice())?;
+    let stands = stands_at(alloc, &mut ledger, (4, OTHER_4), &FIVE)?;
+    let mut anew = ledger_of(alloc, others.as_slice())?;
+    Ok(stands && answer_alike(alloc, &mut ledger, &mut anew)?)
 }
 
 // What the script of 101 has after the first block.
 const ONE: [(&str, usize, u64); 1] = [(SCRIPT_101, 1, 5_000_000_000)];
 
 // Whether the coin that a second coinbase of one txid had replaced is a coin again.
-fn makes_a_coin_again<L: Counts + Send>(alloc: Global, steps: &mut Steps<L>) -> Result<bool, Fail> {
+fn makes_a_coin_again(alloc: Global) -> Result<bool, Fail> {
     let mut records = coinbases(alloc, 1)?;
     add(alloc, &mut records, 0, None)?;
-    let mut ledger = ledger_of(alloc, records.as_slice(), steps)?;
-    moved(alloc, &mut ledger, 1, (&[], 0, 0), steps)?;
-    let stands = stands_at(alloc, &mut ledger, (0, BLOCK_0), &ONE, steps)?;
-    Ok(stands && has_first_coin(alloc, &mut ledger, steps)?)
+    let mut ledger = ledger_of(alloc, records.as_slice())?;
+    moved(alloc, &mut ledger, 1, (&[], 0, 0))?;
+    let stands = stands_at(alloc, &mut ledger, (0, BLOCK_0), &ONE)?;
+    Ok(stands && has_first_coin(alloc, &mut ledger)?)
 }
 
 // Whether the script of 101 has one coin, of 50 bitcoins at height 0.
-fn has_first_coin<L: Counts + Send>(
-    alloc: Global,
-    ledger: &mut PlainLedger,
-    steps: &mut Steps<L>,
-) -> Result<bool, Fail> {
+fn has_first_coin(alloc: Global, ledger: &mut PlainLedger) -> Result<bool, Fail> {
     let script = Hash32::from_shown(SCRIPT_101)?;
-    let coins = ledger.unspent(alloc, &script, steps)?;
+    let coins = ledger.unspent(alloc, &script)?;
     Ok(coins.len() == 1 && coins[0].height == 0 && coins[0].value == 5_000_000_000)
 }
 
@@ -125,52 +110,39 @@ const BAD_THIRD: Wrong = Wrong {
 const THREE: [(&str, usize, u64); 2] = [(SCRIPT_1, 0, 0), (SCRIPT_101, 3, 15_000_000_000)];
 
 // Whether a move back whose third new block is bad changes nothing.
-fn changes_nothing<L: Counts + Send>(alloc: Global, steps: &mut Steps<L>) -> Result<bool, Fail> {
+fn changes_nothing(alloc: Global) -> Result<bool, Fail> {
     let records = coinbases(alloc, 3)?;
-    let mut ledger = ledger_of(alloc, records.as_slice(), steps)?;
+    let mut ledger = ledger_of(alloc, records.as_slice())?;
     let others = four(alloc, BAD_THIRD)?;
     let mut archive = archive_of(alloc, others.as_slice(), BAD_THIRD)?;
     let some = (others.as_slice(), 1, 4);
-    let result = move_in(alloc, &mut ledger, 2, some, &mut archive, steps)?;
+    let result = move_in(alloc, &mut ledger, 2, some, &mut archive)?;
     let is_bad = matches!(result, Err(MoveFault::BadBlock { .. }));
-    Ok(is_bad && stands_at(alloc, &mut ledger, (2, COINBASES_2), &THREE, steps)?)
+    Ok(is_bad && stands_at(alloc, &mut ledger, (2, COINBASES_2), &THREE)?)
 }
 
 // What the scripts of 1 and 100 have after two of the four blocks.
 const TWO: [(&str, usize, u64); 2] = [(SCRIPT_1, 0, 0), (SCRIPT_100, 1, 2_500_000_000)];
 
 // Whether a move that only takes blocks back touches the scripts of these, and no other.
-fn touches_what_is_removed<L: Counts + Send>(
-    alloc: Global,
-    steps: &mut Steps<L>,
-) -> Result<bool, Fail> {
+fn touches_what_is_removed(alloc: Global) -> Result<bool, Fail> {
     let records = four(alloc, NONE_WRONG)?;
-    let mut ledger = ledger_of(alloc, records.as_slice(), steps)?;
-    let moved = moved(alloc, &mut ledger, 2, (&[], 0, 0), steps)?;
+    let mut ledger = ledger_of(alloc, records.as_slice())?;
+    let moved = moved(alloc, &mut ledger, 2, (&[], 0, 0))?;
     let touched = touches(&moved, [SCRIPT_1, SCRIPT_101].as_slice());
-    Ok(touched && stands_at(alloc, &mut ledger, (1, BLOCK_1), &TWO, steps)?)
+    Ok(touched && stands_at(alloc, &mut ledger, (1, BLOCK_1), &TWO)?)
 }
 
-fn moves_back<L: Counts + Send>(alloc: Global, blank: Blank) -> Result<[bool; 4], Fail>
-    requires name { blank.name ≡ L.name }
-    requires parts { blank.parts ≡ L.parts }
-    requires some { 0 < blank.parts }
-{
-    let mut steps = Steps::<L>::new(blank);
-    let hundred = takes_a_hundred(alloc, &mut steps)?;
-    let again = makes_a_coin_again(alloc, &mut steps)?;
-    let nothing = changes_nothing(alloc, &mut steps)?;
-    Ok([
-        hundred,
-        again,
-        nothing,
-        touches_what_is_removed(alloc, &mut steps)?,
-    ])
+fn moves_back(alloc: Global) -> Result<[bool; 4], Fail> {
+    let hundred = takes_a_hundred(alloc)?;
+    let again = makes_a_coin_again(alloc)?;
+    let nothing = changes_nothing(alloc)?;
+    Ok([hundred, again, nothing, touches_what_is_removed(alloc)?])
 }
 
 #[test]
 fn takes_blocks_back(rt: HostRuntime) -> Result<(), Fail> {
-    let rights = moves_back::<Brand>(rt.alloc(), Blank::new(1))?;
+    let rights = moves_back(rt.alloc())?;
     assert_eq!(rt; rights, [true; 4]);
     Ok(())
 }

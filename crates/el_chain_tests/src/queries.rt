@@ -8,15 +8,13 @@ use crate::records::{
     BLOCK_0, BLOCK_1, COINBASE_0, COINBASE_1, HALVES, SCRIPT_1, SCRIPT_100, SCRIPT_101, add,
     halves, output_of, size_of, spent, tip_hash,
 };
-use el_base::{Bytes, Hash32, Steps};
+use el_base::{Bytes, Hash32};
 use el_block::{Block, decode_block};
 use el_chain::{Coin, Entry, PlainChain, Spot};
 use el_model::{Ledger, PlainLedger};
 use el_outside::Place;
 use el_tx::block_hash;
 use std::alloc::Global;
-use std::marker::Brand;
-use std::sync::ledger::{Blank, Ledger as Counts};
 use std::test::Fail;
 
 // The txid of the transaction that gives the first coinbase's coin whole to the script of 1.
@@ -147,29 +145,19 @@ fn coins_of(
 }
 
 // Whether the ledger has these entries of the script hash.
-fn has_entries<L: Counts + Send>(
-    alloc: Global,
-    ledger: &mut PlainLedger,
-    owned: &Owned<'_>,
-    steps: &mut Steps<L>,
-) -> Result<bool, Fail> {
+fn has_entries(alloc: Global, ledger: &mut PlainLedger, owned: &Owned<'_>) -> Result<bool, Fail> {
     let script = Hash32::from_shown(owned.script)?;
     let entries = entries_of(alloc, owned.entries)?;
-    let found = ledger.history(alloc, &script, steps)?;
+    let found = ledger.history(alloc, &script)?;
     Ok(found.as_slice() == entries.as_slice())
 }
 
 // Whether it has these coins and this balance.
-fn has_coins<L: Counts + Send>(
-    alloc: Global,
-    ledger: &mut PlainLedger,
-    owned: &Owned<'_>,
-    steps: &mut Steps<L>,
-) -> Result<bool, Fail> {
+fn has_coins(alloc: Global, ledger: &mut PlainLedger, owned: &Owned<'_>) -> Result<bool, Fail> {
     let script = Hash32::from_shown(owned.script)?;
     let coins = coins_of(alloc, owned.script, owned.coins)?;
-    let found = ledger.unspent(alloc, &script, steps)?;
-    let balance = ledger.balance(&script, steps)?;
+    let found = ledger.unspent(alloc, &script)?;
+    let balance = ledger.balance(&script)?;
     Ok(found.as_slice() == coins.as_slice() && balance == owned.balance)
 }
 
@@ -242,14 +230,11 @@ const OWNED: [(Blocks, Owned<'static>); 6] = [
 ];
 
 // The first case, counted from 0, in which a script hasn't what it is to have.
-fn wrong_script<L: Counts + Send>(
-    alloc: Global,
-    steps: &mut Steps<L>,
-) -> Result<Option<usize>, Fail> {
+fn wrong_script(alloc: Global) -> Result<Option<usize>, Fail> {
     for (number, (blocks, owned)) in OWNED.iter().enumerate() {
         let mut ledger = chain_of(alloc, *blocks)?;
-        let entries = has_entries(alloc, &mut ledger, owned, steps)?;
-        if !entries || !has_coins(alloc, &mut ledger, owned, steps)? {
+        let entries = has_entries(alloc, &mut ledger, owned)?;
+        if !entries || !has_coins(alloc, &mut ledger, owned)? {
             return Ok(Some(number));
         }
     }
@@ -300,27 +285,18 @@ fn taker_wanted(traced: &Traced<'_>) -> Result<Option<Entry>, Fail> {
 }
 
 // Whether the ledger has that coin of the output, and that taker.
-fn has_output<L: Counts + Send>(
-    ledger: &mut PlainLedger,
-    traced: &Traced<'_>,
-    steps: &mut Steps<L>,
-) -> Result<bool, Fail> {
+fn has_output(ledger: &mut PlainLedger, traced: &Traced<'_>) -> Result<bool, Fail> {
     let output = output_of(traced.output.0, traced.output.1)?;
-    let coin = ledger.coin(&output, steps)?;
-    let taker = ledger.spender(&output, steps)?;
+    let coin = ledger.coin(&output)?;
+    let taker = ledger.spender(&output)?;
     Ok(coin == coin_wanted(traced)? && taker == taker_wanted(traced)?)
 }
 
 // Whether the ledger of the records finds the output's transaction there.
-fn finds<L: Counts + Send>(
-    ledger: &mut PlainLedger,
-    records: &[Bytes],
-    traced: &Traced<'_>,
-    steps: &mut Steps<L>,
-) -> Result<bool, Fail> {
+fn finds(ledger: &mut PlainLedger, records: &[Bytes], traced: &Traced<'_>) -> Result<bool, Fail> {
     let txid = Hash32::from_shown(traced.output.0)?;
     let spot = traced.spot.map(|spot| spot_of(records, spot));
-    Ok(ledger.find_tx(&txid, steps)? == spot)
+    Ok(ledger.find_tx(&txid)? == spot)
 }
 
 const TRACED: [(Blocks, Traced<'static>); 6] = [
@@ -381,15 +357,12 @@ const TRACED: [(Blocks, Traced<'static>); 6] = [
 ];
 
 // The first case, counted from 0, in which an output isn't as it is to be.
-fn wrong_output<L: Counts + Send>(
-    alloc: Global,
-    steps: &mut Steps<L>,
-) -> Result<Option<usize>, Fail> {
+fn wrong_output(alloc: Global) -> Result<Option<usize>, Fail> {
     for (number, (blocks, traced)) in TRACED.iter().enumerate() {
         let records = records_of(alloc, *blocks)?;
         let mut ledger = ledger_of(alloc, records.as_slice())?;
-        let output = has_output(&mut ledger, traced, steps)?;
-        if !output || !finds(&mut ledger, records.as_slice(), traced, steps)? {
+        let output = has_output(&mut ledger, traced)?;
+        if !output || !finds(&mut ledger, records.as_slice(), traced)? {
             return Ok(Some(number));
         }
     }
@@ -425,20 +398,15 @@ fn is_within(ledger: &PlainLedger, height: u32) -> bool
 }
 
 // Whether the ledger has, at that height, a header with that hash and a block of that size.
-fn has_header<L: Counts + Send>(
-    ledger: &mut PlainLedger,
-    height: u32,
-    block: (&str, u32),
-    steps: &mut Steps<L>,
-) -> Result<bool, Fail> {
+fn has_header(ledger: &mut PlainLedger, height: u32, block: (&str, u32)) -> Result<bool, Fail> {
     if !is_within(ledger, height) {
         return Ok(false);
     }
-    let header = ledger.header(height, steps)?;
+    let header = ledger.header(height)?;
     if !is_within(ledger, height) {
         return Ok(false);
     }
-    let place = ledger.place(height, steps)?;
+    let place = ledger.place(height)?;
     let hash = Hash32::from_shown(block.0)?;
     Ok(block_hash(&header) == hash && place == place_of(height, block.1))
 }
@@ -453,34 +421,30 @@ fn are_shown(hashes: &[Hash32], shown: &[&str]) -> bool {
 }
 
 // Whether the ledger has these block hashes up to the height, and the block of that height these txids.
-fn has_hashes<L: Counts + Send>(
+fn has_hashes(
     alloc: Global,
     ledger: &mut PlainLedger,
     height: u32,
     shown: (&[&str], &[&str]),
-    steps: &mut Steps<L>,
 ) -> Result<bool, Fail> {
     if !is_within(ledger, height) {
         return Ok(false);
     }
-    let hashes = ledger.hashes(alloc, height, steps)?;
+    let hashes = ledger.hashes(alloc, height)?;
     if !is_within(ledger, height) {
         return Ok(false);
     }
-    let txids = ledger.block_txids(alloc, height, steps)?;
+    let txids = ledger.block_txids(alloc, height)?;
     Ok(are_shown(hashes.as_slice(), shown.0) && are_shown(txids.as_slice(), shown.1))
 }
 
 // The first height of a chain of two blocks at which an answer isn't as it is to be; 2 where the last block
 // is another one.
-fn wrong_height<L: Counts + Send>(
-    alloc: Global,
-    steps: &mut Steps<L>,
-) -> Result<Option<u32>, Fail> {
+fn wrong_height(alloc: Global) -> Result<Option<u32>, Fail> {
     let mut ledger = chain_of(alloc, Blocks::Halved)?;
     for (height, block, hashes, txids) in BY_HEIGHT {
-        let header = has_header(&mut ledger, height, block, steps)?;
-        if !header || !has_hashes(alloc, &mut ledger, height, (hashes, txids), steps)? {
+        let header = has_header(&mut ledger, height, block)?;
+        if !header || !has_hashes(alloc, &mut ledger, height, (hashes, txids))? {
             return Ok(Some(height));
         }
     }
@@ -500,20 +464,15 @@ fn has_no_tip_at_first(rt: HostRuntime) {
 
 type Wrongs = (Option<usize>, Option<usize>, Option<u32>);
 
-fn asks<L: Counts + Send>(alloc: Global, blank: Blank) -> Result<Wrongs, Fail>
-    requires name { blank.name ≡ L.name }
-    requires parts { blank.parts ≡ L.parts }
-    requires some { 0 < blank.parts }
-{
-    let mut steps = Steps::<L>::new(blank);
-    let script = wrong_script(alloc, &mut steps)?;
-    let output = wrong_output(alloc, &mut steps)?;
-    Ok((script, output, wrong_height(alloc, &mut steps)?))
+fn asks(alloc: Global) -> Result<Wrongs, Fail> {
+    let script = wrong_script(alloc)?;
+    let output = wrong_output(alloc)?;
+    Ok((script, output, wrong_height(alloc)?))
 }
 
 #[test]
 fn answers_queries(rt: HostRuntime) -> Result<(), Fail> {
-    let wrongs = asks::<Brand>(rt.alloc(), Blank::new(1))?;
+    let wrongs = asks(rt.alloc())?;
     assert_eq!(rt; wrongs, (None, None, None));
     Ok(())
 }

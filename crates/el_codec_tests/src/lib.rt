@@ -13,6 +13,8 @@ mod generated;
 #[cfg(test)]
 mod headers;
 #[cfg(test)]
+mod json;
+#[cfg(test)]
 mod merkle;
 #[cfg(test)]
 mod printed;

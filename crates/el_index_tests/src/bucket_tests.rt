@@ -4,14 +4,12 @@ ghost use Rattle.el_rows.specs.RowBytes.{link_number};
 
 use crate::failing_rows::FailingRows;
 use crate::fixtures::hash;
-use el_base::Steps;
 use el_buckets::{Buckets, Found, find, if_below, not_appended, pop, push};
 use el_chain::ConnectFault;
 use el_outside::DiskFailed;
 use el_rows::{AppendFault, Rows, Table, Txn, VecRows};
 use std::alloc::Global;
 use std::process::Abort;
-use std::sync::ledger::Ledger;
 use std::test::Fail;
 
 const BOTH: [Buckets; 2] = [Buckets::Txids, Buckets::ScriptHashes];
@@ -29,8 +27,7 @@ fn row_bytes(buckets: Buckets, k: u8, next: u8) -> [u8; 68] {
 }
 
 fn add_heads<R: Rows>(txn: &mut Txn<'_, R>, buckets: Buckets, heads: &[[u8; 4]]) -> Result<(), Fail>
-    ensures rows { txn.new.rows.now ≡ txn.old.rows.now }
-    ensures name { txn.new.rows.ghost_name ≡ txn.old.rows.ghost_name }
+    ensures { txn.new.rows.ghost_name ≡ txn.old.rows.ghost_name }
 {
     for head in heads {
         txn.append(buckets.heads(), head)?;
@@ -49,21 +46,20 @@ fn link(written: u8) -> Option<u64>
 }
 
 // The newest row with that number and the head of its bucket, as they are written.
-fn check_found<A: Abort, L: Ledger>(
+fn check_found<A: Abort>(
     rt: &A,
     txn: &mut Txn<'_, VecRows>,
     buckets: Buckets,
     k: u8,
     wanted: [u8; 2],
-    steps: &mut Steps<L>,
 ) -> Result<(), Fail>
-    ensures name { txn.new.rows.ghost_name ≡ txn.old.rows.ghost_name }
+    ensures { txn.new.rows.ghost_name ≡ txn.old.rows.ghost_name }
 {
     let wanted = Found {
         newest: link(wanted[0]),
         head: link(wanted[1]),
     };
-    assert!(rt; find(txn, buckets, &hash(k), steps) == Ok(wanted));
+    assert!(rt; find(txn, buckets, &hash(k)) == Ok(wanted));
     Ok(())
 }
 
@@ -92,13 +88,8 @@ const POPPED: [(u64, u8, u8, [[u8; 2]; 3]); 6] = [
     (0, 0, 0, [[0, 0], [0, 0], [0, 0]]),
 ];
 
-fn push_all<A: Abort, L: Ledger>(
-    rt: &A,
-    txn: &mut Txn<'_, VecRows>,
-    buckets: Buckets,
-    steps: &mut Steps<L>,
-) -> Result<(), Fail>
-    ensures name { txn.new.rows.ghost_name ≡ txn.old.rows.ghost_name }
+fn push_all<A: Abort>(rt: &A, txn: &mut Txn<'_, VecRows>, buckets: Buckets) -> Result<(), Fail>
+    ensures { txn.new.rows.ghost_name ≡ txn.old.rows.ghost_name }
 {
     let mut count = 0u64;
     for (k, next) in PUSHED {
@@ -108,42 +99,33 @@ fn push_all<A: Abort, L: Ledger>(
         count = count.wrapping_add(1);
     }
     for (k, wanted) in FOUND {
-        check_found(rt, txn, buckets, k, wanted, steps)?;
+        check_found(rt, txn, buckets, k, wanted)?;
     }
     Ok(())
 }
 
-fn pop_all<A: Abort, L: Ledger>(
-    rt: &A,
-    txn: &mut Txn<'_, VecRows>,
-    buckets: Buckets,
-    steps: &mut Steps<L>,
-) -> Result<(), Fail>
-    ensures name { txn.new.rows.ghost_name ≡ txn.old.rows.ghost_name }
+fn pop_all<A: Abort>(rt: &A, txn: &mut Txn<'_, VecRows>, buckets: Buckets) -> Result<(), Fail>
+    ensures { txn.new.rows.ghost_name ≡ txn.old.rows.ghost_name }
 {
     for (left, k, next, wanted) in POPPED {
         if left <= txn.count(buckets.rows()) {
             assert!(rt; pop(txn, buckets, &hash(k), left, link(next)) == Ok(()));
         }
         assert!(rt; txn.count(buckets.rows()) == left);
-        check_found(rt, txn, buckets, 0, wanted[0], steps)?;
-        check_found(rt, txn, buckets, 1, wanted[1], steps)?;
-        check_found(rt, txn, buckets, 6, wanted[2], steps)?;
+        check_found(rt, txn, buckets, 0, wanted[0])?;
+        check_found(rt, txn, buckets, 1, wanted[1])?;
+        check_found(rt, txn, buckets, 6, wanted[2])?;
     }
     Ok(())
 }
 
-fn both_kinds<A: Abort, L: Ledger>(
-    rt: &A,
-    alloc: Global,
-    steps: &mut Steps<L>,
-) -> Result<(), Fail> {
+fn both_kinds<A: Abort>(rt: &A, alloc: Global) -> Result<(), Fail> {
     for buckets in BOTH {
         let mut rows = VecRows::new(alloc);
         let mut txn = Txn::new(alloc, &mut rows);
         add_heads(&mut txn, buckets, &[[0; 4]; 3])?;
-        push_all(rt, &mut txn, buckets, steps)?;
-        pop_all(rt, &mut txn, buckets, steps)?;
+        push_all(rt, &mut txn, buckets)?;
+        pop_all(rt, &mut txn, buckets)?;
     }
     Ok(())
 }
@@ -164,12 +146,7 @@ const ODD: [([u8; 2], [u8; 4], [[u8; 2]; 3]); 6] = [
     ([0, 1], [255; 4], [[0, 0], [0, 0], [0, 0]]),
 ];
 
-fn check_odd<A: Abort, L: Ledger>(
-    rt: &A,
-    alloc: Global,
-    buckets: Buckets,
-    steps: &mut Steps<L>,
-) -> Result<(), Fail> {
+fn check_odd<A: Abort>(rt: &A, alloc: Global, buckets: Buckets) -> Result<(), Fail> {
     for (links, head, wanted) in ODD {
         let mut rows = VecRows::new(alloc);
         let mut txn = Txn::new(alloc, &mut rows);
@@ -178,29 +155,23 @@ fn check_odd<A: Abort, L: Ledger>(
             txn.append(buckets.rows(), &bytes[..buckets.rows().size()])?;
         }
         // Without heads nothing is found.
-        check_found(rt, &mut txn, buckets, 0, [0, 0], steps)?;
+        check_found(rt, &mut txn, buckets, 0, [0, 0])?;
         add_heads(&mut txn, buckets, &[head])?;
-        check_found(rt, &mut txn, buckets, 0, wanted[0], steps)?;
-        check_found(rt, &mut txn, buckets, 1, wanted[1], steps)?;
-        check_found(rt, &mut txn, buckets, 2, wanted[2], steps)?;
+        check_found(rt, &mut txn, buckets, 0, wanted[0])?;
+        check_found(rt, &mut txn, buckets, 1, wanted[1])?;
+        check_found(rt, &mut txn, buckets, 2, wanted[2])?;
     }
     Ok(())
 }
 
-fn both_odd<A: Abort, L: Ledger>(rt: &A, alloc: Global, steps: &mut Steps<L>) -> Result<(), Fail> {
+fn both_odd<A: Abort>(rt: &A, alloc: Global) -> Result<(), Fail> {
     for buckets in BOTH {
-        check_odd(rt, alloc, buckets, steps)?;
+        check_odd(rt, alloc, buckets)?;
     }
     Ok(())
 }
 
-fn check_full<A: Abort, L: Ledger>(
-    rt: &A,
-    alloc: Global,
-    buckets: Buckets,
-    table: u8,
-    steps: &mut Steps<L>,
-) -> Result<(), Fail> {
+fn check_full<A: Abort>(rt: &A, alloc: Global, buckets: Buckets, table: u8) -> Result<(), Fail> {
     let mut rows = FailingRows::full(0);
     let mut txn = Txn::new(alloc, &mut rows);
     let bytes = row_bytes(buckets, 1, 0);
@@ -213,17 +184,13 @@ fn check_full<A: Abort, L: Ledger>(
     let left = txn.count(buckets.rows()).min(4_294_967_294);
     txn.shrink(buckets.rows(), left);
     assert!(rt; push(&mut txn, buckets, &hash(1), row) == Ok(4_294_967_294));
-    assert!(rt; find(&mut txn, buckets, &hash(2), steps) == Err(DiskFailed));
+    assert!(rt; find(&mut txn, buckets, &hash(2)) == Err(DiskFailed));
     Ok(())
 }
 
-fn at_the_limit<A: Abort, L: Ledger>(
-    rt: &A,
-    alloc: Global,
-    steps: &mut Steps<L>,
-) -> Result<(), Fail> {
-    check_full(rt, alloc, Buckets::Txids, 2, steps)?;
-    check_full(rt, alloc, Buckets::ScriptHashes, 6, steps)
+fn at_the_limit<A: Abort>(rt: &A, alloc: Global) -> Result<(), Fail> {
+    check_full(rt, alloc, Buckets::Txids, 2)?;
+    check_full(rt, alloc, Buckets::ScriptHashes, 6)
 }
 
 fn links_and_faults<A: Abort>(rt: &A) {
@@ -241,9 +208,9 @@ fn links_and_faults<A: Abort>(rt: &A) {
 }
 
 /// All of them.
-pub fn all<A: Abort, L: Ledger>(rt: &A, alloc: Global, steps: &mut Steps<L>) -> Result<(), Fail> {
+pub fn all<A: Abort>(rt: &A, alloc: Global) -> Result<(), Fail> {
     links_and_faults(rt);
-    both_kinds(rt, alloc, steps)?;
-    both_odd(rt, alloc, steps)?;
-    at_the_limit(rt, alloc, steps)
+    both_kinds(rt, alloc)?;
+    both_odd(rt, alloc)?;
+    at_the_limit(rt, alloc)
 }

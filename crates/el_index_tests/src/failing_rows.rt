@@ -1,12 +1,10 @@
 // A store that stands for no chain, takes no commit, and whose device fails.
-ghost use Rattle.std.specs.Prelude.{◌≡◌, ◌<◌, [], get_or, min};
+ghost use Rattle.std.specs.Prelude.{◌≡◌, [], get_or, min};
 ghost use Rattle.el_rows.specs.Tables.{index_of, limit_of};
 
 use crate::fixtures::block_row;
-use el_base::Steps;
 use el_outside::DiskFailed;
-use el_rows::{CommitFault, Rows, Sealed, TABLES, Table};
-use std::sync::ledger::Ledger;
+use el_rows::{CommitFault, ReadCount, Rows, Sealed, TABLES, Table};
 
 // The most rows that a table may have.
 const LIMIT: u64 = 4_294_967_295;
@@ -24,6 +22,8 @@ pub struct FailingRows {
     pub left: u64,
     /// How often it has failed.
     pub faults: u64,
+    /// How many rows were read.
+    pub reads: ReadCount,
 }
 
 impl FailingRows {
@@ -35,6 +35,7 @@ impl FailingRows {
             sum: 0,
             left,
             faults: 0,
+            reads: ReadCount::new(),
         }
     }
 
@@ -87,6 +88,8 @@ impl Rows for FailingRows {
 
     ghost moment = { λ s. 0 };
 
+    ghost reads = { λ s. s.reads };
+
     ghost Left = { Unit {0} };
 
     ghost shows = { λ c lists. ⊥ };
@@ -125,14 +128,8 @@ impl Rows for FailingRows {
         count.min(t.limit())
     }
 
-    fn row<L: Ledger>(
-        &mut self,
-        t: Table,
-        _: u64,
-        buf: &mut [u8],
-        steps: &mut Steps<L>,
-    ) -> Result<(), DiskFailed> {
-        steps.tick();
+    fn row(&mut self, t: Table, _: u64, buf: &mut [u8]) -> Result<(), DiskFailed> {
+        self.reads.tick();
         if self.left == 0 {
             self.faults = self.faults.saturating_add(1);
             return Err(DiskFailed);

@@ -2,11 +2,23 @@
 #![tactic(auto)]
 
 #[cfg(test)]
+mod blocks_put;
+#[cfg(test)]
 mod bucket_tests;
+#[cfg(test)]
+mod connect_tests;
 #[cfg(test)]
 mod failing_rows;
 #[cfg(test)]
 mod fixtures;
+#[cfg(test)]
+mod full_tests;
+#[cfg(test)]
+mod history_tests;
+#[cfg(test)]
+mod laws;
+#[cfg(test)]
+mod lookup_tests;
 #[cfg(test)]
 mod position_tests;
 #[cfg(test)]
@@ -15,3 +27,7 @@ mod script_tests;
 mod spend_tests;
 #[cfg(test)]
 mod tests;
+#[cfg(test)]
+mod touching_tests;
+#[cfg(test)]
+mod undo_tests;

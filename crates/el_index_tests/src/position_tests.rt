@@ -4,14 +4,12 @@ ghost use Rattle.el_rows.specs.RowBytes.{link_number, FitsTxRow};
 
 use crate::failing_rows::FailingRows;
 use crate::fixtures::{add_heads, hash};
-use el_base::Steps;
 use el_chain::ConnectFault;
 use el_outside::DiskFailed;
 use el_position::{add_tx, newest, take_back_tx};
 use el_rows::{Rows, Table, TxRow, Txn, VecRows};
 use std::alloc::Global;
 use std::process::Abort;
-use std::sync::ledger::Ledger;
 use std::test::Fail;
 
 // Links that are set by the call.
@@ -47,41 +45,36 @@ fn last_place(list: &[u8], k: u8) -> Option<u64> {
 }
 
 // The newest of each txid is that of the list.
-fn compare<A: Abort, L: Ledger>(
-    rt: &A,
-    txn: &mut Txn<'_, VecRows>,
-    list: &[u8],
-    steps: &mut Steps<L>,
-) -> Result<(), Fail>
-    ensures name { txn.new.rows.ghost_name ≡ txn.old.rows.ghost_name }
+fn compare<A: Abort>(rt: &A, txn: &mut Txn<'_, VecRows>, list: &[u8]) -> Result<(), Fail>
+    ensures { txn.new.rows.ghost_name ≡ txn.old.rows.ghost_name }
 {
     assert_eq!(rt; txn.count(Table::Txs), list.len() as u64);
     for k in 0..=255 {
-        assert!(rt; newest(txn, &hash(k), steps) == Ok(last_place(list, k)));
+        assert!(rt; newest(txn, &hash(k)) == Ok(last_place(list, k)));
     }
     Ok(())
 }
 
-fn long_run<A: Abort, L: Ledger>(rt: &A, alloc: Global, steps: &mut Steps<L>) -> Result<(), Fail> {
+fn long_run<A: Abort>(rt: &A, alloc: Global) -> Result<(), Fail> {
     let mut rows = VecRows::new(alloc);
     let mut txn = Txn::new(alloc, &mut rows);
     add_heads(&mut txn, 7)?;
     let mut list = Vec::new(alloc);
     for i in 0..300 {
         let k = (i * 7 % 211) as u8;
-        assert!(rt; add_tx(&mut txn, &tx(k, LINK), steps) == Ok(i));
+        assert!(rt; add_tx(&mut txn, &tx(k, LINK)) == Ok(i));
         list.push(k)?;
-        assert!(rt; newest(&mut txn, &hash(k), steps) == Ok(Some(i)));
+        assert!(rt; newest(&mut txn, &hash(k)) == Ok(Some(i)));
         if i % 20 == 0 {
-            compare(rt, &mut txn, &list, steps)?;
+            compare(rt, &mut txn, &list)?;
         }
     }
     for i in 0..301 {
-        assert!(rt; take_back_tx(&mut txn, steps) == Ok(()));
+        assert!(rt; take_back_tx(&mut txn) == Ok(()));
         let k = list.pop().unwrap_or(0);
-        assert!(rt; newest(&mut txn, &hash(k), steps) == Ok(last_place(&list, k)));
+        assert!(rt; newest(&mut txn, &hash(k)) == Ok(last_place(&list, k)));
         if i % 20 == 0 {
-            compare(rt, &mut txn, &list, steps)?;
+            compare(rt, &mut txn, &list)?;
         }
     }
     Ok(())
@@ -124,79 +117,70 @@ const ODD: [Odd; 6] = [
     ([0, 1], [255; 4], [None, None, None], [Some(0), None]),
 ];
 
-fn check_odd<A: Abort, L: Ledger>(
-    rt: &A,
-    alloc: Global,
-    odd: &Odd,
-    steps: &mut Steps<L>,
-) -> Result<(), Fail> {
+fn check_odd<A: Abort>(rt: &A, alloc: Global, odd: &Odd) -> Result<(), Fail> {
     let mut rows = VecRows::new(alloc);
     let mut txn = Txn::new(alloc, &mut rows);
     txn.append(Table::Txs, &row_bytes(0, odd.0[0]))?;
     txn.append(Table::Txs, &row_bytes(1, odd.0[1]))?;
     txn.append(Table::TxHeads, &odd.1)?;
     for k in 0..3 {
-        assert!(rt; newest(&mut txn, &hash(k), steps) == Ok(odd.2[k as usize]));
+        assert!(rt; newest(&mut txn, &hash(k)) == Ok(odd.2[k as usize]));
     }
-    assert!(rt; take_back_tx(&mut txn, steps) == Ok(()));
+    assert!(rt; take_back_tx(&mut txn) == Ok(()));
     for k in 0..2 {
-        assert!(rt; newest(&mut txn, &hash(k), steps) == Ok(odd.3[k as usize]));
+        assert!(rt; newest(&mut txn, &hash(k)) == Ok(odd.3[k as usize]));
     }
     Ok(())
 }
 
-fn odd_rows<A: Abort, L: Ledger>(rt: &A, alloc: Global, steps: &mut Steps<L>) -> Result<(), Fail> {
+fn odd_rows<A: Abort>(rt: &A, alloc: Global) -> Result<(), Fail> {
     for odd in &ODD {
-        check_odd(rt, alloc, odd, steps)?;
+        check_odd(rt, alloc, odd)?;
     }
     Ok(())
 }
 
-fn no_heads<A: Abort, L: Ledger>(rt: &A, alloc: Global, steps: &mut Steps<L>) -> Result<(), Fail> {
+fn no_heads<A: Abort>(rt: &A, alloc: Global) -> Result<(), Fail> {
     let mut rows = VecRows::new(alloc);
     let mut txn = Txn::new(alloc, &mut rows);
-    assert!(rt; add_tx(&mut txn, &tx(5, None), steps) == Ok(0));
-    assert!(rt; newest(&mut txn, &hash(5), steps) == Ok(None));
+    assert!(rt; add_tx(&mut txn, &tx(5, None)) == Ok(0));
+    assert!(rt; newest(&mut txn, &hash(5)) == Ok(None));
     for left in [0, 0] {
-        assert!(rt; take_back_tx(&mut txn, steps) == Ok(()));
+        assert!(rt; take_back_tx(&mut txn) == Ok(()));
         assert!(rt; txn.count(Table::Txs) == left);
     }
     Ok(())
 }
 
-fn at_the_limit<A: Abort, L: Ledger>(
-    rt: &A,
-    alloc: Global,
-    steps: &mut Steps<L>,
-) -> Result<(), Fail> {
+fn at_the_limit<A: Abort>(rt: &A, alloc: Global) -> Result<(), Fail> {
     let mut rows = FailingRows::full(u64::MAX);
     let mut txn = Txn::new(alloc, &mut rows);
     let fault = ConnectFault::Full {
         table: 2,
         rows: 4_294_967_295,
     };
-    assert!(rt; add_tx(&mut txn, &tx(1, None), steps) == Err(fault));
-    assert!(rt; take_back_tx(&mut txn, steps) == Ok(()));
-    assert!(rt; add_tx(&mut txn, &tx(1, None), steps) == Ok(4_294_967_294));
+    assert!(rt; add_tx(&mut txn, &tx(1, None)) == Err(fault));
+    assert!(rt; take_back_tx(&mut txn) == Ok(()));
+    assert!(rt; add_tx(&mut txn, &tx(1, None)) == Ok(4_294_967_294));
     Ok(())
 }
 
-fn failing<A: Abort, L: Ledger>(rt: &A, alloc: Global, steps: &mut Steps<L>) -> Result<(), Fail> {
+fn failing<A: Abort>(rt: &A, alloc: Global) -> Result<(), Fail> {
     let mut rows = FailingRows::full(0);
     let mut txn = Txn::new(alloc, &mut rows);
     let fault = ConnectFault::DiskFailed;
-    assert!(rt; newest(&mut txn, &hash(1), steps) == Err(DiskFailed));
-    assert!(rt; add_tx(&mut txn, &tx(1, None), steps) == Err(fault));
-    assert!(rt; take_back_tx(&mut txn, steps) == Err(fault));
+    assert!(rt; newest(&mut txn, &hash(1)) == Err(DiskFailed));
+    assert!(rt; add_tx(&mut txn, &tx(1, None)) == Err(fault));
+    assert!(rt; take_back_tx(&mut txn) == Err(fault));
     assert!(rt; txn.count(Table::Txs) == 4_294_967_295);
     Ok(())
 }
 
 /// All of them.
-pub fn all<A: Abort, L: Ledger>(rt: &A, alloc: Global, steps: &mut Steps<L>) -> Result<(), Fail> {
-    long_run(rt, alloc, steps)?;
-    odd_rows(rt, alloc, steps)?;
-    no_heads(rt, alloc, steps)?;
-    at_the_limit(rt, alloc, steps)?;
-    failing(rt, alloc, steps)
+pub fn all<A: Abort>(rt: &A, alloc: Global) -> Result<(), Fail> {
+    long_run(rt, alloc)?;
+    odd_rows(rt, alloc)?;
+    no_heads(rt, alloc)?;
+    at_the_limit(rt, alloc)?;
+    failing(rt, alloc)
 }

@@ -1,69 +1,62 @@
 // What no contract says: that each call succeeds where memory is ample, and a long run beside plain lists.
-ghost use Rattle.std.specs.Prelude.{◌≡◌, ◌<◌, max, min};
+ghost use Rattle.std.specs.Prelude.{◌≡◌, max, min};
 
 use crate::failing_rows::FailingRows;
 use crate::fixtures::{add_heads, hash};
-use el_base::{Hash32, Steps};
+use el_base::Hash32;
 use el_chain::ConnectFault;
 use el_outside::DiskFailed;
 use el_rows::{EntryRow, Rows, ScriptRow, Table, Txn, VecRows};
 use el_script::{find_script, take_back_entry, touch, touch_number};
 use std::alloc::Global;
 use std::process::Abort;
-use std::sync::ledger::Ledger;
 use std::test::Fail;
 
 // The row of a script: its link to the next, its last entry, and how many entries it has.
-fn script_at<L: Ledger>(
+fn script_at(
     txn: &mut Txn<'_, VecRows>,
     n: u64,
-    steps: &mut Steps<L>,
 ) -> Result<Option<(Option<u64>, Option<u64>, u64)>, Fail>
-    ensures name { txn.new.rows.ghost_name ≡ txn.old.rows.ghost_name }
+    ensures { txn.new.rows.ghost_name ≡ txn.old.rows.ghost_name }
 {
     if n >= txn.count(Table::Scripts) {
         return Ok(None);
     }
     let mut bytes = [0; 52];
-    txn.get(Table::Scripts, n, &mut bytes, steps)?;
+    txn.get(Table::Scripts, n, &mut bytes)?;
     let row = ScriptRow::read(&bytes);
     Ok(Some((row.next, row.last, row.entries)))
 }
 
 // The row of an entry: its transaction, its script, and the entry before.
-fn entry_at<L: Ledger>(
-    txn: &mut Txn<'_, VecRows>,
-    n: u64,
-    steps: &mut Steps<L>,
-) -> Result<Option<(u64, u64, Option<u64>)>, Fail>
-    ensures name { txn.new.rows.ghost_name ≡ txn.old.rows.ghost_name }
+fn entry_at(txn: &mut Txn<'_, VecRows>, n: u64) -> Result<Option<(u64, u64, Option<u64>)>, Fail>
+    ensures { txn.new.rows.ghost_name ≡ txn.old.rows.ghost_name }
 {
     if n >= txn.count(Table::Entries) {
         return Ok(None);
     }
     let mut bytes = [0; 12];
-    txn.get(Table::Entries, n, &mut bytes, steps)?;
+    txn.get(Table::Entries, n, &mut bytes)?;
     let row = EntryRow::read(&bytes);
     Ok(Some((row.tx, row.script, row.before)))
 }
 
 // Touches the script by that number where this is asked and it is there, and else by its script hash. It
 // answers the number.
-fn touch_by<L: Ledger>(
+fn touch_by(
     txn: &mut Txn<'_, VecRows>,
     by_number: bool,
     k: u8,
     number: u64,
     tx: u32,
-    steps: &mut Steps<L>,
 ) -> Result<u64, ConnectFault>
-    ensures name { txn.new.rows.ghost_name ≡ txn.old.rows.ghost_name }
+    ensures { txn.new.rows.ghost_name ≡ txn.old.rows.ghost_name }
 {
     if by_number && number < txn.count(Table::Scripts) {
-        touch_number(txn, number, u64::from(tx), steps)?;
+        touch_number(txn, number, u64::from(tx))?;
         return Ok(number);
     }
-    touch(txn, &hash(k), u64::from(tx), steps)
+    touch(txn, &hash(k), u64::from(tx))
 }
 
 // Touches in two buckets: the script, the transaction, the number that is answered, how many scripts and
@@ -115,31 +108,26 @@ const BACK: [Back; 6] = [
     ([0, 0], [None, None, None], None),
 ];
 
-fn touch_and_back<A: Abort, L: Ledger>(
-    rt: &A,
-    alloc: Global,
-    by_number: bool,
-    steps: &mut Steps<L>,
-) -> Result<(), Fail> {
+fn touch_and_back<A: Abort>(rt: &A, alloc: Global, by_number: bool) -> Result<(), Fail> {
     let mut rows = VecRows::new(alloc);
     let mut txn = Txn::new(alloc, &mut rows);
     add_heads(&mut txn, 2)?;
     for (k, tx, number, counts, row) in &TOUCHES {
-        let touched = touch_by(&mut txn, by_number, *k, *number, *tx, steps);
+        let touched = touch_by(&mut txn, by_number, *k, *number, *tx);
         assert!(rt; touched == Ok(*number));
         assert!(rt; [txn.count(Table::Scripts), txn.count(Table::Entries)] == *counts);
-        assert!(rt; script_at(&mut txn, *number, steps)? == Some(*row));
+        assert!(rt; script_at(&mut txn, *number)? == Some(*row));
     }
     for (n, entry) in ENTRIES.iter().enumerate() {
-        assert!(rt; entry_at(&mut txn, n as u64, steps)? == Some(*entry));
+        assert!(rt; entry_at(&mut txn, n as u64)? == Some(*entry));
     }
     for (counts, numbers, first) in &BACK {
-        assert!(rt; take_back_entry(&mut txn, steps) == Ok(()));
+        assert!(rt; take_back_entry(&mut txn) == Ok(()));
         assert!(rt; [txn.count(Table::Scripts), txn.count(Table::Entries)] == *counts);
-        assert!(rt; find_script(&mut txn, &hash(1), steps) == Ok(numbers[0]));
-        assert!(rt; find_script(&mut txn, &hash(2), steps) == Ok(numbers[1]));
-        assert!(rt; find_script(&mut txn, &hash(3), steps) == Ok(numbers[2]));
-        assert!(rt; script_at(&mut txn, 0, steps)? == *first);
+        assert!(rt; find_script(&mut txn, &hash(1)) == Ok(numbers[0]));
+        assert!(rt; find_script(&mut txn, &hash(2)) == Ok(numbers[1]));
+        assert!(rt; find_script(&mut txn, &hash(3)) == Ok(numbers[2]));
+        assert!(rt; script_at(&mut txn, 0)? == *first);
     }
     Ok(())
 }
@@ -190,23 +178,18 @@ fn back_plain(plain: &mut Plain) {
 }
 
 // The counts and the number of each script are those of the lists.
-fn compare<A: Abort, L: Ledger>(
-    rt: &A,
-    txn: &mut Txn<'_, VecRows>,
-    plain: &Plain,
-    steps: &mut Steps<L>,
-) -> Result<(), Fail>
-    ensures name { txn.new.rows.ghost_name ≡ txn.old.rows.ghost_name }
+fn compare<A: Abort>(rt: &A, txn: &mut Txn<'_, VecRows>, plain: &Plain) -> Result<(), Fail>
+    ensures { txn.new.rows.ghost_name ≡ txn.old.rows.ghost_name }
 {
     assert_eq!(rt; txn.count(Table::Scripts), plain.scripts.len() as u64);
     assert_eq!(rt; txn.count(Table::Entries), plain.entries.len() as u64);
     for k in 0..64 {
-        assert!(rt; find_script(txn, &hash(k), steps) == Ok(place(&plain.scripts, k)));
+        assert!(rt; find_script(txn, &hash(k)) == Ok(place(&plain.scripts, k)));
     }
     Ok(())
 }
 
-fn long_run<A: Abort, L: Ledger>(rt: &A, alloc: Global, steps: &mut Steps<L>) -> Result<(), Fail> {
+fn long_run<A: Abort>(rt: &A, alloc: Global) -> Result<(), Fail> {
     let mut rows = VecRows::new(alloc);
     let mut txn = Txn::new(alloc, &mut rows);
     add_heads(&mut txn, 7)?;
@@ -218,15 +201,15 @@ fn long_run<A: Abort, L: Ledger>(rt: &A, alloc: Global, steps: &mut Steps<L>) ->
         let k = (i / 2 * 7 % 61) as u8;
         let tx = i / 5;
         let last = place(&plain.scripts, k).unwrap_or(u64::MAX);
-        let number = touch_by(&mut txn, i % 3 == 0, k, last, tx, steps);
+        let number = touch_by(&mut txn, i % 3 == 0, k, last, tx);
         touch_plain(&mut plain, k, u64::from(tx))?;
         assert!(rt; number.ok() == place(&plain.scripts, k));
-        compare(rt, &mut txn, &plain, steps)?;
+        compare(rt, &mut txn, &plain)?;
     }
     for _ in 0..200 {
-        assert!(rt; take_back_entry(&mut txn, steps) == Ok(()));
+        assert!(rt; take_back_entry(&mut txn) == Ok(()));
         back_plain(&mut plain);
-        compare(rt, &mut txn, &plain, steps)?;
+        compare(rt, &mut txn, &plain)?;
     }
     assert_eq!(rt; plain.entries.len(), 0);
     Ok(())
@@ -334,13 +317,12 @@ fn entry_bytes(row: (u8, u8, u8)) -> [u8; 12] {
     [row.0, 0, 0, 0, row.1, 0, 0, 0, row.2, 0, 0, 0]
 }
 
-fn check_odd<A: Abort, L: Ledger>(
+fn check_odd<A: Abort>(
     rt: &A,
     alloc: Global,
     odd: &Odd,
     answers: &Answers,
     by_number: bool,
-    steps: &mut Steps<L>,
 ) -> Result<(), Fail> {
     let mut rows = VecRows::new(alloc);
     let mut txn = Txn::new(alloc, &mut rows);
@@ -349,38 +331,38 @@ fn check_odd<A: Abort, L: Ledger>(
     txn.append(Table::ScriptHeads, &[odd.1, 0, 0, 0])?;
     txn.append(Table::Entries, &entry_bytes(odd.2[0]))?;
     txn.append(Table::Entries, &entry_bytes(odd.2[1]))?;
-    assert!(rt; find_script(&mut txn, &hash(0), steps) == Ok(answers.0[0]));
-    assert!(rt; find_script(&mut txn, &hash(1), steps) == Ok(answers.0[1]));
+    assert!(rt; find_script(&mut txn, &hash(0)) == Ok(answers.0[0]));
+    assert!(rt; find_script(&mut txn, &hash(1)) == Ok(answers.0[1]));
     let (number, row, entry, counts) = answers.1;
-    assert!(rt; touch_by(&mut txn, by_number, 1, number, 5, steps) == Ok(number));
+    assert!(rt; touch_by(&mut txn, by_number, 1, number, 5) == Ok(number));
     assert!(rt; [txn.count(Table::Scripts), txn.count(Table::Entries)] == counts);
-    assert!(rt; script_at(&mut txn, number, steps)? == Some(row));
-    assert!(rt; entry_at(&mut txn, counts[1].saturating_sub(1), steps)? == Some(entry));
+    assert!(rt; script_at(&mut txn, number)? == Some(row));
+    assert!(rt; entry_at(&mut txn, counts[1].saturating_sub(1))? == Some(entry));
     let (counts, row) = answers.2;
-    assert!(rt; take_back_entry(&mut txn, steps) == Ok(()));
+    assert!(rt; take_back_entry(&mut txn) == Ok(()));
     assert!(rt; [txn.count(Table::Scripts), txn.count(Table::Entries)] == counts);
-    assert!(rt; script_at(&mut txn, 1, steps)? == row);
+    assert!(rt; script_at(&mut txn, 1)? == row);
     Ok(())
 }
 
-fn odd_rows<A: Abort, L: Ledger>(rt: &A, alloc: Global, steps: &mut Steps<L>) -> Result<(), Fail> {
+fn odd_rows<A: Abort>(rt: &A, alloc: Global) -> Result<(), Fail> {
     for (odd, answers) in &ODD {
-        check_odd(rt, alloc, odd, answers, false, steps)?;
-        check_odd(rt, alloc, odd, answers, true, steps)?;
+        check_odd(rt, alloc, odd, answers, false)?;
+        check_odd(rt, alloc, odd, answers, true)?;
     }
     Ok(())
 }
 
 // Where there are no heads no script is found, and each touch adds one.
-fn no_heads<A: Abort, L: Ledger>(rt: &A, alloc: Global, steps: &mut Steps<L>) -> Result<(), Fail> {
+fn no_heads<A: Abort>(rt: &A, alloc: Global) -> Result<(), Fail> {
     let mut rows = VecRows::new(alloc);
     let mut txn = Txn::new(alloc, &mut rows);
     for number in 0..2 {
-        assert!(rt; touch(&mut txn, &hash(5), 0, steps) == Ok(number));
-        assert!(rt; find_script(&mut txn, &hash(5), steps) == Ok(None));
+        assert!(rt; touch(&mut txn, &hash(5), 0) == Ok(number));
+        assert!(rt; find_script(&mut txn, &hash(5)) == Ok(None));
     }
     for left in [1, 0, 0] {
-        assert!(rt; take_back_entry(&mut txn, steps) == Ok(()));
+        assert!(rt; take_back_entry(&mut txn) == Ok(()));
         assert!(rt; [txn.count(Table::Scripts), txn.count(Table::Entries)] == [left, left]);
     }
     Ok(())
@@ -393,46 +375,42 @@ fn full_fault(table: u8) -> ConnectFault {
     }
 }
 
-fn at_the_limit<A: Abort, L: Ledger>(
-    rt: &A,
-    alloc: Global,
-    steps: &mut Steps<L>,
-) -> Result<(), Fail> {
+fn at_the_limit<A: Abort>(rt: &A, alloc: Global) -> Result<(), Fail> {
     let mut rows = FailingRows::full(u64::MAX);
     let mut txn = Txn::new(alloc, &mut rows);
     let script = Hash32([7; 32]);
-    assert!(rt; touch(&mut txn, &script, 5, steps) == Err(full_fault(6)));
+    assert!(rt; touch(&mut txn, &script, 5) == Err(full_fault(6)));
     assert!(rt; 7 < txn.count(Table::Scripts));
-    assert!(rt; touch_number(&mut txn, 7, 5, steps) == Err(full_fault(8)));
-    assert!(rt; take_back_entry(&mut txn, steps) == Ok(()));
-    assert!(rt; touch(&mut txn, &script, 5, steps) == Ok(4_294_967_294));
+    assert!(rt; touch_number(&mut txn, 7, 5) == Err(full_fault(8)));
+    assert!(rt; take_back_entry(&mut txn) == Ok(()));
+    assert!(rt; touch(&mut txn, &script, 5) == Ok(4_294_967_294));
     let left = txn.count(Table::Scripts).min(4_294_967_294);
     txn.shrink(Table::Scripts, left);
-    assert!(rt; touch(&mut txn, &script, 5, steps) == Err(full_fault(8)));
+    assert!(rt; touch(&mut txn, &script, 5) == Err(full_fault(8)));
     Ok(())
 }
 
-fn failing<A: Abort, L: Ledger>(rt: &A, alloc: Global, steps: &mut Steps<L>) -> Result<(), Fail> {
+fn failing<A: Abort>(rt: &A, alloc: Global) -> Result<(), Fail> {
     let mut rows = FailingRows::full(0);
     let mut txn = Txn::new(alloc, &mut rows);
     let script = Hash32([7; 32]);
     let fault = ConnectFault::DiskFailed;
-    assert!(rt; find_script(&mut txn, &script, steps) == Err(DiskFailed));
-    assert!(rt; touch(&mut txn, &script, 5, steps) == Err(fault));
+    assert!(rt; find_script(&mut txn, &script) == Err(DiskFailed));
+    assert!(rt; touch(&mut txn, &script, 5) == Err(fault));
     assert!(rt; 7 < txn.count(Table::Scripts));
-    assert!(rt; touch_number(&mut txn, 7, 5, steps) == Err(fault));
-    assert!(rt; take_back_entry(&mut txn, steps) == Err(fault));
+    assert!(rt; touch_number(&mut txn, 7, 5) == Err(fault));
+    assert!(rt; take_back_entry(&mut txn) == Err(fault));
     assert!(rt; txn.count(Table::Entries) == 4_294_967_295);
     Ok(())
 }
 
 /// All of them.
-pub fn all<A: Abort, L: Ledger>(rt: &A, alloc: Global, steps: &mut Steps<L>) -> Result<(), Fail> {
-    touch_and_back(rt, alloc, false, steps)?;
-    touch_and_back(rt, alloc, true, steps)?;
-    long_run(rt, alloc, steps)?;
-    odd_rows(rt, alloc, steps)?;
-    no_heads(rt, alloc, steps)?;
-    at_the_limit(rt, alloc, steps)?;
-    failing(rt, alloc, steps)
+pub fn all<A: Abort>(rt: &A, alloc: Global) -> Result<(), Fail> {
+    touch_and_back(rt, alloc, false)?;
+    touch_and_back(rt, alloc, true)?;
+    long_run(rt, alloc)?;
+    odd_rows(rt, alloc)?;
+    no_heads(rt, alloc)?;
+    at_the_limit(rt, alloc)?;
+    failing(rt, alloc)
 }

@@ -1,10 +1,10 @@
 // What no contract says: that each call succeeds where memory is ample, rows that stand for nothing, and a
 // long run beside plain lists.
-ghost use Rattle.std.specs.Prelude.{◌≡◌, ◌<◌, ◌+◌, refl};
+ghost use Rattle.std.specs.Prelude.{◌≡◌, ◌+◌, refl};
 
 use crate::failing_rows::FailingRows;
 use crate::fixtures::{add_heads, outpoint, tx_row};
-use el_base::{Hash32, Steps};
+use el_base::Hash32;
 use el_chain::ConnectFault;
 use el_outside::DiskFailed;
 use el_position::{add_tx, take_back_tx};
@@ -13,13 +13,11 @@ use el_spend::{add_out, named_output, spend, take_back_out, unspend};
 use el_tx::Outpoint;
 use std::alloc::Global;
 use std::process::Abort;
-use std::sync::ledger::Ledger;
 use std::test::Fail;
 
 // Seven buckets of transactions, and three scripts.
 fn begin<R: Rows>(txn: &mut Txn<'_, R>) -> Result<(), Fail>
-    ensures rows { txn.new.rows.now ≡ txn.old.rows.now }
-    ensures name { txn.new.rows.ghost_name ≡ txn.old.rows.ghost_name }
+    ensures { txn.new.rows.ghost_name ≡ txn.old.rows.ghost_name }
 {
     add_heads(txn, 7)?;
     for _ in 0..3 {
@@ -120,115 +118,85 @@ fn plain_balance(plain: &Plain, script: u64) -> u64 {
     sum
 }
 
-fn compare_outs<A: Abort, L: Ledger>(
-    rt: &A,
-    txn: &mut Txn<'_, VecRows>,
-    plain: &Plain,
-    steps: &mut Steps<L>,
-) -> Result<(), Fail>
-    ensures name { txn.new.rows.ghost_name ≡ txn.old.rows.ghost_name }
+fn compare_outs<A: Abort>(rt: &A, txn: &mut Txn<'_, VecRows>, plain: &Plain) -> Result<(), Fail>
+    ensures { txn.new.rows.ghost_name ≡ txn.old.rows.ghost_name }
 {
     assert!(rt; txn.count(Table::Outs) == plain.outs.len() as u64);
     for (i, row) in plain.outs.iter().enumerate() {
         let mut bytes = [0; 21];
         assert!(rt; (i as u64) < txn.count(Table::Outs));
-        txn.get(Table::Outs, i as u64, &mut bytes, steps)?;
+        txn.get(Table::Outs, i as u64, &mut bytes)?;
         assert!(rt; OutRow::read(&bytes) == *row);
     }
     Ok(())
 }
 
-fn compare_ins<A: Abort, L: Ledger>(
-    rt: &A,
-    txn: &mut Txn<'_, VecRows>,
-    plain: &Plain,
-    steps: &mut Steps<L>,
-) -> Result<(), Fail>
-    ensures name { txn.new.rows.ghost_name ≡ txn.old.rows.ghost_name }
+fn compare_ins<A: Abort>(rt: &A, txn: &mut Txn<'_, VecRows>, plain: &Plain) -> Result<(), Fail>
+    ensures { txn.new.rows.ghost_name ≡ txn.old.rows.ghost_name }
 {
     assert!(rt; txn.count(Table::Ins) == plain.ins.len() as u64);
     for (i, out) in plain.ins.iter().enumerate() {
         let mut bytes = [0; 4];
         assert!(rt; (i as u64) < txn.count(Table::Ins));
-        txn.get(Table::Ins, i as u64, &mut bytes, steps)?;
+        txn.get(Table::Ins, i as u64, &mut bytes)?;
         assert!(rt; InRow::read(&bytes).out == *out);
     }
     Ok(())
 }
 
-fn balance<A: Abort, L: Ledger>(
-    rt: &A,
-    txn: &mut Txn<'_, VecRows>,
-    script: u64,
-    steps: &mut Steps<L>,
-) -> Result<u64, Fail>
-    ensures name { txn.new.rows.ghost_name ≡ txn.old.rows.ghost_name }
+fn balance<A: Abort>(rt: &A, txn: &mut Txn<'_, VecRows>, script: u64) -> Result<u64, Fail>
+    ensures { txn.new.rows.ghost_name ≡ txn.old.rows.ghost_name }
 {
     let mut bytes = [0; 52];
     assert!(rt; script < txn.count(Table::Scripts));
-    txn.get(Table::Scripts, script, &mut bytes, steps)?;
+    txn.get(Table::Scripts, script, &mut bytes)?;
     Ok(ScriptRow::read(&bytes).balance)
 }
 
 // The tables are those of the lists.
-fn compare<A: Abort, L: Ledger>(
-    rt: &A,
-    txn: &mut Txn<'_, VecRows>,
-    plain: &Plain,
-    steps: &mut Steps<L>,
-) -> Result<(), Fail>
-    ensures name { txn.new.rows.ghost_name ≡ txn.old.rows.ghost_name }
+fn compare<A: Abort>(rt: &A, txn: &mut Txn<'_, VecRows>, plain: &Plain) -> Result<(), Fail>
+    ensures { txn.new.rows.ghost_name ≡ txn.old.rows.ghost_name }
 {
-    compare_outs(rt, txn, plain, steps)?;
-    compare_ins(rt, txn, plain, steps)?;
+    compare_outs(rt, txn, plain)?;
+    compare_ins(rt, txn, plain)?;
     for script in 0..3 {
-        let kept = balance(rt, txn, script, steps)?;
+        let kept = balance(rt, txn, script)?;
         assert!(rt; kept == plain_balance(plain, script));
     }
     Ok(())
 }
 
 // Takes the step, and answers whether it did something.
-fn take_step<A: Abort, L: Ledger>(
-    rt: &A,
-    txn: &mut Txn<'_, VecRows>,
-    step: Step,
-    steps: &mut Steps<L>,
-) -> Result<bool, Fail>
-    ensures name { txn.new.rows.ghost_name ≡ txn.old.rows.ghost_name }
+fn take_step<A: Abort>(rt: &A, txn: &mut Txn<'_, VecRows>, step: Step) -> Result<bool, Fail>
+    ensures { txn.new.rows.ghost_name ≡ txn.old.rows.ghost_name }
 {
     let txs = txn.count(Table::Txs);
     match step {
         Step::Tx(k, outs) => {
             let row = tx_row(k, 7, 81, txn.count(Table::Outs), outs);
-            assert!(rt; add_tx(txn, &row, steps) == Ok(txs));
+            assert!(rt; add_tx(txn, &row) == Ok(txs));
             Ok(true)
         }
         Step::Out(index, value, script) => {
             assert!(rt; script < txn.count(Table::Scripts));
             let last = txs.saturating_sub(1);
-            assert!(rt; add_out(txn, last, index, value, script, steps) == Ok(()));
+            assert!(rt; add_out(txn, last, index, value, script) == Ok(()));
             Ok(true)
         }
-        Step::Spend(k, index) => match spend(txn, &outpoint(k, index), txs, steps) {
+        Step::Spend(k, index) => match spend(txn, &outpoint(k, index), txs) {
             Ok(found) => Ok(found.is_some()),
             Err(_) => Err(Fail::new("the call failed")),
         },
     }
 }
 
-fn take_back<A: Abort, L: Ledger>(
-    rt: &A,
-    txn: &mut Txn<'_, VecRows>,
-    step: Step,
-    steps: &mut Steps<L>,
-) -> Result<(), Fail>
-    ensures name { txn.new.rows.ghost_name ≡ txn.old.rows.ghost_name }
+fn take_back<A: Abort>(rt: &A, txn: &mut Txn<'_, VecRows>, step: Step) -> Result<(), Fail>
+    ensures { txn.new.rows.ghost_name ≡ txn.old.rows.ghost_name }
 {
     match step {
-        Step::Tx(_, _) => assert!(rt; take_back_tx(txn, steps) == Ok(())),
-        Step::Out(_, _, _) => assert!(rt; take_back_out(txn, steps) == Ok(())),
-        Step::Spend(_, _) => assert!(rt; unspend(txn, steps) == Ok(())),
+        Step::Tx(_, _) => assert!(rt; take_back_tx(txn) == Ok(())),
+        Step::Out(_, _, _) => assert!(rt; take_back_out(txn) == Ok(())),
+        Step::Spend(_, _) => assert!(rt; unspend(txn) == Ok(())),
     }
     Ok(())
 }
@@ -252,7 +220,7 @@ fn step_by(number: u64, left: u32, outs: u32) -> Step {
     }
 }
 
-fn long_run<A: Abort, L: Ledger>(rt: &A, alloc: Global, steps: &mut Steps<L>) -> Result<(), Fail> {
+fn long_run<A: Abort>(rt: &A, alloc: Global) -> Result<(), Fail> {
     let mut rows = VecRows::new(alloc);
     let mut txn = Txn::new(alloc, &mut rows);
     begin(&mut txn)?;
@@ -271,29 +239,28 @@ fn long_run<A: Abort, L: Ledger>(rt: &A, alloc: Global, steps: &mut Steps<L>) ->
             Step::Out(_, _, _) => left = left.saturating_sub(1),
             Step::Spend(_, _) => {}
         }
-        if take_step(rt, &mut txn, step, steps)? {
+        if take_step(rt, &mut txn, step)? {
             done.push(step)?;
         }
         let plain = replay(alloc, &done)?;
-        compare(rt, &mut txn, &plain, steps)?;
+        compare(rt, &mut txn, &plain)?;
     }
-    undo(rt, alloc, &mut txn, &mut done, steps)
+    undo(rt, alloc, &mut txn, &mut done)
 }
 
 // Takes all steps back, the last first.
-fn undo<A: Abort, L: Ledger>(
+fn undo<A: Abort>(
     rt: &A,
     alloc: Global,
     txn: &mut Txn<'_, VecRows>,
     done: &mut Vec<Step>,
-    steps: &mut Steps<L>,
 ) -> Result<(), Fail>
-    ensures name { txn.new.rows.ghost_name ≡ txn.old.rows.ghost_name }
+    ensures { txn.new.rows.ghost_name ≡ txn.old.rows.ghost_name }
 {
     while let Some(step) = done.pop() {
-        take_back(rt, txn, step, steps)?;
+        take_back(rt, txn, step)?;
         let plain = replay(alloc, done)?;
-        compare(rt, txn, &plain, steps)?;
+        compare(rt, txn, &plain)?;
     }
     Ok(())
 }
@@ -394,59 +361,45 @@ const FEWER_OUTPUTS: [Case; 3] = [
     ),
 ];
 
-fn states<A: Abort, L: Ledger>(
-    rt: &A,
-    txn: &mut Txn<'_, VecRows>,
-    wanted: &[State],
-    steps: &mut Steps<L>,
-) -> Result<(), Fail>
-    ensures name { txn.new.rows.ghost_name ≡ txn.old.rows.ghost_name }
+fn states<A: Abort>(rt: &A, txn: &mut Txn<'_, VecRows>, wanted: &[State]) -> Result<(), Fail>
+    ensures { txn.new.rows.ghost_name ≡ txn.old.rows.ghost_name }
 {
     assert!(rt; txn.count(Table::Outs) == wanted.len() as u64);
     for (i, state) in wanted.iter().enumerate() {
         let mut bytes = [0; 21];
         assert!(rt; (i as u64) < txn.count(Table::Outs));
-        txn.get(Table::Outs, i as u64, &mut bytes, steps)?;
+        txn.get(Table::Outs, i as u64, &mut bytes)?;
         assert!(rt; OutRow::read(&bytes).state == *state);
     }
     Ok(())
 }
 
-fn check_case<A: Abort, L: Ledger>(
-    rt: &A,
-    alloc: Global,
-    case: &Case,
-    steps: &mut Steps<L>,
-) -> Result<(), Fail> {
+fn check_case<A: Abort>(rt: &A, alloc: Global, case: &Case) -> Result<(), Fail> {
     let mut rows = VecRows::new(alloc);
     let mut txn = Txn::new(alloc, &mut rows);
     begin(&mut txn)?;
     let mut done = Vec::new(alloc);
     for step in case.0 {
-        if take_step(rt, &mut txn, *step, steps)? {
+        if take_step(rt, &mut txn, *step)? {
             done.push(*step)?;
         }
     }
-    states(rt, &mut txn, case.1, steps)?;
+    states(rt, &mut txn, case.1)?;
     for script in 0..3 {
-        let kept = balance(rt, &mut txn, script, steps)?;
+        let kept = balance(rt, &mut txn, script)?;
         assert!(rt; kept == case.3[script as usize]);
     }
     let plain = replay(alloc, &done)?;
     assert!(rt; plain.ins.as_slice() == case.2);
-    undo(rt, alloc, &mut txn, &mut done, steps)
+    undo(rt, alloc, &mut txn, &mut done)
 }
 
-fn check_cases<A: Abort, L: Ledger>(
-    rt: &A,
-    alloc: Global,
-    steps: &mut Steps<L>,
-) -> Result<(), Fail> {
+fn check_cases<A: Abort>(rt: &A, alloc: Global) -> Result<(), Fail> {
     for case in &TWO_COINBASES {
-        check_case(rt, alloc, case, steps)?;
+        check_case(rt, alloc, case)?;
     }
     for case in &FEWER_OUTPUTS {
-        check_case(rt, alloc, case, steps)?;
+        check_case(rt, alloc, case)?;
     }
     Ok(())
 }
@@ -489,12 +442,7 @@ const ODD: [Odd; 6] = [
     ([0, 9], (0, 0), 0, Some(State::Unspent)),
 ];
 
-fn check_odd<A: Abort, L: Ledger>(
-    rt: &A,
-    alloc: Global,
-    odd: &Odd,
-    steps: &mut Steps<L>,
-) -> Result<(), Fail> {
+fn check_odd<A: Abort>(rt: &A, alloc: Global, odd: &Odd) -> Result<(), Fail> {
     let mut rows = VecRows::new(alloc);
     let mut txn = Txn::new(alloc, &mut rows);
     txn.append(Table::TxHeads, &[2, 0, 0, 0])?;
@@ -502,7 +450,7 @@ fn check_odd<A: Abort, L: Ledger>(
     txn.append(Table::Txs, &tx_bytes(0, odd.0[1], 1))?;
     let (state, by) = odd.1;
     txn.append(Table::Outs, &out_bytes(5, state, by))?;
-    match named_output(&mut txn, &outpoint(0, odd.2), 2, steps) {
+    match named_output(&mut txn, &outpoint(0, odd.2), 2) {
         Ok(found) => assert!(rt; found.map(|x| x.row.state) == odd.3),
         Err(_) => return Err(Fail::new("the look-up failed")),
     }
@@ -512,8 +460,8 @@ fn check_odd<A: Abort, L: Ledger>(
         Some(State::Unspent) => Some(0),
         _ => None,
     };
-    assert!(rt; spend(&mut txn, &outpoint(0, odd.2), 2, steps) == Ok(spent));
-    assert!(rt; balance(rt, &mut txn, 0, steps)? == 0);
+    assert!(rt; spend(&mut txn, &outpoint(0, odd.2), 2) == Ok(spent));
+    assert!(rt; balance(rt, &mut txn, 0)? == 0);
     Ok(())
 }
 
@@ -533,12 +481,7 @@ const SUMS: [(u64, u64, [u64; 4]); 3] = [
     ),
 ];
 
-fn check_sums<A: Abort, L: Ledger>(
-    rt: &A,
-    alloc: Global,
-    sums: &(u64, u64, [u64; 4]),
-    steps: &mut Steps<L>,
-) -> Result<(), Fail> {
+fn check_sums<A: Abort>(rt: &A, alloc: Global, sums: &(u64, u64, [u64; 4])) -> Result<(), Fail> {
     let mut rows = VecRows::new(alloc);
     let mut txn = Txn::new(alloc, &mut rows);
     begin(&mut txn)?;
@@ -547,48 +490,40 @@ fn check_sums<A: Abort, L: Ledger>(
     assert!(rt; txn.count(Table::Scripts) == 3);
     txn.put(Table::Scripts, 0, &row)?;
     let wanted = sums.2;
-    assert!(rt; add_tx(&mut txn, &tx_row(0, 7, 81, 0, 1), steps) == Ok(0));
+    assert!(rt; add_tx(&mut txn, &tx_row(0, 7, 81, 0, 1)) == Ok(0));
     assert!(rt; txn.count(Table::Scripts) == 3);
-    assert!(rt; add_out(&mut txn, 0, 0, sums.1, 0, steps) == Ok(()));
-    assert!(rt; balance(rt, &mut txn, 0, steps)? == wanted[0]);
-    assert!(rt; spend(&mut txn, &outpoint(0, 0), 1, steps) == Ok(Some(0)));
-    assert!(rt; balance(rt, &mut txn, 0, steps)? == wanted[1]);
-    assert!(rt; unspend(&mut txn, steps) == Ok(()));
-    assert!(rt; balance(rt, &mut txn, 0, steps)? == wanted[2]);
-    assert!(rt; take_back_out(&mut txn, steps) == Ok(()));
-    assert!(rt; balance(rt, &mut txn, 0, steps)? == wanted[3]);
+    assert!(rt; add_out(&mut txn, 0, 0, sums.1, 0) == Ok(()));
+    assert!(rt; balance(rt, &mut txn, 0)? == wanted[0]);
+    assert!(rt; spend(&mut txn, &outpoint(0, 0), 1) == Ok(Some(0)));
+    assert!(rt; balance(rt, &mut txn, 0)? == wanted[1]);
+    assert!(rt; unspend(&mut txn) == Ok(()));
+    assert!(rt; balance(rt, &mut txn, 0)? == wanted[2]);
+    assert!(rt; take_back_out(&mut txn) == Ok(()));
+    assert!(rt; balance(rt, &mut txn, 0)? == wanted[3]);
     Ok(())
 }
 
-fn odd_rows<A: Abort, L: Ledger>(rt: &A, alloc: Global, steps: &mut Steps<L>) -> Result<(), Fail> {
+fn odd_rows<A: Abort>(rt: &A, alloc: Global) -> Result<(), Fail> {
     for odd in &ODD {
-        check_odd(rt, alloc, odd, steps)?;
+        check_odd(rt, alloc, odd)?;
     }
     for sums in &SUMS {
-        check_sums(rt, alloc, sums, steps)?;
+        check_sums(rt, alloc, sums)?;
     }
     Ok(())
 }
 
 // Where there is nothing nothing is found, and nothing is taken back.
-fn on_nothing<A: Abort, L: Ledger>(
-    rt: &A,
-    alloc: Global,
-    steps: &mut Steps<L>,
-) -> Result<(), Fail> {
+fn on_nothing<A: Abort>(rt: &A, alloc: Global) -> Result<(), Fail> {
     let mut rows = VecRows::new(alloc);
     let mut txn = Txn::new(alloc, &mut rows);
-    assert!(rt; spend(&mut txn, &outpoint(0, 0), 0, steps) == Ok(None));
-    assert!(rt; unspend(&mut txn, steps) == Ok(()));
-    assert!(rt; take_back_out(&mut txn, steps) == Ok(()));
+    assert!(rt; spend(&mut txn, &outpoint(0, 0), 0) == Ok(None));
+    assert!(rt; unspend(&mut txn) == Ok(()));
+    assert!(rt; take_back_out(&mut txn) == Ok(()));
     Ok(())
 }
 
-fn at_the_limit<A: Abort, L: Ledger>(
-    rt: &A,
-    alloc: Global,
-    steps: &mut Steps<L>,
-) -> Result<(), Fail> {
+fn at_the_limit<A: Abort>(rt: &A, alloc: Global) -> Result<(), Fail> {
     let mut rows = FailingRows::of_outputs();
     let mut txn = Txn::new(alloc, &mut rows);
     let outs = ConnectFault::Full {
@@ -604,31 +539,31 @@ fn at_the_limit<A: Abort, L: Ledger>(
         index: 0,
     };
     assert!(rt; txn.count(Table::Scripts) == 4_294_967_295);
-    assert!(rt; add_out(&mut txn, 0, 0, 5, 0, steps) == Err(outs));
-    assert!(rt; spend(&mut txn, &every, 0, steps) == Err(ins));
-    assert!(rt; spend(&mut txn, &outpoint(7, 0), 0, steps) == Ok(None));
+    assert!(rt; add_out(&mut txn, 0, 0, 5, 0) == Err(outs));
+    assert!(rt; spend(&mut txn, &every, 0) == Err(ins));
+    assert!(rt; spend(&mut txn, &outpoint(7, 0), 0) == Ok(None));
     Ok(())
 }
 
-fn failing<A: Abort, L: Ledger>(rt: &A, alloc: Global, steps: &mut Steps<L>) -> Result<(), Fail> {
+fn failing<A: Abort>(rt: &A, alloc: Global) -> Result<(), Fail> {
     let mut rows = FailingRows::full(0);
     let mut txn = Txn::new(alloc, &mut rows);
     let fault = ConnectFault::DiskFailed;
     assert!(rt; txn.count(Table::Scripts) == 4_294_967_295);
-    assert!(rt; named_output(&mut txn, &outpoint(1, 0), 5, steps) == Err(DiskFailed));
-    assert!(rt; add_out(&mut txn, 0, 0, 5, 0, steps) == Err(fault));
-    assert!(rt; spend(&mut txn, &outpoint(1, 0), 0, steps) == Err(fault));
-    assert!(rt; unspend(&mut txn, steps) == Err(fault));
-    assert!(rt; take_back_out(&mut txn, steps) == Err(fault));
+    assert!(rt; named_output(&mut txn, &outpoint(1, 0), 5) == Err(DiskFailed));
+    assert!(rt; add_out(&mut txn, 0, 0, 5, 0) == Err(fault));
+    assert!(rt; spend(&mut txn, &outpoint(1, 0), 0) == Err(fault));
+    assert!(rt; unspend(&mut txn) == Err(fault));
+    assert!(rt; take_back_out(&mut txn) == Err(fault));
     Ok(())
 }
 
 /// All of them.
-pub fn all<A: Abort, L: Ledger>(rt: &A, alloc: Global, steps: &mut Steps<L>) -> Result<(), Fail> {
-    long_run(rt, alloc, steps)?;
-    check_cases(rt, alloc, steps)?;
-    odd_rows(rt, alloc, steps)?;
-    on_nothing(rt, alloc, steps)?;
-    at_the_limit(rt, alloc, steps)?;
-    failing(rt, alloc, steps)
+pub fn all<A: Abort>(rt: &A, alloc: Global) -> Result<(), Fail> {
+    long_run(rt, alloc)?;
+    check_cases(rt, alloc)?;
+    odd_rows(rt, alloc)?;
+    on_nothing(rt, alloc)?;
+    at_the_limit(rt, alloc)?;
+    failing(rt, alloc)
 }

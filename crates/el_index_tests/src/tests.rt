@@ -1,66 +1,60 @@
-// The tests. Each has a counter of rows of its own.
-ghost use Rattle.std.specs.Prelude.{◌≡◌, ◌<◌};
-
+// The tests, but for those of laws.
 use crate::failing_rows::FailingRows;
-use crate::{bucket_tests, position_tests, script_tests, spend_tests};
-use el_base::Steps;
+use crate::{
+    bucket_tests, connect_tests, full_tests, history_tests, lookup_tests, position_tests,
+    script_tests, spend_tests, touching_tests, undo_tests,
+};
 use el_rows::{AppendFault, Table, Txn};
-use std::alloc::Global;
-use std::marker::Brand;
-use std::process::Abort;
-use std::sync::ledger::{Blank, Ledger};
 use std::test::Fail;
-
-// What a test is of.
-#[derive(Clone, Copy)]
-enum Subject {
-    Buckets,
-    Positions,
-    Scripts,
-    Spends,
-}
-
-fn counted<A: Abort, L: Ledger + Send>(
-    rt: &A,
-    alloc: Global,
-    subject: Subject,
-    blank: Blank,
-) -> Result<(), Fail>
-    requires name { blank.name ≡ L.name }
-    requires parts { blank.parts ≡ L.parts }
-    requires some { 0 < blank.parts }
-{
-    let mut steps = Steps::<L>::new(blank);
-    match subject {
-        Subject::Buckets => bucket_tests::all(rt, alloc, &mut steps),
-        Subject::Positions => position_tests::all(rt, alloc, &mut steps),
-        Subject::Scripts => script_tests::all(rt, alloc, &mut steps),
-        Subject::Spends => spend_tests::all(rt, alloc, &mut steps),
-    }
-}
-
-fn test_of<A: Abort>(rt: &A, alloc: Global, subject: Subject) -> Result<(), Fail> {
-    counted::<A, Brand>(rt, alloc, subject, Blank::new(1))
-}
 
 #[test]
 fn rows_are_pushed_and_popped(rt: HostRuntime) -> Result<(), Fail> {
-    test_of(&rt, rt.alloc(), Subject::Buckets)
+    bucket_tests::all(&rt, rt.alloc())
 }
 
 #[test]
 fn newest_transaction_is_that_of_a_list(rt: HostRuntime) -> Result<(), Fail> {
-    test_of(&rt, rt.alloc(), Subject::Positions)
+    position_tests::all(&rt, rt.alloc())
 }
 
 #[test]
 fn scripts_and_entries_are_those_of_lists(rt: HostRuntime) -> Result<(), Fail> {
-    test_of(&rt, rt.alloc(), Subject::Scripts)
+    script_tests::all(&rt, rt.alloc())
 }
 
 #[test]
 fn outputs_and_inputs_are_those_of_lists(rt: HostRuntime) -> Result<(), Fail> {
-    test_of(&rt, rt.alloc(), Subject::Spends)
+    spend_tests::all(&rt, rt.alloc())
+}
+
+#[test]
+fn blocks_leave_rows_as_by_hand(rt: HostRuntime) -> Result<(), Fail> {
+    connect_tests::all(&rt, rt.alloc())
+}
+
+#[test]
+fn blocks_over_full_stores(rt: HostRuntime) -> Result<(), Fail> {
+    full_tests::all(&rt, rt.alloc())
+}
+
+#[test]
+fn blocks_are_taken_back(rt: HostRuntime) -> Result<(), Fail> {
+    undo_tests::all(&rt, rt.alloc())
+}
+
+#[test]
+fn each_block_touches_its_own(rt: HostRuntime) -> Result<(), Fail> {
+    touching_tests::all(&rt, rt.alloc())
+}
+
+#[test]
+fn each_is_found(rt: HostRuntime) -> Result<(), Fail> {
+    lookup_tests::all(&rt, rt.alloc())
+}
+
+#[test]
+fn histories_are_as_by_hand(rt: HostRuntime) -> Result<(), Fail> {
+    history_tests::all(&rt, rt.alloc())
 }
 
 #[test]

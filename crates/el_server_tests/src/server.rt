@@ -1,11 +1,11 @@
 // The server's core over block files in memory and the plain ledger: what the node and the client are
 // answered. The hashes were computed by another program from the rules on blocks.
-ghost use Rattle.std.specs.Prelude.{◌≡◌, ◌<◌, ◌≤◌, ◌∷◌, [], length, IfOk, OnOk};
+ghost use Rattle.std.specs.Prelude.{◌≡◌, ◌<◌, ◌≤◌, ◌∷◌, ℕ, [], length, IfOk, OnOk};
 ghost use Rattle.std.specs.List.{AllByRecursion};
 ghost use Rattle.el_tx.specs.Encoding.{HasEncoding};
-ghost use Rattle.el_core.specs.State.{IsIdle};
+ghost use Rattle.el_core.specs.State.{AreUpTo, IsIdle};
 
-use el_base::{Bytes, Hash32, Steps};
+use el_base::{Bytes, Hash32};
 use el_block::Block;
 use el_core::{Outs, Server};
 use el_fakes::MemArchive;
@@ -18,8 +18,6 @@ use el_model::{LINE_LIMIT, Ledger, PlainLedger};
 use el_outside::{Arrival, Peer, Why};
 use el_tx::{Outpoint, Tx, block_hash, encode_header, encode_tx, txid};
 use std::alloc::Global;
-use std::marker::Brand;
-use std::sync::ledger::{Blank, Ledger as Counts};
 use std::test::Fail;
 
 // Hashes that another program computed: of the blocks of heights 0, 1, 15, 16 and 101 that `chain_file`
@@ -110,15 +108,16 @@ fn show(outs: &Outs, shown: &mut Vec<u8>) -> Result<(), Fail> {
 }
 
 // Makes all turns.
-fn work_off<L: Counts + Send>(
+fn work_off(
     server: &mut Server<PlainLedger>,
     archive: &mut MemArchive,
-    steps: &mut Steps<L>,
     shown: &mut Vec<u8>,
 ) -> Result<(), Fail>
-    ensures { OnOk result (IsIdle server.new) }
+    ensures idle { OnOk result (IsIdle server.new) }
+    ensures numbers { (last : ℕ) → AreUpTo last server.old.clients
+        → OnOk result (AreUpTo last server.new.clients) }
 {
-    while let Some(outs) = server.turn(archive, steps)? {
+    while let Some(outs) = server.turn(archive)? {
         show(&outs, shown)?;
     }
     Ok(())
@@ -136,72 +135,83 @@ fn part_of(file: &[u8], from: usize, to: usize) -> &[u8] {
     file.get(from..to).unwrap_or(&[])
 }
 
-// Makes one step, with all turns after it.
-fn make_step<L: Counts + Send>(
+// A peer comes, which is greater than the last that came.
+fn open(server: &mut Server<PlainLedger>, p: Peer, last: &mut Peer) -> Result<(), Fail>
+    requires idle { IsIdle server.old }
+    requires numbers { AreUpTo last.old server.old.clients }
+    ensures numbers { OnOk result (AreUpTo last.new server.new.clients) }
+{
+    if p > *last {
+        server.take(Arrival::Opened(p), b"")?;
+        *last = p;
+    }
+    Ok(())
+}
+
+// A peer says this.
+fn hear(
     alloc: Global,
-    file: &[u8],
     server: &mut Server<PlainLedger>,
-    archive: &mut MemArchive,
-    steps: &mut Steps<L>,
-    step: Step<'_>,
-    shown: &mut Vec<u8>,
+    p: Peer,
+    text: &str,
+    last: Peer,
 ) -> Result<(), Fail>
-    requires { IsIdle server.old }
-    ensures { OnOk result (IsIdle server.new) }
+    requires idle { IsIdle server.old }
+    requires numbers { AreUpTo last server.old.clients }
+    ensures numbers { OnOk result (AreUpTo last server.new.clients) }
+{
+    let text = spelled(alloc, text)?;
+    server.take(Arrival::Bytes(p, text.len()), text.as_bytes())?;
+    Ok(())
+}
+
+// A run: the server, its block files, the last peer that came, and what was shown.
+#[derive(Drop)]
+struct Run {
+    server: Server<PlainLedger>,
+    archive: MemArchive,
+    last: Peer,
+    shown: Vec<u8>,
+}
+
+// Makes one step, with all turns after it.
+fn make_step(alloc: Global, file: &[u8], run: &mut Run, step: Step<'_>) -> Result<(), Fail>
+    requires idle { IsIdle run.old.server }
+    requires numbers { AreUpTo run.old.last run.old.server.clients }
+    ensures idle { OnOk result (IsIdle run.new.server) }
+    ensures numbers { OnOk result (AreUpTo run.new.last run.new.server.clients) }
 {
     match step {
-        Step::Part(from, to) => *archive = archive_of(alloc, part_of(file, from, to), 0)?,
-        Step::Fails => *archive = archive_of(alloc, file, 1)?,
-        Step::Opens(p) => server.take(Arrival::Opened(p), b"")?,
-        Step::Says(p, text) => {
-            let text = spelled(alloc, text)?;
-            server.take(Arrival::Bytes(p, text.len()), text.as_bytes())?;
-        }
-        Step::Gone(p) => server.gone(p),
-        Step::Forget => shown.truncate(0),
+        Step::Part(from, to) => run.archive = archive_of(alloc, part_of(file, from, to), 0)?,
+        Step::Fails => run.archive = archive_of(alloc, file, 1)?,
+        Step::Opens(p) => open(&mut run.server, p, &mut run.last)?,
+        Step::Says(p, text) => hear(alloc, &mut run.server, p, text, run.last)?,
+        Step::Gone(p) => run.server.gone(p),
+        Step::Forget => run.shown.truncate(0),
     }
-    work_off(server, archive, steps, shown)
+    work_off(&mut run.server, &mut run.archive, &mut run.shown)
 }
 
 // What a run showed, and the height that its ledger then had.
 type Played = (Vec<u8>, Option<u32>);
 
 // Makes these steps from a server that knows nothing, over a block file that has these bytes at first.
-fn play_counted<L: Counts + Send>(
-    alloc: Global,
-    file: &[u8],
-    run: &[Step<'_>],
-    blank: Blank,
-) -> Result<Played, Fail>
-    requires name { blank.name ≡ L.name }
-    requires parts { blank.parts ≡ L.parts }
-    requires some { 0 < blank.parts }
-{
-    let mut steps = Steps::<L>::new(blank);
-    let mut archive = archive_of(alloc, file, 0)?;
-    let mut server = Server::new(
-        alloc,
-        PlainLedger::new(alloc),
-        HeaderTree::new(alloc),
-        MAGIC,
-    );
-    let mut shown = Vec::new(alloc);
-    for step in run {
-        make_step(
+fn play(alloc: Global, file: &[u8], steps: &[Step<'_>]) -> Result<Played, Fail> {
+    let mut run = Run {
+        server: Server::new(
             alloc,
-            file,
-            &mut server,
-            &mut archive,
-            &mut steps,
-            *step,
-            &mut shown,
-        )?;
+            PlainLedger::new(alloc),
+            HeaderTree::new(alloc),
+            MAGIC,
+        ),
+        archive: archive_of(alloc, file, 0)?,
+        last: 0,
+        shown: Vec::new(alloc),
+    };
+    for step in steps {
+        make_step(alloc, file, &mut run, *step)?;
     }
-    Ok((shown, server.into_ledger().height()))
-}
-
-fn play(alloc: Global, file: &[u8], run: &[Step<'_>]) -> Result<Played, Fail> {
-    play_counted::<Brand>(alloc, file, run, Blank::new(1))
+    Ok((run.shown, run.server.into_ledger().height()))
 }
 
 // Adds the record of a block with these bytes.

@@ -1,4 +1,4 @@
-//! Tests of the devices in memory and of the stores, of what no contract says.
+//! Tests of the devices and of the stores, of what no contract says.
 #![tactic(auto)]
 
 #[cfg(test)]
@@ -11,6 +11,8 @@ mod disk_tests;
 mod disks;
 #[cfg(test)]
 mod journal_tests;
+#[cfg(test)]
+mod link_tests;
 #[cfg(test)]
 mod log_tests;
 #[cfg(test)]

@@ -3,7 +3,7 @@
 ghost use Rattle.std.specs.Prelude.{OnOk, IfOk};
 
 use crate::disks::{all_fail_from, choosing, disk_with, none_fails};
-use el_base::{OutOfMemory, Steps};
+use el_base::OutOfMemory;
 use el_journal::{JOURNAL, open_journal};
 use el_logstore::{LogStore, open_log};
 use el_mem_disk::{FailingCalls, MemDisk, SilentDisk};
@@ -11,7 +11,6 @@ use el_redo::{Mainnet, OpenFault};
 use el_rows::{CommitFault, Rows, Table, Txn};
 use std::alloc::Global;
 use std::process::Abort;
-use std::sync::ledger::Ledger;
 use std::test::Fail;
 
 // How many heads and inputs there are at first, after one commit, and after both.
@@ -86,11 +85,7 @@ fn opened(alloc: Global, disk: MemDisk) -> Result<(u64, u64), OpenFault> {
 }
 
 /// The rows are read after the store was opened again.
-pub fn come_back<A: Abort, L: Ledger>(
-    rt: &A,
-    alloc: Global,
-    steps: &mut Steps<L>,
-) -> Result<(), Fail> {
+pub fn come_back<A: Abort>(rt: &A, alloc: Global) -> Result<(), Fail> {
     let (made, disk) = run(alloc, none_fails(alloc))?;
     assert_eq!(rt; made, 2);
     let Ok(mut store) = open(alloc, disk) else {
@@ -99,9 +94,9 @@ pub fn come_back<A: Abort, L: Ledger>(
     let mut head = [0; 4];
     let mut input = [0; 4];
     if store.count(Table::TxHeads) == 1 {
-        store.row(Table::TxHeads, 0, &mut head, steps)?;
+        store.row(Table::TxHeads, 0, &mut head)?;
         if store.count(Table::Ins) == 1 {
-            store.row(Table::Ins, 0, &mut input, steps)?;
+            store.row(Table::Ins, 0, &mut input)?;
         }
     }
     assert_eq!(rt; (head, input), (*b"HEAD", *b"IN-0"));

@@ -3,26 +3,17 @@
 ghost use Rattle.std.specs.Prelude.{◌≡◌, ◌<◌, [], get_or, slice_set, OnOk, IsErrOf};
 ghost use Rattle.el_outside.specs.Counts.{CountsOnly};
 ghost use Rattle.el_rows.specs.Changes.{OnTable};
-ghost use Rattle.el_rows.specs.Reads.{Unchanged};
+ghost use Rattle.el_rows.specs.Reads.{OnlyRead};
 ghost use Rattle.el_rows.specs.declared.table.Table.{Table};
 
 use crate::log_tests::come_back;
-use el_base::Steps;
 use el_rows::{CommitFault, Rows, TABLES, Table, Txn, VecRows, VersionedRows};
 use std::alloc::Global;
-use std::marker::Brand;
 use std::process::Abort;
-use std::sync::ledger::{Blank, Ledger};
 use std::test::Fail;
 
 // A caller of any store, proved from the trait alone: it writes one head over another, and commits.
-fn copy_head<R: Rows, L: Ledger>(
-    alloc: Global,
-    rows: &mut R,
-    from: u64,
-    to: u64,
-    steps: &mut Steps<L>,
-) -> Result<(), CommitFault>
+fn copy_head<R: Rows>(alloc: Global, rows: &mut R, from: u64, to: u64) -> Result<(), CommitFault>
     requires live { R.is_live rows.old }
     requires from { from < R.counts rows.old Table.TxHeads }
     requires to { to < R.counts rows.old Table.TxHeads }
@@ -30,12 +21,12 @@ fn copy_head<R: Rows, L: Ledger>(
         (slice_set (R.lists rows.old Table.TxHeads) to (get_or (R.lists rows.old Table.TxHeads) from []))) }
     ensures live { OnOk result (R.is_live rows.new) }
     ensures memory { IsErrOf result CommitFault.Memory
-        → Unchanged R.lists R.counts R.is_live rows.old rows.new }
+        → OnlyRead R.lists R.counts R.is_live R.tells_crash R.moment R.left_since rows.old rows.new }
     ensures cause { CountsOnly (R.faults rows.old) (R.faults rows.new) CommitFault.DiskFailed result }
 {
     let mut txn = Txn::new(alloc, rows);
     let mut head = [0; 4];
-    txn.get(Table::TxHeads, from, &mut head, steps)?;
+    txn.get(Table::TxHeads, from, &mut head)?;
     txn.put(Table::TxHeads, to, &head)?;
     let sealed = txn.seal()?;
     rows.commit(&sealed)
@@ -93,12 +84,11 @@ fn edit_one(
 }
 
 // The transaction shows these rows of the table and no others.
-fn compare_table<A: Abort, L: Ledger>(
+fn compare_table<A: Abort>(
     rt: &A,
     txn: &mut Txn<'_, VecRows>,
     t: Table,
     rows: &[Vec<u8>],
-    steps: &mut Steps<L>,
 ) -> Result<(), Fail>
     ensures name { txn.new.rows.ghost_name ≡ txn.old.rows.ghost_name }
 {
@@ -107,7 +97,7 @@ fn compare_table<A: Abort, L: Ledger>(
         let mut row = [0; 112];
         let row = &mut row[..t.size()];
         if i < txn.count(t) {
-            txn.get(t, i, row, steps)?;
+            txn.get(t, i, row)?;
         }
         assert!(rt;
             rows.get(i as usize)
@@ -118,28 +108,22 @@ fn compare_table<A: Abort, L: Ledger>(
 }
 
 // The transaction shows these rows and no others.
-fn compare<A: Abort, L: Ledger>(
-    rt: &A,
-    txn: &mut Txn<'_, VecRows>,
-    plain: &Plain,
-    steps: &mut Steps<L>,
-) -> Result<(), Fail>
+fn compare<A: Abort>(rt: &A, txn: &mut Txn<'_, VecRows>, plain: &Plain) -> Result<(), Fail>
     ensures name { txn.new.rows.ghost_name ≡ txn.old.rows.ghost_name }
 {
     for (t, rows) in Table::ALL.iter().zip(plain.iter()) {
-        compare_table(rt, txn, *t, rows.as_slice(), steps)?;
+        compare_table(rt, txn, *t, rows.as_slice())?;
     }
     Ok(())
 }
 
 // So many edits of one transaction, which are then committed.
-fn one_round<A: Abort, L: Ledger>(
+fn one_round<A: Abort>(
     rt: &A,
     alloc: Global,
     rows: &mut VecRows,
     plain: &mut Plain,
     seed: &mut u64,
-    steps: &mut Steps<L>,
 ) -> Result<(), Fail> {
     let mut txn = Txn::new(alloc, rows);
     for _ in 0..50 {
@@ -148,34 +132,26 @@ fn one_round<A: Abort, L: Ledger>(
         *seed ^= *seed << 17;
         edit_one(alloc, &mut txn, plain, *seed)?;
     }
-    compare(rt, &mut txn, plain, steps)?;
+    compare(rt, &mut txn, plain)?;
     let sealed = txn.seal()?;
     rows.commit(&sealed)?;
     let mut after = Txn::new(alloc, rows);
-    compare(rt, &mut after, plain, steps)
+    compare(rt, &mut after, plain)
 }
 
 // Edits are those of lists.
-fn four_rounds<A: Abort, L: Ledger>(
-    rt: &A,
-    alloc: Global,
-    steps: &mut Steps<L>,
-) -> Result<(), Fail> {
+fn four_rounds<A: Abort>(rt: &A, alloc: Global) -> Result<(), Fail> {
     let mut rows = VecRows::new(alloc);
     let mut plain = no_rows(alloc);
     let mut seed = 88_172_645_463_325_252;
     for _ in 0..4 {
-        one_round(rt, alloc, &mut rows, &mut plain, &mut seed, steps)?;
+        one_round(rt, alloc, &mut rows, &mut plain, &mut seed)?;
     }
     Ok(())
 }
 
 // Three heads, of which the first goes over the last.
-fn heads<R: Rows, L: Ledger>(
-    alloc: Global,
-    rows: &mut R,
-    steps: &mut Steps<L>,
-) -> Result<Result<(), CommitFault>, Fail>
+fn heads<R: Rows>(alloc: Global, rows: &mut R) -> Result<Result<(), CommitFault>, Fail>
     requires live { R.is_live rows.old }
 {
     let mut txn = Txn::new(alloc, rows);
@@ -185,40 +161,35 @@ fn heads<R: Rows, L: Ledger>(
     let sealed = txn.seal()?;
     rows.commit(&sealed)?;
     if rows.count(Table::TxHeads) > 2 {
-        return Ok(copy_head(alloc, rows, 0, 2, steps));
+        return Ok(copy_head(alloc, rows, 0, 2));
     }
     Ok(Ok(()))
 }
 
 // Stores take commits.
-fn copied<A: Abort, L: Ledger>(rt: &A, alloc: Global, steps: &mut Steps<L>) -> Result<(), Fail> {
+fn copied<A: Abort>(rt: &A, alloc: Global) -> Result<(), Fail> {
     let mut head = [0; 4];
     let mut plain = VecRows::new(alloc);
-    assert!(rt; heads(alloc, &mut plain, steps)? == Ok(()));
+    assert!(rt; heads(alloc, &mut plain)? == Ok(()));
     if plain.count(Table::TxHeads) == 3 {
-        plain.row(Table::TxHeads, 2, &mut head, steps)?;
+        plain.row(Table::TxHeads, 2, &mut head)?;
     }
     assert_eq!(rt; head, [7, 0, 0, 0]);
     for (good, wanted) in [(1, Err(CommitFault::DiskFailed)), (2, Ok(()))] {
         let mut rows = VersionedRows::new(alloc, good)?;
-        assert!(rt; heads(alloc, &mut rows, steps)? == wanted);
+        assert!(rt; heads(alloc, &mut rows)? == wanted);
         assert_eq!(rt; rows.count(Table::TxHeads), 3);
     }
     Ok(())
 }
 
-fn all_stores<A: Abort, L: Ledger>(rt: &A, alloc: Global, blank: Blank) -> Result<(), Fail>
-    requires name { blank.name ≡ L.name }
-    requires parts { blank.parts ≡ L.parts }
-    requires some { 0 < blank.parts }
-{
-    let mut steps = Steps::<L>::new(blank);
-    four_rounds(rt, alloc, &mut steps)?;
-    copied(rt, alloc, &mut steps)?;
-    come_back(rt, alloc, &mut steps)
+fn all_stores<A: Abort>(rt: &A, alloc: Global) -> Result<(), Fail> {
+    four_rounds(rt, alloc)?;
+    copied(rt, alloc)?;
+    come_back(rt, alloc)
 }
 
 #[test]
 fn rows_are_kept(rt: HostRuntime) -> Result<(), Fail> {
-    all_stores::<HostRuntime, Brand>(&rt, rt.alloc(), Blank::new(1))
+    all_stores(&rt, rt.alloc())
 }

@@ -2,7 +2,4 @@ use Rattle.std.proofs.Common.{◌≡◌}
 use Rattle.el_index_tests.proofs.bucket_tests.add_heads.Given as goal
 
 abbrev pub invariant-loop-head : goal.invariant-loop-head
-invariant-loop-head g l = record {
-  rows : l.txn.rows.now ≡ l.fn.txn.rows.now;
-  name : l.txn.rows.ghost_name ≡ l.fn.txn.rows.ghost_name;
-}
+invariant-loop-head g l = l.txn.rows.ghost_name ≡ l.fn.txn.rows.ghost_name

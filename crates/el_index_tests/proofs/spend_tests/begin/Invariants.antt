@@ -2,7 +2,4 @@ use Rattle.std.proofs.Common.{◌≡◌}
 use Rattle.el_index_tests.proofs.spend_tests.begin.Given as goal
 
 abbrev pub invariant-loop : goal.invariant-loop
-invariant-loop g l = record {
-  rows : l.txn.rows.now ≡ l.fn.txn.rows.now;
-  name : l.txn.rows.ghost_name ≡ l.fn.txn.rows.ghost_name;
-}
+invariant-loop g l = l.txn.rows.ghost_name ≡ l.fn.txn.rows.ghost_name

@@ -1,4 +1,8 @@
+use Rattle.el_core.specs.State.{AreUpTo, IsIdle}
 use Rattle.el_server_tests.proofs.server.play.Given as goal
 
-abbrev pub ghosts-play_counted : goal.ghosts-play_counted
-ghosts-play_counted a = record { name = a.blank.name; parts = a.blank.parts }
+abbrev pub invariant-loop-step : goal.invariant-loop-step
+invariant-loop-step l = record {
+  idle : IsIdle l.run.server;
+  numbers : AreUpTo l.run.last l.run.server.clients;
+}

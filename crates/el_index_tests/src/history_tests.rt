@@ -1,0 +1,244 @@
+// What no contract says: that each call succeeds where memory is ample, rows that stand for nothing, and a
+// device that fails.
+ghost use Rattle.std.specs.Prelude.{◌≡◌, ◌<◌, ◌^◌};
+
+use crate::failing_rows::FailingRows;
+use crate::fixtures::{add_heads, hash, outpoint, tx_row};
+use el_base::Hash32;
+use el_chain::{Coin, Entry};
+use el_histories::{balance, history, unspent};
+use el_model::QueryFault;
+use el_position::add_tx;
+use el_rows::{EntryRow, Rows, ScriptRow, Table, Txn, VecRows};
+use el_script::touch;
+use el_spend::{add_out, spend};
+use std::alloc::Global;
+use std::process::Abort;
+use std::test::Fail;
+
+fn entry(height: u32, k: u8) -> Entry {
+    Entry {
+        height,
+        txid: hash(k),
+    }
+}
+
+fn coin(k: u8, index: u32, value: u64, script: u8, height: u32) -> Coin {
+    Coin {
+        outpoint: outpoint(k, index),
+        value,
+        script: hash(script),
+        height,
+    }
+}
+
+// A transaction: its txid, its height, the outpoints that it spends with their script hashes, and its
+// outputs, each of a value and a script hash.
+type Made<'a> = (u8, u32, &'a [(u8, u32, u8)], &'a [(u64, u8)]);
+
+// The second funds and spends the script hash 1.
+const CHAIN: [Made; 3] = [
+    (10, 0, &[], &[(50, 1)]),
+    (11, 1, &[(10, 0, 1)], &[(20, 1), (30, 3)]),
+    (12, 2, &[(11, 1, 3)], &[(25, 2), (5, 1), (6, 1)]),
+];
+
+// Inputs come before outputs, as where a block is connected.
+fn add_inputs(txn: &mut Txn<'_, VecRows>, n: u64, spent: &[(u8, u32, u8)]) -> Result<(), Fail>
+    requires few { n < 2 ^ 32 }
+    ensures { txn.new.rows.ghost_name ≡ txn.old.rows.ghost_name }
+{
+    for (k, index, script) in spent {
+        spend(txn, &outpoint(*k, *index), n)?;
+        touch(txn, &hash(*script), n)?;
+    }
+    Ok(())
+}
+
+fn add_output(
+    txn: &mut Txn<'_, VecRows>,
+    n: u64,
+    index: u32,
+    value: u64,
+    script: u8,
+) -> Result<(), Fail>
+    requires few { n < 2 ^ 32 }
+    ensures { txn.new.rows.ghost_name ≡ txn.old.rows.ghost_name }
+{
+    let number = touch(txn, &hash(script), n)?;
+    if number < 4_294_967_295 {
+        add_out(txn, n, index, value, number)?;
+    }
+    Ok(())
+}
+
+fn add_made(txn: &mut Txn<'_, VecRows>, made: &Made) -> Result<(), Fail>
+    ensures { txn.new.rows.ghost_name ≡ txn.old.rows.ghost_name }
+{
+    let n = txn.count(Table::Txs);
+    let first = txn.count(Table::Outs);
+    add_inputs(txn, n, made.2)?;
+    let Ok(outputs) = u32::try_from(made.3.len()) else {
+        return Err(Fail::new("too many outputs"));
+    };
+    add_tx(txn, &tx_row(made.0, made.1, 81, first, outputs))?;
+    let mut index = 0u32;
+    for (value, script) in made.3 {
+        add_output(txn, n, index, *value, *script)?;
+        index = index.saturating_add(1);
+    }
+    Ok(())
+}
+
+// What is found of a script hash.
+#[derive(Clone, Copy)]
+struct Wanted<'a> {
+    script: u8,
+    entries: &'a [Entry],
+    coins: &'a [Coin],
+    balance: u64,
+}
+
+fn compare<A: Abort>(
+    rt: &A,
+    alloc: Global,
+    txn: &mut Txn<'_, VecRows>,
+    wanted: &Wanted,
+) -> Result<(), Fail>
+    ensures { txn.new.rows.ghost_name ≡ txn.old.rows.ghost_name }
+{
+    let script = hash(wanted.script);
+    let found = history(alloc, txn, &script)?;
+    assert!(rt; found.as_slice() == wanted.entries);
+    let found = unspent(alloc, txn, &script)?;
+    assert!(rt; found.as_slice() == wanted.coins);
+    assert!(rt; balance(txn, &script) == Ok(wanted.balance));
+    Ok(())
+}
+
+fn none_of<'a>(script: u8) -> Wanted<'a> {
+    Wanted {
+        script,
+        entries: &[],
+        coins: &[],
+        balance: 0,
+    }
+}
+
+// The chain's; another script hash of the first one's bucket, whose coin is spent; and one that isn't there.
+fn compare_all<A: Abort>(rt: &A, alloc: Global, txn: &mut Txn<'_, VecRows>) -> Result<(), Fail>
+    ensures { txn.new.rows.ghost_name ≡ txn.old.rows.ghost_name }
+{
+    let first = Wanted {
+        script: 1,
+        entries: &[entry(0, 10), entry(1, 11), entry(2, 12)],
+        coins: &[
+            coin(11, 0, 20, 1, 1),
+            coin(12, 1, 5, 1, 2),
+            coin(12, 2, 6, 1, 2),
+        ],
+        balance: 31,
+    };
+    compare(rt, alloc, txn, &first)?;
+    let second = Wanted {
+        script: 2,
+        entries: &[entry(2, 12)],
+        coins: &[coin(12, 0, 25, 2, 2)],
+        balance: 25,
+    };
+    compare(rt, alloc, txn, &second)?;
+    let third = Wanted {
+        entries: &[entry(1, 11), entry(2, 12)],
+        ..none_of(3)
+    };
+    compare(rt, alloc, txn, &third)?;
+    compare(rt, alloc, txn, &none_of(5))
+}
+
+fn by_hand<A: Abort>(rt: &A, alloc: Global) -> Result<(), Fail> {
+    let mut rows = VecRows::new(alloc);
+    let mut txn = Txn::new(alloc, &mut rows);
+    // where there is nothing, nothing is found
+    compare(rt, alloc, &mut txn, &none_of(1))?;
+    add_heads(&mut txn, 2)?;
+    for made in &CHAIN {
+        add_made(&mut txn, made)?;
+    }
+    compare_all(rt, alloc, &mut txn)
+}
+
+// A script in the one bucket whose link is to itself, as is that of its entry.
+fn add_rounds<R: Rows>(txn: &mut Txn<'_, R>, tx: u64) -> Result<(), Fail>
+    requires few { tx < 2 ^ 32 }
+    ensures { txn.new.rows.ghost_name ≡ txn.old.rows.ghost_name }
+{
+    txn.append(Table::ScriptHeads, &[1, 0, 0, 0])?;
+    let mut bytes = [0; 52];
+    let row = ScriptRow {
+        script: Hash32([1; 32]),
+        next: Some(0),
+        last: Some(0),
+        entries: 1,
+        balance: 8,
+    };
+    row.write(&mut bytes);
+    txn.append(Table::Scripts, &bytes)?;
+    let mut bytes = [0; 12];
+    let row = EntryRow {
+        tx,
+        script: 0,
+        before: Some(0),
+    };
+    row.write(&mut bytes);
+    txn.append(Table::Entries, &bytes)?;
+    Ok(())
+}
+
+fn no_chain<A: Abort>(rt: &A, alloc: Global) -> Result<(), Fail> {
+    let mut rows = VecRows::new(alloc);
+    let mut txn = Txn::new(alloc, &mut rows);
+    add_rounds(&mut txn, 0)?;
+    let there = Hash32([1; 32]);
+    let other = Hash32([2; 32]);
+    // its transaction isn't there
+    assert!(rt; history(alloc, &mut txn, &there)?.is_empty());
+    assert!(rt; unspent(alloc, &mut txn, &there)?.is_empty());
+    assert!(rt; history(alloc, &mut txn, &other)?.is_empty());
+    assert!(rt; balance(&mut txn, &there) == Ok(8));
+    assert!(rt; balance(&mut txn, &other) == Ok(0));
+    // and then it is, but its outputs aren't
+    let mut bytes = [0; 68];
+    tx_row(7, 4, 81, 6, 9).write(&mut bytes);
+    txn.append(Table::Txs, &bytes)?;
+    let found = history(alloc, &mut txn, &there)?;
+    assert!(rt; found.as_slice() == [entry(4, 7)].as_slice());
+    assert!(rt; unspent(alloc, &mut txn, &there)?.is_empty());
+    Ok(())
+}
+
+// The head, the script, its entry, the transaction and an output are read, in this order.
+fn failing<A: Abort>(rt: &A, alloc: Global) -> Result<(), Fail> {
+    let script = Hash32([1; 32]);
+    for left in 0..5 {
+        let mut rows = FailingRows::of_ones(left);
+        let mut txn = Txn::new(alloc, &mut rows);
+        let found = balance(&mut txn, &script);
+        assert!(rt; found.is_err() == (left < 2));
+        let mut rows = FailingRows::of_ones(left);
+        let mut txn = Txn::new(alloc, &mut rows);
+        let found = history(alloc, &mut txn, &script);
+        assert!(rt; matches!(found, Err(QueryFault::DiskFailed)) == (left < 4));
+        let mut rows = FailingRows::of_ones(left);
+        let mut txn = Txn::new(alloc, &mut rows);
+        let found = unspent(alloc, &mut txn, &script);
+        assert!(rt; matches!(found, Err(QueryFault::DiskFailed)));
+    }
+    Ok(())
+}
+
+/// All of them.
+pub fn all<A: Abort>(rt: &A, alloc: Global) -> Result<(), Fail> {
+    by_hand(rt, alloc)?;
+    no_chain(rt, alloc)?;
+    failing(rt, alloc)
+}

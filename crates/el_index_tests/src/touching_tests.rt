@@ -1,0 +1,199 @@
+// What no contract says: that the call succeeds where memory is ample, rows that stand for nothing, and a
+// device that fails.
+ghost use Rattle.std.specs.Prelude.{◌≡◌};
+
+use crate::failing_rows::FailingRows;
+use crate::fixtures::{add_block, add_heads, block_row, hash, outpoint, tx_row};
+use el_chain::Touched;
+use el_model::QueryFault;
+use el_position::add_tx;
+use el_rows::{Table, Txn, VecRows};
+use el_script::touch;
+use el_spend::{add_out, spend};
+use el_touching::touch_last;
+use el_tx::Outpoint;
+use std::alloc::Global;
+use std::process::Abort;
+use std::test::Fail;
+
+// A step of a chain.
+#[derive(Clone, Copy, Debug, PartialEq, Eq)]
+enum Step {
+    // the next transaction spends the output of that txid and index, of that script hash
+    Spend(u8, u32, u8),
+    // a transaction of that txid and so many outputs
+    Tx(u8, u32),
+    // an output of the last one: index and script hash
+    Out(u32, u8),
+    // the transactions since the last block are one; bit k says whether it touches the script hash k
+    Block(u32),
+}
+
+const CHAIN: [Step; 27] = [
+    // two outputs
+    Step::Tx(1, 2),
+    Step::Out(0, 0),
+    Step::Out(1, 1),
+    Step::Block(0b0000_0011),
+    // a spend within the block
+    Step::Tx(2, 1),
+    Step::Out(0, 0),
+    Step::Spend(1, 0, 0),
+    Step::Tx(3, 2),
+    Step::Out(0, 2),
+    Step::Out(1, 3),
+    Step::Spend(3, 0, 2),
+    Step::Tx(4, 1),
+    Step::Out(0, 4),
+    Step::Block(0b0001_1101),
+    // the script hash 3 is only spent
+    Step::Tx(5, 1),
+    Step::Out(0, 5),
+    Step::Spend(3, 1, 3),
+    Step::Tx(6, 1),
+    Step::Out(0, 5),
+    Step::Block(0b0010_1000),
+    // the first coinbase's txid again: it buries the output 1; the output 0 was spent
+    Step::Tx(1, 2),
+    Step::Out(0, 6),
+    Step::Out(1, 6),
+    Step::Block(0b0100_0010),
+    // one coinbase
+    Step::Tx(7, 1),
+    Step::Out(0, 7),
+    Step::Block(0b1000_0000),
+];
+
+fn fund<A: Abort>(rt: &A, txn: &mut Txn<'_, VecRows>, index: u32, k: u8) -> Result<(), Fail>
+    ensures { txn.new.rows.ghost_name ≡ txn.old.rows.ghost_name }
+{
+    let last = txn.count(Table::Txs).saturating_sub(1);
+    let script = match touch(txn, &hash(k), last) {
+        Ok(script) => script,
+        Err(_) => return Err(Fail::new("the call failed")),
+    };
+    assert!(rt; script < txn.count(Table::Scripts));
+    assert!(rt; add_out(txn, last, index, 50, script) == Ok(()));
+    Ok(())
+}
+
+fn take(txn: &mut Txn<'_, VecRows>, o: &Outpoint, k: u8) -> Result<(), Fail>
+    ensures { txn.new.rows.ghost_name ≡ txn.old.rows.ghost_name }
+{
+    let next = txn.count(Table::Txs);
+    match spend(txn, o, next) {
+        Ok(Some(_)) => {}
+        _ => return Err(Fail::new("nothing was spent")),
+    }
+    match touch(txn, &hash(k), next) {
+        Ok(_) => Ok(()),
+        Err(_) => Err(Fail::new("the call failed")),
+    }
+}
+
+// The last block touches exactly these script hashes.
+fn check_last<A: Abort>(
+    rt: &A,
+    alloc: Global,
+    txn: &mut Txn<'_, VecRows>,
+    wanted: u32,
+) -> Result<(), Fail>
+    ensures { txn.new.rows.ghost_name ≡ txn.old.rows.ghost_name }
+{
+    let mut touched = Touched::new(alloc);
+    assert!(rt; touch_last(txn, &mut touched) == Ok(()));
+    let mut bits = wanted;
+    for k in 0..8 {
+        assert!(rt; touched.has(&hash(k)) == (bits % 2 == 1));
+        bits /= 2;
+    }
+    assert!(rt; touched.list().len() == wanted.count_ones() as usize);
+    Ok(())
+}
+
+// Takes the step, and answers the number of the first transaction after it that is in no block.
+fn take_step<A: Abort>(
+    rt: &A,
+    alloc: Global,
+    txn: &mut Txn<'_, VecRows>,
+    step: Step,
+    first: u64,
+) -> Result<u64, Fail>
+    ensures { txn.new.rows.ghost_name ≡ txn.old.rows.ghost_name }
+{
+    match step {
+        Step::Spend(k, index, script) => {
+            take(txn, &outpoint(k, index), script)?;
+        }
+        Step::Tx(k, outs) => {
+            let row = tx_row(k, 7, 81, txn.count(Table::Outs), outs);
+            assert!(rt; add_tx(txn, &row).is_ok());
+        }
+        Step::Out(index, script) => fund(rt, txn, index, script)?,
+        Step::Block(wanted) => {
+            add_block(txn, &block_row(first.min(4_294_967_295), 1, 0))?;
+            check_last(rt, alloc, txn, wanted)?;
+            return Ok(txn.count(Table::Txs));
+        }
+    }
+    Ok(first)
+}
+
+fn build<A: Abort>(rt: &A, alloc: Global) -> Result<(), Fail> {
+    let mut rows = VecRows::new(alloc);
+    let mut txn = Txn::new(alloc, &mut rows);
+    add_heads(&mut txn, 7)?;
+    let mut first = 0;
+    for step in CHAIN {
+        first = take_step(rt, alloc, &mut txn, step, first)?;
+    }
+    Ok(())
+}
+
+// Rows that stand for nothing, of which each touches nothing: the last block's first transaction; the
+// transaction and the script of an entry, where no script is there; how many outputs a transaction has whose
+// link leads to itself.
+const ODD: [(u8, [u8; 2], u8); 4] = [
+    (0, [0, 0], 1),
+    (0, [5, 255], 255),
+    (1, [0, 0], 9),
+    (255, [255, 255], 0),
+];
+
+fn odd_rows<A: Abort>(rt: &A, alloc: Global) -> Result<(), Fail> {
+    for (first, entry, outs) in ODD {
+        let mut rows = VecRows::new(alloc);
+        let mut txn = Txn::new(alloc, &mut rows);
+        // No blocks.
+        check_last(rt, alloc, &mut txn, 0)?;
+        add_heads(&mut txn, 7)?;
+        add_block(&mut txn, &block_row(u64::from(first), 1, 0))?;
+        let mut bytes = [0; 12];
+        bytes[0] = entry[0];
+        bytes[4] = entry[1];
+        txn.append(Table::Entries, &bytes)?;
+        let mut bytes = [0; 68];
+        bytes[51] = outs;
+        bytes[60] = 1;
+        txn.append(Table::Txs, &bytes)?;
+        check_last(rt, alloc, &mut txn, 0)?;
+    }
+    Ok(())
+}
+
+fn failing<A: Abort>(rt: &A, alloc: Global) -> Result<(), Fail> {
+    for left in 0..4 {
+        let mut rows = FailingRows::full(left);
+        let mut txn = Txn::new(alloc, &mut rows);
+        let mut touched = Touched::new(alloc);
+        assert!(rt; touch_last(&mut txn, &mut touched) == Err(QueryFault::DiskFailed));
+    }
+    Ok(())
+}
+
+/// All of them.
+pub fn all<A: Abort>(rt: &A, alloc: Global) -> Result<(), Fail> {
+    build(rt, alloc)?;
+    odd_rows(rt, alloc)?;
+    failing(rt, alloc)
+}
