@@ -26,6 +26,3 @@ pub use masks::{Mask, NO_MASK, mask_of, unmask};
 pub use nobody::{NoDisk, NoFiles, NoLink};
 pub use standard_link::StandardLink;
 pub use tcp_link::TcpLink;
-
-#[cfg(test)]
-mod tests;
