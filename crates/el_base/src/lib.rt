@@ -1,6 +1,6 @@
 //! Hashes (SHA-256 of FIPS 180-4) and the text that they are shown by, CompactSize of Bitcoin's
-//! serialization, a cursor over bytes, what every layer keeps bytes, text and values in, the error of an
-//! allocation, and a counter of rows read.
+//! serialization, a cursor over bytes, what every layer keeps bytes, text and values in, and the error of
+//! an allocation.
 #![tactic(auto)]
 
 mod bytes;
@@ -11,7 +11,6 @@ mod laws;
 mod listed;
 mod memory;
 mod shown;
-mod steps;
 mod text;
 
 pub use bytes::Bytes;
@@ -22,5 +21,4 @@ pub use laws::{compact_is_prefix_free, compact_is_the_encoding};
 pub use listed::Listed;
 pub use memory::OutOfMemory;
 pub use shown::HexFault;
-pub use steps::Steps;
 pub use text::Text;

@@ -1,15 +1,11 @@
 // Hashes, numbers, and what keeps bytes, text and values.
-ghost use Rattle.std.specs.Prelude.{◌≡◌, ◌<◌};
-
 use el_base::{
-    Bytes, CompactFault, Cursor, Hash32, HexFault, Listed, OutOfMemory, Short, Steps, Text,
+    Bytes, CompactFault, Cursor, Hash32, HexFault, Listed, OutOfMemory, Short, Text,
     compact_is_prefix_free, compact_is_the_encoding, compact_len, read_compact, sha256, sha256d,
     write_compact,
 };
 use el_gen::{GENESIS_HASH, HEADER_0};
 use std::alloc::{AllocError, AllocFailed, Global};
-use std::marker::Brand;
-use std::sync::ledger::{Blank, Ledger};
 use std::test::Fail;
 
 const SHOWN_UPPER: &str = "000000000019D6689C085AE165831E934FF763AE46A2A6C172B3F1B60A8CE26F";
@@ -201,19 +197,8 @@ fn keeps_bytes_text_and_values(rt: HostRuntime) -> Result<(), Fail> {
     Ok(())
 }
 
-// Makes a counter and lets it tick once.
-fn ticks_once<L: Ledger>(blank: Blank)
-    requires name { blank.name ≡ L.name }
-    requires parts { blank.parts ≡ L.parts }
-    requires some { 0 < blank.parts }
-{
-    let mut steps = Steps::<L>::new(blank);
-    steps.tick();
-}
-
 #[test]
-fn counts_ticks_and_states_laws() {
-    ticks_once::<Brand>(Blank::new(1));
+fn states_laws() {
     compact_is_prefix_free();
     compact_is_the_encoding();
 }

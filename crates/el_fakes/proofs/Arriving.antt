@@ -3,7 +3,7 @@ use Rattle.std.proofs.Common.{◌≡◌, ℕ, suc, ◌+◌, ◌-◌, ◌<◌, na
 use Rattle.std.proofs.Math.Seq.{drop-cons}
 use Rattle.std.proofs.lemmas.List.{drop-drop, take_min}
 use Rattle.std.proofs.lemmas.Bool.{cases_lt, lt-ltb, le-ltb}
-use Rattle.el_outside.specs.Story.{with_bytes}
+use Rattle.el_outside.specs.Trace.{with_bytes}
 use Rattle.el_fakes.specs.declared.coming.Coming.{Coming}
 use Rattle.el_fakes.specs.declared.coming.Coming.TheVariants as step
 use Rattle.el_fakes.specs.declared.taking.Spot.{Spot}

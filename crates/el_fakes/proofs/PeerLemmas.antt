@@ -7,7 +7,7 @@ use Rattle.std.proofs.lemmas.List.Folds.{list_any-append}
 use Rattle.el_outside.specs.declared.link.Arrival.{Arrival}
 use Rattle.el_outside.specs.declared.link.Arrival.TheVariants as arrival
 use Rattle.el_outside.specs.declared.link.Why.{Why}
-use Rattle.el_outside.specs.Story.{ArrivalWithBytes, opened, closed, quiet, ended, with_bytes, IsNextArrival, Message, Closing, Story, is_open, opens, leaves}
+use Rattle.el_outside.specs.Trace.{ArrivalWithBytes, opened, closed, quiet, ended, with_bytes, IsNextArrival, Message, Closing, Trace, is_open, opens, leaves}
 use Rattle.el_fakes.specs.Greatest.{number, greatest_arrived, greatest_closed, greatest}
 use Rattle.el_fakes.specs.within.Laws.{none_opens, none_leaves, none_closed}
 use Rattle.el_fakes.specs.declared.kept.Closed.{Closed}
@@ -154,11 +154,11 @@ last-arrives xs ms cs last arrival.Quiet buf is = omega (arith, greatest_arrived
 last-arrives xs ms cs last arrival.Ended buf is = omega (arith, greatest_arrived-push xs ended)
 
 -- an open peer's number is not greater than the greatest
-pub open_is_below : (story : Story) (p : ℕ) → is_open story p ≡ true → p ≤ greatest story
-open_is_below story p is =
-    elim (cases_lt (greatest_arrived story.arrivals) p) [
-      | inl above ↦ absurd (let with_bytes : list_any (opens p) story.arrivals ≡ true = (and_parts _ _ is).0 in
-          let none : list_any (opens p) story.arrivals ≡ false = none_opens story.arrivals p above in cc)
+pub open_is_below : (trace : Trace) (p : ℕ) → is_open trace p ≡ true → p ≤ greatest trace
+open_is_below trace p is =
+    elim (cases_lt (greatest_arrived trace.arrivals) p) [
+      | inl above ↦ absurd (let with_bytes : list_any (opens p) trace.arrivals ≡ true = (and_parts _ _ is).0 in
+          let none : list_any (opens p) trace.arrivals ≡ false = none_opens trace.arrivals p above in cc)
       | inr below ↦ omega arith
     ]
 

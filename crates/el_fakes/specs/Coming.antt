@@ -1,6 +1,6 @@
 -- What comes over a link in memory.
 use Rattle.std.specs.Prelude.{ℕ, ◌||◌, nat_le, nat_lt, Bool, false, if◌then◌else◌, List, [], ◌∷◌, length, take, drop}
-use Rattle.el_outside.specs.Story.{ArrivalWithBytes, opened, brought, closed, quiet, ended, Story, was_closed}
+use Rattle.el_outside.specs.Trace.{ArrivalWithBytes, opened, brought, closed, quiet, ended, Trace, was_closed}
 use Rattle.el_outside.specs.declared.link.TheConstants.{BUFFER_SIZE}
 use Rattle.el_fakes.specs.declared.coming.Coming.{Coming}
 use Rattle.el_fakes.specs.declared.coming.Coming.TheVariants as step
@@ -9,14 +9,14 @@ use Rattle.el_fakes.specs.Greatest.{greatest}
 -- A link whose calls never fail: what went over it, the steps that are still to come, and how often `next`
 -- was called.
 pub record SteadyState : Type 0 where
-  pub story : Story
+  pub trace : Trace
   pub coming : List Coming
   pub calls : ℕ
 
 -- A link some of whose calls fail: also the numbers of the calls of `next` and of `send` that fail, how often
 -- `send` was called, and how many calls failed.
 pub record LinkState : Type 0 where
-  pub story : Story
+  pub trace : Trace
   pub coming : List Coming
   pub next_failing : List ℕ
   pub send_failing : List ℕ
@@ -59,6 +59,6 @@ hand_first last is_closed [] = record { arrival = ended; coming = [] }
 hand_first last is_closed (c ∷ cs) =
     if is_unlawful last is_closed c then hand_first last is_closed cs else hand c cs
 
--- what comes next after a story
-abbrev pub next_after : Story → List Coming → Handed
-next_after story coming = hand_first (greatest story) (was_closed story) coming
+-- what comes next after a trace
+abbrev pub next_after : Trace → List Coming → Handed
+next_after trace coming = hand_first (greatest trace) (was_closed trace) coming

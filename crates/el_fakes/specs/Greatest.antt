@@ -1,6 +1,6 @@
--- The greatest number of a peer that a story names.
+-- The greatest number of a peer that a trace names.
 use Rattle.std.specs.Prelude.{ℕ, List, [], ◌∷◌, max}
-use Rattle.el_outside.specs.Story.{ArrivalWithBytes, opened, brought, closed, quiet, ended, Closing, Story}
+use Rattle.el_outside.specs.Trace.{ArrivalWithBytes, opened, brought, closed, quiet, ended, Closing, Trace}
 
 -- the number of a peer that came or left
 abbrev pub number : ArrivalWithBytes → ℕ
@@ -20,6 +20,6 @@ abbrev pub greatest_closed : List Closing → ℕ
 greatest_closed [] = 0
 greatest_closed (c ∷ cs) = max c.peer (greatest_closed cs)
 
--- the greatest number of a peer in the story: 0 where there is none
-abbrev pub greatest : Story → ℕ
-greatest story = max (greatest_arrived story.arrivals) (greatest_closed story.closings)
+-- the greatest number of a peer in the trace: 0 where there is none
+abbrev pub greatest : Trace → ℕ
+greatest trace = max (greatest_arrived trace.arrivals) (greatest_closed trace.closings)

@@ -1,5 +1,5 @@
--- What a link in memory keeps of its story.
-use Rattle.el_outside.specs.Story.{Message, Closing}
+-- What a link in memory keeps of its trace.
+use Rattle.el_outside.specs.Trace.{Message, Closing}
 use Rattle.el_fakes.specs.declared.kept.Sent.{Sent}
 use Rattle.el_fakes.specs.declared.kept.Closed.{Closed}
 

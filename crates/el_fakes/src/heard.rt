@@ -1,6 +1,6 @@
 // The arrivals that a link in memory has handed over. They stand in contracts alone, and have no bound.
 ghost use Rattle.std.specs.Prelude.{◌≡◌, [], ◌∷◌, ◌++◌, length};
-ghost use Rattle.el_outside.specs.Story.{with_bytes};
+ghost use Rattle.el_outside.specs.Trace.{with_bytes};
 ghost use Rattle.el_fakes.specs.within.Heard.{arrivals_of};
 
 use el_outside::{Arrival, BUFFER_SIZE};

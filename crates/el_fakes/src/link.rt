@@ -2,7 +2,7 @@
 ghost use Rattle.std.specs.Prelude.{◌≡◌, ◌==◌, [], ◌∷◌, true, IfOk, OnOk, OnErr, IsErrOf, ◌↔◌, is_err, MatchBool, length, map};
 ghost use Rattle.std.specs.List.{list_any};
 ghost use Rattle.el_outside.specs.Counts.{RoseBy, HasCause, risen};
-ghost use Rattle.el_outside.specs.Story.{GoesOn, IsNextArrival, NamesNoClosed, with_bytes, is_open};
+ghost use Rattle.el_outside.specs.Trace.{GoesOn, IsNextArrival, NamesNoClosed, with_bytes, is_open};
 ghost use Rattle.el_fakes.specs.Coming.{next_after};
 ghost use Rattle.el_fakes.specs.Greatest.{greatest};
 ghost use Rattle.el_fakes.specs.Kept.{message_of, closing_of};
@@ -35,7 +35,7 @@ impl Model for MemLink {
     ghost Value = { LinkState };
 
     ghost view = { λ a. record {
-      story = a.link.story;
+      trace = a.link.trace;
       coming = a.link.coming;
       next_failing = a.next_failing.items;
       send_failing = a.send_failing.items;
@@ -55,7 +55,7 @@ impl MemLink {
         send_failing: Vec<u64>,
     ) -> Result<MemLink, OutOfMemory>
         ensures { IfOk result (λ made. made ≡ record {
-          story = record { arrivals = []; messages = []; closings = [] };
+          trace = record { arrivals = []; messages = []; closings = [] };
           coming = coming.items;
           next_failing = next_failing.items;
           send_failing = send_failing.items;
@@ -77,14 +77,14 @@ impl MemLink {
 
     /// The messages that were sent, in order.
     pub fn sent(&self) -> &[Sent]
-        ensures { map message_of result.now ≡ self.now.story.messages }
+        ensures { map message_of result.now ≡ self.now.trace.messages }
     {
         self.link.sent()
     }
 
     /// The peers that were closed, in order.
     pub fn closed(&self) -> &[Closed]
-        ensures { map closing_of result.now ≡ self.now.story.closings }
+        ensures { map closing_of result.now ≡ self.now.trace.closings }
     {
         self.link.closed()
     }
@@ -127,29 +127,29 @@ impl Link for MemLink {
 
     ghost tells = { Unit {0} };
 
-    ghost story = { λ made. made.story };
+    ghost trace = { λ made. made.trace };
 
-    ghost last = { λ made. greatest made.story };
+    ghost last = { λ made. greatest made.trace };
 
     ghost calls = { λ made. made.calls };
 
     ghost faults = { λ made. made.faults };
 
-    ghost greater_is_new = { λ made p told less. greatest_is_last made.story p less };
+    ghost greater_is_new = { λ made p told less. greatest_is_last made.trace p less };
 
     fn next(&mut self, buf: &mut [u8]) -> Result<Arrival, LinkFailed>
         requires { length buf.old ≡ BUFFER_SIZE }
         ensures lawful { IfOk result (λ arrival.
-            IsNextArrival (greatest self.old.story) arrival (greatest self.new.story)) }
+            IsNextArrival (greatest self.old.trace) arrival (greatest self.new.trace)) }
         ensures took { IfOk result (λ arrival.
-            GoesOn self.old.story self.new.story (with_bytes arrival buf.new ∷ []) [] []) }
-        ensures silent { IfOk result (λ arrival. NamesNoClosed self.old.story (with_bytes arrival buf.new)) }
-        ensures handed { IfOk result (λ arrival. next_after self.old.story self.old.coming
+            GoesOn self.old.trace self.new.trace (with_bytes arrival buf.new ∷ []) [] []) }
+        ensures silent { IfOk result (λ arrival. NamesNoClosed self.old.trace (with_bytes arrival buf.new)) }
+        ensures handed { IfOk result (λ arrival. next_after self.old.trace self.old.coming
             ≡ record { arrival = with_bytes arrival buf.new; coming = self.new.coming }) }
         ensures cause { HasCause self.old.faults self.new.faults result }
         ensures fails { is_err result ≡ list_any (λ n. self.new.calls == n) self.old.next_failing }
         ensures same { self.new ≡ record self.old {
-          story = self.new.story;
+          trace = self.new.trace;
           coming = self.new.coming;
           calls = risen self.old.calls 1;
           faults = self.new.faults;
@@ -168,16 +168,16 @@ impl Link for MemLink {
 
     fn send(&mut self, p: Peer, bytes: &[u8]) -> Result<(), SendFault>
         ensures sent { OnOk result
-            (GoesOn self.old.story self.new.story [] (record { peer = p; text = bytes.now } ∷ []) []) }
-        ensures not_sent { OnErr result (self.new.story ≡ self.old.story) }
-        ensures same_last { greatest self.new.story ≡ greatest self.old.story }
+            (GoesOn self.old.trace self.new.trace [] (record { peer = p; text = bytes.now } ∷ []) []) }
+        ensures not_sent { OnErr result (self.new.trace ≡ self.old.trace) }
+        ensures same_last { greatest self.new.trace ≡ greatest self.old.trace }
         ensures counted { IsErrOf result SendFault.Gone → RoseBy self.old.faults self.new.faults 1 }
         ensures uncounted { OnOk result (self.new.faults ≡ self.old.faults) }
         ensures memory_uncounted { IsErrOf result SendFault.Memory → self.new.faults ≡ self.old.faults }
         ensures fails { IsErrOf result SendFault.Gone
             ↔ (list_any (λ n. self.new.sends == n) self.old.send_failing ≡ true) }
         ensures same { self.new ≡ record self.old {
-          story = self.new.story;
+          trace = self.new.trace;
           sends = risen self.old.sends 1;
           faults = self.new.faults;
         } }
@@ -190,11 +190,11 @@ impl Link for MemLink {
     }
 
     fn close(&mut self, p: Peer, why: Why)
-        ensures closed { MatchBool (is_open self.old.story p)
-            (GoesOn self.old.story self.new.story [] [] (record { peer = p; why = why } ∷ []))
-            (self.new.story ≡ self.old.story) }
-        ensures same_last { greatest self.new.story ≡ greatest self.old.story }
-        ensures same { self.new ≡ record self.old { story = self.new.story } }
+        ensures closed { MatchBool (is_open self.old.trace p)
+            (GoesOn self.old.trace self.new.trace [] [] (record { peer = p; why = why } ∷ []))
+            (self.new.trace ≡ self.old.trace) }
+        ensures same_last { greatest self.new.trace ≡ greatest self.old.trace }
+        ensures same { self.new ≡ record self.old { trace = self.new.trace } }
     {
         self.link.close(p, why);
     }

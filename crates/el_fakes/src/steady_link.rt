@@ -1,7 +1,7 @@
 // A link in memory whose calls never fail.
 ghost use Rattle.std.specs.Prelude.{◌≡◌, [], ◌∷◌, IfOk, IsOk, OnOk, OnErr, IsErrOf, MatchBool, length, map};
 ghost use Rattle.el_outside.specs.Counts.{risen};
-ghost use Rattle.el_outside.specs.Story.{GoesOn, IsNextArrival, NamesNoClosed, with_bytes, is_open};
+ghost use Rattle.el_outside.specs.Trace.{GoesOn, IsNextArrival, NamesNoClosed, with_bytes, is_open};
 ghost use Rattle.el_fakes.specs.Coming.{next_after};
 ghost use Rattle.el_fakes.specs.Greatest.{greatest};
 ghost use Rattle.el_fakes.specs.Kept.{message_of, closing_of};
@@ -50,7 +50,7 @@ impl SteadyLink {
     /// where memory runs out.
     pub fn new(alloc: Global, coming: Vec<Coming>) -> Result<SteadyLink, OutOfMemory>
         ensures { IfOk result (λ link. link ≡ record {
-          story = record { arrivals = []; messages = []; closings = [] };
+          trace = record { arrivals = []; messages = []; closings = [] };
           coming = coming.items;
           calls = 0;
         }) }
@@ -72,14 +72,14 @@ impl SteadyLink {
 
     /// The messages that were sent, in order.
     pub fn sent(&self) -> &[Sent]
-        ensures { map message_of result.now ≡ self.now.story.messages }
+        ensures { map message_of result.now ≡ self.now.trace.messages }
     {
         self.sent.as_slice()
     }
 
     /// The peers that were closed, in order.
     pub fn closed(&self) -> &[Closed]
-        ensures { map closing_of result.now ≡ self.now.story.closings }
+        ensures { map closing_of result.now ≡ self.now.trace.closings }
     {
         self.closed.as_slice()
     }
@@ -90,25 +90,25 @@ impl Link for SteadyLink {
 
     ghost tells = { Unit {0} };
 
-    ghost story = { λ link. link.story };
+    ghost trace = { λ link. link.trace };
 
-    ghost last = { λ link. greatest link.story };
+    ghost last = { λ link. greatest link.trace };
 
     ghost calls = { λ link. link.calls };
 
     ghost faults = { λ link. 0 };
 
-    ghost greater_is_new = { λ link p told less. greatest_is_last link.story p less };
+    ghost greater_is_new = { λ link p told less. greatest_is_last link.trace p less };
 
     fn next(&mut self, buf: &mut [u8]) -> Result<Arrival, LinkFailed>
         requires { length buf.old ≡ BUFFER_SIZE }
         ensures succeeds { IsOk result }
         ensures lawful { IfOk result (λ arrival.
-            IsNextArrival (greatest self.old.story) arrival (greatest self.new.story)) }
+            IsNextArrival (greatest self.old.trace) arrival (greatest self.new.trace)) }
         ensures took { IfOk result (λ arrival.
-            GoesOn self.old.story self.new.story (with_bytes arrival buf.new ∷ []) [] []) }
-        ensures silent { IfOk result (λ arrival. NamesNoClosed self.old.story (with_bytes arrival buf.new)) }
-        ensures handed { IfOk result (λ arrival. next_after self.old.story self.old.coming
+            GoesOn self.old.trace self.new.trace (with_bytes arrival buf.new ∷ []) [] []) }
+        ensures silent { IfOk result (λ arrival. NamesNoClosed self.old.trace (with_bytes arrival buf.new)) }
+        ensures handed { IfOk result (λ arrival. next_after self.old.trace self.old.coming
             ≡ record { arrival = with_bytes arrival buf.new; coming = self.new.coming }) }
         ensures called { self.new.calls ≡ risen self.old.calls 1 }
     {
@@ -128,11 +128,11 @@ impl Link for SteadyLink {
 
     fn send(&mut self, p: Peer, bytes: &[u8]) -> Result<(), SendFault>
         ensures sent { OnOk result
-            (GoesOn self.old.story self.new.story [] (record { peer = p; text = bytes.now } ∷ []) []) }
-        ensures not_sent { OnErr result (self.new.story ≡ self.old.story) }
-        ensures same_last { greatest self.new.story ≡ greatest self.old.story }
+            (GoesOn self.old.trace self.new.trace [] (record { peer = p; text = bytes.now } ∷ []) []) }
+        ensures not_sent { OnErr result (self.new.trace ≡ self.old.trace) }
+        ensures same_last { greatest self.new.trace ≡ greatest self.old.trace }
         ensures never_gone { IsErrOf result SendFault.Gone → ⊥ }
-        ensures same { self.new ≡ record self.old { story = self.new.story } }
+        ensures same { self.new ≡ record self.old { trace = self.new.trace } }
     {
         match keep(self.alloc, &mut self.sent, p, bytes) {
             Ok(()) => Ok(()),
@@ -141,11 +141,11 @@ impl Link for SteadyLink {
     }
 
     fn close(&mut self, p: Peer, why: Why)
-        ensures closed { MatchBool (is_open self.old.story p)
-            (GoesOn self.old.story self.new.story [] [] (record { peer = p; why = why } ∷ []))
-            (self.new.story ≡ self.old.story) }
-        ensures same_last { greatest self.new.story ≡ greatest self.old.story }
-        ensures same { self.new ≡ record self.old { story = self.new.story } }
+        ensures closed { MatchBool (is_open self.old.trace p)
+            (GoesOn self.old.trace self.new.trace [] [] (record { peer = p; why = why } ∷ []))
+            (self.new.trace ≡ self.old.trace) }
+        ensures same_last { greatest self.new.trace ≡ greatest self.old.trace }
+        ensures same { self.new ≡ record self.old { trace = self.new.trace } }
     {
         if is_among(self.peers.as_slice(), p) {
             remove(&mut self.peers, p);

@@ -1,6 +1,6 @@
 // What comes next over a link in memory.
 ghost use Rattle.std.specs.Prelude.{◌≡◌, ◌+◌, ◌-◌, ◌<◌, ◌≤◌, ◌^◌, length, IfSome, is_none};
-ghost use Rattle.el_outside.specs.Story.{with_bytes};
+ghost use Rattle.el_outside.specs.Trace.{with_bytes};
 ghost use Rattle.el_fakes.specs.Coming.{is_unlawful, hand_first};
 ghost use Rattle.el_fakes.specs.within.Peers.{closed_in};
 ghost use Rattle.el_fakes.specs.within.Taking.{MayBeHanded, IsPiece, IsHanded, taken_whole, step_left, steps_from};

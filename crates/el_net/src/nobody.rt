@@ -45,7 +45,7 @@ pub struct NoLink {
 impl Link for NoLink {
     ghost tells = { ⊥ };
 
-    ghost story = { λ link. record { arrivals = []; messages = []; closings = [] } };
+    ghost trace = { λ link. record { arrivals = []; messages = []; closings = [] } };
 
     ghost last = { λ link. 0 };
 

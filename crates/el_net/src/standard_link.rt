@@ -1,7 +1,7 @@
 // Standard input and output as a link with one client.
 ghost use Rattle.std.specs.Prelude.{◌≡◌, ◌≤◌, length, IfOk, []};
 ghost use Rattle.el_outside.specs.Counts.{RoseBy, HasCause};
-ghost use Rattle.el_outside.specs.Story.{IsNextArrival};
+ghost use Rattle.el_outside.specs.Trace.{IsNextArrival};
 ghost use Rattle.el_net.specs.Devices.{IsArrivalOf};
 
 use el_outside::{Arrival, BUFFER_SIZE, Link, LinkFailed, Peer, SendFault, Why};
@@ -115,7 +115,7 @@ impl<R: Input + Print + Drop> StandardLink<R> {
 impl<R: Input + Print + Drop> Link for StandardLink<R> {
     ghost tells = { ⊥ };
 
-    ghost story = { λ link. record { arrivals = []; messages = []; closings = [] } };
+    ghost trace = { λ link. record { arrivals = []; messages = []; closings = [] } };
 
     ghost last = { λ link. link.last };
 

@@ -80,7 +80,7 @@ impl TcpLink {
 impl Link for TcpLink {
     ghost tells = { ⊥ };
 
-    ghost story = { λ link. record { arrivals = []; messages = []; closings = [] } };
+    ghost trace = { λ link. record { arrivals = []; messages = []; closings = [] } };
 
     ghost last = { λ link. link.last };
 

@@ -2,7 +2,7 @@
 use Rattle.std.proofs.Common.{◌≡◌, ◌≢◌, ℕ, List, refl, ap, ◌∙◌, Result, Ok, Err}
 use Rattle.el_outside.specs.Counts.{OnlyReads}
 use Rattle.el_outside.specs.Files.{AllGrow}
-use Rattle.el_outside.proofs.Stories.{all_grow_none, all_grow_more}
+use Rattle.el_outside.proofs.Traces.{all_grow_none, all_grow_more}
 
 -- nothing was called
 pub reads_none : {T E : Type 0} (tells : Type 0) (files : ℕ → List ℕ) (low : ℕ) (failure : E) (x : T) → OnlyReads tells files files low low failure (Ok x)

@@ -1,4 +1,4 @@
-pub mod Stories
+pub mod Traces
 pub mod Devices
 pub mod Calls
 pub mod Moments

@@ -1,7 +1,7 @@
 pub mod Counts
 pub mod Devices
 pub mod Files
-pub mod Story
+pub mod Trace
 pub mod Moments
 pub mod Disk
 pub mod Images

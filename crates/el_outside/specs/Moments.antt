@@ -28,7 +28,7 @@ pub record Passes {D C : Type 0} (moment : D → ℕ) (left_since : D → ℕ �
   pub time : Elapses (moment old) (moment new) (left_since old) (left_since new)
       (LeftNow moment left_since new)
 
--- What a crash since some moment up to old leaves, it might have left by old: since old nothing has come to it.
+-- What a crash since some moment up to old leaves, it might have left by old: since old nothing came to it.
 pub record LeavesNoMore {D C : Type 0} (moment : D → ℕ) (left_since : D → ℕ → C → Type 0)
     (old new : D) : Type 0 where
   pub later : moment old ≤ moment new

@@ -14,5 +14,5 @@ pub use disk_laws::{
     other_bytes_stay, past_the_end_are_any_bytes, reads_are_images, sizes_lie_between,
     syncs_settle, written_ranges_hold_any_bytes,
 };
-pub use laws::{counts_add_up, stories_join};
+pub use laws::{counts_add_up, traces_join};
 pub use link::{Arrival, BUFFER_SIZE, Link, LinkFailed, Peer, SendFault, Why};

@@ -1,7 +1,7 @@
 // The link to clients and to the node.
 ghost use Rattle.std.specs.Prelude.{◌≡◌, ℕ, ◌<◌, ◌≤◌, IsTrue, [], ◌∷◌, length, IfOk, OnOk, OnErr, IsErrOf, MatchBool};
 ghost use Rattle.el_outside.specs.Counts.{RoseBy, HasCause};
-ghost use Rattle.el_outside.specs.Story.{Story, GoesOn, with_bytes, IsNextArrival, is_open, is_new, NamesNoClosed};
+ghost use Rattle.el_outside.specs.Trace.{Trace, GoesOn, with_bytes, IsNextArrival, is_open, is_new, NamesNoClosed};
 
 /// The size of the buffer that `Link::next` fills, in bytes.
 pub const BUFFER_SIZE: usize = 65_536;
@@ -63,7 +63,7 @@ pub trait Link {
     ghost tells: { Type 0 };
 
     /// All that went over the link.
-    ghost story: { Self → Story };
+    ghost trace: { Self → Trace };
 
     /// No peer with a greater number was opened, left or was closed.
     ghost last: { Self → ℕ };
@@ -79,10 +79,10 @@ pub trait Link {
         requires { length buf.old ≡ BUFFER_SIZE }
         ensures lawful { IfOk result (λ arrival. IsNextArrival (last self.old) arrival (last self.new)) }
         ensures took { tells → IfOk result (λ arrival.
-            GoesOn (story self.old) (story self.new) (with_bytes arrival buf.new ∷ []) [] []) }
+            GoesOn (trace self.old) (trace self.new) (with_bytes arrival buf.new ∷ []) [] []) }
         ensures silent { tells → IfOk result (λ arrival.
-            NamesNoClosed (story self.old) (with_bytes arrival buf.new)) }
-        ensures none_taken { tells → OnErr result (story self.new ≡ story self.old) }
+            NamesNoClosed (trace self.old) (with_bytes arrival buf.new)) }
+        ensures none_taken { tells → OnErr result (trace self.new ≡ trace self.old) }
         ensures same_last { OnErr result (last self.new ≡ last self.old) }
         ensures called { RoseBy (calls self.old) (calls self.new) 1 }
         ensures cause { HasCause (faults self.old) (faults self.new) result };
@@ -90,8 +90,8 @@ pub trait Link {
     /// Sends one message to a peer. A fault sends nothing of it.
     fn send(&mut self, p: Peer, bytes: &[u8]) -> Result<(), SendFault>
         ensures sent { tells → OnOk result
-            (GoesOn (story self.old) (story self.new) [] (record { peer = p; text = bytes.now } ∷ []) []) }
-        ensures not_sent { tells → OnErr result (story self.new ≡ story self.old) }
+            (GoesOn (trace self.old) (trace self.new) [] (record { peer = p; text = bytes.now } ∷ []) []) }
+        ensures not_sent { tells → OnErr result (trace self.new ≡ trace self.old) }
         ensures same_last { last self.new ≡ last self.old }
         ensures same_calls { calls self.new ≡ calls self.old }
         // A peer that is gone is a fault, and nothing else is.
@@ -101,13 +101,13 @@ pub trait Link {
 
     /// Closes a peer; for one that isn't open nothing changes. It can't fail.
     fn close(&mut self, p: Peer, why: Why)
-        ensures closed { tells → MatchBool (is_open (story self.old) p)
-            (GoesOn (story self.old) (story self.new) [] [] (record { peer = p; why = why } ∷ []))
-            (story self.new ≡ story self.old) }
+        ensures closed { tells → MatchBool (is_open (trace self.old) p)
+            (GoesOn (trace self.old) (trace self.new) [] [] (record { peer = p; why = why } ∷ []))
+            (trace self.new ≡ trace self.old) }
         ensures same_last { last self.new ≡ last self.old }
         ensures same_calls { calls self.new ≡ calls self.old }
         ensures uncounted { faults self.new ≡ faults self.old };
 
     /// A greater number is new.
-    ghost greater_is_new: { (link : Self) (p : ℕ) → tells → last link < p → IsTrue (is_new (story link) p) };
+    ghost greater_is_new: { (link : Self) (p : ℕ) → tells → last link < p → IsTrue (is_new (trace link) p) };
 }

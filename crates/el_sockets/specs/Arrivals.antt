@@ -2,7 +2,7 @@
 use Rattle.std.specs.Prelude.{ℕ}
 use Rattle.el_outside.specs.declared.link.Arrival.{Arrival}
 use Rattle.el_outside.specs.declared.link.Arrival.TheVariants as arrival
-use Rattle.el_outside.specs.Story.{IsNextArrival}
+use Rattle.el_outside.specs.Trace.{IsNextArrival}
 
 -- the last client's number after an arrival
 abbrev pub last_after : ℕ → Arrival → ℕ

@@ -1,6 +1,6 @@
 -- The arrivals that a link in memory has handed over.
 use Rattle.std.specs.Prelude.{List, [], ◌∷◌, ◌++◌}
-use Rattle.el_outside.specs.Story.{ArrivalWithBytes, with_bytes}
+use Rattle.el_outside.specs.Trace.{ArrivalWithBytes, with_bytes}
 use Rattle.el_fakes.specs.declared.heard.Heard.{Heard, Nothing, After'}
 
 -- the arrivals, in order

@@ -4,7 +4,7 @@ use Rattle.std.specs.List.{list_any}
 use Rattle.std.proofs.Common.{ap, arith, ◌∙◌}
 use Rattle.std.proofs.lemmas.List.{get_or_past, take_all}
 use Rattle.std.proofs.lemmas.Bool.{ne_eqb, or_from, not_from_false, and_from}
-use Rattle.el_outside.specs.Story.{ArrivalWithBytes, opened, brought, closed, quiet, ended, Closing, Story, opens, leaves, is_new}
+use Rattle.el_outside.specs.Trace.{ArrivalWithBytes, opened, brought, closed, quiet, ended, Closing, Trace, opens, leaves, is_new}
 use Rattle.el_fakes.specs.Archives.{ArchiveState, file_bytes, bytes_now}
 use Rattle.el_fakes.specs.Greatest.{number, greatest_arrived, greatest_closed, greatest}
 
@@ -53,8 +53,8 @@ none_closed (c ∷ cs) p above =
     or_from _ _ (ne_eqb p c.peer (λ same. omega arith)) (none_closed cs p (omega arith))
 
 -- a greater number is new
-pub greatest_is_last : (story : Story) (p : ℕ) → greatest story < p → IsTrue (is_new story p)
-greatest_is_last story p above =
-    and_from _ _ (not_from_false _ (none_opens story.arrivals p (omega arith)))
-    (and_from _ _ (not_from_false _ (none_leaves story.arrivals p (omega arith)))
-    (not_from_false _ (none_closed story.closings p (omega arith))))
+pub greatest_is_last : (trace : Trace) (p : ℕ) → greatest trace < p → IsTrue (is_new trace p)
+greatest_is_last trace p above =
+    and_from _ _ (not_from_false _ (none_opens trace.arrivals p (omega arith)))
+    (and_from _ _ (not_from_false _ (none_leaves trace.arrivals p (omega arith)))
+    (not_from_false _ (none_closed trace.closings p (omega arith))))

@@ -3,7 +3,7 @@ use Rattle.std.specs.Prelude.{◌≡◌, ℕ, ◌==◌, Bool, not, List, [], ◌
 use Rattle.std.specs.List.{list_any}
 use Rattle.el_outside.specs.declared.link.Arrival.{Arrival}
 use Rattle.el_outside.specs.declared.link.Arrival.TheVariants as arrival
-use Rattle.el_outside.specs.Story.{Story, is_open}
+use Rattle.el_outside.specs.Trace.{Trace, is_open}
 use Rattle.el_fakes.specs.declared.kept.Closed.{Closed}
 
 -- how many peers an arrival adds
@@ -38,6 +38,6 @@ last_after last arrival.Ended = last
 abbrev pub closed_in : List Closed → ℕ → Bool
 closed_in list p = list_any (λ (c : Closed). p == c.peer) list
 
--- the peers are those that the story says are open
-abbrev pub AreOpenPeers : Story → List ℕ → Type 0
-AreOpenPeers story peers = (p : ℕ) → list_any (λ q. p == q) peers ≡ is_open story p
+-- the peers are those that the trace says are open
+abbrev pub AreOpenPeers : Trace → List ℕ → Type 0
+AreOpenPeers trace peers = (p : ℕ) → list_any (λ q. p == q) peers ≡ is_open trace p

@@ -5,7 +5,7 @@ use Rattle.el_outside.specs.declared.link.Arrival.TheVariants as arrival
 use Rattle.el_outside.specs.declared.link.TheConstants.{BUFFER_SIZE}
 use Rattle.el_fakes.specs.declared.coming.Coming.{Coming}
 use Rattle.el_fakes.specs.declared.coming.Coming.TheVariants as step
-use Rattle.el_outside.specs.Story.{IsNextArrival, with_bytes, names}
+use Rattle.el_outside.specs.Trace.{IsNextArrival, with_bytes, names}
 use Rattle.el_fakes.specs.declared.kept.Closed.{Closed}
 use Rattle.el_fakes.specs.declared.taking.Spot.{Spot}
 use Rattle.el_fakes.specs.declared.taking.Taken.{Taken}

@@ -1,4 +1,4 @@
-use Rattle.el_outside.proofs.Stories.{all_grow_more}
+use Rattle.el_outside.proofs.Traces.{all_grow_more}
 use Rattle.el_net.proofs.block_files.size_of.Goals as goal
 
 pub returns-in-Some-clause-grows : goal.returns-in-Some-clause-grows

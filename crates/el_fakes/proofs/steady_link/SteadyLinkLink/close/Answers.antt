@@ -1,11 +1,11 @@
 use Rattle.std.proofs.Common.{◌≡◌, ◌<◌, ◌==◌, ◌++◌, ◌∷◌, [], length, map, true, sym, ◌∙◌, ap, arith, append-nil}
 use Rattle.std.specs.List.{list_any}
-use Rattle.el_outside.specs.Story.{is_open}
+use Rattle.el_outside.specs.Trace.{is_open}
 use Rattle.el_fakes.specs.Coming.{SteadyState}
 use Rattle.el_fakes.specs.Greatest.{greatest}
 use Rattle.el_fakes.specs.Kept.{message_of, closing_of}
 use Rattle.el_fakes.specs.within.Heard.{arrivals_of}
-use Rattle.el_fakes.specs.within.Links.{story_of}
+use Rattle.el_fakes.specs.within.Links.{trace_of}
 use Rattle.std.proofs.lemmas.List.{map-append}
 use Rattle.el_fakes.proofs.PeerLemmas.{closes, last-closes, shorter-but}
 use Rattle.el_fakes.proofs.steady_link.SteadyLinkLink.close.Goals as goal
@@ -23,14 +23,14 @@ same_greatest : (c : goal.After-put_closed) → greatest (record {
   arrivals = arrivals_of c.self.inside.heard;
   messages = map message_of c.self.inside.sent.items;
   closings = map closing_of c.put_closed.new.closed.items;
-}) ≡ greatest (story_of c.self.inside)
+}) ≡ greatest (trace_of c.self.inside)
 same_greatest c =
     rw (closings_now c) (
     last-closes (arrivals_of c.self.inside.heard) (map message_of c.self.inside.sent.items) (map closing_of c.self.inside.closed.items) c.args.p c.args.why
     (sym (c.self.invariant.peers c.args.p) ∙ among c))
 
-same_story : (c : goal.After-put_closed) → story_of c.self.inside ≡ c.args.self.now.story
-same_story c = ap (λ (s : SteadyState). s.story) c.self.view_is
+same_trace : (c : goal.After-put_closed) → trace_of c.self.inside ≡ c.args.self.now.trace
+same_trace c = ap (λ (s : SteadyState). s.trace) c.self.view_is
 
 pub invariant_of-self : goal.invariant_of-self
 invariant_of-self c = record {
@@ -50,8 +50,8 @@ invariant_of-self c = record {
 
 pub returns-then-is_among-clause-closed : goal.returns-then-is_among-clause-closed
 returns-then-is_among-clause-closed c =
-    let open_is : is_open (story_of c.self.inside) c.args.p ≡ true = sym (c.self.invariant.peers c.args.p) ∙ among c in
-    rw (← same_story c, open_is, closings_now c) (simp append-nil)
+    let open_is : is_open (trace_of c.self.inside) c.args.p ≡ true = sym (c.self.invariant.peers c.args.p) ∙ among c in
+    rw (← same_trace c, open_is, closings_now c) (simp append-nil)
 
 pub returns-then-is_among-clause-same_last : goal.returns-then-is_among-clause-same_last
-returns-then-is_among-clause-same_last c = same_greatest c ∙ ap greatest (same_story c)
+returns-then-is_among-clause-same_last c = same_greatest c ∙ ap greatest (same_trace c)

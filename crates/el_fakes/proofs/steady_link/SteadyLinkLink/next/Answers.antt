@@ -1,17 +1,17 @@
 use Rattle.std.proofs.Common.{◌≡◌, ℕ, ◌+◌, ◌≤◌, length, map, true, sym, ◌∙◌, subst, arith, rules}
-use Rattle.el_outside.specs.Story.{IsNextArrival, was_closed, with_bytes}
+use Rattle.el_outside.specs.Trace.{IsNextArrival, was_closed, with_bytes}
 use Rattle.el_fakes.specs.Coming.{SteadyState, next_after}
 use Rattle.el_fakes.specs.Greatest.{greatest}
 use Rattle.el_fakes.specs.Kept.{message_of, closing_of}
 use Rattle.el_fakes.specs.within.Heard.{arrivals_of}
-use Rattle.el_fakes.specs.within.Links.{story_of}
+use Rattle.el_fakes.specs.within.Links.{trace_of}
 use Rattle.el_fakes.specs.within.Peers.{adds, last_after, closed_in}
 use Rattle.el_fakes.specs.within.Taking.{steps_from}
 use Rattle.el_fakes.proofs.Arriving.{same_next}
 use Rattle.el_fakes.proofs.PeerLemmas.{arrives, last-arrives, length-peers_after, closed_of}
 use Rattle.el_fakes.proofs.steady_link.SteadyLinkLink.next.Goals as goal
 
-lawful : (c : goal.Joined-self-then) → IsNextArrival (greatest (story_of c.self.inside)) c.take-taken.result.arrival (last_after c.self.inside.last c.take-taken.result.arrival)
+lawful : (c : goal.Joined-self-then) → IsNextArrival (greatest (trace_of c.self.inside)) c.take-taken.result.arrival (last_after c.self.inside.last c.take-taken.result.arrival)
 lawful c =
     subst (λ (n : ℕ). IsNextArrival n c.take-taken.result.arrival (last_after c.self.inside.last c.take-taken.result.arrival)) c.self.invariant.last c.take-taken.ensures.taken.lawful
 
@@ -43,19 +43,19 @@ returns-clause-lawful c =
     let after : last_after c.self.inside.last c.take-taken.result.arrival
     ≡ greatest (record { arrivals = arrivals_of c.then.result; messages = map message_of c.self.inside.sent.items; closings = map closing_of c.self.inside.closed.items })
     = sym c.welcome-self-inside.ensures.last ∙ greatest_now c in
-    rw (← c.self.view_is) (subst (λ (n : ℕ). IsNextArrival (greatest (story_of c.self.inside)) c.take-taken.result.arrival n) after (lawful c))
+    rw (← c.self.view_is) (subst (λ (n : ℕ). IsNextArrival (greatest (trace_of c.self.inside)) c.take-taken.result.arrival n) after (lawful c))
 
 pub returns-clause-silent : goal.returns-clause-silent
 returns-clause-silent c p named was =
-    let before : was_closed (story_of c.self.inside) p ≡ true = subst (λ (s : SteadyState). was_closed s.story p ≡ true) (sym c.self.view_is) was in
+    let before : was_closed (trace_of c.self.inside) p ≡ true = subst (λ (s : SteadyState). was_closed s.trace p ≡ true) (sym c.self.view_is) was in
     c.take-taken.ensures.taken.silent p named
     (rw c.as_slice-2.ensures.value (sym (closed_of c.self.inside.closed.items p) ∙ before))
 
 -- what comes next is what is taken
-next_is : (c : goal.Joined-self-then) → next_after (story_of c.self.inside) (steps_from c.self.inside.spot c.self.inside.coming.items)
+next_is : (c : goal.Joined-self-then) → next_after (trace_of c.self.inside) (steps_from c.self.inside.spot c.self.inside.coming.items)
     ≡ record { arrival = with_bytes c.take-taken.result.arrival c.take-taken.new.buf; coming = steps_from c.take-taken.result.spot c.self.inside.coming.items }
 next_is c =
-    rw (← c.self.invariant.last, same_next c.self.inside.last (was_closed (story_of c.self.inside)) (closed_in c.self.inside.closed.items) (closed_of c.self.inside.closed.items))
+    rw (← c.self.invariant.last, same_next c.self.inside.last (was_closed (trace_of c.self.inside)) (closed_in c.self.inside.closed.items) (closed_of c.self.inside.closed.items))
     (rw (c.as_slice.ensures.value, c.as_slice-2.ensures.value) at c.take-taken.ensures.handed)
 
 pub returns-clause-handed : goal.returns-clause-handed

@@ -1,4 +1,4 @@
-use Rattle.el_outside.proofs.Stories.{all_grow_none}
+use Rattle.el_outside.proofs.Traces.{all_grow_none}
 use Rattle.el_net.proofs.archive_folder.ArchiveFolderFolder.open.Goals as goal
 
 pub returns-clause-grows : goal.returns-clause-grows

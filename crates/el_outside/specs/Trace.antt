@@ -43,21 +43,21 @@ pub record Closing : Type 0 where
   pub why : Why
 
 -- all that went over a link, each list in order
-pub record Story : Type 0 where
+pub record Trace : Type 0 where
   pub arrivals : List ArrivalWithBytes
   pub messages : List Message
   pub closings : List Closing
 
--- the story goes on by these
-abbrev pub longer : List ArrivalWithBytes → List Message → List Closing → Story → Story
-longer arrivals messages closings story = record {
-  arrivals = story.arrivals ++ arrivals;
-  messages = story.messages ++ messages;
-  closings = story.closings ++ closings;
+-- the trace goes on by these
+abbrev pub longer : List ArrivalWithBytes → List Message → List Closing → Trace → Trace
+longer arrivals messages closings trace = record {
+  arrivals = trace.arrivals ++ arrivals;
+  messages = trace.messages ++ messages;
+  closings = trace.closings ++ closings;
 }
 
--- one story goes on by these to the other
-abbrev pub GoesOn : Story → Story → List ArrivalWithBytes → List Message → List Closing → Type 0
+-- one trace goes on by these to the other
+abbrev pub GoesOn : Trace → Trace → List ArrivalWithBytes → List Message → List Closing → Type 0
 GoesOn before after arrivals messages closings = after ≡ longer arrivals messages closings before
 
 abbrev pub opens : ℕ → ArrivalWithBytes → Bool
@@ -75,21 +75,21 @@ names p (closed q) = p == q
 names p other = false
 
 -- the peer was closed
-abbrev pub was_closed : Story → ℕ → Bool
-was_closed story p = list_any (λ (c : Closing). p == c.peer) story.closings
+abbrev pub was_closed : Trace → ℕ → Bool
+was_closed trace p = list_any (λ (c : Closing). p == c.peer) trace.closings
 
 -- nobody with that number left or was closed
-abbrev pub is_unused : Story → ℕ → Bool
-is_unused story p = not (list_any (leaves p) story.arrivals) && not (was_closed story p)
+abbrev pub is_unused : Trace → ℕ → Bool
+is_unused trace p = not (list_any (leaves p) trace.arrivals) && not (was_closed trace p)
 
 -- The peer is open: it came, and since then it neither left nor was closed. A number is never used again.
-abbrev pub is_open : Story → ℕ → Bool
-is_open story p = list_any (opens p) story.arrivals && is_unused story p
+abbrev pub is_open : Trace → ℕ → Bool
+is_open trace p = list_any (opens p) trace.arrivals && is_unused trace p
 
 -- nobody with that number came, left or was closed
-abbrev pub is_new : Story → ℕ → Bool
-is_new story p = not (list_any (opens p) story.arrivals) && is_unused story p
+abbrev pub is_new : Trace → ℕ → Bool
+is_new trace p = not (list_any (opens p) trace.arrivals) && is_unused trace p
 
 -- no arrival names a peer that was closed
-abbrev pub NamesNoClosed : Story → ArrivalWithBytes → Type 0
-NamesNoClosed story arrival = (p : ℕ) → IsTrue (names p arrival) → IsTrue (was_closed story p) → ⊥
+abbrev pub NamesNoClosed : Trace → ArrivalWithBytes → Type 0
+NamesNoClosed trace arrival = (p : ℕ) → IsTrue (names p arrival) → IsTrue (was_closed trace p) → ⊥

@@ -1,17 +1,17 @@
--- How stories go on, how counts rise, how files grow.
+-- How traces go on, how counts rise, how files grow.
 use Rattle.std.proofs.Common.{◌≡◌, ℕ, ◌+◌, List, [], ◌∷◌, ◌++◌, refl, ap, sym, ◌∙◌, append_assoc, append-nil, arith, Bool, true, false, not, ◌&&◌, ◌||◌, ◌==◌, eq-eqb, IsTrue}
 use Rattle.std.specs.List.{list_any}
-use Rattle.el_outside.specs.Story.{Story, ArrivalWithBytes, opened, Message, Closing, GoesOn, opens, leaves, is_open, is_unused, is_new, was_closed}
+use Rattle.el_outside.specs.Trace.{Trace, ArrivalWithBytes, opened, Message, Closing, GoesOn, opens, leaves, is_open, is_unused, is_new, was_closed}
 use Rattle.el_outside.specs.declared.link.Why.{Why}
 use Rattle.el_outside.specs.Counts.{RoseBy}
 use Rattle.el_outside.specs.Files.{Grows, AllGrow}
 
--- a story goes on by nothing
-pub goes_none : (s : Story) → GoesOn s s [] [] []
+-- a trace goes on by nothing
+pub goes_none : (s : Trace) → GoesOn s s [] [] []
 goes_none s = simp append-nil
 
--- a story goes on twice
-pub goes_more : (a b c : Story) (xs ys : List ArrivalWithBytes) (ms ns : List Message) (cs ds : List Closing)
+-- a trace goes on twice
+pub goes_more : (a b c : Trace) (xs ys : List ArrivalWithBytes) (ms ns : List Message) (cs ds : List Closing)
     → GoesOn a b xs ms cs → GoesOn b c ys ns ds → GoesOn a c (xs ++ ys) (ms ++ ns) (cs ++ ds)
 goes_more a b c xs ys ms ns cs ds h k = let e = rw h at k in e ∙ simp append_assoc
 
@@ -74,20 +74,20 @@ other_open o l cs p q why is other =
     rw (any_more (λ (c : Closing). p == c.peer) cs (record { peer = q; why = why } ∷ []), other, or_no (list_any (λ (c : Closing). p == c.peer) cs)) is
 
 -- a new peer with an unused number is open
-pub opened_is_open : (s t : Story) (p : ℕ) → IsTrue (is_unused s p) → GoesOn s t (opened p ∷ []) [] [] → IsTrue (is_open t p)
+pub opened_is_open : (s t : Trace) (p : ℕ) → IsTrue (is_unused s p) → GoesOn s t (opened p ∷ []) [] [] → IsTrue (is_open t p)
 opened_is_open s t p unused goes =
     rw goes (simp append-nil (opened_open s.arrivals (was_closed s p) p unused))
 
 -- it stays open while messages are sent
-pub sent_stays_open : (s t : Story) (p : ℕ) (ms : List Message) → IsTrue (is_open s p) → GoesOn s t [] ms [] → IsTrue (is_open t p)
+pub sent_stays_open : (s t : Trace) (p : ℕ) (ms : List Message) → IsTrue (is_open s p) → GoesOn s t [] ms [] → IsTrue (is_open t p)
 sent_stays_open s t p ms is goes = rw goes (simp append-nil is)
 
 -- and where an arrival is not that it left
-pub arrived_stays_open : (s t : Story) (p : ℕ) (a : ArrivalWithBytes) → IsTrue (is_open s p) → leaves p a ≡ false → GoesOn s t (a ∷ []) [] [] → IsTrue (is_open t p)
+pub arrived_stays_open : (s t : Trace) (p : ℕ) (a : ArrivalWithBytes) → IsTrue (is_open s p) → leaves p a ≡ false → GoesOn s t (a ∷ []) [] [] → IsTrue (is_open t p)
 arrived_stays_open s t p a is stays goes = rw goes (simp append-nil (arrived_open s.arrivals (was_closed s p) p a is stays))
 
 -- and where another peer is closed
-pub other_stays_open : (s t : Story) (p q : ℕ) (why : Why) → IsTrue (is_open s p) → p == q ≡ false
+pub other_stays_open : (s t : Trace) (p q : ℕ) (why : Why) → IsTrue (is_open s p) → p == q ≡ false
     → GoesOn s t [] [] (record { peer = q; why = why } ∷ []) → IsTrue (is_open t p)
 other_stays_open s t p q why is other goes =
     rw goes (simp append-nil (other_open (list_any (opens p) s.arrivals) (list_any (leaves p) s.arrivals) s.closings p q why is other))
@@ -101,8 +101,8 @@ no_and true b h = absurd (let k = h in cc)
 no_and false b h = refl
 
 -- a new number is unused, and nobody with it is open
-pub new_unused : (s : Story) (p : ℕ) → IsTrue (is_new s p) → IsTrue (is_unused s p)
+pub new_unused : (s : Trace) (p : ℕ) → IsTrue (is_new s p) → IsTrue (is_unused s p)
 new_unused s p h = (both_true (not (list_any (opens p) s.arrivals)) (is_unused s p) h).1
 
-pub new_not_open : (s : Story) (p : ℕ) → IsTrue (is_new s p) → is_open s p ≡ false
+pub new_not_open : (s : Trace) (p : ℕ) → IsTrue (is_new s p) → is_open s p ≡ false
 new_not_open s p h = no_and (list_any (opens p) s.arrivals) (is_unused s p) (both_true (not (list_any (opens p) s.arrivals)) (is_unused s p) h).0
