@@ -176,7 +176,8 @@ impl PlainChain {
         requires linked { AreLinked (tip (shorter back self.old)) nodes.now }
         ensures ok { IfOk result (λ touched. (fresh : Chain) × (self.new ≡ shorter back self.old ++ fresh)
             × AreNextBlocks (shorter back self.old) nodes.now texts.now fresh
-            × Touch touched (coins (shorter back self.old)) (drop (length self.old - back) self.old ++ fresh)) }
+            × Touch touched (coins (shorter back self.old))
+            (drop (length self.old - back) self.old ++ fresh)) }
         ensures err { OnErr result (self.new ≡ self.old) }
         ensures first_fault { IfErr result (λ e. (e ≡ MoveFault.Memory)
             ⊎ FaultInAt (shorter back self.old) nodes.now texts.now e) }

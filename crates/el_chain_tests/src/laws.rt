@@ -4,7 +4,6 @@ use el_chain::{
     supply_rises_by_coinbases, unknown_has_no_history,
 };
 use el_headers::{found_stays_found, path_is_one, paths_stay_and_go_on};
-use el_model::{moves_are_the_plan, pieces_do_not_matter};
 
 #[test]
 fn states_laws_of_chains() {
@@ -17,9 +16,7 @@ fn states_laws_of_chains() {
 }
 
 #[test]
-fn states_laws_of_runs_and_paths() {
-    pieces_do_not_matter();
-    moves_are_the_plan();
+fn states_laws_of_paths() {
     path_is_one();
     paths_stay_and_go_on();
     found_stays_found();

@@ -5,7 +5,7 @@ ghost use Rattle.el_chain.specs.Chains.{zero_hash, tip};
 ghost use Rattle.el_chain.specs.Headers.{AreLinked};
 ghost use Rattle.el_chain.specs.Moves.{IsPlan, shorter, last_hash};
 ghost use Rattle.el_model.specs.Going.{AreMovesOf};
-ghost use Rattle.el_model.specs.Plain.{IsPlain};
+ghost use Rattle.el_plain.specs.Plain.{IsPlain};
 
 use crate::records::{
     BLOCK_0, BLOCK_1, HALVES, NO_HASH, SCRIPT_1, SCRIPT_100, SCRIPT_101, add, halves, plan_of,
@@ -15,8 +15,9 @@ use el_base::{Bytes, Hash32, Listed};
 use el_block::BlockFault;
 use el_chain::{ConnectFault, MoveFault, Moved, PlainChain, Plan};
 use el_fakes::MemArchive;
-use el_model::{Ledger, Mark, PlainLedger, Stop, go_on};
+use el_model::{Ledger, Mark, Stop, go_on};
 use el_outside::Archive;
+use el_plain::PlainLedger;
 use std::alloc::Global;
 use std::test::Fail;
 

@@ -8,7 +8,8 @@ use crate::moves::{
 use crate::records::{BLOCK_0, BLOCK_1, SCRIPT_1, SCRIPT_100, SCRIPT_101, add};
 use el_base::{Bytes, Hash32};
 use el_chain::MoveFault;
-use el_model::{Ledger, PlainLedger};
+use el_model::Ledger;
+use el_plain::PlainLedger;
 use std::alloc::Global;
 use std::test::Fail;
 

@@ -2,7 +2,7 @@
 use Rattle.std.proofs.Common.{◌≡◌, ℕ, zero, suc, ◌+◌, ◌-◌, ◌<◌, ◌≤◌, List, [], ◌++◌, refl, sym, ap, ◌∙◌, arith, Bool, true, false, ◌==◌, if◌then◌else◌, append_assoc, append-nil}
 use Rattle.std.proofs.lemmas.Bool.{eq-eqb, eqb-true}
 use Rattle.el_outside.specs.Files.{Grows, AllGrow, IsFile}
-use Rattle.el_outside.proofs.Stories.{grows_none, grows_more}
+use Rattle.el_outside.proofs.Traces.{grows_none, grows_more}
 use Rattle.el_chain.specs.Records.{records, records_of_files}
 use Rattle.el_chain.specs.declared.node.Node.{Node}
 use Rattle.el_outside.specs.declared.archive.TheConstants.{MOST_FILES}

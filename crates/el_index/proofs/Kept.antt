@@ -10,7 +10,7 @@ use Rattle.el_rows.specs.Tables.{Tables}
 use Rattle.el_rows.specs.Reads.{OnlyRead, IsEither}
 use Rattle.el_chain.specs.Chains.{Chain}
 use Rattle.el_model.specs.Keeping.{Quiet, Either}
-use Rattle.el_model.specs.Plans.{blocks_in}
+use Rattle.el_model.specs.Queries.{blocks_in}
 use Rattle.el_stands.specs.Standing.{StandFor}
 use Rattle.el_index.specs.Means.{top, IsIndexOf, Means}
 

@@ -75,7 +75,8 @@ fn connect_for<R: Rows>(
     prepared: &Prepared,
 ) -> Result<(), MoveFault>
     requires live { R.is_live t.old.rows.now }
-    requires prepared { (block : shape.Block) × HasBlockEncoding block × (prepared.now ≡ spec.prepared block) }
+    requires prepared { (block : shape.Block) × HasBlockEncoding block
+        × (prepared.now ≡ spec.prepared block) }
     ensures connected { (chain : Chain) (block : shape.Block) → R.tells → StandFor (tables_in t.old) chain
         → HasBlockEncoding block → prepared.now ≡ spec.prepared block → block.header.previous ≡ tip chain
         → OnOk result ((fault chain block ≡ None)

@@ -9,8 +9,7 @@ use Rattle.el_chain.specs.Chains.{Chain, tip, tip_after, zero_hash}
 use Rattle.el_chain.specs.Headers.{AreLinked}
 use Rattle.el_chain.specs.Moves.{FitsChain, shorter}
 use Rattle.el_chain.proofs.Chains.{hash_is}
-use Rattle.el_model.specs.Plans.{blocks_in}
-use Rattle.el_model.specs.Queries.{header_at, height_of}
+use Rattle.el_model.specs.Queries.{blocks_in, header_at, height_of}
 
 pub blocks_are : (chain : Chain) → blocks_in (height_of chain) ≡ length chain
 blocks_are [] = refl

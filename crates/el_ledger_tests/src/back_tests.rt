@@ -7,7 +7,8 @@ use crate::laid::{
 };
 use el_base::Hash32;
 use el_index::Index;
-use el_model::{Ledger, PlainLedger};
+use el_model::Ledger;
+use el_plain::PlainLedger;
 use el_rows::VecRows;
 use el_tx::Outpoint;
 use std::alloc::Global;

@@ -7,7 +7,7 @@ ghost use Rattle.el_chain.specs.Headers.{AreLinked};
 ghost use Rattle.el_chain.specs.Moves.{IsPlan, shorter};
 ghost use Rattle.el_chain.specs.Records.{IsNode};
 ghost use Rattle.el_gen.specs.Generated.{given};
-ghost use Rattle.el_model.specs.Plans.{blocks_in};
+ghost use Rattle.el_model.specs.Queries.{blocks_in};
 ghost use Rattle.el_tx.specs.Encoding.{HasEncoding};
 
 use el_base::{Bytes, Hash32, Listed, sha256};

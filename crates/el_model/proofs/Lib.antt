@@ -1,12 +1,6 @@
-pub mod Cuts
 pub mod RunLemmas
 pub mod Quiets
 pub mod LedgerMoves
 pub mod ReadBodies
-pub mod PlainMoves
-pub mod Mapped
-pub mod Spenders
-pub mod OwnCoins
 pub mod Findings
-pub mod Lightness
-pub mod PlanLaws
+pub mod Heights

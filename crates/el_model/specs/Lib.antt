@@ -1,17 +1,5 @@
-pub mod Lines
-pub mod NodeLines
-pub mod NodeAnswers
 pub mod Queries
-pub mod Plans
 pub mod Keeping
 pub mod LedgerCalls
-pub mod Sessions
-pub mod Side
-pub mod NodeSteps
-pub mod Plain
 pub mod Going
-pub mod Replies
-pub mod World
-pub mod Run
-pub mod Flights
 pub mod within

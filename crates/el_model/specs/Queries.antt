@@ -124,3 +124,8 @@ txs_in_bucket chain buckets id =
 abbrev pub outputs_of_history : Chain → List ℕ → ℕ
 outputs_of_history chain script_hash =
     sum_by (λ (p : Position). length p.tx.outputs) (filter (concerns script_hash) (positions chain))
+
+-- how many blocks a chain has, by the height of its last
+abbrev pub blocks_in : Option ℕ → ℕ
+blocks_in None = 0
+blocks_in (Some top) = top + 1

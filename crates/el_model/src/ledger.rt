@@ -7,11 +7,10 @@ ghost use Rattle.el_chain.specs.Chains.{Chain, zero_hash};
 ghost use Rattle.el_chain.specs.Faults.{IsGood};
 ghost use Rattle.el_chain.specs.History.{history};
 ghost use Rattle.el_model.specs.Queries as asked;
-ghost use Rattle.el_model.specs.Queries.{height_of, tip_of, header_at, place_at, hashes_to, txids_at};
+ghost use Rattle.el_model.specs.Queries.{height_of, tip_of, header_at, place_at, hashes_to, txids_at, blocks_in};
 ghost use Rattle.el_chain.specs.Moves.{target, IsPlan, FitsChain, Moves, IsRefused, InFlight, last_hash};
 ghost use Rattle.el_chain.specs.Touches.{AreTouched};
 ghost use Rattle.el_model.specs.Keeping.{Quiet, Either};
-ghost use Rattle.el_model.specs.Plans.{blocks_in};
 ghost use Rattle.el_chain.specs.declared.moves.MoveFault.TheVariants as stop;
 
 use crate::fault::QueryFault;

@@ -1,6 +1,6 @@
 use Rattle.std.proofs.Common.{◌≡◌, List, ℕ, ◌∙◌, ap, Err}
 use Rattle.std.proofs.lemmas.Result.{err_from_is_err_and}
-use Rattle.el_outside.proofs.Stories.{grows_more}
+use Rattle.el_outside.proofs.Traces.{grows_more}
 use Rattle.el_chain.specs.Records.{block_at, IsOtherBlock}
 use Rattle.el_chain.proofs.RecordBytes.{unchanged, changed_on, block_stays, stands_within, record_block}
 use Rattle.el_chain.proofs.reading.read_block.Goals as goal

@@ -1,6 +1,6 @@
 use Rattle.std.proofs.Common.{◌≡◌, ℕ, List, ◌+◌, ◌-◌, ◌<◌, length, take, drop, arith, ap, sym, ◌∙◌, rules, true, IsTrue, Err, length-drop}
 use Rattle.std.proofs.lemmas.Result.{err_from_is_err_and}
-use Rattle.el_outside.proofs.Stories.{grows_none}
+use Rattle.el_outside.proofs.Traces.{grows_none}
 use Rattle.el_outside.proofs.Calls.{has_more, reads_failed, reads_ok}
 use Rattle.el_files.specs.declared.limits.TheConstants.{HEAD_SIZE, MIN_RECORD_SIZE}
 use Rattle.el_files.proofs.Heading.{read_at}

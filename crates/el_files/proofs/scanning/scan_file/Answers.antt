@@ -1,4 +1,4 @@
-use Rattle.el_outside.proofs.Stories.{grows_none}
+use Rattle.el_outside.proofs.Traces.{grows_none}
 use Rattle.el_files.proofs.Appends.{on_err}
 use Rattle.el_files.proofs.Scans.{front_of_file, no_front}
 use Rattle.el_files.proofs.scanning.scan_file.Goals as goal

@@ -1,5 +1,5 @@
 use Rattle.std.proofs.Common.{◌≡◌, ℕ, ◌+◌, ◌-◌, length, drop, arith, ap, ◌∙◌, rules, true, IsTrue, length-drop}
-use Rattle.el_outside.proofs.Stories.{grows_more}
+use Rattle.el_outside.proofs.Traces.{grows_more}
 use Rattle.el_files.specs.Scanning.{IsFoundIn}
 use Rattle.el_files.proofs.Appends.{only_weaker}
 use Rattle.el_files.proofs.Heading.{read_in}

@@ -1,5 +1,5 @@
 use Rattle.std.proofs.Common.{◌≡◌, ◌≤◌, ◌-◌, length, ◌∙◌, ap, arith}
-use Rattle.el_model.specs.Plans.{blocks_in}
+use Rattle.el_model.specs.Queries.{blocks_in}
 use Rattle.el_ledger_tests.proofs.Named.{blocks_are, some_left}
 use Rattle.el_ledger_tests.proofs.laid.named_after.Goals as goal
 

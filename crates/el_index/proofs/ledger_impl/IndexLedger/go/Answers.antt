@@ -2,7 +2,7 @@ use Rattle.std.proofs.Common.{ℕ, ◌+◌, ◌-◌, length, refl, sym, ap, ◌�
 use Rattle.std.proofs.lemmas.Result.{err_from_is_err_and}
 use Rattle.el_index.proofs.Kept.{lifted, quiet, blocks_in_top}
 use Rattle.el_index.specs.Means.{top}
-use Rattle.el_model.specs.Plans.{blocks_in}
+use Rattle.el_model.specs.Queries.{blocks_in}
 use Rattle.el_index.proofs.Targets.{same_fault, flies, touched_once}
 use Rattle.el_index.proofs.ledger_impl.IndexLedger.go.Goals as goal
 

@@ -1,5 +1,0 @@
-use Rattle.el_model.proofs.Cuts.{pieces}
-use Rattle.el_model.proofs.laws.pieces_do_not_matter.Goals as goal
-
-pub returns : goal.returns
-returns c = pieces

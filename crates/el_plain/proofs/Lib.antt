@@ -1,0 +1,5 @@
+pub mod PlainMoves
+pub mod Mapped
+pub mod Spenders
+pub mod OwnCoins
+pub mod Lightness

@@ -1,0 +1,11 @@
+//! A plain ledger: whole blocks in memory, and each answer by a walk over them.
+#![tactic(auto)]
+
+mod finding;
+mod own_coins;
+mod plain_calls;
+mod plain_ledger;
+mod spending;
+mod txid;
+
+pub use plain_ledger::PlainLedger;
