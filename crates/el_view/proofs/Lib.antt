@@ -1,0 +1,5 @@
+pub mod Untaken
+pub mod Weighing
+pub mod Making
+pub mod Conserved
+pub mod Tallied
