@@ -228,7 +228,8 @@ fn client_name(params: &Params) -> Result<(), Refusal>
 
 // The least and the most version that the client takes.
 fn versions(params: &Params) -> Result<(VersionParts, VersionParts), Refusal>
-    ensures { result ≡ otherwise (served, served) versions_in (given params.now 1 (codes "protocol_version")) }
+    ensures { result ≡ otherwise (served, served) versions_in
+        (given params.now 1 (codes "protocol_version")) }
 {
     match params.given(1, "protocol_version") {
         Some(param) => versions_in(&param).ok_or(Refusal::InvalidParams),

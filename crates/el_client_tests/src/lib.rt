@@ -11,3 +11,9 @@ mod pool;
 mod pool_walks;
 #[cfg(test)]
 mod sessions;
+#[cfg(test)]
+mod tellings;
+#[cfg(test)]
+mod unconfirmed;
+#[cfg(test)]
+mod views;

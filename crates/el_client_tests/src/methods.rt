@@ -1,5 +1,5 @@
-// The methods over Bitcoin's first blocks and a third one. Headers and transactions are Bitcoin's own; hashes,
-// branches and statuses were computed by another program from the rules.
+// The methods over Bitcoin's first blocks and a third one. Headers and transactions are Bitcoin's own;
+// hashes, branches and statuses were computed by another program from the rules.
 ghost use Rattle.std.specs.Prelude.{◌≡◌, IsTrue};
 ghost use Rattle.el_chain.specs.Chains.{tip};
 
@@ -9,16 +9,19 @@ use el_chain::Node;
 use el_fakes::MemArchive;
 use el_gen::{BLOCK_1, GENESIS};
 use el_headers::HeaderTree;
+use el_mempool::PoolLimits;
 use el_methods::{Holdings, Session, Subs};
-use el_model::{Ledger, PlainLedger};
+use el_model::Ledger;
 use el_outside::Place;
+use el_plain::PlainLedger;
+use el_pool::Pool;
 use el_replies::{LineReply, reply_line};
 use el_tx::{block_hash, encode_header};
 use std::alloc::Global;
 use std::test::Fail;
 
-// A block after Bitcoin's second one: a coinbase, a transaction with a witness that takes the coin of the first
-// block, and one that takes that of the second.
+// A block after Bitcoin's second one: a coinbase, a transaction with a witness that takes the coin of the
+// first block, and one that takes that of the second.
 pub const THIRD: &str =
     "010000004860eb18bf1b1620e37e9490fc8a427514416fd75159ab86688e9a83000000000494966ca09ff95d\
          2a35e5cf06e20cabb9b4eaa8938bd1820d39d85f6c5f9421d9af5f49ffff7f20000000000301000000010000\
@@ -31,15 +34,21 @@ pub const THIRD: &str =
 // The four bytes before each record of Bitcoin's main network.
 const MAGIC: [u8; 4] = [0xf9, 0xbe, 0xb4, 0xd9];
 
-// What a client is told: a result, or an error's code and message.
+// How much the unconfirmed set may keep.
+const LIMITS: PoolLimits = PoolLimits {
+    count: 100,
+    bytes: 1_000_000,
+};
+
+/// What a client is told: a result, or an error's code and message.
 #[derive(Clone, Copy)]
-enum Told {
+pub enum Told {
     Gives(&'static str),
     Refuses(i32, &'static str),
 }
 
-// A method, its parameters, and what the client is told.
-type Row = (&'static str, &'static str, Told);
+/// A method, its parameters, and what the client is told.
+pub type Row = (&'static str, &'static str, Told);
 
 // What is answered over no blocks.
 const NO_BLOCKS: [Row; 8] = [
@@ -437,7 +446,11 @@ pub fn world_of(alloc: Global, blocks: &[Bytes], failing: u64) -> Option<World> 
     Some(World {
         ledger,
         archive: MemArchive::new(files, Vec::from_slice(alloc, &[failing]).ok()?),
-        holdings: Holdings { tree },
+        holdings: Holdings {
+            tree,
+            magic: MAGIC,
+            pool: Pool::new(alloc, LIMITS),
+        },
         session: Session {
             version: None,
             headers: false,
@@ -512,8 +525,8 @@ fn message(alloc: Global, told: Told) -> Option<String> {
     }
 }
 
-// Whether the client is told so.
-fn tells(alloc: Global, world: &mut World, row: Row) -> bool {
+/// Whether the client is told so.
+pub fn tells(alloc: Global, world: &mut World, row: Row) -> bool {
     let (method, params, told) = row;
     let Some(line) = request(alloc, 1, method, params) else {
         return false;

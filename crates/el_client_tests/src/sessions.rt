@@ -177,8 +177,8 @@ fn failures_of_block_files(rt: HostRuntime) -> Result<(), Fail> {
     assert!(rt; change_is_told(rt.alloc()));
     Ok(())
 }
-// What a wallet asks at its start over Bitcoin's first two blocks: the id, the method, its parameters, and the
-// message.
+// What a wallet asks at its start over Bitcoin's first two blocks: the id, the method, its parameters, and
+// the message.
 const WALLET: [(u32, &str, &str, &str); 9] = [
     (
         0,
@@ -302,8 +302,8 @@ fn a_wallet_starts(rt: HostRuntime) -> Result<(), Fail> {
     Ok(())
 }
 
-// A client with as many subscriptions as there may be: to the script hashes whose first four bytes are a number
-// below that, the lowest first.
+// A client with as many subscriptions as there may be: to the script hashes whose first four bytes are a
+// number below that, the lowest first.
 fn subscribe_all(world: &mut World) -> bool {
     let mut done = true;
     for n in 0..SUBSCRIPTION_LIMIT as u32 {
@@ -403,8 +403,8 @@ fn message_size(alloc: Global, count: u32, end: &[u8]) -> Option<usize> {
     }
 }
 
-// 154 replies of 322,628 bytes have 49,684,712 bytes, and 155 have 50,007,340: so 45 of 200 requests are refused
-// with 71 bytes each.
+// 154 replies of 322,628 bytes have 49,684,712 bytes, and 155 have 50,007,340: so 45 of 200 requests are
+// refused with 71 bytes each.
 #[test]
 fn a_batch_that_grows_too_large(rt: HostRuntime) -> Result<(), Fail> {
     let size = 155 * 322_628 + 45 * 71 + 199 + 3;

@@ -7,8 +7,8 @@ use el_base::Text;
 /// A request (JSON-RPC 2.0, section 4). Its version of JSON-RPC is not looked at.
 #[derive(Drop)]
 pub struct Request {
-    /// Null, a text or a whole number of 64 bits. None in a notification (JSON-RPC 2.0, section 4.1), which takes
-    /// effect and gets no reply.
+    /// Null, a text or a whole number of 64 bits. None in a notification (JSON-RPC 2.0, section 4.1), which
+    /// takes effect and gets no reply.
     pub id: Option<Answer>,
     pub method: Text,
     pub params: Params,

@@ -82,18 +82,16 @@ split chain (Some p) inside e = absurd (has_place chain p.height (inside p refl)
 pub not_found : (chain : Chain) (id : Hash32) → find_tx chain id ≡ None → newest id (positions chain) ≡ None
 not_found chain id e = split chain (newest id (positions chain)) (λ p f. let h : p.height < 0 + length chain = of_chain id 0 chain [] p f in omega arith) e
 
-pub no_transaction : (chain : Chain) (id : Hash32) (verbose : Bool) → verbose ≡ false → find_tx chain id ≡ None
-    → transaction_get chain id verbose ≡ Err refusal.NoSuchTransaction
-no_transaction chain id true plain e = absurd (cc)
-no_transaction chain id false plain e = rw (not_found chain id e) refl
+pub no_transaction : (chain : Chain) (id : Hash32) → find_tx chain id ≡ None
+    → transaction_get chain [] id false ≡ Err refusal.NoSuchTransaction
+no_transaction chain id e = rw (not_found chain id e) refl
 
--- what is answered where no transaction was found
-pub stopped : (chain : Chain) (id : Hash32) (verbose : Bool) (e : Stop) → verbose ≡ false
+-- what is answered where no transaction of the chain was found
+pub stopped : (chain : Chain) (id : Hash32) (e : Stop)
     → ((r : Refusal) → e ≡ stop.Refused r → (r ≡ refusal.NoSuchTransaction) × (find_tx chain id ≡ None))
-    → IsAnswer (transaction_get chain id verbose) (Err e)
-stopped chain id verbose (stop.Refused r) plain told =
-    no_transaction chain id verbose plain (told r refl).1 ∙ ap Err (sym (told r refl).0)
-stopped chain id verbose stop.Disk plain told = tt
-stopped chain id verbose stop.Archive plain told = tt
-stopped chain id verbose stop.Changed plain told = tt
-stopped chain id verbose stop.Memory plain told = tt
+    → IsAnswer (transaction_get chain [] id false) (Err e)
+stopped chain id (stop.Refused r) told = no_transaction chain id (told r refl).1 ∙ ap Err (sym (told r refl).0)
+stopped chain id stop.Disk told = tt
+stopped chain id stop.Archive told = tt
+stopped chain id stop.Changed told = tt
+stopped chain id stop.Memory told = tt

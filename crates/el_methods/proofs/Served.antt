@@ -1,8 +1,7 @@
 -- Block files that have the records of a chain keep them as they grow, and have those of each chain that a
 -- move leads to.
-use Rattle.std.proofs.Common.{◌≡◌, ◌∙◌, sym, ap, subst, ℕ, zero, suc, ◌-◌, List, [], ◌∷◌, ◌++◌, length, take, refl}
+use Rattle.std.proofs.Common.{◌≡◌, ◌∙◌, sym, ap, subst, ℕ, zero, suc, ◌-◌, List, [], ◌∷◌, length, take, refl}
 use Rattle.std.specs.Prelude.{map}
-use Rattle.std.specs.List.{AllByRecursion}
 use Rattle.el_base.proofs.Lists.{all_append, all_weaker}
 use Rattle.el_outside.specs.Files.{AllGrow}
 use Rattle.el_outside.specs.declared.archive.Place.{Place}

@@ -1,14 +1,15 @@
--- What each call is answered (Electrum Protocol 1.4): the table of methods. No unconfirmed transaction is
--- kept yet, so there is none in a list, in a balance or in a status.
-use Rattle.std.specs.Prelude.{negsuc, Bool, true, false, if◌then◌else◌, List, [], Option, None, Some, Result, Ok, Err, codes}
+-- What each call is answered (Electrum Protocol 1.4): the table of methods.
+use Rattle.std.specs.Prelude.{◌≡◌, negsuc, Bool, true, false, if◌then◌else◌, List, [], Option, None, Some, Result, Ok, Err, codes}
 use Rattle.serde_json.specs.Data.{Data, null, boolean, number, string, array, no_items, item}
 use Rattle.serde_json.specs.Find.{of_integer}
 use Rattle.el_chain.specs.Chains.{Chain}
-use Rattle.el_chain.specs.History.{history}
+use Rattle.el_tx.specs.declared.types.Tx.{Tx}
 use Rattle.el_chain.specs.declared.node.Node.{Node}
-use Rattle.el_model.specs.Queries.{balance, unspent}
+use Rattle.el_view.specs.Views.{balance}
 use Rattle.el_methods.specs.Results as result
-use Rattle.el_methods.specs.Results.{whole, listed, entry_value, coin_value, balance_value}
+use Rattle.el_methods.specs.Results.{whole, balance_value}
+use Rattle.el_methods.specs.Outcomes.{IsReplyWith}
+use Rattle.el_methods.specs.declared.stop.Stop.{Stop}
 use Rattle.el_calls.specs.Versions.{is_shared}
 use Rattle.el_methods.specs.Sessions.{Subscription}
 use Rattle.el_methods.specs.declared.session.Version.{Version}
@@ -47,42 +48,53 @@ agreed s None least most =
     )
     else Err refusal.VersionNotShared
 
--- What each call is answered over a chain and the headers that were found, and what is kept of the client
--- afterwards.
-abbrev pub replied : Chain → List Node → Session → Call → Result (Data × Session) Refusal
-replied chain found s (call.ServerVersion least most) = agreed s s.version least most
-replied chain found s call.ServerBanner =
+-- What each call is answered over a chain, the unconfirmed transactions that are kept and the headers that
+-- were found, and what is kept of the client afterwards.
+abbrev pub replied : Chain → List Tx → List Node → Session → Call → Result (Data × Session) Refusal
+replied chain kept found s (call.ServerVersion least most) = agreed s s.version least most
+replied chain kept found s call.ServerBanner =
     Ok (string (codes "Electrum Protocol 1.4 server over block files"), s)
-replied chain found s call.ServerDonationAddress = Ok (string [], s)
-replied chain found s call.ServerFeatures = with_session s (result.features found)
-replied chain found s call.ServerPing = Ok (null, s)
-replied chain found s call.ServerPeersSubscribe = Ok (array no_items, s)
-replied chain found s call.ServerAddPeer = Ok (boolean false, s)
-replied chain found s (call.BlockHeader height cp_height) =
+replied chain kept found s call.ServerDonationAddress = Ok (string [], s)
+replied chain kept found s call.ServerFeatures = with_session s (result.features found)
+replied chain kept found s call.ServerPing = Ok (null, s)
+replied chain kept found s call.ServerPeersSubscribe = Ok (array no_items, s)
+replied chain kept found s call.ServerAddPeer = Ok (boolean false, s)
+replied chain kept found s (call.BlockHeader height cp_height) =
     with_session s (result.block_header chain height cp_height)
-replied chain found s (call.BlockHeaders start count cp_height) =
+replied chain kept found s (call.BlockHeaders start count cp_height) =
     with_session s (result.block_headers chain start count cp_height)
-replied chain found s call.EstimateFee = Ok (number (of_integer (negsuc 0)), s)
-replied chain found s call.RelayFee = Ok (whole 0, s)
-replied chain found s call.HeadersSubscribe =
+replied chain kept found s call.EstimateFee = Ok (number (of_integer (negsuc 0)), s)
+replied chain kept found s call.RelayFee = Ok (whole 0, s)
+replied chain kept found s call.HeadersSubscribe =
     with_headers s (result.told_tip (result.headers_subscribe chain))
-replied chain found s (call.GetBalance script_hash) = Ok (balance_value (balance chain script_hash.0), s)
-replied chain found s (call.GetHistory script_hash) =
-    with_session s (listed entry_value (history chain script_hash.0))
-replied chain found s (call.GetMempool script_hash) = Ok (array no_items, s)
-replied chain found s (call.ListUnspent script_hash) =
-    with_session s (listed coin_value (unspent chain script_hash.0))
-replied chain found s (call.ScriptHashSubscribe script_hash) =
-    with_subscriptions s (result.script_hash_subscribe chain s.subs script_hash)
-replied chain found s call.Broadcast = Err refusal.NoRelay
-replied chain found s (call.TransactionGet id verbose) =
-    with_session s (result.transaction_get chain id verbose)
-replied chain found s (call.GetMerkle id height) = with_session s (result.get_merkle chain id height)
-replied chain found s (call.IdFromPos height pos merkle) =
+replied chain kept found s (call.GetBalance script_hash) =
+    Ok (balance_value (balance chain kept script_hash.0), s)
+replied chain kept found s (call.GetHistory script_hash) =
+    with_session s (result.get_history chain kept script_hash.0)
+replied chain kept found s (call.GetMempool script_hash) =
+    with_session s (result.get_mempool chain kept script_hash.0)
+replied chain kept found s (call.ListUnspent script_hash) =
+    with_session s (result.list_unspent chain kept script_hash.0)
+replied chain kept found s (call.ScriptHashSubscribe script_hash) =
+    with_subscriptions s (result.script_hash_subscribe chain kept s.subs script_hash)
+replied chain kept found s call.Broadcast = Err refusal.NoRelay
+replied chain kept found s (call.TransactionGet id verbose) =
+    with_session s (result.transaction_get chain kept id verbose)
+replied chain kept found s (call.GetMerkle id height) = with_session s (result.get_merkle chain id height)
+replied chain kept found s (call.IdFromPos height pos merkle) =
     with_session s (result.id_from_pos chain height pos merkle)
-replied chain found s call.FeeHistogram = Ok (array no_items, s)
+replied chain kept found s call.FeeHistogram = Ok (array no_items, s)
 
 -- the answer is read from the block files too
-abbrev pub reads_files : Call → Bool
-reads_files (call.TransactionGet id verbose) = true
-reads_files c = false
+abbrev pub reads_files : List Tx → Call → Bool
+reads_files kept (call.TransactionGet id verbose) = result.is_in_files kept id verbose
+reads_files kept c = false
+
+-- A call is given this. It is as defined, unless it is read from the block files and they may not have the
+-- chain's transactions; `has` is that they have them. Where it is read from them, what is kept of the client
+-- stays as it was in any case.
+pub record IsGiven (has : Type 0) (chain : Chain) (kept : List Tx) (found : List Node) (c : Call)
+    (s t : Session) (given : Result Data Stop) : Type 0 where
+  pub of_index : reads_files kept c ≡ false → IsReplyWith (replied chain kept found s c) s t given
+  pub of_files : has → IsReplyWith (replied chain kept found s c) s t given
+  pub still : reads_files kept c ≡ true → t ≡ s

@@ -1,11 +1,12 @@
--- The result of each call, or why it is refused (Electrum Protocol 1.4), read off the whole chain.
-use Rattle.std.specs.Prelude.{ℕ, ◌+◌, ◌-◌, ◌==◌, min, nat_lt, nat_le, ◌||◌, ◌&&◌, not, Bool, true, false, if◌then◌else◌, List, [], ◌∷◌, ◌++◌, length, take, drop, map, flat_map, slice_get, Option, None, Some, option_map, ok_or, Result, Ok, Err, codes}
-use Rattle.std.specs.Fmt.{decimal}
+-- The result of each call, or why it is refused (Electrum Protocol 1.4), read off the whole chain and the
+-- unconfirmed transactions that are kept.
+use Rattle.std.specs.Prelude.{ℕ, ℤ, ◌+◌, ◌-◌, ◌==◌, min, nat_lt, nat_le, ◌||◌, ◌&&◌, not, Bool, true, false, if◌then◌else◌, List, [], ◌∷◌, ◌++◌, length, take, drop, map, flat_map, slice_get, Option, None, Some, option_map, ok_or, Result, Ok, Err, codes}
 use Rattle.std.specs.List.{position}
+use Rattle.std.specs.Option.{option_or, is_some}
 use Rattle.std.specs.Str.{bytes_eq}
 use Rattle.hex.specs.Hex.{encode_lower}
-use Rattle.sha2.specs.Sha256.{sha256}
 use Rattle.serde_json.specs.Data.{Data, null, number, string, array, object, unsigned, Members, no_members, put}
+use Rattle.serde_json.specs.Find.{of_integer}
 use Rattle.serde_json.specs.View.{items_of}
 use Rattle.el_base.specs.declared.hash.Hash32.{Hash32}
 use Rattle.el_base.specs.Shown.{shown}
@@ -20,8 +21,14 @@ use Rattle.el_chain.specs.declared.coin.Coin.{Coin}
 use Rattle.el_chain.specs.declared.entry.Entry.{Entry}
 use Rattle.el_chain.specs.declared.node.Node.{Node}
 use Rattle.el_chain.specs.declared.placed.Placed.{Placed}
+use Rattle.el_mempool.specs.declared.entry.PoolEntry.{PoolEntry}
+use Rattle.el_mempool.specs.Refusals.{kept_with}
+use Rattle.el_mempool.specs.Unconfirmed.{pool_history}
+use Rattle.el_status.specs.Statuses.{status}
+use Rattle.el_view.specs.Views.{unspent}
+use Rattle.el_view.specs.declared.views.Balance.{Balance}
 use Rattle.el_model.specs.Queries.{header_at, height_of, hashes_to, newest, txids_at}
-use Rattle.el_model.specs.declared.limits.TheConstants.{ENTRY_LIMIT}
+use Rattle.el_methods.specs.declared.limits.TheConstants.{ENTRY_LIMIT}
 use Rattle.el_calls.specs.Methods.{◌>>=◌}
 use Rattle.el_methods.specs.Sessions.{Subscription, is_subscribed, subscribed}
 use Rattle.el_methods.specs.declared.blocks.TheConstants.{HEADER_LIMIT}
@@ -41,6 +48,9 @@ shown_hash h = string (shown h.0)
 
 abbrev pub whole : ℕ → Data
 whole n = number (unsigned n)
+
+abbrev pub signed : ℤ → Data
+signed n = number (of_integer n)
 
 abbrev pub put_all : Members → List (List ℕ × Data) → Members
 put_all ms [] = ms
@@ -106,7 +116,8 @@ headers_value n bytes =
 abbrev pub headers_among : List Hash32 → ℕ → ℕ → List ℕ → Data
 headers_among list last n bytes =
     object_of ((codes "branch", hashes (branch_of list last)) ∷ (codes "count", whole n)
-    ∷ (codes "hex", hex bytes) ∷ (codes "max", whole HEADER_LIMIT) ∷ (codes "root", shown_hash (root list)) ∷ [])
+    ∷ (codes "hex", hex bytes) ∷ (codes "max", whole HEADER_LIMIT)
+    ∷ (codes "root", shown_hash (root list)) ∷ [])
 
 -- the checkpoint is above the tip, or below the last of some headers
 abbrev pub is_bad_for_headers : Chain → ℕ → ℕ → ℕ → Bool
@@ -147,14 +158,22 @@ told_tip (Err r) = Err r
 -- 5. blockchain.transaction.get
 
 -- the newest of the chain
-abbrev pub transaction_of : Chain → Hash32 → Option Tx
-transaction_of chain id = option_map (λ (p : Position). p.tx) (newest id (positions chain))
+abbrev pub confirmed_of : Chain → Hash32 → Option Tx
+confirmed_of chain id = option_map (λ (p : Position). p.tx) (newest id (positions chain))
 
-abbrev pub transaction_get : Chain → Hash32 → Bool → Result Data Refusal
-transaction_get chain id true = Err refusal.VerboseNotServed
-transaction_get chain id false = do
-  t ← ok_or (transaction_of chain id) refusal.NoSuchTransaction
+-- a kept one, or else the newest of the chain
+abbrev pub transaction_of : Chain → List Tx → Hash32 → Option Tx
+transaction_of chain kept id = option_or (kept_with id kept) (confirmed_of chain id)
+
+abbrev pub transaction_get : Chain → List Tx → Hash32 → Bool → Result Data Refusal
+transaction_get chain kept id true = Err refusal.VerboseNotServed
+transaction_get chain kept id false = do
+  t ← ok_or (transaction_of chain kept id) refusal.NoSuchTransaction
   Ok (hex (full_encoding t))
+
+-- the answer is read from the block files: neither is it refused before, nor is the transaction kept
+abbrev pub is_in_files : List Tx → Hash32 → Bool → Bool
+is_in_files kept id verbose = not (verbose || is_some (kept_with id kept))
 
 -- 6. blockchain.transaction.get_merkle and blockchain.transaction.id_from_pos
 
@@ -187,40 +206,46 @@ id_from_pos chain height pos merkle = do
 
 -- 7. blockchain.scripthash.get_balance, get_history, get_mempool and listunspent
 
--- the values as a list, which may not be too long
-abbrev pub listed : {A : Type 0} → (A → Data) → List A → Result Data Refusal
-listed value xs =
-    if nat_lt ENTRY_LIMIT (length xs) then Err refusal.HistoryTooLarge
-    else Ok (array (items_of (map value xs)))
+-- a list of these values, which may not be too long
+abbrev pub listed : List Data → Result Data Refusal
+listed values =
+    if nat_lt ENTRY_LIMIT (length values) then Err refusal.HistoryTooLarge else Ok (array (items_of values))
 
-abbrev pub balance_value : ℕ → Data
-balance_value sum = object_of ((codes "confirmed", whole sum) ∷ (codes "unconfirmed", whole 0) ∷ [])
+-- the sum of the confirmed coins, and by how much the unconfirmed transactions change it
+abbrev pub balance_value : Balance → Data
+balance_value sums =
+    object_of ((codes "confirmed", whole sums.confirmed)
+    ∷ (codes "unconfirmed", signed sums.unconfirmed) ∷ [])
 
 abbrev pub entry_value : Entry → Data
 entry_value e = object_of ((codes "height", whole e.height) ∷ (codes "tx_hash", shown_hash e.txid) ∷ [])
+
+-- an unconfirmed one: its flag stands as its height
+abbrev pub pool_value : PoolEntry → Data
+pool_value e =
+    object_of ((codes "fee", whole e.fee) ∷ (codes "height", signed e.flag)
+    ∷ (codes "tx_hash", shown_hash e.txid) ∷ [])
 
 abbrev pub coin_value : Coin → Data
 coin_value c =
     object_of ((codes "height", whole c.height) ∷ (codes "tx_hash", shown_hash c.outpoint.txid)
     ∷ (codes "tx_pos", whole c.outpoint.index) ∷ (codes "value", whole c.value) ∷ [])
 
+-- these confirmed ones in order, and then these unconfirmed ones
+abbrev pub both_values : List Entry → List PoolEntry → List Data
+both_values confirmed unconfirmed = map entry_value confirmed ++ map pool_value unconfirmed
+
+abbrev pub get_history : Chain → List Tx → List ℕ → Result Data Refusal
+get_history chain kept script_hash =
+    listed (both_values (history chain script_hash) (pool_history chain kept script_hash))
+
+abbrev pub get_mempool : Chain → List Tx → List ℕ → Result Data Refusal
+get_mempool chain kept script_hash = listed (map pool_value (pool_history chain kept script_hash))
+
+abbrev pub list_unspent : Chain → List Tx → List ℕ → Result Data Refusal
+list_unspent chain kept script_hash = listed (map coin_value (unspent chain kept script_hash))
+
 -- 8. blockchain.scripthash.subscribe
-
--- what an entry adds to the text of a status (58 is ':')
-abbrev pub status_entry : Entry → List ℕ
-status_entry e = shown e.txid.0 ++ 58 ∷ (decimal e.height ++ 58 ∷ [])
-
--- the text of a status
-abbrev pub status_text : Chain → List ℕ → List ℕ
-status_text chain script_hash = flat_map status_entry (history chain script_hash)
-
-abbrev pub status_of_text : List ℕ → Option Hash32
-status_of_text [] = None
-status_of_text (b ∷ bs) = Some (record { 0 = sha256 (b ∷ bs) })
-
--- the status of a script hash: the hash of its text, or none where it has no history
-abbrev pub status : Chain → List ℕ → Option Hash32
-status chain script_hash = status_of_text (status_text chain script_hash)
 
 -- as it is told: by 64 hex digits, the first byte first
 abbrev pub told : Option Hash32 → Data
@@ -233,10 +258,10 @@ is_one_too_many subs s = nat_le SUBSCRIPTION_LIMIT (length subs) && not (is_subs
 
 -- the answer, and the subscriptions after it
 abbrev pub script_hash_subscribe :
-    Chain → List Subscription → Hash32 → Result (Data × List Subscription) Refusal
-script_hash_subscribe chain subs s =
+    Chain → List Tx → List Subscription → Hash32 → Result (Data × List Subscription) Refusal
+script_hash_subscribe chain kept subs s =
     if is_one_too_many subs s then Err refusal.TooManySubscriptions
-    else Ok (told (status chain s.0), subscribed s (status chain s.0) subs)
+    else Ok (told (status chain kept s.0), subscribed s (status chain kept s.0) subs)
 
 -- 9. server.features
 

@@ -1,9 +1,9 @@
 -- How many rows of the index a call reads at most.
-use Rattle.std.specs.Prelude.{ℕ, ◌+◌, ◌*◌, ◌==◌, if◌then◌else◌, List, length, Option, None, Some}
+use Rattle.std.specs.Prelude.{ℕ, ◌+◌, ◌==◌, if◌then◌else◌, List, length, Option, None, Some}
 use Rattle.el_base.specs.declared.hash.Hash32.{Hash32}
 use Rattle.el_chain.specs.Chains.{Chain}
-use Rattle.el_chain.specs.History.{history}
-use Rattle.el_model.specs.Queries.{scripts_in_bucket, txs_in_bucket, outputs_of_history, txids_at}
+use Rattle.el_model.specs.Queries.{txs_in_bucket, txids_at}
+use Rattle.el_view.specs.Rows.{script_rows, history_rows, unspent_rows}
 use Rattle.el_methods.specs.Results.{header_count}
 use Rattle.el_calls.specs.declared.call.Call.{Call}
 use Rattle.el_calls.specs.declared.call.Call.TheVariants as call
@@ -11,14 +11,6 @@ use Rattle.el_calls.specs.declared.call.Call.TheVariants as call
 -- a proof among the block hashes of heights 0 to the checkpoint, and none where the checkpoint is 0
 abbrev pub proof_rows : ℕ → ℕ
 proof_rows cp_height = if cp_height == 0 then 0 else cp_height + 1
-
--- a script hash, and a history
-abbrev pub script_rows : Chain → ℕ → List ℕ → ℕ
-script_rows chain buckets script_hash = 1 + scripts_in_bucket chain buckets script_hash
-
-abbrev pub history_rows : Chain → ℕ → List ℕ → ℕ
-history_rows chain buckets script_hash =
-    script_rows chain buckets script_hash + 2 * length (history chain script_hash)
 
 -- the txids of a block
 abbrev pub ids_rows : Option (List Hash32) → ℕ
@@ -34,8 +26,7 @@ rows_of chain buckets call.HeadersSubscribe = 1
 rows_of chain buckets (call.GetBalance script_hash) = script_rows chain buckets script_hash.0
 rows_of chain buckets (call.GetHistory script_hash) = history_rows chain buckets script_hash.0
 rows_of chain buckets (call.ScriptHashSubscribe script_hash) = history_rows chain buckets script_hash.0
-rows_of chain buckets (call.ListUnspent script_hash) =
-    history_rows chain buckets script_hash.0 + outputs_of_history chain script_hash.0
+rows_of chain buckets (call.ListUnspent script_hash) = unspent_rows chain buckets script_hash.0
 rows_of chain buckets (call.TransactionGet id verbose) = 2 + txs_in_bucket chain buckets id.0
 rows_of chain buckets (call.GetMerkle id height) = ids_rows (txids_at chain height)
 rows_of chain buckets (call.IdFromPos height pos merkle) = ids_rows (txids_at chain height)

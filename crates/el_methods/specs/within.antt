@@ -1,2 +1,3 @@
 pub mod Stops
 pub mod Tops
+pub mod Lengths

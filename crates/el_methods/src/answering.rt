@@ -1,8 +1,10 @@
 // The answer to a call.
-ghost use Rattle.std.specs.Prelude.{◌≡◌, ◌≤◌, ◌+◌, IfOk, false, codes};
+ghost use Rattle.std.specs.Prelude.{◌≡◌, ◌≤◌, ◌+◌, List, IfOk, true, false, codes};
 ghost use Rattle.el_outside.specs.Counts.{RoseBy};
 ghost use Rattle.el_outside.specs.Files.{AllGrow};
+ghost use Rattle.el_tx.specs.declared.types.Tx as shape;
 ghost use Rattle.el_chain.specs.Chains.{Chain};
+ghost use Rattle.el_mempool.specs.Standing.{StandsFor};
 ghost use Rattle.el_model.specs.Keeping.{Quiet};
 ghost use Rattle.el_methods.specs.Archives.{HasTransactions};
 ghost use Rattle.el_methods.specs.RowBounds.{rows_of};
@@ -15,7 +17,7 @@ use crate::features::features;
 use crate::headers::block_header;
 use crate::holdings::Holdings;
 use crate::in_block::{get_merkle, id_from_pos};
-use crate::lists::{get_balance, get_history, list_unspent};
+use crate::lists::{get_balance, get_history, get_mempool, list_unspent};
 use crate::session::{Session, Version};
 use crate::statuses::script_hash_subscribe;
 use crate::stop::Stop;
@@ -70,7 +72,8 @@ fn no_list(alloc: Global) -> Answer
     Answers::new(alloc).into_answer()
 }
 
-/// The answer to a call (Electrum Protocol 1.4).
+/// The answer to a call (Electrum Protocol 1.4), over the ledger's chain and the unconfirmed transactions
+/// that are held.
 pub fn answer<G: Ledger, A: Archive>(
     alloc: Global,
     ledger: &mut G,
@@ -81,12 +84,15 @@ pub fn answer<G: Ledger, A: Archive>(
 ) -> Result<Answer, Stop>
     requires live { G.is_live ledger.old }
     // Where the block files have the chain's transactions at their places.
-    ensures answer { A.tells → (chain : Chain) → G.stands ledger.old chain
+    ensures answer { (chain : Chain) (kept : List shape.Tx) → G.stands ledger.old chain
+        → StandsFor holdings.now.pool.entries chain kept → A.tells
         → HasTransactions (A.bytes archive.new) chain
-        → IsReplyWith (replied chain holdings.now.tree session.old call) session.old session.new result }
+        → IsReplyWith (replied chain kept holdings.now.tree session.old call) session.old session.new result }
     // Whatever the block files are, unless the call reads them.
-    ensures of_index { (chain : Chain) → G.stands ledger.old chain → reads_files call ≡ false
-        → IsReplyWith (replied chain holdings.now.tree session.old call) session.old session.new result }
+    ensures of_index { (chain : Chain) (kept : List shape.Tx) → G.stands ledger.old chain
+        → StandsFor holdings.now.pool.entries chain kept → reads_files kept call ≡ false
+        → IsReplyWith (replied chain kept holdings.now.tree session.old call) session.old session.new result }
+    ensures still { (kept : List shape.Tx) → reads_files kept call ≡ true → session.new ≡ session.old }
     ensures printable { IsPrintableAnswer result }
     ensures rows { (chain : Chain) → G.stands ledger.old chain
         → G.reads ledger.new ≤ G.reads ledger.old + rows_of chain (G.buckets ledger.old) call }
@@ -114,15 +120,16 @@ pub fn answer<G: Ledger, A: Archive>(
         Call::EstimateFee => Ok(Answer::signed(-1)),
         Call::RelayFee => Ok(Answer::number(0)),
         Call::HeadersSubscribe => headers_subscribe(alloc, ledger, &mut session.headers),
-        Call::GetBalance(s) => get_balance(alloc, ledger, &s),
-        Call::GetHistory(s) => get_history(alloc, ledger, &s),
-        Call::ListUnspent(s) => list_unspent(alloc, ledger, &s),
+        Call::GetBalance(s) => get_balance(alloc, ledger, &holdings.pool, &s),
+        Call::GetHistory(s) => get_history(alloc, ledger, &holdings.pool, &s),
+        Call::GetMempool(s) => get_mempool(alloc, &holdings.pool, &s),
+        Call::ListUnspent(s) => list_unspent(alloc, ledger, &holdings.pool, &s),
         Call::ScriptHashSubscribe(s) => {
-            script_hash_subscribe(alloc, ledger, &mut session.subs, s)
+            script_hash_subscribe(alloc, ledger, &holdings.pool, &mut session.subs, s)
         }
         Call::Broadcast => Err(Stop::Refused(Refusal::NoRelay)),
         Call::TransactionGet { tx_hash, verbose } => {
-            transaction_get(alloc, ledger, archive, tx_hash, verbose)
+            transaction_get(alloc, ledger, &holdings.pool, archive, tx_hash, verbose)
         }
         Call::GetMerkle { tx_hash, height } => get_merkle(alloc, ledger, &tx_hash, height),
         Call::IdFromPos {
@@ -130,6 +137,6 @@ pub fn answer<G: Ledger, A: Archive>(
             tx_pos,
             merkle,
         } => id_from_pos(alloc, ledger, height, tx_pos, merkle),
-        Call::ServerPeersSubscribe | Call::GetMempool(_) | Call::FeeHistogram => Ok(no_list(alloc)),
+        Call::ServerPeersSubscribe | Call::FeeHistogram => Ok(no_list(alloc)),
     }
 }

@@ -1,9 +1,14 @@
 // What the server holds beside the ledger.
 use el_headers::HeaderTree;
+use el_pool::Pool;
 
 /// What the server holds beside the ledger and the block files, to answer from.
-#[derive(Debug, Drop)]
+#[derive(Drop)]
 pub struct Holdings {
     /// The headers that were found.
     pub tree: HeaderTree,
+    /// The four bytes before each record of the network's block files.
+    pub magic: [u8; 4],
+    /// The unconfirmed transactions that are kept.
+    pub pool: Pool,
 }

@@ -8,6 +8,7 @@ mod headers;
 mod holdings;
 mod in_block;
 mod laws;
+mod limits;
 mod lists;
 mod session;
 mod statuses;
@@ -22,5 +23,6 @@ pub use laws::{
     blocks_have_transactions, moves_have_records, records_stay, transactions_are_unchanged,
     transactions_stay,
 };
+pub use limits::ENTRY_LIMIT;
 pub use session::{SUBSCRIPTION_LIMIT, Session, Subs, SubsFault, Version};
 pub use stop::Stop;

@@ -1,5 +1,6 @@
 // What is kept of a client for its requests.
-ghost use Rattle.std.specs.Prelude.{◌≡◌, ◌<◌, ◌≤◌, ℕ, List, [], length, OnOk, OnErr, IfErr, false};
+ghost use Rattle.std.specs.Prelude.{◌≡◌, ◌<◌, ◌≤◌, ℕ, List, [], length, slice_get, OnOk, OnErr, IfErr, false};
+ghost use Rattle.indexmap.specs.Layout.{set_value_at};
 ghost use Rattle.el_methods.specs.Sessions.{is_subscribed, subscribed};
 ghost use Rattle.el_methods.specs.declared.session.SubsFault.TheVariants as fault;
 
@@ -106,6 +107,27 @@ impl Subs {
         match keep(&mut self.map, s, told) {
             Ok(()) => Ok(()),
             Err(_) => Err(SubsFault::Memory),
+        }
+    }
+
+    /// The subscription of that number, from 0 on, in order: its script hash and what was told last; None
+    /// exactly where there is none. Takes no memory.
+    pub fn at(&self, number: usize) -> Option<(Hash32, Option<Hash32>)>
+        ensures { result ≡ slice_get self.now number }
+    {
+        match self.map.get_index(number) {
+            Some((s, told)) => Some((*s, *told)),
+            None => None,
+        }
+    }
+
+    /// Notes what is told of the subscription of that number. Takes no memory.
+    pub fn note(&mut self, number: usize, told: Option<Hash32>)
+        requires { number < length self.old }
+        ensures { self.new ≡ set_value_at self.old number told }
+    {
+        if let Some(slot) = self.map.get_index_mut(number) {
+            *slot = told;
         }
     }
 }

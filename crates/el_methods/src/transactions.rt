@@ -1,5 +1,5 @@
-// Transactions of the chain.
-ghost use Rattle.std.specs.Prelude.{◌≡◌, ◌+◌, ◌≤◌, ℕ, List, [], Some, None, IfOk, IfErr, IfSome, IfNone, Ok, Err};
+// Transactions of the chain and of the unconfirmed set.
+ghost use Rattle.std.specs.Prelude.{◌≡◌, ◌+◌, ◌≤◌, ℕ, List, [], Some, None, false, IfOk, IfErr, IfSome, IfNone, Ok, Err};
 ghost use Rattle.el_outside.specs.Counts.{RoseBy};
 ghost use Rattle.el_outside.specs.Files.{AllGrow};
 ghost use Rattle.el_chain.specs.Chains.{Chain};
@@ -8,7 +8,9 @@ ghost use Rattle.el_files.specs.Reading.{text_at, IsOtherTx};
 ghost use Rattle.el_model.specs.Keeping.{Quiet};
 ghost use Rattle.el_model.specs.Queries.{find_tx, txs_in_bucket};
 ghost use Rattle.el_methods.specs.Results as defined;
-ghost use Rattle.el_methods.specs.Results.{hex};
+ghost use Rattle.el_methods.specs.Results.{hex, is_in_files};
+ghost use Rattle.el_mempool.specs.Standing.{StandsFor};
+ghost use Rattle.el_tx.specs.declared.types.Tx as tx_shape;
 ghost use Rattle.el_methods.specs.Archives.{HasTransactions, HasChanged};
 ghost use Rattle.el_methods.specs.Outcomes.{IsAnswer, IsCounted, IsDiskCounted, IsPrintableAnswer};
 ghost use Rattle.el_methods.specs.declared.stop.Stop.TheVariants as stop;
@@ -22,8 +24,10 @@ use el_calls::Refusal;
 use el_chain::{ReadFault, Spot};
 use el_files::read_tx;
 use el_json::Answer;
+use el_mempool::KeptTx;
 use el_model::Ledger;
 use el_outside::Archive;
+use el_pool::Pool;
 use std::alloc::Global;
 
 // Where the newest transaction with that txid stands.
@@ -76,22 +80,68 @@ fn text_of<A: Archive>(
     }
 }
 
-/// The answer to `blockchain.transaction.get` (Electrum Protocol 1.4): the bytes of the newest transaction
-/// with that txid, in hex. Verbose ones are not served.
+// The answer from the chain's transactions.
+fn confirmed_get<G: Ledger, A: Archive>(
+    alloc: Global,
+    ledger: &mut G,
+    archive: &mut A,
+    id: Hash32,
+) -> Result<Answer, Stop>
+    requires live { G.is_live ledger.old }
+    ensures answer { (chain : Chain) → G.stands ledger.old chain → A.tells
+        → HasTransactions (A.bytes archive.new) chain
+        → IsAnswer (defined.transaction_get chain [] id false) result }
+    ensures changed { (chain : Chain) → G.stands ledger.old chain → A.tells
+        → IfErr result (λ e. e ≡ stop.Changed → (spot : place.Spot) × (find_tx chain id ≡ Some spot)
+        × HasChanged spot id (A.bytes archive.new spot.place.file)) }
+    ensures printable { IsPrintableAnswer result }
+    ensures rows { (chain : Chain) → G.stands ledger.old chain
+        → G.reads ledger.new ≤ G.reads ledger.old + (2 + txs_in_bucket chain (G.buckets ledger.old) id.0) }
+    ensures quiet { Quiet G.is_live G.height G.tip G.buckets G.stands G.tells_crash
+        G.moment G.left_since ledger.old ledger.new }
+    ensures grows { A.tells → AllGrow (A.bytes archive.old) (A.bytes archive.new) }
+    ensures counted { IsCounted (λ n. RoseBy (G.faults ledger.old) (G.faults ledger.new) n)
+        (λ n. RoseBy (A.faults archive.old) (A.faults archive.new) n) result }
+{
+    let spot = match spot_of(ledger, &id) {
+        Ok(spot) => spot,
+        Err(stop) => return Err(stop),
+    };
+    text_of(alloc, archive, &spot, id)
+}
+
+// The bytes of a kept transaction, in hex.
+fn kept_text(alloc: Global, found: &KeptTx) -> Result<Answer, Stop>
+    ensures text { IfOk result (λ a. a ≡ hex found.now.bytes) }
+    ensures stops { IfErr result (λ e. e ≡ stop.Memory) }
+    ensures printable { IsPrintableAnswer result }
+    ensures counted { IsCounted (λ n. n ≡ 0) (λ n. n ≡ 0) result }
+{
+    let answer = hex_of(alloc, found.bytes.as_slice())?;
+    Ok(answer)
+}
+
+/// The answer to `blockchain.transaction.get` (Electrum Protocol 1.4): the bytes of the kept transaction with
+/// that txid, or else of the chain's newest one, in hex. Verbose ones are not served.
 pub fn transaction_get<G: Ledger, A: Archive>(
     alloc: Global,
     ledger: &mut G,
+    pool: &Pool,
     archive: &mut A,
     id: Hash32,
     verbose: bool,
 ) -> Result<Answer, Stop>
     requires live { G.is_live ledger.old }
     // Where the block files have the chain's transactions at their places.
-    ensures answer { A.tells → (chain : Chain) → G.stands ledger.old chain
-        → HasTransactions (A.bytes archive.new) chain
-        → IsAnswer (defined.transaction_get chain id verbose) result }
+    ensures answer { (chain : Chain) (kept : List tx_shape.Tx) → G.stands ledger.old chain
+        → StandsFor pool.now.entries chain kept → A.tells → HasTransactions (A.bytes archive.new) chain
+        → IsAnswer (defined.transaction_get chain kept id verbose) result }
+    // Whatever they are, where it isn't read from them.
+    ensures of_set { (chain : Chain) (kept : List tx_shape.Tx) → StandsFor pool.now.entries chain kept
+        → is_in_files kept id verbose ≡ false
+        → IsAnswer (defined.transaction_get chain kept id verbose) result }
     // Only where the bytes that stand at the transaction's place are not its own.
-    ensures changed { A.tells → (chain : Chain) → G.stands ledger.old chain
+    ensures changed { (chain : Chain) → G.stands ledger.old chain → A.tells
         → IfErr result (λ e. e ≡ stop.Changed → (spot : place.Spot) × (find_tx chain id ≡ Some spot)
         × HasChanged spot id (A.bytes archive.new spot.place.file)) }
     ensures printable { IsPrintableAnswer result }
@@ -106,9 +156,8 @@ pub fn transaction_get<G: Ledger, A: Archive>(
     if verbose {
         return Err(Stop::Refused(Refusal::VerboseNotServed));
     }
-    let spot = match spot_of(ledger, &id) {
-        Ok(spot) => spot,
-        Err(stop) => return Err(stop),
-    };
-    text_of(alloc, archive, &spot, id)
+    if let Some(found) = pool.find(&id) {
+        return kept_text(alloc, found);
+    }
+    confirmed_get(alloc, ledger, archive, id)
 }

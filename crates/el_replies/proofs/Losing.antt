@@ -1,16 +1,18 @@
 -- What is lost while a line is answered.
-use Rattle.std.proofs.Common.{◌≡◌, sym, subst, ℕ, ◌+◌, nat_lt, true, false, List, [], ◌∷◌, ◌++◌, Result, Ok, Err, refl}
+use Rattle.std.proofs.Common.{◌≡◌, sym, subst, ℕ, ◌≤◌, nat_lt, true, false, List, [], ◌++◌, Result, Ok, Err, refl}
 use Rattle.std.proofs.Common.{append_assoc, append-nil, arith}
 use Rattle.std.specs.Prelude.{OnOk, IfOk, IsErrAnd, MatchResult}
 use Rattle.serde_json.specs.Data.{Data}
 use Rattle.el_outside.specs.Counts.{RoseBy}
-use Rattle.el_outside.proofs.Stories.{rose_none, rose_more}
+use Rattle.el_outside.specs.Devices.{Device, link, archive, disk, failures}
+use Rattle.el_outside.proofs.Devices.{failures_on}
+use Rattle.el_outside.proofs.Traces.{rose_none, rose_more}
+use Rattle.el_tx.specs.declared.types.Tx.{Tx}
 use Rattle.el_chain.specs.Chains.{Chain}
 use Rattle.el_chain.specs.declared.node.Node.{Node}
 use Rattle.el_json.specs.declared.request.Request.{Request}
 use Rattle.el_json.specs.declared.request.Item.TheVariants.{Good}
 use Rattle.el_replies.specs.Batches.{InTime, Step, Cut, CutStep, with_reply}
-use Rattle.el_replies.specs.Losses.{Loss, disk, archive, changed, disk_losses, archive_losses}
 use Rattle.el_replies.specs.Losses.{losses_of, IsTold, AnswersOf, Loses}
 use Rattle.el_replies.specs.Losses as told
 use Rattle.el_replies.specs.Requested.{IsAnswered}
@@ -24,21 +26,9 @@ use Rattle.el_replies.specs.declared.batch.TheConstants.{BATCH_LIMIT}
 use Rattle.el_methods.specs.declared.stop.Stop.{Stop}
 use Rattle.el_methods.specs.declared.stop.Stop.TheVariants as stop
 
-disk_more : (xs ys : List Loss) → disk_losses (xs ++ ys) ≡ disk_losses xs + disk_losses ys
-disk_more [] ys = omega arith
-disk_more (disk ∷ xs) ys = let e = disk_more xs ys in omega arith
-disk_more (archive ∷ xs) ys = disk_more xs ys
-disk_more (changed ∷ xs) ys = disk_more xs ys
-
-archive_more : (xs ys : List Loss) → archive_losses (xs ++ ys) ≡ archive_losses xs + archive_losses ys
-archive_more [] ys = omega arith
-archive_more (disk ∷ xs) ys = archive_more xs ys
-archive_more (archive ∷ xs) ys = let e = archive_more xs ys in omega arith
-archive_more (changed ∷ xs) ys = archive_more xs ys
-
--- the counts are those of what was lost
+-- the counts are those of what was lost, and no call of the link is among it
 counts : (d a : ℕ → Type 0) (given : Result Data Stop) → IsCounted d a given
-    → d (disk_losses (losses_of given)) × a (archive_losses (losses_of given))
+    → d (failures disk (losses_of given)) × a (failures archive (losses_of given))
 counts d a (Ok answer) h = h
 counts d a (Err (stop.Refused r)) h = h
 counts d a (Err stop.Disk) h = h
@@ -46,58 +36,85 @@ counts d a (Err stop.Archive) h = h
 counts d a (Err stop.Changed) h = h
 counts d a (Err stop.Memory) h = h
 
-pub with_losses : (chain : Chain) (found : List Node) (r : Request) (s t : Session) (d e a b : ℕ)
-    (answered : Result Data Refusal)
-    → IsAnswered chain found r s (λ n. RoseBy d e n) (λ n. RoseBy a b n) answered t
-    → Loses d e a b (λ before after. AnswersOf chain found before r s answered after t)
-with_losses chain found r s t d e a b answered (reply.refused x c is same p q) =
-    record { lost = []; done = λ before. ([], told.refused x c is same refl, refl); disk_count = p; archive_count = q }
-with_losses chain found r s t d e a b answered (reply.asked c given is tells so count) =
+none_of_link : (given : Result Data Stop) → failures link (losses_of given) ≡ 0
+none_of_link (Ok answer) = refl
+none_of_link (Err (stop.Refused r)) = refl
+none_of_link (Err stop.Disk) = refl
+none_of_link (Err stop.Archive) = refl
+none_of_link (Err stop.Changed) = refl
+none_of_link (Err stop.Memory) = refl
+
+rises : (a b n : ℕ) → RoseBy a b n → a ≤ b
+rises a b n h = omega arith
+
+-- neither count fell
+pub never_less : (d e a b : ℕ) (given : Result Data Stop)
+    → IsCounted (λ n. RoseBy d e n) (λ n. RoseBy a b n) given → (d ≤ e) × (a ≤ b)
+never_less d e a b given h =
+    let n = counts (λ n. RoseBy d e n) (λ n. RoseBy a b n) given h in (rises d e _ n.0, rises a b _ n.1)
+
+pub with_losses : (has : Type 0) (chain : Chain) (kept : List Tx) (found : List Node) (r : Request)
+    (s t : Session) (d e a b : ℕ) (answered : Result Data Refusal)
+    → IsAnswered has chain kept found r s (λ n. RoseBy d e n) (λ n. RoseBy a b n) answered t
+    → Loses d e a b (λ before after. AnswersOf has chain kept found before r s answered after t)
+with_losses has chain kept found r s t d e a b answered (reply.refused x c is same p q) =
+    record {
+      lost = [];
+      done = λ before. ([], told.refused x c is same refl, refl);
+      disk_count = p;
+      archive_count = q;
+      no_link = refl;
+    }
+with_losses has chain kept found r s t d e a b answered (reply.asked c given is tells so count) =
     let n = counts (λ n. RoseBy d e n) (λ n. RoseBy a b n) given count in
     record {
       lost = losses_of given;
       done = λ before. (losses_of given, told.asked c given is tells so refl, refl);
       disk_count = n.0;
       archive_count = n.1;
+      no_link = none_of_link given;
     }
 
 -- what else was done then
-pub so : {d e a b : ℕ} (one other : List Loss → List Loss → Type 0)
-    → ((x y : List Loss) → one x y → other x y) → Loses d e a b one → Loses d e a b other
+pub so : {d e a b : ℕ} (one other : List Device → List Device → Type 0)
+    → ((x y : List Device) → one x y → other x y) → Loses d e a b one → Loses d e a b other
 so one other f h = record {
   lost = h.lost;
   done = λ before. f before (before ++ h.lost) (h.done before);
   disk_count = h.disk_count;
   archive_count = h.archive_count;
+  no_link = h.no_link;
 }
 
 -- nothing was lost
-pub unlost : (d e a b : ℕ) (does : List Loss → List Loss → Type 0) → RoseBy d e 0 → RoseBy a b 0
-    → ((before : List Loss) → does before before) → Loses d e a b does
+pub unlost : (d e a b : ℕ) (does : List Device → List Device → Type 0) → RoseBy d e 0 → RoseBy a b 0
+    → ((before : List Device) → does before before) → Loses d e a b does
 unlost d e a b does p q h = record {
   lost = [];
   done = λ before. subst (λ after. does before after) (sym (append-nil before)) (h before);
   disk_count = p;
   archive_count = q;
+  no_link = refl;
 }
 
-pub none_lost : (d a : ℕ) (does : List Loss → List Loss → Type 0)
-    → ((before : List Loss) → does before before) → Loses d d a a does
+pub none_lost : (d a : ℕ) (does : List Device → List Device → Type 0)
+    → ((before : List Device) → does before before) → Loses d d a a does
 none_lost d a does h = unlost d d a a does (rose_none d) (rose_none a) h
 
 -- one thing was done after the other
-pub both : {d e f a b c : ℕ} (one other all : List Loss → List Loss → Type 0)
-    → ((x y z : List Loss) → one x y → other y z → all x z)
+pub both : {d e f a b c : ℕ} (one other all : List Device → List Device → Type 0)
+    → ((x y z : List Device) → one x y → other y z → all x z)
     → Loses d e a b one → Loses e f b c other → Loses d f a c all
 both {d} {e} {f} {a} {b} {c} one other all links h k = record {
   lost = h.lost ++ k.lost;
   done = λ before. subst (λ after. all before after) (append_assoc before h.lost k.lost)
       (links before (before ++ h.lost) ((before ++ h.lost) ++ k.lost) (h.done before)
       (k.done (before ++ h.lost)));
-  disk_count = subst (λ n. RoseBy d f n) (sym (disk_more h.lost k.lost))
-      (rose_more d e f (disk_losses h.lost) (disk_losses k.lost) h.disk_count k.disk_count);
-  archive_count = subst (λ n. RoseBy a c n) (sym (archive_more h.lost k.lost))
-      (rose_more a b c (archive_losses h.lost) (archive_losses k.lost) h.archive_count k.archive_count);
+  disk_count = subst (λ n. RoseBy d f n) (sym (failures_on disk h.lost k.lost))
+      (rose_more d e f (failures disk h.lost) (failures disk k.lost) h.disk_count k.disk_count);
+  archive_count = subst (λ n. RoseBy a c n) (sym (failures_on archive h.lost k.lost))
+      (rose_more a b c (failures archive h.lost) (failures archive k.lost) h.archive_count k.archive_count);
+  no_link = rw (failures_on link h.lost k.lost, h.no_link, k.no_link) refl;
 }
 
 -- what holds of both results

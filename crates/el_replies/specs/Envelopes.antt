@@ -1,8 +1,7 @@
 -- Replies of JSON-RPC 2.0, sections 5 and 6.
-use Rattle.std.specs.Prelude.{⊤, [], ◌∷◌, Result, Ok, Err, codes}
+use Rattle.std.specs.Prelude.{[], ◌∷◌, Result, Ok, Err, codes}
 use Rattle.serde_json.specs.Data.{Data, string, number}
 use Rattle.serde_json.specs.Find.{of_integer}
-use Rattle.el_json.specs.Lines.{IsPrintable}
 use Rattle.el_calls.specs.Refusals.{code_of, message_of}
 use Rattle.el_methods.specs.Results.{object_of}
 use Rattle.el_calls.specs.declared.refusal.Refusal.{Refusal}

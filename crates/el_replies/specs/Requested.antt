@@ -1,12 +1,14 @@
--- What a request is answered over a chain: what is defined, or that a device failed, which its count tells.
+-- What a request is answered over a chain and the unconfirmed transactions that are kept: what is defined, or
+-- that a device failed, which its count tells.
 use Rattle.std.specs.Prelude.{◌≡◌, ℕ, List, Option, None, Some, Result, Ok, Err}
 use Rattle.serde_json.specs.Data.{Data}
+use Rattle.el_tx.specs.declared.types.Tx.{Tx}
 use Rattle.el_chain.specs.Chains.{Chain}
 use Rattle.el_chain.specs.declared.node.Node.{Node}
 use Rattle.el_json.specs.declared.request.Request.{Request}
 use Rattle.el_calls.specs.Methods.{IsCalled}
-use Rattle.el_methods.specs.Outcomes.{IsReplyWith, IsCounted}
-use Rattle.el_methods.specs.Replied.{replied}
+use Rattle.el_methods.specs.Outcomes.{IsCounted}
+use Rattle.el_methods.specs.Replied.{IsGiven}
 use Rattle.el_calls.specs.declared.call.Call.{Call}
 use Rattle.el_calls.specs.declared.refusal.Refusal.{Refusal}
 use Rattle.el_calls.specs.declared.refusal.Refusal.TheVariants as refusal
@@ -23,14 +25,16 @@ told_of (Err stop.Archive) = Some (Err refusal.ArchiveFailed)
 told_of (Err stop.Changed) = Some (Err refusal.ArchiveChanged)
 told_of (Err stop.Memory) = None
 
--- The client with this session is told so of the request, and has that session then. `disk` and `archive`
--- say by how much the counts of the two devices rose.
-pub data IsAnswered (chain : Chain) (found : List Node) (r : Request) (s : Session) (disk archive : ℕ → Type 0)
-    (told : Result Data Refusal) (t : Session) : Type 0 where
+-- The client with this session is told so of the request, and has that session then. `has` is that the block
+-- files have the chain's transactions; `disk` and `archive` say by how much the counts of the two devices
+-- rose.
+pub data IsAnswered (has : Type 0) (chain : Chain) (kept : List Tx) (found : List Node) (r : Request)
+    (s : Session) (disk archive : ℕ → Type 0) (told : Result Data Refusal) (t : Session) : Type 0 where
   -- it asks for no call
   refused : (e : Refusal) → IsCalled r.method r.params (Err e) → told ≡ Err e → t ≡ s → disk 0 → archive 0
-      → IsAnswered chain found r s disk archive told t
+      → IsAnswered has chain kept found r s disk archive told t
   -- it asks for this call
-  asked : (c : Call) (given : Result Data Stop) → IsCalled r.method r.params (Ok c) → told_of given ≡ Some told
-      → IsReplyWith (replied chain found s c) s t given → IsCounted disk archive given
-      → IsAnswered chain found r s disk archive told t
+  asked : (c : Call) (given : Result Data Stop)
+      → IsCalled r.method r.params (Ok c) → told_of given ≡ Some told
+      → IsGiven has chain kept found c s t given → IsCounted disk archive given
+      → IsAnswered has chain kept found r s disk archive told t

@@ -4,6 +4,8 @@ ghost use Rattle.el_outside.specs.Files.{AllGrow};
 ghost use Rattle.el_chain.specs.Chains.{Chain};
 ghost use Rattle.el_model.specs.Keeping.{Quiet};
 ghost use Rattle.el_methods.specs.Archives.{HasTransactions};
+ghost use Rattle.el_mempool.specs.Standing.{StandsFor};
+ghost use Rattle.el_tx.specs.declared.types.Tx as shape;
 ghost use Rattle.el_replies.specs.Losses.{AnswersOf, Loses};
 ghost use Rattle.el_replies.specs.Batches.{added, with_reply, is_closing, InTime, Step, Steps, Cut, CutStep, CutSteps};
 ghost use Rattle.el_json.specs.Lines.{HasPrintableId, IsPrintableId};
@@ -93,13 +95,17 @@ fn answer_in_time<G: Ledger, A: Archive>(
 ) -> Result<(), OutOfMemory>
     requires live { G.is_live ledger.old }
     requires id { IsPrintableId request.id }
-    ensures answered { A.tells → (chain : Chain) → G.stands ledger.old chain
-        → HasTransactions (A.bytes archive.old) chain → Loses
+    ensures answered { (chain : Chain) (kept : List shape.Tx) (files : ℕ → List ℕ)
+        → G.stands ledger.old chain → StandsFor holdings.now.pool.entries chain kept
+        → (A.tells → AllGrow files (A.bytes archive.old)) → Loses
         (G.faults ledger.old) (G.faults ledger.new) (A.faults archive.old) (A.faults archive.new)
         (λ before after. MatchResult result
-        (λ _. InTime (AnswersOf chain holdings.now.tree) request before session.old replies.old
-        after session.new replies.new)
-        (λ _. Cut (AnswersOf chain holdings.now.tree) request before session.old after)) }
+        (λ _. InTime (AnswersOf (A.tells × HasTransactions files chain) chain kept holdings.now.tree)
+        request before session.old replies.old after session.new replies.new)
+        (λ _. Cut (AnswersOf (A.tells × HasTransactions files chain) chain kept holdings.now.tree)
+        request before session.old after)) }
+    ensures disk_more { G.faults ledger.old ≤ G.faults ledger.new }
+    ensures archive_more { A.faults archive.old ≤ A.faults archive.new }
     ensures quiet { Quiet G.is_live G.height G.tip G.buckets G.stands G.tells_crash
         G.moment G.left_since ledger.old ledger.new }
     ensures grows { A.tells → AllGrow (A.bytes archive.old) (A.bytes archive.new) }
@@ -120,13 +126,17 @@ fn answer_item<G: Ledger, A: Archive>(
 ) -> Result<(), OutOfMemory>
     requires live { G.is_live ledger.old }
     requires printable { HasPrintableId item }
-    ensures answered { A.tells → (chain : Chain) → G.stands ledger.old chain
-        → HasTransactions (A.bytes archive.old) chain → Loses
+    ensures answered { (chain : Chain) (kept : List shape.Tx) (files : ℕ → List ℕ)
+        → G.stands ledger.old chain → StandsFor holdings.now.pool.entries chain kept
+        → (A.tells → AllGrow files (A.bytes archive.old)) → Loses
         (G.faults ledger.old) (G.faults ledger.new) (A.faults archive.old) (A.faults archive.new)
         (λ before after. MatchResult result
-        (λ _. Step (AnswersOf chain holdings.now.tree) item before session.old replies.old
-        after session.new replies.new)
-        (λ _. CutStep (AnswersOf chain holdings.now.tree) item before session.old replies.old after)) }
+        (λ _. Step (AnswersOf (A.tells × HasTransactions files chain) chain kept holdings.now.tree)
+        item before session.old replies.old after session.new replies.new)
+        (λ _. CutStep (AnswersOf (A.tells × HasTransactions files chain) chain kept holdings.now.tree)
+        item before session.old replies.old after)) }
+    ensures disk_more { G.faults ledger.old ≤ G.faults ledger.new }
+    ensures archive_more { A.faults archive.old ≤ A.faults archive.new }
     ensures quiet { Quiet G.is_live G.height G.tip G.buckets G.stands G.tells_crash
         G.moment G.left_since ledger.old ledger.new }
     ensures grows { A.tells → AllGrow (A.bytes archive.old) (A.bytes archive.new) }
@@ -156,14 +166,17 @@ pub fn answer_items<G: Ledger, A: Archive>(
     elements: &mut Elements,
 ) -> Result<(), OutOfMemory>
     requires live { G.is_live ledger.old }
-    ensures answered { A.tells → (chain : Chain) → G.stands ledger.old chain
-        → HasTransactions (A.bytes archive.old) chain → Loses
+    ensures answered { (chain : Chain) (kept : List shape.Tx) (files : ℕ → List ℕ)
+        → G.stands ledger.old chain → StandsFor holdings.now.pool.entries chain kept
+        → (A.tells → AllGrow files (A.bytes archive.old)) → Loses
         (G.faults ledger.old) (G.faults ledger.new) (A.faults archive.old) (A.faults archive.new)
         (λ before after. MatchResult result
-        (λ _. Steps (AnswersOf chain holdings.now.tree) elements.old before session.old replies.old
-        after session.new replies.new)
-        (λ _. CutSteps (AnswersOf chain holdings.now.tree) elements.old before session.old replies.old
-        after)) }
+        (λ _. Steps (AnswersOf (A.tells × HasTransactions files chain) chain kept holdings.now.tree)
+        elements.old before session.old replies.old after session.new replies.new)
+        (λ _. CutSteps (AnswersOf (A.tells × HasTransactions files chain) chain kept holdings.now.tree)
+        elements.old before session.old replies.old after)) }
+    ensures disk_more { G.faults ledger.old ≤ G.faults ledger.new }
+    ensures archive_more { A.faults archive.old ≤ A.faults archive.new }
     ensures quiet { Quiet G.is_live G.height G.tip G.buckets G.stands G.tells_crash
         G.moment G.left_since ledger.old ledger.new }
     ensures grows { A.tells → AllGrow (A.bytes archive.old) (A.bytes archive.new) }

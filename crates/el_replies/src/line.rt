@@ -1,10 +1,12 @@
 // The reply to a line.
-ghost use Rattle.std.specs.Prelude.{◌≡◌, ◌++◌, ◌∷◌, [], IfOk, Ok, Err, Some, false, MatchResult};
+ghost use Rattle.std.specs.Prelude.{◌≡◌, ◌≤◌, ◌++◌, ◌∷◌, ℕ, List, [], IfOk, Ok, Err, Some, false, MatchResult};
 ghost use Rattle.el_json.specs.Lines.{IsPrintable, IsPrintableId};
 ghost use Rattle.el_outside.specs.Files.{AllGrow};
 ghost use Rattle.el_chain.specs.Chains.{Chain};
 ghost use Rattle.el_model.specs.Keeping.{Quiet};
 ghost use Rattle.el_methods.specs.Archives.{HasTransactions};
+ghost use Rattle.el_mempool.specs.Standing.{StandsFor};
+ghost use Rattle.el_tx.specs.declared.types.Tx as shape;
 ghost use Rattle.el_replies.specs.Losses.{AnswersOf, Loses};
 ghost use Rattle.el_replies.specs.Batches.{Cut, CutSteps};
 ghost use Rattle.el_replies.specs.LineReplies.{message, reply_to, says, batch_message, no_replies, IsReplyTo, IsLineReply};
@@ -94,13 +96,17 @@ fn one_reply<G: Ledger, A: Archive>(
 ) -> Result<LineReply, OutOfMemory>
     requires live { G.is_live ledger.old }
     requires printable { IsPrintableId request.id }
-    ensures answered { A.tells → (chain : Chain) → G.stands ledger.old chain
-        → HasTransactions (A.bytes archive.old) chain → Loses
+    ensures answered { (chain : Chain) (kept : List shape.Tx) (files : ℕ → List ℕ)
+        → G.stands ledger.old chain → StandsFor holdings.now.pool.entries chain kept
+        → (A.tells → AllGrow files (A.bytes archive.old)) → Loses
         (G.faults ledger.old) (G.faults ledger.new) (A.faults archive.old) (A.faults archive.new)
         (λ before after. MatchResult result
-        (λ reply. IsReplyTo (AnswersOf chain holdings.now.tree) (Ok (Envelope.One request)) before session.old
-        after session.new reply)
-        (λ _. Cut (AnswersOf chain holdings.now.tree) request before session.old after)) }
+        (λ reply. IsReplyTo (AnswersOf (A.tells × HasTransactions files chain) chain kept holdings.now.tree)
+        (Ok (Envelope.One request)) before session.old after session.new reply)
+        (λ _. Cut (AnswersOf (A.tells × HasTransactions files chain) chain kept holdings.now.tree)
+        request before session.old after)) }
+    ensures disk_more { G.faults ledger.old ≤ G.faults ledger.new }
+    ensures archive_more { A.faults archive.old ≤ A.faults archive.new }
     ensures quiet { Quiet G.is_live G.height G.tip G.buckets G.stands G.tells_crash
         G.moment G.left_since ledger.old ledger.new }
     ensures grows { A.tells → AllGrow (A.bytes archive.old) (A.bytes archive.new) }
@@ -131,13 +137,17 @@ fn batch_reply<G: Ledger, A: Archive>(
     elements: Elements,
 ) -> Result<LineReply, OutOfMemory>
     requires live { G.is_live ledger.old }
-    ensures answered { A.tells → (chain : Chain) → G.stands ledger.old chain
-        → HasTransactions (A.bytes archive.old) chain → Loses
+    ensures answered { (chain : Chain) (kept : List shape.Tx) (files : ℕ → List ℕ)
+        → G.stands ledger.old chain → StandsFor holdings.now.pool.entries chain kept
+        → (A.tells → AllGrow files (A.bytes archive.old)) → Loses
         (G.faults ledger.old) (G.faults ledger.new) (A.faults archive.old) (A.faults archive.new)
         (λ before after. MatchResult result
-        (λ reply. IsReplyTo (AnswersOf chain holdings.now.tree) (Ok (Envelope.Batch elements)) before
-        session.old after session.new reply)
-        (λ _. CutSteps (AnswersOf chain holdings.now.tree) elements before session.old no_replies after)) }
+        (λ reply. IsReplyTo (AnswersOf (A.tells × HasTransactions files chain) chain kept holdings.now.tree)
+        (Ok (Envelope.Batch elements)) before session.old after session.new reply)
+        (λ _. CutSteps (AnswersOf (A.tells × HasTransactions files chain) chain kept holdings.now.tree)
+        elements before session.old no_replies after)) }
+    ensures disk_more { G.faults ledger.old ≤ G.faults ledger.new }
+    ensures archive_more { A.faults archive.old ≤ A.faults archive.new }
     ensures quiet { Quiet G.is_live G.height G.tip G.buckets G.stands G.tells_crash
         G.moment G.left_since ledger.old ledger.new }
     ensures grows { A.tells → AllGrow (A.bytes archive.old) (A.bytes archive.new) }
@@ -183,12 +193,16 @@ pub fn reply_line<G: Ledger, A: Archive>(
     line: &[u8],
 ) -> Result<LineReply, OutOfMemory>
     requires live { G.is_live ledger.old }
-    // Where the block files have the chain's transactions at their places.
-    ensures answered { A.tells → (chain : Chain) → G.stands ledger.old chain
-        → HasTransactions (A.bytes archive.old) chain → Loses
+    // `files` are the bytes of the block files at some moment before, as the server knows them.
+    ensures answered { (chain : Chain) (kept : List shape.Tx) (files : ℕ → List ℕ)
+        → G.stands ledger.old chain → StandsFor holdings.now.pool.entries chain kept
+        → (A.tells → AllGrow files (A.bytes archive.old)) → Loses
         (G.faults ledger.old) (G.faults ledger.new) (A.faults archive.old) (A.faults archive.new)
-        (λ before after. IsLineReply (AnswersOf chain holdings.now.tree) line.now before session.old
-        after session.new result) }
+        (λ before after. IsLineReply
+        (AnswersOf (A.tells × HasTransactions files chain) chain kept holdings.now.tree)
+        line.now before session.old after session.new result) }
+    ensures disk_more { G.faults ledger.old ≤ G.faults ledger.new }
+    ensures archive_more { A.faults archive.old ≤ A.faults archive.new }
     ensures quiet { Quiet G.is_live G.height G.tip G.buckets G.stands G.tells_crash
         G.moment G.left_since ledger.old ledger.new }
     ensures grows { A.tells → AllGrow (A.bytes archive.old) (A.bytes archive.new) }

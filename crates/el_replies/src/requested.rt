@@ -1,10 +1,12 @@
 // The answer to a request.
-ghost use Rattle.std.specs.Prelude.{◌≡◌, ℕ, IfOk, OnErr, MatchOption, Some, None};
+ghost use Rattle.std.specs.Prelude.{◌≡◌, ◌≤◌, ℕ, List, IfOk, OnErr, MatchOption, Some, None};
 ghost use Rattle.el_outside.specs.Counts.{RoseBy};
 ghost use Rattle.el_outside.specs.Files.{AllGrow};
 ghost use Rattle.el_chain.specs.Chains.{Chain};
 ghost use Rattle.el_model.specs.Keeping.{Quiet};
 ghost use Rattle.el_methods.specs.Archives.{HasTransactions};
+ghost use Rattle.el_mempool.specs.Standing.{StandsFor};
+ghost use Rattle.el_tx.specs.declared.types.Tx as shape;
 ghost use Rattle.el_replies.specs.Requested.{IsAnswered, told_of};
 ghost use Rattle.el_methods.specs.Outcomes.{IsPrintableAnswer};
 
@@ -40,15 +42,18 @@ pub fn answer_request<G: Ledger, A: Archive>(
     request: &Request,
 ) -> Result<Result<Answer, Refusal>, OutOfMemory>
     requires live { G.is_live ledger.old }
-    ensures answered { A.tells → (chain : Chain) → G.stands ledger.old chain
-        → HasTransactions (A.bytes archive.new) chain → IfOk result
-        (λ told. IsAnswered chain holdings.now.tree request.now session.old
-        (λ n. RoseBy (G.faults ledger.old) (G.faults ledger.new) n)
+    ensures answered { (chain : Chain) (kept : List shape.Tx) (files : ℕ → List ℕ)
+        → G.stands ledger.old chain → StandsFor holdings.now.pool.entries chain kept
+        → (A.tells → AllGrow files (A.bytes archive.old)) → IfOk result
+        (λ told. IsAnswered (A.tells × HasTransactions files chain) chain kept holdings.now.tree request.now
+        session.old (λ n. RoseBy (G.faults ledger.old) (G.faults ledger.new) n)
         (λ n. RoseBy (A.faults archive.old) (A.faults archive.new) n) told session.new) }
     // Where memory runs out nothing is lost.
     ensures unlost { OnErr result (RoseBy (G.faults ledger.old) (G.faults ledger.new) 0
         × RoseBy (A.faults archive.old) (A.faults archive.new) 0) }
     ensures printable { IfOk result IsPrintableAnswer }
+    ensures disk_more { G.faults ledger.old ≤ G.faults ledger.new }
+    ensures archive_more { A.faults archive.old ≤ A.faults archive.new }
     ensures quiet { Quiet G.is_live G.height G.tip G.buckets G.stands G.tells_crash
         G.moment G.left_since ledger.old ledger.new }
     ensures grows { A.tells → AllGrow (A.bytes archive.old) (A.bytes archive.new) }

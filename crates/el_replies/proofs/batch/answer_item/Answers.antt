@@ -4,16 +4,18 @@ use Rattle.std.proofs.lemmas.Bool.Decides.{nat_tests}
 use Rattle.el_json.specs.declared.request.Item.{Item}
 use Rattle.el_replies.proofs.Losing.{so, none_lost, step_late, cut_late, in_time, done_or}
 use Rattle.el_replies.specs.Batches.{Step, CutStep}
+use Rattle.el_methods.specs.Archives.{HasTransactions}
 use Rattle.el_replies.specs.Losses.{AnswersOf}
 use Rattle.el_replies.specs.declared.batch.TheConstants.{BATCH_LIMIT}
 use Rattle.el_replies.proofs.batch.answer_item.Goals as goal
 
 pub returns-then-replies-gt-BATCH_LIMIT-clause-answered :
     goal.returns-then-replies-gt-BATCH_LIMIT-clause-answered
-returns-then-replies-gt-BATCH_LIMIT-clause-answered g c = λ tells chain stands has.
+returns-then-replies-gt-BATCH_LIMIT-clause-answered g c = λ chain kept files stands over grew.
     let limit = c.if-replies-gt-BATCH_LIMIT.true in
     let late : nat_lt BATCH_LIMIT c.args.replies.now.size ≡ true = grind (arith, nat_tests) in
-    let answers = AnswersOf chain c.args.holdings.now.tree in
+    let answers = AnswersOf (g.A.Archive.tells × HasTransactions files chain) chain kept
+    c.args.holdings.now.tree in
     none_lost _ _ _ (λ before.
     let P : Item → Type 0 = λ i. MatchResult c.add_reply.result
     (λ z. Step answers i before c.args.session.now c.args.replies.now before c.args.session.now
@@ -27,10 +29,11 @@ returns-then-replies-gt-BATCH_LIMIT-clause-answered g c = λ tells chain stands 
 
 pub returns-else-replies-gt-BATCH_LIMIT-clause-answered :
     goal.returns-else-replies-gt-BATCH_LIMIT-clause-answered
-returns-else-replies-gt-BATCH_LIMIT-clause-answered g c = λ tells chain stands has.
+returns-else-replies-gt-BATCH_LIMIT-clause-answered g c = λ chain kept files stands over grew.
     let limit = c.if-replies-gt-BATCH_LIMIT.false in
     let early : nat_lt BATCH_LIMIT c.args.replies.now.size ≡ false = grind (arith, nat_tests) in
-    let answers = AnswersOf chain c.args.holdings.now.tree in
+    let answers = AnswersOf (g.A.Archive.tells × HasTransactions files chain) chain kept
+    c.args.holdings.now.tree in
     so _ _ (λ x y h.
     let P : Item → Type 0 = λ i. MatchResult c.answer_in_time.result
     (λ z. Step answers i x c.args.session.now c.args.replies.now y c.answer_in_time.new.session
@@ -38,11 +41,12 @@ returns-else-replies-gt-BATCH_LIMIT-clause-answered g c = λ tells chain stands 
     (λ e. CutStep answers i x c.args.session.now c.args.replies.now y) in
     subst P (sym c.in-Good.is) (in_time answers c.answer_in_time.result c.in-Good.request x y
     c.args.session.now c.answer_in_time.new.session c.args.replies.now c.answer_in_time.new.replies early h))
-    (c.answer_in_time.ensures.answered tells chain stands has)
+    (c.answer_in_time.ensures.answered chain kept files stands over grew)
 
 pub returns-in-Invalid-clause-answered : goal.returns-in-Invalid-clause-answered
-returns-in-Invalid-clause-answered g c = λ tells chain stands has.
-    let answers = AnswersOf chain c.args.holdings.now.tree in
+returns-in-Invalid-clause-answered g c = λ chain kept files stands over grew.
+    let answers = AnswersOf (g.A.Archive.tells × HasTransactions files chain) chain kept
+    c.args.holdings.now.tree in
     none_lost _ _ _ (λ before.
     let P : Item → Type 0 = λ i. MatchResult c.add_reply-in-Invalid.result
     (λ z. Step answers i before c.args.session.now c.args.replies.now before c.args.session.now

@@ -1,7 +1,7 @@
-use Rattle.std.proofs.Common.{◌≡◌, [], refl}
-use Rattle.el_outside.proofs.Stories.{all_grow_none, all_grow_more}
+use Rattle.std.proofs.Common.{◌≡◌, [], refl, arith}
+use Rattle.el_outside.proofs.Traces.{all_grow_none, all_grow_more}
 use Rattle.el_model.proofs.Quiets.{quiet_none, quiet_on}
-use Rattle.el_methods.proofs.Places.{transactions_stay}
+use Rattle.el_methods.specs.Archives.{HasTransactions}
 use Rattle.el_replies.specs.Losses.{AnswersOf}
 use Rattle.el_replies.proofs.BatchLoop.{begins, cut_begins, goes_on, cut_goes_on, ends, cut_here}
 use Rattle.el_replies.proofs.Losing.{so, none_lost, both, failed}
@@ -14,7 +14,11 @@ loop-item-init g c =
       quiet = quiet_none l.is_live l.height l.tip l.buckets l.stands l.tells_crash l.moment l.left_since
           c.args.ledger.now;
       grows = λ tells. all_grow_none _;
-      so_far = λ tells chain stands has. let answers = AnswersOf chain c.args.holdings.now.tree in
+      disk_more = omega arith;
+      archive_more = omega arith;
+      so_far = λ chain kept files stands over grew.
+          let answers = AnswersOf (g.A.Archive.tells × HasTransactions files chain) chain kept
+          c.args.holdings.now.tree in
           none_lost _ _ _ (λ before. (
             begins answers _ c.args.elements.now before c.args.session.now c.args.replies.now refl,
             cut_begins answers _ c.args.elements.now before c.args.session.now c.args.replies.now refl,
@@ -29,37 +33,43 @@ loop-item-preserved g c =
           c.loop-item.invariant.quiet c.answer_item.ensures.quiet;
       grows = λ tells. all_grow_more _ _ _ (c.loop-item.invariant.grows tells)
           (c.answer_item.ensures.grows tells);
-      so_far = λ tells chain stands has.
-          let answers = AnswersOf chain c.args.holdings.now.tree in
+      disk_more = omega (arith, c.loop-item.invariant.disk_more, c.answer_item.ensures.disk_more);
+      archive_more = omega (arith, c.loop-item.invariant.archive_more, c.answer_item.ensures.archive_more);
+      so_far = λ chain kept files stands over grew.
+          let answers = AnswersOf (g.A.Archive.tells × HasTransactions files chain) chain kept
+          c.args.holdings.now.tree in
           let stood = c.loop-item.invariant.quiet.stays.still_stands chain stands in
-          let had = transactions_stay _ _ chain (c.loop-item.invariant.grows tells) has in
           both _ _ _ (λ x y z h k. (
             goes_on answers c.in-Some.item _ _ c.args.elements.now y z _ _ _ _ x c.args.session.now
                 c.args.replies.now c.in-Some.ensures.item h.0 k,
             cut_goes_on answers c.in-Some.item _ _ c.args.elements.now y z _ _ _ _ x c.args.session.now
                 c.args.replies.now c.in-Some.ensures.item h.1 k,
           ))
-          (c.loop-item.invariant.so_far tells chain stands has)
-          (c.in_ok-answer_item.ensures.answered tells chain stood had);
+          (c.loop-item.invariant.so_far chain kept files stands over grew)
+          (c.in_ok-answer_item.ensures.answered chain kept files stood over
+          (λ tells. all_grow_more _ _ _ (grew tells) (c.loop-item.invariant.grows tells)));
     }
 
 pub returns-clause-answered : goal.returns-clause-answered
-returns-clause-answered g c = λ tells chain stands has.
-    let answers = AnswersOf chain c.args.holdings.now.tree in
+returns-clause-answered g c = λ chain kept files stands over grew.
+    let answers = AnswersOf (g.A.Archive.tells × HasTransactions files chain) chain kept
+    c.args.holdings.now.tree in
     let none : c.loop-item.elements ≡ [] = c.in_default.ensures.item.0 in
-    so _ _ (λ x y h. ends answers _ c.args.elements.now y _ _ x c.args.session.now c.args.replies.now none h.0)
-    (c.loop-item.invariant.so_far tells chain stands has)
+    so _ _ (λ x y h. ends answers _ c.args.elements.now y _ _ x c.args.session.now c.args.replies.now none
+    h.0)
+    (c.loop-item.invariant.so_far chain kept files stands over grew)
 
 pub returns-in_err-answer_item-clause-answered : goal.returns-in_err-answer_item-clause-answered
-returns-in_err-answer_item-clause-answered g c = λ tells chain stands has.
-    let answers = AnswersOf chain c.args.holdings.now.tree in
+returns-in_err-answer_item-clause-answered g c = λ chain kept files stands over grew.
+    let answers = AnswersOf (g.A.Archive.tells × HasTransactions files chain) chain kept
+    c.args.holdings.now.tree in
     let stood = c.loop-item.invariant.quiet.stays.still_stands chain stands in
-    let had = transactions_stay _ _ chain (c.loop-item.invariant.grows tells) has in
     both _ _ _ (λ x y z h k. failed c.from_residual.result _ _ _ c.from_residual.ensures.1
     (cut_here answers c.in-Some.item _ _ c.args.elements.now y z _ _ x c.args.session.now c.args.replies.now
     c.in-Some.ensures.item h.1 k))
-    (c.loop-item.invariant.so_far tells chain stands has)
-    (c.in_err-answer_item.ensures.answered tells chain stood had)
+    (c.loop-item.invariant.so_far chain kept files stands over grew)
+    (c.in_err-answer_item.ensures.answered chain kept files stood over
+    (λ tells. all_grow_more _ _ _ (grew tells) (c.loop-item.invariant.grows tells)))
 
 pub returns-in_err-answer_item-clause-grows : goal.returns-in_err-answer_item-clause-grows
 returns-in_err-answer_item-clause-grows g c = λ tells.

@@ -1,6 +1,8 @@
-use Rattle.std.proofs.Common.{length}
+use Rattle.std.proofs.Common.{ℕ, ◌≤◌, List, length}
 use Rattle.el_outside.specs.Files.{AllGrow}
+use Rattle.el_tx.specs.declared.types.Tx.{Tx}
 use Rattle.el_chain.specs.Chains.{Chain}
+use Rattle.el_mempool.specs.Standing.{StandsFor}
 use Rattle.el_model.specs.Keeping.{Quiet}
 use Rattle.el_methods.specs.Archives.{HasTransactions}
 use Rattle.el_replies.specs.Batches.{Completes, CutCompletes}
@@ -18,11 +20,15 @@ invariant-loop-item g l =
       quiet : Quiet d.is_live d.height d.tip d.buckets d.stands d.tells_crash d.moment d.left_since
           l.initial.ledger l.ledger;
       grows : a.tells → AllGrow (a.bytes l.initial.archive) (a.bytes l.archive);
-      so_far : a.tells → (chain : Chain) → d.stands l.initial.ledger chain
-          → HasTransactions (a.bytes l.initial.archive) chain
+      disk_more : d.faults l.initial.ledger ≤ d.faults l.ledger;
+      archive_more : a.faults l.initial.archive ≤ a.faults l.archive;
+      so_far : (chain : Chain) (kept : List Tx) (files : ℕ → List ℕ) → d.stands l.initial.ledger chain
+          → StandsFor l.holdings.pool.entries chain kept
+          → (a.tells → AllGrow files (a.bytes l.initial.archive))
           → Loses (d.faults l.initial.ledger) (d.faults l.ledger) (a.faults l.initial.archive)
           (a.faults l.archive)
-          (λ before after. let answers = AnswersOf chain l.holdings.tree in
+          (λ before after.
+          let answers = AnswersOf (a.tells × HasTransactions files chain) chain kept l.holdings.tree in
           Completes answers l.elements after l.session l.replies l.initial.elements before l.initial.session
           l.initial.replies
           × CutCompletes answers l.elements after l.session l.replies l.initial.elements before

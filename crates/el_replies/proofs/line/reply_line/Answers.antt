@@ -1,26 +1,30 @@
 use Rattle.std.proofs.Common.{◌≡◌, Ok}
 use Rattle.el_json.specs.Lines.{line_says}
 use Rattle.el_json.specs.declared.request.Envelope.TheVariants.{One, Batch}
+use Rattle.el_methods.specs.Archives.{HasTransactions}
 use Rattle.el_replies.specs.Losses.{AnswersOf}
 use Rattle.el_replies.proofs.LineEnds.{of_said}
 use Rattle.el_replies.proofs.Losing.{so}
 use Rattle.el_replies.proofs.line.reply_line.Goals as goal
 
 pub returns-in-Ok-One-clause-answered : goal.returns-in-Ok-One-clause-answered
-returns-in-Ok-One-clause-answered g c = λ tells chain stands has.
-    let answers = AnswersOf chain c.args.holdings.now.tree in
+returns-in-Ok-One-clause-answered g c = λ chain kept files stands over grew.
+    let answers = AnswersOf (g.A.Archive.tells × HasTransactions files chain) chain kept
+    c.args.holdings.now.tree in
     let says = c.in-Ok-One.ensures.says in
     let is = c.in-Ok-One.field-0-is in
     let said : line_says c.args.line.now ≡ Ok (One c.in-Ok-One.request) = cc in
     so _ _ (λ x y h. of_said answers c.args.line.now (Ok (One c.in-Ok-One.request)) x y c.args.session.now
-    c.one_reply.new.session c.one_reply.result said h) (c.one_reply.ensures.answered tells chain stands has)
+    c.one_reply.new.session c.one_reply.result said h)
+    (c.one_reply.ensures.answered chain kept files stands over grew)
 
 pub returns-in-Ok-Batch-clause-answered : goal.returns-in-Ok-Batch-clause-answered
-returns-in-Ok-Batch-clause-answered g c = λ tells chain stands has.
-    let answers = AnswersOf chain c.args.holdings.now.tree in
+returns-in-Ok-Batch-clause-answered g c = λ chain kept files stands over grew.
+    let answers = AnswersOf (g.A.Archive.tells × HasTransactions files chain) chain kept
+    c.args.holdings.now.tree in
     let says = c.in-Ok-Batch.ensures.says in
     let is = c.in-Ok-Batch.field-0-is in
     let said : line_says c.args.line.now ≡ Ok (Batch c.in-Ok-Batch.elements) = cc in
     so _ _ (λ x y h. of_said answers c.args.line.now (Ok (Batch c.in-Ok-Batch.elements)) x y
     c.args.session.now c.batch_reply.new.session c.batch_reply.result said h)
-    (c.batch_reply.ensures.answered tells chain stands has)
+    (c.batch_reply.ensures.answered chain kept files stands over grew)

@@ -1,6 +1,0 @@
-use Rattle.std.proofs.Common.{◌≡◌, map, take}
-use Rattle.el_methods.specs.Results.{entry_value}
-use Rattle.el_methods.proofs.lists.entries_value.Given as goal
-
-abbrev pub invariant-loop-entry : goal.invariant-loop-entry
-invariant-loop-entry l = l.list ≡ map entry_value (take l.entry-index l.entries)
