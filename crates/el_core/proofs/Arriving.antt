@@ -2,17 +2,16 @@
 use Rattle.std.proofs.Common.{◌≡◌, inl, inr, ℕ, zero, suc, ◌<◌, ◌≤◌, true, false, nat_lt, List, [], ◌∷◌, ◌++◌, length, map, drop, slice_get, Option, Some, None, refl, sym, ap, ◌∙◌, append-nil, subst, eq-eqb, arith, length-append, length-drop}
 use Rattle.std.specs.List.{AllByRecursion, AllZip, flat_map}
 use Rattle.std.proofs.lemmas.List.{length-map}
-use Rattle.el_outside.specs.Story.{ArrivalWithBytes, opened, brought, closed}
+use Rattle.el_outside.specs.Trace.{ArrivalWithBytes, opened, brought, closed}
 use Rattle.el_chain.specs.Chains.{Chain}
 use Rattle.el_chain.specs.declared.node.Node.{Node}
-use Rattle.el_model.specs.Lines.{LineEvent, lines}
-use Rattle.el_model.specs.NodeAnswers.{node_limit}
-use Rattle.el_model.specs.Sessions.{Session, new_session}
-use Rattle.el_model.specs.World as model
-use Rattle.el_model.specs.World.{World, Event, IsStill, nothing, joins, leaves, says, orders, events, after_hearing, added_lines, lines_said, is_peer, with_client, without_client, hearing, line_limit, client_limit}
-use Rattle.el_model.specs.Run as run
-use Rattle.el_model.specs.Run.{Turns}
-use Rattle.el_model.proofs.Cuts.{either, pieces}
+use Rattle.el_lines.specs.Lines.{LineEvent, lines, added_lines}
+use Rattle.el_lines.specs.NodeAnswers.{node_limit}
+use Rattle.el_world.specs.World as model
+use Rattle.el_world.specs.World.{World, Session, Event, new_session, IsStill, nothing, joins, leaves, says, orders, events, after_hearing, lines_said, is_peer, with_client, without_client, hearing, line_limit, client_limit}
+use Rattle.el_world.specs.Run as run
+use Rattle.el_world.specs.Run.{Turns}
+use Rattle.el_lines.proofs.Cuts.{either, pieces}
 use Rattle.el_lines.specs.LineStates.{IsAt}
 use Rattle.el_core.specs.State.{State, ClientState, IsIdle, IsMet, HearsLeft, in_order, losing, IsSession, Rising, SessionsAre, NodeLeaves, Stands, is_numbered}
 use Rattle.el_core.specs.Arrivals.{TookArrival, IsAfterArrival, Quietly, none, joined, departed, gone_from}
@@ -50,6 +49,7 @@ new_session_is : (p : ℕ) (c : ClientState) → IsFresh p c → IsSession None 
 new_session_is p c fresh = record {
   peer = fresh.peer;
   limit = fresh.limit;
+  kept = fresh.session;
   met = λ n. record { kept = fresh.kept; at = fresh.at };
   speaks = λ e. absurd (no_some c.peer (sym e));
 }
@@ -89,6 +89,7 @@ module _ {G : Type 0} (stands : G → Chain → Type 0) where
     magic = stood.magic;
     found = stood.found;
     ahead = stood.ahead;
+    set = stood.set;
     ordered = [];
     node = subst (λ (l : List Event). NodeLeaves s.node world.heard l) (no_first stood.ordered stood.said stood.left_is) stood.node;
     said = left;
@@ -142,7 +143,7 @@ module _ {G : Type 0} (stands : G → Chain → Type 0) where
       zip_again [] (y ∷ ys) z = absurd z
       zip_again (x ∷ xs) [] z = absurd z
       zip_again (x ∷ xs) (y ∷ ys) z =
-          (record { peer = z.0.peer; limit = z.0.limit; met = z.0.met; speaks = λ e. absurd (no_some x.peer (sym e)) }, zip_again xs ys z.1)
+          (record { peer = z.0.peer; limit = z.0.limit; kept = z.0.kept; met = z.0.met; speaks = λ e. absurd (no_some x.peer (sym e)) }, zip_again xs ys z.1)
 
   pub opened_taken : (s next : State G) (world : World) (p : ℕ) → IsIdle s → AllByRecursion (λ (d : ClientState). d.peer < p) s.clients → Stands stands s world [] → Opens p s next → TookArrival stands (opened p) world next
   opened_taken s next world p idle newest stood (node is_zero same) = rw (same, is_zero) (record {
@@ -199,6 +200,7 @@ module _ {G : Type 0} (stands : G → Chain → Type 0) where
   speaks_now p left c kept x bytes is whole keeps s = record {
     peer = keeps.peer ∙ s.peer;
     limit = keeps.limit ∙ s.limit;
+    kept = keeps.session ∙ s.kept;
     met = λ n. absurd (n (ap (λ (q : ℕ). Some q) (sym (keeps.peer ∙ is))));
     speaks = λ e. rw (whole, ← is) (more_left c kept x.heard bytes (s.met (λ f. no_some c.peer (sym f))) keeps);
   }
@@ -219,6 +221,7 @@ module _ {G : Type 0} (stands : G → Chain → Type 0) where
             (λ d y r differ. record {
               peer = r.peer;
               limit = r.limit;
+              kept = r.kept;
               met = λ n. r.met (λ f. no_some d.peer (sym f));
               speaks = λ e. absurd (differ (sym r.peer ∙ sym (same_number p d.peer e) ∙ sym xp));
             })
@@ -287,6 +290,7 @@ module _ {G : Type 0} (stands : G → Chain → Type 0) where
           magic = ap (λ (u : State G). u.magic) same ∙ stood.magic;
           found = ap (λ (u : State G). u.found) same ∙ stood.found;
           ahead = ap (λ (u : State G). u.ahead) same ∙ stood.ahead;
+          set = rw (ap (λ (u : State G). u.pool) same) stood.set;
           ordered = map orders (added_lines node_limit world.heard bytes);
           node = record {
             limit = limit ∙ n.limit;
@@ -304,12 +308,13 @@ module _ {G : Type 0} (stands : G → Chain → Type 0) where
 
   -- before any arrival
   pub new_stands : (s : State G) (chain : Chain) (magic : List ℕ) (found : List Node) (files : ℕ → List ℕ) → stands s.ledger chain → s.magic ≡ magic → s.found ≡ found → s.ahead ≡ []
-      → s.clients ≡ [] → s.speaker ≡ None → s.surplus ≡ None → s.node.limit ≡ node_limit → IsAt s.node [] 0 → Stands stands s (model.quiet_world chain magic found files) []
-  new_stands s chain magic found files stood m f a c sp u limit at' = record {
+      → s.pool.entries ≡ [] → s.clients ≡ [] → s.speaker ≡ None → s.surplus ≡ None → s.node.limit ≡ node_limit → IsAt s.node [] 0 → Stands stands s (model.initial_world chain magic s.pool.limits found files) []
+  new_stands s chain magic found files stood m f a none_kept c sp u limit at' = record {
     chain = stood;
     magic = m;
     found = f;
     ahead = a;
+    set = record { before = chain; stood = rw none_kept (record { sifted = refl; are = refl; once = tt }); still = λ e. refl; limits = refl };
     ordered = [];
     node = record { limit = limit; given = 0; at = at'; few = omega arith; left_is = refl };
     said = [];

@@ -1,24 +1,25 @@
 -- Why a client is closed by a turn.
-use Rattle.std.proofs.Common.{◌≡◌, ◌⊎◌, inl, inr, ℕ, ◌+◌, ◌≤◌, true, false, true≢false, List, [], ◌∷◌, ◌++◌, length, map, drop, Option, Some, None, ap, sym, ◌∙◌, subst, eqb-true}
+use Rattle.std.proofs.Common.{◌≡◌, ◌⊎◌, inl, inr, ℕ, ◌+◌, ◌≤◌, Bool, true, false, true≢false, List, [], ◌∷◌, ◌++◌, length, map, drop, Option, Some, None, ap, sym, ◌∙◌, subst, eqb-true}
 use Rattle.std.specs.Prelude.{IfSome, Contains}
 use Rattle.std.specs.List.{slice_get, AllZip, list_any}
 use Rattle.std.proofs.lemmas.Option.{slice_get_within, get_or_from_slice_get}
 use Rattle.std.proofs.lemmas.List.Elements.{Contains-get_or}
-use Rattle.el_outside.specs.Story.{Closing}
+use Rattle.el_outside.specs.Trace.{Closing}
 use Rattle.el_outside.specs.declared.link.Why.TheVariants as why
+use Rattle.el_outside.specs.Devices.{Device}
 use Rattle.el_chain.specs.Chains.{Chain}
-use Rattle.el_model.specs.Lines.{LineEvent, line, too_long, lines}
-use Rattle.el_model.specs.NodeAnswers.{node_limit}
-use Rattle.el_model.specs.Sessions.{Session}
-use Rattle.el_model.specs.World as model
-use Rattle.el_model.specs.World.{World, Event, joins, says, orders, closes_long, closes_surplus, reply_to, is_client, is_peer, line_limit}
-use Rattle.el_model.specs.Run.{closes_memory, IsNodesTurn}
-use Rattle.el_model.proofs.Cuts.{either}
+use Rattle.el_lines.specs.Lines.{LineEvent, line, too_long, lines}
+use Rattle.el_lines.specs.NodeAnswers.{node_limit}
+use Rattle.el_world.specs.Side.{Side}
+use Rattle.el_world.specs.World as model
+use Rattle.el_world.specs.World.{World, Session, Event, joins, says, orders, outs_of_reply, closes_long, closes_memory, closes_surplus, reply_to, is_client, is_peer, line_limit}
+use Rattle.el_world.specs.Run.{IsNodesTurn}
+use Rattle.el_lines.proofs.Cuts.{either}
 use Rattle.el_lines.specs.LineStates.{LineState}
 use Rattle.el_lines.specs.declared.line_buffer.LineEvent.TheVariants as event
 use Rattle.el_core.specs.State.{State, ClientState, HearsLeft, in_order, losing, IsSession, SessionsAre, NodeLeaves, Stands}
 use Rattle.el_core.specs.Turn.{HasLost, MeetsLine, outs_of, closing_of}
-use Rattle.el_core.specs.within.Clients.{Gives, NextIsLine, ClientTurn, nobody, gone, steps, loses, departs, answers, waits, PeersTurn, closes, has_turn}
+use Rattle.el_core.specs.within.Clients.{replied, starved, Gives, NextIsLine, ClientTurn, nobody, gone, steps, loses, departs, answers, waits, PeersTurn, closes, has_turn}
 use Rattle.el_core.specs.declared.out.Outs as code
 use Rattle.el_core.proofs.Places.{there_at}
 use Rattle.el_core.proofs.Sessions.{left_first, left_none, ordered, all_met}
@@ -96,6 +97,10 @@ surplus_other p q e = let w : why.Clients ≡ why.Memory = ap (λ (x : Closing).
 
 pub reply_other : (o : model.Outs) (p q : ℕ) (text : List ℕ) → o ≡ reply_to p text → CloseIs o.closing q → ⊥
 reply_other o p q text is told = let e = ap (λ (x : model.Outs). x.closing) (sym is) ∙ told in cc
+
+version_other : (p q : ℕ) (text : Option (List ℕ)) (closes_it : Bool) → CloseIs (outs_of_reply p (record { text = text; closes = closes_it })).closing q → ⊥
+version_other p q text true told = let w : why.Version ≡ why.Memory = ap (λ (x : Closing). x.why) (one_closing _ _ told) in cc
+version_other p q text false told = cc
 
 -- the next event is a whole line
 meets : (c : ClientState) (heard : List ℕ) (left : List Event) (p : ℕ) → c.lost ≡ false → c.buffer.limit ≡ line_limit → HearsLeft c heard left → NextIsLine c.buffer → c.peer ≡ p → MeetsLine p left
@@ -175,60 +180,60 @@ module _ {G : Type 0} (stands : G → Chain → Type 0) where
       → (stood.ordered ≡ []) × (stood.said ≡ says p e ∷ rest)
   none_ordered_before s world p e rest stood = said_next s.node world.heard stood.ordered stood.said (says p e) rest stood.node stood.left_is (orders_no_line p e)
 
-  memory_of : (chain : Chain) (rose : ℕ → Type 0) (s : State G) (world : World) (c : ClientState) (o : code.Outs) (next : Option ClientState) (left : List Event) (p q i : ℕ) → Speaking s world left q i c
-      → slice_get s.clients i ≡ Some c → ClientTurn chain rose c (Some o) next → CloseIs (outs_of o).closing p → HasLost p s.clients ⊎ MeetsLine p left
-  memory_of chain rose s world c o next left p q i w at (loses o' lost some is gone_is still) told = inl (c, contains_at s.clients i c at, same_peer c.peer p (closing_is o o' _ p some is told), lost)
-  memory_of chain rose s world c o next left p q i w at (departs o' kept next_line some is gone_is still) told =
+  memory_of : (tells : Type 0) (side : Side) (rose : List Device → Type 0) (s : State G) (world : World) (c : ClientState) (o : code.Outs) (next : Option ClientState) (left : List Event) (p q i : ℕ) → Speaking s world left q i c
+      → slice_get s.clients i ≡ Some c → ClientTurn tells side rose c (Some o) next → CloseIs (outs_of o).closing p → HasLost p s.clients ⊎ MeetsLine p left
+  memory_of tells side rose s world c o next left p q i w at (loses o' lost some is gone_is still) told = inl (c, contains_at s.clients i c at, same_peer c.peer p (closing_is o o' _ p some is told), lost)
+  memory_of tells side rose s world c o next left p q i w at (departs o' kept next_line some is gone_is still) told =
       inr (meets c w.session.heard left p kept w.is.limit w.hears next_line (same_peer c.peer p (closing_is o o' _ p some is told)))
-  memory_of chain rose s world c o next left p q i w at (answers o' (event.Line bytes) b st kept limit gives (inl a) now_is some) told =
-      absurd (reply_other (outs_of o) c.peer p a.0.0 (ap outs_of (same_outs o o' some) ∙ a.0.2) told)
-  memory_of chain rose s world c o next left p q i w at (answers o' (event.Line bytes) b st kept limit gives (inr a) now_is some) told =
-      inr (meets c w.session.heard left p kept w.is.limit w.hears (gives_line c b bytes gives) (same_peer c.peer p (closing_is o o' _ p some a.0 told)))
-  memory_of chain rose s world c o next left p q i w at (answers o' (event.TooLong most) b st kept limit gives a now_is some) told =
+  memory_of tells side rose s world c o next left p q i w at (answers o' (event.Line bytes) b now st kept limit gives (replied losses reply comes outs_is st_is lost) now_is some) told =
+      absurd (version_other c.peer p reply.text reply.closes (closing_is o o' _ p some outs_is told))
+  memory_of tells side rose s world c o next left p q i w at (answers o' (event.Line bytes) b now st kept limit gives (starved losses e comes outs_is st_is lost) now_is some) told =
+      inr (meets c w.session.heard left p kept w.is.limit w.hears (gives_line c b bytes gives) (same_peer c.peer p (closing_is o o' _ p some outs_is told)))
+  memory_of tells side rose s world c o next left p q i w at (answers o' (event.TooLong most) b now st kept limit gives a now_is some) told =
       absurd (long_other c.peer p (closing_is o o' _ p some a.0 told))
-  memory_of chain rose s world c o next left p q i w at (waits idle none_is same still) told = absurd (no_outs o none_is)
+  memory_of tells side rose s world c o next left p q i w at (waits idle none_is same still) told = absurd (no_outs o none_is)
 
-  pub peers_memory : (old new : State G) (world : World) (left : List Event) (chain : Chain) (rose : ℕ → Type 0) (o : code.Outs) (p : ℕ) (stood : Stands stands old world left) → stood.ordered ≡ []
-      → PeersTurn chain rose old (Some o) new → CloseIs (outs_of o).closing p → HasLost p old.clients ⊎ MeetsLine p left
-  peers_memory old new world left chain rose o p stood none (closes q o' is some outs_is next still) told = absurd (surplus_other q p (closing_is o o' _ p some outs_is told))
-  peers_memory old new world left chain rose o p stood none (has_turn unused (nobody no_speaker none_is next still)) told = absurd (no_outs o none_is)
-  peers_memory old new world left chain rose o p stood none (has_turn unused (gone q is absent none_is next still)) told = absurd (no_outs o none_is)
-  peers_memory old new world left chain rose o p stood none (has_turn unused (steps q i c now is at peer_is turn next)) told =
+  pub peers_memory : (old new : State G) (world : World) (left : List Event) (tells : Type 0) (side : Side) (rose : List Device → Type 0) (o : code.Outs) (p : ℕ) (stood : Stands stands old world left) → stood.ordered ≡ []
+      → PeersTurn tells side rose old (Some o) new → CloseIs (outs_of o).closing p → HasLost p old.clients ⊎ MeetsLine p left
+  peers_memory old new world left tells side rose o p stood none (closes q o' is some outs_is next still) told = absurd (surplus_other q p (closing_is o o' _ p some outs_is told))
+  peers_memory old new world left tells side rose o p stood none (has_turn unused (nobody no_speaker none_is next still)) told = absurd (no_outs o none_is)
+  peers_memory old new world left tells side rose o p stood none (has_turn unused (gone q is absent none_is next still)) told = absurd (no_outs o none_is)
+  peers_memory old new world left tells side rose o p stood none (has_turn unused (steps q i c now is at peer_is turn next)) told =
       let l : left ≡ stood.said = stood.left_is ∙ ap (λ (x : List Event). x ++ stood.said) none in
-      rw l (memory_of chain rose old world c o now stood.said p q i (speaking old world stood.said q i c (rw (is, unused) at stood.sessions) at peer_is) at turn told)
+      rw l (memory_of tells side rose old world c o now stood.said p q i (speaking old world stood.said q i c (rw (is, unused) at stood.sessions) at peer_is) at turn told)
 
-  pub found_memory : (old new : State G) (world : World) (left : List Event) (chain : Chain) (rose : ℕ → Type 0) (o : Option code.Outs) (p : ℕ) (stood : Stands stands old world left) → stood.ordered ≡ []
-      → PeersTurn chain rose old o new → IfSome o (λ out. out.close ≡ Some (p, why.Memory) → HasLost p old.clients ⊎ MeetsLine p left)
-  found_memory old new world left chain rose None p stood none turn = tt
-  found_memory old new world left chain rose (Some o) p stood none turn = λ told. peers_memory old new world left chain rose o p stood none turn (ap closing_of told)
+  pub found_memory : (old new : State G) (world : World) (left : List Event) (tells : Type 0) (side : Side) (rose : List Device → Type 0) (o : Option code.Outs) (p : ℕ) (stood : Stands stands old world left) → stood.ordered ≡ []
+      → PeersTurn tells side rose old o new → IfSome o (λ out. out.close ≡ Some (p, why.Memory) → HasLost p old.clients ⊎ MeetsLine p left)
+  found_memory old new world left tells side rose None p stood none turn = tt
+  found_memory old new world left tells side rose (Some o) p stood none turn = λ told. peers_memory old new world left tells side rose o p stood none turn (ap closing_of told)
 
-  long_of : (chain : Chain) (rose : ℕ → Type 0) (s : State G) (world : World) (c : ClientState) (o : Option code.Outs) (next : Option ClientState) (rest : List Event) (p q i : ℕ) → Speaking s world (says p too_long ∷ rest) q i c
-      → slice_get s.clients i ≡ Some c → (HasLost p s.clients → ⊥) → ClientTurn chain rose c o next → LongBy p o
-  long_of chain rose s world c o next rest p q i w at kept (loses o' lost some is gone_is still) = absurd (kept (c, contains_at s.clients i c at, whose c w.session.heard p too_long rest w.hears, lost))
-  long_of chain rose s world c o next rest p q i w at kept (departs o' k next_line some is gone_is still) =
+  long_of : (tells : Type 0) (side : Side) (rose : List Device → Type 0) (s : State G) (world : World) (c : ClientState) (o : Option code.Outs) (next : Option ClientState) (rest : List Event) (p q i : ℕ) → Speaking s world (says p too_long ∷ rest) q i c
+      → slice_get s.clients i ≡ Some c → (HasLost p s.clients → ⊥) → ClientTurn tells side rose c o next → LongBy p o
+  long_of tells side rose s world c o next rest p q i w at kept (loses o' lost some is gone_is still) = absurd (kept (c, contains_at s.clients i c at, whose c w.session.heard p too_long rest w.hears, lost))
+  long_of tells side rose s world c o next rest p q i w at kept (departs o' k next_line some is gone_is still) =
       let m = meets c w.session.heard (says p too_long ∷ rest) p k w.is.limit w.hears next_line (whose c w.session.heard p too_long rest w.hears) in
       absurd (other_event p p m.bytes rest m.rest m.is)
-  long_of chain rose s world c o next rest p q i w at kept (answers o' (event.Line bytes) b st k limit gives a now_is some) =
+  long_of tells side rose s world c o next rest p q i w at kept (answers o' (event.Line bytes) b now st k limit gives a now_is some) =
       let m = meets c w.session.heard (says p too_long ∷ rest) p k w.is.limit w.hears (gives_line c b bytes gives) (whose c w.session.heard p too_long rest w.hears) in
       absurd (other_event p p m.bytes rest m.rest m.is)
-  long_of chain rose s world c o next rest p q i w at kept (answers o' (event.TooLong most) b st k limit gives a now_is some) = (o', some, a.0 ∙ ap closes_long (whose c w.session.heard p too_long rest w.hears))
-  long_of chain rose s world c o next rest p q i w at kept (waits idle none_is now_is still) =
+  long_of tells side rose s world c o next rest p q i w at kept (answers o' (event.TooLong most) b now st k limit gives a now_is some) = (o', some, a.0 ∙ ap closes_long (whose c w.session.heard p too_long rest w.hears))
+  long_of tells side rose s world c o next rest p q i w at kept (waits idle none_is now_is still) =
       let d = ordered c w.session.heard (says p too_long ∷ rest) idle.kept w.hears in
       let none_after = left_none (says c.peer) (lines line_limit w.session.heard) d.given (all_met c w.session.heard d.given w.is.limit idle.given_all d.at) in
       absurd (let e = d.left_is ∙ none_after in cc)
 
-  pub peers_long : (old new : State G) (world : World) (p : ℕ) (rest : List Event) (chain : Chain) (rose : ℕ → Type 0) (o : Option code.Outs) → Stands stands old world (says p too_long ∷ rest)
-      → is_client p world ≡ true → (HasLost p old.clients → ⊥) → PeersTurn chain rose old o new → LongBy p o
-  peers_long old new world p rest chain rose o stood is_one kept (closes q o' waits_q some outs_is next still) =
+  pub peers_long : (old new : State G) (world : World) (p : ℕ) (rest : List Event) (tells : Type 0) (side : Side) (rose : List Device → Type 0) (o : Option code.Outs) → Stands stands old world (says p too_long ∷ rest)
+      → is_client p world ≡ true → (HasLost p old.clients → ⊥) → PeersTurn tells side rose old o new → LongBy p o
+  peers_long old new world p rest tells side rose o stood is_one kept (closes q o' waits_q some outs_is next still) =
       let n = none_ordered_before old world p too_long rest stood in
       absurd (no_line old.clients old.speaker world.sessions rest p q too_long (rw (waits_q, n.1) at stood.sessions))
-  peers_long old new world p rest chain rose o stood is_one kept (has_turn unused (nobody no_speaker none_is next still)) =
+  peers_long old new world p rest tells side rose o stood is_one kept (has_turn unused (nobody no_speaker none_is next still)) =
       let n = none_ordered_before old world p too_long rest stood in
       let are : SessionsAre old.clients None None world.sessions (says p too_long ∷ rest) = rw (no_speaker, unused, n.1) at stood.sessions in
       let v = are.leaves_left.0 in
       absurd (there_at p world.sessions is_one (rw v.1 v.2))
-  peers_long old new world p rest chain rose o stood is_one kept (has_turn unused (gone q is absent none_is next still)) =
+  peers_long old new world p rest tells side rose o stood is_one kept (has_turn unused (gone q is absent none_is next still)) =
       absurd (gone_not q old.clients world.sessions stood.said (rw (is, unused) at stood.sessions) absent)
-  peers_long old new world p rest chain rose o stood is_one kept (has_turn unused (steps q i c now is at peer_is turn next)) =
+  peers_long old new world p rest tells side rose o stood is_one kept (has_turn unused (steps q i c now is at peer_is turn next)) =
       let n = none_ordered_before old world p too_long rest stood in
-      long_of chain rose old world c o now rest p q i (speaking old world (says p too_long ∷ rest) q i c (rw (is, unused, n.1) at stood.sessions) at peer_is) at kept turn
+      long_of tells side rose old world c o now rest p q i (speaking old world (says p too_long ∷ rest) q i c (rw (is, unused, n.1) at stood.sessions) at peer_is) at kept turn

@@ -7,6 +7,7 @@ pub mod Causes
 pub mod Arriving
 pub mod Places
 pub mod Replacing
+pub mod Losing
 pub mod Replying
 pub mod Measured
 pub mod Numbers

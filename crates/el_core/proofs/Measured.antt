@@ -3,9 +3,9 @@ use Rattle.std.proofs.Common.{◌≡◌, ℕ, zero, suc, ◌+◌, ◌*◌, ◌<�
 use Rattle.std.specs.Prelude.{IfSome, IfNone, OnSome}
 use Rattle.std.specs.Option.{is_some}
 use Rattle.std.proofs.Math.Nat.{mul-le-mul_left, mul-le-mul_right, suc-mul}
-use Rattle.el_outside.specs.Counts.{RoseBy}
-use Rattle.el_chain.specs.Chains.{Chain}
-use Rattle.el_model.proofs.Cuts.{either}
+use Rattle.el_outside.specs.Devices.{Device}
+use Rattle.el_lines.proofs.Cuts.{either}
+use Rattle.el_world.specs.Side.{Side}
 use Rattle.el_core.specs.State.{State, ClientState, IsIdle, is_numbered, work, work_of_node, work_of_client, work_of_clients, work_of_speaker, work_of_peers}
 use Rattle.el_core.specs.Arrivals.{gone_from, kept_clients, kept_speaker}
 use Rattle.el_lines.specs.LineStates.{held}
@@ -24,10 +24,10 @@ speaker_stays None left o p c e some same is = absurd (no_some o (sym some))
 speaker_stays (Some q) None o p c e some same is = absurd (true≢false (sym e))
 speaker_stays (Some q) (Some d) o p c e some same is = ap (λ (n : ℕ). Some n) (sym (same ∙ is))
 
-pub steps_of : {G : Type 0} (says : ClientState → Option ClientState → Type 0) (chain : Chain) (rose : ℕ → Type 0) (s new : State G) (outs : Option Outs) (stays : Bool) (p i : ℕ) → s.speaker ≡ Some p → IsPlace p s.clients (Some i)
-    → (t : TurnsAt says i s.clients outs stays new.clients) → ((c : ClientState) (left : Option ClientState) → says c left → ClientTurn chain rose c outs left)
-    → new ≡ record s { ledger = new.ledger; clients = new.clients; speaker = new.speaker } → (t.client.peer ≡ p → new.speaker ≡ speaker_after outs t.left) → SpeakerSteps chain rose s outs new
-steps_of {G} says chain rose s new outs stays p i is place t turn same speaker =
+pub steps_of : {G : Type 0} (says : ClientState → Option ClientState → Type 0) (tells : Type 0) (side : Side) (rose : List Device → Type 0) (s new : State G) (outs : Option Outs) (stays : Bool) (p i : ℕ) → s.speaker ≡ Some p → IsPlace p s.clients (Some i)
+    → (t : TurnsAt says i s.clients outs stays new.clients) → ((c : ClientState) (left : Option ClientState) → says c left → ClientTurn tells side rose c outs left)
+    → new ≡ record s { ledger = new.ledger; clients = new.clients; speaker = new.speaker } → (t.client.peer ≡ p → new.speaker ≡ speaker_after outs t.left) → SpeakerSteps tells side rose s outs new
+steps_of {G} says tells side rose s new outs stays p i is place t turn same speaker =
     let peer : t.client.peer ≡ p = ap (λ (d : ClientState). d.peer) (same_some _ _ (sym t.at ∙ place.1)) ∙ place.2 in
     steps p i t.client t.left is t.at peer (turn t.client t.left t.said)
     (same ∙ ap (λ (cs : List ClientState). record s { ledger = new.ledger; clients = cs; speaker = new.speaker }) t.next_is
@@ -59,11 +59,11 @@ on_some None P p = tt
 on_some (Some a) P p = p
 
 -- the turn of the client that speaks, where no client too many waits
-pub peers_of : {G : Type 0} (faults : G → ℕ) (chain : Chain) (s mid next : State G) (o : Option Outs) → s.surplus ≡ None → mid ≡ record s { surplus = None }
-    → SpeakerSteps chain (λ n. RoseBy (faults mid.ledger) (faults next.ledger) n) mid o next → PeersTurn chain (λ n. RoseBy (faults s.ledger) (faults next.ledger) n) s o next
-peers_of {G} faults chain s mid next o unused made turn =
+pub peers_of : {G : Type 0} (tells : Type 0) (side : Side) (rose : G → List Device → Type 0) (s mid next : State G) (o : Option Outs) → s.surplus ≡ None → mid ≡ record s { surplus = None }
+    → SpeakerSteps tells side (rose mid.ledger) mid o next → PeersTurn tells side (rose s.ledger) s o next
+peers_of {G} tells side rose s mid next o unused made turn =
     let same : mid ≡ s = made ∙ ap (λ (x : Option ℕ). record s { surplus = x }) (sym unused) in
-    has_turn unused (subst (λ (m : State G). SpeakerSteps chain (λ n. RoseBy (faults m.ledger) (faults next.ledger) n) m o next) same turn)
+    has_turn unused (subst (λ (m : State G). SpeakerSteps tells side (rose m.ledger) m o next) same turn)
 
 -- ---- a client goes
 
@@ -103,13 +103,13 @@ work_line l l' f f' a' lt few ahead =
     let three = suc-mul l' (f + l + 1) in
     omega arith
 
-pub ahead_less : {G : Type 0} (old new : State G) → length new.ahead < length old.ahead → new ≡ record old { ledger = new.ledger; ahead = new.ahead } → work new < work old
+pub ahead_less : {G : Type 0} (old new : State G) → length new.ahead < length old.ahead → new ≡ record old { ledger = new.ledger; pool = new.pool; ahead = new.ahead } → work new < work old
 unfolding work_of_node
 ahead_less {G} old new fewer same =
     rw (ap (λ (s : State G). s.found) same, ap (λ (s : State G). s.node) same, ap (λ (s : State G). s.clients) same, ap (λ (s : State G). s.speaker) same, ap (λ (s : State G). s.surplus) same) (omega arith)
 
 pub line_less : {G : Type 0} (old mid new : State G) → mid ≡ record old { node = mid.node } → held mid.node < held old.node → length new.ahead ≤ length mid.found → length new.found ≤ length mid.found + 1
-    → new ≡ record mid { ledger = new.ledger; found = new.found; ahead = new.ahead } → work new < work old
+    → new ≡ record mid { ledger = new.ledger; found = new.found; pool = new.pool; ahead = new.ahead } → work new < work old
 unfolding work_of_node
 line_less {G} old mid new same less fewer more then =
     let found : mid.found ≡ old.found = ap (λ (s : State G). s.found) same in

@@ -1,49 +1,39 @@
 -- Turns of the node, over what the server keeps and the world that it stands for.
-use Rattle.std.proofs.Common.{◌≡◌, inl, inr, ℕ, zero, suc, ◌+◌, ◌==◌, Bool, true, length, eqb-true, List, [], ◌∷◌, ◌++◌, map, drop, Option, Some, Result, Ok, Err, refl, ap, sym, ◌∙◌, arith, subst}
+use Rattle.std.proofs.Common.{◌≡◌, inl, ℕ, zero, suc, ◌+◌, ◌==◌, Bool, true, false, true≢false, length, eqb-true, List, [], ◌∷◌, ◌++◌, map, drop, Option, Some, Result, Ok, Err, refl, ap, sym, ◌∙◌, arith, subst}
 use Rattle.std.specs.List.{AllByRecursion, slice_get}
 use Rattle.std.proofs.lemmas.Option.{slice_get_within}
 use Rattle.el_outside.specs.declared.archive.Archive as archive
-use Rattle.el_outside.specs.Counts.{RoseBy}
-use Rattle.el_outside.specs.Devices as device
-use Rattle.el_outside.specs.Devices.{Device, Rose, failures, faults}
-use Rattle.el_outside.proofs.Stories.{all_grow_none}
+use Rattle.el_outside.specs.Devices.{Device}
+use Rattle.el_outside.proofs.Devices.{all_rose_none}
+use Rattle.el_outside.proofs.Traces.{all_grow_none}
 use Rattle.el_chain.specs.declared.moves.Plan.{Plan}
 use Rattle.el_chain.specs.declared.node.Node.{Node}
 use Rattle.el_chain.specs.Chains.{Chain}
 use Rattle.el_model.specs.declared.ledger.Ledger as ledger
-use Rattle.el_model.specs.NodeSteps.{Leads}
-use Rattle.el_model.specs.Lines.{LineEvent, lines}
-use Rattle.el_model.specs.NodeAnswers.{node_limit}
-use Rattle.el_model.specs.Plans.{IsMoving, plan_of}
-use Rattle.el_model.specs.Side.{Side, Moving, OrdersLine}
-use Rattle.el_model.specs.World as model
-use Rattle.el_model.specs.World.{World, Event, orders, reply_to, IsStill, IsBusy}
-use Rattle.el_model.specs.Run as run
-use Rattle.el_model.specs.Run.{OneTurn, IsNodesTurn}
-use Rattle.el_model.specs.Flights.{later, first, IsFirstMove, IsMoveOf, IsUnderWay, before as not_moved, in_move}
+use Rattle.el_model.specs.LedgerCalls.{failed_calls}
+use Rattle.el_mempool.specs.Standing.{PoolState}
+use Rattle.el_world.specs.NodeSteps.{Leads}
+use Rattle.el_lines.specs.Lines.{LineEvent, lines}
+use Rattle.el_lines.specs.NodeAnswers.{node_limit}
+use Rattle.el_world.specs.Plans.{IsMoving, plan_of}
+use Rattle.el_world.specs.Side.{Side, Moving, OrdersLine}
+use Rattle.el_world.specs.World as model
+use Rattle.el_world.specs.World.{World, Event, orders, reply_to, IsStill, IsBusy}
+use Rattle.el_world.specs.Run as run
+use Rattle.el_world.specs.Run.{OneTurn, IsNodesTurn}
+use Rattle.el_world.specs.Flights.{later, first, IsFirstMove, IsMoveOf, IsUnderWay, before as not_moved, in_move}
 use Rattle.el_model.proofs.LedgerMoves.{LeavesOwn, asked_none, asked_moved}
 use Rattle.el_lines.specs.LineStates.{LineState}
-use Rattle.el_sync.specs.Steps.{NodeStep, RoseWith, StopsAt}
+use Rattle.el_sync.specs.Steps.{NodeStep, FailsBy, by_disk, by_memory, untold, in_sift, StopsAt}
 use Rattle.el_sync.specs.declared.fault.StepFault.{StepFault}
 use Rattle.el_sync.specs.declared.moving.Step.{Step}
 use Rattle.el_sync.specs.declared.fault.StepFault.TheVariants as fault
 use Rattle.el_core.specs.State.{State, NodeLeaves, Stands}
-use Rattle.el_core.specs.Turn.{TookTurn, TurnFailed, GoesTo, outs_of}
+use Rattle.el_core.specs.Turn.{TookTurn, TurnFailed, GoesTo, outs_of, stop_of}
 use Rattle.el_core.specs.within.Answering.{Answered, NodeKeeps}
 use Rattle.el_core.specs.within.Clients.{Gives}
 use Rattle.el_core.specs.declared.out.Outs.{Outs}
 use Rattle.el_core.proofs.Sessions.{left_first}
-
--- a count that stays rose by none
-pub rose_still : (a b : ℕ) → b ≡ a → RoseBy a b 0
-rose_still a b same = omega arith
-
--- calls of the block files and of the ledger's device alone failed
-pub rose_of : (of_link ab aa db da : ℕ) (losses : List Device) → failures device.link losses ≡ 0 → RoseBy ab aa (failures device.archive losses) → RoseBy db da (failures device.disk losses)
-    → Rose (faults of_link ab db) (faults of_link aa da) losses
-rose_of of_link ab aa db da losses no_link of_files of_disk device.link = rw no_link (rose_still of_link of_link refl)
-rose_of of_link ab aa db da losses no_link of_files of_disk device.archive = of_files
-rose_of of_link ab aa db da losses no_link of_files of_disk device.disk = of_disk
 
 pub moving_any : (b : ℕ) (ns : List Node) → (ns ≡ [] → ⊥) → IsMoving b ns
 moving_any zero [] some = absurd (some refl)
@@ -89,10 +79,18 @@ next_order b next heard ordered e n same gives =
 
 module _ {G A : Type 0} (l : ledger.Ghosts G) (f : archive.Ghosts A) where
   -- no memory was found, and nothing was done
-  pub stops_still : (old : G) (files : A) (chain : Chain) (is_move : Plan → Type 0) → LeavesOwn l → l.is_live old → l.stands old chain → StopsAt l f old old files chain is_move fault.Memory
-  stops_still old files chain is_move own live stood =
+  pub stops_still : (old : G) (files : A) (chain : Chain) (again : Bool) (is_move : Plan → Type 0) → LeavesOwn l → l.is_live old → l.stands old chain → StopsAt l f old old files files chain again is_move fault.Memory
+  stops_still old files chain again is_move own live stood =
       let moved = asked_moved l old old chain own live (asked_none l old) stood in
-      record { next = chain; flight = not_moved refl; crash = moved.crash; still = λ m. refl; stood = λ m. moved }
+      record {
+        next = chain;
+        flight = not_moved refl;
+        crash = moved.crash;
+        stood = λ m. moved;
+        losses = [];
+        fails = by_memory refl refl;
+        rose = λ of_link. all_rose_none (failed_calls l f of_link old files);
+      }
 
   pub step_still : (old : G) (files : A) → l.is_live old → NodeKeeps l f old old files files (Err fault.Memory)
   step_still old files live = record {
@@ -100,28 +98,25 @@ module _ {G A : Type 0} (l : ledger.Ghosts G) (f : archive.Ghosts A) where
     still_live = λ e. live;
     keeps = λ t. all_grow_none (f.bytes files);
     archive_more = omega arith;
-    archive_rose = inl (rose_still (f.faults files) (f.faults files) refl);
     disk_rose = record { counted = λ e. absurd cc; uncounted = tt; others_uncounted = λ other. refl };
   }
 
   -- what the step kept, the turn keeps
-  pub keeps_ok : (old new : G) (before after : A) (step : Step) (o : Outs) → NodeStep l f old new before after (Ok step) → NodeKeeps l f old new before after (Ok o)
-  keeps_ok old new before after step o k = record {
+  pub keeps_ok : (old new : G) (before after : A) (again : Bool) (step : Step) (o : Outs) → NodeStep l f old new before after again (Ok step) → NodeKeeps l f old new before after (Ok o)
+  keeps_ok old new before after again step o k = record {
     live = k.live;
     still_live = λ e. absurd cc;
     keeps = k.keeps;
     archive_more = k.archive_more;
-    archive_rose = tt;
     disk_rose = record { counted = λ e. absurd cc; uncounted = k.disk_rose.uncounted; others_uncounted = tt };
   }
 
-  pub keeps_err : (old new : G) (before after : A) (e : StepFault) → NodeStep l f old new before after (Err e) → NodeKeeps l f old new before after (Err e)
-  keeps_err old new before after e k = record {
+  pub keeps_err : (old new : G) (before after : A) (again : Bool) (e : StepFault) → NodeStep l f old new before after again (Err e) → NodeKeeps l f old new before after (Err e)
+  keeps_err old new before after again e k = record {
     live = tt;
     still_live = λ is. k.still_live (ap Err (fault_same e fault.Memory is));
     keeps = k.keeps;
     archive_more = k.archive_more;
-    archive_rose = k.archive_rose;
     disk_rose = record {
       counted = λ is. k.disk_rose.counted (ap Err (fault_same e fault.DiskFailed is));
       uncounted = tt;
@@ -129,9 +124,9 @@ module _ {G A : Type 0} (l : ledger.Ghosts G) (f : archive.Ghosts A) where
     };
   }
 
-  pub found_same : (leads : List ℕ → List Device → Side → Type 0) (old new : G) (before after : A) (side : Side) (text : List ℕ) (found same ahead : List Node) → found ≡ same
-      → Leads l f leads old new before after side text found ahead → Leads l f leads old new before after side text same ahead
-  found_same leads old new before after side text found same ahead is led = subst (λ (fs : List Node). Leads l f leads old new before after side text fs ahead) is led
+  pub found_same : (leads : List ℕ → List Device → Side → Type 0) (old new : G) (before after : A) (side : Side) (text : List ℕ) (found same ahead : List Node) (pool : PoolState) → found ≡ same
+      → Leads l f leads old new before after side text found ahead pool → Leads l f leads old new before after side text same ahead pool
+  found_same leads old new before after side text found same ahead pool is led = subst (λ (fs : List Node). Leads l f leads old new before after side text fs ahead pool) is led
 
   -- What is known of a turn of the node, which leaves the clients as they were.
   pub record NodeTurned (leads : List ℕ → List Device → Side → Type 0) (old new : State G) (before after : A) (world : World) (left : List Event) (o : Outs) : Type 0 where
@@ -143,7 +138,7 @@ module _ {G A : Type 0} (l : ledger.Ghosts G) (f : archive.Ghosts A) where
     pub surplus : new.surplus ≡ old.surplus
 
   -- what is sent to the node goes to it
-  to_node_goes : (o : model.Outs) (text : List ℕ) (next : World) (surplus : Option ℕ) → o ≡ reply_to 0 text → AllByRecursion (GoesTo next surplus) o.messages
+  to_node_goes : (o : model.Outs) (text : List ℕ) (next : World) (surplus : Option ℕ) → o ≡ reply_to 0 text → AllByRecursion (GoesTo next surplus o.closing) o.messages
   to_node_goes o text next surplus is = rw is (inl refl, tt)
 
   built : (leads : List ℕ → List Device → Side → Type 0) (old new : State G) (before after : A) (world : World) (left : List Event) (o : Outs) (r : NodeTurned leads old new before after world left o)
@@ -163,6 +158,7 @@ module _ {G A : Type 0} (l : ledger.Ghosts G) (f : archive.Ghosts A) where
           magic = r.magic ∙ r.stood.magic ∙ sym led.magic_is;
           found = led.found_is;
           ahead = led.ahead_is;
+          set = led.set;
           ordered = ordered;
           node = node;
           said = r.stood.said;
@@ -201,51 +197,59 @@ module _ {G A : Type 0} (l : ledger.Ghosts G) (f : archive.Ghosts A) where
 
   -- ---- turns that fail
 
-  -- by how much the counts rose
-  pub record FailCounts (e : StepFault) (before after : A) (old new : G) : Type 0 where
-    pub archive : RoseWith e (λ n. RoseBy (f.faults before) (f.faults after) n)
-    pub disk : e ≡ fault.DiskFailed → RoseBy (l.faults old) (l.faults new) 1
-    pub others : (e ≡ fault.DiskFailed → ⊥) → l.faults new ≡ l.faults old
-
-  failed_so : (old new : G) (before after : A) (world : World) (left : List Event) (e : StepFault) → IsNodesTurn world left
-      → FailCounts e before after old new → StopsAt l f old new after world.side.chain (IsMoveOf world left) e → (e ≡ fault.Memory → l.is_live new)
+  failed_so : (old new : G) (before after : A) (world : World) (left : List Event) (again : Bool) (e : StepFault) → IsNodesTurn world left → (again ≡ true → IsBusy world)
+      → (r : StopsAt l f old new before after world.side.chain again (IsMoveOf world left) e) → FailsBy again world.side.chain r.next e r.losses → (e ≡ fault.Memory → l.is_live new)
       → TurnFailed l f old new before after world left e
-  failed_so old new before after world left fault.DiskFailed nodes counts stops live = record {
-    losses = device.disk ∷ [];
-    stops = run.disk_failed refl nodes refl refl refl;
+  failed_so old new before after world left again e nodes busy r (by_disk is lost) live = record {
+    losses = r.losses;
+    stops = run.disk_failed (ap stop_of is) nodes refl refl lost;
     within = tt;
-    rose = λ of_link. rose_of of_link (f.faults before) (f.faults after) (l.faults old) (l.faults new) (device.disk ∷ []) refl counts.archive (counts.disk refl);
-    stops_at = stops;
+    rose = r.rose;
+    later = again;
+    stops_at = r;
+    kept = λ k. absurd k;
     live = live;
   }
-  failed_so old new before after world left fault.Memory nodes counts stops live =
-      let no_disk = rose_still (l.faults old) (l.faults new) (counts.others (λ e. let bad = e in cc)) in
-      elim counts.archive [
-        | inl none ↦ record {
-          losses = [];
-          stops = run.no_memory refl nodes refl refl refl;
-          within = tt;
-          rose = λ of_link. rose_of of_link (f.faults before) (f.faults after) (l.faults old) (l.faults new) [] refl none no_disk;
-          stops_at = stops;
-          live = live;
-        }
-        | inr one ↦ record {
-          losses = device.archive ∷ [];
-          stops = run.untold refl nodes refl refl refl;
-          within = tt;
-          rose = λ of_link. rose_of of_link (f.faults before) (f.faults after) (l.faults old) (l.faults new) (device.archive ∷ []) refl one no_disk;
-          stops_at = stops;
-          live = live;
-        }
-      ]
+  failed_so old new before after world left again e nodes busy r (by_memory is lost) live = record {
+    losses = r.losses;
+    stops = run.no_memory (ap stop_of is) nodes refl refl lost;
+    within = tt;
+    rose = r.rose;
+    later = again;
+    stops_at = r;
+    kept = λ k. absurd k;
+    live = live;
+  }
+  failed_so old new before after world left again e nodes busy r (untold is lost same) live = record {
+    losses = r.losses;
+    stops = run.untold (ap stop_of is) nodes refl refl lost;
+    within = tt;
+    rose = r.rose;
+    later = again;
+    stops_at = r;
+    kept = λ k. same;
+    live = live;
+  }
+  failed_so old new before after world left again e nodes busy r (in_sift is_later is lost same) live = record {
+    losses = r.losses;
+    stops = run.sift_failed (ap stop_of is) (busy is_later) refl refl lost;
+    within = tt;
+    rose = r.rose;
+    later = again;
+    stops_at = r;
+    kept = λ k. same;
+    live = live;
+  }
 
-  stops_by : (old new : G) (after : A) (chain : Chain) (P Q : Plan → Type 0) (e : StepFault) → ((p : Plan) → P p → Q p) → StopsAt l f old new after chain P e → StopsAt l f old new after chain Q e
-  stops_by old new after chain P Q e gives r = record {
+  stops_by : (old new : G) (before after : A) (chain : Chain) (again : Bool) (P Q : Plan → Type 0) (e : StepFault) → ((p : Plan) → P p → Q p) → StopsAt l f old new before after chain again P e → StopsAt l f old new before after chain again Q e
+  stops_by old new before after chain again P Q e gives r = record {
     next = r.next;
     flight = under_way_by f.tells (f.bytes after) chain P Q r.next gives r.flight;
     crash = r.crash;
-    still = r.still;
     stood = r.stood;
+    losses = r.losses;
+    fails = r.fails;
+    rose = r.rose;
   }
 
   nodes_busy : (world : World) (left : List Event) → IsBusy world → IsNodesTurn world left
@@ -256,15 +260,16 @@ module _ {G A : Type 0} (l : ledger.Ghosts G) (f : archive.Ghosts A) where
   nodes_busy world (model.says p said ∷ left) busy = busy
 
   pub ahead_failed : (old new : G) (before after : A) (world : World) (left : List Event) (e : StepFault) → (world.side.ahead ≡ [] → ⊥)
-      → FailCounts e before after old new → (e ≡ fault.Memory → l.is_live new) → StopsAt l f old new after world.side.chain (λ (p : Plan). p ≡ plan_of 0 world.side.ahead) e
+      → (e ≡ fault.Memory → l.is_live new) → StopsAt l f old new before after world.side.chain true (λ (p : Plan). p ≡ plan_of 0 world.side.ahead) e
       → TurnFailed l f old new before after world left e
-  ahead_failed old new before after world left e some counts live r =
+  ahead_failed old new before after world left e some live r =
       let busy = moving_any 0 world.side.ahead some in
-      failed_so old new before after world left e (nodes_busy world left busy) counts (stops_by old new after world.side.chain _ (IsMoveOf world left) e (λ p is. later busy is) r) live
+      let s = stops_by old new before after world.side.chain true _ (IsMoveOf world left) e (λ p is. later busy is) r in
+      failed_so old new before after world left true e (nodes_busy world left busy) (λ y. busy) s s.fails live
 
   pub line_failed : (old new : G) (before after : A) (world : World) (left rest : List Event) (e : StepFault) (said : LineEvent)
-      → IsStill world → left ≡ orders said ∷ rest → FailCounts e before after old new → (e ≡ fault.Memory → l.is_live new)
-      → StopsAt l f old new after world.side.chain (IsFirstMove world.side said) e → TurnFailed l f old new before after world left e
-  line_failed old new before after world left rest e said still is counts live r =
-      failed_so old new before after world left e (rw is tt) counts
-      (stops_by old new after world.side.chain (IsFirstMove world.side said) (IsMoveOf world left) e (λ p move. first said rest still is move) r) live
+      → IsStill world → left ≡ orders said ∷ rest → (e ≡ fault.Memory → l.is_live new)
+      → StopsAt l f old new before after world.side.chain false (IsFirstMove world.side said) e → TurnFailed l f old new before after world left e
+  line_failed old new before after world left rest e said still is live r =
+      let s = stops_by old new before after world.side.chain false (IsFirstMove world.side said) (IsMoveOf world left) e (λ p move. first said rest still is move) r in
+      failed_so old new before after world left false e (rw is tt) (λ y. absurd (true≢false (sym y))) s s.fails live

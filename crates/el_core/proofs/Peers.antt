@@ -1,31 +1,31 @@
 -- Turns of the client that speaks, and of one too many.
-use Rattle.std.proofs.Common.{◌≡◌, ◌⊎◌, inl, inr, ℕ, zero, suc, ◌+◌, ◌≤◌, Bool, true, false, not, List, [], ◌∷◌, ◌++◌, length, map, filter, drop, slice_get, Option, Some, None, refl, sym, ap, ◌∙◌, append-nil, append_assoc, subst, arith, true≢false}
+use Rattle.std.proofs.Common.{◌≡◌, ◌⊎◌, inl, inr, ℕ, zero, suc, ◌+◌, ◌≤◌, Bool, true, false, not, List, [], ◌∷◌, ◌++◌, length, map, filter, drop, slice_get, Option, Some, None, Ok, Err, refl, sym, ap, ◌∙◌, append-nil, append_assoc, subst, arith, true≢false}
 use Rattle.std.specs.Prelude.{MatchBool, IfSome, IfNone, find}
-use Rattle.std.specs.List.{AllByRecursion, AllZip, list_any}
+use Rattle.std.specs.List.{AllByRecursion, AllZip}
 use Rattle.std.proofs.lemmas.Option.{slice_get_within}
 use Rattle.el_outside.specs.declared.archive.Archive as archive
-use Rattle.el_outside.specs.Counts.{RoseBy}
-use Rattle.el_outside.specs.Devices as device
-use Rattle.el_outside.specs.Devices.{Device, failures}
+use Rattle.el_base.specs.declared.memory.OutOfMemory.{OutOfMemory}
+use Rattle.el_outside.specs.Devices.{Device}
 use Rattle.el_outside.specs.Files.{AllGrow}
-use Rattle.el_outside.proofs.Stories.{rose_none}
 use Rattle.el_model.specs.declared.ledger.Ledger as ledger
 use Rattle.el_model.specs.LedgerCalls.{Moved}
-use Rattle.el_model.specs.Lines.{LineEvent, line, too_long, lines}
-use Rattle.el_model.specs.NodeAnswers.{node_limit}
-use Rattle.el_model.specs.Replies.{replies}
-use Rattle.el_model.specs.Sessions.{Session}
-use Rattle.el_model.specs.World as model
-use Rattle.el_model.specs.World.{World, Event, IsStill, joins, says, orders, leaves, Takes, Outs, reply_to, nothing, closes_long, closes_surplus, is_client, is_peer, without_client, line_limit}
-use Rattle.el_model.specs.Run as run
-use Rattle.el_model.specs.Run.{OneTurn, Turns, closes_memory}
+use Rattle.el_lines.proofs.Cuts.{either}
+use Rattle.el_lines.specs.Lines.{LineEvent, line, too_long, lines}
+use Rattle.el_lines.specs.NodeAnswers.{node_limit}
+use Rattle.el_methods.specs.declared.session.Session as known
+use Rattle.el_replies.specs.declared.line.LineReply.{LineReply}
+use Rattle.el_world.specs.Side.{Side}
+use Rattle.el_world.specs.World as model
+use Rattle.el_world.specs.World.{World, Session, Event, IsStill, joins, says, orders, leaves, Takes, Outs, Comes, outs_of_reply, after_reply, with_session, nothing, closes_long, closes_memory, closes_surplus, is_client, is_peer, without_client, line_limit}
+use Rattle.el_world.specs.Run as run
+use Rattle.el_world.specs.Run.{OneTurn, Turns}
 use Rattle.el_lines.specs.LineStates.{LineState, IsAt}
 use Rattle.el_lines.specs.declared.line_buffer.LineEvent.TheVariants as event
 use Rattle.el_core.specs.State.{State, ClientState, HasGivenAll, HearsLeft, in_order, IsSession, SessionsAre, Leaves, AllVoid, IsSaidBy, NodeLeaves, Stands, is_numbered}
 use Rattle.el_core.specs.Turn.{TookTurn, IsDone, GoesTo, outs_of}
-use Rattle.el_core.specs.within.Clients.{ReplyText, replied, failed, Gives, ClientTurn, loses, departs, answers, waits, nobody, gone, steps, PeersTurn, closes, has_turn, replaced, left_if, speaker_after}
+use Rattle.el_core.specs.within.Answering.{Lost}
+use Rattle.el_core.specs.within.Clients.{LineAnswered, replied, starved, Gives, ClientTurn, loses, departs, answers, waits, nobody, gone, steps, PeersTurn, closes, has_turn, replaced, left_if, speaker_after}
 use Rattle.el_core.specs.declared.out.Outs as code
-use Rattle.el_core.proofs.Noded.{rose_of}
 use Rattle.el_core.proofs.Places.{Both, IfThere, same_some, no_some, zip_at, zip_replaced, rising_replaced, one_mapped, one_filtered, one_found, one_there, gone_itself, found_none, none_there}
 use Rattle.el_core.proofs.Sessions.{said_all, void_all, left_first, left_none, ordered, left_void, all_met, zip_all}
 
@@ -67,6 +67,7 @@ speaker_changes clients sessions p i c x left rest speaker now session are at is
       (λ d y r differ. record {
         peer = r.peer;
         limit = r.limit;
+        kept = r.kept;
         met = λ n. r.met (λ e. differ (sym r.peer ∙ sym (same_number p d.peer e) ∙ sym is));
         speaks = λ e. absurd (other d y r differ either_is e);
       }) both;
@@ -131,6 +132,7 @@ module _ {G A : Type 0} (l : ledger.Ghosts G) (f : archive.Ghosts A) where
     pub moved : Moved l old.ledger new.ledger world.side.chain world.side.chain
     pub magic : new.magic ≡ old.magic
     pub found : new.found ≡ old.found
+    pub pool : new.pool ≡ old.pool
     pub ahead : new.ahead ≡ old.ahead
     pub node : new.node ≡ old.node
 
@@ -144,6 +146,7 @@ module _ {G A : Type 0} (l : ledger.Ghosts G) (f : archive.Ghosts A) where
     magic = r.magic ∙ r.stood.magic;
     found = r.found ∙ r.stood.found;
     ahead = r.ahead ∙ r.stood.ahead;
+    set = rw r.pool r.stood.set;
     ordered = [];
     node = rw r.node (subst (λ (es : List Event). NodeLeaves old.node world.heard es) r.none_left r.stood.node);
     said = rest;
@@ -151,11 +154,11 @@ module _ {G A : Type 0} (l : ledger.Ghosts G) (f : archive.Ghosts A) where
     left_is = refl;
   }
 
-  built : (old new : State G) (files : A) (world : World) (left : List Event) (o : Outs) (r : Beside old new world left) (told : f.tells → AllGrow world.side.files (f.bytes files)) (ss : List Session)
+  built : (old new : State G) (before after : A) (world : World) (left : List Event) (o : Outs) (r : Beside old new world left) (told : f.tells → AllGrow world.side.files (f.bytes after)) (ss : List Session)
       (done rest : List Event) (losses : List Device) → left ≡ done ++ rest → OneTurn f.tells world done o losses (record world { sessions = ss }) → SessionsAre new.clients new.speaker new.surplus ss rest
-      → AllByRecursion (GoesTo (record world { sessions = ss }) new.surplus) o.messages → failures device.link losses ≡ 0 → failures device.archive losses ≡ 0 → RoseBy (l.faults old.ledger) (l.faults new.ledger) (failures device.disk losses)
-      → TookTurn l f old new files files world left o
-  built old new files world left o r told ss done rest losses whole turn are sends no_link no_archive disk = record {
+      → AllByRecursion (GoesTo (record world { sessions = ss }) new.surplus o.closing) o.messages → Lost l f old.ledger new.ledger before after losses
+      → TookTurn l f old new before after world left o
+  built old new before after world left o r told ss done rest losses whole turn are sends rose = record {
     done = done;
     rest = rest;
     losses = losses;
@@ -166,120 +169,151 @@ module _ {G A : Type 0} (l : ledger.Ghosts G) (f : archive.Ghosts A) where
     moved = r.moved;
     told = told;
     sends_to = sends;
-    rose = λ of_link. rose_of of_link (f.faults files) (f.faults files) (l.faults old.ledger) (l.faults new.ledger) losses no_link (rw no_archive (rose_none (f.faults files))) disk;
+    rose = rose;
   }
 
   -- a client too many is closed
-  surplus_step : (old new : State G) (files : A) (world : World) (left : List Event) (o : Outs) (r : Beside old new world left) (told : f.tells → AllGrow world.side.files (f.bytes files)) (speaker : Option ℕ) (p : ℕ)
-      → SessionsAre old.clients speaker (Some p) world.sessions r.stood.said → new.clients ≡ old.clients → new.speaker ≡ speaker → new.surplus ≡ None → o ≡ closes_surplus p → RoseBy (l.faults old.ledger) (l.faults new.ledger) 0
-      → TookTurn l f old new files files world left o
-  surplus_step old new files world left o r told (Some q) p are clients speaker unused is still = absurd are.leaves_left
-  surplus_step old new files world left o r told None p are clients speaker unused is still =
-      built old new files world left o r told world.sessions (joins p ∷ []) [] [] (left_said old new world left r ∙ are.leaves_left.0)
+  surplus_step : (old new : State G) (before after : A) (world : World) (left : List Event) (o : Outs) (r : Beside old new world left) (told : f.tells → AllGrow world.side.files (f.bytes after)) (speaker : Option ℕ) (p : ℕ)
+      → SessionsAre old.clients speaker (Some p) world.sessions r.stood.said → new.clients ≡ old.clients → new.speaker ≡ speaker → new.surplus ≡ None → o ≡ closes_surplus p → Lost l f old.ledger new.ledger before after []
+      → TookTurn l f old new before after world left o
+  surplus_step old new before after world left o r told (Some q) p are clients speaker unused is still = absurd are.leaves_left
+  surplus_step old new before after world left o r told None p are clients speaker unused is still =
+      built old new before after world left o r told world.sessions (joins p ∷ []) [] [] (left_said old new world left r ∙ are.leaves_left.0)
       (run.takes (joins p) r.still refl (if_false _ _ _ are.leaves_left.1 (is, refl, refl)))
       (rw (clients, speaker, unused) (record { each = again old.clients world.sessions are.each; rising = are.rising; leaves_left = tt }))
-      (rw is tt) refl refl still
+      (rw is tt) still
     where
       again : (cs : List ClientState) (ss : List Session) → AllZip (IsSession None r.stood.said) cs ss → AllZip (IsSession None []) cs ss
       again [] [] z = tt
       again [] (y ∷ ys) z = absurd z
       again (x ∷ xs) [] z = absurd z
       again (x ∷ xs) (y ∷ ys) z =
-          (record { peer = z.0.peer; limit = z.0.limit; met = z.0.met; speaks = λ e. absurd (no_some x.peer (sym e)) }, again xs ys z.1)
+          (record { peer = z.0.peer; limit = z.0.limit; kept = z.0.kept; met = z.0.met; speaks = λ e. absurd (no_some x.peer (sym e)) }, again xs ys z.1)
 
   -- the client is closed, with these events done
-  goes : (old new : State G) (files : A) (world : World) (left : List Event) (o : Outs) (r : Beside old new world left) (told : f.tells → AllGrow world.side.files (f.bytes files)) (p i : ℕ) (c : ClientState) (w : Speaking old world r.stood.said p i c)
+  goes : (old new : State G) (before after : A) (world : World) (left : List Event) (o : Outs) (r : Beside old new world left) (told : f.tells → AllGrow world.side.files (f.bytes after)) (p i : ℕ) (c : ClientState) (w : Speaking old world r.stood.said p i c)
       (done rest : List Event) (losses : List Device) → left ≡ done ++ rest → OneTurn f.tells world done o losses (without_client p world) → AllVoid (filter (λ (y : Session). not (is_peer p y)) world.sessions) rest
-      → new.clients ≡ replaced i None old.clients → new.speaker ≡ None → new.surplus ≡ None → o.messages ≡ [] → failures device.link losses ≡ 0 → failures device.archive losses ≡ 0 → RoseBy (l.faults old.ledger) (l.faults new.ledger) (failures device.disk losses)
-      → TookTurn l f old new files files world left o
-  goes old new files world left o r told p i c w done rest losses whole turn void clients speaker unused none_sent no_link no_archive disk =
+      → new.clients ≡ replaced i None old.clients → new.speaker ≡ None → new.surplus ≡ None → ((next : World) → AllByRecursion (GoesTo next None o.closing) o.messages) → Lost l f old.ledger new.ledger before after losses
+      → TookTurn l f old new before after world left o
+  goes old new before after world left o r told p i c w done rest losses whole turn void clients speaker unused sends rose =
       let gone_is = one_filtered p world.sessions i w.session w.are.rising w.session_at w.peer in
       let void' : AllVoid (replaced i None world.sessions) rest = subst (λ (ss : List Session). AllVoid ss rest) gone_is void in
       let turn' : OneTurn f.tells world done o losses (record world { sessions = replaced i None world.sessions }) =
       subst (λ (ss : List Session). OneTurn f.tells world done o losses (record world { sessions = ss })) gone_is turn in
-      built old new files world left o r told (replaced i None world.sessions) done rest losses whole turn'
+      built old new before after world left o r told (replaced i None world.sessions) done rest losses whole turn'
       (rw (clients, speaker, unused) (speaker_changes old.clients world.sessions p i c w.session r.stood.said rest None None None w.are w.session_at w.peer (inr refl) tt tt void'))
-      (rw none_sent tt) no_link no_archive disk
+      (rw unused (sends (record world { sessions = replaced i None world.sessions }))) rose
 
-  -- the client stays, and these events are left
-  stays : (old new : State G) (files : A) (world : World) (left : List Event) (o : Outs) (r : Beside old new world left) (told : f.tells → AllGrow world.side.files (f.bytes files)) (p i : ℕ) (c now : ClientState) (w : Speaking old world r.stood.said p i c)
-      (done rest : List Event) (losses : List Device) → left ≡ done ++ rest → OneTurn f.tells world done o losses (record world { sessions = replaced i (Some w.session) world.sessions })
-      → IsSession (Some p) rest now w.session → new.clients ≡ replaced i (Some now) old.clients → new.speaker ≡ Some p → new.surplus ≡ None
-      → AllByRecursion (GoesTo (record world { sessions = replaced i (Some w.session) world.sessions }) None) o.messages → failures device.link losses ≡ 0 → failures device.archive losses ≡ 0 → RoseBy (l.faults old.ledger) (l.faults new.ledger) (failures device.disk losses)
-      → TookTurn l f old new files files world left o
-  stays old new files world left o r told p i c now w done rest losses whole turn session clients speaker unused sends no_link no_archive disk =
-      built old new files world left o r told (replaced i (Some w.session) world.sessions) done rest losses whole turn
-      (rw (clients, speaker, unused) (speaker_changes old.clients world.sessions p i c w.session r.stood.said rest (Some p) (Some now) (Some w.session) w.are w.session_at w.peer (inl refl) session refl
-      (one_there p (replaced i (Some w.session) world.sessions) i w.session (at_replaced world.sessions i w.session w.session w.session_at) w.peer)))
-      (rw unused sends) no_link no_archive disk
+  -- the client stays with this session, and these events are left
+  stays : (old new : State G) (before after : A) (world : World) (left : List Event) (o : Outs) (r : Beside old new world left) (told : f.tells → AllGrow world.side.files (f.bytes after)) (p i : ℕ) (c now : ClientState) (x : Session) (w : Speaking old world r.stood.said p i c)
+      (done rest : List Event) (losses : List Device) → x.peer ≡ w.session.peer → left ≡ done ++ rest → OneTurn f.tells world done o losses (record world { sessions = replaced i (Some x) world.sessions })
+      → IsSession (Some p) rest now x → new.clients ≡ replaced i (Some now) old.clients → new.speaker ≡ Some p → new.surplus ≡ None
+      → AllByRecursion (GoesTo (record world { sessions = replaced i (Some x) world.sessions }) None o.closing) o.messages → Lost l f old.ledger new.ledger before after losses
+      → TookTurn l f old new before after world left o
+  stays old new before after world left o r told p i c now x w done rest losses same whole turn session clients speaker unused sends rose =
+      built old new before after world left o r told (replaced i (Some x) world.sessions) done rest losses whole turn
+      (rw (clients, speaker, unused) (speaker_changes old.clients world.sessions p i c w.session r.stood.said rest (Some p) (Some now) (Some x) w.are w.session_at w.peer (inl refl) session same
+      (one_there p (replaced i (Some x) world.sessions) i x (at_replaced world.sessions i w.session x w.session_at) (same ∙ w.peer))))
+      (rw unused sends) rose
 
-  -- it is closed as out of memory
-  memory_step : (old new : State G) (files : A) (world : World) (left : List Event) (o : Outs) (r : Beside old new world left) (told : f.tells → AllGrow world.side.files (f.bytes files)) (p i : ℕ) (c : ClientState) (w : Speaking old world r.stood.said p i c)
-      → c.peer ≡ p → new.clients ≡ replaced i None old.clients → new.speaker ≡ None → new.surplus ≡ None → o ≡ closes_memory p → RoseBy (l.faults old.ledger) (l.faults new.ledger) 0 ⊎ RoseBy (l.faults old.ledger) (l.faults new.ledger) 1
-      → TookTurn l f old new files files world left o
-  memory_step old new files world left o r told p i c w peer_is clients speaker unused is rose =
+  -- it is closed as out of memory, for its bytes or a line of them
+  memory_step : (old new : State G) (before after : A) (world : World) (left : List Event) (o : Outs) (r : Beside old new world left) (told : f.tells → AllGrow world.side.files (f.bytes after)) (p i : ℕ) (c : ClientState) (w : Speaking old world r.stood.said p i c)
+      → c.peer ≡ p → new.clients ≡ replaced i None old.clients → new.speaker ≡ None → new.surplus ≡ None → o ≡ closes_memory p → Lost l f old.ledger new.ledger before after []
+      → TookTurn l f old new before after world left o
+  memory_step old new before after world left o r told p i c w peer_is clients speaker unused is still =
       let said_is = left_said old new world left r in
       let there = one_there p world.sessions i w.session w.session_at w.peer in
       let void : AllVoid (filter (λ (y : Session). not (is_peer p y)) world.sessions) left = rw said_is (left_void _ c w.session.heard r.stood.said (rw peer_is (gone_itself p world.sessions)) w.hears) in
-      elim rose [
-        | inl still ↦ goes old new files world left o r told p i c w [] left [] refl (run.departs p there refl is refl (inl refl)) void clients speaker unused (ap (λ (x : Outs). x.messages) is) refl refl still
-        | inr one ↦ goes old new files world left o r told p i c w [] left (device.disk ∷ []) refl (run.departs p there refl is refl (inr refl)) void clients speaker unused (ap (λ (x : Outs). x.messages) is) refl refl one
-      ]
+      goes old new before after world left o r told p i c w [] left [] refl (run.departs p there refl is refl refl) void clients speaker unused (λ next. rw is tt) still
 
-  -- a line that is too long closes it
-  long_step : (old new : State G) (files : A) (world : World) (left : List Event) (o : Outs) (r : Beside old new world left) (told : f.tells → AllGrow world.side.files (f.bytes files)) (p i : ℕ) (c : ClientState) (b : LineState)
-      (w : Speaking old world r.stood.said p i c) → c.peer ≡ p → c.lost ≡ false → Gives c.buffer too_long b → new.clients ≡ replaced i None old.clients → new.speaker ≡ None → new.surplus ≡ None → o ≡ closes_long p → RoseBy (l.faults old.ledger) (l.faults new.ledger) 0
-      → TookTurn l f old new files files world left o
-  long_step old new files world left o r told p i c b w peer_is kept gives clients speaker unused is still =
-      let n = next_event c b too_long w.session.heard r.stood.said kept w.is.limit w.hears gives in
+  -- it is closed after its next event
+  closed_step : (old new : State G) (before after : A) (world : World) (left : List Event) (o : Outs) (r : Beside old new world left) (told : f.tells → AllGrow world.side.files (f.bytes after)) (p i : ℕ) (c : ClientState) (b : LineState)
+      (e : LineEvent) (losses : List Device) (w : Speaking old world r.stood.said p i c) → c.peer ≡ p → c.lost ≡ false → Gives c.buffer e b → new.clients ≡ replaced i None old.clients → new.speaker ≡ None → new.surplus ≡ None
+      → Takes f.tells world (says p e) o losses (without_client p world) → ((next : World) → AllByRecursion (GoesTo next None o.closing) o.messages) → Lost l f old.ledger new.ledger before after losses
+      → TookTurn l f old new before after world left o
+  closed_step old new before after world left o r told p i c b e losses w peer_is kept gives clients speaker unused takes sends rose =
+      let n = next_event c b e w.session.heard r.stood.said kept w.is.limit w.hears gives in
       let rest = map (says c.peer) (drop (n.given + 1) (lines line_limit w.session.heard)) in
-      let there = one_there p world.sessions i w.session w.session_at w.peer in
-      goes old new files world left o r told p i c w (says c.peer too_long ∷ []) rest [] (left_said old new world left r ∙ n.first)
-      (rw peer_is (run.takes (says p too_long) r.still refl (if_true _ _ (is_client p world) there (is, refl, refl))))
+      goes old new before after world left o r told p i c w (says c.peer e ∷ []) rest losses (left_said old new world left r ∙ n.first)
+      (rw peer_is (run.takes (says p e) r.still refl takes))
       (subst (λ (q : ℕ). AllVoid (filter (λ (y : Session). not (is_peer p y)) world.sessions) (map (says q) (drop (n.given + 1) (lines line_limit w.session.heard)))) (sym peer_is)
       (void_all _ p _ (gone_itself p world.sessions) (said_all p (drop (n.given + 1) (lines line_limit w.session.heard)))))
-      clients speaker unused (ap (λ (x : Outs). x.messages) is) refl refl still
+      clients speaker unused sends rose
 
-  -- it gets its reply
-  reply_step : (old new : State G) (files : A) (world : World) (left : List Event) (o : Outs) (r : Beside old new world left) (told : f.tells → AllGrow world.side.files (f.bytes files)) (p i : ℕ) (c : ClientState) (b : LineState)
-      (bytes text : List ℕ) (w : Speaking old world r.stood.said p i c) → c.peer ≡ p → c.lost ≡ false → b.limit ≡ c.buffer.limit → Gives c.buffer (line bytes) b
-      → ReplyText world.side.chain bytes (λ n. RoseBy (l.faults old.ledger) (l.faults new.ledger) n) text → o ≡ reply_to p text → new.clients ≡ replaced i (Some (record c { buffer = b })) old.clients → new.speaker ≡ Some p → new.surplus ≡ None
-      → TookTurn l f old new files files world left o
-  reply_step old new files world left o r told p i c b bytes text w peer_is kept limit gives replying is clients speaker unused =
+  -- a line that is too long closes it
+  long_step : (old new : State G) (before after : A) (world : World) (left : List Event) (o : Outs) (r : Beside old new world left) (told : f.tells → AllGrow world.side.files (f.bytes after)) (p i : ℕ) (c : ClientState) (b : LineState)
+      (w : Speaking old world r.stood.said p i c) → c.peer ≡ p → c.lost ≡ false → Gives c.buffer too_long b → new.clients ≡ replaced i None old.clients → new.speaker ≡ None → new.surplus ≡ None → o ≡ closes_long p → Lost l f old.ledger new.ledger before after []
+      → TookTurn l f old new before after world left o
+  long_step old new before after world left o r told p i c b w peer_is kept gives clients speaker unused is still =
+      let there = one_there p world.sessions i w.session w.session_at w.peer in
+      closed_step old new before after world left o r told p i c b too_long [] w peer_is kept gives clients speaker unused
+      (if_true _ _ (is_client p world) there (is, refl, refl)) (λ next. rw is tt) still
+
+  -- what its session's line comes to is what the line comes to
+  line_takes : (old : State G) (world : World) (said : List Event) (o : Outs) (p i : ℕ) (c : ClientState) (w : Speaking old world said p i c) (bytes : List ℕ) (losses : List Device) (next : World)
+      → model.IsAnswered f.tells world p bytes w.session o losses next → Takes f.tells world (says p (line bytes)) o losses next
+  line_takes old world said o p i c w bytes losses next answered =
+      rw (one_found p world.sessions i w.session w.are.rising w.session_at w.peer) answered
+
+  -- no memory was found for its line
+  starved_step : (old new : State G) (before after : A) (world : World) (left : List Event) (o : Outs) (r : Beside old new world left) (told : f.tells → AllGrow world.side.files (f.bytes after)) (p i : ℕ) (c : ClientState) (b : LineState)
+      (bytes : List ℕ) (now : known.Session) (losses : List Device) (e : OutOfMemory) (w : Speaking old world r.stood.said p i c) → c.peer ≡ p → c.lost ≡ false → Gives c.buffer (line bytes) b
+      → new.clients ≡ replaced i None old.clients → new.speaker ≡ None → new.surplus ≡ None
+      → Comes f.tells world.side bytes c.session losses now (Err e) → o ≡ closes_memory p → Lost l f old.ledger new.ledger before after losses
+      → TookTurn l f old new before after world left o
+  starved_step old new before after world left o r told p i c b bytes now losses e w peer_is kept gives clients speaker unused comes is rose =
+      let comes' = subst (λ (s : known.Session). Comes f.tells world.side bytes s losses now (Err e)) w.is.kept comes in
+      closed_step old new before after world left o r told p i c b (line bytes) losses w peer_is kept gives clients speaker unused
+      (line_takes old world r.stood.said o p i c w bytes losses (without_client p world) (model.starved e now comes' is refl)) (λ next. rw is tt) rose
+
+  -- what it gets goes to it
+  reply_goes : (p : ℕ) (text : Option (List ℕ)) (closes_it : Bool) (next : World) → (closes_it ≡ false → is_client p next ≡ true)
+      → AllByRecursion (GoesTo next None (outs_of_reply p (record { text = text; closes = closes_it })).closing) (outs_of_reply p (record { text = text; closes = closes_it })).messages
+  reply_goes p None closes_it next there = tt
+  reply_goes p (Some t) true next there = (inr (inr refl, refl), tt)
+  reply_goes p (Some t) false next there = (inr (inl (there refl), refl), tt)
+
+  -- it gets its reply, after which it is closed
+  version_step : (old new : State G) (before after : A) (world : World) (left : List Event) (o : Outs) (r : Beside old new world left) (told : f.tells → AllGrow world.side.files (f.bytes after)) (p i : ℕ) (c : ClientState) (b : LineState)
+      (bytes : List ℕ) (now : known.Session) (losses : List Device) (reply : LineReply) (w : Speaking old world r.stood.said p i c) → c.peer ≡ p → c.lost ≡ false → Gives c.buffer (line bytes) b
+      → new.clients ≡ replaced i None old.clients → new.speaker ≡ None → new.surplus ≡ None
+      → Comes f.tells world.side bytes c.session losses now (Ok reply) → reply.closes ≡ true → o ≡ outs_of_reply p reply → Lost l f old.ledger new.ledger before after losses
+      → TookTurn l f old new before after world left o
+  version_step old new before after world left o r told p i c b bytes now losses reply w peer_is kept gives clients speaker unused comes closes_it is rose =
+      let comes' = subst (λ (s : known.Session). Comes f.tells world.side bytes s losses now (Ok reply)) w.is.kept comes in
+      let next_is : without_client p world ≡ after_reply p reply w.session now world = rw closes_it refl in
+      closed_step old new before after world left o r told p i c b (line bytes) losses w peer_is kept gives clients speaker unused
+      (line_takes old world r.stood.said o p i c w bytes losses (without_client p world) (model.replied reply now comes' is next_is))
+      (λ next. rw is (reply_goes p reply.text reply.closes next (λ open_still. absurd (true≢false (sym closes_it ∙ open_still))))) rose
+
+  -- it gets its reply, and stays
+  reply_step : (old new : State G) (before after : A) (world : World) (left : List Event) (o : Outs) (r : Beside old new world left) (told : f.tells → AllGrow world.side.files (f.bytes after)) (p i : ℕ) (c : ClientState) (b : LineState)
+      (bytes : List ℕ) (now : known.Session) (losses : List Device) (reply : LineReply) (w : Speaking old world r.stood.said p i c) → c.peer ≡ p → c.lost ≡ false → b.limit ≡ c.buffer.limit → Gives c.buffer (line bytes) b
+      → new.clients ≡ replaced i (Some (record c { buffer = b; session = now })) old.clients → new.speaker ≡ Some p → new.surplus ≡ None
+      → Comes f.tells world.side bytes c.session losses now (Ok reply) → reply.closes ≡ false → o ≡ outs_of_reply p reply → Lost l f old.ledger new.ledger before after losses
+      → TookTurn l f old new before after world left o
+  reply_step old new before after world left o r told p i c b bytes now losses reply w peer_is kept limit gives clients speaker unused comes stays_open is rose =
       let n = next_event c b (line bytes) w.session.heard r.stood.said kept w.is.limit w.hears gives in
       let rest = map (says c.peer) (drop (n.given + 1) (lines line_limit w.session.heard)) in
-      let there = one_there p (replaced i (Some w.session) world.sessions) i w.session (at_replaced world.sessions i w.session w.session w.session_at) w.peer in
-      let session : IsSession (Some p) rest (record c { buffer = b }) w.session = record {
+      let x : Session = record w.session { client = now } in
+      let there = one_there p (replaced i (Some x) world.sessions) i x (at_replaced world.sessions i w.session x w.session_at) w.peer in
+      let session : IsSession (Some p) rest (record c { buffer = b; session = now }) x = record {
         peer = w.is.peer;
         limit = limit ∙ w.is.limit;
+        kept = refl;
         met = λ e. absurd (e (ap (λ (q : ℕ). Some q) (sym peer_is)));
         speaks = λ e. in_order (n.given + 1) kept n.at n.few refl;
       } in
-      let sends : AllByRecursion (GoesTo (record world { sessions = replaced i (Some w.session) world.sessions }) None) o.messages = rw is (inr (there, refl), tt) in
-      let same_world = replaced_same world.sessions i w.session w.session_at in
-      by n.given n.first replying session sends there same_world
-    where
-      rest_of : ℕ → List Event
-      rest_of given = map (says c.peer) (drop (given + 1) (lines line_limit w.session.heard))
-
-      by : (given : ℕ) → r.stood.said ≡ says c.peer (line bytes) ∷ rest_of given → ReplyText world.side.chain bytes (λ n. RoseBy (l.faults old.ledger) (l.faults new.ledger) n) text → IsSession (Some p) (rest_of given) (record c { buffer = b }) w.session
-          → AllByRecursion (GoesTo (record world { sessions = replaced i (Some w.session) world.sessions }) None) o.messages → list_any (is_peer p) (replaced i (Some w.session) world.sessions) ≡ true
-          → replaced i (Some w.session) world.sessions ≡ world.sessions
-          → TookTurn l f old new files files world left o
-      by given first (replied reply rose) session sends there same_world =
-          stays old new files world left o r told p i c (record c { buffer = b }) w (says c.peer (line bytes) ∷ []) (rest_of given) []
-          (left_said old new world left r ∙ first)
-          (rw peer_is (run.takes (says p (line bytes)) r.still refl
-          (rw (one_found p world.sessions i w.session w.are.rising w.session_at w.peer) (model.replied (replies w.session text) (reply w.session) is
-          (ap (λ (ss : List Session). record world { sessions = ss }) (sym (one_mapped p (λ (y : Session). w.session) world.sessions i w.session w.are.rising w.session_at w.peer))) refl))))
-          session clients speaker unused sends refl refl rose
-      by given first (failed m id script asks text_is rose) session sends there same_world =
-          stays old new files world left o r told p i c (record c { buffer = b }) w (says c.peer (line bytes) ∷ []) (rest_of given) (device.disk ∷ [])
-          (left_said old new world left r ∙ first)
-          (rw peer_is (run.takes (says p (line bytes)) r.still refl
-          (rw (one_found p world.sessions i w.session w.are.rising w.session_at w.peer) (model.failed m id script asks (is ∙ ap (reply_to p) text_is)
-          (ap (λ (ss : List Session). record world { sessions = ss }) same_world) refl))))
-          session clients speaker unused sends refl refl rose
+      let comes' = subst (λ (s : known.Session). Comes f.tells world.side bytes s losses now (Ok reply)) w.is.kept comes in
+      let mapped = sym (one_mapped p (λ (y : Session). x) world.sessions i w.session w.are.rising w.session_at w.peer) in
+      let next_is : record world { sessions = replaced i (Some x) world.sessions } ≡ after_reply p reply w.session now world =
+      rw stays_open (ap (λ (ss : List Session). record world { sessions = ss }) mapped) in
+      stays old new before after world left o r told p i c (record c { buffer = b; session = now }) x w (says c.peer (line bytes) ∷ []) rest losses refl
+      (left_said old new world left r ∙ n.first)
+      (rw peer_is (run.takes (says p (line bytes)) r.still refl
+      (line_takes old world r.stood.said o p i c w bytes losses (record world { sessions = replaced i (Some x) world.sessions }) (model.replied reply now comes' is next_is))))
+      session clients speaker unused
+      (rw is (reply_goes p reply.text reply.closes (record world { sessions = replaced i (Some x) world.sessions }) (λ e. there))) rose
 
   same_outs : (o p : code.Outs) → ◌≡◌ {A = Option code.Outs} (Some o) (Some p) → o ≡ p
   same_outs o p e = cc
@@ -287,42 +321,64 @@ module _ {G A : Type 0} (l : ledger.Ghosts G) (f : archive.Ghosts A) where
   no_outs : (o : code.Outs) → ◌≡◌ {A = Option code.Outs} (Some o) None → ⊥
   no_outs o e = cc
 
-  speaker_step : (old new : State G) (files : A) (world : World) (left : List Event) (o : code.Outs) (r : Beside old new world left) (told : f.tells → AllGrow world.side.files (f.bytes files)) (p i : ℕ) (c : ClientState) (now : Option ClientState)
+  -- its next line
+  line_step : (old new : State G) (before after : A) (world : World) (left : List Event) (o : Outs) (r : Beside old new world left) (told : f.tells → AllGrow world.side.files (f.bytes after)) (p i : ℕ) (c : ClientState) (b : LineState)
+      (bytes : List ℕ) (now : known.Session) (st : Bool) (w : Speaking old world r.stood.said p i c) → c.peer ≡ p → c.lost ≡ false → b.limit ≡ c.buffer.limit → Gives c.buffer (line bytes) b
+      → (st ≡ true → (new.clients ≡ replaced i (Some (record c { buffer = b; session = now })) old.clients) × (new.speaker ≡ Some p))
+      → (st ≡ false → (new.clients ≡ replaced i None old.clients) × (new.speaker ≡ None)) → new.surplus ≡ None
+      → LineAnswered f.tells world.side (Lost l f old.ledger new.ledger before after) p bytes c.session now o st
+      → TookTurn l f old new before after world left o
+  line_step old new before after world left o r told p i c b bytes now st w peer_is kept limit gives staying going unused (starved losses e comes is st_is rose) =
+      let g = going st_is in
+      starved_step old new before after world left o r told p i c b bytes now losses e w peer_is kept gives g.0 g.1 unused comes is rose
+  line_step old new before after world left o r told p i c b bytes now st w peer_is kept limit gives staying going unused (replied losses reply comes is st_is rose) = elim (either reply.closes) [
+    | inl h ↦
+        let g = going (st_is ∙ ap not h) in
+        version_step old new before after world left o r told p i c b bytes now losses reply w peer_is kept gives g.0 g.1 unused comes h is rose
+    | inr h ↦
+        let s = staying (st_is ∙ ap not h) in
+        reply_step old new before after world left o r told p i c b bytes now losses reply w peer_is kept limit gives s.0 s.1 unused comes h is rose
+  ]
+
+  speaker_step : (old new : State G) (before after : A) (world : World) (left : List Event) (o : code.Outs) (r : Beside old new world left) (told : f.tells → AllGrow world.side.files (f.bytes after)) (p i : ℕ) (c : ClientState) (now : Option ClientState)
       → Speaking old world r.stood.said p i c → c.peer ≡ p → new.clients ≡ replaced i now old.clients → new.speaker ≡ speaker_after (Some o) now → new.surplus ≡ None
-      → ClientTurn world.side.chain (λ n. RoseBy (l.faults old.ledger) (l.faults new.ledger) n) c (Some o) now
-      → TookTurn l f old new files files world left (outs_of o)
-  speaker_step old new files world left o r told p i c now w peer_is clients speaker unused (loses o' lost some is gone_is still) =
-      memory_step old new files world left (outs_of o) r told p i c w peer_is (clients ∙ ap (λ (n : Option ClientState). replaced i n old.clients) gone_is) (speaker ∙ ap (λ (n : Option ClientState). speaker_after (Some o) n) gone_is) unused
-      (ap outs_of (same_outs o o' some) ∙ is ∙ ap closes_memory peer_is) (inl still)
-  speaker_step old new files world left o r told p i c now w peer_is clients speaker unused (departs o' kept next_line some is gone_is still) =
-      memory_step old new files world left (outs_of o) r told p i c w peer_is (clients ∙ ap (λ (n : Option ClientState). replaced i n old.clients) gone_is) (speaker ∙ ap (λ (n : Option ClientState). speaker_after (Some o) n) gone_is) unused
-      (ap outs_of (same_outs o o' some) ∙ is ∙ ap closes_memory peer_is) (inl still)
-  speaker_step old new files world left o r told p i c now w peer_is clients speaker unused (answers o' (event.Line bytes) b st kept limit gives (inl a) now_is some) =
-      let n : now ≡ Some (record c { buffer = b }) = now_is ∙ ap (λ (x : Bool). left_if x (record c { buffer = b })) a.1 in
-      reply_step old new files world left (outs_of o) r told p i c b bytes a.0.0 w peer_is kept limit gives a.0.1 (ap outs_of (same_outs o o' some) ∙ a.0.2 ∙ ap (λ (q : ℕ). reply_to q a.0.0) peer_is)
-      (clients ∙ ap (λ (m : Option ClientState). replaced i m old.clients) n) (speaker ∙ ap (λ (m : Option ClientState). speaker_after (Some o) m) n ∙ ap (λ (q : ℕ). Some q) peer_is) unused
-  speaker_step old new files world left o r told p i c now w peer_is clients speaker unused (answers o' (event.Line bytes) b st kept limit gives (inr a) now_is some) =
-      let n : now ≡ None = now_is ∙ ap (λ (x : Bool). left_if x (record c { buffer = b })) a.1 in
-      memory_step old new files world left (outs_of o) r told p i c w peer_is (clients ∙ ap (λ (m : Option ClientState). replaced i m old.clients) n) (speaker ∙ ap (λ (m : Option ClientState). speaker_after (Some o) m) n) unused
-      (ap outs_of (same_outs o o' some) ∙ a.0 ∙ ap closes_memory peer_is) a.2
-  speaker_step old new files world left o r told p i c now w peer_is clients speaker unused (answers o' (event.TooLong most) b st kept limit gives a now_is some) =
-      let n : now ≡ None = now_is ∙ ap (λ (x : Bool). left_if x (record c { buffer = b })) a.1 in
-      long_step old new files world left (outs_of o) r told p i c b w peer_is kept gives (clients ∙ ap (λ (m : Option ClientState). replaced i m old.clients) n) (speaker ∙ ap (λ (m : Option ClientState). speaker_after (Some o) m) n) unused
+      → ClientTurn f.tells world.side (Lost l f old.ledger new.ledger before after) c (Some o) now
+      → TookTurn l f old new before after world left (outs_of o)
+  speaker_step old new before after world left o r told p i c now w peer_is clients speaker unused (loses o' lost some is gone_is still) =
+      memory_step old new before after world left (outs_of o) r told p i c w peer_is (clients ∙ ap (λ (n : Option ClientState). replaced i n old.clients) gone_is) (speaker ∙ ap (λ (n : Option ClientState). speaker_after (Some o) n) gone_is) unused
+      (ap outs_of (same_outs o o' some) ∙ is ∙ ap closes_memory peer_is) still
+  speaker_step old new before after world left o r told p i c now w peer_is clients speaker unused (departs o' kept next_line some is gone_is still) =
+      memory_step old new before after world left (outs_of o) r told p i c w peer_is (clients ∙ ap (λ (n : Option ClientState). replaced i n old.clients) gone_is) (speaker ∙ ap (λ (n : Option ClientState). speaker_after (Some o) n) gone_is) unused
+      (ap outs_of (same_outs o o' some) ∙ is ∙ ap closes_memory peer_is) still
+  speaker_step old new before after world left o r told p i c now w peer_is clients speaker unused (answers o' (event.Line bytes) b session st kept limit gives a now_is some) =
+      let d : ClientState = record c { buffer = b; session = session } in
+      let answered : LineAnswered f.tells world.side (Lost l f old.ledger new.ledger before after) p bytes c.session session (outs_of o) st =
+      subst (λ (q : code.Outs). LineAnswered f.tells world.side (Lost l f old.ledger new.ledger before after) p bytes c.session session (outs_of q) st) (sym (same_outs o o' some))
+      (subst (λ (q : ℕ). LineAnswered f.tells world.side (Lost l f old.ledger new.ledger before after) q bytes c.session session (outs_of o') st) peer_is a) in
+      line_step old new before after world left (outs_of o) r told p i c b bytes session st w peer_is kept limit gives
+      (λ yes_it. let n : now ≡ Some d = now_is ∙ ap (λ (x : Bool). left_if x d) yes_it in
+      (clients ∙ ap (λ (m : Option ClientState). replaced i m old.clients) n, speaker ∙ ap (λ (m : Option ClientState). speaker_after (Some o) m) n ∙ ap (λ (q : ℕ). Some q) peer_is))
+      (λ no_it. let n : now ≡ None = now_is ∙ ap (λ (x : Bool). left_if x d) no_it in
+      (clients ∙ ap (λ (m : Option ClientState). replaced i m old.clients) n, speaker ∙ ap (λ (m : Option ClientState). speaker_after (Some o) m) n))
+      unused answered
+  speaker_step old new before after world left o r told p i c now w peer_is clients speaker unused (answers o' (event.TooLong most) b session st kept limit gives a now_is some) =
+      let n : now ≡ None = now_is ∙ ap (λ (x : Bool). left_if x (record c { buffer = b; session = session })) a.1 in
+      long_step old new before after world left (outs_of o) r told p i c b w peer_is kept gives (clients ∙ ap (λ (m : Option ClientState). replaced i m old.clients) n) (speaker ∙ ap (λ (m : Option ClientState). speaker_after (Some o) m) n) unused
       (ap outs_of (same_outs o o' some) ∙ a.0 ∙ ap closes_long peer_is) a.2
-  speaker_step old new files world left o r told p i c now w peer_is clients speaker unused (waits idle none_is same still) = absurd (no_outs o none_is)
+  speaker_step old new before after world left o r told p i c now w peer_is clients speaker unused (waits idle none_is same still) = absurd (no_outs o none_is)
 
   -- a turn where the node has nothing left
-  pub peers_step : (old new : State G) (files : A) (world : World) (left : List Event) (o : Option code.Outs) (r : Beside old new world left) (told : f.tells → AllGrow world.side.files (f.bytes files))
-      → PeersTurn world.side.chain (λ n. RoseBy (l.faults old.ledger) (l.faults new.ledger) n) old o new
-      → IfSome o (λ out. TookTurn l f old new files files world left (outs_of out))
-  peers_step old new files world left None r told turn = tt
-  peers_step old new files world left (Some o) r told (closes p o' is some outs_is next still) =
-      surplus_step old new files world left (outs_of o) r told old.speaker p (rw is at r.stood.sessions) (ap (λ (s : State G). s.clients) next) (ap (λ (s : State G). s.speaker) next) (ap (λ (s : State G). s.surplus) next)
+  pub peers_step : (old new : State G) (before after : A) (world : World) (left : List Event) (o : Option code.Outs) (r : Beside old new world left) (told : f.tells → AllGrow world.side.files (f.bytes after))
+      → PeersTurn f.tells world.side (Lost l f old.ledger new.ledger before after) old o new
+      → IfSome o (λ out. TookTurn l f old new before after world left (outs_of out))
+  peers_step old new before after world left None r told turn = tt
+  peers_step old new before after world left (Some o) r told (closes p o' is some outs_is next still) =
+      surplus_step old new before after world left (outs_of o) r told old.speaker p (rw is at r.stood.sessions) (ap (λ (s : State G). s.clients) next) (ap (λ (s : State G). s.speaker) next) (ap (λ (s : State G). s.surplus) next)
       (ap outs_of (same_outs o o' some) ∙ outs_is) still
-  peers_step old new files world left (Some o) r told (has_turn unused (nobody no_speaker none_is next still)) = absurd (no_outs o none_is)
-  peers_step old new files world left (Some o) r told (has_turn unused (gone p is absent none_is next still)) = absurd (no_outs o none_is)
-  peers_step old new files world left (Some o) r told (has_turn unused (steps p i c now is at peer_is turn next)) =
-      speaker_step old new files world left o r told p i c now (speaking old world r.stood.said p i c (rw (is, unused) at r.stood.sessions) at peer_is) peer_is
+  peers_step old new before after world left (Some o) r told (has_turn unused (nobody no_speaker none_is next still)) = absurd (no_outs o none_is)
+  peers_step old new before after world left (Some o) r told (has_turn unused (gone p is absent none_is next still)) = absurd (no_outs o none_is)
+  peers_step old new before after world left (Some o) r told (has_turn unused (steps p i c now is at peer_is turn next)) =
+      speaker_step old new before after world left o r told p i c now (speaking old world r.stood.said p i c (rw (is, unused) at r.stood.sessions) at peer_is) peer_is
       (ap (λ (s : State G). s.clients) next) (ap (λ (s : State G). s.speaker) next) (ap (λ (s : State G). s.surplus) next ∙ unused) turn
 
   -- lines of clients that are none of these have no effect
@@ -350,7 +406,7 @@ module _ {G A : Type 0} (l : ledger.Ghosts G) (f : archive.Ghosts A) where
   zip_none said [] (y ∷ ys) z = absurd z
   zip_none said (x ∷ xs) [] z = absurd z
   zip_none said (x ∷ xs) (y ∷ ys) z =
-      (record { peer = z.0.peer; limit = z.0.limit; met = z.0.met; speaks = λ e. absurd (no_some x.peer (sym e)) }, zip_none said xs ys z.1)
+      (record { peer = z.0.peer; limit = z.0.limit; kept = z.0.kept; met = z.0.met; speaks = λ e. absurd (no_some x.peer (sym e)) }, zip_none said xs ys z.1)
 
   -- nobody spoke, or the one that spoke has no line left
   done_so : (old new : State G) (world : World) (left : List Event) (r : Beside old new world left) → SessionsAre new.clients None None world.sessions [] → new.speaker ≡ None → new.surplus ≡ None
@@ -362,18 +418,19 @@ module _ {G A : Type 0} (l : ledger.Ghosts G) (f : archive.Ghosts A) where
   }
 
   -- no line of the one that speaks is left
-  waited : (old new : State G) (world : World) (left : List Event) (r : Beside old new world left) (p i : ℕ) (c : ClientState) (now : Option ClientState) (w : Speaking old world r.stood.said p i c)
-      → new.clients ≡ replaced i now old.clients → new.speaker ≡ None → new.surplus ≡ None → ClientTurn world.side.chain (λ n. RoseBy (l.faults old.ledger) (l.faults new.ledger) n) c None now → IsDone l.stands f.tells world left new
-  waited old new world left r p i c now w clients speaker unused (loses o' lost some is gone_is still) = absurd (no_outs o' (sym some))
-  waited old new world left r p i c now w clients speaker unused (departs o' kept next_line some is gone_is still) = absurd (no_outs o' (sym some))
-  waited old new world left r p i c now w clients speaker unused (answers o' e b st kept limit gives a now_is some) = absurd (no_outs o' (sym some))
-  waited old new world left r p i c now w clients speaker unused (waits idle none_is now_is still) =
+  waited : (tells : Type 0) (side : Side) (rose : List Device → Type 0) (old new : State G) (world : World) (left : List Event) (r : Beside old new world left) (p i : ℕ) (c : ClientState) (now : Option ClientState) (w : Speaking old world r.stood.said p i c)
+      → new.clients ≡ replaced i now old.clients → new.speaker ≡ None → new.surplus ≡ None → ClientTurn tells side rose c None now → IsDone l.stands f.tells world left new
+  waited tells side rose old new world left r p i c now w clients speaker unused (loses o' lost some is gone_is still) = absurd (no_outs o' (sym some))
+  waited tells side rose old new world left r p i c now w clients speaker unused (departs o' kept next_line some is gone_is still) = absurd (no_outs o' (sym some))
+  waited tells side rose old new world left r p i c now w clients speaker unused (answers o' e b session st kept limit gives a now_is some) = absurd (no_outs o' (sym some))
+  waited tells side rose old new world left r p i c now w clients speaker unused (waits idle none_is now_is still) =
       let d = ordered c w.session.heard r.stood.said idle.kept w.hears in
       let all = all_met c w.session.heard d.given w.is.limit idle.given_all d.at in
       let none_after : r.stood.said ≡ [] = d.left_is ∙ left_none (says c.peer) (lines line_limit w.session.heard) d.given all in
       let session : IsSession None [] c w.session = record {
         peer = w.is.peer;
         limit = w.is.limit;
+        kept = w.is.kept;
         met = λ e. record { kept = idle.kept; at = subst (λ (n : ℕ). IsAt c.buffer w.session.heard n) all d.at };
         speaks = λ e. absurd (no_some c.peer (sym e));
       } in
@@ -383,17 +440,17 @@ module _ {G A : Type 0} (l : ledger.Ghosts G) (f : archive.Ghosts A) where
       done_so old new world left r (rw (clients ∙ ap (λ (n : Option ClientState). replaced i n old.clients) now_is) are') speaker unused (rw none_after tt)
 
   -- where a turn finds nothing to do, nothing is left
-  pub peers_none : (old new : State G) (world : World) (left : List Event) (o : Option code.Outs) (r : Beside old new world left)
-      → PeersTurn world.side.chain (λ n. RoseBy (l.faults old.ledger) (l.faults new.ledger) n) old o new → IfNone o (IsDone l.stands f.tells world left new)
-  peers_none old new world left (Some o) r turn = tt
-  peers_none old new world left None r (closes p o' is some outs_is next still) = absurd (no_outs o' (sym some))
-  peers_none old new world left None r (has_turn unused (nobody no_speaker none_is next still)) =
+  pub peers_none : (tells : Type 0) (side : Side) (rose : List Device → Type 0) (old new : State G) (world : World) (left : List Event) (o : Option code.Outs) (r : Beside old new world left)
+      → PeersTurn tells side rose old o new → IfNone o (IsDone l.stands f.tells world left new)
+  peers_none tells side rose old new world left (Some o) r turn = tt
+  peers_none tells side rose old new world left None r (closes p o' is some outs_is next still) = absurd (no_outs o' (sym some))
+  peers_none tells side rose old new world left None r (has_turn unused (nobody no_speaker none_is next still)) =
       let are : SessionsAre old.clients None None world.sessions r.stood.said = rw (no_speaker, unused) at r.stood.sessions in
       done_so old new world left r (rw (ap (λ (s : State G). s.clients) next) (record { each = zip_none r.stood.said old.clients world.sessions are.each; rising = are.rising; leaves_left = tt }))
       (ap (λ (s : State G). s.speaker) next ∙ no_speaker) (ap (λ (s : State G). s.surplus) next ∙ unused) are.leaves_left
-  peers_none old new world left None r (has_turn unused (gone p is absent none_is next still)) =
+  peers_none tells side rose old new world left None r (has_turn unused (gone p is absent none_is next still)) =
       let are : SessionsAre old.clients (Some p) None world.sessions r.stood.said = rw (is, unused) at r.stood.sessions in
       absurd (gone_not p old.clients world.sessions r.stood.said are absent)
-  peers_none old new world left None r (has_turn unused (steps p i c now is at peer_is turn next)) =
-      waited old new world left r p i c now (speaking old world r.stood.said p i c (rw (is, unused) at r.stood.sessions) at peer_is)
+  peers_none tells side rose old new world left None r (has_turn unused (steps p i c now is at peer_is turn next)) =
+      waited tells side rose old new world left r p i c now (speaking old world r.stood.said p i c (rw (is, unused) at r.stood.sessions) at peer_is)
       (ap (λ (s : State G). s.clients) next) (ap (λ (s : State G). s.speaker) next) (ap (λ (s : State G). s.surplus) next ∙ unused) turn

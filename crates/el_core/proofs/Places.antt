@@ -2,9 +2,8 @@
 use Rattle.std.proofs.Common.{◌≡◌, inl, inr, ℕ, zero, suc, ◌<◌, ◌==◌, Bool, true, false, not, if◌then◌else◌, List, [], ◌∷◌, ◌++◌, map, filter, slice_get, Option, Some, None, refl, sym, ap, ◌∙◌, subst, arith, true≢false, eq-eqb, eqb-true}
 use Rattle.std.specs.Prelude.{find, ⊤}
 use Rattle.std.specs.List.{AllByRecursion, AllZip, list_any}
-use Rattle.el_model.specs.Sessions.{Session}
-use Rattle.el_model.specs.World.{is_peer}
-use Rattle.el_model.proofs.Cuts.{either}
+use Rattle.el_world.specs.World.{Session, is_peer}
+use Rattle.el_lines.proofs.Cuts.{either}
 use Rattle.el_core.specs.State.{Rising}
 use Rattle.el_core.specs.within.Clients.{replaced}
 

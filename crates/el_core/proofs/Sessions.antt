@@ -6,10 +6,9 @@ use Rattle.std.proofs.lemmas.List.{drop_all}
 use Rattle.std.proofs.lemmas.Option.{slice_get_within, get_or_from_slice_get}
 use Rattle.el_base.proofs.Lists.{left_at}
 use Rattle.el_chain.specs.Chains.{Chain}
-use Rattle.el_model.specs.Lines.{LineEvent, lines}
-use Rattle.el_model.specs.Sessions.{Session}
-use Rattle.el_model.specs.World.{World, Event, says, is_peer, without_client, line_limit}
-use Rattle.el_model.proofs.Cuts.{either}
+use Rattle.el_lines.specs.Lines.{LineEvent, lines}
+use Rattle.el_world.specs.World.{World, Session, Event, says, is_peer, without_client, line_limit}
+use Rattle.el_lines.proofs.Cuts.{either}
 use Rattle.el_lines.specs.LineStates.{IsAt}
 use Rattle.el_core.specs.State.{State, ClientState, HasGivenAll, HearsLeft, in_order, losing, IsSession, SessionsAre, AllVoid, IsSaidBy, Stands, is_numbered}
 use Rattle.el_core.specs.Arrivals.{gone_from, kept_clients, kept_speaker}
@@ -116,6 +115,7 @@ gone_by clients (Some q) sessions p left are = elim (either (q == p)) [
             (λ c x s k. record {
               peer = s.peer;
               limit = s.limit;
+              kept = s.kept;
               met = λ n. s.met (λ e. other_peer p x k (sym s.peer ∙ sym (same_some q c.peer e) ∙ same));
               speaks = λ e. absurd (no_some c.peer (sym e));
             }) are.each;
@@ -155,6 +155,7 @@ module _ {G : Type 0} (stands : G → Chain → Type 0) where
     magic = stood.magic;
     found = stood.found;
     ahead = stood.ahead;
+    set = stood.set;
     ordered = stood.ordered;
     node = stood.node;
     said = stood.said;

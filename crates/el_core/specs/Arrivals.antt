@@ -1,10 +1,10 @@
 -- What the server makes of an arrival, before its turns.
 use Rattle.std.specs.Prelude.{◌≡◌, ◌⊎◌, ℕ, ◌==◌, nat_lt, true, not, filter, ◌<◌, ◌≤◌, if◌then◌else◌, List, [], ◌∷◌, ◌++◌, length, Option, Some, None}
-use Rattle.el_outside.specs.Story.{ArrivalWithBytes, opened, brought, closed, quiet, ended}
+use Rattle.el_outside.specs.Trace.{ArrivalWithBytes, opened, brought, closed, quiet, ended}
 use Rattle.el_outside.specs.declared.link.Arrival.{Arrival}
 use Rattle.el_outside.specs.declared.link.Arrival.TheVariants as arrival
 use Rattle.el_chain.specs.Chains.{Chain}
-use Rattle.el_model.specs.World.{World, Event, joins, leaves, with_client, without_client, client_limit, events, after_hearing}
+use Rattle.el_world.specs.World.{World, Event, joins, leaves, with_client, without_client, client_limit, events, after_hearing}
 use Rattle.el_core.specs.State.{State, ClientState, Stands, is_numbered}
 
 -- the arrival with all the bytes that were handed over

@@ -3,27 +3,31 @@ use Rattle.std.specs.Prelude.{◌≡◌, ℕ, ◌+◌, ◌*◌, ◌≤◌, ◌<�
 use Rattle.std.specs.List.{AllByRecursion, AllZip, list_any}
 use Rattle.el_chain.specs.declared.node.Node.{Node}
 use Rattle.el_chain.specs.Chains.{Chain}
-use Rattle.el_model.specs.Lines.{lines}
-use Rattle.el_model.specs.NodeAnswers.{node_limit}
-use Rattle.el_model.specs.Sessions.{Session}
-use Rattle.el_model.specs.World.{World, Event, says, orders, joins, leaves, is_peer, line_limit, client_limit}
+use Rattle.el_lines.specs.Lines.{lines}
+use Rattle.el_lines.specs.NodeAnswers.{node_limit}
+use Rattle.el_mempool.specs.Standing.{PoolState}
+use Rattle.el_methods.specs.declared.session.Session as client
+use Rattle.el_world.specs.NodeSteps.{SetStands}
+use Rattle.el_world.specs.World.{World, Session, Event, says, orders, joins, leaves, is_peer, line_limit, client_limit}
 use Rattle.el_lines.specs.LineStates.{LineState, IsAt, held}
 
--- What is kept of a client: its bytes, as a line buffer keeps them that was fed all of them, and whether
--- bytes of it were lost where memory ran out.
+-- What is kept of a client: its bytes, as a line buffer keeps them that was fed all of them, whether bytes of
+-- it were lost where memory ran out, and what is kept of it for its requests.
 pub record ClientState : Type 0 where
   pub peer : ℕ
   pub buffer : LineState
   pub lost : Bool
+  pub session : client.Session
 
--- the ledger, of some type; the network's magic; the nodes that were found; the node's bytes, as a line
--- buffer keeps them; the blocks that its last tip line is still to put in; the clients, in the order in which
--- they came; the one whose bytes came last, until all of its lines are met; and a client too many that isn't
--- closed yet
+-- the ledger, of some type; the network's magic; the nodes that were found; the unconfirmed set; the node's
+-- bytes, as a line buffer keeps them; the blocks that its last tip line is still to put in; the clients, in
+-- the order in which they came; the one whose bytes came last, until all of its lines are met; and a client
+-- too many that isn't closed yet
 pub record State (G : Type 0) : Type 0 where
   pub ledger : G
   pub magic : List ℕ
   pub found : List Node
+  pub pool : PoolState
   pub node : LineState
   pub ahead : List Node
   pub clients : List ClientState
@@ -121,6 +125,7 @@ pub record IsMet (c : ClientState) (heard : List ℕ) : Type 0 where
 pub record IsSession (speaker : Option ℕ) (left : List Event) (c : ClientState) (x : Session) : Type 0 where
   pub peer : c.peer ≡ x.peer
   pub limit : c.buffer.limit ≡ line_limit
+  pub kept : c.session ≡ x.client
   pub met : (speaker ≡ Some c.peer → ⊥) → IsMet c x.heard
   pub speaks : speaker ≡ Some c.peer → HearsLeft c x.heard left
 
@@ -160,6 +165,7 @@ pub record Stands {G : Type 0} (stands : G → Chain → Type 0) (s : State G) (
   pub magic : s.magic ≡ world.side.magic
   pub found : s.found ≡ world.side.found
   pub ahead : s.ahead ≡ world.side.ahead
+  pub set : SetStands s.pool world.side
   pub ordered : List Event
   pub node : NodeLeaves s.node world.heard ordered
   pub said : List Event

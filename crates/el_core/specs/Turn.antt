@@ -1,19 +1,19 @@
 -- One turn of the server.
-use Rattle.std.specs.Prelude.{◌≡◌, ◌⊎◌, ℕ, true, List, [], ◌∷◌, ◌++◌, map, Option, Some, None, option_map, Result, Ok, Contains}
+use Rattle.std.specs.Prelude.{◌≡◌, ◌⊎◌, ℕ, Bool, true, List, [], ◌∷◌, ◌++◌, map, Option, Some, None, option_map, Result, Ok, Contains}
 use Rattle.std.specs.List.{AllByRecursion}
 use Rattle.el_outside.specs.declared.archive.Archive as archive
 use Rattle.el_outside.specs.Devices.{Device, Rose}
 use Rattle.el_outside.specs.Files.{AllGrow}
-use Rattle.el_outside.specs.Story.{Message, Closing}
+use Rattle.el_outside.specs.Trace.{Message, Closing}
 use Rattle.el_outside.specs.declared.link.Why.{Why}
 use Rattle.el_chain.specs.Chains.{Chain}
 use Rattle.el_model.specs.declared.ledger.Ledger as ledger
 use Rattle.el_model.specs.LedgerCalls.{Moved, failed_calls}
-use Rattle.el_model.specs.Lines.{line}
-use Rattle.el_model.specs.Flights.{IsMoveOf}
-use Rattle.el_model.specs.World as model
-use Rattle.el_model.specs.World.{World, Event, says, is_client, IsStill, closes_long}
-use Rattle.el_model.specs.Run.{Turns, OneTurn, Stop, by_disk, by_memory, Stops, disk_failed, no_memory, untold, unsent}
+use Rattle.el_lines.specs.Lines.{line}
+use Rattle.el_world.specs.Flights.{IsMoveOf}
+use Rattle.el_world.specs.World as model
+use Rattle.el_world.specs.World.{World, Event, says, is_client, IsStill, closes_long}
+use Rattle.el_world.specs.Run.{Turns, OneTurn, Closes, Stop, by_disk, by_memory, Stops, disk_failed, sift_failed, no_memory, untold, unsent}
 use Rattle.el_core.specs.State.{State, ClientState, Stands}
 use Rattle.el_sync.specs.declared.fault.StepFault.{StepFault}
 use Rattle.el_sync.specs.declared.fault.StepFault.TheVariants as fault
@@ -46,9 +46,10 @@ pub record MeetsLine (p : ℕ) (left : List Event) : Type 0 where
 abbrev pub ClosesLong : ℕ → Result (Option Outs) StepFault → Type 0
 ClosesLong p result = (o : Outs) × (result ≡ Ok (Some o)) × (outs_of o ≡ closes_long p)
 
--- a message goes to the node, or to a client that no client too many waits beside
-abbrev pub GoesTo : World → Option ℕ → Message → Type 0
-GoesTo next surplus m = (m.peer ≡ 0) ⊎ ((is_client m.peer next ≡ true) × (surplus ≡ None))
+-- a message goes to the node, or to a client, which may be closed then, that no client too many waits beside
+abbrev pub GoesTo : World → Option ℕ → Option Closing → Message → Type 0
+GoesTo next surplus closing m =
+    (m.peer ≡ 0) ⊎ (((is_client m.peer next ≡ true) ⊎ Closes closing m.peer) × (surplus ≡ None))
 
 -- The server made one turn, from `old` to `new`, and stands for what the turn left. `before` and `after` are
 -- the block files.
@@ -64,7 +65,7 @@ pub record TookTurn {G A : Type 0} (of_ledger : ledger.Ghosts G) (of_files : arc
   pub stood : Stands of_ledger.stands new next rest
   pub moved : Moved of_ledger old.ledger new.ledger world.side.chain next.side.chain
   pub told : of_files.tells → AllGrow next.side.files (of_files.bytes after)
-  pub sends_to : AllByRecursion (GoesTo next new.surplus) outs.messages
+  pub sends_to : AllByRecursion (GoesTo next new.surplus outs.closing) outs.messages
   pub rose : (of_link : ℕ) → Rose (failed_calls of_ledger of_files of_link old.ledger before)
       (failed_calls of_ledger of_files of_link new.ledger after) losses
 
@@ -85,13 +86,25 @@ abbrev pub IsWithin : {tells : Type 0} {world : World} {left : List Event} {stop
     {closings : List Closing} {losses : List Device}
     → Stops tells world left stop sent closings losses → Type 0
 IsWithin (disk_failed by nodes silent closed lost) = Unit {0}
+IsWithin (sift_failed by busy silent closed lost) = Unit {0}
 IsWithin (no_memory by nodes silent closed lost) = Unit {0}
 IsWithin (untold by nodes silent closed lost) = Unit {0}
-IsWithin (unsent done rest outs failed after front back m lost last next whole turn cut node delivers by all') =
+IsWithin (unsent done rest outs failed after front back m lost last next whole turn cut node delivers by z) =
+    ⊥
+
+-- The block files had failed in it, so that no move was made.
+abbrev pub KeepsChain : {tells : Type 0} {world : World} {left : List Event} {stop : Stop}
+    {sent : List Message} {closings : List Closing} {losses : List Device}
+    → Stops tells world left stop sent closings losses → Type 0
+KeepsChain (disk_failed by nodes silent closed lost) = ⊥
+KeepsChain (sift_failed by busy silent closed lost) = Unit {0}
+KeepsChain (no_memory by nodes silent closed lost) = ⊥
+KeepsChain (untold by nodes silent closed lost) = Unit {0}
+KeepsChain (unsent done rest outs failed after front back m lost last next whole turn cut node goes by z) =
     ⊥
 
 -- A turn failed, and with it the server stops. `old` and `new` are the ledger, which is still live where no
--- memory was found.
+-- memory was found; `later` is whether the turn was to make a later move of a tip line.
 pub record TurnFailed {G A : Type 0} (of_ledger : ledger.Ghosts G) (of_files : archive.Ghosts A)
     (old new : G) (before after : A) (world : World) (left : List Event) (e : StepFault) : Type 0 where
   pub losses : List Device
@@ -99,5 +112,8 @@ pub record TurnFailed {G A : Type 0} (of_ledger : ledger.Ghosts G) (of_files : a
   pub within : IsWithin stops
   pub rose : (of_link : ℕ) → Rose (failed_calls of_ledger of_files of_link old before)
       (failed_calls of_ledger of_files of_link new after) losses
-  pub stops_at : StopsAt of_ledger of_files old new after world.side.chain (IsMoveOf world left) e
+  pub later : Bool
+  pub stops_at : StopsAt of_ledger of_files old new before after world.side.chain later
+      (IsMoveOf world left) e
+  pub kept : KeepsChain stops → stops_at.next ≡ world.side.chain
   pub live : e ≡ fault.Memory → of_ledger.is_live new

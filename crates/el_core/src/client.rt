@@ -1,29 +1,32 @@
 // A client and its bytes.
-ghost use Rattle.std.specs.Prelude.{◌≡◌, ◌⊎◌, ◌<◌, ◌≤◌, [], false, None, Some, OnOk, OnErr, OnSome, IfOk, IfSome, IfNone, length, vec_capacity};
-ghost use Rattle.el_outside.specs.Counts.{RoseBy};
-ghost use Rattle.el_chain.specs.Chains.{Chain};
+ghost use Rattle.std.specs.Prelude.{◌≡◌, ◌<◌, ◌≤◌, [], ◌∷◌, false, not, None, Some, OnOk, OnErr, OnSome, IfOk, IfSome, IfNone, length, vec_capacity};
+ghost use Rattle.el_outside.specs.Files.{AllGrow};
 ghost use Rattle.el_model.specs.LedgerCalls.{Asked};
-ghost use Rattle.el_model.specs.World.{line_limit, reply_to};
+ghost use Rattle.el_world.specs.Side.{Side};
+ghost use Rattle.el_world.specs.World.{line_limit, new_client, outs_of_reply, reply_to};
 ghost use Rattle.el_lines.specs.LineStates.{as_listed, held};
 ghost use Rattle.el_core.specs.State.{HasGivenAll, HasNoWork, IsHeardOut, work_of_client};
-ghost use Rattle.el_core.specs.Turn.{outs_of};
-ghost use Rattle.el_core.specs.within.Clients.{IsFresh, Keeps, Gives, NextIsLine, SendsReply, Answers, ClientTurn, left_if};
+ghost use Rattle.el_core.specs.Turn.{messages_of, outs_of};
+ghost use Rattle.el_core.specs.within.Answering.{IsSettled, Lost};
+ghost use Rattle.el_core.specs.within.Clients.{IsFresh, Keeps, Gives, NextIsLine, LineAnswered, Answers, ClientTurn, left_if};
 
 use crate::out::Outs;
-use crate::reply::reply;
 use el_base::{Bytes, Listed, OutOfMemory};
-use el_lines::{LineBuffer, LineEvent};
-use el_model::{LINE_LIMIT, Ledger};
-use el_outside::{Peer, Why};
+use el_lines::{LINE_LIMIT, LineBuffer, LineEvent};
+use el_methods::{Holdings, Session, Subs};
+use el_model::Ledger;
+use el_outside::{Archive, Peer, Why};
+use el_replies::{LineReply, reply_line};
 use std::alloc::Global;
 use std::marker::Model;
 
 /// A connected client, which contracts see as a `ClientState`.
-#[derive(Debug, Drop)]
+#[derive(Drop)]
 pub struct Client {
     peer: Peer,
     buffer: LineBuffer,
     lost: bool,
+    session: Session,
 }
 
 impl Model for Client {
@@ -31,7 +34,23 @@ impl Model for Client {
 
     ghost Value = { ClientState };
 
-    ghost view = { λ c. record { peer = c.peer; buffer = c.buffer; lost = c.lost } };
+    ghost view = { λ c. record {
+      peer = c.peer;
+      buffer = c.buffer;
+      lost = c.lost;
+      session = c.session;
+    } };
+}
+
+// What is kept of a client that has asked for nothing. Takes no memory.
+fn fresh_session(alloc: Global) -> Session
+    ensures { result ≡ new_client }
+{
+    Session {
+        version: None,
+        headers: false,
+        subs: Subs::new(alloc),
+    }
 }
 
 impl Client {
@@ -43,6 +62,7 @@ impl Client {
             peer,
             buffer: LineBuffer::new(alloc, LINE_LIMIT),
             lost: false,
+            session: fresh_session(alloc),
         }
     }
 
@@ -86,15 +106,6 @@ impl Client {
     }
 }
 
-/// One message.
-pub fn sending(alloc: Global, p: Peer, text: Bytes) -> Result<Outs, OutOfMemory>
-    ensures { IfOk result (λ o. outs_of o ≡ reply_to p text) }
-{
-    let mut sends = Listed::new(alloc);
-    sends.push((p, text))?;
-    Ok(Outs { sends, close: None })
-}
-
 /// Room for one message.
 pub fn room_for_one(alloc: Global) -> Result<Vec<(Peer, Bytes)>, OutOfMemory>
     ensures empty { IfOk result (λ room. room.items ≡ []) }
@@ -105,16 +116,25 @@ pub fn room_for_one(alloc: Global) -> Result<Vec<(Peer, Bytes)>, OutOfMemory>
     Ok(room)
 }
 
+// A message, for which there is room. Takes no memory.
+fn one_in(room: Vec<(Peer, Bytes)>, p: Peer, text: Bytes) -> Listed<(Peer, Bytes)>
+    requires empty { room.items ≡ [] }
+    requires room { length room.items < vec_capacity room }
+    ensures { messages_of result ≡ record { peer = p; text = text } ∷ [] }
+{
+    let mut room = room;
+    room.push_reserved((p, text));
+    Listed::from_vec(room)
+}
+
 /// One message, for which there is room. Takes no memory.
 pub fn sending_in(room: Vec<(Peer, Bytes)>, p: Peer, text: Bytes) -> Outs
     requires empty { room.items ≡ [] }
     requires room { length room.items < vec_capacity room }
     ensures { outs_of result ≡ reply_to p text }
 {
-    let mut room = room;
-    room.push_reserved((p, text));
     Outs {
-        sends: Listed::from_vec(room),
+        sends: one_in(room, p, text),
         close: None,
     }
 }
@@ -129,56 +149,115 @@ pub fn closing(alloc: Global, p: Peer, why: Why) -> Outs
     }
 }
 
-// The message with the reply to a line.
-fn replying<G: Ledger>(
+// What is sent where this comes of a line, and whom is then closed. There is room for a message. Takes no
+// memory.
+fn replying(alloc: Global, room: Vec<(Peer, Bytes)>, p: Peer, reply: LineReply) -> Outs
+    requires empty { room.items ≡ [] }
+    requires room { length room.items < vec_capacity room }
+    ensures { outs_of result ≡ outs_of_reply p reply }
+{
+    let LineReply { text, closes } = reply;
+    let close = if closes {
+        Some((p, Why::Version))
+    } else {
+        None
+    };
+    let sends = match text {
+        Some(text) => one_in(room, p, text),
+        None => Listed::new(alloc),
+    };
+    Outs { sends, close }
+}
+
+// What a client gets for a line, and whether it stays. The room for the message is taken before the line is
+// looked at: where there is none, nothing was asked.
+fn answer_line<G: Ledger, A: Archive>(
     alloc: Global,
     ledger: &mut G,
-    p: Peer,
+    archive: &mut A,
+    holdings: &Holdings,
+    client: &mut Client,
     line: &[u8],
-) -> Result<Outs, OutOfMemory>
+) -> (Outs, bool)
     requires live { G.is_live ledger.old }
-    ensures reply { (chain : Chain) → G.stands ledger.old chain → IfOk result (λ o.
-        SendsReply chain line.now (λ n. RoseBy (G.faults ledger.old) (G.faults ledger.new) n) p (outs_of o)) }
+    ensures answered { (side : Side)
+        → IsSettled ⟦<G as Ledger>⟧ ⟦<A as Archive>⟧ ledger.old holdings.now archive.old side
+        → LineAnswered A.tells side
+        (Lost ⟦<G as Ledger>⟧ ⟦<A as Archive>⟧ ledger.old ledger.new archive.old archive.new)
+        client.old.peer line.now client.old.session client.new.session (outs_of result.0) result.1 }
     ensures quiet { Asked ⟦<G as Ledger>⟧ ledger.old ledger.new }
-    ensures disk_rose { RoseBy (G.faults ledger.old) (G.faults ledger.new) 0
-        ⊎ RoseBy (G.faults ledger.old) (G.faults ledger.new) 1 }
+    ensures keeps { A.tells → AllGrow (A.bytes archive.old) (A.bytes archive.new) }
+    ensures disk_more { G.faults ledger.old ≤ G.faults ledger.new }
+    ensures archive_more { A.faults archive.old ≤ A.faults archive.new }
+    ensures same { client.new ≡ record client.old { session = client.new.session } }
 {
-    let text = reply(alloc, ledger, line)?;
-    sending(alloc, p, text)
+    let peer = client.peer();
+    let Ok(room) = room_for_one(alloc) else {
+        return (closing(alloc, peer, Why::Memory), false);
+    };
+    match reply_line(alloc, ledger, archive, holdings, &mut client.session, line) {
+        Ok(reply) => {
+            let stays = !reply.closes;
+            (replying(alloc, room, peer, reply), stays)
+        }
+        Err(_) => (closing(alloc, peer, Why::Memory), false),
+    }
 }
 
 // What a client gets for what was met in its bytes: the reply to a line, or its closing; and whether it
 // stays.
-fn answer<G: Ledger>(alloc: Global, ledger: &mut G, peer: Peer, met: LineEvent) -> (Outs, bool)
+fn answer<G: Ledger, A: Archive>(
+    alloc: Global,
+    ledger: &mut G,
+    archive: &mut A,
+    holdings: &Holdings,
+    client: &mut Client,
+    met: LineEvent,
+) -> (Outs, bool)
     requires live { G.is_live ledger.old }
-    ensures answers { (chain : Chain) → G.stands ledger.old chain → Answers chain
-        (λ n. RoseBy (G.faults ledger.old) (G.faults ledger.new) n) peer met (outs_of result.0) result.1 }
+    ensures answers { (side : Side)
+        → IsSettled ⟦<G as Ledger>⟧ ⟦<A as Archive>⟧ ledger.old holdings.now archive.old side
+        → Answers A.tells side
+        (Lost ⟦<G as Ledger>⟧ ⟦<A as Archive>⟧ ledger.old ledger.new archive.old archive.new)
+        client.old.peer met client.old.session client.new.session (outs_of result.0) result.1 }
     ensures quiet { Asked ⟦<G as Ledger>⟧ ledger.old ledger.new }
+    ensures keeps { A.tells → AllGrow (A.bytes archive.old) (A.bytes archive.new) }
     ensures disk_more { G.faults ledger.old ≤ G.faults ledger.new }
+    ensures archive_more { A.faults archive.old ≤ A.faults archive.new }
+    ensures same { client.new ≡ record client.old { session = client.new.session } }
 {
     match met {
-        LineEvent::TooLong { limit: _ } => (closing(alloc, peer, Why::Long), false),
-        LineEvent::Line(line) => match replying(alloc, ledger, peer, line.as_slice()) {
-            Ok(outs) => (outs, true),
-            Err(_) => (closing(alloc, peer, Why::Memory), false),
-        },
+        LineEvent::TooLong { limit: _ } => {
+            let peer = client.peer();
+            (closing(alloc, peer, Why::Long), false)
+        }
+        LineEvent::Line(line) => {
+            answer_line(alloc, ledger, archive, holdings, client, line.as_slice())
+        }
     }
 }
 
 /// One turn of a client: the reply to its next line, its closing, or nothing where no whole line is left; and
 /// whether the client stays.
-pub fn client_turn<G: Ledger>(
+pub fn client_turn<G: Ledger, A: Archive>(
     alloc: Global,
     ledger: &mut G,
+    archive: &mut A,
+    holdings: &Holdings,
     client: &mut Client,
 ) -> (Option<Outs>, bool)
     requires live { G.is_live ledger.old }
-    ensures turn { (chain : Chain) → G.stands ledger.old chain → ClientTurn chain
-        (λ n. RoseBy (G.faults ledger.old) (G.faults ledger.new) n) client.old result.0
-        (left_if result.1 client.new) }
+    ensures turn { (side : Side)
+        → IsSettled ⟦<G as Ledger>⟧ ⟦<A as Archive>⟧ ledger.old holdings.now archive.old side
+        → ClientTurn A.tells side
+        (Lost ⟦<G as Ledger>⟧ ⟦<A as Archive>⟧ ledger.old ledger.new archive.old archive.new)
+        client.old result.0 (left_if result.1 client.new) }
     ensures quiet { Asked ⟦<G as Ledger>⟧ ledger.old ledger.new }
-    ensures still { IfNone result.0 (G.faults ledger.new ≡ G.faults ledger.old) }
+    ensures keeps { A.tells → AllGrow (A.bytes archive.old) (A.bytes archive.new) }
+    ensures still { IfNone result.0 ((G.faults ledger.new ≡ G.faults ledger.old)
+        × (A.faults archive.new ≡ A.faults archive.old)) }
     ensures disk_more { G.faults ledger.old ≤ G.faults ledger.new }
+    ensures archive_more { A.faults archive.old ≤ A.faults archive.new }
     ensures less { OnSome result.0 (work_of_client (left_if result.1 client.new)
         < work_of_client (Some client.old)) }
     ensures done { IfNone result.0 (HasNoWork (left_if result.1 client.new)) }
@@ -192,7 +271,7 @@ pub fn client_turn<G: Ledger>(
         Err(_) => (Some(closing(alloc, peer, Why::Memory)), false),
         Ok(None) => (None, true),
         Ok(Some(met)) => {
-            let (outs, stays) = answer(alloc, ledger, peer, met);
+            let (outs, stays) = answer(alloc, ledger, archive, holdings, client, met);
             (Some(outs), stays)
         }
     }

@@ -1,21 +1,23 @@
 // The clients, by rising number.
 ghost use Rattle.std.specs.Prelude.{◌≡◌, ◌<◌, ◌≤◌, [], ◌∷◌, ◌++◌, None, OnOk, OnErr, IfSome, IfNone, length};
-ghost use Rattle.el_outside.specs.Counts.{RoseBy};
-ghost use Rattle.el_chain.specs.Chains.{Chain};
+ghost use Rattle.el_outside.specs.Files.{AllGrow};
 ghost use Rattle.el_model.specs.LedgerCalls.{Asked};
+ghost use Rattle.el_world.specs.Side.{Side};
 ghost use Rattle.el_core.specs.Arrivals.{kept_clients};
+ghost use Rattle.el_core.specs.within.Answering.{IsSettled, Lost};
 ghost use Rattle.el_core.specs.within.Clients.{IsPlace, HearsAt, ClientTurn, TurnsAt, replaced};
 
 use crate::client::{Client, client_turn};
 use crate::out::Outs;
 use el_base::OutOfMemory;
+use el_methods::Holdings;
 use el_model::Ledger;
-use el_outside::Peer;
+use el_outside::{Archive, Peer};
 use std::alloc::Global;
 use std::marker::Model;
 
 /// Connected clients, in the order in which they came. Contracts see the list of these.
-#[derive(Debug, Drop)]
+#[derive(Drop)]
 pub struct Clients {
     list: Vec<Client>,
 }
@@ -92,22 +94,29 @@ impl Clients {
     }
 
     /// A turn of the client at that place, which is gone where it was closed.
-    pub fn turn<G: Ledger>(
+    pub fn turn<G: Ledger, A: Archive>(
         &mut self,
         alloc: Global,
         ledger: &mut G,
+        archive: &mut A,
+        holdings: &Holdings,
         i: usize,
     ) -> (Option<Outs>, bool)
         requires inside { i < length self.old }
         requires live { G.is_live ledger.old }
-        ensures turn { TurnsAt (λ c left. (chain : Chain) → G.stands ledger.old chain → ClientTurn chain
-            (λ n. RoseBy (G.faults ledger.old) (G.faults ledger.new) n) c result.0 left)
-            i self.old result.0 result.1 self.new }
+        ensures turn { TurnsAt (λ c left. (side : Side)
+            → IsSettled ⟦<G as Ledger>⟧ ⟦<A as Archive>⟧ ledger.old holdings.now archive.old side
+            → ClientTurn A.tells side
+            (Lost ⟦<G as Ledger>⟧ ⟦<A as Archive>⟧ ledger.old ledger.new archive.old archive.new)
+            c result.0 left) i self.old result.0 result.1 self.new }
         ensures quiet { Asked ⟦<G as Ledger>⟧ ledger.old ledger.new }
-        ensures still { IfNone result.0 (G.faults ledger.new ≡ G.faults ledger.old) }
+        ensures keeps { A.tells → AllGrow (A.bytes archive.old) (A.bytes archive.new) }
+        ensures still { IfNone result.0 ((G.faults ledger.new ≡ G.faults ledger.old)
+            × (A.faults archive.new ≡ A.faults archive.old)) }
         ensures disk_more { G.faults ledger.old ≤ G.faults ledger.new }
+        ensures archive_more { A.faults archive.old ≤ A.faults archive.new }
     {
-        let (outs, stays) = client_turn(alloc, ledger, &mut self.list[i]);
+        let (outs, stays) = client_turn(alloc, ledger, archive, holdings, &mut self.list[i]);
         if stays {
             return (outs, true);
         }

@@ -1,41 +1,42 @@
 // The server: a pure core that takes arrivals and answers by turns.
-ghost use Rattle.std.specs.Prelude.{◌≡◌, ◌≢◌, ◌⊎◌, ◌<◌, ◌≤◌, ◌+◌, ℕ, List, [], ◌∷◌, None, Some, true, OnSome, OnOk, OnErr, IfOk, IfErr, IfSome, IfNone, IsErrOf, length};
+ghost use Rattle.std.specs.Prelude.{◌≡◌, ◌≢◌, ◌⊎◌, ◌<◌, ◌≤◌, ◌+◌, ℕ, List, [], ◌∷◌, None, Some, true, false, OnSome, OnOk, OnErr, IfOk, IfErr, IfSome, IfNone, IsErrOf, length};
 ghost use Rattle.el_outside.specs.Counts.{RoseBy};
 ghost use Rattle.el_outside.specs.Files.{AllGrow};
 ghost use Rattle.el_chain.specs.declared.moves.Plan as moves;
 ghost use Rattle.el_chain.specs.Chains.{Chain};
-ghost use Rattle.el_model.specs.Flights.{IsFirstMove};
+ghost use Rattle.el_world.specs.Flights.{IsFirstMove};
 ghost use Rattle.el_model.specs.LedgerCalls.{Asked};
-ghost use Rattle.el_model.specs.Lines.{too_long};
-ghost use Rattle.el_model.specs.NodeSteps.{IsAt};
-ghost use Rattle.el_model.specs.Plans.{plan_of};
-ghost use Rattle.el_model.specs.Run.{MayStarve};
-ghost use Rattle.el_model.specs.Side.{Side, Moving, OrdersLine};
-ghost use Rattle.el_model.specs.World.{World, Event, joins, says, is_client, IsStill, quiet_world, without_client, reply_to};
+ghost use Rattle.el_lines.specs.Lines.{too_long};
+ghost use Rattle.el_world.specs.NodeSteps.{IsAt};
+ghost use Rattle.el_world.specs.Plans.{plan_of};
+ghost use Rattle.el_world.specs.Run.{MayStarve};
+ghost use Rattle.el_world.specs.Side.{Side, Moving, OrdersLine};
+ghost use Rattle.el_world.specs.World.{World, Event, joins, says, is_client, IsStill, initial_world, without_client, reply_to};
 ghost use Rattle.el_lines.specs.LineStates.{as_listed, held};
 ghost use Rattle.el_sync.specs.Steps.{IsFrom, StopsAt};
 ghost use Rattle.el_core.specs.State.{AreUpTo, IsIdle, Stands, HasGivenAll, work, work_of_peers};
 ghost use Rattle.el_core.specs.Arrivals.{TookArrival, IsAbove, IsUpTo, with_all_bytes, gone_from};
 ghost use Rattle.el_core.specs.Turn.{TookTurn, TurnFailed, IsDone, HasLost, MeetsLine, ClosesLong, outs_of};
-ghost use Rattle.el_core.specs.within.Answering.{Answered, NodeKeeps, sources_of};
+ghost use Rattle.el_core.specs.within.Answering.{Answered, IsSettled, Lost, NodeKeeps, holdings_of};
 ghost use Rattle.el_core.specs.within.Clients.{Hears, Opens, Gives, NextIsLine, SpeakerSteps, PeersTurn};
 
 use crate::client::{Client, closing, room_for_one, sending_in};
 use crate::clients::Clients;
 use crate::out::Outs;
 use el_base::OutOfMemory;
-use el_headers::HeaderTree;
-use el_lines::{LineBuffer, LineEvent};
-use el_model::{CLIENT_LIMIT, Ledger, NODE_LINE_LIMIT};
+use el_lines::{LineBuffer, LineEvent, NODE_LINE_LIMIT};
+use el_methods::Holdings;
+use el_model::Ledger;
 use el_outside::{Archive, Arrival, Peer, Why};
-use el_sync::{Ahead, Sources, StepFault, move_next, order};
+use el_sync::{Ahead, StepFault, move_next, order};
+use el_world::CLIENT_LIMIT;
 use std::alloc::Global;
 use std::marker::Model;
 use std::mem;
 
-/// The server's state: the ledger that it answers from, the headers that were found, the node's bytes and
-/// what its last tip line is still to do, its clients, which of them speaks, and a client too many that isn't
-/// closed yet. Contracts see it as a `State`, which stands for a `World` of the model.
+/// The server's state: the ledger that it answers from, the headers that were found and the unconfirmed set,
+/// the node's bytes and what its last tip line is still to do, its clients, which of them speaks, and a client
+/// too many that isn't closed yet. Contracts see it as a `State`, which stands for a `World`.
 ///
 /// An arrival is taken by `take`; then `turn` is called until it answers None, and only then the next arrival
 /// is taken. What a turn gives is sent and closed before the next turn, and a client to whom a message can't
@@ -44,7 +45,7 @@ use std::mem;
 pub struct Server<G: Ledger> {
     alloc: Global,
     ledger: G,
-    sources: Sources,
+    holdings: Holdings,
     node: LineBuffer,
     ahead: Ahead,
     clients: Clients,
@@ -57,7 +58,7 @@ impl<G: Ledger> Model for Server<G> {
     ghost use Rattle.std.specs.List.{AllByRecursion};
     ghost use Rattle.el_chain.specs.Headers.{AreLinked};
     ghost use Rattle.el_chain.specs.Records.{IsNode};
-    ghost use Rattle.el_model.specs.NodeAnswers.{node_limit};
+    ghost use Rattle.el_lines.specs.NodeAnswers.{node_limit};
     ghost use Rattle.el_core.specs.State.{State};
     ghost use Rattle.el_sync.specs.Steps.{named};
 
@@ -65,8 +66,9 @@ impl<G: Ledger> Model for Server<G> {
 
     ghost view = { λ s. record {
       ledger = s.ledger;
-      magic = s.sources.magic;
-      found = s.sources.tree;
+      magic = s.holdings.magic;
+      found = s.holdings.tree;
+      pool = s.holdings.pool;
       node = s.node;
       ahead = s.ahead;
       clients = s.clients;
@@ -79,19 +81,21 @@ impl<G: Ledger> Model for Server<G> {
 }
 
 impl<G: Ledger> Server<G> {
-    /// A server without clients, whose node has said nothing. Takes no memory.
-    pub fn new(alloc: Global, ledger: G, tree: HeaderTree, magic: [u8; 4]) -> Server<G>
+    /// A server without clients, whose node has said nothing, so that nothing unconfirmed is kept. Takes no
+    /// memory.
+    pub fn new(alloc: Global, ledger: G, holdings: Holdings) -> Server<G>
         requires live { G.is_live ledger }
         ensures ledger { result.ledger ≡ ledger }
         ensures stands { (chain : Chain) (files : ℕ → List ℕ) → G.stands ledger chain
-            → Stands G.stands result (quiet_world chain magic tree files) [] }
+            → holdings.pool.entries ≡ [] → Stands G.stands result
+            (initial_world chain holdings.magic holdings.pool.limits holdings.tree files) [] }
         ensures idle { IsIdle result }
         ensures clients { result.clients ≡ [] }
     {
         Server {
             alloc,
             ledger,
-            sources: Sources { tree, magic },
+            holdings,
             node: LineBuffer::new(alloc, NODE_LINE_LIMIT),
             ahead: Ahead::none(alloc),
             clients: Clients::new(alloc),
@@ -107,7 +111,7 @@ impl<G: Ledger> Server<G> {
         let Server {
             alloc: _,
             ledger,
-            sources: _,
+            holdings: _,
             node: _,
             ahead: _,
             clients: _,
@@ -205,16 +209,20 @@ impl<G: Ledger> Server<G> {
         requires live { G.is_live self.old.ledger }
         requires some { self.old.ahead ≢ [] }
         ensures moving { (side : Side)
-            → IsAt ⟦<G as Ledger>⟧ ⟦<A as Archive>⟧ self.old.ledger archive.old side
+            → IsAt ⟦<G as Ledger>⟧ ⟦<A as Archive>⟧ self.old.ledger self.old.pool archive.old side
             → side.found ≡ self.old.found → IfOk result (Answered ⟦<G as Ledger>⟧ ⟦<A as Archive>⟧
             (Moving A.tells side 0 self.old.ahead) self.old self.new archive.old archive.new side) }
         ensures sends { IfOk result (λ o. (text : List ℕ) × (outs_of o ≡ reply_to 0 text)) }
         ensures stopped { (chain : Chain) → G.stands self.old.ledger chain → IfErr result (
-            StopsAt ⟦<G as Ledger>⟧ ⟦<A as Archive>⟧ self.old.ledger self.new.ledger archive.new chain
-            (λ (p : moves.Plan). p ≡ plan_of 0 self.old.ahead)) }
+            StopsAt ⟦<G as Ledger>⟧ ⟦<A as Archive>⟧ self.old.ledger self.new.ledger archive.old archive.new
+            chain true (λ (p : moves.Plan). p ≡ plan_of 0 self.old.ahead)) }
         ensures some { self.old.ahead ≢ [] }
         ensures fewer { OnOk result (length self.new.ahead < length self.old.ahead) }
-        ensures same { self.new ≡ record self.old { ledger = self.new.ledger; ahead = self.new.ahead } }
+        ensures same { self.new ≡ record self.old {
+          ledger = self.new.ledger;
+          pool = self.new.pool;
+          ahead = self.new.ahead;
+        } }
         ensures step { NodeKeeps ⟦<G as Ledger>⟧ ⟦<A as Archive>⟧ self.old.ledger self.new.ledger
             archive.old archive.new result }
     {
@@ -222,7 +230,13 @@ impl<G: Ledger> Server<G> {
             return Err(StepFault::Memory);
         };
         let rest = mem::replace(&mut self.ahead, Ahead::none(self.alloc));
-        match move_next(self.alloc, &mut self.ledger, 0, rest, archive) {
+        match move_next(
+            self.alloc,
+            &mut self.ledger,
+            &mut self.holdings,
+            rest,
+            archive,
+        ) {
             Ok(step) => {
                 self.ahead = step.left;
                 Ok(sending_in(room, 0, step.text))
@@ -235,21 +249,23 @@ impl<G: Ledger> Server<G> {
     fn turn_node<A: Archive>(&mut self, met: LineEvent, archive: &mut A) -> Result<Outs, StepFault>
         requires live { G.is_live self.old.ledger }
         requires still { self.old.ahead ≡ [] }
-        ensures node { (side : Side) → IsAt ⟦<G as Ledger>⟧ ⟦<A as Archive>⟧ self.old.ledger archive.old side
-            → IsFrom (sources_of self.old) side → IfOk result (Answered ⟦<G as Ledger>⟧ ⟦<A as Archive>⟧
+        ensures node { (side : Side)
+            → IsAt ⟦<G as Ledger>⟧ ⟦<A as Archive>⟧ self.old.ledger self.old.pool archive.old side
+            → IsFrom (holdings_of self.old) side → IfOk result (Answered ⟦<G as Ledger>⟧ ⟦<A as Archive>⟧
             (OrdersLine A.tells side (as_listed met)) self.old self.new archive.old archive.new side) }
         ensures sends { IfOk result (λ o. (text : List ℕ) × (outs_of o ≡ reply_to 0 text)) }
         ensures stopped { (side : Side)
-            → IsAt ⟦<G as Ledger>⟧ ⟦<A as Archive>⟧ self.old.ledger archive.old side
-            → IsFrom (sources_of self.old) side → IfErr result (
-            StopsAt ⟦<G as Ledger>⟧ ⟦<A as Archive>⟧ self.old.ledger self.new.ledger archive.new side.chain
-            (IsFirstMove side (as_listed met))) }
+            → IsAt ⟦<G as Ledger>⟧ ⟦<A as Archive>⟧ self.old.ledger self.old.pool archive.old side
+            → IsFrom (holdings_of self.old) side → IfErr result (
+            StopsAt ⟦<G as Ledger>⟧ ⟦<A as Archive>⟧ self.old.ledger self.new.ledger archive.old archive.new
+            side.chain false (IsFirstMove side (as_listed met))) }
         ensures still { self.old.ahead ≡ [] }
         ensures fewer { OnOk result (length self.new.ahead ≤ length self.old.found) }
         ensures more { OnOk result (length self.new.found ≤ length self.old.found + 1) }
         ensures same { self.new ≡ record self.old {
           ledger = self.new.ledger;
           found = self.new.found;
+          pool = self.new.pool;
           ahead = self.new.ahead;
         } }
         ensures step { NodeKeeps ⟦<G as Ledger>⟧ ⟦<A as Archive>⟧ self.old.ledger self.new.ledger
@@ -261,7 +277,7 @@ impl<G: Ledger> Server<G> {
         match order(
             self.alloc,
             &mut self.ledger,
-            &mut self.sources,
+            &mut self.holdings,
             archive,
             met,
         ) {
@@ -282,13 +298,19 @@ impl<G: Ledger> Server<G> {
     }
 
     // A turn of the client that speaks.
-    fn turn_client(&mut self) -> Option<Outs>
+    fn turn_client<A: Archive>(&mut self, archive: &mut A) -> Option<Outs>
         requires live { G.is_live self.old.ledger }
-        ensures speaker_steps { (chain : Chain) → G.stands self.old.ledger chain → SpeakerSteps chain
-            (λ n. RoseBy (G.faults self.old.ledger) (G.faults self.new.ledger) n) self.old result self.new }
+        ensures speaker_steps { (side : Side)
+            → IsSettled ⟦<G as Ledger>⟧ ⟦<A as Archive>⟧
+            self.old.ledger (holdings_of self.old) archive.old side → SpeakerSteps A.tells side
+            (Lost ⟦<G as Ledger>⟧ ⟦<A as Archive>⟧ self.old.ledger self.new.ledger archive.old archive.new)
+            self.old result self.new }
         ensures quiet { Asked ⟦<G as Ledger>⟧ self.old.ledger self.new.ledger }
-        ensures still { IfNone result (G.faults self.new.ledger ≡ G.faults self.old.ledger) }
+        ensures keeps { A.tells → AllGrow (A.bytes archive.old) (A.bytes archive.new) }
+        ensures still { IfNone result ((G.faults self.new.ledger ≡ G.faults self.old.ledger)
+            × (A.faults archive.new ≡ A.faults archive.old)) }
         ensures disk_more { G.faults self.old.ledger ≤ G.faults self.new.ledger }
+        ensures archive_more { A.faults archive.old ≤ A.faults archive.new }
         ensures same { self.new ≡ record self.old {
           ledger = self.new.ledger;
           clients = self.new.clients;
@@ -305,7 +327,9 @@ impl<G: Ledger> Server<G> {
             self.speaker = None;
             return None;
         };
-        let (outs, stays) = self.clients.turn(self.alloc, &mut self.ledger, i);
+        let (outs, stays) = self
+            .clients
+            .turn(self.alloc, &mut self.ledger, archive, &self.holdings, i);
         if !stays {
             self.speaker = None;
             return outs;
@@ -337,13 +361,19 @@ impl<G: Ledger> Server<G> {
 
     // A turn where the node has nothing left: the client too many is closed, or the one that speaks has its
     // turn.
-    fn turn_peers(&mut self) -> Option<Outs>
+    fn turn_peers<A: Archive>(&mut self, archive: &mut A) -> Option<Outs>
         requires live { G.is_live self.old.ledger }
-        ensures peers { (chain : Chain) → G.stands self.old.ledger chain → PeersTurn chain
-            (λ n. RoseBy (G.faults self.old.ledger) (G.faults self.new.ledger) n) self.old result self.new }
+        ensures peers { (side : Side)
+            → IsSettled ⟦<G as Ledger>⟧ ⟦<A as Archive>⟧
+            self.old.ledger (holdings_of self.old) archive.old side → PeersTurn A.tells side
+            (Lost ⟦<G as Ledger>⟧ ⟦<A as Archive>⟧ self.old.ledger self.new.ledger archive.old archive.new)
+            self.old result self.new }
         ensures quiet { Asked ⟦<G as Ledger>⟧ self.old.ledger self.new.ledger }
-        ensures still { IfNone result (G.faults self.new.ledger ≡ G.faults self.old.ledger) }
+        ensures keeps { A.tells → AllGrow (A.bytes archive.old) (A.bytes archive.new) }
+        ensures still { IfNone result ((G.faults self.new.ledger ≡ G.faults self.old.ledger)
+            × (A.faults archive.new ≡ A.faults archive.old)) }
         ensures disk_more { G.faults self.old.ledger ≤ G.faults self.new.ledger }
+        ensures archive_more { A.faults archive.old ≤ A.faults archive.new }
         ensures same { self.new ≡ record self.old {
           ledger = self.new.ledger;
           clients = self.new.clients;
@@ -357,13 +387,13 @@ impl<G: Ledger> Server<G> {
     {
         match self.take_surplus() {
             Some(p) => Some(closing(self.alloc, p, Why::Clients)),
-            None => self.turn_client(),
+            None => self.turn_client(archive),
         }
     }
 
     /// Does the next piece of work: the next move of the node's last tip line, its next line, or what is left
-    /// of the client that speaks. None exactly where none is left to do; the start of a line, which is kept until
-    /// its end comes, is no work.
+    /// of the client that speaks. None exactly where none is left to do; the start of a line, which is kept
+    /// until its end comes, is no work.
     ///
     /// # Errors
     ///
@@ -374,8 +404,8 @@ impl<G: Ledger> Server<G> {
         // It takes the next event, or does what an event left, as `Run` allows.
         ensures step { (world : World) (left : List Event) → Stands G.stands self.old world left
             → (A.tells → AllGrow world.side.files (A.bytes archive.old)) → IfOk result (λ found.
-            IfSome found (λ o. TookTurn ⟦<G as Ledger>⟧ ⟦<A as Archive>⟧ self.old self.new archive.old archive.new world left
-            (outs_of o))) }
+            IfSome found (λ o. TookTurn ⟦<G as Ledger>⟧ ⟦<A as Archive>⟧ self.old self.new
+            archive.old archive.new world left (outs_of o))) }
         // Where nothing is done, nothing is left.
         ensures done { (world : World) (left : List Event) → Stands G.stands self.old world left
             → IfOk result (λ found. IfNone found (IsDone G.stands A.tells world left self.new)) }
@@ -420,7 +450,7 @@ impl<G: Ledger> Server<G> {
         }
         match self.next_line() {
             Err(_) => Err(StepFault::Memory),
-            Ok(None) => Ok(self.turn_peers()),
+            Ok(None) => Ok(self.turn_peers(archive)),
             Ok(Some(met)) => match self.turn_node(met, archive) {
                 Ok(outs) => Ok(Some(outs)),
                 Err(fault) => Err(fault),

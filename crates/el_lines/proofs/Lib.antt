@@ -1,5 +1,4 @@
-mod Requests
-mod Printing
+pub mod Cuts
 mod LineCuts
 mod Standing
 mod SameStates

@@ -1,8 +1,8 @@
 -- The lines of bytes, from the front.
 use Rattle.std.proofs.Common.{◌≡◌, ℕ, List, [], ◌∷◌, ◌++◌, map, refl, ap, sym, ◌∙◌, append_assoc, append-nil, ne_eqb, ◌==◌, inl, inr, false}
 use Rattle.std.proofs.lemmas.List.{map-append}
-use Rattle.el_model.specs.Lines.{Cut, cut, cut_before, byte_before, event_of, open_event, lines}
-use Rattle.el_model.proofs.Cuts.{either}
+use Rattle.el_lines.specs.Lines.{Cut, cut, cut_before, byte_before, event_of, open_event, lines}
+use Rattle.el_lines.proofs.Cuts.{either}
 use Rattle.el_lines.specs.LineStates.{HasNoNewline}
 
 -- bytes before the first line

@@ -7,7 +7,7 @@ use Rattle.el_lines.proofs.Numbers.{same_numbers}
 use Rattle.std.specs.Prelude.{codes}
 use Rattle.el_base.specs.Shown.{Shows}
 use Rattle.el_base.proofs.Lists.{same_cut}
-use Rattle.el_model.specs.NodeLines.{NodeLine, block, tip, tx, dropped, ShowsPlace, IsWordWith, ReadsNodeLine}
+use Rattle.el_lines.specs.NodeLines.{NodeLine, block, tip, tx, dropped, ShowsPlace, IsWordWith, ReadsNodeLine}
 
 -- the first two bytes, as one number
 mark : List ℕ → ℕ

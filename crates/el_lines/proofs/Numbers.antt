@@ -8,7 +8,7 @@ use Rattle.std.proofs.lemmas.Int.Digits.{digits_value_more}
 use Rattle.std.proofs.lemmas.List.Elements.{All-head, All-tail, All-more}
 use Rattle.el_base.proofs.Lists.{cut_at, all_mid}
 use Rattle.std.proofs.lemmas.List.{get_or_default}
-use Rattle.el_model.specs.NodeLines.{ShowsNumber, ShowsPlace}
+use Rattle.el_lines.specs.NodeLines.{ShowsNumber, ShowsPlace}
 use Rattle.el_lines.specs.LineStates.{HasNone}
 use Rattle.el_lines.specs.within.Places.{StandsFirst}
 

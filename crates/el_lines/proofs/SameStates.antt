@@ -1,8 +1,8 @@
 -- What was fed and how many events were given determine a line buffer.
 use Rattle.std.proofs.Common.{◌≡◌, ℕ, ◌+◌, List, [], ◌∷◌, ◌++◌, length, refl, ap, sym, ◌∙◌, append-nil, arith, length-append, Bool, inl, inr, ◌==◌, eqb-true}
 use Rattle.el_base.proofs.Lists.{same_cut}
-use Rattle.el_model.specs.Lines.{Cut, cut, cut_before, byte_before}
-use Rattle.el_model.proofs.Cuts.{either}
+use Rattle.el_lines.specs.Lines.{Cut, cut, cut_before, byte_before}
+use Rattle.el_lines.proofs.Cuts.{either}
 use Rattle.el_lines.specs.LineStates.{LineState, IsAt, between_lines, in_long_line, HasNoNewline}
 use Rattle.el_lines.proofs.LineCuts.{cut_after, cut_open}
 

@@ -2,7 +2,7 @@
 use Rattle.std.proofs.Common.{◌≡◌, ℕ, ◌+◌, ◌<◌, ◌≤◌, List, [], ◌∷◌, ◌++◌, length, map, take, drop, refl, ap, sym, ◌∙◌, append_assoc, append-nil, arith, length-append, Some, None, true, false, slice_get, lt-ltb, le-ltb}
 use Rattle.std.proofs.lemmas.List.{length-map, length-take-le, get_or_default}
 use Rattle.el_base.proofs.Lists.{cut_at, all_append}
-use Rattle.el_model.specs.Lines.{cut, LineEvent, line, too_long, event_of, lines}
+use Rattle.el_lines.specs.Lines.{cut, LineEvent, line, too_long, event_of, lines}
 use Rattle.el_lines.specs.LineStates.{LineState, IsAt, between_lines, in_long_line, HasNoNewline}
 use Rattle.el_lines.specs.within.Places.{StandsFirst}
 use Rattle.el_lines.proofs.LineCuts.{cut_ended, cut_after, lines_after, lines_ended, lines_open}

@@ -1,7 +1,7 @@
 -- What a line buffer was fed and has given.
 use Rattle.std.specs.Prelude.{◌≡◌, ◌≢◌, ℕ, ◌+◌, ◌<◌, List, [], ◌++◌, length, Bool, true, false}
 use Rattle.std.specs.List.{AllByRecursion}
-use Rattle.el_model.specs.Lines.{LineEvent, line, too_long, cut}
+use Rattle.el_lines.specs.Lines.{LineEvent, line, too_long, cut}
 use Rattle.el_lines.specs.declared.line_buffer.LineEvent as given
 use Rattle.el_lines.specs.declared.line_buffer.LineEvent.TheVariants as event
 

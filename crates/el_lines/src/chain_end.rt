@@ -1,6 +1,6 @@
 // `at H HEIGHT`: where a chain ends.
 ghost use Rattle.std.specs.Prelude.{◌≡◌, ◌≤◌, ◌+◌, ◌++◌, [], length, IfOk, None, Some, vec_capacity};
-ghost use Rattle.el_model.specs.NodeAnswers as answer;
+ghost use Rattle.el_lines.specs.NodeAnswers as answer;
 
 use el_base::{Bytes, Hash32, OutOfMemory};
 use itoa::Buffer;
@@ -34,7 +34,7 @@ fn and_then(room: Vec<u8>, bytes: &[u8]) -> Vec<u8>
 }
 
 // The text of `at H HEIGHT`, in the room.
-#[tactic(auto, unfolding(el_model::specs::NodeAnswers::at_answer))]
+#[tactic(auto, unfolding(crate::specs::NodeAnswers::at_answer))]
 fn at_line(room: Vec<u8>, tip: Hash32, height: u32) -> Bytes
     requires empty { room.items ≡ [] }
     requires room { AT_SIZE ≤ vec_capacity room }
@@ -51,7 +51,7 @@ fn at_line(room: Vec<u8>, tip: Hash32, height: u32) -> Bytes
 
 /// `at H HEIGHT`, in room for it: the chain ends in the block with this hash, in inner order, and of this
 /// height. Of no blocks nothing is said. Takes no memory.
-#[tactic(auto, unfolding(el_model::specs::NodeAnswers::at_answer))]
+#[tactic(auto, unfolding(crate::specs::NodeAnswers::at_answer))]
 pub fn at_answer_in(room: Vec<u8>, tip: Option<Hash32>, height: Option<u32>) -> Bytes
     requires empty { room.items ≡ [] }
     requires room { AT_SIZE ≤ vec_capacity room }

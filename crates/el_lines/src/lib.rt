@@ -1,21 +1,20 @@
-//! What comes over a link and goes back over it. The bytes of a peer are cut into lines; a line of a client
-//! is read as a request of Electrum Protocol 1.4, as far as its methods are known, and a line of a node by
-//! its own grammar; and the replies to clients are printed (JSON-RPC 2.0).
+//! What comes over a link: the bytes of a peer are cut into lines, a line of a node is read by its grammar, and
+//! the answers to the node are printed.
 #![tactic(auto)]
 
-mod answer;
 mod bytes;
 mod chain_end;
 mod laws;
+mod limits;
 mod line_buffer;
 mod node_answer;
 mod node_line;
 mod number;
-mod request;
+mod pool_answer;
 
-pub use answer::{balance_reply, disk_reply, history_reply, too_large_reply, unspent_reply};
 pub use chain_end::{AT_SIZE, at_answer, at_answer_in, room_for_at};
-pub use laws::{cuts_do_not_matter, node_line_says_one_thing};
+pub use laws::{cuts_do_not_matter, node_line_says_one_thing, pieces_do_not_matter};
+pub use limits::{LINE_LIMIT, NODE_LINE_LIMIT};
 pub use line_buffer::{LineBuffer, LineEvent};
 pub use node_answer::{
     archive_refused, block_answer, deep_refused, genesis_refused, line_refused, long_refused,
@@ -23,4 +22,4 @@ pub use node_answer::{
 };
 pub use node_line::{NodeLine, NodeLineFault, read_node_line};
 pub use number::number_of;
-pub use request::{Request, request_of};
+pub use pool_answer::{absent_refused, gone_answer, pool_refused, tx_answer};

@@ -1,6 +1,6 @@
 // Bytes that come in pieces, cut into lines.
 ghost use Rattle.std.specs.Prelude.{◌≡◌, ℕ, List, [], ◌∷◌, ◌++◌, ◌+◌, ◌<◌, ◌≤◌, length, slice_get, IfOk, IfSome, IfNone, OnOk, OnErr, MatchOption, Ok, Some, None, true, false, take, drop};
-ghost use Rattle.el_model.specs.Lines.{lines, too_long};
+ghost use Rattle.el_lines.specs.Lines.{lines, too_long};
 ghost use Rattle.el_lines.specs.LineStates.{IsAt, held, as_listed, HasNoNewline};
 ghost use Rattle.el_lines.specs.within.Places.{StandsFirst};
 

@@ -1,16 +1,16 @@
 // What a node is answered.
 ghost use Rattle.std.specs.Prelude.{◌≡◌, ◌++◌, ◌∷◌, [], IfOk, MatchOption, None, Some};
 ghost use Rattle.el_base.specs.Shown.{shown};
-ghost use Rattle.el_model.specs.NodeAnswers as answer;
+ghost use Rattle.el_lines.specs.NodeAnswers as answer;
 
+use crate::limits::NODE_LINE_LIMIT;
 use el_base::{Bytes, Hash32, OutOfMemory};
 use el_block::BlockFault;
 use el_chain::{ConnectFault, MoveFault};
-use el_model::NODE_LINE_LIMIT;
 use std::alloc::Global;
 
-// A word and what stands after it, ended by byte 10.
-fn word_line(alloc: Global, word: &[u8], rest: &[u8]) -> Result<Bytes, OutOfMemory>
+/// A word and what stands after it, ended by byte 10.
+pub fn word_line(alloc: Global, word: &[u8], rest: &[u8]) -> Result<Bytes, OutOfMemory>
     ensures { IfOk result (λ t. t ≡ word.now ++ (rest.now ++ 10 ∷ [])) }
 {
     let mut out = Vec::new(alloc);
@@ -20,8 +20,8 @@ fn word_line(alloc: Global, word: &[u8], rest: &[u8]) -> Result<Bytes, OutOfMemo
     Ok(Bytes::from_vec(out))
 }
 
-// A word and a hash as it is shown, ended by byte 10.
-fn hash_line(alloc: Global, word: &[u8], hash: Hash32) -> Result<Bytes, OutOfMemory>
+/// A word and a hash as it is shown, ended by byte 10.
+pub fn hash_line(alloc: Global, word: &[u8], hash: Hash32) -> Result<Bytes, OutOfMemory>
     ensures { IfOk result (λ t. t ≡ word.now ++ (shown hash.0 ++ 10 ∷ [])) }
 {
     word_line(alloc, word, hash.shown().as_slice())
@@ -29,7 +29,7 @@ fn hash_line(alloc: Global, word: &[u8], hash: Hash32) -> Result<Bytes, OutOfMem
 
 /// `block H`: the block with this hash, in inner order, is found. It is ended by byte 10, as every answer is,
 /// and like them it fails only where memory runs out.
-#[tactic(auto, unfolding(el_model::specs::NodeAnswers::block_answer))]
+#[tactic(auto, unfolding(crate::specs::NodeAnswers::block_answer))]
 pub fn block_answer(alloc: Global, hash: Hash32) -> Result<Bytes, OutOfMemory>
     ensures { IfOk result (λ t. t ≡ answer.block_answer hash) }
 {
@@ -37,7 +37,7 @@ pub fn block_answer(alloc: Global, hash: Hash32) -> Result<Bytes, OutOfMemory>
 }
 
 /// `refused line`: the line is none of a node.
-#[tactic(auto, unfolding(el_model::specs::NodeAnswers::line_refused))]
+#[tactic(auto, unfolding(crate::specs::NodeAnswers::line_refused))]
 pub fn line_refused(alloc: Global) -> Result<Bytes, OutOfMemory>
     ensures { IfOk result (λ t. t ≡ answer.line_refused) }
 {
@@ -45,7 +45,7 @@ pub fn line_refused(alloc: Global) -> Result<Bytes, OutOfMemory>
 }
 
 /// `refused long 8000100`: the line has more bytes than `NODE_LINE_LIMIT`.
-#[tactic(auto, unfolding(el_model::specs::NodeAnswers::long_refused))]
+#[tactic(auto, unfolding(crate::specs::NodeAnswers::long_refused))]
 pub fn long_refused(alloc: Global) -> Result<Bytes, OutOfMemory>
     ensures { IfOk result (λ t. t ≡ answer.long_refused) }
 {
@@ -54,7 +54,7 @@ pub fn long_refused(alloc: Global) -> Result<Bytes, OutOfMemory>
 }
 
 /// `refused place`: no record stands at the place.
-#[tactic(auto, unfolding(el_model::specs::NodeAnswers::place_refused))]
+#[tactic(auto, unfolding(crate::specs::NodeAnswers::place_refused))]
 pub fn place_refused(alloc: Global) -> Result<Bytes, OutOfMemory>
     ensures { IfOk result (λ t. t ≡ answer.place_refused) }
 {
@@ -63,7 +63,7 @@ pub fn place_refused(alloc: Global) -> Result<Bytes, OutOfMemory>
 
 /// `refused genesis H`: the block with this hash, in inner order, names no block before it, and is not the
 /// genesis.
-#[tactic(auto, unfolding(el_model::specs::NodeAnswers::genesis_refused))]
+#[tactic(auto, unfolding(crate::specs::NodeAnswers::genesis_refused))]
 pub fn genesis_refused(alloc: Global, hash: Hash32) -> Result<Bytes, OutOfMemory>
     ensures { IfOk result (λ t. t ≡ answer.genesis_refused hash) }
 {
@@ -71,7 +71,7 @@ pub fn genesis_refused(alloc: Global, hash: Hash32) -> Result<Bytes, OutOfMemory
 }
 
 /// `refused unknown H`: no block with this hash, in inner order, was found.
-#[tactic(auto, unfolding(el_model::specs::NodeAnswers::unknown_refused))]
+#[tactic(auto, unfolding(crate::specs::NodeAnswers::unknown_refused))]
 pub fn unknown_refused(alloc: Global, hash: Hash32) -> Result<Bytes, OutOfMemory>
     ensures { IfOk result (λ t. t ≡ answer.unknown_refused hash) }
 {
@@ -79,7 +79,7 @@ pub fn unknown_refused(alloc: Global, hash: Hash32) -> Result<Bytes, OutOfMemory
 }
 
 /// `refused unconnected H`: no path leads to the block with this hash, in inner order.
-#[tactic(auto, unfolding(el_model::specs::NodeAnswers::unconnected_refused))]
+#[tactic(auto, unfolding(crate::specs::NodeAnswers::unconnected_refused))]
 pub fn unconnected_refused(alloc: Global, hash: Hash32) -> Result<Bytes, OutOfMemory>
     ensures { IfOk result (λ t. t ≡ answer.unconnected_refused hash) }
 {
@@ -87,7 +87,7 @@ pub fn unconnected_refused(alloc: Global, hash: Hash32) -> Result<Bytes, OutOfMe
 }
 
 /// `refused deep N`: so many blocks would be taken back.
-#[tactic(auto, unfolding(el_model::specs::NodeAnswers::deep_refused))]
+#[tactic(auto, unfolding(crate::specs::NodeAnswers::deep_refused))]
 pub fn deep_refused(alloc: Global, back: usize) -> Result<Bytes, OutOfMemory>
     ensures { IfOk result (λ t. t ≡ answer.deep_refused back) }
 {
@@ -96,7 +96,7 @@ pub fn deep_refused(alloc: Global, back: usize) -> Result<Bytes, OutOfMemory>
 }
 
 /// `refused archive`: a call of the block files failed.
-#[tactic(auto, unfolding(el_model::specs::NodeAnswers::archive_refused))]
+#[tactic(auto, unfolding(crate::specs::NodeAnswers::archive_refused))]
 pub fn archive_refused(alloc: Global) -> Result<Bytes, OutOfMemory>
     ensures { IfOk result (λ t. t ≡ answer.archive_refused) }
 {
@@ -104,7 +104,7 @@ pub fn archive_refused(alloc: Global) -> Result<Bytes, OutOfMemory>
 }
 
 // The text of `refused bad B WORD`.
-#[tactic(auto, unfolding(el_model::specs::NodeAnswers::bad_refused))]
+#[tactic(auto, unfolding(crate::specs::NodeAnswers::bad_refused))]
 fn bad_refused(alloc: Global, hash: Hash32, word: &str) -> Result<Bytes, OutOfMemory>
     ensures { IfOk result (λ t. t ≡ answer.bad_refused hash word.now) }
 {
@@ -170,7 +170,7 @@ fn bad_answer(
 
 /// `refused changed B` or `refused bad B WORD`: a move is refused for one of its blocks. None where a device
 /// failed, or memory ran out, in the move: that is no fault of a block.
-#[tactic(auto, unfolding(el_model::specs::NodeAnswers::changed_refused))]
+#[tactic(auto, unfolding(crate::specs::NodeAnswers::changed_refused))]
 pub fn move_refused(alloc: Global, fault: MoveFault) -> Result<Option<Bytes>, OutOfMemory>
     ensures { IfOk result (λ text. text ≡ answer.move_refused fault) }
 {

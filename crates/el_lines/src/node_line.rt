@@ -3,8 +3,8 @@ ghost use Rattle.std.specs.Prelude.{◌≡◌, ◌≤◌, ◌%◌, ◌↔◌, �
 ghost use Rattle.std.specs.List.{AllPass};
 ghost use Rattle.hex.specs.Hex.{is_hex_digit};
 ghost use Rattle.el_base.specs.Shown.{Shows};
-ghost use Rattle.el_model.specs.NodeLines.{ShowsPlace, ShowsBytes, ReadsNodeLine};
-ghost use Rattle.el_lines.specs.NodeLines.{as_said, IsRefused};
+ghost use Rattle.el_lines.specs.NodeLines.{ShowsPlace, ShowsBytes, ReadsNodeLine};
+ghost use Rattle.el_lines.specs.ReadLines.{as_said, IsRefused};
 ghost use Rattle.el_lines.specs.within.Texts.{TextIsRefused};
 
 use crate::bytes::{byte_at, bytes_before, bytes_from};

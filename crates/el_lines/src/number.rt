@@ -1,6 +1,6 @@
 // Numbers in decimal.
 ghost use Rattle.std.specs.Prelude.{◌≡◌, ℕ, ◌<◌, ◌≤◌, ◌^◌, MatchOption};
-ghost use Rattle.el_model.specs.NodeLines.{ShowsNumber};
+ghost use Rattle.el_lines.specs.NodeLines.{ShowsNumber};
 
 /// The number below the bound that the text shows, by at most `most` digits, of which the first may be zeros;
 /// None exactly where it shows none. Takes no memory.

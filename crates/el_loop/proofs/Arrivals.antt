@@ -5,14 +5,13 @@ use Rattle.std.specs.List.{filter}
 use Rattle.el_outside.specs.declared.archive.Archive as archive
 use Rattle.el_outside.specs.declared.link.Link as link
 use Rattle.el_outside.specs.Files.{AllGrow}
-use Rattle.el_outside.specs.Story.{Story, ArrivalWithBytes, opened, brought, closed, quiet, ended, GoesOn, is_new, leaves as left_by}
-use Rattle.el_outside.proofs.Stories.{goes_none, arrived_stays_open, new_not_open}
+use Rattle.el_outside.specs.Trace.{Trace, ArrivalWithBytes, opened, brought, closed, quiet, ended, GoesOn, is_new, leaves as left_by}
+use Rattle.el_outside.proofs.Traces.{goes_none, arrived_stays_open, new_not_open}
 use Rattle.el_chain.specs.Chains.{Chain}
 use Rattle.el_model.specs.declared.ledger.Ledger as ledger
-use Rattle.el_model.specs.Sessions.{Session}
-use Rattle.el_model.specs.World.{World, Event, is_peer, hearing, after_hearing, events, IsStill, nothing}
-use Rattle.el_model.specs.Run.{Turns, none as no_turns, more, takes, all, Stop, by_memory, unheard, in_turn, MayStarve}
-use Rattle.el_model.proofs.Cuts.{either}
+use Rattle.el_world.specs.World.{World, Session, Event, is_peer, hearing, after_hearing, events, IsStill, nothing}
+use Rattle.el_world.specs.Run.{Turns, none as no_turns, more, takes, all, Stop, by_memory, unheard, in_turn, MayStarve}
+use Rattle.el_lines.proofs.Cuts.{either}
 use Rattle.el_core.specs.State.{State}
 use Rattle.el_core.specs.Arrivals.{TookArrival, Quietly, none, joined, departed}
 use Rattle.el_loop.specs.within.Sending.{AllOpen}
@@ -22,13 +21,13 @@ use Rattle.el_outside.proofs.Devices.{all_rose_none}
 use Rattle.el_loop.proofs.Progresses.{turns_then}
 
 -- clients stay open where another peer or nobody leaves
-pub all_stay : (s t : Story) (sessions : List Session) (a : ArrivalWithBytes)
+pub all_stay : (s t : Trace) (sessions : List Session) (a : ArrivalWithBytes)
     → ((p : ℕ) → left_by p a ≡ false) → GoesOn s t (a ∷ []) [] [] → AllOpen s sessions → AllOpen t sessions
 all_stay s t [] a nobody goes all' = tt
 all_stay s t (x ∷ xs) a nobody goes all' =
     (arrived_stays_open s t x.peer a all'.0 (nobody x.peer) goes, all_stay s t xs a nobody goes all'.1)
 
-pub all_but_left : (s t : Story) (sessions : List Session) (p : ℕ) → GoesOn s t (closed p ∷ []) [] []
+pub all_but_left : (s t : Trace) (sessions : List Session) (p : ℕ) → GoesOn s t (closed p ∷ []) [] []
     → AllOpen s sessions
     → AllOpen t (filter (λ (session : Session). not (is_peer p session)) sessions)
 all_but_left s t [] p goes all' = tt
@@ -40,12 +39,12 @@ all_but_left s t (x ∷ xs) p goes all' = elim (either (x.peer == p)) [
 heard_peer : (p : ℕ) (bytes : List ℕ) (x : Session) → (hearing p bytes x).peer ≡ x.peer
 heard_peer p bytes x = elim (either (x.peer == p)) [ inl h ↦ rw h refl | inr h ↦ rw h refl ]
 
-all_heard : (t : Story) (sessions : List Session) (p : ℕ) (bytes : List ℕ) → AllOpen t sessions
+all_heard : (t : Trace) (sessions : List Session) (p : ℕ) (bytes : List ℕ) → AllOpen t sessions
     → AllOpen t (map (hearing p bytes) sessions)
 all_heard t [] p bytes all' = tt
 all_heard t (x ∷ xs) p bytes all' = (rw (heard_peer p bytes x) all'.0, all_heard t xs p bytes all'.1)
 
-pub all_after : (t : Story) (world : World) (p : ℕ) (bytes : List ℕ) → AllOpen t world.sessions
+pub all_after : (t : Trace) (world : World) (p : ℕ) (bytes : List ℕ) → AllOpen t world.sessions
     → AllOpen t (after_hearing (brought p bytes) world).sessions
 all_after t world p bytes all' = elim (either (p == 0)) [
   | inl h ↦ rw h all'
@@ -54,10 +53,10 @@ all_after t world p bytes all' = elim (either (p == 0)) [
 ]
 
 -- a new peer is no client
-pub not_client : (story : Story) (sessions : List Session) (p : ℕ) → IsTrue (is_new story p)
-    → AllOpen story sessions → some_peer p sessions ≡ false
-not_client story sessions p new all' = elim (either (some_peer p sessions)) [
-  | inl h ↦ absurd (let f = client_open story sessions p h all' in let g = new_not_open story p new in cc)
+pub not_client : (trace : Trace) (sessions : List Session) (p : ℕ) → IsTrue (is_new trace p)
+    → AllOpen trace sessions → some_peer p sessions ≡ false
+not_client trace sessions p new all' = elim (either (some_peer p sessions)) [
+  | inl h ↦ absurd (let f = client_open trace sessions p h all' in let g = new_not_open trace p new in cc)
   | inr h ↦ h
 ]
 
@@ -129,7 +128,7 @@ module _ {G A K : Type 0} (of_ledger : ledger.Ghosts G) (of_files : archive.Ghos
         turns = rw t.whole turns;
         still = f.still;
         stood = f.stood;
-        went = record { story = f.went.story; rose = rw (← same) f.went.rose };
+        went = record { trace = f.went.trace; rose = rw (← same) f.went.rose };
         ready = f.ready;
       }
 
@@ -155,7 +154,7 @@ module _ {G A K : Type 0} (of_ledger : ledger.Ghosts G) (of_files : archive.Ghos
             f.world
             whole turns f.stops refl refl refl;
         grown = f.grown;
-        went = record { story = f.went.story; rose = rw (← same) f.went.rose };
+        went = record { trace = f.went.trace; rose = rw (← same) f.went.rose };
         flight = f.flight;
         is_flight = f.is_flight;
         crash = f.crash;
@@ -174,7 +173,7 @@ module _ {G A K : Type 0} (of_ledger : ledger.Ghosts G) (of_files : archive.Ghos
     stops = unheard may refl refl refl refl;
     grown = grows;
     went = record {
-      story = λ t. goes_none (of_link.story now.link);
+      trace = λ t. goes_none (of_link.trace now.link);
       rose = all_rose_none (failed of_ledger of_files of_link now);
     };
     flight = world.side.chain;

@@ -1,6 +1,6 @@
 -- The numbers that a link names.
 use Rattle.std.proofs.Common.{ℕ, ◌≤◌, arith}
-use Rattle.el_outside.specs.Story.{IsNextArrival}
+use Rattle.el_outside.specs.Trace.{IsNextArrival}
 use Rattle.el_outside.specs.declared.link.Arrival.{Arrival}
 use Rattle.el_outside.specs.declared.link.Arrival.TheVariants as arrival
 use Rattle.el_core.specs.Arrivals.{IsAbove, IsUpTo}

@@ -2,16 +2,15 @@
 use Rattle.std.proofs.Common.{◌≡◌, inl, inr, ℕ, ◌==◌, Bool, true, false, not, List, [], ◌∷◌, map, Some, refl, IsTrue, eqb-true}
 use Rattle.std.specs.Prelude.{MatchBool, find, if◌then◌else◌}
 use Rattle.std.specs.List.{filter, list_any}
-use Rattle.el_outside.specs.Story.{Story, Message, GoesOn, is_open}
+use Rattle.el_outside.specs.Trace.{Trace, Message, GoesOn, is_open}
 use Rattle.el_outside.specs.declared.link.Why.{Why}
-use Rattle.el_outside.proofs.Stories.{sent_stays_open, other_stays_open}
-use Rattle.el_model.specs.Sessions.{Session}
-use Rattle.el_model.specs.World.{is_peer}
-use Rattle.el_model.proofs.Cuts.{either}
+use Rattle.el_outside.proofs.Traces.{sent_stays_open, other_stays_open}
+use Rattle.el_world.specs.World.{Session, is_peer}
+use Rattle.el_lines.proofs.Cuts.{either}
 use Rattle.el_loop.specs.within.Sending.{AllOpen}
 
 -- an open peer is closed
-pub closed_open : (s t : Story) (p : ℕ) (reason : Why) → IsTrue (is_open s p)
+pub closed_open : (s t : Trace) (p : ℕ) (reason : Why) → IsTrue (is_open s p)
     → MatchBool (is_open s p) (GoesOn s t [] [] (record { peer = p; why = reason } ∷ [])) (t ≡ s)
     → GoesOn s t [] [] (record { peer = p; why = reason } ∷ [])
 closed_open s t p reason open' h = rw open' at h
@@ -23,22 +22,22 @@ abbrev pub but : ℕ → List Session → List Session
 but p sessions = filter (λ (session : Session). not (is_peer p session)) sessions
 
 -- a client of the world is open
-pub client_open : (story : Story) (sessions : List Session) (p : ℕ) → some_peer p sessions ≡ true
-    → AllOpen story sessions → IsTrue (is_open story p)
-client_open story [] p is all = absurd cc
-client_open story (s ∷ ss) p is all = elim (either (s.peer == p)) [
+pub client_open : (trace : Trace) (sessions : List Session) (p : ℕ) → some_peer p sessions ≡ true
+    → AllOpen trace sessions → IsTrue (is_open trace p)
+client_open trace [] p is all = absurd cc
+client_open trace (s ∷ ss) p is all = elim (either (s.peer == p)) [
   | inl h ↦ rw (← eqb-true s.peer p h) all.0
-  | inr h ↦ client_open story ss p (rw h at is) all.1
+  | inr h ↦ client_open trace ss p (rw h at is) all.1
 ]
 
 -- all stay open while messages are sent
-pub all_sent : (s t : Story) (sessions : List Session) (ms : List Message) → GoesOn s t [] ms []
+pub all_sent : (s t : Trace) (sessions : List Session) (ms : List Message) → GoesOn s t [] ms []
     → AllOpen s sessions → AllOpen t sessions
 all_sent s t [] ms goes all = tt
 all_sent s t (x ∷ xs) ms goes all = (sent_stays_open s t x.peer ms all.0 goes, all_sent s t xs ms goes all.1)
 
 -- all others stay open while a client is closed
-pub all_others : (s t : Story) (sessions : List Session) (p : ℕ) (reason : Why)
+pub all_others : (s t : Trace) (sessions : List Session) (p : ℕ) (reason : Why)
     → GoesOn s t [] [] (record { peer = p; why = reason } ∷ []) → AllOpen s sessions
     → AllOpen t (but p sessions)
 all_others s t [] p reason goes all = tt
@@ -47,7 +46,7 @@ all_others s t (x ∷ xs) p reason goes all = elim (either (x.peer == p)) [
   | inr h ↦ rw h (other_stays_open s t x.peer p reason all.0 h goes, all_others s t xs p reason goes all.1)
 ]
 
-pub all_strangers : (s t : Story) (sessions : List Session) (p : ℕ) (reason : Why)
+pub all_strangers : (s t : Trace) (sessions : List Session) (p : ℕ) (reason : Why)
     → GoesOn s t [] [] (record { peer = p; why = reason } ∷ []) → AllOpen s sessions
     → some_peer p sessions ≡ false → AllOpen t sessions
 all_strangers s t [] p reason goes all unnamed = tt
@@ -61,7 +60,7 @@ all_strangers s t (x ∷ xs) p reason goes all unnamed = elim (either (x.peer ==
 ]
 
 -- some of the clients
-pub all_but : (s : Story) (sessions : List Session) (p : ℕ) → AllOpen s sessions → AllOpen s (but p sessions)
+pub all_but : (s : Trace) (sessions : List Session) (p : ℕ) → AllOpen s sessions → AllOpen s (but p sessions)
 all_but s [] p all = tt
 all_but s (x ∷ xs) p all = elim (either (x.peer == p)) [
   | inl h ↦ rw h (all_but s xs p all.1)
@@ -77,7 +76,7 @@ not_among (x ∷ xs) p = elim (either (x.peer == p)) [
 ]
 
 -- a client with its session as it was found
-pub all_same : (s : Story) (sessions : List Session) (p : ℕ) (now : Session) → IsTrue (is_open s now.peer)
+pub all_same : (s : Trace) (sessions : List Session) (p : ℕ) (now : Session) → IsTrue (is_open s now.peer)
     → AllOpen s sessions
     → AllOpen s (map (λ (session : Session). if is_peer p session then now else session) sessions)
 all_same s [] p now open' all = tt
@@ -86,12 +85,20 @@ all_same s (x ∷ xs) p now open' all = elim (either (x.peer == p)) [
   | inr h ↦ rw h (all.0, all_same s xs p now open' all.1)
 ]
 
-pub found_open : (s : Story) (sessions : List Session) (p : ℕ) (x : Session)
+pub found_open : (s : Trace) (sessions : List Session) (p : ℕ) (x : Session)
     → find (is_peer p) sessions ≡ Some x → AllOpen s sessions → IsTrue (is_open s x.peer)
 found_open s [] p x is all = absurd cc
 found_open s (y ∷ ys) p x is all = elim (either (y.peer == p)) [
   | inl h ↦ let e : y ≡ x = (let f = rw h at is in cc) in rw (← e) all.0
   | inr h ↦ found_open s ys p x (rw h at is) all.1
+]
+
+pub found_client : (sessions : List Session) (p : ℕ) (x : Session) → find (is_peer p) sessions ≡ Some x
+    → some_peer p sessions ≡ true
+found_client [] p x is = absurd cc
+found_client (y ∷ ys) p x is = elim (either (y.peer == p)) [
+  | inl h ↦ rw h refl
+  | inr h ↦ rw h (found_client ys p x (rw h at is))
 ]
 
 -- who is no client is none of those that are left

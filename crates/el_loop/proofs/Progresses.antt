@@ -6,18 +6,18 @@ use Rattle.el_outside.specs.Counts.{RoseBy}
 use Rattle.el_outside.specs.Devices as device
 use Rattle.el_outside.specs.Devices.{Device, failures, faults, Rose}
 use Rattle.el_outside.specs.Files.{AllGrow}
-use Rattle.el_outside.specs.Story.{Message, Closing}
+use Rattle.el_outside.specs.Trace.{Message, Closing}
 use Rattle.el_outside.specs.declared.link.Why.{Why}
 use Rattle.el_outside.proofs.Devices.{failures_on, all_rose_none, all_rose_on}
-use Rattle.el_outside.proofs.Stories.{goes_none, goes_more, rose_none, all_grow_none, all_grow_more}
+use Rattle.el_outside.proofs.Traces.{goes_none, goes_more, rose_none, all_grow_none, all_grow_more}
 use Rattle.el_chain.specs.Chains.{Chain}
 use Rattle.el_model.specs.declared.ledger.Ledger as ledger
 use Rattle.el_model.specs.LedgerCalls.{failed_calls}
-use Rattle.el_model.specs.World.{World, Event, Outs}
-use Rattle.el_model.specs.Run.{Turns, none, more, Stop, Stops, disk_failed, no_memory, untold, unsent, files_at, Delivers, all, sends, loses, lost_by, IsDeparture, LostBy, by_disk, by_link, by_memory}
-use Rattle.el_model.specs.Flights.{FliesAt, IsUnderWay, IsMoveOf}
+use Rattle.el_world.specs.World.{World, Event, Outs}
+use Rattle.el_world.specs.Run.{Turns, none, more, Stop, Stops, disk_failed, sift_failed, no_memory, untold, unsent, files_at, Delivers, all, sends, loses, lost_by, IsDeparture, LostBy, by_disk, by_link, by_memory}
+use Rattle.el_world.specs.Flights.{FliesAt, IsUnderWay, IsMoveOf}
 use Rattle.el_core.specs.State.{State, Stands}
-use Rattle.el_core.specs.Turn.{TookTurn, TurnFailed, IsWithin, IsDone, stop_of}
+use Rattle.el_core.specs.Turn.{TookTurn, TurnFailed, IsWithin, KeepsChain, IsDone, stop_of}
 use Rattle.el_sync.specs.declared.fault.StepFault.{StepFault}
 use Rattle.el_sync.specs.declared.fault.StepFault.TheVariants as fault
 use Rattle.el_loop.specs.within.Sending.{StoppedSending}
@@ -89,30 +89,28 @@ within_files : {tells : Type 0} {world : World} {left : List Event} {stop : Stop
     losses)
     → IsWithin stops → files_at stops ≡ world.side.files
 within_files (disk_failed by nodes silent closed lost) within = refl
+within_files (sift_failed by busy silent closed lost) within = refl
 within_files (no_memory by nodes silent closed lost) within = refl
 within_files (untold by nodes silent closed lost) within = refl
 within_files (unsent done rest outs failed after front back m lost last next whole turn cut node delivers by
     all')
     within = absurd within
 
-for_memory : (e : StepFault) → stop_of e ≡ by_memory → e ≡ fault.Memory
-for_memory fault.DiskFailed by = absurd cc
-for_memory fault.Memory by = refl
-
-within_flies : {tells : Type 0} {world : World} {left : List Event} {sent : List Message}
-    {closings : List Closing} {losses : List Device} (e : StepFault)
-    (stops : Stops tells world left (stop_of e) sent closings losses) → IsWithin stops → (now : ℕ → List ℕ)
+within_flies : {tells : Type 0} {world : World} {left : List Event} {stop : Stop} {sent : List Message}
+    {closings : List Closing} {losses : List Device}
+    (stops : Stops tells world left stop sent closings losses) → IsWithin stops → (now : ℕ → List ℕ)
     (next : Chain) → (tells → AllGrow world.side.files now) → IsUnderWay tells now world.side.chain
     (IsMoveOf world left) next
-    → (e ≡ fault.Memory → next ≡ world.side.chain) → FliesAt stops now next
-within_flies e (disk_failed by nodes silent closed lost) within now next grows way still =
+    → (KeepsChain stops → next ≡ world.side.chain) → FliesAt stops now next
+within_flies (disk_failed by nodes silent closed lost) within now next grows way kept =
     (now, λ told. (grows told, all_grow_none now), way)
-within_flies e (no_memory by nodes silent closed lost) within now next grows way still = still
-    (for_memory e by)
-within_flies e (untold by nodes silent closed lost) within now next grows way still = still (for_memory e by)
-within_flies e (unsent done rest outs failed after front back m lost last next' whole turn cut node delivers
+within_flies (sift_failed by busy silent closed lost) within now next grows way kept = kept tt
+within_flies (no_memory by nodes silent closed lost) within now next grows way kept =
+    (now, λ told. (grows told, all_grow_none now), way)
+within_flies (untold by nodes silent closed lost) within now next grows way kept = kept tt
+within_flies (unsent done rest outs failed after front back m lost last next' whole turn cut node delivers
     by all')
-    within now next grows way still = absurd within
+    within now next grows way kept = absurd within
 
 module _ {G A K : Type 0} (of_ledger : ledger.Ghosts G) (of_files : archive.Ghosts A)
     (of_link : link.Ghosts K) where
@@ -131,7 +129,7 @@ module _ {G A K : Type 0} (of_ledger : ledger.Ghosts G) (of_files : archive.Ghos
     turns = none;
     stood = stood;
     went = record {
-      story = λ t. goes_none (of_link.story now.link);
+      trace = λ t. goes_none (of_link.trace now.link);
       rose = all_rose_none (failed of_ledger of_files of_link now);
     };
     ready = ready;
@@ -141,22 +139,20 @@ module _ {G A K : Type 0} (of_ledger : ledger.Ghosts G) (of_files : archive.Ghos
   pub can_deliver : (world : World) (left : List Event) (outs : Outs) (s turned : State G) (files files' : A)
       (k : K) → Stands of_ledger.stands s world left
       → (t : TookTurn of_ledger of_files s turned files files' world left outs)
-      → (of_link.tells → ClientsAreOpen s world (of_link.story k))
-      → CanDeliver of_ledger.stands of_link.tells turned t.next t.rest outs (of_link.story k)
-  can_deliver world left outs s turned files files' k stood t are = record {
-    can_send = record {
-      stood = t.stood;
-      sends_to = t.sends_to;
-      one_peer = (turn_to_one of_files.tells world t.done outs t.losses t.next t.turn).0;
-      to_one = (turn_to_one of_files.tells world t.done outs t.losses t.next t.turn).1;
-      are_open = λ told. (after_turn of_ledger.stands of_files.tells (of_link.story k) s world left t.rest
-          t.done
-          outs t.losses t.next stood t.whole t.turn (are told)).sessions;
-    };
-    can_close = λ told. (after_turn of_ledger.stands of_files.tells (of_link.story k) s world left t.rest
-        t.done
-        outs t.losses t.next stood t.whole t.turn (are told)).closing;
-  }
+      → (of_link.tells → ClientsAreOpen s world (of_link.trace k))
+      → CanDeliver of_ledger.stands of_link.tells turned t.next t.rest outs (of_link.trace k)
+  can_deliver world left outs s turned files files' k stood t are =
+      let one = turn_to_one of_files.tells world t.done outs t.losses t.next t.turn in
+      let then' = λ (told : of_link.tells). after_turn of_ledger.stands of_files.tells (of_link.trace k) s world
+      left t.rest t.done outs t.losses t.next stood t.whole t.turn (are told) in
+      record {
+        stood = t.stood;
+        sends_to = t.sends_to;
+        one_peer = one.0;
+        to_one = one.1;
+        are_open = λ told. (then' told).sessions;
+        can_close = λ told. (then' told).closing;
+      }
 
   -- what was lost in a turn, and in sending what it gave
   turn_rose : (s turned later : State G) (files files' : A) (k k' : K) (xs ys : List Device)
@@ -179,9 +175,9 @@ module _ {G A K : Type 0} (of_ledger : ledger.Ghosts G) (of_files : archive.Ghos
       (files files' : A) (k k' : K) (outs : Outs)
       → (p : Progress of_ledger of_files of_link first all' before (snapshot s files k))
       → (t : TookTurn of_ledger of_files s turned files files' p.world p.left outs)
-      → Delivered of_ledger.stands of_link.tells t.next t.rest outs turned (of_link.story k)
+      → Delivered of_ledger.stands of_link.tells t.next t.rest outs turned (of_link.trace k)
       (of_link.faults k)
-      later (of_link.story k') (of_link.faults k')
+      later (of_link.trace k') (of_link.faults k')
       → Progress of_ledger of_files of_link first all' before (snapshot later files' k')
   progress_more first all' before s turned later files files' k k' outs p t d =
       let alone = sending_loses t.next outs.messages outs.closing d.sent d.closings d.losses d.next d.delivers
@@ -200,8 +196,8 @@ module _ {G A K : Type 0} (of_ledger : ledger.Ghosts G) (of_files : archive.Ghos
             d.losses d.next p.turns t.turn d.delivers;
         stood = d.stood;
         went = record {
-          story = λ told. goes_more (of_link.story before.link) (of_link.story k) (of_link.story k') [] []
-              p.messages d.sent p.closings d.closings (p.went.story told) (d.story told);
+          trace = λ told. goes_more (of_link.trace before.link) (of_link.trace k) (of_link.trace k') [] []
+              p.messages d.sent p.closings d.closings (p.went.trace told) (d.trace told);
           rose = all_rose_on (failed of_ledger of_files of_link before)
               (failed of_ledger of_files of_link (snapshot s files k))
               (failed of_ledger of_files of_link (snapshot later files' k')) p.losses (t.losses ++ d.losses)
@@ -243,7 +239,7 @@ module _ {G A K : Type 0} (of_ledger : ledger.Ghosts G) (of_files : archive.Ghos
         turns = rw p.whole (rw (append-nil p.messages, append-nil p.closings, append-nil p.losses) at both);
         still = d.still;
         stood = d.stood;
-        went = record { story = p.went.story; rose = rw (same.0, same.1) p.went.rose };
+        went = record { trace = p.went.trace; rose = rw (same.0, same.1) p.went.rose };
         ready = record {
           are_open = λ told. record {
             sessions = (p.ready.are_open told).sessions;
@@ -280,15 +276,15 @@ module _ {G A K : Type 0} (of_ledger : ledger.Ghosts G) (of_files : archive.Ghos
         stops = t.stops;
         grown = λ told. rw (within_files t.stops t.within) (grown told);
         went = record {
-          story = λ told. rw (append-nil p.messages, append-nil p.closings) (p.went.story told);
+          trace = λ told. rw (append-nil p.messages, append-nil p.closings) (p.went.trace told);
           rose = all_rose_on (failed of_ledger of_files of_link before)
               (failed of_ledger of_files of_link (snapshot s files k))
               (failed of_ledger of_files of_link (snapshot turned files' k)) p.losses t.losses p.went.rose
               (t.rose (of_link.faults k));
         };
         flight = t.stops_at.next;
-        is_flight = within_flies e t.stops t.within (of_files.bytes files') t.stops_at.next grown
-            t.stops_at.flight t.stops_at.still;
+        is_flight = within_flies t.stops t.within (of_files.bytes files') t.stops_at.next grown
+            t.stops_at.flight t.kept;
         crash = left;
       })
 
@@ -298,9 +294,9 @@ module _ {G A K : Type 0} (of_ledger : ledger.Ghosts G) (of_files : archive.Ghos
       (stop : Stop)
       → (p : Progress of_ledger of_files of_link first all' before (snapshot s files k))
       → (t : TookTurn of_ledger of_files s turned files files' p.world p.left outs)
-      → StoppedSending of_link.tells t.next outs.messages stop turned (of_link.story k) (of_link.faults k)
+      → StoppedSending of_link.tells t.next outs.messages stop turned (of_link.trace k) (of_link.faults k)
       later
-      (of_link.story k') (of_link.faults k')
+      (of_link.trace k') (of_link.faults k')
       → leaves p.world.side.chain t.next.side.chain
       → Stopped of_ledger of_files of_link leaves first all' stop before (snapshot later files' k')
   stopped_sending leaves first all' before s turned later files files' k k' outs stop p t d crash =
@@ -323,8 +319,8 @@ module _ {G A K : Type 0} (of_ledger : ledger.Ghosts G) (of_files : archive.Ghos
             t.turn d.whole d.node d.delivers d.lost refl;
         grown = t.told;
         went = record {
-          story = λ told. goes_more (of_link.story before.link) (of_link.story k) (of_link.story k') [] []
-              p.messages d.sent p.closings d.closings (p.went.story told) (d.story told);
+          trace = λ told. goes_more (of_link.trace before.link) (of_link.trace k) (of_link.trace k') [] []
+              p.messages d.sent p.closings d.closings (p.went.trace told) (d.trace told);
           rose = all_rose_on (failed of_ledger of_files of_link before)
               (failed of_ledger of_files of_link (snapshot s files k))
               (failed of_ledger of_files of_link (snapshot later files' k')) p.losses

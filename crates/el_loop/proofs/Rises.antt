@@ -4,7 +4,8 @@ use Rattle.el_outside.specs.Counts.{RoseBy}
 use Rattle.el_outside.specs.declared.link.Why.{Why}
 use Rattle.el_outside.specs.declared.link.SendFault.{SendFault}
 use Rattle.el_outside.specs.declared.link.SendFault.TheVariants as fault
-use Rattle.el_outside.proofs.Stories.{rose_more, rose_none}
+use Rattle.el_outside.proofs.Devices.{each_more}
+use Rattle.el_outside.proofs.Traces.{rose_more, rose_none}
 use Rattle.el_sync.specs.declared.fault.StepFault.{StepFault}
 use Rattle.el_sync.specs.declared.fault.StepFault.TheVariants as step
 use Rattle.el_core.specs.Turn as turn
@@ -86,13 +87,6 @@ counted_more n a b c f g h so_far called more = record {
   called = rose_more a b c n 1 so_far.called called;
   more = λ device. let l = so_far.more device in let m = more device in omega arith;
 }
-
--- each count is at least what it was
-pub each_more : (a b : Faults) → a link ≤ b link → a archive ≤ b archive → a disk ≤ b disk
-    → (device : Device) → a device ≤ b device
-each_more a b of_link of_archive of_disk link = of_link
-each_more a b of_link of_archive of_disk archive = of_archive
-each_more a b of_link of_archive of_disk disk = of_disk
 
 -- a call of `next` failed
 pub rose_next : (low high of_files of_index : ℕ) → RoseBy low high 1

@@ -7,17 +7,16 @@ use Rattle.el_outside.specs.declared.link.Link as link
 use Rattle.el_outside.specs.Counts.{RoseBy}
 use Rattle.el_outside.specs.Devices.{Device}
 use Rattle.el_outside.specs.Files.{AllGrow}
-use Rattle.el_outside.specs.Story.{Story, ArrivalWithBytes, opened, brought, closed, quiet, ended, Message, Closing, GoesOn, is_new, leaves as left_by, with_bytes, IsNextArrival}
+use Rattle.el_outside.specs.Trace.{Trace, ArrivalWithBytes, opened, brought, closed, quiet, ended, Message, Closing, GoesOn, is_new, leaves as left_by, with_bytes, IsNextArrival}
 use Rattle.el_outside.specs.declared.link.Arrival.{Arrival}
 use Rattle.el_outside.specs.declared.link.Arrival.TheVariants as arrival
 use Rattle.el_outside.proofs.Devices.{all_rose_none, all_rose_on}
-use Rattle.el_outside.proofs.Stories.{goes_none, goes_more, rose_more, rose_none, opened_is_open, new_unused}
+use Rattle.el_outside.proofs.Traces.{goes_none, goes_more, rose_more, rose_none, opened_is_open, new_unused}
 use Rattle.el_chain.specs.Chains.{Chain}
 use Rattle.el_model.specs.declared.ledger.Ledger as ledger
-use Rattle.el_model.specs.Sessions.{new_session}
-use Rattle.el_model.specs.World.{World, after_hearing, events, without_node, without_client}
-use Rattle.el_model.specs.Run.{Run, none, more, Stop}
-use Rattle.el_model.proofs.Cuts.{either}
+use Rattle.el_world.specs.World.{World, new_session, after_hearing, events, without_node, without_client}
+use Rattle.el_world.specs.Run.{Run, none, more, Stop}
+use Rattle.el_lines.proofs.Cuts.{either}
 use Rattle.el_core.specs.State.{State, Stands}
 use Rattle.el_core.specs.Arrivals.{IsAfterArrival}
 use Rattle.el_loop.specs.Counts.{Counts, counts}
@@ -37,7 +36,7 @@ taken_more true xs a = refl
 taken_more false xs a = map-append without_node xs (a ∷ [])
 
 -- a new client, or the one too many
-opened_open : {G : Type 0} (old s : State G) (world next : World) (p : ℕ) (before after : Story)
+opened_open : {G : Type 0} (old s : State G) (world next : World) (p : ℕ) (before after : Trace)
     → IsAfterArrival (opened p) world next s.surplus
     → ClientsAreOpen old world before → IsTrue (is_new before p) → GoesOn before after (opened p ∷ []) [] []
     → ClientsAreOpen s next after
@@ -65,7 +64,7 @@ run_none : (tells : Type 0) (first : World) (node : Bool) → Run tells first (t
 run_none tells first true = none
 run_none tells first false = none
 
-still_open : {G : Type 0} (old s : State G) (world next : World) (a : ArrivalWithBytes) (before after : Story)
+still_open : {G : Type 0} (old s : State G) (world next : World) (a : ArrivalWithBytes) (before after : Trace)
     → (next ≡ world) × (s.surplus ≡ None) → ClientsAreOpen old world before
     → ((p : ℕ) → left_by p a ≡ false) → GoesOn before after (a ∷ []) [] [] → ClientsAreOpen s next after
 still_open old s world next a before after then are nobody goes = record {
@@ -74,7 +73,7 @@ still_open old s world next a before after then are nobody goes = record {
 }
 
 brought_open : {G : Type 0} (old s : State G) (world next : World) (p : ℕ) (bytes : List ℕ)
-    (before after : Story) → (next ≡ after_hearing (brought p bytes) world) × (s.surplus ≡ None)
+    (before after : Trace) → (next ≡ after_hearing (brought p bytes) world) × (s.surplus ≡ None)
     → ClientsAreOpen old world before → GoesOn before after (brought p bytes ∷ []) [] []
     → ClientsAreOpen s next after
 brought_open old s world next p bytes before after then are goes = record {
@@ -83,7 +82,7 @@ brought_open old s world next p bytes before after then are goes = record {
   surplus = λ q e. absurd (let f = sym then.1 ∙ e in cc);
 }
 
-closed_open' : {G : Type 0} (old s : State G) (world next : World) (p : ℕ) (before after : Story)
+closed_open' : {G : Type 0} (old s : State G) (world next : World) (p : ℕ) (before after : Trace)
     → (next ≡ without_client p world) × (s.surplus ≡ None) → ClientsAreOpen old world before
     → GoesOn before after (closed p ∷ []) [] [] → ClientsAreOpen s next after
 closed_open' old s world next p before after then are goes = record {
@@ -93,7 +92,7 @@ closed_open' old s world next p before after then are goes = record {
 
 -- who is open once an arrival was taken, with a node or without one
 pub taken_open : {G : Type 0} (node : Bool) (old s : State G) (world next : World) (a : ArrivalWithBytes)
-    (before after : Story) → IsAfterArrival (taken_one node a) world next s.surplus
+    (before after : Trace) → IsAfterArrival (taken_one node a) world next s.surplus
     → ClientsAreOpen old world before → ((p : ℕ) → a ≡ opened p → IsTrue (is_new before p))
     → GoesOn before after (a ∷ []) [] [] → ClientsAreOpen s next after
 taken_open true old s world next (opened p) before after then are new goes =
@@ -120,19 +119,19 @@ taken_open false old s world next ended before after then are new goes =
     still_open old s world next ended before after then are (λ q. refl) goes
 
 -- a number that `next` can name is new
-pub names_new : (a : Arrival) (buf : List ℕ) (last now : ℕ) (story : Story)
-    → ((p : ℕ) → last < p → IsTrue (is_new story p)) → IsNextArrival last a now
-    → (p : ℕ) → with_bytes a buf ≡ opened p → IsTrue (is_new story p)
-names_new (arrival.Opened q) buf last now story law next p e = let same : q ≡ p =
+pub names_new : (a : Arrival) (buf : List ℕ) (last now : ℕ) (trace : Trace)
+    → ((p : ℕ) → last < p → IsTrue (is_new trace p)) → IsNextArrival last a now
+    → (p : ℕ) → with_bytes a buf ≡ opened p → IsTrue (is_new trace p)
+names_new (arrival.Opened q) buf last now trace law next p e = let same : q ≡ p =
     cc in rw (← same) (law q next.0)
-names_new (arrival.Bytes q n) buf last now story law next p e = absurd cc
-names_new (arrival.Closed q) buf last now story law next p e = absurd cc
-names_new arrival.Quiet buf last now story law next p e = absurd cc
-names_new arrival.Ended buf last now story law next p e = absurd cc
+names_new (arrival.Bytes q n) buf last now trace law next p e = absurd cc
+names_new (arrival.Closed q) buf last now trace law next p e = absurd cc
+names_new arrival.Quiet buf last now trace law next p e = absurd cc
+names_new arrival.Ended buf last now trace law next p e = absurd cc
 
 -- who is open once a call of `next` answered this
 pub enters : {G : Type 0} (link_tells : Type 0) (node : Bool) (old : State G) (world : World) (a : Arrival)
-    (buf : List ℕ) (taken' : ArrivalWithBytes) (last now : ℕ) (before after : Story)
+    (buf : List ℕ) (taken' : ArrivalWithBytes) (last now : ℕ) (before after : Trace)
     → taken' ≡ taken_one node (with_bytes a buf) → (link_tells → ClientsAreOpen old world before)
     → (link_tells → (p : ℕ) → last < p → IsTrue (is_new before p)) → IsNextArrival last a now
     → (link_tells → GoesOn before after (with_bytes a buf ∷ []) [] []) → link_tells
@@ -166,7 +165,7 @@ module _ {G A K : Type 0} (of_ledger : ledger.Ghosts G) (of_files : archive.Ghos
     none_ends = tt;
     counted = refl;
     went = record {
-      story = λ t. goes_none (of_link.story now.link);
+      trace = λ t. goes_none (of_link.trace now.link);
       rose = all_rose_none (failed of_ledger of_files of_link now);
     };
     calls = rose_none (of_link.calls now.link);
@@ -184,7 +183,7 @@ module _ {G A K : Type 0} (of_ledger : ledger.Ghosts G) (of_files : archive.Ghos
       (arrivals : List ArrivalWithBytes) (messages more_messages : List Message)
       (closings more_closings : List Closing) (losses more_losses : List Device)
       → WentOn of_ledger of_files of_link before mid arrivals messages closings losses
-      → (of_link.tells → GoesOn (of_link.story mid.link) (of_link.story k) (a ∷ []) [] [])
+      → (of_link.tells → GoesOn (of_link.trace mid.link) (of_link.trace k) (a ∷ []) [] [])
       → of_link.faults k ≡ of_link.faults mid.link
       → WentOn of_ledger of_files of_link (snapshot mid.server mid.files k) now [] more_messages more_closings
       more_losses
@@ -192,13 +191,13 @@ module _ {G A K : Type 0} (of_ledger : ledger.Ghosts G) (of_files : archive.Ghos
       (closings ++ more_closings) (losses ++ more_losses)
   went_further a before mid k now arrivals messages more_messages closings more_closings losses more_losses
       so_far took same then' = record {
-        story = λ t.
-            let start = goes_more (of_link.story before.link) (of_link.story mid.link) (of_link.story k)
+        trace = λ t.
+            let start = goes_more (of_link.trace before.link) (of_link.trace mid.link) (of_link.trace k)
             arrivals
-            (a ∷ []) messages [] closings [] (so_far.story t) (took t) in
-            let both = goes_more (of_link.story before.link) (of_link.story k) (of_link.story now.link)
+            (a ∷ []) messages [] closings [] (so_far.trace t) (took t) in
+            let both = goes_more (of_link.trace before.link) (of_link.trace k) (of_link.trace now.link)
             (arrivals ++ a ∷ []) [] (messages ++ []) more_messages (closings ++ []) more_closings start
-            (then'.story t) in
+            (then'.trace t) in
             simp append-nil at both;
         rose = all_rose_on (failed of_ledger of_files of_link before) (failed of_ledger of_files of_link mid)
             (failed of_ledger of_files of_link now) losses more_losses so_far.rose (rw same at then'.rose);
@@ -208,12 +207,12 @@ module _ {G A K : Type 0} (of_ledger : ledger.Ghosts G) (of_files : archive.Ghos
   pub told_stopped : (leaves : Chain → Chain → Type 0) (first : World) (node : Bool) (count turns : ℕ)
       (a : ArrivalWithBytes) (before mid : Snapshot G A K) (k : K) (now : Snapshot G A K) (stop : Stop)
       (g : Going of_ledger of_files of_link first node count before mid)
-      → (of_link.tells → GoesOn (of_link.story mid.link) (of_link.story k) (a ∷ []) [] [])
+      → (of_link.tells → GoesOn (of_link.trace mid.link) (of_link.trace k) (a ∷ []) [] [])
       → of_link.faults k ≡ of_link.faults mid.link
       → RoseBy (of_link.calls mid.link) (of_link.calls now.link) 1 → count < turns
       → StoppedIn of_ledger of_files of_link leaves g.world (taken_one node a) stop
       (snapshot mid.server mid.files k) now
-      → (traffic : Traffic) × (of_link.tells → GoesOn (of_link.story before.link) (of_link.story now.link)
+      → (traffic : Traffic) × (of_link.tells → GoesOn (of_link.trace before.link) (of_link.trace now.link)
       traffic.arrivals traffic.messages traffic.closings)
       × IsHalted of_files.tells first node leaves (of_files.bytes now.files) (run_counts turns before now)
       traffic
@@ -227,7 +226,7 @@ module _ {G A K : Type 0} (of_ledger : ledger.Ghosts G) (of_files : archive.Ghos
           messages = g.messages ++ f.messages;
           closings = g.closings ++ f.closings;
         },
-        went.story,
+        went.trace,
         record {
           losses = g.losses ++ f.losses;
           halts = record {
@@ -281,7 +280,7 @@ module _ {G A K : Type 0} (of_ledger : ledger.Ghosts G) (of_files : archive.Ghos
   pub one_further : (first : World) (node : Bool) (count : ℕ) (a : ArrivalWithBytes)
       (before mid : Snapshot G A K) (k : K) (now : Snapshot G A K)
       (g : Going of_ledger of_files of_link first node count before mid)
-      → (of_link.tells → GoesOn (of_link.story mid.link) (of_link.story k) (a ∷ []) [] [])
+      → (of_link.tells → GoesOn (of_link.trace mid.link) (of_link.trace k) (a ∷ []) [] [])
       → of_link.faults k ≡ of_link.faults mid.link
       → RoseBy (of_link.calls mid.link) (of_link.calls now.link) 1
       → Finished of_ledger of_files of_link (after_hearing (taken_one node a) g.world)
@@ -330,7 +329,7 @@ module _ {G A K : Type 0} (of_ledger : ledger.Ghosts G) (of_files : archive.Ghos
   abbrev pub Told : World → Bool → (Chain → Chain → Type 0) → ℕ → Snapshot G A K → Snapshot G A K → End → Type
       0
   Told first node leaves turns before now e = (traffic : Traffic)
-      × (of_link.tells → GoesOn (of_link.story before.link) (of_link.story now.link)
+      × (of_link.tells → GoesOn (of_link.trace before.link) (of_link.trace now.link)
       traffic.arrivals traffic.messages traffic.closings)
       × RunEnds of_files.tells first node leaves (of_files.bytes now.files) (run_counts turns before now)
       traffic e
@@ -343,7 +342,7 @@ module _ {G A K : Type 0} (of_ledger : ledger.Ghosts G) (of_files : archive.Ghos
       → Told first node leaves turns before now end.Ended
   told_ended leaves first node count turns a before now own f stop lt = (
     record { arrivals = f.front ++ a ∷ []; messages = f.messages; closings = f.closings },
-    f.went.story,
+    f.went.trace,
     (
       record {
         losses = f.losses;
@@ -369,7 +368,7 @@ module _ {G A K : Type 0} (of_ledger : ledger.Ghosts G) (of_files : archive.Ghos
       → Told first node leaves turns before now end.TurnsSpent
   told_spent leaves first node count turns before now own g spent = (
     record { arrivals = g.arrivals; messages = g.messages; closings = g.closings },
-    g.went.story,
+    g.went.trace,
     (
       record {
         losses = g.losses;
@@ -393,13 +392,13 @@ module _ {G A K : Type 0} (of_ledger : ledger.Ghosts G) (of_files : archive.Ghos
       (before mid : Snapshot G A K) (k : K)
       → ((chain : Chain) → of_ledger.stands mid.server.ledger chain → leaves chain chain)
       → Going of_ledger of_files of_link first node count before mid
-      → (of_link.tells → of_link.story k ≡ of_link.story mid.link)
+      → (of_link.tells → of_link.trace k ≡ of_link.trace mid.link)
       → RoseBy (of_link.faults mid.link) (of_link.faults k) 1
       → RoseBy (of_link.calls mid.link) (of_link.calls k) 1 → count < turns
       → Told first node leaves turns before (snapshot mid.server mid.files k) end.LinkFailed
   told_failed leaves first node count turns before mid k own g same rose one lt = (
     record { arrivals = g.arrivals; messages = g.messages; closings = g.closings },
-    λ t. rw (same t) (g.went.story t),
+    λ t. rw (same t) (g.went.trace t),
     inl (
       record {
         losses = g.losses;
@@ -425,7 +424,7 @@ module _ {G A K : Type 0} (of_ledger : ledger.Ghosts G) (of_files : archive.Ghos
   -- how the run then ends
   pub told_halt : (first : World) (node : Bool) (leaves : Chain → Chain → Type 0) (turns : ℕ)
       (before now : Snapshot G A K) (halt : Halt)
-      → ((traffic : Traffic) × (of_link.tells → GoesOn (of_link.story before.link) (of_link.story now.link)
+      → ((traffic : Traffic) × (of_link.tells → GoesOn (of_link.trace before.link) (of_link.trace now.link)
       traffic.arrivals traffic.messages traffic.closings)
       × IsHalted of_files.tells first node leaves (of_files.bytes now.files) (run_counts turns before now)
       traffic

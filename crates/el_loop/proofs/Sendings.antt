@@ -1,30 +1,31 @@
 -- The messages of a turn.
-use Rattle.std.proofs.Common.{◌≡◌, ◌≢◌, inl, inr, ℕ, ◌+◌, ◌==◌, true, false, List, [], ◌∷◌, ◌++◌, length, Some, None, refl, ap, sym, ◌∙◌, append-nil, append_assoc, IsTrue, eqb-true, eq-eqb, Option, take, drop, get_or, ◌<◌}
+use Rattle.std.proofs.Common.{◌≡◌, ◌≢◌, ◌⊎◌, inl, inr, ℕ, ◌+◌, ◌==◌, true, false, List, [], ◌∷◌, ◌++◌, length, Some, None, refl, ap, sym, ◌∙◌, append-nil, append_assoc, IsTrue, eqb-true, eq-eqb, Option, take, drop, get_or, ◌<◌}
 use Rattle.std.specs.Prelude.{MatchBool}
 use Rattle.std.specs.Option.{option_to_list}
 use Rattle.std.specs.List.{AllByRecursion}
 use Rattle.std.proofs.lemmas.List.{take_more, drop_more, map-append, take-append-drop}
 use Rattle.el_outside.specs.Counts.{RoseBy}
-use Rattle.el_outside.specs.Story.{Story, Message, Closing, GoesOn, is_open}
+use Rattle.el_outside.specs.Trace.{Trace, Message, Closing, GoesOn, is_open}
 use Rattle.el_outside.specs.declared.link.Why.{Why}
 use Rattle.el_outside.specs.declared.link.SendFault.{SendFault}
 use Rattle.el_outside.specs.declared.link.SendFault.TheVariants as fault
 use Rattle.el_outside.proofs.Devices.{failures_on}
-use Rattle.el_outside.proofs.Stories.{goes_none, goes_more, rose_more, rose_none}
+use Rattle.el_outside.proofs.Traces.{goes_none, goes_more, rose_more, rose_none}
 use Rattle.el_chain.specs.Chains.{Chain}
-use Rattle.el_model.specs.World.{World, Event, is_client, without_client}
+use Rattle.el_world.specs.World.{World, Event, is_client, without_client}
 use Rattle.el_outside.specs.Devices.{Device, link, failures}
-use Rattle.el_model.specs.Run.{lost_by, IsDeparture, Delivers, all, sends, loses as lets_go, to_others, unless_of, Stop}
-use Rattle.el_model.proofs.Cuts.{either}
+use Rattle.el_world.specs.Run.{lost_by, IsDeparture, Delivers, all, sends, loses as lets_go, to_others, unless_of, Closes as ToClose, Stop}
+use Rattle.el_lines.proofs.Cuts.{either}
 use Rattle.el_core.specs.State.{State, Stands}
 use Rattle.el_core.specs.Turn.{GoesTo, messages_of}
 use Rattle.el_loop.specs.declared.halt.Halt.{Halt}
-use Rattle.el_loop.specs.within.Sending.{stop_of, LossOf, Forgets, Sent, sent, loses, Unsent, AllOpen, Delivering, whole, broken, SentAll, StoppedSending, closing_left, first_some}
+use Rattle.el_loop.specs.within.Sending.{stop_of, LossOf, Forgets, Sent, sent, loses, Unsent, AllOpen, OpenToClose, CanClose, Delivering, whole, broken, SentAll, StoppedSending, closing_left, first_some}
+use Rattle.el_outside.proofs.Traces.{sent_stays_open}
 use Rattle.el_loop.proofs.Openness.{closed_open, all_sent, all_others, client_open}
 
 -- a message to the node that was not sent
 pub unsent_node : {G : Type 0} (tells : Type 0) (p : ℕ) (f : SendFault) (reason : Why) (h : Halt)
-    (s : State G) (before after : Story) (low high : ℕ)
+    (s : State G) (before after : Trace) (low high : ℕ)
     → p ≡ 0 → LossOf f reason h → (f ≡ fault.Gone → RoseBy low high 1) → (f ≡ fault.Memory → high ≡ low)
     → (tells → after ≡ before)
     → Unsent tells p (stop_of h) s before low s after high
@@ -35,7 +36,7 @@ unsent_node tells p fault.Gone reason h s before after low high node lost gone m
       lost = refl;
       rose = gone refl;
       same = refl;
-      story = same;
+      trace = same;
     })
 unsent_node tells p fault.Memory reason h s before after low high node lost gone memory same =
     rw lost.1 (record {
@@ -44,7 +45,7 @@ unsent_node tells p fault.Memory reason h s before after low high node lost gone
       lost = refl;
       rose = rw (memory refl) (rose_none low);
       same = refl;
-      story = same;
+      trace = same;
     })
 
 -- why it is closed is a departure, which was counted
@@ -57,7 +58,7 @@ lost_so fault.Memory reason h low high lost gone memory =
 
 -- one to a client that was not sent
 pub lost_client : {G : Type 0} (stands : G → Chain → Type 0) (tells : Type 0) (m : Message) (f : SendFault)
-    (reason : Why) (h : Halt) (s next : State G) (before mid after : Story)
+    (reason : Why) (h : Halt) (s next : State G) (before mid after : Trace)
     (low middle high : ℕ) → m.peer ≢ 0 → LossOf f reason h → (f ≡ fault.Gone → RoseBy low middle 1)
     → (f ≡ fault.Memory → middle ≡ low) → high ≡ middle
     → Forgets stands s m.peer next → (tells → mid ≡ before)
@@ -80,7 +81,7 @@ all_delivered w (m ∷ ms) c = sends w m ms c ms (option_to_list c) [] w (all_de
 
 -- some, then one is lost
 then_lost : (w : World) (front : List Message) (m : Message) (more : List Message) (c : Option Closing)
-    (reason : Why) → is_client m.peer w ≡ true → IsDeparture reason
+    (reason : Why) → (is_client m.peer w ≡ true) ⊎ ToClose c m.peer → IsDeparture reason
     → Delivers w (front ++ m ∷ more) c (front ++ to_others m.peer more)
     (record { peer = m.peer; why = reason } ∷ option_to_list (unless_of m.peer c)) (lost_by reason ++ [])
     (without_client m.peer w)
@@ -94,7 +95,7 @@ then_lost w (x ∷ xs) m more c reason client departure =
 
 -- what was sent, with the closing
 pub delivers : (w : World) (ms sent' : List Message) (cs : List Closing) (ls : List Device) (next : World)
-    (lost : Option ℕ) (c : Option Closing) → Delivering w ms sent' cs ls next lost
+    (lost : Option ℕ) (c : Option Closing) → Delivering w ms c sent' cs ls next lost
     → Delivers w ms c sent' (cs ++ option_to_list (closing_left lost c)) ls next
 delivers w ms sent' cs ls next None c (whole is none lossless same) =
     rw (is, none, lossless, same) (all_delivered w ms c)
@@ -102,21 +103,44 @@ delivers w ms sent' cs ls next (Some p) c
     (broken front m more reason is client departure are closed' lost' gone) =
     rw (is, are, closed', lost', gone) (rw append-nil at (then_lost w front m more c reason client departure))
 
+-- the one to close is open
+is_open_to_close : (w : World) (trace : Trace) (c : Option Closing) → CanClose w trace c → OpenToClose trace c
+is_open_to_close w trace None can = tt
+is_open_to_close w trace (Some c) can = can.0
+
+stays_to_close : (s t : Trace) (ms : List Message) (c : Option Closing) → GoesOn s t [] ms []
+    → OpenToClose s c → OpenToClose t c
+stays_to_close s t ms None goes open' = tt
+stays_to_close s t ms (Some c) goes open' = sent_stays_open s t c.peer ms open' goes
+
+open_by_closing : (trace : Trace) (c : Option Closing) (p : ℕ) → ToClose c p → OpenToClose trace c
+    → IsTrue (is_open trace p)
+open_by_closing trace None p is open' = absurd is
+open_by_closing trace (Some c) p is open' = rw is at open'
+
+-- to whom a message goes is open
+goes_open : (trace : Trace) (w : World) (c : Option Closing) (p : ℕ)
+    → (is_client p w ≡ true) ⊎ ToClose c p → AllOpen trace w.sessions → OpenToClose trace c
+    → IsTrue (is_open trace p)
+goes_open trace w c p (inl client) are open' = client_open trace w.sessions p client are
+goes_open trace w c p (inr is) are open' = open_by_closing trace c p is open'
+
 -- before the first message
 pub sent_none : {G : Type 0} (stands : G → Chain → Type 0) (tells : Type 0) (w : World) (rest : List Event)
-    (s : State G) (story : Story) (low : ℕ)
-    → Stands stands s w rest → (tells → AllOpen story w.sessions)
-    → SentAll stands tells w rest [] None s story low s story low
-sent_none stands tells w rest s story low stood are = record {
+    (c : Option Closing) (s : State G) (trace : Trace) (low : ℕ)
+    → Stands stands s w rest → (tells → AllOpen trace w.sessions) → (tells → CanClose w trace c)
+    → SentAll stands tells w rest c [] None s trace low s trace low
+sent_none stands tells w rest c s trace low stood are can = record {
   sent = [];
   closings = [];
   losses = [];
   next = w;
   delivers = whole refl refl refl refl;
+  to_close = λ none t. is_open_to_close w trace c (can t);
   stood = stood;
   ledger = refl;
   surplus = refl;
-  story = λ t. goes_none story;
+  trace = λ t. goes_none trace;
   are_open = are;
   rose = rose_none low;
 }
@@ -146,21 +170,22 @@ others_and p (x ∷ xs) m not_p = elim (either (x.peer == p)) [
   | inr h ↦ rw h (ap (λ (l : List Message). x ∷ l) (others_and p xs m not_p))
 ]
 
-step_skip : (w : World) (ms sent' : List Message) (cs : List Closing) (ls : List Device) (next : World)
-    (m : Message) (p : ℕ) → m.peer ≡ p
-    → Delivering w ms sent' cs ls next (Some p) → Delivering w (ms ++ m ∷ []) sent' cs ls next (Some p)
-step_skip w ms sent' cs ls next m p is
+step_skip : (w : World) (c : Option Closing) (ms sent' : List Message) (cs : List Closing) (ls : List Device)
+    (next : World) (m : Message) (p : ℕ) → m.peer ≡ p
+    → Delivering w ms c sent' cs ls next (Some p) → Delivering w (ms ++ m ∷ []) c sent' cs ls next (Some p)
+step_skip w c ms sent' cs ls next m p is
     (broken front x more reason split client departure are closed' lost' gone) =
     broken front x (more ++ m ∷ []) reason (rw split (append_assoc front (x ∷ more) (m ∷ []))) client
     departure
     (are ∙ ap (λ (l : List Message). front ++ l) (sym (others_but x.peer more m is))) closed' lost' gone
 
-step_sent : (w : World) (ms sent' : List Message) (cs : List Closing) (ls : List Device) (next : World)
-    (m : Message) (lost : Option ℕ) → lost ≢ Some m.peer
-    → Delivering w ms sent' cs ls next lost → Delivering w (ms ++ m ∷ []) (sent' ++ m ∷ []) cs ls next lost
-step_sent w ms sent' cs ls next m None differs (whole is none lossless same) =
+step_sent : (w : World) (c : Option Closing) (ms sent' : List Message) (cs : List Closing) (ls : List Device)
+    (next : World) (m : Message) (lost : Option ℕ) → lost ≢ Some m.peer
+    → Delivering w ms c sent' cs ls next lost
+    → Delivering w (ms ++ m ∷ []) c (sent' ++ m ∷ []) cs ls next lost
+step_sent w c ms sent' cs ls next m None differs (whole is none lossless same) =
     whole (rw is refl) none lossless same
-step_sent w ms sent' cs ls next m (Some p) differs
+step_sent w c ms sent' cs ls next m (Some p) differs
     (broken front x more reason split client departure are closed' lost' gone) =
     broken front x (more ++ m ∷ []) reason (rw split (append_assoc front (x ∷ more) (m ∷ []))) client
     departure
@@ -168,60 +193,62 @@ step_sent w ms sent' cs ls next m (Some p) differs
     ∙ ap (λ (l : List Message). front ++ l)
     (sym (others_and x.peer more m (λ e. differs (ap Some (sym e))))))) closed' lost' gone
 
-step_lost : (w : World) (ms sent' : List Message) (cs : List Closing) (ls : List Device) (next : World)
-    (m : Message) (reason : Why) → is_client m.peer w ≡ true → IsDeparture reason
-    → Delivering w ms sent' cs ls next None
-    → Delivering w (ms ++ m ∷ []) sent' (cs ++ record { peer = m.peer; why = reason } ∷ [])
+step_lost : (w : World) (c : Option Closing) (ms sent' : List Message) (cs : List Closing) (ls : List Device)
+    (next : World) (m : Message) (reason : Why) → (is_client m.peer w ≡ true) ⊎ ToClose c m.peer
+    → IsDeparture reason → Delivering w ms c sent' cs ls next None
+    → Delivering w (ms ++ m ∷ []) c sent' (cs ++ record { peer = m.peer; why = reason } ∷ [])
     (ls ++ lost_by reason) (without_client m.peer w) (Some m.peer)
-step_lost w ms sent' cs ls next m reason client departure (whole is none lossless same) =
+step_lost w c ms sent' cs ls next m reason client departure (whole is none lossless same) =
     broken ms m [] reason refl client departure (is ∙ sym (append-nil ms)) (rw none refl)
     (rw lossless refl) refl
 
-same_next : (w : World) (ms sent' : List Message) (cs : List Closing) (ls : List Device) (next : World)
-    → Delivering w ms sent' cs ls next None → next ≡ w
-same_next w ms sent' cs ls next (whole is none lossless same) = same
+same_next : (w : World) (c : Option Closing) (ms sent' : List Message) (cs : List Closing) (ls : List Device)
+    (next : World) → Delivering w ms c sent' cs ls next None → next ≡ w
+same_next w c ms sent' cs ls next (whole is none lossless same) = same
 
 -- one more message, to a client that is lost
 pub sent_skip : {G : Type 0} (stands : G → Chain → Type 0) (tells : Type 0) (w : World) (rest : List Event)
-    (ms : List Message) (m : Message) (lost : Option ℕ) (s now : State G)
-    (before after : Story) (low high : ℕ) → lost ≡ Some m.peer
-    → SentAll stands tells w rest ms lost s before low now after high
-    → SentAll stands tells w rest (ms ++ m ∷ []) lost s before low now after high
-sent_skip stands tells w rest ms m lost s now before after low high is far = record {
+    (c : Option Closing) (ms : List Message) (m : Message) (lost : Option ℕ) (s now : State G)
+    (before after : Trace) (low high : ℕ) → lost ≡ Some m.peer
+    → SentAll stands tells w rest c ms lost s before low now after high
+    → SentAll stands tells w rest c (ms ++ m ∷ []) lost s before low now after high
+sent_skip stands tells w rest c ms m lost s now before after low high is far = record {
   sent = far.sent;
   closings = far.closings;
   losses = far.losses;
   next = far.next;
-  delivers = rw is (step_skip w ms far.sent far.closings far.losses far.next m m.peer refl
+  delivers = rw is (step_skip w c ms far.sent far.closings far.losses far.next m m.peer refl
       (rw is at far.delivers));
+  to_close = far.to_close;
   stood = far.stood;
   ledger = far.ledger;
   surplus = far.surplus;
-  story = far.story;
+  trace = far.trace;
   are_open = far.are_open;
   rose = far.rose;
 }
 
 -- one more, which was sent
 sent_go : {G : Type 0} (stands : G → Chain → Type 0) (tells : Type 0) (w : World) (rest : List Event)
-    (ms : List Message) (m : Message) (lost : Option ℕ) (s now later : State G)
-    (before mid after : Story) (low middle high : ℕ) → lost ≢ Some m.peer → later ≡ now → high ≡ middle
+    (c : Option Closing) (ms : List Message) (m : Message) (lost : Option ℕ) (s now later : State G)
+    (before mid after : Trace) (low middle high : ℕ) → lost ≢ Some m.peer → later ≡ now → high ≡ middle
     → (tells → GoesOn mid after [] (m ∷ []) [])
-    → SentAll stands tells w rest ms lost s before low now mid middle
-    → SentAll stands tells w rest (ms ++ m ∷ []) lost s before low later after high
-sent_go stands tells w rest ms m lost s now later before mid after low middle high differs same still goes
+    → SentAll stands tells w rest c ms lost s before low now mid middle
+    → SentAll stands tells w rest c (ms ++ m ∷ []) lost s before low later after high
+sent_go stands tells w rest c ms m lost s now later before mid after low middle high differs same still goes
     far = record {
       sent = far.sent ++ m ∷ [];
       closings = far.closings;
       losses = far.losses;
       next = far.next;
-      delivers = step_sent w ms far.sent far.closings far.losses far.next m lost differs far.delivers;
+      delivers = step_sent w c ms far.sent far.closings far.losses far.next m lost differs far.delivers;
+      to_close = λ none t. stays_to_close mid after (m ∷ []) c (goes t) (far.to_close none t);
       stood = rw same far.stood;
       ledger = rw same far.ledger;
       surplus = rw same far.surplus;
-      story = λ t.
+      trace = λ t.
           let both = goes_more before mid after [] [] far.sent (m ∷ []) far.closings []
-          (far.story t) (goes t) in
+          (far.trace t) (goes t) in
           rw (append-nil far.closings) at both;
       are_open = λ t. all_sent mid after far.next.sessions (m ∷ []) (goes t) (far.are_open t);
       rose = rw still far.rose;
@@ -229,36 +256,38 @@ sent_go stands tells w rest ms m lost s now later before mid after low middle hi
 
 -- one more, whose client is lost
 sent_lost : {G : Type 0} (stands : G → Chain → Type 0) (tells : Type 0) (w : World) (rest : List Event)
-    (ms : List Message) (m : Message) (reason : Why) (s now later : State G)
-    (before mid after : Story) (low middle high : ℕ) → is_client m.peer w ≡ true → s.surplus ≡ None
+    (c : Option Closing) (ms : List Message) (m : Message) (reason : Why) (s now later : State G)
+    (before mid after : Trace) (low middle high : ℕ) → (is_client m.peer w ≡ true) ⊎ ToClose c m.peer
+    → s.surplus ≡ None
     → IsDeparture reason → Forgets stands now m.peer later
     → RoseBy middle high (failures link (lost_by reason))
     → (tells → IsTrue (is_open mid m.peer)
     → GoesOn mid after [] [] (record { peer = m.peer; why = reason } ∷ []))
-    → SentAll stands tells w rest ms None s before low now mid middle
-    → SentAll stands tells w rest (ms ++ m ∷ []) (Some m.peer) s before low later after high
-sent_lost stands tells w rest ms m reason s now later before mid after low middle high client alone departure
-    forgets rose closing far =
-    let same = same_next w ms far.sent far.closings far.losses far.next far.delivers in
+    → SentAll stands tells w rest c ms None s before low now mid middle
+    → SentAll stands tells w rest c (ms ++ m ∷ []) (Some m.peer) s before low later after high
+sent_lost stands tells w rest c ms m reason s now later before mid after low middle high client alone
+    departure forgets rose closing far =
+    let same = same_next w c ms far.sent far.closings far.losses far.next far.delivers in
     record {
       sent = far.sent;
       closings = far.closings ++ record { peer = m.peer; why = reason } ∷ [];
       losses = far.losses ++ lost_by reason;
       next = without_client m.peer w;
-      delivers = step_lost w ms far.sent far.closings far.losses far.next m reason client departure
+      delivers = step_lost w c ms far.sent far.closings far.losses far.next m reason client departure
           far.delivers;
+      to_close = λ none t. absurd (let e = none in cc);
       stood = forgets.stood (far.surplus ∙ alone) w rest (rw same at far.stood);
       ledger = forgets.ledger ∙ far.ledger;
       surplus = forgets.surplus ∙ far.surplus;
-      story = λ t.
+      trace = λ t.
           let are = rw same at (far.are_open t) in
-          let goes = closing t (client_open mid w.sessions m.peer client are) in
+          let goes = closing t (goes_open mid w c m.peer client are (far.to_close refl t)) in
           let both = goes_more before mid after [] [] far.sent [] far.closings
-          (record { peer = m.peer; why = reason } ∷ []) (far.story t) goes in
+          (record { peer = m.peer; why = reason } ∷ []) (far.trace t) goes in
           rw (append-nil far.sent) at both;
       are_open = λ t.
           let are = rw same at (far.are_open t) in
-          let goes = closing t (client_open mid w.sessions m.peer client are) in
+          let goes = closing t (goes_open mid w c m.peer client are (far.to_close refl t)) in
           all_others mid after w.sessions m.peer reason goes are;
       rose = rw (failures_on link far.losses (lost_by reason)) (rose_more low middle high
           (failures link far.losses)
@@ -274,57 +303,61 @@ all_front P [] ys h = tt
 all_front P (x ∷ xs) ys h = (h.0, all_front P xs ys h.1)
 
 -- the client that is lost is the one to which all messages go
-lost_is_one : (w : World) (ms sent' : List Message) (cs : List Closing) (ls : List Device) (next : World)
-    (q p : ℕ) → Delivering w ms sent' cs ls next (Some q) → AllByRecursion (λ (m : Message). m.peer ≡ p) ms
-    → q ≡ p
-lost_is_one w ms sent' cs ls next q p
+lost_is_one : (w : World) (c : Option Closing) (ms sent' : List Message) (cs : List Closing)
+    (ls : List Device) (next : World) (q p : ℕ) → Delivering w ms c sent' cs ls next (Some q)
+    → AllByRecursion (λ (m : Message). m.peer ≡ p) ms → q ≡ p
+lost_is_one w c ms sent' cs ls next q p
     (broken front x more reason split client departure are closed' lost' gone) to_one =
     all_mid (λ (m : Message). m.peer ≡ p) front more x (rw split at to_one)
 
-to_client : (next : World) (surplus : Option ℕ) (m : Message) → m.peer ≢ 0 → GoesTo next surplus m
-    → (is_client m.peer next ≡ true) × (surplus ≡ None)
-to_client next surplus m client (inl node) = absurd (client node)
-to_client next surplus m client (inr is) = is
+to_client : (next : World) (surplus : Option ℕ) (c : Option Closing) (m : Message) → m.peer ≢ 0
+    → GoesTo next surplus c m → ((is_client m.peer next ≡ true) ⊎ ToClose c m.peer) × (surplus ≡ None)
+to_client next surplus c m client (inl node) = absurd (client node)
+to_client next surplus c m client (inr is) = is
 
 -- one more, to which this happened
 pub sent_more : {G : Type 0} (stands : G → Chain → Type 0) (tells : Type 0) (w : World) (rest : List Event)
-    (ms : List Message) (m : Message) (lost out : Option ℕ)
-    (s now later : State G) (before mid after : Story) (low middle high : ℕ) (p : ℕ)
-    → AllByRecursion (λ (x : Message). x.peer ≡ p) ms → m.peer ≡ p → GoesTo w s.surplus m → lost ≢ Some m.peer
+    (c : Option Closing) (ms : List Message) (m : Message) (lost out : Option ℕ)
+    (s now later : State G) (before mid after : Trace) (low middle high : ℕ) (p : ℕ)
+    → AllByRecursion (λ (x : Message). x.peer ≡ p) ms → m.peer ≡ p → GoesTo w s.surplus c m
+    → lost ≢ Some m.peer
     → Sent stands tells m out now mid middle later after high
-    → SentAll stands tells w rest ms lost s before low now mid middle
-    → SentAll stands tells w rest (ms ++ m ∷ []) (first_some out lost) s before low later after high
-sent_more stands tells w rest ms m lost out s now later before mid after low middle high p to_one here goes_to
-    differs (sent is same still goes) far =
-    rw is (sent_go stands tells w rest ms m lost s now later before mid after low middle high differs same
+    → SentAll stands tells w rest c ms lost s before low now mid middle
+    → SentAll stands tells w rest c (ms ++ m ∷ []) (first_some out lost) s before low later after high
+sent_more stands tells w rest c ms m lost out s now later before mid after low middle high p to_one here
+    goes_to differs (sent is same still goes) far =
+    rw is (sent_go stands tells w rest c ms m lost s now later before mid after low middle high differs same
     still goes far)
-sent_more stands tells w rest ms m None out s now later before mid after low middle high p to_one here goes_to
-    differs (loses reason is client departure forgets rose closing) far =
-    let to = to_client w s.surplus m client goes_to in
-    rw is (sent_lost stands tells w rest ms m reason s now later before mid after low middle high to.0 to.1
-    departure forgets rose closing far)
-sent_more stands tells w rest ms m (Some q) out s now later before mid after low middle high p to_one here
+sent_more stands tells w rest c ms m None out s now later before mid after low middle high p to_one here
     goes_to differs (loses reason is client departure forgets rose closing) far =
-    let first = lost_is_one w ms far.sent far.closings far.losses far.next q p far.delivers to_one in
+    let to = to_client w s.surplus c m client goes_to in
+    rw is (sent_lost stands tells w rest c ms m reason s now later before mid after low middle high to.0 to.1
+    departure forgets rose closing far)
+sent_more stands tells w rest c ms m (Some q) out s now later before mid after low middle high p to_one here
+    goes_to differs (loses reason is client departure forgets rose closing) far =
+    let first = lost_is_one w c ms far.sent far.closings far.losses far.next q p far.delivers to_one in
     absurd (differs (ap Some (first ∙ sym here)))
 
--- the messages before one that was not sent
-front_delivers : (w : World) (ms sent' : List Message) (cs : List Closing) (ls : List Device) (next : World)
-    (lost : Option ℕ) → Delivering w ms sent' cs ls next lost
-    → Delivers w ms None sent' cs ls next
-front_delivers w ms sent' cs ls next None d = rw append-nil at (delivers w ms sent' cs ls next None None d)
-front_delivers w ms sent' cs ls next (Some p) d =
-    rw append-nil at (delivers w ms sent' cs ls next (Some p) None d)
+-- the messages before one that was not sent, all of which were
+front_delivers : (w : World) (c : Option Closing) (ms sent' : List Message) (cs : List Closing)
+    (ls : List Device) (next : World) (lost : Option ℕ) (p : ℕ)
+    → AllByRecursion (λ (x : Message). x.peer ≡ p) ms → lost ≢ Some p
+    → Delivering w ms c sent' cs ls next lost → Delivers w ms None sent' cs ls next
+front_delivers w c ms sent' cs ls next None p to_one differs (whole is none lossless same) =
+    rw (is, none, lossless, same) (all_delivered w ms None)
+front_delivers w c ms sent' cs ls next (Some q) p to_one differs d =
+    absurd (differs (ap Some (lost_is_one w c ms sent' cs ls next q p d to_one)))
 
 pub stopped_at : {G : Type 0} (stands : G → Chain → Type 0) (tells : Type 0) (w : World) (rest : List Event)
-    (all' front more : List Message) (m : Message) (lost : Option ℕ) (p : ℕ)
-    (stop : Stop) (s now later : State G) (before mid after : Story) (low middle high : ℕ)
-    → all' ≡ front ++ m ∷ more → m.peer ≡ p
+    (c : Option Closing) (all' front more : List Message) (m : Message) (lost : Option ℕ) (p : ℕ)
+    (stop : Stop) (s now later : State G) (before mid after : Trace) (low middle high : ℕ)
+    → all' ≡ front ++ m ∷ more → m.peer ≡ p → AllByRecursion (λ (x : Message). x.peer ≡ p) front
+    → lost ≢ Some p
     → Unsent tells p stop now mid middle later after high
-    → SentAll stands tells w rest front lost s before low now mid middle
+    → SentAll stands tells w rest c front lost s before low now mid middle
     → StoppedSending tells w all' stop s before low later after high
-stopped_at {G} stands tells w rest all' front more m lost p stop s now later before mid after low middle high
-    split is un far = record {
+stopped_at {G} stands tells w rest c all' front more m lost p stop s now later before mid after low middle
+    high split is to_one differs un far = record {
       front = front;
       m = m;
       more = more;
@@ -335,10 +368,11 @@ stopped_at {G} stands tells w rest all' front more m lost p stop s now later bef
       losses = far.losses;
       last = un.losses;
       next = far.next;
-      delivers = front_delivers w front far.sent far.closings far.losses far.next lost far.delivers;
+      delivers = front_delivers w c front far.sent far.closings far.losses far.next lost p to_one differs
+          far.delivers;
       lost = un.lost;
       ledger = ap (λ (x : State G). x.ledger) un.same ∙ far.ledger;
-      story = λ t. rw (un.story t) (far.story t);
+      trace = λ t. rw (un.trace t) (far.trace t);
       rose = rw (failures_on link far.losses un.losses) (rose_more low middle high (failures link far.losses)
           (failures link un.losses) far.rose un.rose);
     }

@@ -3,36 +3,34 @@ use Rattle.std.proofs.Common.{◌≡◌, inl, inr, ℕ, ◌==◌, true, false, n
 use Rattle.std.specs.Prelude.{find}
 use Rattle.std.specs.List.{AllByRecursion, AllZip, list_any}
 use Rattle.std.specs.Option.{option_to_list}
-use Rattle.el_outside.specs.Story.{Story, Message}
+use Rattle.el_outside.specs.Trace.{Trace, Message}
 use Rattle.el_outside.specs.declared.link.Why.{Why}
 use Rattle.el_outside.specs.declared.link.Why.TheVariants as why
 use Rattle.el_chain.specs.Chains.{Chain}
-use Rattle.el_model.specs.Lines.{LineEvent, line, too_long}
-use Rattle.el_model.specs.Sessions.{Session}
-use Rattle.el_model.specs.Replies.{Reply, IsReply, answered, too_large, invalid}
-use Rattle.el_model.specs.Side.{Side}
-use Rattle.el_model.specs.World.{World, Event, joins, leaves, says, orders, Outs, IsLed, Takes, Replied, replied, failed, is_peer, is_client, without_client, client_limit}
+use Rattle.el_lines.specs.Lines.{LineEvent, line, too_long}
+use Rattle.el_world.specs.Side.{Side}
+use Rattle.el_world.specs.World.{World, Session, Event, joins, leaves, says, orders, Outs, IsLed, Takes, Replied, replied, starved, is_peer, is_client, without_client, client_limit}
 use Rattle.el_outside.specs.Devices.{Device}
-use Rattle.el_model.specs.Run.{OneTurn, takes, works, departs}
-use Rattle.el_model.proofs.Cuts.{either}
+use Rattle.el_world.specs.Run.{OneTurn, takes, works, departs}
+use Rattle.el_lines.proofs.Cuts.{either}
 use Rattle.el_core.specs.State.{State, ClientState, Stands, IsSession, SessionsAre, AllVoid, HearsLeft, in_order, losing, IsSaidBy}
-use Rattle.el_loop.specs.within.Sending.{AllOpen}
-use Rattle.el_loop.specs.within.Progress.{CanClose, IsNotClosed, ClientsAreOpen}
-use Rattle.el_loop.proofs.Openness.{some_peer, client_open, all_but, not_among, all_same, found_open, stranger_left}
+use Rattle.el_loop.specs.within.Sending.{AllOpen, CanClose}
+use Rattle.el_loop.specs.within.Progress.{IsNotClosed, ClientsAreOpen}
+use Rattle.el_loop.proofs.Openness.{some_peer, client_open, all_but, not_among, all_same, found_open, found_client, stranger_left}
 
 -- all clients are open, and who is closed is open and no client
-pub record After (story : Story) (outs : Outs) (next : World) : Type 0 where
-  pub sessions : AllOpen story next.sessions
-  pub closing : CanClose next story outs.closing
+pub record After (trace : Trace) (outs : Outs) (next : World) : Type 0 where
+  pub sessions : AllOpen trace next.sessions
+  pub closing : CanClose next trace outs.closing
 
 -- nobody is closed, and nobody comes or leaves
 pub record Quietly (world : World) (outs : Outs) (next : World) : Type 0 where
   pub none : outs.closing ≡ None
   pub same : next.sessions ≡ world.sessions
 
-quiet_after : (story : Story) (world : World) (outs : Outs) (next : World) → Quietly world outs next
-    → AllOpen story world.sessions → After story outs next
-quiet_after story world outs next q are = record { sessions = rw q.same are; closing = rw q.none tt }
+quiet_after : (trace : Trace) (world : World) (outs : Outs) (next : World) → Quietly world outs next
+    → AllOpen trace world.sessions → After trace outs next
+quiet_after trace world outs next q are = record { sessions = rw q.same are; closing = rw q.none tt }
 
 -- the node is answered
 by_lead : (leads : List ℕ → List Device → Side → Type 0) (world : World) (outs : Outs) (losses : List Device)
@@ -40,37 +38,35 @@ by_lead : (leads : List ℕ → List Device → Side → Type 0) (world : World)
 by_lead leads world outs losses next l = record { none = rw l.outs_is refl; same = rw l.next_is refl }
 
 -- a client is closed
-shut : (story : Story) (world : World) (p : ℕ) (reason : Why) (outs : Outs) (next : World)
+shut : (trace : Trace) (world : World) (p : ℕ) (reason : Why) (outs : Outs) (next : World)
     → is_client p world ≡ true → outs.closing ≡ Some (record { peer = p; why = reason })
-    → next ≡ without_client p world → AllOpen story world.sessions → After story outs next
-shut story world p reason outs next client is gone are = record {
-  sessions = rw gone (all_but story world.sessions p are);
-  closing = rw (is, gone) (client_open story world.sessions p client are, not_among world.sessions p);
+    → next ≡ without_client p world → AllOpen trace world.sessions → After trace outs next
+shut trace world p reason outs next client is gone are = record {
+  sessions = rw gone (all_but trace world.sessions p are);
+  closing = rw (is, gone) (client_open trace world.sessions p client are, not_among world.sessions p);
 }
 
--- today each reply leaves the session as it was, and closes nobody
-replied_so : (chain : Chain) (session : Session) (bytes : List ℕ) (reply : Reply)
-    → IsReply chain session bytes reply → (reply.session ≡ session) × (reply.closes ≡ false)
-replied_so chain session bytes reply (answered m id script asks few is) = rw is (refl, refl)
-replied_so chain session bytes reply (too_large m id script asks many is) = rw is (refl, refl)
-replied_so chain session bytes reply (invalid none is) = rw is (refl, refl)
-
-by_line : (story : Story) (world : World) (p : ℕ) (bytes : List ℕ) (found : Option Session) (outs : Outs)
-    (losses : List Device) (next : World) → find (is_peer p) world.sessions ≡ found
-    → Replied world p bytes found outs losses next → AllOpen story world.sessions → After story outs next
-by_line story world p bytes None outs losses next is t are =
-    quiet_after story world outs next (record { none = rw t.0 refl; same = rw t.1 refl }) are
-by_line story world p bytes (Some session) outs losses next is
-    (replied reply is_reply outs_is next_is lossless) are =
-    let so = replied_so world.side.chain session bytes reply is_reply in
-    record {
-      sessions = rw (next_is, so.1, so.0) (all_same story world.sessions p session
-          (found_open story world.sessions p session is are) are);
-      closing = rw (outs_is, so.1) tt;
-    }
-by_line story world p bytes (Some session) outs losses next is (failed m id script asks outs_is next_is lost)
+by_line : (tells : Type 0) (trace : Trace) (world : World) (p : ℕ) (bytes : List ℕ) (found : Option Session)
+    (outs : Outs) (losses : List Device) (next : World) → find (is_peer p) world.sessions ≡ found
+    → Replied tells world p bytes found outs losses next → AllOpen trace world.sessions
+    → After trace outs next
+by_line tells trace world p bytes None outs losses next is t are =
+    quiet_after trace world outs next (record { none = rw t.0 refl; same = rw t.1 refl }) are
+-- the reply may close the client, or change what is kept of it
+by_line tells trace world p bytes (Some session) outs losses next is
+    (replied reply kept comes outs_is next_is) are = elim (either reply.closes) [
+      | inl h ↦ shut trace world p why.Version outs next (found_client world.sessions p session is)
+          (rw outs_is (rw h refl)) (rw next_is (rw h refl)) are
+      | inr h ↦ record {
+        sessions = rw next_is (rw h (all_same trace world.sessions p (record session { client = kept })
+            (found_open trace world.sessions p session is are) are));
+        closing = rw outs_is (rw h tt);
+      }
+    ]
+by_line tells trace world p bytes (Some session) outs losses next is (starved e kept comes outs_is next_is)
     are =
-    quiet_after story world outs next (record { none = rw outs_is refl; same = rw next_is refl }) are
+    shut trace world p why.Memory outs next (found_client world.sessions p session is) (rw outs_is refl)
+    next_is are
 
 first_said : (met : List LineEvent) (said : List Event) (p : ℕ) (rest : List Event)
     → joins p ∷ rest ≡ map orders met ++ said → joins p ∷ rest ≡ said
@@ -121,43 +117,43 @@ waiting stands s world left p rest stood is =
     let said = first_said _ stood.said p rest split in
     joins_too_many s.clients s.speaker s.surplus world.sessions p rest (rw said stood.sessions)
 
-by_event : {G : Type 0} (stands : G → Chain → Type 0) (tells : Type 0) (story : Story) (s : State G)
+by_event : {G : Type 0} (stands : G → Chain → Type 0) (tells : Type 0) (trace : Trace) (s : State G)
     (world : World) (left rest : List Event) (event : Event) (outs : Outs) (losses : List Device)
     (next : World)
     → Stands stands s world left → left ≡ event ∷ rest → Takes tells world event outs losses next
-    → ClientsAreOpen s world story → After story outs next
-by_event stands tells story s world left rest (joins p) outs losses next stood is t are =
+    → ClientsAreOpen s world trace → After trace outs next
+by_event stands tells trace s world left rest (joins p) outs losses next stood is t are =
     let w = waiting stands s world left p rest stood is in
     let e = rw w.1 at t in
     let here = are.surplus p w.0 in
     record { sessions = rw e.1 are.sessions; closing = rw (e.0, e.1) here }
-by_event stands tells story s world left rest (leaves p) outs losses next stood is t are =
-    record { sessions = rw t.1 (all_but story world.sessions p are.sessions); closing = rw t.0 tt }
-by_event stands tells story s world left rest (says p (line bytes)) outs losses next stood is t are =
-    by_line story world p bytes (find (is_peer p) world.sessions) outs losses next refl t are.sessions
-by_event stands tells story s world left rest (says p too_long) outs losses next stood is t are =
+by_event stands tells trace s world left rest (leaves p) outs losses next stood is t are =
+    record { sessions = rw t.1 (all_but trace world.sessions p are.sessions); closing = rw t.0 tt }
+by_event stands tells trace s world left rest (says p (line bytes)) outs losses next stood is t are =
+    by_line tells trace world p bytes (find (is_peer p) world.sessions) outs losses next refl t are.sessions
+by_event stands tells trace s world left rest (says p too_long) outs losses next stood is t are =
     elim (either (is_client p world)) [
-      | inl h ↦ let e = rw h at t in shut story world p why.Long outs next h
+      | inl h ↦ let e = rw h at t in shut trace world p why.Long outs next h
           (ap (λ (o : Outs). o.closing) e.0) e.1 are.sessions
-      | inr h ↦ let e = rw h at t in quiet_after story world outs next
+      | inr h ↦ let e = rw h at t in quiet_after trace world outs next
           (record { none = ap (λ (o : Outs). o.closing) e.0; same = ap (λ (w : World). w.sessions) e.1 })
           are.sessions
     ]
-by_event stands tells story s world left rest (orders met) outs losses next stood is t are =
-    quiet_after story world outs next (by_lead _ world outs losses next t) are.sessions
+by_event stands tells trace s world left rest (orders met) outs losses next stood is t are =
+    quiet_after trace world outs next (by_lead _ world outs losses next t) are.sessions
 
-pub after_turn : {G : Type 0} (stands : G → Chain → Type 0) (tells : Type 0) (story : Story) (s : State G)
+pub after_turn : {G : Type 0} (stands : G → Chain → Type 0) (tells : Type 0) (trace : Trace) (s : State G)
     (world : World) (left rest done : List Event) (outs : Outs) (losses : List Device)
     (next : World) → Stands stands s world left → left ≡ done ++ rest
-    → OneTurn tells world done outs losses next → ClientsAreOpen s world story → After story outs next
-after_turn stands tells story s world left rest done outs losses next stood whole (takes event still is t)
+    → OneTurn tells world done outs losses next → ClientsAreOpen s world trace → After trace outs next
+after_turn stands tells trace s world left rest done outs losses next stood whole (takes event still is t)
     are =
-    by_event stands tells story s world left rest event outs losses next stood (rw is at whole) t are
-after_turn stands tells story s world left rest done outs losses next stood whole (works busy is t) are =
-    quiet_after story world outs next (by_lead _ world outs losses next t) are.sessions
-after_turn stands tells story s world left rest done outs losses next stood whole
+    by_event stands tells trace s world left rest event outs losses next stood (rw is at whole) t are
+after_turn stands tells trace s world left rest done outs losses next stood whole (works busy is t) are =
+    quiet_after trace world outs next (by_lead _ world outs losses next t) are.sessions
+after_turn stands tells trace s world left rest done outs losses next stood whole
     (departs p client is closes gone lost) are =
-    shut story world p why.Memory outs next client (ap (λ (o : Outs). o.closing) closes) gone are.sessions
+    shut trace world p why.Memory outs next client (ap (λ (o : Outs). o.closing) closes) gone are.sessions
 
 -- where a client too many joins last, it is what is left of the clients
 said_ends : (met : List LineEvent) (said front : List Event) (q : ℕ)
@@ -316,16 +312,16 @@ event_to_one tells world (joins p) outs losses next t =
     ]
 event_to_one tells world (leaves p) outs losses next t = (0, rw t.0 tt)
 event_to_one tells world (says p (line bytes)) outs losses next t =
-    line_to_one world p bytes (find (is_peer p) world.sessions) outs losses next t
+    line_to_one tells world p bytes (find (is_peer p) world.sessions) outs losses next t
   where
-    line_to_one : (world : World) (p : ℕ) (bytes : List ℕ) (found : Option Session) (outs : Outs)
-        (losses : List Device) (next : World) → Replied world p bytes found outs losses next → ToOne outs
-    line_to_one world p bytes None outs losses next t = (0, rw t.0 tt)
-    line_to_one world p bytes (Some session) outs losses next
-        (replied reply is_reply outs_is next_is lossless) =
-        (p, rw outs_is (all_to p reply.text))
-    line_to_one world p bytes (Some session) outs losses next (failed m id script asks outs_is next_is lost) =
-        (p, rw outs_is (refl, tt))
+    line_to_one : (tells : Type 0) (world : World) (p : ℕ) (bytes : List ℕ) (found : Option Session)
+        (outs : Outs) (losses : List Device) (next : World) → Replied tells world p bytes found outs losses next
+        → ToOne outs
+    line_to_one tells world p bytes None outs losses next t = (0, rw t.0 tt)
+    line_to_one tells world p bytes (Some session) outs losses next
+        (replied reply kept comes outs_is next_is) = (p, rw outs_is (all_to p reply.text))
+    line_to_one tells world p bytes (Some session) outs losses next
+        (starved e kept comes outs_is next_is) = (p, rw outs_is tt)
 event_to_one tells world (says p too_long) outs losses next t = elim (either (is_client p world)) [
   | inl h ↦ let e = rw h at t in (0, rw e.0 tt)
   | inr h ↦ let e = rw h at t in (0, rw e.0 tt)

@@ -3,12 +3,12 @@ use Rattle.std.specs.Prelude.{◌≡◌, ◌⊎◌, ℕ, ◌+◌, ◌≤◌, Lis
 use Rattle.std.specs.List.{AllByRecursion}
 use Rattle.el_outside.specs.Counts.{RoseBy}
 use Rattle.el_outside.specs.Files.{AllGrow}
-use Rattle.el_outside.specs.Story.{ArrivalWithBytes, opened, brought, closed, quiet, ended, Message, Closing}
+use Rattle.el_outside.specs.Trace.{ArrivalWithBytes, opened, brought, closed, quiet, ended, Message, Closing}
 use Rattle.el_chain.specs.Chains.{Chain}
-use Rattle.el_model.specs.World.{World, without_node}
+use Rattle.el_world.specs.World.{World, without_node}
 use Rattle.el_outside.specs.Devices.{Device, link}
-use Rattle.el_model.specs.Run.{Run, Halts, Stop, by_disk, by_link, by_memory, files_left}
-use Rattle.el_model.specs.Flights.{acked, Flies}
+use Rattle.el_world.specs.Run.{Run, Halts, Stop, by_disk, by_link, by_memory, files_left}
+use Rattle.el_world.specs.Flights.{acked, Flies}
 use Rattle.el_outside.specs.Devices.{Rose}
 use Rattle.el_loop.specs.Counts.{Counts}
 use Rattle.el_loop.specs.declared.end.End.{End}

@@ -1,8 +1,8 @@
 // What holds of runs.
 ghost use Rattle.std.specs.Prelude.{◌≡◌, ℕ, List, [], Bool};
 ghost use Rattle.el_model.specs.Keeping.{LeavesEither};
-ghost use Rattle.el_model.specs.World.{World};
-ghost use Rattle.el_model.specs.Run.{Stop, files_left};
+ghost use Rattle.el_world.specs.World.{World};
+ghost use Rattle.el_world.specs.Run.{Stop, files_left};
 ghost use Rattle.el_loop.specs.Counts.{Counts};
 ghost use Rattle.el_loop.specs.Runs.{Traffic, IsHalted};
 

@@ -1,8 +1,8 @@
 // The run over the arrivals.
 ghost use Rattle.std.specs.Prelude.{◌≡◌, ◌≤◌, ℕ, List, [], length, OnOk, IfErr};
 ghost use Rattle.el_outside.specs.Files.{AllGrow};
-ghost use Rattle.el_outside.specs.Story.{GoesOn, with_bytes};
-ghost use Rattle.el_model.specs.World.{World, Event, events, after_hearing};
+ghost use Rattle.el_outside.specs.Trace.{GoesOn, with_bytes};
+ghost use Rattle.el_world.specs.World.{World, Event, events, after_hearing};
 ghost use Rattle.el_model.specs.Keeping.{LeavesEither};
 ghost use Rattle.el_core.specs.State.{State, Stands, AreUpTo, IsIdle};
 ghost use Rattle.el_core.specs.Arrivals.{with_all_bytes, IsAfterArrival, IsAbove, IsUpTo};
@@ -111,7 +111,7 @@ fn serve_arrival<G: Ledger, A: Archive, K: Link>(
         → (A.tells → AllGrow world.side.files (A.bytes archive.old))
         → (K.tells → (next : World) (s : State G)
         → IsAfterArrival (with_all_bytes arrival bytes.now) world next s.surplus
-        → ClientsAreOpen s next (K.story link.old))
+        → ClientsAreOpen s next (K.trace link.old))
         → OnOk result (Finished ⟦<G as Ledger>⟧ ⟦<A as Archive>⟧ ⟦<K as Link>⟧
         (after_hearing (with_all_bytes arrival bytes.now) world)
         (events world (with_all_bytes arrival bytes.now))
@@ -120,7 +120,7 @@ fn serve_arrival<G: Ledger, A: Archive, K: Link>(
         → (A.tells → AllGrow world.side.files (A.bytes archive.old))
         → (K.tells → (next : World) (s : State G)
         → IsAfterArrival (with_all_bytes arrival bytes.now) world next s.surplus
-        → ClientsAreOpen s next (K.story link.old))
+        → ClientsAreOpen s next (K.trace link.old))
         → IfErr result (λ halt. StoppedIn ⟦<G as Ledger>⟧ ⟦<A as Archive>⟧ ⟦<K as Link>⟧
         (LeavesEither G.tells_crash G.means G.moment G.left_since server.new.ledger)
         world (with_all_bytes arrival bytes.now) (stop_of halt)
@@ -156,7 +156,7 @@ pub fn run<G: Ledger, A: Archive, K: Link>(
     ensures ends { (first : World) → Stands G.stands server.old first [] → first.sessions ≡ []
         → first.side.files ≡ A.bytes archive.old
         → (traffic : Traffic)
-        × (K.tells → GoesOn (K.story link.old) (K.story link.new)
+        × (K.tells → GoesOn (K.trace link.old) (K.trace link.new)
         traffic.arrivals traffic.messages traffic.closings)
         × RunEnds A.tells first options.node
         (LeavesEither G.tells_crash G.means G.moment G.left_since server.new.ledger)

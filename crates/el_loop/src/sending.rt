@@ -1,6 +1,7 @@
 // What a turn gave is sent, and its client is closed.
-ghost use Rattle.std.specs.Prelude.{◌≡◌, ◌≢◌, ◌≤◌, ◌↔◌, ℕ, List, Some, OnOk, IfOk, IfErr, IsTrue};
-ghost use Rattle.el_model.specs.World.{World, Event};
+ghost use Rattle.std.specs.Prelude.{◌≡◌, ◌≢◌, ◌≤◌, ◌↔◌, ℕ, List, Option, Some, OnOk, IfOk, IfErr, IsTrue};
+ghost use Rattle.el_outside.specs.Trace as trace;
+ghost use Rattle.el_world.specs.World.{World, Event};
 ghost use Rattle.el_core.specs.State.{AreUpTo, work};
 ghost use Rattle.el_core.specs.Turn.{messages_of, closing_of, outs_of};
 ghost use Rattle.el_loop.specs.within.Sending.{Sent, Unsent, CanSend, SentAll, StoppedSending, closing_left, first_some, Closes, RisesFor, stop_of};
@@ -20,9 +21,9 @@ fn send<G: Ledger, K: Link>(
     text: &Bytes,
 ) -> Result<Option<Peer>, Halt>
     ensures sent { IfOk result (λ lost. Sent G.stands K.tells (record { peer = p; text = text.now }) lost
-        server.old (K.story link.old) (K.faults link.old) server.new (K.story link.new) (K.faults link.new)) }
+        server.old (K.trace link.old) (K.faults link.old) server.new (K.trace link.new) (K.faults link.new)) }
     ensures unsent { IfErr result (λ halt. Unsent K.tells p (stop_of halt)
-        server.old (K.story link.old) (K.faults link.old) server.new (K.story link.new) (K.faults link.new)) }
+        server.old (K.trace link.old) (K.faults link.old) server.new (K.trace link.new) (K.faults link.new)) }
     ensures counts { RisesFor (K.faults link.old) (K.faults link.new) Halt.Link result }
     ensures no_disk { IfErr result (λ halt. halt ≢ Halt.Disk) }
     ensures same_ledger { server.new.ledger ≡ server.old.ledger }
@@ -69,14 +70,14 @@ fn send_all<G: Ledger, K: Link>(
     link: &mut K,
     sends: &[(Peer, Bytes)],
 ) -> Result<Option<Peer>, Halt>
-    ensures sent { (next : World) (rest : List Event)
-        → CanSend G.stands K.tells server.old next rest (K.story link.old) (messages_of sends.now)
-        → IfOk result (λ lost. SentAll G.stands K.tells next rest (messages_of sends.now) lost
-        server.old (K.story link.old) (K.faults link.old) server.new (K.story link.new) (K.faults link.new)) }
-    ensures stopped { (next : World) (rest : List Event)
-        → CanSend G.stands K.tells server.old next rest (K.story link.old) (messages_of sends.now)
+    ensures sent { (next : World) (rest : List Event) (closing : Option trace.Closing)
+        → CanSend G.stands K.tells server.old next rest (K.trace link.old) closing (messages_of sends.now)
+        → IfOk result (λ lost. SentAll G.stands K.tells next rest closing (messages_of sends.now) lost
+        server.old (K.trace link.old) (K.faults link.old) server.new (K.trace link.new) (K.faults link.new)) }
+    ensures stopped { (next : World) (rest : List Event) (closing : Option trace.Closing)
+        → CanSend G.stands K.tells server.old next rest (K.trace link.old) closing (messages_of sends.now)
         → IfErr result (λ halt. StoppedSending K.tells next (messages_of sends.now) (stop_of halt)
-        server.old (K.story link.old) (K.faults link.old) server.new (K.story link.new) (K.faults link.new)) }
+        server.old (K.trace link.old) (K.faults link.old) server.new (K.trace link.new) (K.faults link.new)) }
     ensures counts { RisesFor (K.faults link.old) (K.faults link.new) Halt.Link result }
     ensures no_disk { IfErr result (λ halt. halt ≢ Halt.Disk) }
     ensures same_ledger { server.new.ledger ≡ server.old.ledger }
@@ -101,7 +102,7 @@ fn send_all<G: Ledger, K: Link>(
 // Closes a client, but not one that is lost.
 fn close<K: Link>(link: &mut K, close: Option<(Peer, Why)>, lost: Option<Peer>)
     ensures closes { K.tells
-        → Closes (closing_left lost (closing_of close)) (K.story link.old) (K.story link.new) }
+        → Closes (closing_left lost (closing_of close)) (K.trace link.old) (K.trace link.new) }
     ensures same_faults { K.faults link.new ≡ K.faults link.old }
     ensures same_calls { K.calls link.new ≡ K.calls link.old }
     ensures same_last { K.last link.new ≡ K.last link.old }
@@ -120,13 +121,13 @@ pub fn deliver<G: Ledger, K: Link>(
     outs: &Outs,
 ) -> Result<(), Halt>
     ensures delivered { (next : World) (rest : List Event)
-        → CanDeliver G.stands K.tells server.old next rest (outs_of outs.now) (K.story link.old)
+        → CanDeliver G.stands K.tells server.old next rest (outs_of outs.now) (K.trace link.old)
         → OnOk result (Delivered G.stands K.tells next rest (outs_of outs.now)
-        server.old (K.story link.old) (K.faults link.old) server.new (K.story link.new) (K.faults link.new)) }
+        server.old (K.trace link.old) (K.faults link.old) server.new (K.trace link.new) (K.faults link.new)) }
     ensures undelivered { (next : World) (rest : List Event)
-        → CanDeliver G.stands K.tells server.old next rest (outs_of outs.now) (K.story link.old)
+        → CanDeliver G.stands K.tells server.old next rest (outs_of outs.now) (K.trace link.old)
         → IfErr result (λ halt. StoppedSending K.tells next (outs_of outs.now).messages (stop_of halt)
-        server.old (K.story link.old) (K.faults link.old) server.new (K.story link.new) (K.faults link.new)) }
+        server.old (K.trace link.old) (K.faults link.old) server.new (K.trace link.new) (K.faults link.new)) }
     ensures counts { RisesFor (K.faults link.old) (K.faults link.new) Halt.Link result }
     ensures no_disk { IfErr result (λ halt. halt ≢ Halt.Disk) }
     ensures same_ledger { server.new.ledger ≡ server.old.ledger }

@@ -1,10 +1,10 @@
 // A run from a ledger.
 ghost use Rattle.std.specs.Prelude.{◌≡◌};
 ghost use Rattle.el_outside.specs.Files.{AllGrow};
-ghost use Rattle.el_outside.specs.Story.{GoesOn};
+ghost use Rattle.el_outside.specs.Trace.{GoesOn};
 ghost use Rattle.el_chain.specs.Chains.{Chain};
 ghost use Rattle.el_model.specs.Keeping.{LeavesEither};
-ghost use Rattle.el_model.specs.World.{quiet_world};
+ghost use Rattle.el_world.specs.World.{initial_world};
 ghost use Rattle.el_loop.specs.Counts.{counts_of, devices, IsCaused, failed_device};
 ghost use Rattle.el_loop.specs.Runs.{Traffic, RunEnds};
 
@@ -13,12 +13,14 @@ use crate::options::RunOptions;
 use crate::running::run;
 use el_core::Server;
 use el_headers::HeaderTree;
+use el_methods::Holdings;
 use el_model::Ledger;
 use el_outside::{Archive, Link};
+use el_pool::Pool;
 use std::alloc::Global;
 
 /// Serves the arrivals that calls of `next` bring, as the options say, from a ledger and the headers that
-/// were found. The ledger comes back as it stands.
+/// were found. Nothing unconfirmed is kept at the start. The ledger comes back as it stands.
 pub fn serve_from<G: Ledger, A: Archive, K: Link>(
     alloc: Global,
     ledger: G,
@@ -30,9 +32,10 @@ pub fn serve_from<G: Ledger, A: Archive, K: Link>(
     requires live { G.is_live ledger }
     // What was sent and closed is a run from the chain that the ledger stands for, and so it ends.
     ensures ends { (chain : Chain) → G.stands ledger chain → (traffic : Traffic)
-        × (K.tells → GoesOn (K.story link.old) (K.story link.new)
+        × (K.tells → GoesOn (K.trace link.old) (K.trace link.new)
         traffic.arrivals traffic.messages traffic.closings)
-        × RunEnds A.tells (quiet_world chain options.magic tree (A.bytes archive.old)) options.node
+        × RunEnds A.tells (initial_world chain options.magic options.limits tree
+        (A.bytes archive.old)) options.node
         (LeavesEither G.tells_crash G.means G.moment G.left_since result.1)
         (A.bytes archive.new) (counts_of G.faults ⟦<A as Archive>⟧ ⟦<K as Link>⟧ options.turns
         (devices ledger archive.old link.old) (devices result.1 archive.new link.new)) traffic result.0 }
@@ -42,7 +45,10 @@ pub fn serve_from<G: Ledger, A: Archive, K: Link>(
         (failed_device result.0) (result.0 ≡ End.TurnsSpent) }
     ensures keeps { A.tells → AllGrow (A.bytes archive.old) (A.bytes archive.new) }
 {
-    let mut server = Server::new(alloc, ledger, tree, options.magic);
+    let magic = options.magic;
+    let pool = Pool::new(alloc, options.limits);
+    let holdings = Holdings { tree, magic, pool };
+    let mut server = Server::new(alloc, ledger, holdings);
     let end = run(&mut server, archive, link, options);
     (end, server.into_ledger())
 }

@@ -3,17 +3,18 @@ ghost use Rattle.std.specs.Prelude.{◌≤◌};
 
 use el_base::{Bytes, CompactFault, Hash32, OutOfMemory};
 use el_block::BlockFault;
-use el_chain::{Coin, ConnectFault, Entry, MoveFault};
+use el_chain::{ConnectFault, MoveFault};
 use el_lines::{
-    LineBuffer, LineEvent, NodeLine, NodeLineFault, archive_refused, at_answer, balance_reply,
-    block_answer, cuts_do_not_matter, deep_refused, disk_reply, genesis_refused, history_reply,
-    line_refused, long_refused, move_refused, node_line_says_one_thing, place_refused,
-    read_node_line, request_of, too_large_reply, unconnected_refused, unknown_refused,
-    unspent_reply,
+    LINE_LIMIT, LineBuffer, LineEvent, NODE_LINE_LIMIT, NodeLine, NodeLineFault, absent_refused,
+    archive_refused, at_answer, block_answer, cuts_do_not_matter, deep_refused, genesis_refused,
+    gone_answer, line_refused, long_refused, move_refused, node_line_says_one_thing,
+    pieces_do_not_matter, place_refused, pool_refused, read_node_line, tx_answer,
+    unconnected_refused, unknown_refused,
 };
-use el_model::{LINE_LIMIT, Method, NODE_LINE_LIMIT};
+use el_mempool::PoolFault;
 use el_tx::{Outpoint, TxFault};
-use std::alloc::{AllocError, Global};
+use el_world::moves_are_the_plan;
+use std::alloc::Global;
 use std::test::Fail;
 
 // The hash of Bitcoin's first block in inner order, and as it is shown, in lower case, upper case and both.
@@ -88,6 +89,8 @@ fn lines_at_the_limit(rt: HostRuntime) -> Result<(), Fail> {
         );
     }
     cuts_do_not_matter();
+    pieces_do_not_matter();
+    moves_are_the_plan();
     Ok(())
 }
 
@@ -279,156 +282,6 @@ fn prints_faults(rt: HostRuntime) -> Result<(), Fail> {
     Ok(())
 }
 
-// The line that asks by that method.
-fn asks(alloc: Global, id: &str, method: &str, shown: &str) -> Result<Vec<u8>, Fail> {
-    let head = ",\"method\":\"blockchain.scripthash.";
-    joined(
-        alloc,
-        &[
-            "{\"id\":",
-            id,
-            head,
-            method,
-            "\",\"params\":[\"",
-            shown,
-            "\"]}",
-        ],
-    )
-}
-
-// Whether the line asks of that hash with this id, or is no request.
-fn is_request(line: &[u8], id: &str, wanted: bool) -> bool {
-    match request_of(line) {
-        Some(request) => {
-            wanted && request.id == id.as_bytes() && request.script_hash == Hash32(HASH)
-        }
-        None => !wanted,
-    }
-}
-
-#[test]
-fn requests(rt: HostRuntime) -> Result<(), Fail> {
-    for (id, shown, wanted) in [
-        ("0", SHOWN[0], true),
-        ("7", SHOWN[1], true),
-        ("9999999999", SHOWN[2], true),
-        ("", SHOWN[0], false),
-        ("01", SHOWN[0], false),
-        ("-1", SHOWN[0], false),
-        ("10000000000", SHOWN[0], false),
-        ("1", "00", false),
-        ("1", "", false),
-    ] {
-        let line = asks(rt.alloc(), id, "get_history", shown)?;
-        assert!(rt; is_request(&line, id, wanted), "{id}");
-    }
-    Ok(())
-}
-
-#[test]
-fn methods(rt: HostRuntime) -> Result<(), Fail> {
-    for (name, method) in [
-        ("get_balance", Some(Method::Balance)),
-        ("get_history", Some(Method::History)),
-        ("listunspent", Some(Method::Unspent)),
-        ("get_mempool", None),
-        ("get_histor", None),
-        ("", None),
-    ] {
-        let line = asks(rt.alloc(), "7", name, SHOWN[0])?;
-        assert!(rt;
-            request_of(&line).map(|request| request.method) == method,
-            "{name}"
-        );
-    }
-    Ok(())
-}
-
-const REPLY_HEAD: &str = "{\"id\":7,\"jsonrpc\":\"2.0\",\"result\":[";
-
-const ENTRIES: [&str; 2] = [
-    "{\"height\":0,\"tx_hash\":\"000000000019d6689c085ae165831e934ff763ae46a2a6c172b3f1b60a8ce26f\"}",
-    "{\"height\":840000,\"tx_hash\":\"000000000019d6689c085ae165831e934ff763ae46a2a6c172b3f1b60a8ce26f\"}",
-];
-
-const TOO_LARGE: &str =
-    "{\"error\":{\"code\":1,\"message\":\"history too large\"},\"id\":7,\"jsonrpc\":\"2.0\"}\n";
-
-const DISK_FAILED: &str =
-    "{\"error\":{\"code\":3,\"message\":\"index device failed\"},\"id\":7,\"jsonrpc\":\"2.0\"}\n";
-
-// Whether the text is these parts.
-fn is_made_of(
-    alloc: Global,
-    text: Result<Vec<u8>, AllocError>,
-    parts: &[&str],
-) -> Result<bool, Fail> {
-    let wanted = joined(alloc, parts)?;
-    Ok(text?.as_slice() == wanted.as_slice())
-}
-
-#[test]
-fn replies(rt: HostRuntime) -> Result<(), Fail> {
-    let alloc = rt.alloc();
-    let entries = [0, 840_000].map(|height| Entry {
-        height,
-        txid: Hash32(HASH),
-    });
-    let table: [(usize, &[&str]); 3] = [
-        (0, &[REPLY_HEAD, "]}\n"]),
-        (1, &[REPLY_HEAD, ENTRIES[0], "]}\n"]),
-        (2, &[REPLY_HEAD, ENTRIES[0], ",", ENTRIES[1], "]}\n"]),
-    ];
-    for (count, parts) in table {
-        let reply = history_reply(alloc, b"7", &entries[..count]);
-        assert!(rt; is_made_of(alloc, reply, parts)?, "of {count}");
-    }
-    for (reply, wanted) in [
-        (too_large_reply(alloc, b"7"), TOO_LARGE),
-        (disk_reply(alloc, b"7"), DISK_FAILED),
-    ] {
-        assert!(rt; is_made_of(alloc, reply, &[wanted])?, "{wanted}");
-    }
-    Ok(())
-}
-
-const COINS: &str = "{\"id\":7,\"jsonrpc\":\"2.0\",\"result\":[\
-    {\"height\":0,\"tx_hash\":\"000000000019d6689c085ae165831e934ff763ae46a2a6c172b3f1b60a8ce26f\",\
-    \"tx_pos\":0,\"value\":5000000000},\
-    {\"height\":840000,\"tx_hash\":\"000000000019d6689c085ae165831e934ff763ae46a2a6c172b3f1b60a8ce26f\",\
-    \"tx_pos\":4294967295,\"value\":2100000000000000}]}\n";
-
-const BALANCE: &str =
-    "{\"id\":7,\"jsonrpc\":\"2.0\",\"result\":{\"confirmed\":5000000000,\"unconfirmed\":0}}\n";
-
-#[test]
-fn coins_and_balances(rt: HostRuntime) -> Result<(), Fail> {
-    let coins = [
-        (0, 0, 5_000_000_000),
-        (840_000, 4_294_967_295, 2_100_000_000_000_000),
-    ]
-    .map(|(height, index, value)| Coin {
-        outpoint: Outpoint {
-            txid: Hash32(HASH),
-            index,
-        },
-        value,
-        script: Hash32([0; 32]),
-        height,
-    });
-    let alloc = rt.alloc();
-    assert!(rt; is_made_of(alloc, unspent_reply(alloc, b"7", &coins), &[COINS])?);
-    assert!(rt;
-        is_made_of(
-            alloc,
-            unspent_reply(alloc, b"7", &[]),
-            &[REPLY_HEAD, "]}\n"]
-        )?
-    );
-    assert!(rt; is_made_of(alloc, balance_reply(alloc, b"7", 5_000_000_000), &[BALANCE])?);
-    Ok(())
-}
-
 // Whether the text is this one, where the letter H stands for the shown hash.
 fn is_text(alloc: Global, text: Result<Bytes, OutOfMemory>, wanted: &str) -> Result<bool, Fail> {
     let mut whole = String::new(alloc);
@@ -459,8 +312,72 @@ fn answers_to_a_node(rt: HostRuntime) -> Result<(), Fail> {
         (deep_refused(alloc, 1), "refused deep 1\n"),
         (deep_refused(alloc, 101), "refused deep 101\n"),
         (archive_refused(alloc), "refused archive\n"),
+        (tx_answer(alloc, hash), "tx H\n"),
+        (gone_answer(alloc, hash), "gone H\n"),
+        (absent_refused(alloc, hash), "refused absent H\n"),
     ] {
         assert!(rt; is_text(alloc, text, wanted)?, "{wanted}");
+    }
+    Ok(())
+}
+
+// Each refusal of a transaction, and what is answered, where the letter H stands for the shown hash.
+const REFUSED: [(PoolFault, &str); 8] = [
+    (PoolFault::Bad, "refused form\n"),
+    (PoolFault::CoinbaseForm, "refused coinbase\n"),
+    (PoolFault::Confirmed, "refused confirmed H\n"),
+    (PoolFault::Known, "refused known H\n"),
+    (
+        PoolFault::Missing {
+            outpoint: Outpoint {
+                txid: Hash32(HASH),
+                index: 4_294_967_295,
+            },
+        },
+        "refused missing H 4294967295\n",
+    ),
+    (
+        PoolFault::Conflict {
+            outpoint: Outpoint {
+                txid: OTHER,
+                index: 7,
+            },
+            txid: Hash32(HASH),
+        },
+        "refused conflict H\n",
+    ),
+    (
+        PoolFault::Overspends {
+            taken: 0,
+            given: 2_100_000_000_000_000,
+        },
+        "refused overspends 0 2100000000000000\n",
+    ),
+    (
+        PoolFault::Full {
+            count: 1,
+            bytes: 65,
+        },
+        "refused full 1 65\n",
+    ),
+];
+
+// Whether that is answered for the refusal of a transaction.
+fn says_refused(alloc: Global, fault: PoolFault, wanted: &str) -> Result<bool, Fail> {
+    match pool_refused(alloc, Hash32(HASH), fault)? {
+        Some(text) => is_text(alloc, Ok(text), wanted),
+        None => Ok(false),
+    }
+}
+
+#[test]
+fn refused_transactions(rt: HostRuntime) -> Result<(), Fail> {
+    let alloc = rt.alloc();
+    for (fault, wanted) in REFUSED {
+        assert!(rt; says_refused(alloc, fault, wanted)?, "{wanted}");
+    }
+    for fault in [PoolFault::DiskFailed, PoolFault::Memory] {
+        assert!(rt; pool_refused(alloc, Hash32(HASH), fault)? == None);
     }
     Ok(())
 }

@@ -11,11 +11,16 @@ use el_core::{Outs, Server};
 use el_fakes::MemArchive;
 use el_gen::{
     BLOCK_1, BLOCK_1_HASH, EMPTY_SCRIPT_HASH, GENESIS, GENESIS_HASH, GENESIS_SCRIPT_HASH,
-    GENESIS_TXID, block, block_bytes, coinbase, spend,
+    GENESIS_TXID, HEADER_0, HEADER_1, block, block_bytes, coinbase, spend,
 };
 use el_headers::HeaderTree;
-use el_model::{LINE_LIMIT, Ledger, PlainLedger};
+use el_lines::LINE_LIMIT;
+use el_mempool::PoolLimits;
+use el_methods::Holdings;
+use el_model::Ledger;
 use el_outside::{Arrival, Peer, Why};
+use el_plain::PlainLedger;
+use el_pool::Pool;
 use el_tx::{Outpoint, Tx, block_hash, encode_header, encode_tx, txid};
 use std::alloc::Global;
 use std::test::Fail;
@@ -40,7 +45,47 @@ const MAKES_MONEY: &str = "235e410274ab5f9e68126e8c24ed30c534f4abeaa3991fdd082ba
 
 const HEAVY: &str = "fa64b2a291b3b34c3fda28ba2cc5071c006a36383dc5c828dc4ed4b98f284cab";
 
+// Transactions that no block has, which the same program made: a spend of the first block's coin, its txid,
+// and a spend of its output; one that gives a satoshi too much, another one of that coin, one of a coin that
+// isn't there, and one of the form of a coinbase.
+const PARENT: &str = "\
+    01000000012dcd77bb6fc3f3138bd618974e4660af6565e91af0981e55b4e98296a94fca300000000000ffffffff0100f205\
+    2a0100000005040100000000000000";
+
+const PARENT_TXID: &str = "5527889e9d4fc968a939d23f292743e2ec32def80adedb0e5ce874f6e5f8ee04";
+
+const CHILD: &str = "\
+    010000000104eef8e5f674e85c0edbde0af8de32ece24327293fd239a968c94f9d9e8827550000000000ffffffff0100f205\
+    2a0100000005040200000000000000";
+
+const GIVING_TOO_MUCH: &str = "\
+    01000000012dcd77bb6fc3f3138bd618974e4660af6565e91af0981e55b4e98296a94fca300000000000ffffffff0101f205\
+    2a0100000005040100000000000000";
+
+const OTHER_SPEND: &str = "\
+    01000000012dcd77bb6fc3f3138bd618974e4660af6565e91af0981e55b4e98296a94fca300000000000ffffffff01010000\
+    000000000005040300000000000000";
+
+const SPENDING_NOTHING: &str = "\
+    010000000111111111111111111111111111111111111111111111111111111111111111110000000000ffffffff01010000\
+    000000000005040100000000000000";
+
+const COINBASE_FORM: &str = "\
+    01000000010000000000000000000000000000000000000000000000000000000000000000ffffffff06050500000000ffff\
+    ffff0100f2052a0100000005040100000000000000";
+
+const ONES: &str = "1111111111111111111111111111111111111111111111111111111111111111";
+
+// The Merkle root of the hashes of Bitcoin's first two blocks, as it is shown.
+const HEADERS_ROOT: &str = "abdc2227d02d114b77be15085c1257709252a7a103f9ac0ab3c85d67e12bc0b8";
+
 const UNKNOWN: &str = "2222222222222222222222222222222222222222222222222222222222222222";
+
+// One unconfirmed transaction is kept at most.
+const LIMITS: PoolLimits = PoolLimits {
+    count: 1,
+    bytes: 1_000,
+};
 
 // The four bytes before each record of Bitcoin's main network.
 const MAGIC: [u8; 4] = [0xf9, 0xbe, 0xb4, 0xd9];
@@ -72,19 +117,41 @@ fn spelled(alloc: Global, text: &str) -> Result<String, Fail> {
             'A' => whole.push_str(FIRST)?,
             'B' => whole.push_str(BLOCK_1_HASH)?,
             'C' => whole.push_str(SECOND)?,
+            'D' => whole.push_str(GENESIS.get(162..).unwrap_or(""))?,
             'E' => whole.push_str(EMPTY_SCRIPT_HASH)?,
             'G' => whole.push_str(GENESIS_HASH)?,
+            'H' => whole.push_str(HEADER_0)?,
+            'J' => whole.push_str(HEADER_1)?,
             'L' => whole.push_str(LAST_OF_MANY)?,
             'O' => whole.push_str(OTHER_FIRST)?,
+            'R' => whole.push_str(HEADERS_ROOT)?,
             'S' => whole.push_str(GENESIS_SCRIPT_HASH)?,
             'U' => whole.push_str(UNKNOWN)?,
             'X' => whole.push_str(GENESIS_TXID)?,
             'Y' => whole.push_str(LAST_BUT_ONE)?,
             'Z' => whole.push_str(LAST)?,
+            'F' | 'I' | 'K' | 'M' | 'P' | 'Q' | 'V' | 'W' => whole.push_str(transaction_of(
+                letter,
+            ))?,
             other => whole.push(other)?,
         }
     }
     Ok(whole)
+}
+
+// What a letter stands for that names a transaction or a txid.
+fn transaction_of(letter: char) -> &'static str {
+    match letter {
+        'F' => COINBASE_FORM,
+        'I' => ONES,
+        'K' => CHILD,
+        'M' => SPENDING_NOTHING,
+        'P' => PARENT,
+        'Q' => PARENT_TXID,
+        'V' => GIVING_TOO_MUCH,
+        'W' => OTHER_SPEND,
+        _ => "",
+    }
 }
 
 // The cause in a word.
@@ -92,6 +159,7 @@ fn word_of(why: Why) -> &'static str {
     match why {
         Why::Long => "long\n",
         Why::Clients => "clients\n",
+        Why::Version => "version\n",
         _ => "other\n",
     }
 }
@@ -201,8 +269,11 @@ fn play(alloc: Global, file: &[u8], steps: &[Step<'_>]) -> Result<Played, Fail> 
         server: Server::new(
             alloc,
             PlainLedger::new(alloc),
-            HeaderTree::new(alloc),
-            MAGIC,
+            Holdings {
+                tree: HeaderTree::new(alloc),
+                magic: MAGIC,
+                pool: Pool::new(alloc, LIMITS),
+            },
         ),
         archive: archive_of(alloc, file, 0)?,
         last: 0,
@@ -644,6 +715,9 @@ const ONE_COIN: &str =
 const INVALID: &str =
     "{\"error\":{\"code\":-32600,\"message\":\"invalid request\"},\"id\":null,\"jsonrpc\":\"2.0\"}\n";
 
+const NO_JSON: &str =
+    "{\"error\":{\"code\":-32700,\"message\":\"parse error\"},\"id\":null,\"jsonrpc\":\"2.0\"}\n";
+
 const CLIENTS_INVALID: &str = "clients\n\
     {\"error\":{\"code\":-32600,\"message\":\"invalid request\"},\"id\":null,\"jsonrpc\":\"2.0\"}\n";
 
@@ -691,6 +765,60 @@ const CLIENT_LINES: [(&[Step<'static>], &str); 8] = [
     ),
 ];
 
+const BOTH_TOLD: Step<'static> = Step::Says(0, "block 0 0\nblock 0 296\ntip B\n");
+
+// What a client asks over Bitcoin's first two blocks, or over none, and what it is answered.
+const REQUESTS: [(&str, &str); 9] = [
+    (
+        "{\"id\":1,\"method\":\"blockchain.transaction.id_from_pos\",\"params\":[0,0]}\n",
+        "{\"id\":1,\"jsonrpc\":\"2.0\",\"result\":\"X\"}\n",
+    ),
+    (
+        "{\"id\":1,\"method\":\"blockchain.transaction.get_merkle\",\"params\":[\"X\",0]}\n\
+         {\"id\":2,\"method\":\"blockchain.transaction.get_merkle\",\"params\":[\"X\",2]}\n",
+        "{\"id\":1,\"jsonrpc\":\"2.0\",\"result\":{\"block_height\":0,\"merkle\":[],\"pos\":0}}\n\
+         {\"error\":{\"code\":1,\"message\":\"no such height\"},\"id\":2,\"jsonrpc\":\"2.0\"}\n",
+    ),
+    (
+        "{\"id\":1,\"method\":\"blockchain.block.header\",\"params\":[0,1]}\n",
+        "{\"id\":1,\"jsonrpc\":\"2.0\",\"result\":{\"branch\":[\"B\"],\"header\":\"H\",\"root\":\"R\"}}\n",
+    ),
+    (
+        "{\"id\":1,\"method\":\"blockchain.block.headers\",\"params\":[0,2016]}\n",
+        "{\"id\":1,\"jsonrpc\":\"2.0\",\"result\":{\"count\":2,\"hex\":\"HJ\",\"max\":2016}}\n",
+    ),
+    (
+        "{\"id\":1,\"method\":\"blockchain.headers.subscribe\"}\n",
+        "{\"id\":1,\"jsonrpc\":\"2.0\",\"result\":{\"height\":1,\"hex\":\"J\"}}\n",
+    ),
+    (
+        "{\"id\":1,\"method\":\"blockchain.transaction.get\",\"params\":[\"X\"]}\n",
+        "{\"id\":1,\"jsonrpc\":\"2.0\",\"result\":\"D\"}\n",
+    ),
+    // what is kept of a client for its requests outlives a line
+    (
+        "{\"id\":1,\"method\":\"server.version\"}\n{\"id\":2,\"method\":\"server.version\"}\n",
+        "{\"id\":1,\"jsonrpc\":\"2.0\",\"result\":[\"el_serve 1.0\",\"1.4\"]}\n\
+         {\"error\":{\"code\":1,\"message\":\"version already agreed\"},\"id\":2,\"jsonrpc\":\"2.0\"}\n",
+    ),
+    // a client of another version is closed once its batch was answered; what it says then has no effect
+    (
+        "[{\"id\":1,\"method\":\"server.version\",\"params\":[\"\",\"1.5\"]},\
+         {\"id\":2,\"method\":\"server.ping\"}]\n{}\n",
+        "[{\"error\":{\"code\":1,\"message\":\"version not shared\"},\"id\":1,\"jsonrpc\":\"2.0\"},\
+         {\"id\":2,\"jsonrpc\":\"2.0\",\"result\":null}]\nversion\n",
+    ),
+    (
+        "[{\"id\":1,\"method\":\"server.ping\"},{\"method\":\"server.ping\"},\
+         {\"id\":2,\"method\":\"nope\"},5]\n\
+         [{\"method\":\"server.ping\"}]\n{\n",
+        "[{\"id\":1,\"jsonrpc\":\"2.0\",\"result\":null},\
+         {\"error\":{\"code\":-32601,\"message\":\"unknown method\"},\"id\":2,\"jsonrpc\":\"2.0\"},\
+         {\"error\":{\"code\":-32600,\"message\":\"invalid request\"},\"id\":null,\"jsonrpc\":\"2.0\"}]\n\
+         {\"error\":{\"code\":-32700,\"message\":\"parse error\"},\"id\":null,\"jsonrpc\":\"2.0\"}\n",
+    ),
+];
+
 // Two clients, of which one may be served at once.
 const CLIENTS: [Step<'static>; 6] = [
     Step::Opens(1),
@@ -723,6 +851,57 @@ fn client_lines(rt: HostRuntime) -> Result<(), Fail> {
     Ok(())
 }
 
+#[test]
+fn requests_over_two_blocks(rt: HostRuntime) -> Result<(), Fail> {
+    let file = first_file(rt.alloc())?;
+    for (asks, wanted) in REQUESTS {
+        let run = [BOTH_TOLD, Step::Forget, Step::Opens(1), Step::Says(1, asks)];
+        assert!(rt;
+            says(rt.alloc(), file.as_slice(), run.as_slice(), wanted)?,
+            "{wanted}"
+        );
+    }
+    Ok(())
+}
+
+// What is said of unconfirmed transactions over the first block that `chain_file` makes, one of which is kept
+// at most, and what is answered.
+const SETS: [(&str, &str); 3] = [
+    (
+        "tx 00\ntx F\ntx V\ntx P\ntx P\ntx W\ntx K\ntx M\n",
+        "refused form\nrefused coinbase\nrefused overspends 5000000000 5000000001\ntx Q\nrefused known Q\n\
+         refused conflict Q\nrefused full 1 65\nrefused missing I 0\n",
+    ),
+    (
+        "drop Q\ntx P\ndrop Q\ndrop Q\ntx W\n",
+        "refused absent Q\ntx Q\ngone Q\nrefused absent Q\n\
+         tx 8381ab3257eb066d810edafa4f0fcbdd94366bf75393f25e4743354d6c686ded\n",
+    ),
+    (
+        "tx P\ntip U\ntx P\n",
+        "tx Q\nrefused unknown U\nrefused known Q\n",
+    ),
+];
+
+#[test]
+fn sets_of_one_transaction(rt: HostRuntime) -> Result<(), Fail> {
+    let file = chain_file(rt.alloc(), 1)?;
+    for (said, wanted) in SETS {
+        assert!(rt;
+            moves(
+                rt.alloc(),
+                file.as_slice(),
+                "block 0 0\ntip A\n",
+                said,
+                wanted,
+                0
+            )?,
+            "{wanted}"
+        );
+    }
+    Ok(())
+}
+
 // So many bytes without byte 10.
 fn long_text(alloc: Global, len: usize) -> Result<String, Fail> {
     let mut text = String::new(alloc);
@@ -735,7 +914,7 @@ fn long_text(alloc: Global, len: usize) -> Result<String, Fail> {
 #[test]
 fn lines_round_the_limit(rt: HostRuntime) -> Result<(), Fail> {
     let text = long_text(rt.alloc(), LINE_LIMIT)?;
-    for (end, wanted) in [("\n", INVALID), ("x", "long\n"), ("x\n{}\n", "long\n")] {
+    for (end, wanted) in [("\n", NO_JSON), ("x", "long\n"), ("x\n{}\n", "long\n")] {
         let run = [
             Step::Opens(1),
             Step::Says(1, text.as_str()),

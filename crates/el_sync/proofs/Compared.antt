@@ -13,8 +13,8 @@ use Rattle.el_chain.specs.Chains.{Chain, tip, tip_after, zero_hash}
 use Rattle.el_chain.specs.Headers.{AreLinked, same_hash, IsPath, genesis}
 use Rattle.el_chain.specs.Moves.{shorter, last_hash}
 use Rattle.el_tx.specs.Headers.{header_encoding}
-use Rattle.el_model.specs.NodeAnswers.{at_answer}
-use Rattle.el_model.specs.Plans.{common, back_of, rest_of, IsMoving}
+use Rattle.el_lines.specs.NodeAnswers.{at_answer}
+use Rattle.el_world.specs.Plans.{common, back_of, rest_of, IsMoving}
 use Rattle.el_model.specs.Queries.{header_at}
 use Rattle.el_sync.proofs.Lists.{linked_after, all_after}
 

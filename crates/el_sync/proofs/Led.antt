@@ -1,8 +1,8 @@
 -- What steps leave of a ledger and of block files, of which only the traits are known.
-use Rattle.std.proofs.Common.{◌≡◌, inl, ℕ, ◌≤◌, arith, List, [], ◌∷◌, ◌++◌, take, Option, Some, Result, Ok, Err, refl, sym, ap, ◌∙◌, append-nil, append_assoc}
+use Rattle.std.proofs.Common.{◌≡◌, ◌≢◌, ◌⊎◌, inl, inr, Bool, false, ℕ, ◌≤◌, arith, List, [], ◌∷◌, ◌++◌, Option, Some, Result, Ok, Err, refl, sym, ap, ◌∙◌, append-nil, append_assoc}
 use Rattle.std.specs.Result.{IfOk, IfErr}
-use Rattle.el_base.specs.declared.hash.Hash32.{Hash32}
-use Rattle.el_outside.specs.Counts.{RoseBy}
+use Rattle.el_outside.specs.Counts.{CountsOnly, RoseBy}
+use Rattle.el_outside.specs.Devices as device
 use Rattle.el_outside.specs.Devices.{Device, link, archive, disk, failures, faults, Rose}
 use Rattle.el_outside.specs.Files.{AllGrow, IsFile}
 use Rattle.el_outside.specs.declared.archive.Archive as archives
@@ -11,27 +11,27 @@ use Rattle.el_chain.specs.declared.moves.MoveFault.{MoveFault}
 use Rattle.el_chain.specs.declared.moves.MoveFault.TheVariants as stop
 use Rattle.el_chain.specs.declared.moves.Plan.{Plan}
 use Rattle.el_chain.specs.Chains.{Chain}
-use Rattle.el_chain.specs.Moves.{InFlight, IsRefused, Moves, target, shorter, max_forward, max_back}
-use Rattle.el_model.specs.Flights.{IsUnderWay, before, in_move}
-use Rattle.el_model.specs.LedgerCalls.{Asked, CrashLeaves, Moved}
-use Rattle.el_model.specs.Lines.{line}
-use Rattle.el_model.specs.NodeAnswers.{at_answer, archive_refused, line_refused}
-use Rattle.el_model.specs.NodeLines as line_said
-use Rattle.el_model.specs.NodeLines.{NodeLine, ReadsNodeLine}
-use Rattle.el_model.specs.Plans.{back_of, rest_of, IsMoving, left_of, plan_of}
-use Rattle.el_model.specs.Queries.{tip_of, height_of}
-use Rattle.el_model.specs.Side as side_of
-use Rattle.el_model.specs.Side.{Side, GoesAlong, IsSaid, Looks, Moving, Orders, OrdersLine, found_answer, found_after}
+use Rattle.el_chain.specs.Moves.{max_back}
+use Rattle.el_world.specs.Flights.{IsUnderWay, before, in_move}
+use Rattle.el_model.specs.LedgerCalls.{Asked, Moved}
+use Rattle.el_lines.specs.Lines.{line}
+use Rattle.el_lines.specs.NodeAnswers.{archive_refused, line_refused}
+use Rattle.el_lines.specs.NodeLines as line_said
+use Rattle.el_lines.specs.NodeLines.{NodeLine, ReadsNodeLine}
+use Rattle.el_world.specs.Plans.{back_of, rest_of, IsMoving, plan_of}
+use Rattle.el_world.specs.Side as side_of
+use Rattle.el_world.specs.Side.{Side, GoesAlong, IsSaid, Looks, Moving, Orders, OrdersLine, found_answer, found_after}
 use Rattle.el_model.specs.declared.ledger.Ledger as ledgers
 use Rattle.el_model.proofs.LedgerMoves.{LeavesOwn, asked_then, moved_then}
-use Rattle.el_model.specs.NodeSteps.{IsAt, Leads}
-use Rattle.el_sync.specs.Steps.{IsFrom, NodeStep, RoseWith, StopsAt}
-use Rattle.el_sync.specs.within.Parts.{IsPathMove, Looked, SaysRefusal}
+use Rattle.el_mempool.specs.Standing.{PoolState, StandsFor}
+use Rattle.el_methods.specs.declared.holdings.Holdings.{Holdings}
+use Rattle.el_world.specs.NodeSteps.{IsAt, Leads, SetStands}
+use Rattle.el_sync.specs.Steps.{IsFrom, NodeStep, RoseWith, StopsAt, by_disk, by_memory, untold}
+use Rattle.el_sync.specs.within.Parts.{IsPathMove, Looked, SaysRefusal, StandsAfter}
 use Rattle.el_sync.specs.declared.fault.StepFault.{StepFault}
 use Rattle.el_sync.specs.declared.fault.StepFault.TheVariants as fault
 use Rattle.el_sync.specs.declared.moving.Step.{Step}
-use Rattle.el_sync.specs.declared.sources.Sources.{Sources}
-use Rattle.el_sync.proofs.Lists.{rose_still}
+use Rattle.el_outside.proofs.Devices.{rose_still, rose_of}
 
 -- ---- block files that only grow
 
@@ -55,148 +55,96 @@ pub if_err_map : {T E : Type 0} (r : Result T E) (P Q : E → Type 0) → ((x : 
 if_err_map (Ok x) P Q f h = tt
 if_err_map (Err e) P Q f h = f e h
 
+pub memory_of : {T : Type 0} (r : Result T StepFault) (e : StepFault) → r ≡ Err e → e ≡ fault.Memory → IfErr r (λ x. x ≡ fault.Memory)
+memory_of r e is memory = rw is memory
+
 -- a fault that is told has not come of the ledger's device
 pub not_disk : (e : MoveFault) (text : List ℕ) → SaysRefusal e text → e ≡ stop.DiskFailed → ⊥
 not_disk e text says is = let h = rw is at says in h
 
--- failures of the block files and of the ledger's device alone
-all_rose : (of_link archive_before archive_after disk_before disk_after : ℕ) (losses : List Device) → failures link losses ≡ 0 → RoseBy archive_before archive_after (failures archive losses)
-    → RoseBy disk_before disk_after (failures disk losses) → Rose (faults of_link archive_before disk_before) (faults of_link archive_after disk_after) losses
-all_rose of_link archive_before archive_after disk_before disk_after losses no_link by_archive by_disk link = rw no_link (rose_still of_link of_link refl)
-all_rose of_link archive_before archive_after disk_before disk_after losses no_link by_archive by_disk archive = by_archive
-all_rose of_link archive_before archive_after disk_before disk_after losses no_link by_archive by_disk disk = by_disk
+-- the set of a side that has left nothing to do stands over its chain
+pub stands_there : (pool : PoolState) (side : Side) → SetStands pool side → side.ahead ≡ [] → StandsFor pool.entries side.chain side.kept
+stands_there pool side set still = rw (set.still still) at set.stood
+
+-- what a line says, after which other transactions are kept
+pub said_after : {tells : Type 0} (pool : PoolState) (side : Side) (text bytes : List ℕ) (said : NodeLine) (losses : List Device) → ReadsNodeLine bytes said
+    → StandsAfter pool side (Orders tells side (Some said) text losses) → StandsAfter pool side (OrdersLine tells side (line bytes) text losses)
+said_after pool side text bytes said losses reads after = record { kept = after.kept; done = (Some said, reads, after.done); stood = after.stood }
 
 module _ {G A : Type 0} (of_ledger : ledgers.Ghosts G) (of_files : archives.Ghosts A) where
   -- ---- steps that are done
 
   -- a line that is only answered
-  pub answered : (old new : G) (a b : A) (side : Side) (leads : List ℕ → List Device → Side → Type 0) (text : List ℕ) (found left : List Node)
-      → IsAt of_ledger of_files old a side → side.ahead ≡ [] → leads text [] side → found ≡ side.found → left ≡ [] → (of_files.tells → AllGrow (of_files.bytes a) (of_files.bytes b))
+  pub answered : (old new : G) (a b : A) (side : Side) (pool : PoolState) (leads : List ℕ → List Device → Side → Type 0) (text : List ℕ) (found left : List Node)
+      → IsAt of_ledger of_files old pool a side → side.ahead ≡ [] → leads text [] side → found ≡ side.found → left ≡ [] → (of_files.tells → AllGrow (of_files.bytes a) (of_files.bytes b))
       → Moved of_ledger old new side.chain side.chain → of_files.faults b ≡ of_files.faults a → of_ledger.faults new ≡ of_ledger.faults old
-      → Leads of_ledger of_files leads old new a b side text found left
-  answered old new a b side leads text found left at still led same none grows moved files_same disk_same = record {
+      → Leads of_ledger of_files leads old new a b side text found left pool
+  answered old new a b side pool leads text found left at still led same none grows moved files_same disk_same = record {
     losses = [];
     next = side;
     led = led;
     found_is = same;
     ahead_is = none ∙ sym still;
     magic_is = refl;
+    set = at.set;
     moved = moved;
     told = λ t. grows_on side.files (of_files.bytes a) (of_files.bytes b) (at.told t) (grows t);
-    rose = λ of_link. all_rose of_link _ _ _ _ [] refl (rose_still _ _ files_same) (rose_still _ _ disk_same);
+    rose = λ of_link. rose_of of_link _ _ _ _ [] refl (rose_still _ _ files_same) (rose_still _ _ disk_same);
   }
 
-  -- a move that is done; P is what else is known of its blocks
-  pub committed : (old new : G) (a b : A) (side : Side) (back : ℕ) (rest forward left : List Node) (tip : Option Hash32) (height : Option ℕ) (text : List ℕ) (P : Chain → Type 0)
-      → IsAt of_ledger of_files old a side → (of_files.tells → AllGrow (of_files.bytes a) (of_files.bytes b))
-      → (blocks : Chain) × Moves of_files.tells (of_files.bytes b) side.chain (record { back = back; forward = forward }) blocks
-      × of_ledger.stands new (target (record { back = back; forward = forward }) side.chain blocks) × P blocks
-      × CrashLeaves of_ledger old new side.chain (target (record { back = back; forward = forward }) side.chain blocks)
-      → forward ≡ take max_forward rest → ((c : Chain) → of_ledger.stands new c → tip ≡ tip_of c) → ((c : Chain) → of_ledger.stands new c → height ≡ height_of c)
-      → left ≡ left_of rest → text ≡ at_answer tip height → of_files.faults b ≡ of_files.faults a → of_ledger.faults new ≡ of_ledger.faults old
-      → Leads of_ledger of_files (Moving of_files.tells side back rest) old new a b side text side.found left
-  committed old new a b side back rest forward left tip height text P at grows moved is tip_is height_is left_is text_is files_same disk_same = record {
+  -- one after which other transactions are kept
+  pub kept_leads : (old new : G) (a : A) (side : Side) (pool pool_new : PoolState) (leads : List ℕ → List Device → Side → Type 0) (text said : List ℕ) (found left : List Node)
+      → IsAt of_ledger of_files old pool a side → side.ahead ≡ [] → StandsAfter pool_new side (leads text []) → said ≡ text → found ≡ side.found → left ≡ [] → pool_new.limits ≡ pool.limits
+      → Moved of_ledger old new side.chain side.chain → of_ledger.faults new ≡ of_ledger.faults old
+      → Leads of_ledger of_files leads old new a a side said found left pool_new
+  kept_leads old new a side pool pool_new leads text said found left at still after says same none limits moved disk_same = record {
     losses = [];
-    next = record side { chain = shorter back side.chain ++ moved.0; ahead = left_of rest; files = of_files.bytes b };
-    led = side_of.commits (of_files.bytes b) moved.0 (λ t. grows_on side.files (of_files.bytes a) (of_files.bytes b) (at.told t) (grows t)) (rw is at moved.1) refl
-        (rw (← tip_is (shorter back side.chain ++ moved.0) moved.2, ← height_is (shorter back side.chain ++ moved.0) moved.2) text_is) refl;
-    found_is = refl;
-    ahead_is = left_is;
+    next = record side { kept = after.kept };
+    led = rw says after.done;
+    found_is = same;
+    ahead_is = none ∙ sym still;
     magic_is = refl;
-    moved = record { stood = moved.2; crash = moved.4 };
-    told = λ t. all_grow_self (of_files.bytes b);
-    rose = λ of_link. all_rose of_link _ _ _ _ [] refl (rose_still _ _ files_same) (rose_still _ _ disk_same);
-  }
-
-  -- one that is refused for its blocks
-  pub refused : (old new : G) (a b : A) (side : Side) (back : ℕ) (rest left : List Node) (e : MoveFault) (text : List ℕ)
-      → IsAt of_ledger of_files old a side → (of_files.tells → AllGrow (of_files.bytes a) (of_files.bytes b)) → Moved of_ledger old new side.chain side.chain
-      → left ≡ [] → of_files.faults b ≡ of_files.faults a → of_ledger.faults new ≡ of_ledger.faults old
-      → ((files : ℕ → List ℕ) (losses : List Device) (next : Side) → (of_files.tells → AllGrow side.files files) → files ≡ of_files.bytes b
-      → next ≡ record side { ahead = []; files = files } → losses ≡ [] → Moving of_files.tells side back rest text losses next)
-      → Leads of_ledger of_files (Moving of_files.tells side back rest) old new a b side text side.found left
-  refused old new a b side back rest left e text at grows moved none files_same disk_same leads = record {
-    losses = [];
-    next = record side { ahead = []; files = of_files.bytes b };
-    led = leads (of_files.bytes b) [] _ (λ t. grows_on side.files (of_files.bytes a) (of_files.bytes b) (at.told t) (grows t)) refl refl refl;
-    found_is = refl;
-    ahead_is = none;
-    magic_is = refl;
+    set = record { before = side.chain; stood = after.stood; still = λ e. refl; limits = limits ∙ at.set.limits };
     moved = moved;
-    told = λ t. all_grow_self (of_files.bytes b);
-    rose = λ of_link. all_rose of_link _ _ _ _ [] refl (rose_still _ _ files_same) (rose_still _ _ disk_same);
+    told = at.told;
+    rose = λ of_link. rose_of of_link _ _ _ _ [] refl (rose_still _ _ refl) (rose_still _ _ disk_same);
   }
-
-  -- and one in which the block files failed
-  pub failed : (old new : G) (a b : A) (side : Side) (back : ℕ) (rest left : List Node) (text : List ℕ)
-      → IsAt of_ledger of_files old a side → (of_files.tells → AllGrow (of_files.bytes a) (of_files.bytes b)) → Moved of_ledger old new side.chain side.chain
-      → left ≡ [] → text ≡ archive_refused → RoseBy (of_files.faults a) (of_files.faults b) 1 → of_ledger.faults new ≡ of_ledger.faults old
-      → Leads of_ledger of_files (Moving of_files.tells side back rest) old new a b side text side.found left
-  failed old new a b side back rest left text at grows moved none says rose disk_same = record {
-    losses = archive ∷ [];
-    next = record side { ahead = []; files = of_files.bytes b };
-    led = side_of.fails (of_files.bytes b) (λ t. grows_on side.files (of_files.bytes a) (of_files.bytes b) (at.told t) (grows t)) says refl refl;
-    found_is = refl;
-    ahead_is = none;
-    magic_is = refl;
-    moved = moved;
-    told = λ t. all_grow_self (of_files.bytes b);
-    rose = λ of_link. all_rose of_link _ _ _ _ (archive ∷ []) refl (rose) (rose_still _ _ disk_same);
-  }
-
-  pub not_moved : (old new : G) (a b : A) (side : Side) (back : ℕ) (rest forward left : List Node) (e : MoveFault) (text : List ℕ)
-      → IsAt of_ledger of_files old a side → (of_files.tells → AllGrow (of_files.bytes a) (of_files.bytes b)) → Moved of_ledger old new side.chain side.chain
-      → IsRefused of_files.tells (of_files.bytes b) side.chain (record { back = back; forward = forward }) e → forward ≡ take max_forward rest → left ≡ []
-      → (e ≡ stop.ArchiveFailed → RoseBy (of_files.faults a) (of_files.faults b) 1) → ((e ≡ stop.ArchiveFailed → ⊥) → of_files.faults b ≡ of_files.faults a)
-      → of_ledger.faults new ≡ of_ledger.faults old → SaysRefusal e text
-      → Leads of_ledger of_files (Moving of_files.tells side back rest) old new a b side text side.found left
-  not_moved old new a b side back rest forward left stop.DiskFailed text at grows moved why is none count still disk_same says = absurd says
-  not_moved old new a b side back rest forward left stop.Memory text at grows moved why is none count still disk_same says = absurd says
-  not_moved old new a b side back rest forward left stop.ArchiveFailed text at grows moved why is none count still disk_same says =
-      failed old new a b side back rest left text at grows moved none says (count refl) disk_same
-  not_moved old new a b side back rest forward left (stop.Changed w f) text at grows moved why is none count still disk_same says =
-      refused old new a b side back rest left (stop.Changed w f) text at grows moved none (still (λ e. let bad = e in cc)) disk_same
-      (λ files losses next g now after lost. side_of.refuses files (stop.Changed w f) g says (rw (now, ← is) why) after lost)
-  not_moved old new a b side back rest forward left (stop.BadBlock h f) text at grows moved why is none count still disk_same says =
-      refused old new a b side back rest left (stop.BadBlock h f) text at grows moved none (still (λ e. let bad = e in cc)) disk_same
-      (λ files losses next g now after lost. side_of.refuses files (stop.BadBlock h f) g says (rw (now, ← is) why) after lost)
-  not_moved old new a b side back rest forward left (stop.Refused h f) text at grows moved why is none count still disk_same says =
-      refused old new a b side back rest left (stop.Refused h f) text at grows moved none (still (λ e. let bad = e in cc)) disk_same
-      (λ files losses next g now after lost. side_of.refuses files (stop.Refused h f) g says (rw (now, ← is) why) after lost)
 
   -- what a step leads to it leads to in other words
-  pub leads_as : (old new : G) (a b : A) (side : Side) (P Q : List ℕ → List Device → Side → Type 0) (text : List ℕ) (found left : List Node)
-      → ((losses : List Device) (next : Side) → P text losses next → Q text losses next) → Leads of_ledger of_files P old new a b side text found left
-      → Leads of_ledger of_files Q old new a b side text found left
-  leads_as old new a b side P Q text found left says l = record {
+  pub leads_as : (old new : G) (a b : A) (side : Side) (P Q : List ℕ → List Device → Side → Type 0) (text : List ℕ) (found left : List Node) (pool : PoolState)
+      → ((losses : List Device) (next : Side) → P text losses next → Q text losses next) → Leads of_ledger of_files P old new a b side text found left pool
+      → Leads of_ledger of_files Q old new a b side text found left pool
+  leads_as old new a b side P Q text found left pool says l = record {
     losses = l.losses;
     next = l.next;
     led = says l.losses l.next l.led;
     found_is = l.found_is;
     ahead_is = l.ahead_is;
     magic_is = l.magic_is;
+    set = l.set;
     moved = l.moved;
     told = l.told;
     rose = l.rose;
   }
 
   -- also where the found headers have another name
-  pub leads_in : (old new : G) (a b : A) (side : Side) (P Q : List ℕ → List Device → Side → Type 0) (text : List ℕ) (found tree left : List Node) → found ≡ tree
-      → ((losses : List Device) (next : Side) → P text losses next → Q text losses next) → Leads of_ledger of_files P old new a b side text found left
-      → Leads of_ledger of_files Q old new a b side text tree left
-  leads_in old new a b side P Q text found tree left same says l = rw same at (leads_as old new a b side P Q text found left says l)
+  pub leads_in : (old new : G) (a b : A) (side : Side) (P Q : List ℕ → List Device → Side → Type 0) (text : List ℕ) (found tree left : List Node) (pool : PoolState) → found ≡ tree
+      → ((losses : List Device) (next : Side) → P text losses next → Q text losses next) → Leads of_ledger of_files P old new a b side text found left pool
+      → Leads of_ledger of_files Q old new a b side text tree left pool
+  leads_in old new a b side P Q text found tree left pool same says l = rw same at (leads_as old new a b side P Q text found left pool says l)
 
   -- a step after the ledger was asked
-  pub leads_on : (old mid new : G) (a b : A) (side : Side) (P : List ℕ → List Device → Side → Type 0) (text : List ℕ) (found left : List Node)
+  pub leads_on : (old mid new : G) (a b : A) (side : Side) (P : List ℕ → List Device → Side → Type 0) (text : List ℕ) (found left : List Node) (pool : PoolState)
       → LeavesOwn of_ledger → of_ledger.is_live old → Asked of_ledger old mid → of_ledger.faults mid ≡ of_ledger.faults old → of_ledger.stands old side.chain
-      → Leads of_ledger of_files P mid new a b side text found left → Leads of_ledger of_files P old new a b side text found left
-  leads_on old mid new a b side P text found left own live asked same stood l = record {
+      → Leads of_ledger of_files P mid new a b side text found left pool → Leads of_ledger of_files P old new a b side text found left pool
+  leads_on old mid new a b side P text found left pool own live asked same stood l = record {
     losses = l.losses;
     next = l.next;
     led = l.led;
     found_is = l.found_is;
     ahead_is = l.ahead_is;
     magic_is = l.magic_is;
+    set = l.set;
     moved = moved_then of_ledger old mid new side.chain l.next.chain own live asked stood l.moved;
     told = l.told;
     rose = rw same at l.rose;
@@ -210,46 +158,95 @@ module _ {G A : Type 0} (of_ledger : ledgers.Ghosts G) (of_files : archives.Ghos
 
   -- ---- steps that failed
 
-  pub still_there : {T : Type 0} (r : Result T StepFault) (old new : G) (b : A) (chain : Chain) (is_move : Plan → Type 0) → Moved of_ledger old new chain chain
-      → IfErr r (StopsAt of_ledger of_files old new b chain is_move)
-  still_there (Ok x) old new b chain is_move moved = tt
-  still_there (Err e) old new b chain is_move moved =
-      record { next = chain; flight = before refl; crash = moved.crash; still = λ m. refl; stood = λ m. moved }
+  -- one that has moved nothing
+  pub still_there : {T : Type 0} (r : Result T StepFault) (old new : G) (a b : A) (chain : Chain) (is_move : Plan → Type 0) → Moved of_ledger old new chain chain
+      → IfErr r (λ e. RoseWith false e (λ n. RoseBy (of_files.faults a) (of_files.faults b) n)) → CountsOnly (of_ledger.faults old) (of_ledger.faults new) fault.DiskFailed r
+      → IfErr r (StopsAt of_ledger of_files old new a b chain false is_move)
+  still_there (Ok x) old new a b chain is_move moved files counts = tt
+  still_there (Err fault.DiskFailed) old new a b chain is_move moved (inr one) counts = absurd (let bad = one.0 in cc)
+  still_there (Err fault.DiskFailed) old new a b chain is_move moved (inl none) counts = record {
+    next = chain;
+    flight = before refl;
+    crash = moved.crash;
+    stood = λ m. moved;
+    losses = device.disk ∷ [];
+    fails = by_disk refl refl;
+    rose = λ of_link. rose_of of_link _ _ _ _ (device.disk ∷ []) refl none (counts.counted refl);
+  }
+  still_there (Err fault.Memory) old new a b chain is_move moved (inl none) counts = record {
+    next = chain;
+    flight = before refl;
+    crash = moved.crash;
+    stood = λ m. moved;
+    losses = [];
+    fails = by_memory refl refl;
+    rose = λ of_link. rose_of of_link _ _ _ _ [] refl none (rose_still _ _ (counts.others_uncounted (λ e. let bad = e in cc)));
+  }
+  still_there (Err fault.Memory) old new a b chain is_move moved (inr one) counts = record {
+    next = chain;
+    flight = before refl;
+    crash = moved.crash;
+    stood = λ m. moved;
+    losses = archive ∷ [];
+    fails = untold refl refl refl;
+    rose = λ of_link. rose_of of_link _ _ _ _ (archive ∷ []) refl one (rose_still _ _ (counts.others_uncounted (λ e. let bad = e in cc)));
+  }
 
-  -- the ledger's device failed in a move, or no memory was found to tell of its refusal
-  pub broke : {T : Type 0} (r : Result T StepFault) (old new : G) (b : A) (chain : Chain) (back : ℕ) (rest forward : List Node) (e : StepFault) → r ≡ Err e → forward ≡ take max_forward rest
-      → (e ≡ fault.DiskFailed → (next : Chain) × InFlight of_files.tells (of_files.bytes b) chain (record { back = back; forward = forward }) next
-      × CrashLeaves of_ledger old new chain next)
-      → (e ≡ fault.Memory → Moved of_ledger old new chain chain)
-      → IfErr r (StopsAt of_ledger of_files old new b chain (λ (p : Plan). p ≡ plan_of back rest))
-  broke r old new b chain back rest forward fault.Memory is front broken moved = still_there r old new b chain _ (moved refl)
-  broke r old new b chain back rest forward fault.DiskFailed is front broken moved =
-      let f = broken refl in
-      rw is (record {
-        next = f.0;
-        flight = in_move (plan_of back rest) refl (rw front at f.1);
-        crash = f.2;
-        still = λ m. absurd cc;
-        stood = λ m. absurd cc;
-      })
+  -- no memory was found, and no device of the ledger failed
+  pub starved : {T : Type 0} (r : Result T StepFault) (old new : G) (a b : A) (chain : Chain) (is_move : Plan → Type 0) → Moved of_ledger old new chain chain → IfErr r (λ e. e ≡ fault.Memory)
+      → RoseBy (of_files.faults a) (of_files.faults b) 0 ⊎ RoseBy (of_files.faults a) (of_files.faults b) 1 → of_ledger.faults new ≡ of_ledger.faults old
+      → IfErr r (StopsAt of_ledger of_files old new a b chain false is_move)
+  starved (Ok x) old new a b chain is_move moved memory rose same = tt
+  starved (Err fault.DiskFailed) old new a b chain is_move moved memory rose same = absurd (let bad = memory in cc)
+  starved {T} (Err fault.Memory) old new a b chain is_move moved memory rose same =
+      still_there {T = T} (Err fault.Memory) old new a b chain is_move moved rose (record { counted = λ e. absurd (let bad = e in cc); uncounted = tt; others_uncounted = λ other. same })
+
+  -- the same where the block files weren't used
+  pub starved_still : {T : Type 0} (r : Result T StepFault) (old new : G) (a : A) (chain : Chain) (is_move : Plan → Type 0) → Moved of_ledger old new chain chain → IfErr r (λ e. e ≡ fault.Memory)
+      → of_ledger.faults new ≡ of_ledger.faults old → IfErr r (StopsAt of_ledger of_files old new a a chain false is_move)
+  starved_still r old new a chain is_move moved memory same = starved r old new a a chain is_move moved memory (inl (rose_still _ _ refl)) same
+
+  -- a call of the ledger failed, and the block files weren't used
+  pub asked_stops : {T : Type 0} (r : Result T StepFault) (e : StepFault) (old new : G) (a : A) (chain : Chain) (is_move : Plan → Type 0) → r ≡ Err e → Moved of_ledger old new chain chain
+      → (e ≡ fault.DiskFailed → RoseBy (of_ledger.faults old) (of_ledger.faults new) 1) → (e ≢ fault.DiskFailed → of_ledger.faults new ≡ of_ledger.faults old)
+      → IfErr r (StopsAt of_ledger of_files old new a a chain false is_move)
+  asked_stops {T} r e old new a chain is_move is moved counted others =
+      rw is (still_there {T = T} (Err e) old new a a chain is_move moved (by e) (record { counted = λ bad. counted (same_fault e fault.DiskFailed bad); uncounted = tt; others_uncounted = others }))
+    where
+      same_fault : (x y : StepFault) → ◌≡◌ {A = Result T StepFault} (Err x) (Err y) → x ≡ y
+      same_fault x y m = cc
+
+      by : (e : StepFault) → RoseWith false e (λ n. RoseBy (of_files.faults a) (of_files.faults a) n)
+      by fault.DiskFailed = inl (rose_still _ _ refl)
+      by fault.Memory = inl (rose_still _ _ refl)
 
   -- the move is one of more
-  pub stops_as : (old new : G) (b : A) (chain : Chain) (P Q : Plan → Type 0) (e : StepFault) → ((p : Plan) → P p → Q p) → StopsAt of_ledger of_files old new b chain P e
-      → StopsAt of_ledger of_files old new b chain Q e
-  stops_as old new b chain P Q e gives s = record { next = s.next; flight = by s.next s.flight; crash = s.crash; still = s.still; stood = s.stood }
+  pub stops_as : (old new : G) (a b : A) (chain : Chain) (later : Bool) (P Q : Plan → Type 0) (e : StepFault) → ((p : Plan) → P p → Q p)
+      → StopsAt of_ledger of_files old new a b chain later P e → StopsAt of_ledger of_files old new a b chain later Q e
+  stops_as old new a b chain later P Q e gives s = record {
+    next = s.next;
+    flight = by s.next s.flight;
+    crash = s.crash;
+    stood = s.stood;
+    losses = s.losses;
+    fails = s.fails;
+    rose = s.rose;
+  }
     where
       by : (next : Chain) → IsUnderWay of_files.tells (of_files.bytes b) chain P next → IsUnderWay of_files.tells (of_files.bytes b) chain Q next
       by next (before is) = before is
       by next (in_move p is flight) = in_move p (gives p is) flight
 
-  pub stops_on : (old mid new : G) (b : A) (chain : Chain) (P : Plan → Type 0) (e : StepFault) → LeavesOwn of_ledger → of_ledger.is_live old → Asked of_ledger old mid
-      → of_ledger.stands old chain → StopsAt of_ledger of_files mid new b chain P e → StopsAt of_ledger of_files old new b chain P e
-  stops_on old mid new b chain P e own live asked stood s = record {
+  pub stops_on : (old mid new : G) (a b : A) (chain : Chain) (later : Bool) (P : Plan → Type 0) (e : StepFault) → LeavesOwn of_ledger → of_ledger.is_live old → Asked of_ledger old mid
+      → of_ledger.faults mid ≡ of_ledger.faults old → of_ledger.stands old chain → StopsAt of_ledger of_files mid new a b chain later P e → StopsAt of_ledger of_files old new a b chain later P e
+  stops_on old mid new a b chain later P e own live asked same stood s = record {
     next = s.next;
     flight = s.flight;
     crash = asked_then of_ledger old mid new chain s.next own live asked stood s.crash;
-    still = s.still;
-    stood = λ m. moved_then of_ledger old mid new chain chain own live asked stood (s.stood m);
+    stood = λ m. moved_then of_ledger old mid new chain s.next own live asked stood (s.stood m);
+    losses = s.losses;
+    fails = s.fails;
+    rose = rw same at s.rose;
   }
 
 -- the plan of a path's first move
@@ -261,11 +258,11 @@ path_move chain path rest back p few is rest_is moving plan =
 -- ---- a place that is looked at
 
 module _ {A : Type 0} (of_files : archives.Ghosts A) where
-  pub place_looked : (a b : A) (sources : Sources) (side : Side) (file at : ℕ) (node : Option Node) (text : List ℕ) (tree : List Node) → IsFrom sources side
+  pub place_looked : (a b : A) (holdings : Holdings) (side : Side) (file at : ℕ) (node : Option Node) (text : List ℕ) (tree : List Node) → IsFrom holdings side
       → (of_files.tells → AllGrow side.files (of_files.bytes a)) → (of_files.tells → AllGrow (of_files.bytes a) (of_files.bytes b))
-      → side_of.LooksUp of_files.tells (record side { files = of_files.bytes a }) file at node (of_files.bytes b) → tree ≡ found_after sources.tree node
-      → text ≡ found_answer sources.tree node → of_files.faults b ≡ of_files.faults a → Looked of_files a b side file at text tree
-  place_looked a b sources side file at node text tree from told grows up joined says same = record {
+      → side_of.LooksUp of_files.tells (record side { files = of_files.bytes a }) file at node (of_files.bytes b) → tree ≡ found_after holdings.tree node
+      → text ≡ found_answer holdings.tree node → of_files.faults b ≡ of_files.faults a → Looked of_files a b side file at text tree
+  place_looked a b holdings side file at node text tree from told grows up joined says same = record {
     losses = [];
     looks = side_of.looks node (of_files.bytes b)
         (record {
@@ -281,10 +278,10 @@ module _ {A : Type 0} (of_files : archives.Ghosts A) where
     rose = rose_still _ _ same;
   }
 
-  pub place_failed : (a b : A) (sources : Sources) (side : Side) (file at : ℕ) (text : List ℕ) (tree : List Node) → IsFrom sources side
-      → (of_files.tells → AllGrow side.files (of_files.bytes a)) → (of_files.tells → AllGrow (of_files.bytes a) (of_files.bytes b)) → tree ≡ sources.tree → text ≡ archive_refused
+  pub place_failed : (a b : A) (holdings : Holdings) (side : Side) (file at : ℕ) (text : List ℕ) (tree : List Node) → IsFrom holdings side
+      → (of_files.tells → AllGrow side.files (of_files.bytes a)) → (of_files.tells → AllGrow (of_files.bytes a) (of_files.bytes b)) → tree ≡ holdings.tree → text ≡ archive_refused
       → RoseBy (of_files.faults a) (of_files.faults b) 1 → Looked of_files a b side file at text tree
-  place_failed a b sources side file at text tree from told grows same says rose = record {
+  place_failed a b holdings side file at text tree from told grows same says rose = record {
     losses = archive ∷ [];
     looks = side_of.fails (of_files.bytes b) (λ t. grows_on side.files (of_files.bytes a) (of_files.bytes b) (told t) (grows t)) says
         (ap (λ (found : List Node). record side { found = found; files = of_files.bytes b }) (same ∙ sym from.found)) refl;
@@ -295,19 +292,20 @@ module _ {A : Type 0} (of_files : archives.Ghosts A) where
 
 module _ {G A : Type 0} (of_ledger : ledgers.Ghosts G) (of_files : archives.Ghosts A) where
   -- a line that tells a place
-  pub block_leads : (l : G) (a b : A) (side : Side) (bytes : List ℕ) (file at : ℕ) (text said : List ℕ) (tree left : List Node) → IsAt of_ledger of_files l a side → side.ahead ≡ []
+  pub block_leads : (l : G) (a b : A) (side : Side) (pool : PoolState) (bytes : List ℕ) (file at : ℕ) (text said : List ℕ) (tree left : List Node) → IsAt of_ledger of_files l pool a side → side.ahead ≡ []
       → ReadsNodeLine bytes (line_said.block file at) → Looked of_files a b side file at text tree → said ≡ text → left ≡ [] → Moved of_ledger l l side.chain side.chain
-      → Leads of_ledger of_files (OrdersLine of_files.tells side (line bytes)) l l a b side said tree left
-  block_leads l a b side bytes file at text said tree left here still reads looked says none moved = record {
+      → Leads of_ledger of_files (OrdersLine of_files.tells side (line bytes)) l l a b side said tree left pool
+  block_leads l a b side pool bytes file at text said tree left here still reads looked says none moved = record {
     losses = looked.losses;
     next = record side { found = tree; files = of_files.bytes b };
     led = (Some (line_said.block file at), reads, rw says looked.looks);
     magic_is = refl;
     found_is = refl;
     ahead_is = none ∙ sym still;
+    set = record { before = side.chain; stood = stands_there pool side here.set still; still = λ e. refl; limits = here.set.limits };
     moved = moved;
     told = λ t. all_grow_self (of_files.bytes b);
-    rose = λ of_link. all_rose of_link _ _ _ _ looked.losses (archive_alone link looked.looks (λ e. cc)) looked.rose
+    rose = λ of_link. rose_of of_link _ _ _ _ looked.losses (archive_alone link looked.looks (λ e. cc)) looked.rose
         (rw (archive_alone disk looked.looks (λ e. cc)) (rose_still _ _ refl));
   }
     where
@@ -318,12 +316,12 @@ module _ {G A : Type 0} (of_ledger : ledgers.Ghosts G) (of_files : archives.Ghos
       archive_alone archive (side_of.fails files g says' is lost) other = absurd (other refl)
 
   -- one that is refused as none of a node: it says nothing, or something that is refused
-  pub refused_leads : (r : Result Step StepFault) (l : G) (a : A) (side : Side) (bytes : List ℕ) (said : Option NodeLine) (tree : List Node) → IsAt of_ledger of_files l a side → side.ahead ≡ []
+  pub refused_leads : (r : Result Step StepFault) (l : G) (a : A) (side : Side) (pool : PoolState) (bytes : List ℕ) (said : Option NodeLine) (tree : List Node) → IsAt of_ledger of_files l pool a side → side.ahead ≡ []
       → side.found ≡ tree → IsSaid bytes said → ((text : List ℕ) → text ≡ line_refused → Orders of_files.tells side said text [] side) → IfOk r (λ s. s.text ≡ line_refused) → IfOk r (λ s. s.left ≡ [])
-      → Moved of_ledger l l side.chain side.chain → IfOk r (λ s. Leads of_ledger of_files (OrdersLine of_files.tells side (line bytes)) l l a a side s.text tree s.left)
-  refused_leads (Err e) l a side bytes said tree here still same is orders says none moved = tt
-  refused_leads (Ok s) l a side bytes said tree here still same is orders says none moved =
-      answered of_ledger of_files l l a a side (OrdersLine of_files.tells side (line bytes)) s.text tree s.left here still (said, is, orders s.text says) (sym same) none
+      → Moved of_ledger l l side.chain side.chain → IfOk r (λ s. Leads of_ledger of_files (OrdersLine of_files.tells side (line bytes)) l l a a side s.text tree s.left pool)
+  refused_leads (Err e) l a side pool bytes said tree here still same is orders says none moved = tt
+  refused_leads (Ok s) l a side pool bytes said tree here still same is orders says none moved =
+      answered of_ledger of_files l l a a side pool (OrdersLine of_files.tells side (line bytes)) s.text tree s.left here still (said, is, orders s.text says) (sym same) none
       (λ t. all_grow_self (of_files.bytes a)) moved refl refl
 
 -- ---- what every step keeps
@@ -331,8 +329,8 @@ module _ {G A : Type 0} (of_ledger : ledgers.Ghosts G) (of_files : archives.Ghos
 module _ {G A : Type 0} (of_ledger : ledgers.Ghosts G) (of_files : archives.Ghosts A) where
   -- a step that didn't use the ledger
   pub step_still : (r : Result Step StepFault) (l : G) (a b : A) → of_ledger.is_live l → IfOk r (λ s. s.left ≡ []) → (of_files.tells → AllGrow (of_files.bytes a) (of_files.bytes b))
-      → of_files.faults a ≤ of_files.faults b → IfErr r (λ e. RoseWith e (λ n. RoseBy (of_files.faults a) (of_files.faults b) n)) → IfErr r (λ e. e ≡ fault.Memory)
-      → NodeStep of_ledger of_files l l a b r
+      → of_files.faults a ≤ of_files.faults b → IfErr r (λ e. RoseWith false e (λ n. RoseBy (of_files.faults a) (of_files.faults b) n)) → IfErr r (λ e. e ≡ fault.Memory)
+      → NodeStep of_ledger of_files l l a b false r
   step_still (Ok s) l a b live none grows more rose memory = record {
     live = live;
     still_live = λ e. live;
@@ -360,7 +358,7 @@ module _ {G A : Type 0} (of_ledger : ledgers.Ghosts G) (of_files : archives.Ghos
 
   -- one that asked it, and then only answered
   pub step_asked : (s : Step) (old new : G) (a : A) → of_ledger.is_live old → Asked of_ledger old new → s.left ≡ [] → of_ledger.faults new ≡ of_ledger.faults old
-      → NodeStep of_ledger of_files old new a a (Ok s)
+      → NodeStep of_ledger of_files old new a a false (Ok s)
   step_asked s old new a live asked none same = record {
     live = asked.stays.still_live live;
     still_live = λ e. asked.stays.still_live live;
@@ -375,7 +373,7 @@ module _ {G A : Type 0} (of_ledger : ledgers.Ghosts G) (of_files : archives.Ghos
   -- or failed
   pub step_unmoved : (r : Result Step StepFault) (e : StepFault) (old new : G) (a : A) → r ≡ Err e → of_ledger.is_live old → Asked of_ledger old new
       → (e ≡ fault.DiskFailed → RoseBy (of_ledger.faults old) (of_ledger.faults new) 1) → ((e ≡ fault.DiskFailed → ⊥) → of_ledger.faults new ≡ of_ledger.faults old)
-      → NodeStep of_ledger of_files old new a a r
+      → NodeStep of_ledger of_files old new a a false r
   step_unmoved r e old new a is live asked counted others = rw is (record {
     live = tt;
     still_live = λ m. asked.stays.still_live live;
@@ -390,13 +388,13 @@ module _ {G A : Type 0} (of_ledger : ledgers.Ghosts G) (of_files : archives.Ghos
       same_fault : (x y : StepFault) → ◌≡◌ {A = Result Step StepFault} (Err x) (Err y) → x ≡ y
       same_fault x y m = cc
 
-      rose : (x : StepFault) → RoseWith x (λ n. RoseBy (of_files.faults a) (of_files.faults a) n)
-      rose fault.DiskFailed = rose_still _ _ refl
+      rose : (x : StepFault) → RoseWith false x (λ n. RoseBy (of_files.faults a) (of_files.faults a) n)
+      rose fault.DiskFailed = inl (rose_still _ _ refl)
       rose fault.Memory = inl (rose_still _ _ refl)
 
   -- a step after the ledger was asked
-  pub step_on : (old mid new : G) (a b : A) (r : Result Step StepFault) → of_ledger.faults mid ≡ of_ledger.faults old → NodeStep of_ledger of_files mid new a b r
-      → NodeStep of_ledger of_files old new a b r
+  pub step_on : (old mid new : G) (a b : A) (r : Result Step StepFault) → of_ledger.faults mid ≡ of_ledger.faults old → NodeStep of_ledger of_files mid new a b false r
+      → NodeStep of_ledger of_files old new a b false r
   step_on old mid new a b r same n = record {
     live = n.live;
     still_live = n.still_live;

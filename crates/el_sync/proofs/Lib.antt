@@ -1,3 +1,5 @@
 pub mod Lists
 pub mod Compared
 pub mod Led
+pub mod Pooled
+pub mod Tried

@@ -4,12 +4,11 @@ use Rattle.std.proofs.lemmas.List.{drop_all, drop-drop, length-drop}
 use Rattle.std.specs.Prelude.{min}
 use Rattle.std.specs.List.{AllByRecursion}
 use Rattle.el_base.specs.declared.hash.Hash32.{Hash32}
-use Rattle.el_outside.specs.Counts.{RoseBy}
 use Rattle.el_chain.specs.declared.node.Node.{Node}
 use Rattle.el_chain.specs.Chains.{Chain, tip, zero_hash}
 use Rattle.el_chain.specs.Headers.{AreLinked}
 use Rattle.el_chain.specs.Moves.{FitsChain, shorter, max_forward, last_hash}
-use Rattle.el_model.specs.Plans.{left_of}
+use Rattle.el_world.specs.Plans.{left_of}
 use Rattle.el_sync.specs.Steps.{named}
 
 -- the first of linked nodes are linked
@@ -76,7 +75,3 @@ left_no_more ns left is = rw is (let e = length-drop max_forward ns in omega ari
 pub none_fewer : (ns left : List Node) → left ≡ [] → (ns ≡ [] → ⊥) → length left < length ns
 none_fewer [] left is some = absurd (some refl)
 none_fewer (n ∷ ns) left is some = rw is (omega arith)
-
--- a count that stays rose by none
-pub rose_still : (a b : ℕ) → b ≡ a → RoseBy a b 0
-rose_still a b same = omega arith

@@ -1,23 +1,24 @@
 -- What a step of the node's work takes and keeps, and what it leaves where it fails. A step is a line of the
--- node, or the next move of its last tip line.
-use Rattle.std.specs.Prelude.{◌≡◌, ◌⊎◌, ◌≤◌, ℕ, [], Option, None, Some, Result, Err, IfOk, IfErr, OnOk}
+-- node, or a later move of its last tip line.
+use Rattle.std.specs.Prelude.{◌≡◌, ◌⊎◌, ◌≤◌, ℕ, Bool, true, List, [], ◌∷◌, Option, None, Some, Result, Err, IfOk, IfErr, OnOk}
 use Rattle.std.specs.List.{AllByRecursion}
 use Rattle.el_base.specs.declared.hash.Hash32.{Hash32}
 use Rattle.el_outside.specs.Counts.{RoseBy, CountsOnly}
+use Rattle.el_outside.specs.Devices.{Device, archive, disk, Rose}
 use Rattle.el_outside.specs.Files.{AllGrow}
 use Rattle.el_outside.specs.declared.archive.Archive as archives
 use Rattle.el_chain.specs.declared.moves.Plan.{Plan}
 use Rattle.el_chain.specs.Chains.{Chain, zero_hash}
 use Rattle.el_chain.specs.Headers.{AreLinked}
 use Rattle.el_chain.specs.Records.{IsNode}
-use Rattle.el_model.specs.Flights.{IsUnderWay}
-use Rattle.el_model.specs.LedgerCalls.{CrashLeaves, Moved}
-use Rattle.el_model.specs.Side.{Side}
+use Rattle.el_methods.specs.declared.holdings.Holdings.{Holdings}
+use Rattle.el_world.specs.Flights.{IsUnderWay}
+use Rattle.el_model.specs.LedgerCalls.{CrashLeaves, Moved, failed_calls}
+use Rattle.el_world.specs.Side.{Side}
 use Rattle.el_model.specs.declared.ledger.Ledger as ledgers
 use Rattle.el_sync.specs.declared.fault.StepFault.{StepFault}
 use Rattle.el_sync.specs.declared.fault.StepFault.TheVariants as fault
 use Rattle.el_sync.specs.declared.moving.Step.{Step}
-use Rattle.el_sync.specs.declared.sources.Sources.{Sources}
 
 -- the hash that a next block names, where the last block has this one
 abbrev pub named : Option Hash32 → Hash32
@@ -25,29 +26,45 @@ named None = zero_hash
 named (Some h) = h
 
 -- The headers are the side's, and its last tip line has left nothing to do: a line of the node may be taken.
-pub record IsFrom (sources : Sources) (side : Side) : Type 0 where
-  pub found : side.found ≡ sources.tree
-  pub magic : side.magic ≡ sources.magic
+pub record IsFrom (holdings : Holdings) (side : Side) : Type 0 where
+  pub found : side.found ≡ holdings.tree
+  pub magic : side.magic ≡ holdings.magic
   pub still : side.ahead ≡ []
 
--- The step failed. What a crash since its start leaves is the side's chain or the target of a move that the
--- step may make. Where no memory was found it is that chain alone, for which the ledger then stands.
+-- Why a step failed, and what the devices lost in it. Where the block files had failed before, no move was
+-- made: `next`, which a crash may leave, is the side's chain. `later` is whether the step is a later move.
+pub data FailsBy (later : Bool) (chain next : Chain) (e : StepFault) (losses : List Device) : Type 0 where
+  by_disk : e ≡ fault.DiskFailed → losses ≡ disk ∷ [] → FailsBy later chain next e losses
+  by_memory : e ≡ fault.Memory → losses ≡ [] → FailsBy later chain next e losses
+  -- no memory was found after the block files had failed
+  untold : e ≡ fault.Memory → losses ≡ archive ∷ [] → next ≡ chain → FailsBy later chain next e losses
+  -- the disk failed in the sift, after the block files had failed in the move
+  in_sift : later ≡ true → e ≡ fault.DiskFailed → losses ≡ archive ∷ disk ∷ [] → next ≡ chain
+      → FailsBy later chain next e losses
+
+-- The step failed. What a crash since its start leaves is the side's chain or `next`, the target of a move
+-- that the step may make. Where no memory was found the ledger stands for `next`, which is the side's chain
+-- or what the move has made of it before the set was sifted.
 pub record StopsAt {G A : Type 0} (of_ledger : ledgers.Ghosts G) (of_files : archives.Ghosts A) (old new : G)
-    (files_new : A) (chain : Chain) (is_move : Plan → Type 0) (e : StepFault) : Type 0 where
+    (files_old files_new : A) (chain : Chain) (later : Bool) (is_move : Plan → Type 0) (e : StepFault)
+    : Type 0 where
   pub next : Chain
   pub flight : IsUnderWay of_files.tells (of_files.bytes files_new) chain is_move next
   pub crash : CrashLeaves of_ledger old new chain next
-  pub still : e ≡ fault.Memory → next ≡ chain
-  pub stood : e ≡ fault.Memory → Moved of_ledger old new chain chain
+  pub stood : e ≡ fault.Memory → Moved of_ledger old new chain next
+  pub losses : List Device
+  pub fails : FailsBy later chain next e losses
+  pub rose : (of_link : ℕ) → Rose (failed_calls of_ledger of_files of_link old files_old)
+      (failed_calls of_ledger of_files of_link new files_new) losses
 
 -- by how much the count of the block files' failures rose where a step failed
-abbrev pub RoseWith : StepFault → (ℕ → Type 0) → Type 0
-RoseWith fault.DiskFailed rose = rose 0
-RoseWith fault.Memory rose = rose 0 ⊎ rose 1
+abbrev pub RoseWith : Bool → StepFault → (ℕ → Type 0) → Type 0
+RoseWith later fault.DiskFailed rose = rose 0 ⊎ ((later ≡ true) × rose 1)
+RoseWith later fault.Memory rose = rose 0 ⊎ rose 1
 
 -- What each step of the node's work keeps, whatever the ledger stands for.
 pub record NodeStep {G A : Type 0} (of_ledger : ledgers.Ghosts G) (of_files : archives.Ghosts A) (old new : G)
-    (files_old files_new : A) (result : Result Step StepFault) : Type 0 where
+    (files_old files_new : A) (later : Bool) (result : Result Step StepFault) : Type 0 where
   pub live : OnOk result (of_ledger.is_live new)
   pub still_live : result ≡ Err fault.Memory → of_ledger.is_live new
   -- the blocks that are still to be put in, each of which names the one before it
@@ -57,5 +74,5 @@ pub record NodeStep {G A : Type 0} (of_ledger : ledgers.Ghosts G) (of_files : ar
   pub keeps : of_files.tells → AllGrow (of_files.bytes files_old) (of_files.bytes files_new)
   pub archive_more : of_files.faults files_old ≤ of_files.faults files_new
   pub archive_rose : IfErr result (λ e.
-      RoseWith e (λ n. RoseBy (of_files.faults files_old) (of_files.faults files_new) n))
+      RoseWith later e (λ n. RoseBy (of_files.faults files_old) (of_files.faults files_new) n))
   pub disk_rose : CountsOnly (of_ledger.faults old) (of_ledger.faults new) fault.DiskFailed result

@@ -4,7 +4,8 @@ ghost use Rattle.el_base.specs.Hashing.{sha256d};
 ghost use Rattle.el_outside.specs.Counts.{CountsOnly};
 ghost use Rattle.el_chain.specs.Chains.{Chain};
 ghost use Rattle.el_model.specs.LedgerCalls.{Asked};
-ghost use Rattle.el_model.specs.Plans.{common, back_of, rest_of, IsMoving, blocks_in};
+ghost use Rattle.el_world.specs.Plans.{common, back_of, rest_of, IsMoving};
+ghost use Rattle.el_model.specs.Queries.{blocks_in};
 
 use crate::ahead::Ahead;
 use crate::fault::StepFault;

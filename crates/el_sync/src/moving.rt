@@ -1,25 +1,30 @@
-// One move of a tip line.
-ghost use Rattle.std.specs.Prelude.{◌≡◌, ◌≢◌, ◌≤◌, ◌<◌, [], IfOk, IfErr, IsErrOf, length};
+// The moves of a tip line, and the sift of the unconfirmed set that ends it.
+ghost use Rattle.std.specs.Prelude.{◌≡◌, ◌≢◌, ◌≤◌, ◌<◌, ◌==◌, ◌&&◌, ◌||◌, [], true, false, IfOk, IfErr, OnOk, OnErr, List, length};
 ghost use Rattle.std.specs.List.{AllByRecursion};
 ghost use Rattle.el_base.specs.declared.hash.Hash32 as hash_shape;
+ghost use Rattle.el_outside.specs.Counts.{CountsOnly};
+ghost use Rattle.el_tx.specs.declared.types.Tx as tx_shape;
 ghost use Rattle.el_chain.specs.declared.moves.Plan as moves;
 ghost use Rattle.el_chain.specs.Chains.{Chain, tip};
 ghost use Rattle.el_chain.specs.Headers.{AreLinked};
 ghost use Rattle.el_chain.specs.Moves.{shorter, max_back};
 ghost use Rattle.el_chain.specs.Records.{IsNode};
-ghost use Rattle.el_model.specs.Plans.{plan_of};
-ghost use Rattle.el_model.specs.Side.{Side, Moving};
-ghost use Rattle.el_model.specs.NodeSteps.{IsAt, Leads};
+ghost use Rattle.el_mempool.specs.Sift.{sift};
+ghost use Rattle.el_mempool.specs.Standing.{StandsFor};
+ghost use Rattle.el_model.specs.LedgerCalls.{Asked};
+ghost use Rattle.el_world.specs.Plans.{plan_of};
+ghost use Rattle.el_world.specs.Side.{Side, Moving};
+ghost use Rattle.el_world.specs.NodeSteps.{IsAt, Leads};
 ghost use Rattle.el_sync.specs.Steps.{NodeStep, StopsAt};
-ghost use Rattle.el_sync.specs.within.Parts.{SaysRefusal};
 
 use crate::ahead::Ahead;
 use crate::fault::StepFault;
+use crate::making::{Made, make_move};
 use el_base::Bytes;
-use el_chain::{MoveFault, Plan};
-use el_lines::{archive_refused, at_answer_in, move_refused, room_for_at};
-use el_model::Ledger;
+use el_methods::Holdings;
+use el_model::{Ledger, QueryFault};
 use el_outside::Archive;
+use el_pool::Pool;
 use std::alloc::Global;
 
 /// What a line of the node, or a move that one left, leaves.
@@ -31,38 +36,52 @@ pub struct Step {
     pub left: Ahead,
 }
 
-// What the node is answered where a move is refused.
-fn refusal(alloc: Global, fault: MoveFault) -> Result<Bytes, StepFault>
-    ensures told { IfOk result (λ text. SaysRefusal fault text) }
-    ensures failed { IsErrOf result StepFault.DiskFailed → fault ≡ MoveFault.DiskFailed }
-    ensures memory { IsErrOf result StepFault.Memory → fault ≢ MoveFault.DiskFailed }
+// Whether a line ends with a move that has left these blocks, so that the set is sifted: it was made, or it
+// is a later one. A first move that is refused has changed nothing.
+fn ends_line(left: &Ahead, moved: bool, later: bool) -> bool
+    ensures { result ≡ ((length left.now == 0) && (moved || later)) }
 {
-    match fault {
-        MoveFault::DiskFailed => Err(StepFault::DiskFailed),
-        MoveFault::ArchiveFailed => {
-            let text = archive_refused(alloc)?;
-            Ok(text)
-        }
-        fault => match move_refused(alloc, fault)? {
-            Some(text) => Ok(text),
-            None => Err(StepFault::Memory),
-        },
+    left.is_empty() && (moved || later)
+}
+
+// Sifts the set over the ledger's chain, where a line ends.
+fn settle<G: Ledger>(ledger: &mut G, pool: &mut Pool, ends: bool) -> Result<(), StepFault>
+    requires live { G.is_live ledger.old }
+    ensures sifted { (before chain : Chain) (kept : List tx_shape.Tx)
+        → StandsFor pool.old.entries before kept → G.stands ledger.old chain
+        → OnOk result (ends ≡ true → StandsFor pool.new.entries chain (sift chain kept)) }
+    ensures same { OnOk result (ends ≡ false → pool.new ≡ pool.old) }
+    ensures only { OnErr result (ends ≡ true) }
+    ensures limits { pool.new.limits ≡ pool.old.limits }
+    ensures asked { Asked ⟦<G as Ledger>⟧ ledger.old ledger.new }
+    ensures disk_rose { CountsOnly (G.faults ledger.old) (G.faults ledger.new) StepFault.DiskFailed result }
+{
+    if !ends {
+        return Ok(());
+    }
+    match pool.after_move(ledger) {
+        Ok(_) => Ok(()),
+        Err(QueryFault::DiskFailed) => Err(StepFault::DiskFailed),
+        Err(QueryFault::Memory) => Err(StepFault::Memory),
     }
 }
 
 /// Makes the next move of a tip line: so many blocks of the chain are taken back, and the first of the rest
-/// are put in. Where it is refused, no block is left.
+/// are put in. Where it is refused, no block is left. With the last move the set is sifted, and with a later
+/// one that is refused.
 ///
 /// # Errors
 ///
-/// `StepFault::DiskFailed`, after which the ledger isn't live, and `StepFault::Memory`, after which the move
-/// isn't made.
-pub fn move_next<G: Ledger, A: Archive>(
+/// `StepFault::DiskFailed`, after which the ledger isn't live, and `StepFault::Memory`; what was moved before
+/// stays so, and the set isn't used again.
+pub fn move_once<G: Ledger, A: Archive>(
     alloc: Global,
     ledger: &mut G,
+    pool: &mut Pool,
     back: u32,
     rest: Ahead,
     archive: &mut A,
+    later: bool,
 ) -> Result<Step, StepFault>
     requires live { G.is_live ledger.old }
     requires back { back ≤ max_back }
@@ -70,30 +89,58 @@ pub fn move_next<G: Ledger, A: Archive>(
     requires linked { (before : hash_shape.Hash32) × AreLinked before rest }
     requires fits { (chain : Chain) → G.stands ledger.old chain
         → (back ≤ length chain) × AreLinked (tip (shorter back chain)) rest }
-    ensures moving { (side : Side) → IsAt ⟦<G as Ledger>⟧ ⟦<A as Archive>⟧ ledger.old archive.old side
-        → IfOk result (λ s. Leads ⟦<G as Ledger>⟧ ⟦<A as Archive>⟧ (Moving A.tells side back rest)
-        ledger.old ledger.new archive.old archive.new side s.text side.found s.left) }
+    ensures moving { (side : Side)
+        → IsAt ⟦<G as Ledger>⟧ ⟦<A as Archive>⟧ ledger.old pool.old archive.old side
+        → (later ≡ false → side.ahead ≡ []) → IfOk result (λ s.
+        Leads ⟦<G as Ledger>⟧ ⟦<A as Archive>⟧ (Moving A.tells side back rest)
+        ledger.old ledger.new archive.old archive.new side s.text side.found s.left pool.new) }
     ensures stopped { (chain : Chain) → G.stands ledger.old chain → IfErr result (
-        StopsAt ⟦<G as Ledger>⟧ ⟦<A as Archive>⟧ ledger.old ledger.new archive.new chain
+        StopsAt ⟦<G as Ledger>⟧ ⟦<A as Archive>⟧ ledger.old ledger.new archive.old archive.new chain later
         (λ (p : moves.Plan). p ≡ plan_of back rest)) }
+    ensures limits { pool.new.limits ≡ pool.old.limits }
     ensures no_more { IfOk result (λ s. length s.left ≤ length rest) }
     ensures fewer { IfOk result (λ s. rest ≢ [] → length s.left < length rest) }
     ensures step { NodeStep ⟦<G as Ledger>⟧ ⟦<A as Archive>⟧ ledger.old ledger.new archive.old archive.new
-        result }
+        later result }
 {
-    // A move that is made is told without memory.
-    let room = room_for_at(alloc)?;
-    let forward = rest.next_blocks(alloc)?;
-    let plan = Plan { back, forward };
-    match ledger.go(alloc, &plan, archive) {
-        Ok(moved) => Ok(Step {
-            text: at_answer_in(room, moved.tip, moved.height),
-            left: rest.passed(),
-        }),
-        Err(fault) => {
-            let text = refusal(alloc, fault)?;
-            let left = Ahead::none(alloc);
-            Ok(Step { text, left })
-        }
-    }
+    let Made { text, left, moved } = make_move(alloc, ledger, back, rest, archive)?;
+    let ends = ends_line(&left, moved, later);
+    settle(ledger, pool, ends)?;
+    Ok(Step { text, left })
+}
+
+/// Makes the next of the later moves of a tip line, which takes no block back: the first of the rest are put
+/// in. Where it is refused, no block is left. With the last move, and with one that is refused, the set is
+/// sifted.
+///
+/// # Errors
+///
+/// `StepFault::DiskFailed`, after which the ledger isn't live, and `StepFault::Memory`; what was moved before
+/// stays so, and the set isn't used again.
+pub fn move_next<G: Ledger, A: Archive>(
+    alloc: Global,
+    ledger: &mut G,
+    holdings: &mut Holdings,
+    rest: Ahead,
+    archive: &mut A,
+) -> Result<Step, StepFault>
+    requires live { G.is_live ledger.old }
+    requires nodes { AllByRecursion IsNode rest }
+    requires linked { (before : hash_shape.Hash32) × AreLinked before rest }
+    requires fits { (chain : Chain) → G.stands ledger.old chain → AreLinked (tip chain) rest }
+    ensures moving { (side : Side)
+        → IsAt ⟦<G as Ledger>⟧ ⟦<A as Archive>⟧ ledger.old holdings.old.pool archive.old side
+        → IfOk result (λ s. Leads ⟦<G as Ledger>⟧ ⟦<A as Archive>⟧ (Moving A.tells side 0 rest)
+        ledger.old ledger.new archive.old archive.new side s.text side.found s.left holdings.new.pool) }
+    ensures stopped { (chain : Chain) → G.stands ledger.old chain → IfErr result (
+        StopsAt ⟦<G as Ledger>⟧ ⟦<A as Archive>⟧ ledger.old ledger.new archive.old archive.new chain true
+        (λ (p : moves.Plan). p ≡ plan_of 0 rest)) }
+    ensures same { holdings.new ≡ record holdings.old { pool = holdings.new.pool } }
+    ensures limits { holdings.new.pool.limits ≡ holdings.old.pool.limits }
+    ensures no_more { IfOk result (λ s. length s.left ≤ length rest) }
+    ensures fewer { IfOk result (λ s. rest ≢ [] → length s.left < length rest) }
+    ensures step { NodeStep ⟦<G as Ledger>⟧ ⟦<A as Archive>⟧ ledger.old ledger.new archive.old archive.new
+        true result }
+{
+    move_once(alloc, ledger, &mut holdings.pool, 0, rest, archive, true)
 }

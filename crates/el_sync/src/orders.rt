@@ -1,25 +1,25 @@
 // The node's lines.
-ghost use Rattle.std.specs.Prelude.{◌≡◌, ◌≤◌, ◌+◌, ℕ, [], Some, IfOk, IfErr, OnOk, length};
+ghost use Rattle.std.specs.Prelude.{◌≡◌, ◌≤◌, ◌⊎◌, ◌+◌, ℕ, [], false, Some, IfOk, IfErr, OnOk, OnErr, length};
 ghost use Rattle.std.specs.List.{AllByRecursion};
 ghost use Rattle.el_outside.specs.Counts.{RoseBy};
 ghost use Rattle.el_outside.specs.Files.{AllGrow};
 ghost use Rattle.el_chain.specs.Chains.{Chain, zero_hash};
 ghost use Rattle.el_chain.specs.Headers.{AreLinked, added};
 ghost use Rattle.el_chain.specs.Records.{IsNode};
-ghost use Rattle.el_model.specs.Flights.{IsFirstMove};
-ghost use Rattle.el_model.specs.Lines.{line};
-ghost use Rattle.el_model.specs.NodeAnswers as say;
-ghost use Rattle.el_model.specs.Side.{Side, GoesAlong, OrdersLine, Tips, found_answer};
+ghost use Rattle.el_world.specs.Flights.{IsFirstMove};
+ghost use Rattle.el_lines.specs.Lines.{line};
+ghost use Rattle.el_lines.specs.NodeAnswers as say;
+ghost use Rattle.el_world.specs.Side.{Side, GoesAlong, OrdersLine, Tips, found_answer};
 ghost use Rattle.el_lines.specs.LineStates.{as_listed};
-ghost use Rattle.el_model.specs.NodeSteps.{IsAt, Leads};
-ghost use Rattle.el_sync.specs.Steps.{IsFrom, NodeStep, RoseWith, StopsAt};
+ghost use Rattle.el_world.specs.NodeSteps.{IsAt, Leads};
+ghost use Rattle.el_sync.specs.Steps.{IsFrom, NodeStep, StopsAt};
 ghost use Rattle.el_sync.specs.within.Parts.{IsTipMove, IsPathMove, Looked};
 
 use crate::ahead::Ahead;
 use crate::comparing::{Way, compare, is_there};
 use crate::fault::StepFault;
-use crate::moving::{Step, move_next};
-use crate::sources::Sources;
+use crate::keeping::{order_drop, order_tx};
+use crate::moving::{Step, move_once};
 use el_base::{Bytes, Hash32, OutOfMemory};
 use el_chain::{MAX_BACK, Node};
 use el_files::record_at;
@@ -29,30 +29,32 @@ use el_lines::{
     genesis_refused, line_refused, long_refused, place_refused, read_node_line,
     unconnected_refused, unknown_refused,
 };
+use el_methods::Holdings;
 use el_model::Ledger;
 use el_outside::Archive;
+use el_pool::Pool;
 use std::alloc::Global;
 
 // Looks at a place of the block files.
 fn order_block<A: Archive>(
     alloc: Global,
-    sources: &mut Sources,
+    holdings: &mut Holdings,
     archive: &mut A,
     file: u32,
     at: u64,
 ) -> Result<Bytes, StepFault>
-    ensures looked { (side : Side) → IsFrom sources.old side
+    ensures looked { (side : Side) → IsFrom holdings.old side
         → (A.tells → AllGrow side.files (A.bytes archive.old)) → IfOk result (λ text.
-        Looked ⟦<A as Archive>⟧ archive.old archive.new side file at text sources.new.tree) }
-    ensures magic { sources.new.magic ≡ sources.old.magic }
-    ensures more { OnOk result (length sources.new.tree ≤ length sources.old.tree + 1) }
+        Looked ⟦<A as Archive>⟧ archive.old archive.new side file at text holdings.new.tree) }
+    ensures same { holdings.new ≡ record holdings.old { tree = holdings.new.tree } }
+    ensures more { OnOk result (length holdings.new.tree ≤ length holdings.old.tree + 1) }
     ensures keeps { A.tells → AllGrow (A.bytes archive.old) (A.bytes archive.new) }
     ensures archive_more { A.faults archive.old ≤ A.faults archive.new }
-    ensures archive_rose { IfErr result (λ e.
-        RoseWith e (λ n. RoseBy (A.faults archive.old) (A.faults archive.new) n)) }
+    ensures archive_rose { OnErr result (RoseBy (A.faults archive.old) (A.faults archive.new) 0
+        ⊎ RoseBy (A.faults archive.old) (A.faults archive.new) 1) }
     ensures memory { IfErr result (λ e. e ≡ StepFault.Memory) }
 {
-    match record_at(archive, sources.magic, file, at) {
+    match record_at(archive, holdings.magic, file, at) {
         Err(_) => {
             let text = archive_refused(alloc)?;
             Ok(text)
@@ -62,7 +64,7 @@ fn order_block<A: Archive>(
             Ok(text)
         }
         Ok(Some(node)) => {
-            let text = add_node(alloc, &mut sources.tree, node)?;
+            let text = add_node(alloc, &mut holdings.tree, node)?;
             Ok(text)
         }
     }
@@ -96,22 +98,25 @@ fn only_text(alloc: Global, text: Bytes) -> Step
 fn move_along<G: Ledger, A: Archive>(
     alloc: Global,
     ledger: &mut G,
+    pool: &mut Pool,
     archive: &mut A,
     path: Vec<Node>,
 ) -> Result<Step, StepFault>
     requires live { G.is_live ledger.old }
     requires nodes { AllByRecursion IsNode path.items }
     requires linked { AreLinked zero_hash path.items }
-    ensures along { (side : Side) → IsAt ⟦<G as Ledger>⟧ ⟦<A as Archive>⟧ ledger.old archive.old side
+    ensures along { (side : Side)
+        → IsAt ⟦<G as Ledger>⟧ ⟦<A as Archive>⟧ ledger.old pool.old archive.old side
         → side.ahead ≡ [] → IfOk result (λ s.
         Leads ⟦<G as Ledger>⟧ ⟦<A as Archive>⟧ (GoesAlong A.tells side path.items)
-        ledger.old ledger.new archive.old archive.new side s.text side.found s.left) }
+        ledger.old ledger.new archive.old archive.new side s.text side.found s.left pool.new) }
     ensures stopped { (chain : Chain) → G.stands ledger.old chain → IfErr result (
-        StopsAt ⟦<G as Ledger>⟧ ⟦<A as Archive>⟧ ledger.old ledger.new archive.new chain
-        (IsPathMove chain path.items)) }
+        StopsAt ⟦<G as Ledger>⟧ ⟦<A as Archive>⟧ ledger.old ledger.new archive.old archive.new chain
+        false (IsPathMove chain path.items)) }
+    ensures limits { pool.new.limits ≡ pool.old.limits }
     ensures fewer { IfOk result (λ s. length s.left ≤ length path.items) }
     ensures step { NodeStep ⟦<G as Ledger>⟧ ⟦<A as Archive>⟧ ledger.old ledger.new archive.old archive.new
-        result }
+        false result }
 {
     let Way { back, rest } = compare(ledger, path)?;
     if back > MAX_BACK as usize {
@@ -122,7 +127,7 @@ fn move_along<G: Ledger, A: Archive>(
         let text = at_answer(alloc, ledger.tip(), ledger.height())?;
         return Ok(only_text(alloc, text));
     }
-    move_next(alloc, ledger, back as u32, rest, archive)
+    move_once(alloc, ledger, pool, back as u32, rest, archive, false)
 }
 
 // Moves the chain towards a block: its first move.
@@ -130,24 +135,28 @@ fn order_tip<G: Ledger, A: Archive>(
     alloc: Global,
     ledger: &mut G,
     tree: &HeaderTree,
+    pool: &mut Pool,
     archive: &mut A,
     h: Hash32,
 ) -> Result<Step, StepFault>
     requires live { G.is_live ledger.old }
-    ensures tip { (side : Side) → IsAt ⟦<G as Ledger>⟧ ⟦<A as Archive>⟧ ledger.old archive.old side
+    ensures tip { (side : Side)
+        → IsAt ⟦<G as Ledger>⟧ ⟦<A as Archive>⟧ ledger.old pool.old archive.old side
         → side.found ≡ tree.now → side.ahead ≡ [] → IfOk result (λ s.
         Leads ⟦<G as Ledger>⟧ ⟦<A as Archive>⟧ (Tips A.tells side h)
-        ledger.old ledger.new archive.old archive.new side s.text side.found s.left) }
-    ensures stopped { (side : Side) → IsAt ⟦<G as Ledger>⟧ ⟦<A as Archive>⟧ ledger.old archive.old side
+        ledger.old ledger.new archive.old archive.new side s.text side.found s.left pool.new) }
+    ensures stopped { (side : Side)
+        → IsAt ⟦<G as Ledger>⟧ ⟦<A as Archive>⟧ ledger.old pool.old archive.old side
         → side.found ≡ tree.now → IfErr result (
-        StopsAt ⟦<G as Ledger>⟧ ⟦<A as Archive>⟧ ledger.old ledger.new archive.new side.chain
-        (IsTipMove side h)) }
+        StopsAt ⟦<G as Ledger>⟧ ⟦<A as Archive>⟧ ledger.old ledger.new archive.old archive.new
+        side.chain false (IsTipMove side h)) }
+    ensures limits { pool.new.limits ≡ pool.old.limits }
     ensures fewer { IfOk result (λ s. length s.left ≤ length tree.now) }
     ensures step { NodeStep ⟦<G as Ledger>⟧ ⟦<A as Archive>⟧ ledger.old ledger.new archive.old archive.new
-        result }
+        false result }
 {
     match tree.path(alloc, h) {
-        Ok(path) => move_along(alloc, ledger, archive, path),
+        Ok(path) => move_along(alloc, ledger, pool, archive, path),
         Err(PathFault::Unknown) => {
             let text = unknown_refused(alloc, h)?;
             Ok(only_text(alloc, text))
@@ -160,8 +169,7 @@ fn order_tip<G: Ledger, A: Archive>(
     }
 }
 
-// A line that is refused as none of a node: it says nothing, or something of unconfirmed transactions, which
-// are not kept yet.
+// A line that says nothing.
 fn refuse_line(alloc: Global) -> Result<Step, StepFault>
     ensures text { IfOk result (λ s. s.text ≡ say.line_refused) }
     ensures left { IfOk result (λ s. s.left ≡ []) }
@@ -175,33 +183,50 @@ fn refuse_line(alloc: Global) -> Result<Step, StepFault>
 fn order_line<G: Ledger, A: Archive>(
     alloc: Global,
     ledger: &mut G,
-    sources: &mut Sources,
+    holdings: &mut Holdings,
     archive: &mut A,
     text: &[u8],
 ) -> Result<Step, StepFault>
     requires live { G.is_live ledger.old }
-    ensures node { (side : Side) → IsAt ⟦<G as Ledger>⟧ ⟦<A as Archive>⟧ ledger.old archive.old side
-        → IsFrom sources.old side → IfOk result (λ s.
+    ensures node { (side : Side)
+        → IsAt ⟦<G as Ledger>⟧ ⟦<A as Archive>⟧ ledger.old holdings.old.pool archive.old side
+        → IsFrom holdings.old side → IfOk result (λ s.
         Leads ⟦<G as Ledger>⟧ ⟦<A as Archive>⟧ (OrdersLine A.tells side (line text.now))
-        ledger.old ledger.new archive.old archive.new side s.text sources.new.tree s.left) }
-    ensures stopped { (side : Side) → IsAt ⟦<G as Ledger>⟧ ⟦<A as Archive>⟧ ledger.old archive.old side
-        → IsFrom sources.old side → IfErr result (
-        StopsAt ⟦<G as Ledger>⟧ ⟦<A as Archive>⟧ ledger.old ledger.new archive.new side.chain
-        (IsFirstMove side (line text.now))) }
-    ensures magic { sources.new.magic ≡ sources.old.magic }
-    ensures fewer { IfOk result (λ s. length s.left ≤ length sources.old.tree) }
-    ensures more { OnOk result (length sources.new.tree ≤ length sources.old.tree + 1) }
+        ledger.old ledger.new archive.old archive.new side s.text holdings.new.tree s.left
+        holdings.new.pool) }
+    ensures stopped { (side : Side)
+        → IsAt ⟦<G as Ledger>⟧ ⟦<A as Archive>⟧ ledger.old holdings.old.pool archive.old side
+        → IsFrom holdings.old side → IfErr result (
+        StopsAt ⟦<G as Ledger>⟧ ⟦<A as Archive>⟧ ledger.old ledger.new archive.old archive.new
+        side.chain false (IsFirstMove side (line text.now))) }
+    ensures magic { holdings.new.magic ≡ holdings.old.magic }
+    ensures limits { holdings.new.pool.limits ≡ holdings.old.pool.limits }
+    ensures fewer { IfOk result (λ s. length s.left ≤ length holdings.old.tree) }
+    ensures more { OnOk result (length holdings.new.tree ≤ length holdings.old.tree + 1) }
     ensures step { NodeStep ⟦<G as Ledger>⟧ ⟦<A as Archive>⟧ ledger.old ledger.new archive.old archive.new
-        result }
+        false result }
 {
     match read_node_line(alloc, text) {
         Ok(NodeLine::Block { file, at }) => {
-            let text = order_block(alloc, sources, archive, file, at)?;
+            let text = order_block(alloc, holdings, archive, file, at)?;
             Ok(only_text(alloc, text))
         }
-        Ok(NodeLine::Tip(h)) => order_tip(alloc, ledger, &sources.tree, archive, h),
-        Ok(NodeLine::Tx(_)) => refuse_line(alloc),
-        Ok(NodeLine::Drop(_)) => refuse_line(alloc),
+        Ok(NodeLine::Tip(h)) => order_tip(
+            alloc,
+            ledger,
+            &holdings.tree,
+            &mut holdings.pool,
+            archive,
+            h,
+        ),
+        Ok(NodeLine::Tx(bytes)) => {
+            let text = order_tx(alloc, ledger, &mut holdings.pool, bytes.as_slice())?;
+            Ok(only_text(alloc, text))
+        }
+        Ok(NodeLine::Drop(id)) => {
+            let text = order_drop(alloc, &mut holdings.pool, id)?;
+            Ok(only_text(alloc, text))
+        }
         Err(NodeLineFault::Line) => refuse_line(alloc),
         Err(NodeLineFault::Memory) => Err(StepFault::Memory),
     }
@@ -213,34 +238,39 @@ fn order_line<G: Ledger, A: Archive>(
 /// # Errors
 ///
 /// `StepFault::DiskFailed` where a call on the ledger's device failed, after which it isn't live, and
-/// `StepFault::Memory` where no memory was found, after which the ledger is as it was.
+/// `StepFault::Memory` where no memory was found. What was moved before stays so, and the set isn't used
+/// again.
 pub fn order<G: Ledger, A: Archive>(
     alloc: Global,
     ledger: &mut G,
-    sources: &mut Sources,
+    holdings: &mut Holdings,
     archive: &mut A,
     met: LineEvent,
 ) -> Result<Step, StepFault>
     requires live { G.is_live ledger.old }
-    ensures node { (side : Side) → IsAt ⟦<G as Ledger>⟧ ⟦<A as Archive>⟧ ledger.old archive.old side
-        → IsFrom sources.old side → IfOk result (λ s.
+    ensures node { (side : Side)
+        → IsAt ⟦<G as Ledger>⟧ ⟦<A as Archive>⟧ ledger.old holdings.old.pool archive.old side
+        → IsFrom holdings.old side → IfOk result (λ s.
         Leads ⟦<G as Ledger>⟧ ⟦<A as Archive>⟧ (OrdersLine A.tells side (as_listed met))
-        ledger.old ledger.new archive.old archive.new side s.text sources.new.tree s.left) }
-    ensures stopped { (side : Side) → IsAt ⟦<G as Ledger>⟧ ⟦<A as Archive>⟧ ledger.old archive.old side
-        → IsFrom sources.old side → IfErr result (
-        StopsAt ⟦<G as Ledger>⟧ ⟦<A as Archive>⟧ ledger.old ledger.new archive.new side.chain
-        (IsFirstMove side (as_listed met))) }
-    ensures magic { sources.new.magic ≡ sources.old.magic }
-    ensures fewer { IfOk result (λ s. length s.left ≤ length sources.old.tree) }
-    ensures more { OnOk result (length sources.new.tree ≤ length sources.old.tree + 1) }
+        ledger.old ledger.new archive.old archive.new side s.text holdings.new.tree s.left
+        holdings.new.pool) }
+    ensures stopped { (side : Side)
+        → IsAt ⟦<G as Ledger>⟧ ⟦<A as Archive>⟧ ledger.old holdings.old.pool archive.old side
+        → IsFrom holdings.old side → IfErr result (
+        StopsAt ⟦<G as Ledger>⟧ ⟦<A as Archive>⟧ ledger.old ledger.new archive.old archive.new
+        side.chain false (IsFirstMove side (as_listed met))) }
+    ensures magic { holdings.new.magic ≡ holdings.old.magic }
+    ensures limits { holdings.new.pool.limits ≡ holdings.old.pool.limits }
+    ensures fewer { IfOk result (λ s. length s.left ≤ length holdings.old.tree) }
+    ensures more { OnOk result (length holdings.new.tree ≤ length holdings.old.tree + 1) }
     ensures step { NodeStep ⟦<G as Ledger>⟧ ⟦<A as Archive>⟧ ledger.old ledger.new archive.old archive.new
-        result }
+        false result }
 {
     match met {
         LineEvent::TooLong { limit: _ } => {
             let text = long_refused(alloc)?;
             Ok(only_text(alloc, text))
         }
-        LineEvent::Line(text) => order_line(alloc, ledger, sources, archive, text.as_slice()),
+        LineEvent::Line(text) => order_line(alloc, ledger, holdings, archive, text.as_slice()),
     }
 }

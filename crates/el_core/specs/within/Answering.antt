@@ -1,24 +1,40 @@
--- What the server's parts do with the node's lines.
-use Rattle.std.specs.Prelude.{◌≡◌, ◌≤◌, ℕ, List, Result, Err, OnOk, IfErr}
+-- What the server's parts do with the node's lines, and from what they answer.
+use Rattle.std.specs.Prelude.{◌≡◌, ◌≤◌, ℕ, List, Result, Err, OnOk}
 use Rattle.el_outside.specs.declared.archive.Archive as archive
-use Rattle.el_outside.specs.Counts.{RoseBy, CountsOnly}
-use Rattle.el_outside.specs.Devices.{Device}
+use Rattle.el_outside.specs.Counts.{CountsOnly}
+use Rattle.el_outside.specs.Devices.{Device, Rose}
 use Rattle.el_outside.specs.Files.{AllGrow}
+use Rattle.el_mempool.specs.Standing.{StandsFor}
 use Rattle.el_model.specs.declared.ledger.Ledger as ledger
-use Rattle.el_model.specs.NodeSteps.{Leads}
-use Rattle.el_model.specs.Side.{Side}
-use Rattle.el_model.specs.World.{reply_to}
-use Rattle.el_sync.specs.Steps.{RoseWith}
+use Rattle.el_model.specs.LedgerCalls.{failed_calls}
+use Rattle.el_world.specs.NodeSteps.{Leads}
+use Rattle.el_world.specs.Side.{Side}
+use Rattle.el_world.specs.World.{reply_to}
 use Rattle.el_sync.specs.declared.fault.StepFault.{StepFault}
 use Rattle.el_sync.specs.declared.fault.StepFault.TheVariants as fault
-use Rattle.el_sync.specs.declared.sources.Sources.{Sources}
+use Rattle.el_methods.specs.declared.holdings.Holdings.{Holdings}
 use Rattle.el_core.specs.State.{State}
 use Rattle.el_core.specs.Turn.{outs_of}
 use Rattle.el_core.specs.declared.out.Outs.{Outs}
 
--- the found headers and where they come from
-abbrev pub sources_of : {G : Type 0} → State G → Sources
-sources_of s = record { tree = s.found; magic = s.magic }
+-- what is held beside the ledger
+abbrev pub holdings_of : {G : Type 0} → State G → Holdings
+holdings_of s = record { tree = s.found; magic = s.magic; pool = s.pool }
+
+-- A client is answered from these: the ledger stands for the side's chain, the set for what is kept over it,
+-- the found headers are the side's, and the block files have all that the side knows of them.
+pub record IsSettled {G A : Type 0} (of_ledger : ledger.Ghosts G) (of_files : archive.Ghosts A) (l : G)
+    (holdings : Holdings) (files : A) (side : Side) : Type 0 where
+  pub stood : of_ledger.stands l side.chain
+  pub set : StandsFor holdings.pool.entries side.chain side.kept
+  pub found : holdings.tree ≡ side.found
+  pub told : of_files.tells → AllGrow side.files (of_files.bytes files)
+
+-- The counts of failed calls rose by these losses, between the one ledger and block files and the others.
+abbrev pub Lost : {G A : Type 0} → ledger.Ghosts G → archive.Ghosts A → G → G → A → A → List Device → Type 0
+Lost of_ledger of_files old new before after losses =
+    (of_link : ℕ) → Rose (failed_calls of_ledger of_files of_link old before)
+    (failed_calls of_ledger of_files of_link new after) losses
 
 -- The node is answered, and the server led on from the side.
 pub record Answered {G A : Type 0} (of_ledger : ledger.Ghosts G) (of_files : archive.Ghosts A)
@@ -27,6 +43,7 @@ pub record Answered {G A : Type 0} (of_ledger : ledger.Ghosts G) (of_files : arc
   pub text : List ℕ
   pub sends : outs_of outs ≡ reply_to 0 text
   pub led : Leads of_ledger of_files leads old.ledger new.ledger before after side text new.found new.ahead
+      new.pool
 
 -- What each turn of the node keeps, whatever the ledger stands for: block files only grow, and no count
 -- falls.
@@ -36,6 +53,4 @@ pub record NodeKeeps {G A : Type 0} (of_ledger : ledger.Ghosts G) (of_files : ar
   pub still_live : result ≡ Err fault.Memory → of_ledger.is_live new
   pub keeps : of_files.tells → AllGrow (of_files.bytes before) (of_files.bytes after)
   pub archive_more : of_files.faults before ≤ of_files.faults after
-  pub archive_rose : IfErr result (λ e.
-      RoseWith e (λ n. RoseBy (of_files.faults before) (of_files.faults after) n))
   pub disk_rose : CountsOnly (of_ledger.faults old) (of_ledger.faults new) fault.DiskFailed result

@@ -1,15 +1,15 @@
 -- What the server's parts do with its clients.
 use Rattle.std.specs.List.{AllByRecursion}
 use Rattle.std.specs.Option.{is_some}
-use Rattle.std.specs.Prelude.{IfSome, OnSome, nat_lt, Bool, take, zero, suc, ◌∷◌, ◌≡◌, ◌⊎◌, ℕ, ◌+◌, ◌≤◌, ◌<◌, true, false, List, [], ◌++◌, length, Option, Some, None, MatchBool, slice_get}
-use Rattle.el_chain.specs.Chains.{Chain}
-use Rattle.el_model.specs.Lines.{LineEvent, line, lines}
-use Rattle.el_model.specs.declared.method.Method.{Method}
-use Rattle.el_model.specs.Replies.{IsReply, replies, Asks, disk_text, answer_text, too_large_text, entry_count, entry_limit}
-use Rattle.el_model.specs.Run.{closes_memory}
-use Rattle.el_model.specs.Sessions.{Session}
-use Rattle.el_model.specs.World as model
-use Rattle.el_model.specs.World.{client_limit, line_limit, reply_to, closes_long, closes_surplus}
+use Rattle.std.specs.Prelude.{IfSome, OnSome, nat_lt, Bool, not, take, zero, suc, ◌∷◌, ◌≡◌, ℕ, ◌+◌, ◌≤◌, ◌<◌, true, false, List, [], ◌++◌, length, Option, Some, None, Ok, Err, MatchBool, slice_get}
+use Rattle.el_base.specs.declared.memory.OutOfMemory.{OutOfMemory}
+use Rattle.el_outside.specs.Devices.{Device}
+use Rattle.el_lines.specs.Lines.{LineEvent, line, lines}
+use Rattle.el_methods.specs.declared.session.Session as known
+use Rattle.el_replies.specs.declared.line.LineReply.{LineReply}
+use Rattle.el_world.specs.Side.{Side}
+use Rattle.el_world.specs.World as model
+use Rattle.el_world.specs.World.{client_limit, line_limit, new_client, Comes, outs_of_reply, closes_long, closes_memory, closes_surplus}
 use Rattle.el_lines.specs.LineStates.{LineState, IsAt, as_listed}
 use Rattle.el_lines.specs.declared.line_buffer.LineEvent as met
 use Rattle.el_lines.specs.declared.line_buffer.LineEvent.TheVariants as event
@@ -23,6 +23,7 @@ pub record IsFresh (p : ℕ) (c : ClientState) : Type 0 where
   pub limit : c.buffer.limit ≡ line_limit
   pub at : IsAt c.buffer [] 0
   pub kept : c.lost ≡ false
+  pub session : c.session ≡ new_client
 
 -- a peer comes: it is a client, one too many, or the node, which is none
 pub data Opens {G : Type 0} (p : ℕ) (s next : State G) : Type 0 where
@@ -40,6 +41,7 @@ IsFed b bytes next = (fed : List ℕ) (given : ℕ) → IsAt b fed given → IsA
 pub record Keeps (bytes : List ℕ) (c next : ClientState) : Type 0 where
   pub limit : next.buffer.limit ≡ c.buffer.limit
   pub peer : next.peer ≡ c.peer
+  pub session : next.session ≡ c.session
   pub kept : MatchBool next.lost (next.buffer ≡ c.buffer) (IsFed c.buffer bytes next.buffer)
 
 -- the list with another client at that place, or without it
@@ -79,60 +81,48 @@ abbrev pub NextIsLine : LineState → Type 0
 NextIsLine b = (fed : List ℕ) (given : ℕ) → IsAt b fed given → given ≤ length (lines b.limit fed)
     → (bytes : List ℕ) × (slice_get (lines b.limit fed) given ≡ Some (line bytes))
 
--- the reply with a list of so many entries, or that they are too many
-abbrev pub IsListing : List ℕ → ℕ → List ℕ → List ℕ → Type 0
-IsListing id count whole text =
-    ((count ≤ entry_limit) × (text ≡ whole)) ⊎ ((entry_limit < count) × (text ≡ too_large_text id))
-
--- What a client gets for a request under this id: what the method says of the script hash, or that the
--- index's device failed. `rose` says by how much the count of that device's failures rose.
-pub data RequestText (chain : Chain) (m : Method) (id script_hash : List ℕ) (rose : ℕ → Type 0)
-    (text : List ℕ) : Type 0 where
-  listed : IsListing id (entry_count chain m script_hash) (answer_text chain m id script_hash) text → rose 0
-      → RequestText chain m id script_hash rose text
-  failed : text ≡ disk_text id → rose 1 → RequestText chain m id script_hash rose text
-
--- What a client gets for a line: its reply, or that the index's device failed. `rose` says by how much the
--- count of that device's failures rose.
-pub data ReplyText (chain : Chain) (bytes : List ℕ) (rose : ℕ → Type 0) (text : List ℕ) : Type 0 where
-  replied : ((session : Session) → IsReply chain session bytes (replies session text)) → rose 0
-      → ReplyText chain bytes rose text
-  failed : (m : Method) (id script_hash : List ℕ) → Asks bytes m id script_hash → text ≡ disk_text id
-      → rose 1 → ReplyText chain bytes rose text
-
--- this goes to the client for a line
-abbrev pub SendsReply : Chain → List ℕ → (ℕ → Type 0) → ℕ → model.Outs → Type 0
-SendsReply chain bytes rose p outs =
-    (text : List ℕ) × ReplyText chain bytes rose text × (outs ≡ reply_to p text)
+-- What comes of a line of a client over the side: it gets what the line is replied, and may then be closed;
+-- or no memory was found for that. `was` is what is kept of it for its requests, and then `now`; `rose` says
+-- by which losses the counts rose.
+pub data LineAnswered (tells : Type 0) (side : Side) (rose : List Device → Type 0) (p : ℕ) (bytes : List ℕ)
+    (was now : known.Session) (outs : model.Outs) (stays : Bool) : Type 0 where
+  replied : (losses : List Device) (reply : LineReply) → Comes tells side bytes was losses now (Ok reply)
+      → outs ≡ outs_of_reply p reply → stays ≡ not reply.closes → rose losses
+      → LineAnswered tells side rose p bytes was now outs stays
+  starved : (losses : List Device) (e : OutOfMemory) → Comes tells side bytes was losses now (Err e)
+      → outs ≡ closes_memory p → stays ≡ false → rose losses
+      → LineAnswered tells side rose p bytes was now outs stays
 
 -- the client, where it stays
 abbrev pub left_if : Bool → ClientState → Option ClientState
 left_if true c = Some c
 left_if false c = None
 
--- what is sent or closed for an event of this client, and whether it stays
-abbrev pub Answers : Chain → (ℕ → Type 0) → ℕ → met.LineEvent → model.Outs → Bool → Type 0
-Answers chain rose p (event.Line bytes) outs stays =
-    (SendsReply chain bytes rose p outs × (stays ≡ true))
-    ⊎ ((outs ≡ closes_memory p) × (stays ≡ false) × (rose 0 ⊎ rose 1))
-Answers chain rose p (event.TooLong limit) outs stays = (outs ≡ closes_long p) × (stays ≡ false) × rose 0
+-- what is sent or closed for an event of this client, what is then kept of it, and whether it stays
+abbrev pub Answers : Type 0 → Side → (List Device → Type 0) → ℕ → met.LineEvent → known.Session
+    → known.Session → model.Outs → Bool → Type 0
+Answers tells side rose p (event.Line bytes) was now outs stays =
+    LineAnswered tells side rose p bytes was now outs stays
+Answers tells side rose p (event.TooLong limit) was now outs stays =
+    (outs ≡ closes_long p) × (stays ≡ false) × rose []
 
 -- a turn of a client
-pub data ClientTurn (chain : Chain) (rose : ℕ → Type 0) (c : ClientState) (outs : Option Outs)
-    (next : Option ClientState) : Type 0 where
+pub data ClientTurn (tells : Type 0) (side : Side) (rose : List Device → Type 0) (c : ClientState)
+    (outs : Option Outs) (next : Option ClientState) : Type 0 where
   -- bytes of it were lost
-  loses : (o : Outs) → c.lost ≡ true → outs ≡ Some o → outs_of o ≡ closes_memory c.peer → next ≡ None → rose 0
-      → ClientTurn chain rose c outs next
+  loses : (o : Outs) → c.lost ≡ true → outs ≡ Some o → outs_of o ≡ closes_memory c.peer → next ≡ None
+      → rose [] → ClientTurn tells side rose c outs next
   -- no memory for its next line
   departs : (o : Outs) → c.lost ≡ false → NextIsLine c.buffer → outs ≡ Some o
-      → outs_of o ≡ closes_memory c.peer → next ≡ None → rose 0 → ClientTurn chain rose c outs next
+      → outs_of o ≡ closes_memory c.peer → next ≡ None → rose [] → ClientTurn tells side rose c outs next
   -- its next event
-  answers : (o : Outs) (e : met.LineEvent) (b : LineState) (stays : Bool) → c.lost ≡ false
-      → b.limit ≡ c.buffer.limit → Gives c.buffer (as_listed e) b
-      → Answers chain rose c.peer e (outs_of o) stays → next ≡ left_if stays (record c { buffer = b })
-      → outs ≡ Some o → ClientTurn chain rose c outs next
+  answers : (o : Outs) (e : met.LineEvent) (b : LineState) (now : known.Session) (stays : Bool)
+      → c.lost ≡ false → b.limit ≡ c.buffer.limit → Gives c.buffer (as_listed e) b
+      → Answers tells side rose c.peer e c.session now (outs_of o) stays
+      → next ≡ left_if stays (record c { buffer = b; session = now }) → outs ≡ Some o
+      → ClientTurn tells side rose c outs next
   -- no line is left
-  waits : IsHeardOut c → outs ≡ None → next ≡ Some c → rose 0 → ClientTurn chain rose c outs next
+  waits : IsHeardOut c → outs ≡ None → next ≡ Some c → rose [] → ClientTurn tells side rose c outs next
 
 -- A turn of the client at that place, which is left or not: what `says` says of both.
 pub record TurnsAt (says : ClientState → Option ClientState → Type 0) (i : ℕ) (clients : List ClientState)
@@ -153,22 +143,23 @@ speaker_after (Some o) None = None
 speaker_after (Some o) (Some c) = Some c.peer
 
 -- a turn of the client that speaks, if there is one
-pub data SpeakerSteps {G : Type 0} (chain : Chain) (rose : ℕ → Type 0) (s : State G) (outs : Option Outs)
-    (next : State G) : Type 0 where
-  nobody : s.speaker ≡ None → outs ≡ None → next ≡ s → rose 0 → SpeakerSteps chain rose s outs next
+pub data SpeakerSteps {G : Type 0} (tells : Type 0) (side : Side) (rose : List Device → Type 0) (s : State G)
+    (outs : Option Outs) (next : State G) : Type 0 where
+  nobody : s.speaker ≡ None → outs ≡ None → next ≡ s → rose [] → SpeakerSteps tells side rose s outs next
   gone : (p : ℕ) → s.speaker ≡ Some p → IsPlace p s.clients None → outs ≡ None
-      → next ≡ record s { speaker = None } → rose 0 → SpeakerSteps chain rose s outs next
+      → next ≡ record s { speaker = None } → rose [] → SpeakerSteps tells side rose s outs next
   steps : (p i : ℕ) (c : ClientState) (left : Option ClientState) → s.speaker ≡ Some p
-      → slice_get s.clients i ≡ Some c → c.peer ≡ p → ClientTurn chain rose c outs left
+      → slice_get s.clients i ≡ Some c → c.peer ≡ p → ClientTurn tells side rose c outs left
       → next ≡ record s {
         ledger = next.ledger;
         clients = replaced i left s.clients;
         speaker = speaker_after outs left;
-      } → SpeakerSteps chain rose s outs next
+      } → SpeakerSteps tells side rose s outs next
 
 -- a turn where the node has nothing left: a client too many is closed, or the client that speaks has its turn
-pub data PeersTurn {G : Type 0} (chain : Chain) (rose : ℕ → Type 0) (s : State G) (outs : Option Outs)
-    (next : State G) : Type 0 where
+pub data PeersTurn {G : Type 0} (tells : Type 0) (side : Side) (rose : List Device → Type 0) (s : State G)
+    (outs : Option Outs) (next : State G) : Type 0 where
   closes : (p : ℕ) (o : Outs) → s.surplus ≡ Some p → outs ≡ Some o → outs_of o ≡ closes_surplus p
-      → next ≡ record s { surplus = None } → rose 0 → PeersTurn chain rose s outs next
-  has_turn : s.surplus ≡ None → SpeakerSteps chain rose s outs next → PeersTurn chain rose s outs next
+      → next ≡ record s { surplus = None } → rose [] → PeersTurn tells side rose s outs next
+  has_turn : s.surplus ≡ None → SpeakerSteps tells side rose s outs next
+      → PeersTurn tells side rose s outs next

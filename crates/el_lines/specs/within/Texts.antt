@@ -1,6 +1,6 @@
 -- Why a hex text was not read.
 use Rattle.std.specs.Prelude.{ℕ, List}
-use Rattle.el_model.specs.NodeLines.{ShowsBytes}
+use Rattle.el_lines.specs.NodeLines.{ShowsBytes}
 use Rattle.el_lines.specs.declared.node_line.NodeLineFault.{NodeLineFault}
 use Rattle.el_lines.specs.declared.node_line.NodeLineFault.TheVariants as fault
 

@@ -6,26 +6,21 @@ use Rattle.el_outside.specs.Counts.{RoseBy}
 use Rattle.el_outside.specs.Devices as device
 use Rattle.el_outside.specs.Devices.{Device, failures, Faults, Rose}
 use Rattle.el_outside.specs.Files.{AllGrow}
-use Rattle.el_outside.specs.Story.{Story, ArrivalWithBytes, Message, Closing, GoesOn, is_open}
+use Rattle.el_outside.specs.Trace.{Trace, ArrivalWithBytes, Message, Closing, GoesOn, is_open}
 use Rattle.el_chain.specs.Chains.{Chain}
 use Rattle.el_model.specs.declared.ledger.Ledger as ledger
 use Rattle.el_model.specs.LedgerCalls.{failed_calls}
-use Rattle.el_model.specs.World.{World, Event, is_client, without_node, IsStill, Outs}
-use Rattle.el_model.specs.Run.{Stop, Turns, Stops, files_at, StopsIn, files_left, Delivers, Run}
-use Rattle.el_model.specs.Flights.{acked, FliesAt, Flies}
+use Rattle.el_world.specs.World.{World, Event, is_client, without_node, IsStill, Outs}
+use Rattle.el_world.specs.Run.{Stop, Turns, Stops, files_at, StopsIn, files_left, Delivers, Run}
+use Rattle.el_world.specs.Flights.{acked, FliesAt, Flies}
 use Rattle.el_core.specs.State.{State, Stands}
 use Rattle.el_loop.specs.Runs.{NoneEnds, taken}
 use Rattle.el_loop.specs.within.Sending.{AllOpen, CanSend}
 
 -- the clients of the world, and the one too many, are open
-pub record ClientsAreOpen {G : Type 0} (s : State G) (world : World) (story : Story) : Type 0 where
-  pub sessions : AllOpen story world.sessions
-  pub surplus : (p : ℕ) → s.surplus ≡ Some p → IsTrue (is_open story p) × (is_client p world ≡ false)
-
--- the client to close is open, and none of the world
-abbrev pub CanClose : World → Story → Option Closing → Type 0
-CanClose next story None = Unit {0}
-CanClose next story (Some c) = IsTrue (is_open story c.peer) × (is_client c.peer next ≡ false)
+pub record ClientsAreOpen {G : Type 0} (s : State G) (world : World) (trace : Trace) : Type 0 where
+  pub sessions : AllOpen trace world.sessions
+  pub surplus : (p : ℕ) → s.surplus ≡ Some p → IsTrue (is_open trace p) × (is_client p world ≡ false)
 
 -- this peer is not the one to close
 abbrev pub IsNotClosed : ℕ → Option Closing → Type 0
@@ -33,14 +28,14 @@ IsNotClosed p None = Unit {0}
 IsNotClosed p (Some c) = (p == c.peer) ≡ false
 
 -- What a turn gave can be sent and closed.
-pub record CanDeliver {G : Type 0} (stands : G → Chain → Type 0) (tells : Type 0) (s : State G) (next : World)
-    (rest : List Event) (outs : Outs) (story : Story) : Type 0 where
-  pub can_send : CanSend stands tells s next rest story outs.messages
-  pub can_close : tells → CanClose next story outs.closing
+abbrev pub CanDeliver : {G : Type 0} → (G → Chain → Type 0) → Type 0 → State G → World → List Event → Outs
+    → Trace → Type 0
+CanDeliver stands tells s next rest outs trace =
+    CanSend stands tells s next rest trace outs.closing outs.messages
 
 -- It was sent and closed, as far as no client was lost.
 pub record Delivered {G : Type 0} (stands : G → Chain → Type 0) (tells : Type 0) (world : World)
-    (rest : List Event) (outs : Outs) (s : State G) (before : Story) (low : ℕ) (now : State G) (after : Story)
+    (rest : List Event) (outs : Outs) (s : State G) (before : Trace) (low : ℕ) (now : State G) (after : Trace)
     (high : ℕ) : Type 0 where
   pub sent : List Message
   pub closings : List Closing
@@ -51,7 +46,7 @@ pub record Delivered {G : Type 0} (stands : G → Chain → Type 0) (tells : Typ
   pub ledger : now.ledger ≡ s.ledger
   pub surplus : now.surplus ≡ s.surplus
   pub files : next.side.files ≡ world.side.files
-  pub story : tells → GoesOn before after [] sent closings
+  pub trace : tells → GoesOn before after [] sent closings
   pub are_open : tells → AllOpen after next.sessions
   pub others : (q : ℕ) → tells → IsNotClosed q outs.closing → IsTrue (is_open before q)
       → is_client q world ≡ false → IsTrue (is_open after q) × (is_client q next ≡ false)
@@ -83,14 +78,14 @@ module _ {G A K : Type 0} (of_ledger : ledger.Ghosts G) (of_files : archive.Ghos
 
   -- The world's clients are open, and the block files have what the world has of them.
   pub record IsReady (world : World) (now : Snapshot G A K) : Type 0 where
-    pub are_open : of_link.tells → ClientsAreOpen now.server world (of_link.story now.link)
+    pub are_open : of_link.tells → ClientsAreOpen now.server world (of_link.trace now.link)
     pub grown : of_files.tells → AllGrow world.side.files (of_files.bytes now.files)
 
   -- This went over the link meanwhile, and each failed call is one of these losses.
   pub record WentOn (before now : Snapshot G A K) (arrivals : List ArrivalWithBytes) (messages : List Message)
       (closings : List Closing) (losses : List Device) : Type 0 where
-    pub story : of_link.tells
-        → GoesOn (of_link.story before.link) (of_link.story now.link) arrivals messages closings
+    pub trace : of_link.tells
+        → GoesOn (of_link.trace before.link) (of_link.trace now.link) arrivals messages closings
     pub rose : Rose (failed before) (failed now) losses
 
   -- Of these events some are done, and the others are left.

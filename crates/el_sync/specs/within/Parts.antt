@@ -1,19 +1,33 @@
 -- What the parts of a step give each other.
-use Rattle.std.specs.Prelude.{◌≡◌, ◌≤◌, ℕ, List, Some}
+use Rattle.std.specs.Prelude.{◌≡◌, ◌≢◌, ◌⊎◌, ◌≤◌, ℕ, Bool, true, false, List, [], ◌∷◌, ◌++◌, if◌then◌else◌, Some}
+use Rattle.std.specs.List.{AllByRecursion}
 use Rattle.el_base.specs.declared.hash.Hash32.{Hash32}
 use Rattle.el_outside.specs.Counts.{RoseBy}
-use Rattle.el_outside.specs.Devices.{Device, archive, failures}
+use Rattle.el_outside.specs.Devices.{Device, archive, failures, Rose}
+use Rattle.el_outside.specs.Files.{AllGrow}
 use Rattle.el_outside.specs.declared.archive.Archive as archives
+use Rattle.el_tx.specs.declared.types.Tx.{Tx}
 use Rattle.el_chain.specs.declared.moves.MoveFault.{MoveFault}
 use Rattle.el_chain.specs.declared.moves.MoveFault.TheVariants as stop
 use Rattle.el_chain.specs.declared.moves.Plan.{Plan}
 use Rattle.el_chain.specs.declared.node.Node.{Node}
 use Rattle.el_chain.specs.Chains.{Chain}
-use Rattle.el_chain.specs.Headers.{IsPath}
-use Rattle.el_chain.specs.Moves.{max_back}
-use Rattle.el_model.specs.NodeAnswers.{archive_refused, move_refused}
-use Rattle.el_model.specs.Plans.{back_of, rest_of, plan_of, IsMoving}
-use Rattle.el_model.specs.Side.{Side, Looks}
+use Rattle.el_chain.specs.Headers.{AreLinked, IsPath}
+use Rattle.el_chain.specs.Moves.{Moves, IsRefused, shorter, max_back}
+use Rattle.el_chain.specs.Records.{IsNode}
+use Rattle.el_mempool.specs.declared.fault.PoolFault.{PoolFault}
+use Rattle.el_mempool.specs.declared.fault.PoolFault.TheVariants as refusal
+use Rattle.el_mempool.specs.Standing.{PoolState, StandsFor}
+use Rattle.el_model.specs.LedgerCalls.{Moved, failed_calls}
+use Rattle.el_model.specs.Queries.{height_of, tip_of}
+use Rattle.el_model.specs.declared.ledger.Ledger as ledgers
+use Rattle.el_lines.specs.NodeAnswers.{archive_refused, at_answer, move_refused}
+use Rattle.el_world.specs.Plans.{back_of, rest_of, plan_of, left_of, IsMoving}
+use Rattle.el_world.specs.Side.{Side, Looks}
+use Rattle.el_sync.specs.declared.fault.StepFault.{StepFault}
+use Rattle.el_sync.specs.declared.fault.StepFault.TheVariants as fault
+use Rattle.el_sync.specs.declared.making.Made.{Made}
+use Rattle.el_sync.specs.Steps.{named}
 
 -- what the node is answered where a move is refused for one of its blocks, or the block files failed; the
 -- fault is no other
@@ -24,6 +38,65 @@ SaysRefusal stop.ArchiveFailed text = text ≡ archive_refused
 SaysRefusal (stop.Changed w f) text = move_refused (stop.Changed w f) ≡ Some text
 SaysRefusal (stop.BadBlock h f) text = move_refused (stop.BadBlock h f) ≡ Some text
 SaysRefusal (stop.Refused h f) text = move_refused (stop.Refused h f) ≡ Some text
+
+-- What came of a move before the set is sifted: whether it was made, what the node is answered, and the chain
+-- then.
+pub data Tried (tells : Type 0) (side : Side) (back : ℕ) (rest : List Node) (moved : Bool) (text : List ℕ)
+    (losses : List Device) (chain : Chain) (files : ℕ → List ℕ) : Type 0 where
+  made : (blocks : Chain) → Moves tells files side.chain (plan_of back rest) blocks → moved ≡ true
+      → chain ≡ shorter back side.chain ++ blocks → text ≡ at_answer (tip_of chain) (height_of chain)
+      → losses ≡ [] → Tried tells side back rest moved text losses chain files
+  refused : (e : MoveFault) → IsRefused tells files side.chain (plan_of back rest) e → moved ≡ false
+      → chain ≡ side.chain → move_refused e ≡ Some text → losses ≡ []
+      → Tried tells side back rest moved text losses chain files
+  failed : moved ≡ false → chain ≡ side.chain → text ≡ archive_refused → losses ≡ archive ∷ []
+      → Tried tells side back rest moved text losses chain files
+
+-- A move was tried from the side.
+pub record Tries {G A : Type 0} (of_ledger : ledgers.Ghosts G) (of_files : archives.Ghosts A) (old new : G)
+    (files_old files_new : A) (side : Side) (back : ℕ) (rest : List Node) (made : Made) : Type 0 where
+  pub losses : List Device
+  pub chain : Chain
+  pub tried : Tried of_files.tells side back rest made.moved made.text losses chain
+      (of_files.bytes files_new)
+  pub grows : of_files.tells → AllGrow side.files (of_files.bytes files_new)
+  pub moved : Moved of_ledger old new side.chain chain
+  pub rose : (of_link : ℕ) → Rose (failed_calls of_ledger of_files of_link old files_old)
+      (failed_calls of_ledger of_files of_link new files_new) losses
+
+-- What a move that was made or refused keeps, whatever the ledger stands for.
+pub record MoveKeeps {G A : Type 0} (of_ledger : ledgers.Ghosts G) (of_files : archives.Ghosts A)
+    (old new : G) (files_old files_new : A) (rest : List Node) (made : Made) : Type 0 where
+  pub live : of_ledger.is_live new
+  pub left : made.left ≡ (if made.moved then left_of rest else [])
+  pub nodes : AllByRecursion IsNode made.left
+  pub linked : AreLinked (named (of_ledger.tip new)) made.left
+  pub keeps : of_files.tells → AllGrow (of_files.bytes files_old) (of_files.bytes files_new)
+  pub archive_rose : RoseBy (of_files.faults files_old) (of_files.faults files_new) 0
+      ⊎ ((made.moved ≡ false) × RoseBy (of_files.faults files_old) (of_files.faults files_new) 1)
+  pub disk_same : of_ledger.faults new ≡ of_ledger.faults old
+
+-- What a move that failed keeps.
+pub record MoveFailed {G A : Type 0} (of_ledger : ledgers.Ghosts G) (of_files : archives.Ghosts A)
+    (old new : G) (files_old files_new : A) (e : StepFault) : Type 0 where
+  pub still_live : e ≡ fault.Memory → of_ledger.is_live new
+  pub keeps : of_files.tells → AllGrow (of_files.bytes files_old) (of_files.bytes files_new)
+  pub archive_rose : RoseBy (of_files.faults files_old) (of_files.faults files_new) 0
+      ⊎ ((e ≡ fault.Memory) × RoseBy (of_files.faults files_old) (of_files.faults files_new) 1)
+  pub disk_rose : e ≡ fault.DiskFailed → RoseBy (of_ledger.faults old) (of_ledger.faults new) 1
+  pub disk_same : e ≢ fault.DiskFailed → of_ledger.faults new ≡ of_ledger.faults old
+
+-- The set stands for what is kept of these transactions.
+pub record StandsAfter (pool : PoolState) (side : Side) (does : Side → Type 0) : Type 0 where
+  pub kept : List Tx
+  pub done : does (record side { kept = kept })
+  pub stood : StandsFor pool.entries side.chain kept
+
+-- the refusal tells the txid of the transaction itself
+abbrev pub NamesItself : PoolFault → Type 0
+NamesItself refusal.Confirmed = Unit {0}
+NamesItself refusal.Known = Unit {0}
+NamesItself other = ⊥
 
 -- A place was looked at, and these are the headers that are then found.
 pub record Looked {A : Type 0} (of_files : archives.Ghosts A) (files_old files_new : A) (side : Side)

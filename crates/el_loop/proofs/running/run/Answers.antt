@@ -1,9 +1,10 @@
 use Rattle.std.proofs.Common.{inl, refl, sym, ◌∙◌, arith, ap}
-use Rattle.el_outside.specs.Story.{with_bytes}
-use Rattle.el_outside.proofs.Stories.{all_grow_none, all_grow_more}
+use Rattle.el_outside.specs.Trace.{with_bytes}
+use Rattle.el_outside.proofs.Traces.{all_grow_none, all_grow_more}
 use Rattle.el_loop.proofs.Runs.{going_none, one_further, going_more, told_ended, told_spent, told_failed, told_stopped, told_halt, enters}
 use Rattle.el_loop.proofs.Numbers.{above_next, no_less, up_to_next}
-use Rattle.el_loop.proofs.Rises.{counted_none, counted_more, each_more, caused_end, caused_next, caused_halt}
+use Rattle.el_outside.proofs.Devices.{each_more}
+use Rattle.el_loop.proofs.Rises.{counted_none, counted_more, caused_end, caused_next, caused_halt}
 use Rattle.el_loop.specs.within.Progress.{taken_one, snapshot}
 use Rattle.el_loop.specs.within.Sending.{stop_of}
 use Rattle.el_core.specs.Arrivals.{with_all_bytes}

@@ -1,6 +1,6 @@
 use Rattle.std.proofs.Common.{◌≡◌, []}
 use Rattle.el_outside.specs.Files.{AllGrow}
-use Rattle.el_model.specs.World.{World}
+use Rattle.el_world.specs.World.{World}
 use Rattle.el_core.specs.State.{Stands, AreUpTo, IsIdle}
 use Rattle.el_loop.specs.within.Progress.{Going, CountedSoFar, snapshot, failed}
 use Rattle.el_loop.proofs.running.run.Given as goal

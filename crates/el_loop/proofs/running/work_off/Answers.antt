@@ -1,5 +1,5 @@
 use Rattle.std.proofs.Common.{ap, Err, inr, refl, ◌∙◌, arith}
-use Rattle.el_outside.proofs.Stories.{all_grow_none, all_grow_more}
+use Rattle.el_outside.proofs.Traces.{all_grow_none, all_grow_more}
 use Rattle.el_core.specs.Turn.{outs_of}
 use Rattle.el_loop.proofs.Progresses.{begins, can_deliver, progress_more, finished, stopped_turn, stopped_sending}
 use Rattle.el_loop.proofs.Rises.{rises_after, rises_other, rises_turn, turn_no_link}

@@ -1,6 +1,6 @@
 use Rattle.std.proofs.Common.{◌≡◌, ◌≤◌, ℕ, List}
 use Rattle.el_outside.specs.Files.{AllGrow}
-use Rattle.el_model.specs.World.{World, Event}
+use Rattle.el_world.specs.World.{World, Event}
 use Rattle.el_core.specs.State.{Stands, AreUpTo, work}
 use Rattle.el_loop.specs.within.Progress.{IsReady, Progress, snapshot}
 use Rattle.el_loop.proofs.running.work_off.Given as goal

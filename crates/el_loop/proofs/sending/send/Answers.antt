@@ -8,7 +8,7 @@ pub returns-then-p-eq0-clause-unsent : goal.returns-then-p-eq0-clause-unsent
 returns-then-p-eq0-clause-unsent g c =
     unsent_node g.K.Link.tells c.args.p c.in-Err.fault c.loss_of-why.result.0 c.loss_of-why.result.1
     c.args.server.now
-    (g.K.Link.story c.args.link.now) (g.K.Link.story c.send.new.self) (g.K.Link.faults c.args.link.now)
+    (g.K.Link.trace c.args.link.now) (g.K.Link.trace c.send.new.self) (g.K.Link.faults c.args.link.now)
     (g.K.Link.faults c.send.new.self)
     c.if-p-eq0.true c.loss_of-why.ensures.loss (λ e. c.in-Err.ensures.counted (ap Err e))
     (λ e. c.in-Err.ensures.memory_uncounted (ap Err e)) c.in-Err.ensures.not_sent
@@ -27,8 +27,8 @@ pub returns-clause-sent : goal.returns-clause-sent
 returns-clause-sent g c =
     lost_client g.G.Ledger.stands g.K.Link.tells (record { peer = c.args.p; text = c.args.text.now })
     c.in-Err.fault c.loss_of-why.result.0 c.loss_of-why.result.1
-    c.args.server.now c.gone.new.self (g.K.Link.story c.args.link.now) (g.K.Link.story c.send.new.self)
-    (g.K.Link.story c.close.new.self)
+    c.args.server.now c.gone.new.self (g.K.Link.trace c.args.link.now) (g.K.Link.trace c.send.new.self)
+    (g.K.Link.trace c.close.new.self)
     (g.K.Link.faults c.args.link.now) (g.K.Link.faults c.send.new.self) (g.K.Link.faults c.close.new.self)
     c.if-p-eq0.false c.loss_of-why.ensures.loss (λ e. c.in-Err.ensures.counted (ap Err e))
     (λ e. c.in-Err.ensures.memory_uncounted (ap Err e)) c.close.ensures.uncounted

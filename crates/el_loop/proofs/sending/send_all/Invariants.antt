@@ -1,5 +1,6 @@
-use Rattle.std.proofs.Common.{◌≡◌, ◌≤◌, ℕ, List, take}
-use Rattle.el_model.specs.World.{World, Event}
+use Rattle.std.proofs.Common.{◌≡◌, ◌≤◌, ℕ, List, take, Option}
+use Rattle.el_outside.specs.Trace.{Closing}
+use Rattle.el_world.specs.World.{World, Event}
 use Rattle.el_core.specs.State.{AreUpTo, work}
 use Rattle.el_core.specs.Turn.{messages_of}
 use Rattle.el_loop.specs.within.Sending.{CanSend, SentAll}
@@ -7,12 +8,12 @@ use Rattle.el_loop.proofs.sending.send_all.Given as goal
 
 abbrev pub invariant-loop-p : goal.invariant-loop-p
 invariant-loop-p g l = record {
-  sent : (next : World) (rest : List Event)
-      → CanSend g.G.Ledger.stands g.K.Link.tells l.initial.server next rest (g.K.Link.story l.initial.link)
-      (messages_of l.sends)
-      → SentAll g.G.Ledger.stands g.K.Link.tells next rest (messages_of (take l.p-index l.sends)) l.lost
-      l.initial.server (g.K.Link.story l.initial.link) (g.K.Link.faults l.initial.link) l.server
-      (g.K.Link.story l.link) (g.K.Link.faults l.link);
+  sent : (next : World) (rest : List Event) (closing : Option Closing)
+      → CanSend g.G.Ledger.stands g.K.Link.tells l.initial.server next rest (g.K.Link.trace l.initial.link)
+      closing (messages_of l.sends)
+      → SentAll g.G.Ledger.stands g.K.Link.tells next rest closing (messages_of (take l.p-index l.sends)) l.lost
+      l.initial.server (g.K.Link.trace l.initial.link) (g.K.Link.faults l.initial.link) l.server
+      (g.K.Link.trace l.link) (g.K.Link.faults l.link);
   same_ledger : l.server.ledger ≡ l.initial.server.ledger;
   no_more : work l.server ≤ work l.initial.server;
   numbers : (last : ℕ) → AreUpTo last l.initial.server.clients → AreUpTo last l.server.clients;

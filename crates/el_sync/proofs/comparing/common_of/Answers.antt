@@ -1,8 +1,8 @@
 use Rattle.std.proofs.Common.{◌≡◌, ◌∙◌, ap, length, refl, arith}
-use Rattle.el_model.specs.Plans.{blocks_in}
+use Rattle.el_model.specs.Queries.{blocks_in}
 use Rattle.el_sync.proofs.Compared.{common_more, common_other, common_ends, common_short, other_hash, this_hash}
 use Rattle.el_model.proofs.LedgerMoves.{asked_on}
-use Rattle.el_model.proofs.PlainMoves.{blocks_are}
+use Rattle.el_model.proofs.Heights.{blocks_are}
 use Rattle.el_sync.proofs.comparing.common_of.Goals as goal
 
 pub returns-then-index-count-clause-common : goal.returns-then-index-count-clause-common

@@ -1,7 +1,7 @@
 use Rattle.std.proofs.Common.{◌≡◌, ◌+◌, drop}
 use Rattle.el_chain.specs.Chains.{Chain}
 use Rattle.el_model.specs.LedgerCalls.{Asked}
-use Rattle.el_model.specs.Plans.{common}
+use Rattle.el_world.specs.Plans.{common}
 use Rattle.el_sync.proofs.comparing.common_of.Given as goal
 
 abbrev pub invariant-loop-index : goal.invariant-loop-index

@@ -5,5 +5,6 @@ pub returns-in-Ok : goal.returns-in-Ok
 returns-in-Ok c = rw (← c.self.view_is) (record {
   limit = c.feed.ensures.limit;
   peer = refl;
+  session = refl;
   kept = λ fed given at. c.in-Ok.ensures.at fed given at;
 })

@@ -9,7 +9,7 @@ use Rattle.std.proofs.Common.{length, ◌==◌}
 use Rattle.el_core.specs.State.{State}
 use Rattle.el_core.proofs.Noded.{ahead_failed}
 use Rattle.el_core.proofs.Measured.{ahead_less, line_less, peers_idle}
-use Rattle.el_core.proofs.Turned.{ahead_turned, node_turned, peers_turned, peers_ended, node_failed, unread_failed}
+use Rattle.el_core.proofs.Turned.{ahead_turned, node_turned, peers_turned, peers_any, peers_ended, node_failed, unread_failed}
 
 pub returns-in-Ok-clause-step : goal.returns-in-Ok-clause-step
 returns-in-Ok-clause-step g c = λ world left stood told.
@@ -25,7 +25,6 @@ returns-in-Err-clause-failed g c = λ world left stood told.
     let k = e.step in
     ahead_failed g.G.Ledger g.A.Archive c.args.self.now.ledger c.turn_ahead.new.self.ledger c.args.archive.now c.turn_ahead.new.archive world left c.in-Err.fault
     (λ none. e.some (stood.ahead ∙ none))
-    (record { archive = k.archive_rose; disk = λ is. k.disk_rose.counted (ap Err is); others = λ other. k.disk_rose.others_uncounted other })
     (λ is. k.still_live (ap Err is)) (rw stood.ahead at (e.stopped world.side.chain stood.chain))
 
 pub returns-in-Err-next_line-clause-failed : goal.returns-in-Err-next_line-clause-failed
@@ -40,8 +39,8 @@ returns-in-Ok-None-clause-step g c = λ world left stood told.
     let p = rw unchanged at c.turn_peers.ensures.peers in
     let q = rw unchanged at c.turn_peers.ensures.quiet in
     let s = rw unchanged at c.turn_peers.ensures.same in
-    peers_turned g.G.Ledger g.A.Archive c.args.self.now c.turn_peers.new.self c.args.archive.now world left c.turn_peers.result (λ m n d t h i j. g.met.G.Ledger.leaves_own m n d t h i j) c.requires.live
-    stood told (nil_if c.args.self.now.ahead c.is_empty.result c.if-not-is_empty.false (c.is_empty.ensures ∙ ap (λ (s : State g.row.G.Denot). length s.ahead == 0) c.self.view_is)) all s q p
+    peers_turned g.G.Ledger g.A.Archive c.args.self.now c.turn_peers.new.self c.args.archive.now c.turn_peers.new.archive world left c.turn_peers.result (λ m n d t h i j. g.met.G.Ledger.leaves_own m n d t h i j) c.requires.live
+    stood told c.turn_peers.ensures.keeps (nil_if c.args.self.now.ahead c.is_empty.result c.if-not-is_empty.false (c.is_empty.ensures ∙ ap (λ (s : State g.row.G.Denot). length s.ahead == 0) c.self.view_is)) all s q p
 
 pub returns-in-Ok-None-clause-done : goal.returns-in-Ok-None-clause-done
 returns-in-Ok-None-clause-done g c = λ world left stood.
@@ -50,7 +49,7 @@ returns-in-Ok-None-clause-done g c = λ world left stood.
     let p = rw unchanged at c.turn_peers.ensures.peers in
     let q = rw unchanged at c.turn_peers.ensures.quiet in
     let s = rw unchanged at c.turn_peers.ensures.same in
-    peers_ended g.G.Ledger g.A.Archive c.args.self.now c.turn_peers.new.self world left c.turn_peers.result (λ m n d t h i j. g.met.G.Ledger.leaves_own m n d t h i j) c.requires.live
+    peers_ended g.G.Ledger g.A.Archive c.args.self.now c.turn_peers.new.self c.args.archive.now c.turn_peers.new.archive world left c.turn_peers.result (λ m n d t h i j. g.met.G.Ledger.leaves_own m n d t h i j) c.requires.live
     stood (nil_if c.args.self.now.ahead c.is_empty.result c.if-not-is_empty.false (c.is_empty.ensures ∙ ap (λ (s : State g.row.G.Denot). length s.ahead == 0) c.self.view_is)) all s q p
 
 pub returns-in-Ok-None-clause-idle : goal.returns-in-Ok-None-clause-idle
@@ -77,7 +76,6 @@ returns-in-Err-turn_node-clause-failed g c = λ world left stood told.
     node_failed g.G.Ledger g.A.Archive c.args.self.now c.next_line.new.self c.turn_node.new.self.ledger c.args.archive.now c.turn_node.new.archive world left
     (as_listed c.in-Ok-Some.met) c.in-Err-turn_node.fault
     stood told e.still c.in-Ok-Some.ensures.same c.in-Ok-Some.ensures.limit (rw c.in-Ok-Some.field-0-is at c.in-Ok-Some.ensures.met)
-    (record { archive = k.archive_rose; disk = λ is. k.disk_rose.counted (ap Err is); others = λ other. k.disk_rose.others_uncounted other })
     (λ is. k.still_live (ap Err is)) e.stopped
 
 pub returns-in-Ok-clause-waiting : goal.returns-in-Ok-clause-waiting
@@ -119,14 +117,16 @@ returns-in-Ok-None-clause-memory g c = λ world left p stood.
     let all = rw c.in-Ok-None.field-0-is at c.in-Ok-None.ensures.none in
     let unchanged = rw c.in-Ok-None.field-0-is at c.in-Ok-None.ensures.unchanged in
     let turn = rw unchanged at c.turn_peers.ensures.peers in
-    found_memory g.G.Ledger.stands c.args.self.now c.turn_peers.new.self world left world.side.chain _ c.turn_peers.result p stood
-    (none_ordered c.args.self.now.node world.heard stood.ordered stood.node all) (turn world.side.chain stood.chain)
+    found_memory g.G.Ledger.stands c.args.self.now c.turn_peers.new.self world left _ _ _ c.turn_peers.result p stood
+    (none_ordered c.args.self.now.node world.heard stood.ordered stood.node all)
+    (peers_any g.G.Ledger g.A.Archive c.args.self.now c.turn_peers.new.self c.args.archive.now c.turn_peers.new.archive world left c.turn_peers.result stood (nil_if c.args.self.now.ahead c.is_empty.result c.if-not-is_empty.false (c.is_empty.ensures ∙ ap (λ (s : State g.row.G.Denot). length s.ahead == 0) c.self.view_is)) turn)
 
 pub returns-in-Ok-None-clause-long : goal.returns-in-Ok-None-clause-long
 returns-in-Ok-None-clause-long g c = λ world p rest stood still is kept.
     let unchanged = rw c.in-Ok-None.field-0-is at c.in-Ok-None.ensures.unchanged in
     let turn = rw unchanged at c.turn_peers.ensures.peers in
-    let l = peers_long g.G.Ledger.stands c.args.self.now c.turn_peers.new.self world p rest world.side.chain _ c.turn_peers.result stood is kept (turn world.side.chain stood.chain) in
+    let l = peers_long g.G.Ledger.stands c.args.self.now c.turn_peers.new.self world p rest _ _ _ c.turn_peers.result stood is kept
+    (peers_any g.G.Ledger g.A.Archive c.args.self.now c.turn_peers.new.self c.args.archive.now c.turn_peers.new.archive world _ c.turn_peers.result stood (nil_if c.args.self.now.ahead c.is_empty.result c.if-not-is_empty.false (c.is_empty.ensures ∙ ap (λ (s : State g.row.G.Denot). length s.ahead == 0) c.self.view_is)) turn) in
     (l.0, ap Ok l.1, l.2)
 
 pub returns-in-Ok-turn_node-clause-memory : goal.returns-in-Ok-turn_node-clause-memory

@@ -2,20 +2,20 @@ use Rattle.std.proofs.Common.{◌∙◌, sym, ap, refl, Option}
 use Rattle.el_core.specs.State.{work_of_surplus}
 use Rattle.el_core.specs.within.Clients.{gone, speaker_after}
 use Rattle.el_core.specs.declared.out.Outs.{Outs}
-use Rattle.el_core.proofs.Noded.{rose_still}
+use Rattle.el_core.proofs.Losing.{lost_none}
 use Rattle.el_core.proofs.Measured.{steps_of, speaker_gone, speaker_stays, turned_less, turned_gone, on_some}
 use Rattle.el_core.proofs.Numbers.{up_to_turned}
 use Rattle.el_core.proofs.server.Server.turn_client.Goals as goal
 
 pub returns-in_default-place_of-clause-speaker_steps : goal.returns-in_default-place_of-clause-speaker_steps
-returns-in_default-place_of-clause-speaker_steps g c = λ chain stood.
-    rw (← c.self.view_is) (gone c.in-Some.p c.in-Some.is c.in_default-place_of.ensures.place refl refl (rose_still _ _ refl))
+returns-in_default-place_of-clause-speaker_steps g c = λ side at'.
+    rw (← c.self.view_is) (gone c.in-Some.p c.in-Some.is c.in_default-place_of.ensures.place refl refl (lost_none g.G.Ledger g.A.Archive _ _ c.args.archive.now refl))
 
 pub returns-then-not-stays-clause-speaker_steps : goal.returns-then-not-stays-clause-speaker_steps
-returns-then-not-stays-clause-speaker_steps g c = λ chain stood.
+returns-then-not-stays-clause-speaker_steps g c = λ side at'.
     let t = c.turn-outs.ensures.turn in
-    rw (← c.self.view_is) (steps_of _ chain _ _ _ c.turn-outs.result.0 c.turn-outs.result.1 c.in-Some.p c.in-Some-place_of.i c.in-Some.is c.in-Some-place_of.ensures.place t
-    (λ d left said. said chain (rw (← c.self.view_is) at stood)) refl
+    rw (← c.self.view_is) (steps_of _ _ side _ _ _ c.turn-outs.result.0 c.turn-outs.result.1 c.in-Some.p c.in-Some-place_of.i c.in-Some.is c.in-Some-place_of.ensures.place t
+    (λ d left said. said side (rw (← c.self.view_is) at at')) refl
     (λ peer. speaker_gone c.turn-outs.result.0 t.left (sym t.stays_is ∙ c.if-not-stays.true)))
 
 pub returns-then-not-stays-clause-less : goal.returns-then-not-stays-clause-less
@@ -24,10 +24,10 @@ returns-then-not-stays-clause-less g c =
     (on_some c.turn-outs.result.0 _ (turned_gone _ c.in-Some.p c.in-Some-place_of.i (work_of_surplus c.self.inside.surplus) _ _ c.turn-outs.result.0 c.turn-outs.result.1 c.turn-outs.ensures.turn)))
 
 pub returns-in-Some-outs-clause-speaker_steps : goal.returns-in-Some-outs-clause-speaker_steps
-returns-in-Some-outs-clause-speaker_steps g c = λ chain stood.
+returns-in-Some-outs-clause-speaker_steps g c = λ side at'.
     let t = c.turn-outs.ensures.turn in
-    rw (← c.in-Some-outs.is, ← c.self.view_is) (steps_of _ chain _ _ _ c.turn-outs.result.0 c.turn-outs.result.1 c.in-Some.p c.in-Some-place_of.i c.in-Some.is c.in-Some-place_of.ensures.place t
-    (λ d left said. said chain (rw (← c.self.view_is) at stood)) refl
+    rw (← c.in-Some-outs.is, ← c.self.view_is) (steps_of _ _ side _ _ _ c.turn-outs.result.0 c.turn-outs.result.1 c.in-Some.p c.in-Some-place_of.i c.in-Some.is c.in-Some-place_of.ensures.place t
+    (λ d left said. said side (rw (← c.self.view_is) at at')) refl
     (λ peer. c.in-Some.is ∙ speaker_stays c.turn-outs.result.0 t.left _ c.in-Some.p t.client (sym t.stays_is ∙ c.if-not-stays.false) c.in-Some-outs.is t.same peer))
 
 pub returns-in-Some-outs-clause-less : goal.returns-in-Some-outs-clause-less
@@ -36,10 +36,10 @@ returns-in-Some-outs-clause-less g c =
     (turned_less _ c.in-Some.p c.in-Some-place_of.i (work_of_surplus c.self.inside.surplus) _ _ c.turn-outs.result.0 _ c.turn-outs.result.1 c.turn-outs.ensures.turn c.in-Some-outs.is))
 
 pub returns-in-None-clause-speaker_steps : goal.returns-in-None-clause-speaker_steps
-returns-in-None-clause-speaker_steps g c = λ chain stood.
+returns-in-None-clause-speaker_steps g c = λ side at'.
     let t = c.turn-outs.ensures.turn in
-    rw (← c.in-None.is, ← c.self.view_is) (steps_of _ chain _ _ _ c.turn-outs.result.0 c.turn-outs.result.1 c.in-Some.p c.in-Some-place_of.i c.in-Some.is c.in-Some-place_of.ensures.place t
-    (λ d left said. said chain (rw (← c.self.view_is) at stood)) refl
+    rw (← c.in-None.is, ← c.self.view_is) (steps_of _ _ side _ _ _ c.turn-outs.result.0 c.turn-outs.result.1 c.in-Some.p c.in-Some-place_of.i c.in-Some.is c.in-Some-place_of.ensures.place t
+    (λ d left said. said side (rw (← c.self.view_is) at at')) refl
     (λ peer. ap (λ (x : Option Outs). speaker_after x t.left) (sym c.in-None.is)))
 
 pub returns-then-not-stays-clause-numbers : goal.returns-then-not-stays-clause-numbers

@@ -1,5 +1,5 @@
 use Rattle.std.proofs.Common.{◌≡◌, ◌+◌, [], length, drop, take, Some, true, ap, sym, refl, ◌∙◌, arith}
-use Rattle.el_model.specs.Lines.{line, too_long}
+use Rattle.el_lines.specs.Lines.{line, too_long}
 use Rattle.el_lines.specs.LineStates.{LineState}
 use Rattle.el_lines.proofs.Standing.{next_ended, next_long, next_none, long_event, short_event, not_all}
 use Rattle.el_lines.proofs.line_buffer.LineBuffer.next_line.Goals as goal

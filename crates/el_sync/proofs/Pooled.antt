@@ -1,0 +1,101 @@
+-- Lines about unconfirmed transactions.
+use Rattle.std.proofs.Common.{◌≡◌, ◌≢◌, ◌⊎◌, inl, inr, ℕ, true, false, List, [], ◌∷◌, ◌++◌, length, Some, Result, Ok, Err, refl, sym, ap, ◌∙◌, append-nil}
+use Rattle.std.specs.Prelude.{map, IfOk, OnOk}
+use Rattle.el_base.specs.declared.hash.Hash32.{Hash32}
+use Rattle.el_tx.specs.declared.fault.TxFault.{TxFault}
+use Rattle.el_tx.specs.declared.fault.TxFault.TheVariants as read_fault
+use Rattle.el_tx.specs.declared.types.Tx.{Tx}
+use Rattle.el_tx.specs.Encoding.{Encodes}
+use Rattle.el_tx.specs.Hashing.{txid}
+use Rattle.el_chain.specs.Chains.{Chain}
+use Rattle.el_mempool.specs.declared.fault.PoolFault.{PoolFault}
+use Rattle.el_mempool.specs.declared.fault.PoolFault.TheVariants as refusal
+use Rattle.el_mempool.specs.Adding.{Joined}
+use Rattle.el_mempool.specs.Refusals.{IsRefused, is_kept}
+use Rattle.el_mempool.specs.Sift.{sift, other_than}
+use Rattle.el_mempool.specs.Standing.{PoolState, StandsFor, has_entry, kept_tx}
+use Rattle.el_mempool.proofs.Confirmed.{hash_turned}
+use Rattle.el_lines.specs.NodeAnswers.{absent_refused, form_refused, gone_answer, pool_refused, tx_answer}
+use Rattle.el_world.specs.Side as side_of
+use Rattle.el_world.specs.Side.{Side, Adds, Drops}
+use Rattle.el_sync.specs.within.Parts.{NamesItself, StandsAfter}
+use Rattle.el_sync.specs.declared.fault.StepFault.{StepFault}
+
+abbrev read_of : Tx → Result (Tx × ℕ) TxFault → Tx
+read_of other (Ok read) = read.0
+read_of other (Err e) = other
+
+-- what is read of bytes that encode a transaction is that transaction
+pub same_tx : (r : Result (Tx × ℕ) TxFault) (bytes : List ℕ) (tx t : Tx) (size : ℕ)
+    → (r ≢ Err read_fault.Memory → (front rest : List ℕ) (u : Tx) → Encodes front u → bytes ≡ front ++ rest → r ≡ Ok (u, length front))
+    → r ≡ Ok (tx, size) → Encodes bytes t → tx ≡ t
+same_tx r bytes tx t size only is encoded =
+    let whole = only (λ bad. let e = sym is ∙ bad in cc) bytes [] t encoded (sym (append-nil bytes)) in
+    ap (read_of t) (sym is ∙ whole)
+
+-- what bytes that encode a transaction are refused for is no other than what is told of it
+pub told_so : (fault : PoolFault) (a b : Hash32) (text : List ℕ) → (NamesItself fault → a ≡ b) → pool_refused a fault ≡ Some text → pool_refused b fault ≡ Some text
+told_so refusal.Bad a b text same says = says
+told_so refusal.CoinbaseForm a b text same says = says
+told_so refusal.Confirmed a b text same says = rw (same tt) at says
+told_so refusal.Known a b text same says = rw (same tt) at says
+told_so (refusal.Missing o) a b text same says = says
+told_so (refusal.Conflict o id) a b text same says = says
+told_so (refusal.Overspends t g) a b text same says = says
+told_so (refusal.Full c n) a b text same says = says
+told_so refusal.DiskFailed a b text same says = says
+told_so refusal.Memory a b text same says = says
+
+-- a transaction that joins
+pub joins_side : (pool : PoolState) (side : Side) (bytes text : List ℕ) (id : Hash32) (scripts : List Hash32) → Joined side.limits side.chain side.kept bytes pool.entries id scripts
+    → text ≡ tx_answer id → StandsAfter pool side (Adds side bytes text [])
+joins_side pool side bytes text id scripts j says = record {
+  kept = side.kept ++ j.tx ∷ [];
+  done = side_of.joins j.tx j.encoded j.free (says ∙ ap tx_answer j.is_id) refl refl;
+  stood = j.stands;
+}
+
+-- one that is refused
+pub refused_side : (pool pool_new : PoolState) (side : Side) (bytes text : List ℕ) (e : PoolFault) → StandsFor pool.entries side.chain side.kept → pool_new ≡ pool
+    → (e ≡ refusal.Memory) ⊎ ((e ≡ refusal.DiskFailed) ⊎ IsRefused side.limits side.chain side.kept bytes e) → e ≢ refusal.DiskFailed → e ≢ refusal.Memory
+    → ((t : Tx) → Encodes bytes t → pool_refused (txid t) e ≡ Some text) → (e ≡ refusal.Bad → text ≡ form_refused) → StandsAfter pool_new side (Adds side bytes text [])
+refused_side pool pool_new side bytes text e stood same (inl m) no_disk no_memory told form = absurd (no_memory m)
+refused_side pool pool_new side bytes text e stood same (inr (inl d)) no_disk no_memory told form = absurd (no_disk d)
+refused_side pool pool_new side bytes text e stood same (inr (inr (inl bad))) no_disk no_memory told form = record {
+  kept = side.kept;
+  done = side_of.misread bad.1 (form bad.0) refl refl;
+  stood = rw same stood;
+}
+refused_side pool pool_new side bytes text e stood same (inr (inr (inr first))) no_disk no_memory told form = record {
+  kept = side.kept;
+  done = side_of.refuses first.0 e first.1 first.2 (told first.0 first.1) refl refl;
+  stood = rw same stood;
+}
+
+-- what is kept has an entry
+entries_have : (chain : Chain) (all kept : List Tx) (id : Hash32) → has_entry id (map (kept_tx chain all) kept) ≡ is_kept id kept
+entries_have chain all [] id = refl
+entries_have chain all (t ∷ ts) id = rw (entries_have chain all ts id, hash_turned id (txid t)) refl
+
+has_kept : (pool : PoolState) (side : Side) (id : Hash32) → StandsFor pool.entries side.chain side.kept → has_entry id pool.entries ≡ is_kept id side.kept
+has_kept pool side id stood = rw stood.are (entries_have side.chain side.kept side.kept id)
+
+-- a transaction that is dropped
+pub drops_side : (pool pool_new : PoolState) (side : Side) (id : Hash32) (text : List ℕ) → StandsFor pool.entries side.chain side.kept → true ≡ has_entry id pool.entries
+    → StandsFor pool_new.entries side.chain (sift side.chain (other_than id side.kept)) → text ≡ gone_answer id → StandsAfter pool_new side (Drops side id text [])
+drops_side pool pool_new side id text stood there after says =
+    let kept : is_kept id side.kept ≡ true = sym (has_kept pool side id stood) ∙ sym there in
+    record { kept = sift side.chain (other_than id side.kept); done = rw kept (says, refl, refl); stood = after }
+
+pub absent_side : (pool pool_new : PoolState) (side : Side) (id : Hash32) (text : List ℕ) → StandsFor pool.entries side.chain side.kept → false ≡ has_entry id pool.entries
+    → pool_new ≡ pool → text ≡ absent_refused id → StandsAfter pool_new side (Drops side id text [])
+absent_side pool pool_new side id text stood there same says =
+    let none : is_kept id side.kept ≡ false = sym (has_kept pool side id stood) ∙ sym there in
+    record { kept = side.kept; done = rw none (says, refl, refl); stood = rw same stood }
+
+pub refused_told : (r : Result (List ℕ) StepFault) (pool pool_new : PoolState) (side : Side) (bytes : List ℕ) (e : PoolFault) → StandsFor pool.entries side.chain side.kept → pool_new ≡ pool
+    → (e ≡ refusal.Memory) ⊎ ((e ≡ refusal.DiskFailed) ⊎ IsRefused side.limits side.chain side.kept bytes e) → OnOk r (e ≢ refusal.DiskFailed) → OnOk r (e ≢ refusal.Memory)
+    → ((t : Tx) → Encodes bytes t → IfOk r (λ text. pool_refused (txid t) e ≡ Some text)) → (e ≡ refusal.Bad → IfOk r (λ text. text ≡ form_refused))
+    → IfOk r (λ text. StandsAfter pool_new side (Adds side bytes text []))
+refused_told (Ok text) pool pool_new side bytes e stood same why no_disk no_memory told form = refused_side pool pool_new side bytes text e stood same why no_disk no_memory told form
+refused_told (Err f) pool pool_new side bytes e stood same why no_disk no_memory told form = tt

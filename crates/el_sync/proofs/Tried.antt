@@ -1,0 +1,413 @@
+-- Moves, and the sift after them.
+use Rattle.std.proofs.lemmas.List.{take_all}
+use Rattle.std.specs.Prelude.{if◌then◌else◌}
+use Rattle.std.proofs.Common.{◌≡◌, ◌≢◌, ◌⊎◌, inl, inr, ℕ, ◌-◌, ◌≤◌, ◌==◌, ◌&&◌, ◌||◌, arith, Bool, true, false, List, [], ◌∷◌, ◌++◌, length, take, Option, Result, Ok, Err, refl, sym, ◌∙◌, eqb-true}
+use Rattle.std.specs.Result.{IfErr}
+use Rattle.el_base.specs.declared.hash.Hash32.{Hash32}
+use Rattle.el_outside.specs.Counts.{RoseBy}
+use Rattle.el_outside.specs.Devices as device
+use Rattle.el_outside.specs.Devices.{Device, archive, Rose}
+use Rattle.el_outside.specs.Files.{AllGrow}
+use Rattle.el_outside.specs.declared.archive.Archive as archives
+use Rattle.el_outside.proofs.Devices.{all_rose_on, rose_of, rose_still}
+use Rattle.el_outside.proofs.Moments.{joined, weaker}
+use Rattle.el_chain.specs.declared.node.Node.{Node}
+use Rattle.el_chain.specs.declared.moves.MoveFault.{MoveFault}
+use Rattle.el_chain.specs.declared.moves.MoveFault.TheVariants as stop
+use Rattle.el_chain.specs.declared.moves.Plan.{Plan}
+use Rattle.el_chain.specs.Chains.{Chain, tip}
+use Rattle.el_chain.specs.Headers.{AreLinked}
+use Rattle.el_chain.specs.Moves.{InFlight, IsRefused, Moves, target, shorter, max_forward}
+use Rattle.el_mempool.specs.Sift.{sift}
+use Rattle.el_mempool.specs.Standing.{PoolState, StandsFor}
+use Rattle.el_model.specs.Keeping.{Either}
+use Rattle.el_model.specs.LedgerCalls.{Asked, CrashLeaves, Moved, failed_calls}
+use Rattle.el_model.specs.Queries.{tip_of, height_of}
+use Rattle.el_model.specs.declared.ledger.Ledger as ledgers
+use Rattle.el_model.proofs.LedgerMoves.{LeavesOwn}
+use Rattle.el_model.proofs.Quiets.{quiet_leaves}
+use Rattle.el_lines.specs.NodeAnswers.{at_answer}
+use Rattle.el_world.specs.Flights.{IsUnderWay, before, in_move}
+use Rattle.el_world.specs.Plans.{left_of, plan_of}
+use Rattle.el_world.specs.Side as side_of
+use Rattle.el_world.specs.Side.{Side, Moving, kept_after}
+use Rattle.el_world.specs.NodeSteps.{IsAt, Leads, SetStands}
+use Rattle.el_sync.specs.Steps.{FailsBy, NodeStep, RoseWith, StopsAt, by_disk, by_memory, in_sift, untold}
+use Rattle.el_sync.specs.within.Parts.{MoveFailed, MoveKeeps, SaysRefusal, Tried, Tries, made, refused, failed}
+use Rattle.el_sync.specs.declared.fault.StepFault.{StepFault}
+use Rattle.el_sync.specs.declared.fault.StepFault.TheVariants as fault
+use Rattle.el_sync.specs.declared.making.Made.{Made}
+use Rattle.el_sync.specs.declared.moving.Step.{Step}
+use Rattle.el_sync.proofs.Led.{all_grow_self, grows_on, stands_there, still_there}
+use Rattle.el_sync.proofs.Lists.{left_no_more}
+
+-- ---- whether the set is sifted
+
+ends_whole : (l front : List Node) (moved later ends : Bool) → ends ≡ ((length front == 0) && (moved || later)) → moved ≡ true → front ≡ l → l ≡ [] → ends ≡ true
+ends_whole l front moved later ends is yes_moved same none = is ∙ rw (same, none, yes_moved) refl
+
+more_left : (n : Node) (ns : List Node) → (length (n ∷ ns) == 0) ≡ false
+more_left n ns = by (length (n ∷ ns) == 0) refl
+  where
+    by : (b : Bool) → (length (n ∷ ns) == 0) ≡ b → (length (n ∷ ns) == 0) ≡ false
+    by true e = absurd (let z = eqb-true (length (n ∷ ns)) 0 e in omega arith)
+    by false e = e
+
+ends_not : (n : Node) (ns front : List Node) (moved later ends : Bool) → ends ≡ ((length front == 0) && (moved || later)) → front ≡ n ∷ ns → ends ≡ false
+ends_not n ns front moved later ends is same = is ∙ rw (same, more_left n ns) refl
+
+ends_later : (front : List Node) (moved later ends : Bool) → ends ≡ ((length front == 0) && (moved || later)) → moved ≡ false → front ≡ [] → ends ≡ later
+ends_later front moved later ends is no_moved none = is ∙ rw (none, no_moved) refl
+
+pub later_then : (front : List Node) (moved later ends : Bool) → ends ≡ ((length front == 0) && (moved || later)) → ends ≡ true → moved ≡ false → later ≡ true
+later_then front moved later ends is ended no_moved = by (length front == 0) (sym is ∙ ended)
+  where
+    by : (b : Bool) → (b && (moved || later)) ≡ true → later ≡ true
+    by true e = rw no_moved at e
+    by false e = absurd (let bad = e in cc)
+
+-- ---- what the set then stands for
+
+set_moved : (l : List Node) (chain : Chain) (files : ℕ → List ℕ) (pool pool_new : PoolState) (side : Side) → SetStands pool side → pool_new.limits ≡ pool.limits
+    → (l ≡ [] → StandsFor pool_new.entries chain (sift chain side.kept)) → ((n : Node) (ns : List Node) → l ≡ n ∷ ns → pool_new ≡ pool)
+    → SetStands pool_new (record side { chain = chain; kept = kept_after l chain side.kept; ahead = l; files = files })
+set_moved [] chain files pool pool_new side set limits sifts same =
+    record { before = chain; stood = sifts refl; still = λ e. refl; limits = limits ∙ set.limits }
+set_moved (n ∷ ns) chain files pool pool_new side set limits sifts same =
+    record { before = set.before; stood = rw (same n ns refl) set.stood; still = λ e. absurd (let bad = e in cc); limits = limits ∙ set.limits }
+
+set_refused : (later : Bool) (files : ℕ → List ℕ) (pool pool_new : PoolState) (side : Side) → SetStands pool side → (later ≡ false → side.ahead ≡ []) → pool_new.limits ≡ pool.limits
+    → (later ≡ true → StandsFor pool_new.entries side.chain (sift side.chain side.kept)) → (later ≡ false → pool_new ≡ pool)
+    → SetStands pool_new (record side { kept = sift side.chain side.kept; ahead = []; files = files })
+set_refused true files pool pool_new side set still limits sifts same =
+    record { before = side.chain; stood = sifts refl; still = λ e. refl; limits = limits ∙ set.limits }
+set_refused false files pool pool_new side set still limits sifts same =
+    let there = stands_there pool side set (still refl) in
+    record { before = side.chain; stood = rw (same refl, there.sifted) there; still = λ e. refl; limits = limits ∙ set.limits }
+
+-- by how much the count of the block files' failures rose where a refusal wasn't told
+pub files_rose : (f : MoveFault) (e : StepFault) (a b : ℕ) → (f ≡ stop.ArchiveFailed → RoseBy a b 1) → (f ≢ stop.ArchiveFailed → b ≡ a) → (e ≡ fault.DiskFailed → f ≡ stop.DiskFailed)
+    → RoseBy a b 0 ⊎ ((e ≡ fault.Memory) × RoseBy a b 1)
+files_rose f fault.DiskFailed a b counted others is_disk = inl (rose_still a b (others (λ is. let bad = sym (is_disk refl) ∙ is in cc)))
+files_rose stop.ArchiveFailed fault.Memory a b counted others is_disk = inr (refl, counted refl)
+files_rose stop.DiskFailed fault.Memory a b counted others is_disk = inl (rose_still a b (others (λ is. let bad = is in cc)))
+files_rose stop.Memory fault.Memory a b counted others is_disk = inl (rose_still a b (others (λ is. let bad = is in cc)))
+files_rose (stop.Changed w h) fault.Memory a b counted others is_disk = inl (rose_still a b (others (λ is. let bad = is in cc)))
+files_rose (stop.BadBlock h g) fault.Memory a b counted others is_disk = inl (rose_still a b (others (λ is. let bad = is in cc)))
+files_rose (stop.Refused h g) fault.Memory a b counted others is_disk = inl (rose_still a b (others (λ is. let bad = is in cc)))
+
+-- what a move leaves is no more than there was
+pub made_no_more : (moved : Bool) (rest left : List Node) → left ≡ (if moved then left_of rest else []) → length left ≤ length rest
+made_no_more true rest left is = left_no_more rest left is
+made_no_more false rest left is = rw is (omega arith)
+
+-- a later move takes no block back
+pub fits_whole : (chain : Chain) (rest : List Node) → AreLinked (tip chain) rest → (0 ≤ length chain) × AreLinked (tip (shorter 0 chain)) rest
+fits_whole chain rest linked =
+    let whole : shorter 0 chain ≡ chain = take_all (length chain - 0) chain (omega arith) in
+    (omega arith, rw whole linked)
+
+pub not_failed : (e : StepFault) → e ≢ fault.DiskFailed → e ≡ fault.Memory
+not_failed fault.DiskFailed other = absurd (other refl)
+not_failed fault.Memory other = refl
+
+module _ {G A : Type 0} (of_ledger : ledgers.Ghosts G) (of_files : archives.Ghosts A) where
+  pub move_failed : (r : Result Made StepFault) (e : StepFault) (old new : G) (a b : A) → r ≡ Err e → MoveFailed of_ledger of_files old new a b e
+      → IfErr r (MoveFailed of_ledger of_files old new a b)
+  move_failed r e old new a b is f = rw is f
+
+  -- a first move that failed stops a later one too
+  pub stops_first : {T : Type 0} (r : Result T StepFault) (e : StepFault) (old new : G) (a b : A) (chain : Chain) (later : Bool) (P : Plan → Type 0) → r ≡ Err e
+      → StopsAt of_ledger of_files old new a b chain false P e → IfErr r (StopsAt of_ledger of_files old new a b chain later P)
+  stops_first r e old new a b chain later P is s =
+      rw is (record { next = s.next; flight = s.flight; crash = s.crash; stood = s.stood; losses = s.losses; fails = by s.fails; rose = s.rose })
+    where
+      by : {next : Chain} {losses : List Device} → FailsBy false chain next e losses → FailsBy later chain next e losses
+      by (by_disk d l) = by_disk d l
+      by (by_memory d l) = by_memory d l
+      by (untold d l n) = untold d l n
+      by (in_sift no_later d l n) = absurd (let bad = no_later in cc)
+
+  -- ---- moves
+
+  -- a move that is made; P is what else is known of its blocks
+  pub made_tries : (old new : G) (a b : A) (side : Side) (back : ℕ) (rest forward : List Node) (top : Option Hash32) (height : Option ℕ) (m : Made) (P : Chain → Type 0)
+      → (of_files.tells → AllGrow side.files (of_files.bytes a)) → (of_files.tells → AllGrow (of_files.bytes a) (of_files.bytes b))
+      → (blocks : Chain) × Moves of_files.tells (of_files.bytes b) side.chain (record { back = back; forward = forward }) blocks
+      × of_ledger.stands new (target (record { back = back; forward = forward }) side.chain blocks) × P blocks
+      × CrashLeaves of_ledger old new side.chain (target (record { back = back; forward = forward }) side.chain blocks)
+      → forward ≡ take max_forward rest → ((c : Chain) → of_ledger.stands new c → top ≡ tip_of c) → ((c : Chain) → of_ledger.stands new c → height ≡ height_of c)
+      → m.moved ≡ true → m.text ≡ at_answer top height → of_files.faults b ≡ of_files.faults a → of_ledger.faults new ≡ of_ledger.faults old
+      → Tries of_ledger of_files old new a b side back rest m
+  made_tries old new a b side back rest forward top height m P told grows moved is tip_is height_is yes_moved text_is files_same disk_same = record {
+    losses = [];
+    chain = shorter back side.chain ++ moved.0;
+    tried = made moved.0 (rw is at moved.1) yes_moved refl (rw (← tip_is (shorter back side.chain ++ moved.0) moved.2, ← height_is (shorter back side.chain ++ moved.0) moved.2) text_is) refl;
+    grows = λ t. grows_on side.files (of_files.bytes a) (of_files.bytes b) (told t) (grows t);
+    moved = record { stood = moved.2; crash = moved.4 };
+    rose = λ of_link. rose_of of_link _ _ _ _ [] refl (rose_still _ _ files_same) (rose_still _ _ disk_same);
+  }
+
+  -- one that is refused
+  refused_tries : (old new : G) (a b : A) (side : Side) (back : ℕ) (rest : List Node) (m : Made) (losses : List Device)
+      → (of_files.tells → AllGrow side.files (of_files.bytes a)) → (of_files.tells → AllGrow (of_files.bytes a) (of_files.bytes b)) → Moved of_ledger old new side.chain side.chain
+      → Tried of_files.tells side back rest m.moved m.text losses side.chain (of_files.bytes b)
+      → ((of_link : ℕ) → Rose (failed_calls of_ledger of_files of_link old a) (failed_calls of_ledger of_files of_link new b) losses)
+      → Tries of_ledger of_files old new a b side back rest m
+  refused_tries old new a b side back rest m losses told grows moved tried rose = record {
+    losses = losses;
+    chain = side.chain;
+    tried = tried;
+    grows = λ t. grows_on side.files (of_files.bytes a) (of_files.bytes b) (told t) (grows t);
+    moved = moved;
+    rose = rose;
+  }
+
+  pub not_made : (old new : G) (a b : A) (side : Side) (back : ℕ) (rest forward : List Node) (e : MoveFault) (m : Made)
+      → (of_files.tells → AllGrow side.files (of_files.bytes a)) → (of_files.tells → AllGrow (of_files.bytes a) (of_files.bytes b)) → Moved of_ledger old new side.chain side.chain
+      → IsRefused of_files.tells (of_files.bytes b) side.chain (record { back = back; forward = forward }) e → forward ≡ take max_forward rest
+      → (e ≡ stop.ArchiveFailed → RoseBy (of_files.faults a) (of_files.faults b) 1) → (e ≢ stop.ArchiveFailed → of_files.faults b ≡ of_files.faults a)
+      → of_ledger.faults new ≡ of_ledger.faults old → m.moved ≡ false → SaysRefusal e m.text → Tries of_ledger of_files old new a b side back rest m
+  not_made old new a b side back rest forward stop.DiskFailed m told grows moved why is count still disk_same none says = absurd says
+  not_made old new a b side back rest forward stop.Memory m told grows moved why is count still disk_same none says = absurd says
+  not_made old new a b side back rest forward stop.ArchiveFailed m told grows moved why is count still disk_same none says =
+      refused_tries old new a b side back rest m (archive ∷ []) told grows moved (failed none refl says refl)
+      (λ of_link. rose_of of_link _ _ _ _ (archive ∷ []) refl (count refl) (rose_still _ _ disk_same))
+  not_made old new a b side back rest forward (stop.Changed w f) m told grows moved why is count still disk_same none says =
+      refused_tries old new a b side back rest m [] told grows moved (refused (stop.Changed w f) (rw is at why) none refl says refl)
+      (λ of_link. rose_of of_link _ _ _ _ [] refl (rose_still _ _ (still (λ e. let bad = e in cc))) (rose_still _ _ disk_same))
+  not_made old new a b side back rest forward (stop.BadBlock h f) m told grows moved why is count still disk_same none says =
+      refused_tries old new a b side back rest m [] told grows moved (refused (stop.BadBlock h f) (rw is at why) none refl says refl)
+      (λ of_link. rose_of of_link _ _ _ _ [] refl (rose_still _ _ (still (λ e. let bad = e in cc))) (rose_still _ _ disk_same))
+  not_made old new a b side back rest forward (stop.Refused h f) m told grows moved why is count still disk_same none says =
+      refused_tries old new a b side back rest m [] told grows moved (refused (stop.Refused h f) (rw is at why) none refl says refl)
+      (λ of_link. rose_of of_link _ _ _ _ [] refl (rose_still _ _ (still (λ e. let bad = e in cc))) (rose_still _ _ disk_same))
+
+  -- the ledger's device failed in a move, or no memory was found to tell of its refusal
+  pub broke : {T : Type 0} (r : Result T StepFault) (old new : G) (a b : A) (chain : Chain) (back : ℕ) (rest forward : List Node) (e : StepFault) → r ≡ Err e → forward ≡ take max_forward rest
+      → (e ≡ fault.DiskFailed → (next : Chain) × InFlight of_files.tells (of_files.bytes b) chain (record { back = back; forward = forward }) next
+      × CrashLeaves of_ledger old new chain next)
+      → (e ≡ fault.Memory → Moved of_ledger old new chain chain) → MoveFailed of_ledger of_files old new a b e
+      → IfErr r (StopsAt of_ledger of_files old new a b chain false (λ (p : Plan). p ≡ plan_of back rest))
+  broke {T} r old new a b chain back rest forward fault.Memory is front broken moved f =
+      rw is (still_there of_ledger of_files {T = T} (Err fault.Memory) old new a b chain _ (moved refl) (by f.archive_rose)
+      (record { counted = λ e. absurd (let bad = e in cc); uncounted = tt; others_uncounted = λ other. f.disk_same other }))
+    where
+      by : RoseBy (of_files.faults a) (of_files.faults b) 0 ⊎ ((fault.Memory ≡ fault.Memory) × RoseBy (of_files.faults a) (of_files.faults b) 1)
+          → RoseWith false fault.Memory (λ n. RoseBy (of_files.faults a) (of_files.faults b) n)
+      by (inl none) = inl none
+      by (inr one) = inr one.1
+  broke r old new a b chain back rest forward fault.DiskFailed is front broken moved f =
+      let flight = broken refl in
+      rw is (record {
+        next = flight.0;
+        flight = in_move (plan_of back rest) refl (rw front at flight.1);
+        crash = flight.2;
+        stood = λ m. absurd (let bad = m in cc);
+        losses = device.disk ∷ [];
+        fails = by_disk refl refl;
+        rose = λ of_link. rose_of of_link _ _ _ _ (device.disk ∷ []) refl (by f.archive_rose) (f.disk_rose refl);
+      })
+    where
+      by : RoseBy (of_files.faults a) (of_files.faults b) 0 ⊎ ((fault.DiskFailed ≡ fault.Memory) × RoseBy (of_files.faults a) (of_files.faults b) 1) → RoseBy (of_files.faults a) (of_files.faults b) 0
+      by (inl none) = none
+      by (inr one) = absurd (let bad = one.0 in cc)
+
+  -- ---- the sift
+
+  -- a ledger that was moved, and then asked
+  then_asked : (old mid new : G) (chain next : Chain) → LeavesOwn of_ledger → of_ledger.is_live mid → Moved of_ledger old mid chain next → Asked of_ledger mid new → Moved of_ledger old new chain next
+  then_asked old mid new chain next own live moved asked = record {
+    stood = asked.stays.still_stands next moved.stood;
+    crash = λ told. joined of_ledger.moment of_ledger.left_since old mid new (Either of_ledger.means chain next) (moved.crash told)
+        (weaker of_ledger.moment of_ledger.left_since mid new (λ d. of_ledger.means d next) (Either of_ledger.means chain next) (λ d m. inr m)
+        (quiet_leaves of_ledger.is_live of_ledger.height of_ledger.tip of_ledger.buckets of_ledger.stands of_ledger.tells_crash of_ledger.moment of_ledger.left_since of_ledger.means mid new live own asked told next moved.stood));
+  }
+
+  -- the set was sifted, or a later move is to do it
+  pub settled : (old mid new : G) (a b : A) (side : Side) (back : ℕ) (rest : List Node) (pool pool_new : PoolState) (m : Made) (later ends : Bool) → LeavesOwn of_ledger → of_ledger.is_live mid
+      → IsAt of_ledger of_files old pool a side → (later ≡ false → side.ahead ≡ []) → Tries of_ledger of_files old mid a b side back rest m → MoveKeeps of_ledger of_files old mid a b rest m
+      → ends ≡ ((length m.left == 0) && (m.moved || later))
+      → ((first chain : Chain) → StandsFor pool.entries first side.kept → of_ledger.stands mid chain → ends ≡ true → StandsFor pool_new.entries chain (sift chain side.kept))
+      → (ends ≡ false → pool_new ≡ pool) → pool_new.limits ≡ pool.limits → Asked of_ledger mid new → of_ledger.faults new ≡ of_ledger.faults mid
+      → Leads of_ledger of_files (Moving of_files.tells side back rest) old new a b side m.text side.found m.left pool_new
+  settled old mid new a b side back rest pool pool_new m later ends own live at still t k is sifts same limits asked disk_same = by t.tried t.moved t.rose
+    where
+      rose_on : (losses : List Device) → ((of_link : ℕ) → Rose (failed_calls of_ledger of_files of_link old a) (failed_calls of_ledger of_files of_link mid b) losses)
+          → (of_link : ℕ) → Rose (failed_calls of_ledger of_files of_link old a) (failed_calls of_ledger of_files of_link new b) losses
+      rose_on losses rose of_link = rw disk_same (rose of_link)
+
+      by : {losses : List Device} {chain : Chain} → Tried of_files.tells side back rest m.moved m.text losses chain (of_files.bytes b) → Moved of_ledger old mid side.chain chain
+          → ((of_link : ℕ) → Rose (failed_calls of_ledger of_files of_link old a) (failed_calls of_ledger of_files of_link mid b) losses)
+          → Leads of_ledger of_files (Moving of_files.tells side back rest) old new a b side m.text side.found m.left pool_new
+      by {losses} {chain} (made blocks moves yes_moved chain_is text_is lost) moved rose =
+          let left_is : m.left ≡ left_of rest = k.left ∙ rw yes_moved refl in
+          let stood : of_ledger.stands mid (shorter back side.chain ++ blocks) = rw chain_is at moved.stood in
+          record {
+            losses = losses;
+            next = record side {
+              chain = shorter back side.chain ++ blocks;
+              kept = kept_after (left_of rest) (shorter back side.chain ++ blocks) side.kept;
+              ahead = left_of rest;
+              files = of_files.bytes b;
+            };
+            led = side_of.commits (of_files.bytes b) blocks t.grows moves refl (rw chain_is at text_is) lost;
+            found_is = refl;
+            ahead_is = left_is;
+            magic_is = refl;
+            set = set_moved (left_of rest) (shorter back side.chain ++ blocks) (of_files.bytes b) pool pool_new side at.set limits
+                (λ none. sifts at.set.before (shorter back side.chain ++ blocks) at.set.stood stood (ends_whole (left_of rest) m.left m.moved later ends is yes_moved left_is none))
+                (λ n ns some. same (ends_not n ns m.left m.moved later ends is (left_is ∙ some)));
+            moved = then_asked old mid new side.chain (shorter back side.chain ++ blocks) own live (rw chain_is at moved) asked;
+            told = λ t. all_grow_self (of_files.bytes b);
+            rose = rose_on losses rose;
+          }
+      by {losses} {chain} (refused e why no_moved chain_is says lost) moved rose =
+          let left_is : m.left ≡ [] = k.left ∙ rw no_moved refl in
+          let ended = ends_later m.left m.moved later ends is no_moved left_is in
+          let moved_on : Moved of_ledger old mid side.chain side.chain = rw chain_is at moved in
+          record {
+            losses = losses;
+            next = record side { kept = sift side.chain side.kept; ahead = []; files = of_files.bytes b };
+            led = side_of.refuses (of_files.bytes b) e t.grows says why refl lost;
+            found_is = refl;
+            ahead_is = left_is;
+            magic_is = refl;
+            set = set_refused later (of_files.bytes b) pool pool_new side at.set still limits
+                (λ yes_later. sifts at.set.before side.chain at.set.stood moved_on.stood (ended ∙ yes_later)) (λ no_later. same (ended ∙ no_later));
+            moved = then_asked old mid new side.chain side.chain own live moved_on asked;
+            told = λ t. all_grow_self (of_files.bytes b);
+            rose = rose_on losses rose;
+          }
+      by {losses} {chain} (failed no_moved chain_is says lost) moved rose =
+          let left_is : m.left ≡ [] = k.left ∙ rw no_moved refl in
+          let ended = ends_later m.left m.moved later ends is no_moved left_is in
+          let moved_on : Moved of_ledger old mid side.chain side.chain = rw chain_is at moved in
+          record {
+            losses = losses;
+            next = record side { kept = sift side.chain side.kept; ahead = []; files = of_files.bytes b };
+            led = side_of.fails (of_files.bytes b) t.grows says refl lost;
+            found_is = refl;
+            ahead_is = left_is;
+            magic_is = refl;
+            set = set_refused later (of_files.bytes b) pool pool_new side at.set still limits
+                (λ yes_later. sifts at.set.before side.chain at.set.stood moved_on.stood (ended ∙ yes_later)) (λ no_later. same (ended ∙ no_later));
+            moved = then_asked old mid new side.chain side.chain own live moved_on asked;
+            told = λ t. all_grow_self (of_files.bytes b);
+            rose = rose_on losses rose;
+          }
+
+  -- the sift failed
+  pub unsettled : {T : Type 0} (r : Result T StepFault) (e : StepFault) (old mid new : G) (a b : A) (side : Side) (back : ℕ) (rest : List Node) (m : Made) (later : Bool) → r ≡ Err e → LeavesOwn of_ledger
+      → of_ledger.is_live mid → Tries of_ledger of_files old mid a b side back rest m → (m.moved ≡ false → later ≡ true) → Asked of_ledger mid new
+      → (e ≡ fault.DiskFailed → RoseBy (of_ledger.faults mid) (of_ledger.faults new) 1) → (e ≢ fault.DiskFailed → of_ledger.faults new ≡ of_ledger.faults mid)
+      → IfErr r (StopsAt of_ledger of_files old new a b side.chain later (λ (p : Plan). p ≡ plan_of back rest))
+  unsettled r e old mid new a b side back rest m later is own live t only asked counted others = rw is (by t.tried t.moved t.rose)
+    where
+      lost_in : StepFault → List Device
+      lost_in fault.DiskFailed = device.disk ∷ []
+      lost_in fault.Memory = []
+
+      rose_in : (e : StepFault) → (e ≡ fault.DiskFailed → RoseBy (of_ledger.faults mid) (of_ledger.faults new) 1) → (e ≢ fault.DiskFailed → of_ledger.faults new ≡ of_ledger.faults mid)
+          → (of_link : ℕ) → Rose (failed_calls of_ledger of_files of_link mid b) (failed_calls of_ledger of_files of_link new b) (lost_in e)
+      rose_in fault.DiskFailed counted others of_link = rose_of of_link _ _ _ _ (device.disk ∷ []) refl (rose_still _ _ refl) (counted refl)
+      rose_in fault.Memory counted others of_link = rose_of of_link _ _ _ _ [] refl (rose_still _ _ refl) (rose_still _ _ (others (λ e. let bad = e in cc)))
+
+      stops : (losses : List Device) (next : Chain) → IsUnderWay of_files.tells (of_files.bytes b) side.chain (λ (p : Plan). p ≡ plan_of back rest) next
+          → Moved of_ledger old mid side.chain next → ((of_link : ℕ) → Rose (failed_calls of_ledger of_files of_link old a) (failed_calls of_ledger of_files of_link mid b) losses)
+          → FailsBy later side.chain next e (losses ++ lost_in e) → StopsAt of_ledger of_files old new a b side.chain later (λ (p : Plan). p ≡ plan_of back rest) e
+      stops losses next flight moved rose fails = record {
+        next = next;
+        flight = flight;
+        crash = (then_asked old mid new side.chain next own live moved asked).crash;
+        stood = λ memory. then_asked old mid new side.chain next own live moved asked;
+        losses = losses ++ lost_in e;
+        fails = fails;
+        rose = λ of_link. all_rose_on (failed_calls of_ledger of_files of_link old a) (failed_calls of_ledger of_files of_link mid b) (failed_calls of_ledger of_files of_link new b) losses (lost_in e)
+            (rose of_link) (rose_in e counted others of_link);
+      }
+
+      alone : (e : StepFault) (next : Chain) → FailsBy later side.chain next e (lost_in e)
+      alone fault.DiskFailed next = by_disk refl refl
+      alone fault.Memory next = by_memory refl refl
+
+      after_files : (e : StepFault) → later ≡ true → FailsBy later side.chain side.chain e (archive ∷ lost_in e)
+      after_files fault.DiskFailed yes_later = in_sift yes_later refl refl refl
+      after_files fault.Memory yes_later = untold refl refl refl
+
+      by : {losses : List Device} {chain : Chain} → Tried of_files.tells side back rest m.moved m.text losses chain (of_files.bytes b) → Moved of_ledger old mid side.chain chain
+          → ((of_link : ℕ) → Rose (failed_calls of_ledger of_files of_link old a) (failed_calls of_ledger of_files of_link mid b) losses)
+          → StopsAt of_ledger of_files old new a b side.chain later (λ (p : Plan). p ≡ plan_of back rest) e
+      by {losses} {chain} (made blocks moves yes_moved chain_is text_is lost) moved rose =
+          stops losses chain (in_move (plan_of back rest) refl (inr (blocks, moves, chain_is))) moved rose (rw lost (alone e chain))
+      by {losses} {chain} (refused f why no_moved chain_is says lost) moved rose = stops losses chain (before chain_is) moved rose (rw lost (alone e chain))
+      by {losses} {chain} (failed no_moved chain_is says lost) moved rose = stops losses chain (before chain_is) moved rose (rw (lost, chain_is) (after_files e (only no_moved)))
+
+  -- ---- what the step keeps
+
+  pub step_failed : (r : Result Step StepFault) (e : StepFault) (old new : G) (a b : A) (later : Bool) → r ≡ Err e → MoveFailed of_ledger of_files old new a b e → NodeStep of_ledger of_files old new a b later r
+  step_failed r e old new a b later is f = rw is (record {
+    live = tt;
+    still_live = λ m. f.still_live (same_fault e fault.Memory m);
+    nodes = tt;
+    linked = tt;
+    keeps = f.keeps;
+    archive_more = by f.archive_rose;
+    archive_rose = rose e f.archive_rose;
+    disk_rose = record { counted = λ m. f.disk_rose (same_fault e fault.DiskFailed m); uncounted = tt; others_uncounted = λ other. f.disk_same other };
+  })
+    where
+      same_fault : (x y : StepFault) → ◌≡◌ {A = Result Step StepFault} (Err x) (Err y) → x ≡ y
+      same_fault x y m = cc
+
+      by : RoseBy (of_files.faults a) (of_files.faults b) 0 ⊎ ((e ≡ fault.Memory) × RoseBy (of_files.faults a) (of_files.faults b) 1) → of_files.faults a ≤ of_files.faults b
+      by (inl none) = omega (arith, none)
+      by (inr one) = omega (arith, one.1)
+
+      rose : (x : StepFault) → RoseBy (of_files.faults a) (of_files.faults b) 0 ⊎ ((x ≡ fault.Memory) × RoseBy (of_files.faults a) (of_files.faults b) 1)
+          → RoseWith later x (λ n. RoseBy (of_files.faults a) (of_files.faults b) n)
+      rose fault.DiskFailed (inl none) = inl none
+      rose fault.DiskFailed (inr one) = absurd (let bad = one.0 in cc)
+      rose fault.Memory (inl none) = inl none
+      rose fault.Memory (inr one) = inr one.1
+
+  more_files : (a b : A) (P : Type 0) → RoseBy (of_files.faults a) (of_files.faults b) 0 ⊎ (P × RoseBy (of_files.faults a) (of_files.faults b) 1) → of_files.faults a ≤ of_files.faults b
+  more_files a b P (inl none) = omega (arith, none)
+  more_files a b P (inr one) = omega (arith, one.1)
+
+  pub step_settled : (text : List ℕ) (old mid new : G) (a b : A) (rest : List Node) (m : Made) (later : Bool) → MoveKeeps of_ledger of_files old mid a b rest m → Asked of_ledger mid new
+      → of_ledger.faults new ≡ of_ledger.faults mid → NodeStep of_ledger of_files old new a b later (Ok (record { text = text; left = m.left }))
+  step_settled text old mid new a b rest m later k asked disk_same = record {
+    live = asked.stays.still_live k.live;
+    still_live = λ bad. absurd (let e = bad in cc);
+    nodes = k.nodes;
+    linked = rw asked.stays.same_tip k.linked;
+    keeps = k.keeps;
+    archive_more = more_files a b (m.moved ≡ false) k.archive_rose;
+    archive_rose = tt;
+    disk_rose = record { counted = λ bad. absurd (let e = bad in cc); uncounted = disk_same ∙ k.disk_same; others_uncounted = tt };
+  }
+
+  pub step_unsettled : (r : Result Step StepFault) (e : StepFault) (old mid new : G) (a b : A) (rest : List Node) (m : Made) (later : Bool) → r ≡ Err e → MoveKeeps of_ledger of_files old mid a b rest m
+      → Asked of_ledger mid new → (m.moved ≡ false → later ≡ true) → (e ≡ fault.DiskFailed → RoseBy (of_ledger.faults mid) (of_ledger.faults new) 1)
+      → (e ≢ fault.DiskFailed → of_ledger.faults new ≡ of_ledger.faults mid) → NodeStep of_ledger of_files old new a b later r
+  step_unsettled r e old mid new a b rest m later is k asked only counted others = rw is (record {
+    live = tt;
+    still_live = λ memory. asked.stays.still_live k.live;
+    nodes = tt;
+    linked = tt;
+    keeps = k.keeps;
+    archive_more = more_files a b (m.moved ≡ false) k.archive_rose;
+    archive_rose = rose e k.archive_rose;
+    disk_rose = record { counted = λ bad. rw k.disk_same at (counted (same_fault e fault.DiskFailed bad)); uncounted = tt; others_uncounted = λ other. others other ∙ k.disk_same };
+  })
+    where
+      same_fault : (x y : StepFault) → ◌≡◌ {A = Result Step StepFault} (Err x) (Err y) → x ≡ y
+      same_fault x y bad = cc
+
+      rose : (x : StepFault) → RoseBy (of_files.faults a) (of_files.faults b) 0 ⊎ ((m.moved ≡ false) × RoseBy (of_files.faults a) (of_files.faults b) 1)
+          → RoseWith later x (λ n. RoseBy (of_files.faults a) (of_files.faults b) n)
+      rose fault.DiskFailed (inl none) = inl none
+      rose fault.DiskFailed (inr one) = inr (only one.0, one.1)
+      rose fault.Memory (inl none) = inl none
+      rose fault.Memory (inr one) = inr one.1

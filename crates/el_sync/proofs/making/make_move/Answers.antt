@@ -1,0 +1,90 @@
+use Rattle.std.proofs.Common.{ap, refl, inl, ◌∙◌, Err}
+use Rattle.std.proofs.lemmas.Result.{err_from_is_err_and}
+use Rattle.el_outside.proofs.Devices.{rose_still}
+use Rattle.el_chain.specs.Moves.{max_forward}
+use Rattle.el_chain.specs.Records.{IsNode}
+use Rattle.el_sync.proofs.Led.{memory_of, not_disk, starved_still}
+use Rattle.el_sync.proofs.Tried.{broke, files_rose, made_tries, move_failed, not_failed, not_made}
+use Rattle.el_model.proofs.LedgerMoves.{asked_moved, asked_none}
+use Rattle.el_sync.proofs.Lists.{plan_fits, left_linked, all_after}
+use Rattle.el_sync.proofs.making.make_move.Goals as goal
+
+pub go-requires-clause-fits : goal.go-requires-clause-fits
+go-requires-clause-fits g c = λ chain stands. plan_fits c.args.back c.args.rest c.in_ok-forward.forward chain c.in_ok-forward.ensures (c.requires.fits chain stands)
+
+pub returns-in-Ok-clause-tried : goal.returns-in-Ok-clause-tried
+returns-in-Ok-clause-tried g c = λ side stood told.
+    made_tries g.G.Ledger g.A.Archive c.args.ledger.now c.go.new.self c.args.archive.now c.go.new.archive side c.args.back c.args.rest
+    c.in_ok-forward.forward c.in-Ok.moved.tip c.in-Ok.moved.height _ _ told c.in-Ok.ensures.reads.keeps (c.in-Ok.ensures.moved side.chain stood) c.in_ok-forward.ensures
+    (λ d s. c.in-Ok.ensures.answer.0 ∙ g.met.G.Ledger.tip_is c.go.new.self d s) (λ d s. c.in-Ok.ensures.answer.1 ∙ g.met.G.Ledger.height_is c.go.new.self d s)
+    refl c.at_answer_in.ensures c.in-Ok.ensures.reads.uncounted c.in-Ok.ensures.cause.uncounted
+
+pub returns-in-Ok-clause-keeps : goal.returns-in-Ok-clause-keeps
+returns-in-Ok-clause-keeps g c =
+    let e = c.in-Ok.ensures in
+    record {
+      live = e.live;
+      left = c.passed.ensures;
+      nodes = rw c.passed.ensures (all_after IsNode max_forward c.args.rest c.requires.nodes);
+      linked = left_linked c.requires.linked.0 c.args.rest c.passed.result (g.G.Ledger.tip c.go.new.self) c.passed.ensures c.requires.linked.1 (rw c.in_ok-forward.ensures at e.last);
+      keeps = e.reads.keeps;
+      archive_rose = inl (rose_still _ _ e.reads.uncounted);
+      disk_same = e.cause.uncounted;
+    }
+
+pub returns-in_ok-text-in-Err-clause-tried : goal.returns-in_ok-text-in-Err-clause-tried
+returns-in_ok-text-in-Err-clause-tried g c = λ side stood told.
+    let e = c.in-Err.ensures in
+    let other = not_disk c.in-Err.fault c.in_ok-text-in-Err.text c.in_ok-text-in-Err.ensures.told in
+    let quiet = e.unchanged other in
+    not_made g.G.Ledger g.A.Archive c.args.ledger.now c.go.new.self c.args.archive.now c.go.new.archive side c.args.back c.args.rest c.in_ok-forward.forward
+    c.in-Err.fault _ told e.reads.keeps
+    (asked_moved g.G.Ledger c.args.ledger.now c.go.new.self side.chain (λ a d f h i j k. g.met.G.Ledger.leaves_own a d f h i j k) c.requires.live quiet stood)
+    (e.refused side.chain stood) c.in_ok-forward.ensures (λ is. e.reads.counted (ap Err is)) (λ is. e.reads.others_uncounted is) (e.cause.others_uncounted other)
+    refl c.in_ok-text-in-Err.ensures.told
+
+pub returns-in_err-text-in-Err-clause-stopped : goal.returns-in_err-text-in-Err-clause-stopped
+returns-in_err-text-in-Err-clause-stopped g c = λ chain stands.
+    let e = c.in-Err.ensures in
+    let p = err_from_is_err_and c.from_residual-in_err-text-in-Err.result c.from_residual-in_err-text-in-Err.ensures.1 in
+    broke g.G.Ledger g.A.Archive c.from_residual-in_err-text-in-Err.result c.args.ledger.now c.go.new.self c.args.archive.now c.go.new.archive chain c.args.back c.args.rest
+    c.in_ok-forward.forward c.in_err-text-in-Err.field-0.0 (p.1 ∙ ap Err p.2) c.in_ok-forward.ensures
+    (λ failed. e.crash_failed chain stands (ap Err (c.in_err-text-in-Err.ensures.failed (ap Err failed))))
+    (λ memory. asked_moved g.G.Ledger c.args.ledger.now c.go.new.self chain (λ a d f h i j k. g.met.G.Ledger.leaves_own a d f h i j k) c.requires.live
+    (e.unchanged (c.in_err-text-in-Err.ensures.memory (ap Err memory))) stands)
+    (record {
+      still_live = λ memory. (e.unchanged (c.in_err-text-in-Err.ensures.memory (ap Err memory))).stays.still_live c.requires.live;
+      keeps = e.reads.keeps;
+      archive_rose = files_rose c.in-Err.fault c.in_err-text-in-Err.field-0.0 _ _ (λ is. e.reads.counted (ap Err is)) (λ other. e.reads.others_uncounted other)
+          (λ failed. c.in_err-text-in-Err.ensures.failed (ap Err failed));
+      disk_rose = λ failed. e.cause.counted (ap Err (c.in_err-text-in-Err.ensures.failed (ap Err failed)));
+      disk_same = λ other. e.cause.others_uncounted (c.in_err-text-in-Err.ensures.memory (ap Err (not_failed c.in_err-text-in-Err.field-0.0 other)));
+    })
+
+pub returns-in_err-text-in-Err-clause-failed : goal.returns-in_err-text-in-Err-clause-failed
+returns-in_err-text-in-Err-clause-failed g c =
+    let e = c.in-Err.ensures in
+    let p = err_from_is_err_and c.from_residual-in_err-text-in-Err.result c.from_residual-in_err-text-in-Err.ensures.1 in
+    move_failed g.G.Ledger g.A.Archive c.from_residual-in_err-text-in-Err.result c.in_err-text-in-Err.field-0.0 c.args.ledger.now c.go.new.self c.args.archive.now c.go.new.archive (p.1 ∙ ap Err p.2)
+    (record {
+      still_live = λ memory. (e.unchanged (c.in_err-text-in-Err.ensures.memory (ap Err memory))).stays.still_live c.requires.live;
+      keeps = e.reads.keeps;
+      archive_rose = files_rose c.in-Err.fault c.in_err-text-in-Err.field-0.0 _ _ (λ is. e.reads.counted (ap Err is)) (λ other. e.reads.others_uncounted other)
+          (λ failed. c.in_err-text-in-Err.ensures.failed (ap Err failed));
+      disk_rose = λ failed. e.cause.counted (ap Err (c.in_err-text-in-Err.ensures.failed (ap Err failed)));
+      disk_same = λ other. e.cause.others_uncounted (c.in_err-text-in-Err.ensures.memory (ap Err (not_failed c.in_err-text-in-Err.field-0.0 other)));
+    })
+
+pub returns-in_err-room-clause-stopped : goal.returns-in_err-room-clause-stopped
+returns-in_err-room-clause-stopped g c = λ chain stands.
+    let p = err_from_is_err_and c.from_residual.result c.from_residual.ensures.1 in
+    starved_still g.G.Ledger g.A.Archive c.from_residual.result c.args.ledger.now c.args.ledger.now c.args.archive.now chain _
+    (asked_moved g.G.Ledger c.args.ledger.now c.args.ledger.now chain (λ a d f h i j k. g.met.G.Ledger.leaves_own a d f h i j k) c.requires.live (asked_none g.G.Ledger c.args.ledger.now) stands)
+    (memory_of c.from_residual.result p.0 p.1 p.2) refl
+
+pub returns-in_err-forward-clause-stopped : goal.returns-in_err-forward-clause-stopped
+returns-in_err-forward-clause-stopped g c = λ chain stands.
+    let p = err_from_is_err_and c.from_residual-in_err-forward.result c.from_residual-in_err-forward.ensures.1 in
+    starved_still g.G.Ledger g.A.Archive c.from_residual-in_err-forward.result c.args.ledger.now c.args.ledger.now c.args.archive.now chain _
+    (asked_moved g.G.Ledger c.args.ledger.now c.args.ledger.now chain (λ a d f h i j k. g.met.G.Ledger.leaves_own a d f h i j k) c.requires.live (asked_none g.G.Ledger c.args.ledger.now) stands)
+    (memory_of c.from_residual-in_err-forward.result p.0 p.1 p.2) refl

@@ -1,0 +1,112 @@
+// The node's lines about unconfirmed transactions.
+ghost use Rattle.std.specs.Prelude.{◌≡◌, ◌≢◌, [], IfOk, IfErr, OnOk, Some, IsErrOf};
+ghost use Rattle.el_outside.specs.Counts.{CountsOnly};
+ghost use Rattle.el_tx.specs.declared.types.Tx as tx_shape;
+ghost use Rattle.el_tx.specs.Encoding.{Encodes};
+ghost use Rattle.el_tx.specs.Hashing as hashing;
+ghost use Rattle.el_mempool.specs.Standing.{StandsFor};
+ghost use Rattle.el_model.specs.LedgerCalls.{Asked};
+ghost use Rattle.el_lines.specs.NodeAnswers as say;
+ghost use Rattle.el_world.specs.Side.{Side, Adds, Drops};
+ghost use Rattle.el_sync.specs.within.Parts.{NamesItself, StandsAfter};
+
+use crate::fault::StepFault;
+use el_base::{Bytes, Hash32};
+use el_lines::{absent_refused, gone_answer, pool_refused, tx_answer};
+use el_mempool::PoolFault;
+use el_model::Ledger;
+use el_pool::Pool;
+use el_tx::{decode_tx, txid};
+use std::alloc::Global;
+
+// The txid of the transaction that the bytes encode, which was refused for one that has it.
+fn own_txid(alloc: Global, bytes: &[u8]) -> Result<Hash32, StepFault>
+    ensures is { (t : tx_shape.Tx) → Encodes bytes.now t → IfOk result (λ id. id ≡ hashing.txid t) }
+    ensures memory { IfErr result (λ e. e ≡ StepFault.Memory) }
+{
+    match decode_tx(alloc, bytes) {
+        Ok((tx, _)) => {
+            let id = txid(alloc, &tx)?;
+            Ok(id)
+        }
+        Err(_) => Err(StepFault::Memory),
+    }
+}
+
+// The txid that the refusal of the transaction tells, if it tells its own. Another refusal takes none, and
+// the transaction isn't hashed for it.
+fn told_txid(alloc: Global, bytes: &[u8], fault: PoolFault) -> Result<Hash32, StepFault>
+    ensures is { (t : tx_shape.Tx) → Encodes bytes.now t → NamesItself fault
+        → IfOk result (λ id. id ≡ hashing.txid t) }
+    ensures memory { IfErr result (λ e. e ≡ StepFault.Memory) }
+{
+    match fault {
+        PoolFault::Confirmed | PoolFault::Known => own_txid(alloc, bytes),
+        _ => Ok(Hash32([0; 32])),
+    }
+}
+
+// What the node is answered where the transaction that the bytes encode, or the bytes, are refused.
+fn refuse_tx(alloc: Global, bytes: &[u8], fault: PoolFault) -> Result<Bytes, StepFault>
+    ensures told { (t : tx_shape.Tx) → Encodes bytes.now t
+        → IfOk result (λ text. say.pool_refused (hashing.txid t) fault ≡ Some text) }
+    ensures form { fault ≡ PoolFault.Bad → IfOk result (λ text. text ≡ say.form_refused) }
+    ensures no_disk { OnOk result (fault ≢ PoolFault.DiskFailed) }
+    ensures no_memory { OnOk result (fault ≢ PoolFault.Memory) }
+    ensures failed { IsErrOf result StepFault.DiskFailed → fault ≡ PoolFault.DiskFailed }
+    ensures memory { IsErrOf result StepFault.Memory → fault ≢ PoolFault.DiskFailed }
+{
+    if fault == PoolFault::DiskFailed {
+        return Err(StepFault::DiskFailed);
+    }
+    let id = told_txid(alloc, bytes, fault)?;
+    match pool_refused(alloc, id, fault)? {
+        Some(text) => Ok(text),
+        None => Err(StepFault::Memory),
+    }
+}
+
+/// Takes a line that tells an unconfirmed transaction by its bytes: it joins those that are kept, or is
+/// refused.
+///
+/// # Errors
+///
+/// `StepFault::DiskFailed` where a call on the ledger's device failed, and `StepFault::Memory` where no
+/// memory was found.
+pub fn order_tx<G: Ledger>(
+    alloc: Global,
+    ledger: &mut G,
+    pool: &mut Pool,
+    bytes: &[u8],
+) -> Result<Bytes, StepFault>
+    requires live { G.is_live ledger.old }
+    ensures adds { (side : Side) → G.stands ledger.old side.chain
+        → StandsFor pool.old.entries side.chain side.kept → pool.old.limits ≡ side.limits
+        → IfOk result (λ text. StandsAfter pool.new side (Adds side bytes.now text [])) }
+    ensures limits { pool.new.limits ≡ pool.old.limits }
+    ensures asked { Asked ⟦<G as Ledger>⟧ ledger.old ledger.new }
+    ensures disk_rose { CountsOnly (G.faults ledger.old) (G.faults ledger.new) StepFault.DiskFailed result }
+{
+    let id = match pool.add(ledger, bytes) {
+        Ok((id, _)) => id,
+        Err(fault) => return refuse_tx(alloc, bytes, fault),
+    };
+    let text = tx_answer(alloc, id)?;
+    Ok(text)
+}
+
+/// Takes a line that tells that the node no longer has the transaction of this txid: it is dropped from those
+/// that are kept, with those that spend it. Fails only where memory runs out.
+pub fn order_drop(alloc: Global, pool: &mut Pool, id: Hash32) -> Result<Bytes, StepFault>
+    ensures drops { (side : Side) → StandsFor pool.old.entries side.chain side.kept
+        → IfOk result (λ text. StandsAfter pool.new side (Drops side id text [])) }
+    ensures limits { pool.new.limits ≡ pool.old.limits }
+    ensures memory { IfErr result (λ e. e ≡ StepFault.Memory) }
+{
+    let Some(_touched) = pool.drop_tx(&id)? else {
+        let text = absent_refused(alloc, id)?;
+        return Ok(text);
+    };
+    let text = gone_answer(alloc, id)?;
+    Ok(text)
+}

@@ -1,0 +1,107 @@
+// A move, before the unconfirmed set is sifted.
+ghost use Rattle.std.specs.Prelude.{◌≡◌, ◌≢◌, ◌≤◌, false, IfOk, IfErr, IsErrOf, length};
+ghost use Rattle.std.specs.List.{AllByRecursion};
+ghost use Rattle.el_base.specs.declared.hash.Hash32 as hash_shape;
+ghost use Rattle.el_outside.specs.Files.{AllGrow};
+ghost use Rattle.el_chain.specs.declared.moves.Plan as moves;
+ghost use Rattle.el_chain.specs.Chains.{Chain, tip};
+ghost use Rattle.el_chain.specs.Headers.{AreLinked};
+ghost use Rattle.el_chain.specs.Moves.{shorter, max_back};
+ghost use Rattle.el_chain.specs.Records.{IsNode};
+ghost use Rattle.el_world.specs.Plans.{plan_of};
+ghost use Rattle.el_world.specs.Side.{Side};
+ghost use Rattle.el_sync.specs.Steps.{StopsAt};
+ghost use Rattle.el_sync.specs.within.Parts.{MoveFailed, MoveKeeps, SaysRefusal, Tries};
+
+use crate::ahead::Ahead;
+use crate::fault::StepFault;
+use el_base::Bytes;
+use el_chain::{MoveFault, Plan};
+use el_lines::{archive_refused, at_answer_in, move_refused, room_for_at};
+use el_model::Ledger;
+use el_outside::Archive;
+use std::alloc::Global;
+
+/// What a move leaves, which was made or refused.
+#[derive(Debug, Drop)]
+pub struct Made {
+    /// What the node is answered.
+    pub text: Bytes,
+    /// The blocks that are left to later moves.
+    pub left: Ahead,
+    /// Whether it was made.
+    pub moved: bool,
+}
+
+// What the node is answered where a move is refused.
+fn refusal(alloc: Global, fault: MoveFault) -> Result<Bytes, StepFault>
+    ensures told { IfOk result (λ text. SaysRefusal fault text) }
+    ensures failed { IsErrOf result StepFault.DiskFailed → fault ≡ MoveFault.DiskFailed }
+    ensures memory { IsErrOf result StepFault.Memory → fault ≢ MoveFault.DiskFailed }
+{
+    match fault {
+        MoveFault::DiskFailed => Err(StepFault::DiskFailed),
+        MoveFault::ArchiveFailed => {
+            let text = archive_refused(alloc)?;
+            Ok(text)
+        }
+        fault => match move_refused(alloc, fault)? {
+            Some(text) => Ok(text),
+            None => Err(StepFault::Memory),
+        },
+    }
+}
+
+/// Makes the next move of a tip line, without the sift after it: so many blocks of the chain are taken back,
+/// and the first of the rest are put in. Where it is refused, no block is left.
+///
+/// # Errors
+///
+/// `StepFault::DiskFailed`, after which the ledger isn't live, and `StepFault::Memory`, after which the move
+/// isn't made.
+pub fn make_move<G: Ledger, A: Archive>(
+    alloc: Global,
+    ledger: &mut G,
+    back: u32,
+    rest: Ahead,
+    archive: &mut A,
+) -> Result<Made, StepFault>
+    requires live { G.is_live ledger.old }
+    requires back { back ≤ max_back }
+    requires nodes { AllByRecursion IsNode rest }
+    requires linked { (before : hash_shape.Hash32) × AreLinked before rest }
+    requires fits { (chain : Chain) → G.stands ledger.old chain
+        → (back ≤ length chain) × AreLinked (tip (shorter back chain)) rest }
+    ensures tried { (side : Side) → G.stands ledger.old side.chain
+        → (A.tells → AllGrow side.files (A.bytes archive.old)) → IfOk result (
+        Tries ⟦<G as Ledger>⟧ ⟦<A as Archive>⟧ ledger.old ledger.new archive.old archive.new side back
+        rest) }
+    ensures stopped { (chain : Chain) → G.stands ledger.old chain → IfErr result (
+        StopsAt ⟦<G as Ledger>⟧ ⟦<A as Archive>⟧ ledger.old ledger.new archive.old archive.new chain false
+        (λ (p : moves.Plan). p ≡ plan_of back rest)) }
+    ensures keeps { IfOk result (MoveKeeps ⟦<G as Ledger>⟧ ⟦<A as Archive>⟧ ledger.old ledger.new
+        archive.old archive.new rest) }
+    ensures failed { IfErr result (MoveFailed ⟦<G as Ledger>⟧ ⟦<A as Archive>⟧ ledger.old ledger.new
+        archive.old archive.new) }
+{
+    // A move that is made is told without memory.
+    let room = room_for_at(alloc)?;
+    let forward = rest.next_blocks(alloc)?;
+    let plan = Plan { back, forward };
+    match ledger.go(alloc, &plan, archive) {
+        Ok(moved) => Ok(Made {
+            text: at_answer_in(room, moved.tip, moved.height),
+            left: rest.passed(),
+            moved: true,
+        }),
+        Err(fault) => {
+            let text = refusal(alloc, fault)?;
+            let left = Ahead::none(alloc);
+            Ok(Made {
+                text,
+                left,
+                moved: false,
+            })
+        }
+    }
+}

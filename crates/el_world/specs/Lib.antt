@@ -1,0 +1,6 @@
+pub mod Plans
+pub mod Side
+pub mod NodeSteps
+pub mod World
+pub mod Run
+pub mod Flights

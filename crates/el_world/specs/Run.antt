@@ -1,0 +1,200 @@
+-- A whole run: which messages may be sent and which clients closed, in which order, for a list of arrivals.
+-- A failed call of the link closes a client as gone, or stops the run; one of the block files is answered to
+-- the node or to a client; one of the index's device is answered to a client, or stops the run. Where no
+-- memory was found for that answer, the client is closed for that, or the run stops for it.
+use Rattle.std.specs.Prelude.{◌≡◌, ◌⊎◌, ℕ, ◌==◌, List, [], ◌∷◌, ◌++◌, filter, true, not, if◌then◌else◌, Option, Some, None}
+use Rattle.std.specs.Option.{option_to_list}
+use Rattle.el_outside.specs.Devices.{Device, link, archive, disk}
+use Rattle.el_outside.specs.Trace.{ArrivalWithBytes, opened, brought, Message, Closing}
+use Rattle.el_outside.specs.declared.link.Why.{Why}
+use Rattle.el_outside.specs.declared.link.Why.TheVariants as why
+use Rattle.el_world.specs.World.{World, Event, orders, Outs, Takes, Works, IsStill, IsBusy, events, after_hearing, is_client, without_client, closes_memory}
+
+-- One turn, by which these events, one at most, are done. The device of each failed call stands among
+-- `losses`: it was answered or closed for.
+pub data OneTurn (tells : Type 0) (world : World) (done : List Event) (outs : Outs) (losses : List Device)
+    (next : World) : Type 0 where
+  -- an event is taken; the node's last tip line left nothing to do
+  takes : (event : Event) → IsStill world → done ≡ event ∷ [] → Takes tells world event outs losses next
+      → OneTurn tells world done outs losses next
+  -- the next move of that line
+  works : IsBusy world → done ≡ [] → Works tells world outs losses next
+      → OneTurn tells world done outs losses next
+  -- A client is closed as out of memory, for its bytes or a line of them. Its lines, which are left, will
+  -- have no effect.
+  departs : (p : ℕ) → is_client p world ≡ true → done ≡ [] → outs ≡ closes_memory p
+      → next ≡ without_client p world → losses ≡ [] → OneTurn tells world done outs losses next
+
+-- why a client may be closed before a message to it: it couldn't be sent, or no memory was found for that
+abbrev pub IsDeparture : Why → Type 0
+IsDeparture reason = (reason ≡ why.Gone) ⊎ (reason ≡ why.Memory)
+
+-- a message that couldn't be sent is a failure of the link
+abbrev pub lost_by : Why → List Device
+lost_by why.Gone = link ∷ []
+lost_by other = []
+
+-- the messages to others than this peer
+abbrev pub to_others : ℕ → List Message → List Message
+to_others p messages = filter (λ (m : Message). not (m.peer == p)) messages
+
+-- the closing, unless it is of this peer
+abbrev pub unless_of : ℕ → Option Closing → Option Closing
+unless_of p None = None
+unless_of p (Some c) = if c.peer == p then None else Some c
+
+-- the closing is of this peer
+abbrev pub Closes : Option Closing → ℕ → Type 0
+Closes None p = ⊥
+Closes (Some c) p = c.peer ≡ p
+
+-- The messages of a turn go out in order, and then its closing. Before a message to it a client, also one
+-- that would be closed then, may be closed for a departure: it gets nothing more, and is not closed again.
+-- `world` is the one that the turn left.
+pub data Delivers : World → List Message → Option Closing → List Message → List Closing → List Device → World
+    → Type 0 where
+  all : (world : World) (closing : Option Closing)
+      → Delivers world [] closing [] (option_to_list closing) [] world
+  sends : (world : World) (m : Message) (messages : List Message) (closing : Option Closing)
+      (sent : List Message) (closings : List Closing) (losses : List Device) (next : World)
+      → Delivers world messages closing sent closings losses next
+      → Delivers world (m ∷ messages) closing (m ∷ sent) closings losses next
+  loses : (world : World) (m : Message) (messages : List Message) (closing : Option Closing) (reason : Why)
+      (sent : List Message) (closings : List Closing) (losses : List Device) (next : World)
+      → (is_client m.peer world ≡ true) ⊎ Closes closing m.peer → IsDeparture reason
+      → Delivers (without_client m.peer world) (to_others m.peer messages) (unless_of m.peer closing)
+      sent closings losses next
+      → Delivers world (m ∷ messages) closing sent (record { peer = m.peer; why = reason } ∷ closings)
+      (lost_by reason ++ losses) next
+
+-- Turns, one after the other, from the first world to the last, with the events that were done, all that was
+-- sent and closed, and each failure of a device.
+pub data Turns (tells : Type 0) (first : World)
+    : List Event → List Message → List Closing → List Device → World → Type 0 where
+  none : Turns tells first [] [] [] [] first
+  more : (past : List Event) (messages : List Message) (closings : List Closing) (losses : List Device)
+      (world : World) (done : List Event) (outs : Outs) (failed : List Device) (left : World)
+      (sent : List Message) (closed : List Closing) (lost : List Device) (next : World)
+      → Turns tells first past messages closings losses world
+      → OneTurn tells world done outs failed left
+      → Delivers left outs.messages outs.closing sent closed lost next
+      → Turns tells first (past ++ done) (messages ++ sent) (closings ++ closed)
+      (losses ++ (failed ++ lost)) next
+
+-- Arrivals, one after the other, from the first world to the last: the bytes of each are heard, and its
+-- events are done, with all that they leave to do, before the next arrives.
+pub data Run (tells : Type 0) (first : World)
+    : List ArrivalWithBytes → List Message → List Closing → List Device → World → Type 0 where
+  none : Run tells first [] [] [] [] first
+  more : (arrivals : List ArrivalWithBytes) (messages : List Message) (closings : List Closing)
+      (losses : List Device) (world : World) (arrival : ArrivalWithBytes)
+      (more_messages : List Message) (more_closings : List Closing) (more_losses : List Device) (next : World)
+      → Run tells first arrivals messages closings losses world
+      → Turns tells (after_hearing arrival world) (events world arrival)
+      more_messages more_closings more_losses next
+      → IsStill next
+      → Run tells first (arrivals ++ arrival ∷ []) (messages ++ more_messages) (closings ++ more_closings)
+      (losses ++ more_losses) next
+
+-- why a run stops among the turns of an arrival: a call of the index's device failed (status 5), the node
+-- couldn't be sent its answer (status 6), or no memory was found (status 7)
+pub data Stop : Type 0 where
+  by_disk : Stop
+  by_link : Stop
+  by_memory : Stop
+
+-- the next turn is one of the node: a line of it, or a move that its last one left
+abbrev pub IsNodesTurn : World → List Event → Type 0
+IsNodesTurn world [] = IsBusy world
+IsNodesTurn world (orders said ∷ left) = Unit {0}
+IsNodesTurn world (event ∷ left) = IsBusy world
+
+-- what was lost by a message to the node that wasn't sent
+abbrev pub LostBy : Stop → List Device → Type 0
+LostBy by_disk losses = ⊥
+LostBy by_link losses = losses ≡ link ∷ []
+LostBy by_memory losses = losses ≡ []
+
+-- The turn in which a run stops, where these events are left, with what of it was sent, closed and lost.
+pub data Stops (tells : Type 0) (world : World) (left : List Event) (stop : Stop) (sent : List Message)
+    (closings : List Closing) (losses : List Device) : Type 0 where
+  -- a call of the index's device failed in a turn of the node
+  disk_failed : stop ≡ by_disk → IsNodesTurn world left → sent ≡ [] → closings ≡ [] → losses ≡ disk ∷ []
+      → Stops tells world left stop sent closings losses
+  -- it failed in the sift after a later move of a tip line, for which the block files had failed
+  sift_failed : stop ≡ by_disk → IsBusy world → sent ≡ [] → closings ≡ [] → losses ≡ archive ∷ disk ∷ []
+      → Stops tells world left stop sent closings losses
+  -- no memory was found for a turn of the node
+  no_memory : stop ≡ by_memory → IsNodesTurn world left → sent ≡ [] → closings ≡ [] → losses ≡ []
+      → Stops tells world left stop sent closings losses
+  -- nor was it to answer that the block files failed
+  untold : stop ≡ by_memory → IsNodesTurn world left → sent ≡ [] → closings ≡ [] → losses ≡ archive ∷ []
+      → Stops tells world left stop sent closings losses
+  -- a message to the node wasn't sent, after those before it
+  unsent : (done rest : List Event) (outs : Outs) (failed : List Device) (after : World)
+      (front more : List Message) (m : Message) (lost last : List Device) (next : World)
+      → left ≡ done ++ rest → OneTurn tells world done outs failed after
+      → outs.messages ≡ front ++ m ∷ more → m.peer ≡ 0
+      → Delivers after front None sent closings lost next → LostBy stop last
+      → losses ≡ failed ++ (lost ++ last) → Stops tells world left stop sent closings losses
+
+-- the block files as the turns left them, the last of which is the one in which the run stops, if it was made
+abbrev pub files_at : {tells : Type 0} {world : World} {left : List Event} {stop : Stop} {sent : List Message}
+    {closings : List Closing} {losses : List Device}
+    → Stops tells world left stop sent closings losses → ℕ → List ℕ
+files_at {world = world} (disk_failed by nodes silent closed lost) = world.side.files
+files_at {world = world} (sift_failed by busy silent closed lost) = world.side.files
+files_at {world = world} (no_memory by nodes silent closed lost) = world.side.files
+files_at {world = world} (untold by nodes silent closed lost) = world.side.files
+files_at (unsent done rest outs failed after front back m lost last next whole turn cut node delivers by z) =
+    after.side.files
+
+-- an arrival for which no memory may be found before its turns: bytes of the node, or a new client
+abbrev pub MayStarve : ArrivalWithBytes → Type 0
+MayStarve (opened p) = p ≡ 0 → ⊥
+MayStarve (brought p bytes) = p ≡ 0
+MayStarve other = ⊥
+
+-- Where in an arrival a run stops, with all that was sent, closed and lost in it.
+pub data StopsIn (tells : Type 0) (world : World) (arrival : ArrivalWithBytes) (stop : Stop)
+    (messages : List Message) (closings : List Closing) (losses : List Device) : Type 0 where
+  -- before its turns: no memory was found for it
+  unheard : MayStarve arrival → stop ≡ by_memory → messages ≡ [] → closings ≡ [] → losses ≡ []
+      → StopsIn tells world arrival stop messages closings losses
+  -- in a turn, after those before it
+  in_turn : (done left : List Event) (past sent : List Message) (past_closings closed : List Closing)
+      (past_losses lost : List Device) (mid : World)
+      → events world arrival ≡ done ++ left
+      → Turns tells (after_hearing arrival world) done past past_closings past_losses mid
+      → Stops tells mid left stop sent closed lost
+      → messages ≡ past ++ sent → closings ≡ past_closings ++ closed → losses ≡ past_losses ++ lost
+      → StopsIn tells world arrival stop messages closings losses
+
+-- the block files as the turns of the arrival left them
+abbrev pub files_left : {tells : Type 0} {world : World} {arrival : ArrivalWithBytes} {stop : Stop}
+    {messages : List Message} {closings : List Closing} {losses : List Device}
+    → StopsIn tells world arrival stop messages closings losses → ℕ → List ℕ
+files_left {world = world} (unheard starves by silent closed lost) = world.side.files
+files_left (in_turn done left past sent past_closings closed past_losses lost mid whole turns stops a b c) =
+    files_at stops
+
+-- A run that stops in its last arrival.
+pub record Halts (tells : Type 0) (first : World) (stop : Stop) (arrivals : List ArrivalWithBytes)
+    (messages : List Message) (closings : List Closing) (losses : List Device) : Type 0 where
+  pub past : List ArrivalWithBytes
+  pub last : ArrivalWithBytes
+  pub whole : arrivals ≡ past ++ last ∷ []
+  -- the arrivals before
+  pub past_messages : List Message
+  pub past_closings : List Closing
+  pub past_losses : List Device
+  pub world : World
+  pub run : Run tells first past past_messages past_closings past_losses world
+  -- the last
+  pub sent : List Message
+  pub closed : List Closing
+  pub lost : List Device
+  pub stops : StopsIn tells world last stop sent closed lost
+  pub messages_are : messages ≡ past_messages ++ sent
+  pub closings_are : closings ≡ past_closings ++ closed
+  pub losses_are : losses ≡ past_losses ++ lost

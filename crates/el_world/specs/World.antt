@@ -1,0 +1,252 @@
+-- What the server stands for, and what each event does to it. Peer 0 is the node, and the others are clients.
+use Rattle.std.specs.Prelude.{◌≡◌, ℕ, ◌==◌, nat_lt, Bool, false, not, if◌then◌else◌, List, [], ◌∷◌, ◌++◌, length, map, filter, find, MatchBool, Option, Some, None, Result, Ok, Err}
+use Rattle.std.specs.List.{list_any, flat_map}
+use Rattle.std.specs.Option.{option_to_list}
+use Rattle.el_outside.specs.Devices.{Device}
+use Rattle.el_outside.specs.Trace.{ArrivalWithBytes, opened, brought, closed, quiet, ended, Message, Closing}
+use Rattle.el_outside.specs.declared.link.Why.TheVariants as why
+use Rattle.el_base.specs.declared.memory.OutOfMemory.{OutOfMemory}
+use Rattle.el_chain.specs.declared.node.Node.{Node}
+use Rattle.el_chain.specs.Chains.{Chain}
+use Rattle.el_mempool.specs.declared.entry.PoolLimits.{PoolLimits}
+use Rattle.el_lines.specs.declared.limits.TheConstants.{LINE_LIMIT}
+use Rattle.el_world.specs.declared.limits.TheConstants.{CLIENT_LIMIT}
+use Rattle.el_lines.specs.Lines.{LineEvent, line, too_long, added_lines}
+use Rattle.el_lines.specs.NodeAnswers.{node_limit}
+use Rattle.el_world.specs.Plans.{IsMoving}
+use Rattle.el_methods.specs.declared.session.Session as client
+use Rattle.el_methods.specs.Archives.{HasTransactions}
+use Rattle.el_replies.specs.Losses.{AnswersOf}
+use Rattle.el_replies.specs.LineReplies.{IsLineReply}
+use Rattle.el_replies.specs.declared.line.LineReply.{LineReply}
+use Rattle.el_world.specs.Side.{Side, quiet_side, Moving, OrdersLine}
+
+-- how many bytes a client's line may have, without its byte 10
+abbrev pub line_limit : ℕ
+line_limit = LINE_LIMIT
+
+-- how many clients may be connected at once, until many are served
+abbrev pub client_limit : ℕ
+client_limit = CLIENT_LIMIT
+
+-- A client: its number, all bytes that it has sent, and what is kept of it for its requests.
+pub record Session : Type 0 where
+  pub peer : ℕ
+  pub heard : List ℕ
+  pub client : client.Session
+
+-- what is kept of one that has asked for nothing
+abbrev pub new_client : client.Session
+new_client = record { version = None; headers = false; subs = [] }
+
+-- one that has just come
+abbrev pub new_session : ℕ → Session
+new_session p = record { peer = p; heard = []; client = new_client }
+
+-- What the server knows: the side that the node leads; its clients in the order in which they came; and all
+-- bytes that the node has sent.
+pub record World : Type 0 where
+  pub side : Side
+  pub sessions : List Session
+  pub heard : List ℕ
+
+-- the world of a chain before any client came and the node said anything
+abbrev pub initial_world : Chain → List ℕ → PoolLimits → List Node → (ℕ → List ℕ) → World
+initial_world chain magic limits found files =
+    record { side = quiet_side chain magic limits found files; sessions = []; heard = [] }
+
+-- the session is that of this client
+abbrev pub is_peer : ℕ → Session → Bool
+is_peer p session = session.peer == p
+
+-- this client is connected
+abbrev pub is_client : ℕ → World → Bool
+is_client p world = list_any (is_peer p) world.sessions
+
+-- one client more, which has sent nothing
+abbrev pub with_client : ℕ → World → World
+with_client p world = record world { sessions = world.sessions ++ new_session p ∷ [] }
+
+-- the same without this client
+abbrev pub without_client : ℕ → World → World
+without_client p world =
+    record world { sessions = filter (λ (session : Session). not (is_peer p session)) world.sessions }
+
+-- this client has that session now
+abbrev pub with_session : ℕ → Session → World → World
+with_session p now world =
+    record world {
+      sessions = map (λ (session : Session). if is_peer p session then now else session) world.sessions;
+    }
+
+-- a session after bytes of this client: it has them too if it is this client's, and is unchanged otherwise
+abbrev pub hearing : ℕ → List ℕ → Session → Session
+hearing p bytes session =
+    if is_peer p session then record session { heard = session.heard ++ bytes } else session
+
+-- the world after bytes of a peer, before what they ask for
+abbrev pub heard_from : ℕ → List ℕ → World → World
+heard_from p bytes world =
+    if p == 0 then record world { heard = world.heard ++ bytes }
+    else record world { sessions = map (hearing p bytes) world.sessions }
+
+-- the world after the bytes of an arrival, before what they ask for
+abbrev pub after_hearing : ArrivalWithBytes → World → World
+after_hearing (opened p) world = world
+after_hearing (brought p bytes) world = heard_from p bytes world
+after_hearing (closed p) world = world
+after_hearing quiet world = world
+after_hearing ended world = world
+
+-- a client comes, leaves, or a line of its bytes is met; or a line of the node's bytes is met
+pub data Event : Type 0 where
+  joins : ℕ → Event
+  leaves : ℕ → Event
+  says : ℕ → LineEvent → Event
+  orders : LineEvent → Event
+
+-- the lines that a client says by bytes, where the session is its own; before the bytes are heard
+abbrev pub lines_said : ℕ → List ℕ → Session → List Event
+lines_said p bytes session =
+    if is_peer p session then map (says p) (added_lines line_limit session.heard bytes) else []
+
+-- the lines that bytes of a peer add; of a peer that is no connected client they are none
+abbrev pub lines_from : ℕ → List ℕ → World → List Event
+lines_from p bytes world =
+    if p == 0 then map orders (added_lines node_limit world.heard bytes)
+    else flat_map (lines_said p bytes) world.sessions
+
+-- the events of an arrival; peer 0 is no client, which comes or leaves
+abbrev pub events : World → ArrivalWithBytes → List Event
+events world (opened p) = if p == 0 then [] else joins p ∷ []
+events world (brought p bytes) = lines_from p bytes world
+events world (closed p) = leaves p ∷ []
+events world quiet = []
+events world ended = []
+
+-- an arrival as a command without a node takes it: bytes of peer 0 are ignored, as if nothing had come
+abbrev pub without_node : ArrivalWithBytes → ArrivalWithBytes
+without_node (opened p) = opened p
+without_node (brought p bytes) = if p == 0 then quiet else brought p bytes
+without_node (closed p) = closed p
+without_node quiet = quiet
+without_node ended = ended
+
+-- what an event sends, in order, and whom it then closes
+pub record Outs : Type 0 where
+  pub messages : List Message
+  pub closing : Option Closing
+
+-- nothing is sent or closed
+abbrev pub nothing : Outs
+nothing = record { messages = []; closing = None }
+
+-- this peer gets this text
+abbrev pub reply_to : ℕ → List ℕ → Outs
+reply_to p text = record { messages = record { peer = p; text = text } ∷ []; closing = None }
+
+-- the node gets this text
+abbrev pub to_node : List ℕ → Outs
+to_node text = reply_to 0 text
+
+-- this client is closed for a line that is too long
+abbrev pub closes_long : ℕ → Outs
+closes_long p = record { messages = []; closing = Some (record { peer = p; why = why.Long }) }
+
+-- this client is closed, since there are enough
+abbrev pub closes_surplus : ℕ → Outs
+closes_surplus p = record { messages = []; closing = Some (record { peer = p; why = why.Clients }) }
+
+-- what is sent and closed where this comes of a line of the client
+abbrev pub outs_of_reply : ℕ → LineReply → Outs
+outs_of_reply p reply = record {
+  messages = map (λ (t : List ℕ). record { peer = p; text = t }) (option_to_list reply.text);
+  closing = if reply.closes then Some (record { peer = p; why = why.Version }) else None;
+}
+
+-- this client is closed as out of memory
+abbrev pub closes_memory : ℕ → Outs
+closes_memory p = record { messages = []; closing = Some (record { peer = p; why = why.Memory }) }
+
+-- the world after it, where that is then kept of the client for its requests
+abbrev pub after_reply : ℕ → LineReply → Session → client.Session → World → World
+after_reply p reply session kept world =
+    if reply.closes then without_client p world
+    else with_session p (record session { client = kept }) world
+
+-- What comes of a client's line over the side: each of its requests is answered as it is defined, or that a
+-- device failed, which is lost. A request that reads the block files is answered as it is defined where these
+-- have the chain's transactions at their places.
+abbrev pub Comes : Type 0 → Side → List ℕ → client.Session → List Device → client.Session
+    → Result LineReply OutOfMemory → Type 0
+Comes tells side bytes was losses now result =
+    IsLineReply (AnswersOf (tells × HasTransactions side.files side.chain) side.chain side.kept side.found)
+    bytes [] was losses now result
+
+-- A line of a client with this session gets its reply; or no memory was found for it, and the client is
+-- closed.
+pub data IsAnswered (tells : Type 0) (world : World) (p : ℕ) (bytes : List ℕ) (session : Session)
+    (outs : Outs) (losses : List Device) (next : World) : Type 0 where
+  replied : (reply : LineReply) (kept : client.Session)
+      → Comes tells world.side bytes session.client losses kept (Ok reply)
+      → outs ≡ outs_of_reply p reply → next ≡ after_reply p reply session kept world
+      → IsAnswered tells world p bytes session outs losses next
+  starved : (e : OutOfMemory) (kept : client.Session)
+      → Comes tells world.side bytes session.client losses kept (Err e)
+      → outs ≡ closes_memory p → next ≡ without_client p world
+      → IsAnswered tells world p bytes session outs losses next
+
+-- The event sends and closes this, loses nothing, and leaves that world.
+abbrev pub OnlyDoes : Outs → World → Outs → List Device → World → Type 0
+OnlyDoes does after outs losses next = (outs ≡ does) × (next ≡ after) × (losses ≡ [])
+
+-- A line of a client with one of these sessions, the first of which counts, is answered; one of a client that
+-- is closed has no effect.
+abbrev pub Replied : Type 0 → World → ℕ → List ℕ → Option Session → Outs → List Device → World → Type 0
+Replied tells world p bytes (Some session) outs losses next =
+    IsAnswered tells world p bytes session outs losses next
+Replied tells world p bytes None outs losses next = OnlyDoes nothing world outs losses next
+
+-- The node gets an answer, and its side of the world becomes another one: `leads` says which may be.
+pub record IsLed (leads : List ℕ → List Device → Side → Type 0) (world : World) (outs : Outs)
+    (losses : List Device) (next : World) : Type 0 where
+  pub text : List ℕ
+  pub side : Side
+  pub led : leads text losses side
+  pub outs_is : outs ≡ to_node text
+  pub next_is : next ≡ record world { side = side }
+
+-- One event: what it sends and closes, the device of each call that failed and was answered so, and the world
+-- after it. Of a tip line it is the first move; what the line leaves to do stands in the world, and is worked
+-- off before the next event. `tells` is whether the block files tell their bytes.
+abbrev pub Takes : Type 0 → World → Event → Outs → List Device → World → Type 0
+-- a client joins, unless there would be too many
+Takes tells world (joins p) outs losses next =
+    MatchBool (nat_lt (length world.sessions) client_limit)
+    (OnlyDoes nothing (with_client p world) outs losses next)
+    (OnlyDoes (closes_surplus p) world outs losses next)
+-- a client leaves
+Takes tells world (leaves p) outs losses next = OnlyDoes nothing (without_client p world) outs losses next
+-- a line of a client
+Takes tells world (says p (line bytes)) outs losses next =
+    Replied tells world p bytes (find (is_peer p) world.sessions) outs losses next
+-- a line that is too long closes its client
+Takes tells world (says p too_long) outs losses next =
+    MatchBool (is_client p world)
+    (OnlyDoes (closes_long p) (without_client p world) outs losses next)
+    (OnlyDoes nothing world outs losses next)
+-- a line of the node
+Takes tells world (orders met) outs losses next =
+    IsLed (OrdersLine tells world.side met) world outs losses next
+
+-- nothing is left to do before the next event
+abbrev pub IsStill : World → Type 0
+IsStill world = world.side.ahead ≡ []
+
+-- the node's last tip line leaves something to do
+abbrev pub IsBusy : World → Type 0
+IsBusy world = IsMoving 0 world.side.ahead
+
+-- The next move of that line.
+abbrev pub Works : Type 0 → World → Outs → List Device → World → Type 0
+Works tells world outs losses next = IsLed (Moving tells world.side 0 world.side.ahead) world outs losses next

@@ -1,0 +1,9 @@
+//! What the server stands for, what each event does to it, and what a whole run may send: `specs/` has the
+//! definitions that the server is proved against.
+#![tactic(auto)]
+
+mod laws;
+mod limits;
+
+pub use laws::moves_are_the_plan;
+pub use limits::CLIENT_LIMIT;
