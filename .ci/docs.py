@@ -125,6 +125,8 @@ class Sources:
 
     def of_definitions(self, words, names, alias):
         crate, rest = words[1], words[3:]
+        if crate not in crates():
+            return []
         if rest[0] == "declared":
             path, item = f"{crate}/src/{rest[1]}.rt", rest[2]
             if item == "TheConstants":

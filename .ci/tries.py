@@ -1,16 +1,21 @@
 #!/usr/bin/env python3
-"""Runs the built program on small cases: on real folders, files and streams, of which no contract speaks.
+"""Runs the built program on small cases: on real folders, files, streams and sockets, of which no contract speaks.
 
 usage: .ci/tries.py [PASSED FAILED]
 
-Each case has a folder of its own, in which the program runs. What it writes to standard output, what it says on standard
-error and its exit status are compared with values that stand here. The blocks are the first two of Bitcoin's main network.
-The last line is 'N passed, M failed', with the given counts added.
+Each case has a folder of its own, in which the program runs. What it writes to standard output or sends over its
+sockets, what it says on standard error and its exit status are compared with values that stand here; replies are read
+by Python's JSON reader. The blocks are the first two of Bitcoin's main network, or are made here for a network of one's
+own. The last line is 'N passed, M failed', with the given counts added.
 """
 
 import hashlib
 import itertools
+import json
 import os
+import signal
+import socket
+import struct
 import subprocess
 import sys
 import tempfile
@@ -51,6 +56,14 @@ BLOCK1_SCRIPT = "cc0d7111befe9f24f1824c797e837c5cff2f8773901ccb9aca0372a2a6c48d3
 GENESIS_TXID = "4a5e1e4baab89f3a32518a88c31bc87f618f76673e2cc77ab2127b7afdeda33b"
 BLOCK1_TXID = "0e3e2357e806b6cdb1f70b54c3a3a17b6714ee1f0e68bebb44a74b1efd512098"
 
+HEX0 = GENESIS[:80].hex()
+HEX1 = BLOCK1[:80].hex()
+GENESIS_HASH = "000000000019d6689c085ae165831e934ff763ae46a2a6c172b3f1b60a8ce26f"
+BLOCK1_HASH = "00000000839a8e6886ab5951d76f411475428afc90947ee320161bbf18eb6048"
+# The shown sha256d of the two block hashes, in inner order, one behind the other.
+HEADERS_ROOT = hashlib.sha256(hashlib.sha256(
+    bytes.fromhex(GENESIS_HASH)[::-1] + bytes.fromhex(BLOCK1_HASH)[::-1]).digest()).digest()[::-1].hex()
+
 INVALID = b'{"error":{"code":-32600,"message":"invalid request"},"id":null,"jsonrpc":"2.0"}\n'
 
 # How the program ends: its exit status, and its words on standard error.
@@ -82,6 +95,29 @@ def replies(entries, number=1):
     """The reply with these entries, each a height and a txid."""
     shown = ",".join('{"height":%d,"tx_hash":"%s"}' % entry for entry in entries)
     return b'{"id":%d,"jsonrpc":"2.0","result":[%s]}\n' % (number, shown.encode())
+
+
+def request(method, params=(), number=1):
+    """The line that asks for a method with these parameters, by place or by name."""
+    params = dict(params) if isinstance(params, dict) else list(params)
+    return json.dumps({"id": number, "method": method, "params": params}).encode() + b"\n"
+
+
+def requests(calls):
+    """The lines that ask for these calls, each a method with its parameters, by the ids from 1."""
+    return b"".join(request(call[0], call[1:], number) for number, call in enumerate(calls, 1))
+
+
+def answered(wrote):
+    """What replies answer, in order, each a result or a code with its message. Their ids are those from 1."""
+    answers = []
+    for number, line in enumerate(wrote.splitlines(), 1):
+        reply = json.loads(line)
+        if reply.pop("jsonrpc") != "2.0" or reply.pop("id") != number:
+            raise ValueError(f"a reply of another form: {line}")
+        (kind, answer), = reply.items()
+        answers.append(answer if kind == "result" else (answer["code"], answer["message"]))
+    return answers
 
 
 ONE = asks(GENESIS_SCRIPT)
@@ -193,8 +229,95 @@ def serve(folder, network="main", client_port="50001", node_port="8331"):
     ]
 
 
+def double(data):
+    """The sha256d of bytes."""
+    return hashlib.sha256(hashlib.sha256(data).digest()).digest()
+
+
+def shown(hash_bytes):
+    """A hash as it is shown: its bytes from the last to the first, in hex."""
+    return hash_bytes[::-1].hex()
+
+
+# Transactions and blocks for a network of one's own. An output is a value and the number of its script.
+
+
+def script(k):
+    """The script with that number, which pushes it."""
+    return b"\x04" + number(k)
+
+
+def script_hash(k):
+    """Its hash, as clients name it."""
+    return shown(hashlib.sha256(script(k)).digest())
+
+
+def outputs(to):
+    """Outputs with their count."""
+    return number(len(to), 1) + b"".join(number(value, 8) + b"\x05" + script(k) for value, k in to)
+
+
+def coinbase(height, branch, k):
+    """The coinbase of a block at that height of that branch, which pays 50 bitcoins to a script."""
+    return (
+        number(1) + b"\x01" + bytes(32) + b"\xff" * 4 + b"\x06\x05" + number(height) + number(branch, 1) + b"\xff" * 4
+        + outputs([(5_000_000_000, k)]) + bytes(4)
+    )
+
+
+def spend(coins, to):
+    """A transaction that spends these coins, each a txid in inner order and a place."""
+    return (
+        number(1) + number(len(coins), 1)
+        + b"".join(txid + number(place) + b"\x00" + b"\xff" * 4 for txid, place in coins)
+        + outputs(to) + bytes(4)
+    )
+
+
+def root(hashes):
+    """The Merkle root of hashes."""
+    while len(hashes) > 1:
+        hashes = hashes + hashes[-1:] if len(hashes) % 2 else hashes
+        hashes = [double(hashes[i] + hashes[i + 1]) for i in range(0, len(hashes), 2)]
+    return hashes[0]
+
+
+def block(previous, height, branch, txs):
+    """A block of these transactions upon another one, or upon none."""
+    return (
+        number(1) + (double(previous[:80]) if previous else bytes(32)) + root([double(tx) for tx in txs])
+        + number(1_231_006_505 + 600 * height) + number(0x207fffff) + number(branch)
+        + number(len(txs), 1) + b"".join(txs)
+    )
+
+
+def block_id(data):
+    """A block's hash, as it is shown."""
+    return shown(double(data[:80]))
+
+
+BASE = coinbase(0, 0, 101)
+ZERO = block(None, 0, 0, [BASE])
+# A branch of two blocks upon it, and one of three, both with the transaction MOVED at some height.
+MOVED = spend([(double(BASE), 0)], [(2_500_000_000, 1), (2_500_000_000, 100)])
+A1 = block(ZERO, 1, 0, [coinbase(1, 0, 101), MOVED])
+A2 = block(A1, 2, 0, [coinbase(2, 0, 101)])
+B1 = block(ZERO, 1, 1, [coinbase(1, 1, 101)])
+B2 = block(B1, 2, 1, [coinbase(2, 1, 101), MOVED])
+B3 = block(B2, 3, 1, [coinbase(3, 1, 101)])
+# Unconfirmed transactions: one of ZERO's coin, and one of its output.
+PARENT = spend([(double(BASE), 0)], [(5_000_000_000, 1)])
+CHILD = spend([(double(PARENT), 0)], [(5_000_000_000, 2)])
+
+
+def status_of(lines):
+    """The status of a history, which is these lines' SHA-256."""
+    return hashlib.sha256("".join(lines).encode()).hexdigest()
+
+
 def start(program, words, **streams):
-    return subprocess.Popen([program, *words], stderr=subprocess.PIPE, **streams)
+    # Without a buffer, so that what is left behind a line that was read is still there at the end.
+    return subprocess.Popen([program, *words], stderr=subprocess.PIPE, bufsize=0, **streams)
 
 
 def ends(started, given):
@@ -205,11 +328,123 @@ def ends(started, given):
         started.kill()
         wrote, said = started.communicate()
         return wrote, said, "it had not ended after 60 seconds"
-    return wrote, said, started.returncode
+    return wrote, said.removeprefix(serving_line(said)), started.returncode
+
+
+def serving_line(said):
+    """The line that tells what is served, if it is the first."""
+    first = said[:said.find(b"\n") + 1]
+    return first if first.startswith(b"electrum_serve: serving ") else b""
 
 
 def run(program, words, given=b""):
     return ends(start(program, words, stdin=subprocess.PIPE, stdout=subprocess.PIPE), given)
+
+
+def free_ports(count=2):
+    """Numbers of ports that nobody has."""
+    held_open = [socket.create_server(("127.0.0.1", 0)) for _ in range(count)]
+    ports = [it.getsockname()[1] for it in held_open]
+    for it in held_open:
+        it.close()
+    return ports
+
+
+class Peer:
+    """A connection to the program."""
+
+    def __init__(self, port):
+        self.socket = socket.create_connection(("127.0.0.1", port), timeout=60)
+        self.socket.setsockopt(socket.IPPROTO_TCP, socket.TCP_NODELAY, 1)
+        self.lines = self.socket.makefile("rb")
+
+    def says(self, given, size=None):
+        """Sends bytes, in pieces of that size."""
+        for at in range(0, len(given), size or len(given) or 1):
+            self.socket.sendall(given[at:at + size] if size else given)
+
+    def hears(self, count=1):
+        """So many lines that the program sends; fewer where it ends the connection."""
+        return b"".join(self.lines.readline() for _ in range(count))
+
+    def asks(self, given, size=None):
+        """The lines that answer these lines, one each."""
+        self.says(given, size)
+        return self.hears(given.count(b"\n"))
+
+    def rest(self):
+        """All that is sent until the program ends the connection."""
+        try:
+            return self.lines.read()
+        except ConnectionResetError:
+            return b""
+
+    def says_all(self, given):
+        """Sends bytes and that no more come, and hears what answers them until the program ends the connection."""
+        self.says(given)
+        self.socket.shutdown(socket.SHUT_WR)
+        return self.rest()
+
+    def resets(self):
+        """Breaks the connection off."""
+        self.socket.setsockopt(socket.SOL_SOCKET, socket.SO_LINGER, struct.pack("ii", 1, 0))
+        self.leaves()
+
+    def leaves(self):
+        self.lines.close()
+        self.socket.close()
+
+
+class Served:
+    """The program, which serves on two ports."""
+
+    def __init__(self, program, folder="a", network="main", ports=None, more=()):
+        self.client_port, self.node_port = ports or free_ports()
+        words = serve(folder, network, str(self.client_port), str(self.node_port))
+        self.started = start(program, [*words, *more], stdin=subprocess.DEVNULL, stdout=subprocess.PIPE)
+        self.serves = self.started.stderr.readline()
+
+    def client(self):
+        return Peer(self.client_port)
+
+    def node(self):
+        return Peer(self.node_port)
+
+    def next_client_says(self, given):
+        """What answers the next client, once the program has noticed that the one before left."""
+        for _ in range(100):
+            try:
+                told = self.client().says_all(given)
+            except OSError:
+                told = b""
+            if told:
+                break
+            time.sleep(0.1)
+        return told
+
+    def ends(self, wrote, node=None):
+        """What peers were told, and what the program says and ends with once its node left."""
+        try:
+            (node or self.node()).leaves()
+        except OSError:
+            pass
+        printed, said, status = ends(self.started, None)
+        said = said if serving_line(self.serves) else self.serves + said
+        return (wrote, said, status) if printed == b"" else (printed, said, status)
+
+    def killed(self):
+        self.started.kill()
+        self.started.communicate()
+
+
+def ask_served(program, folder, given, network="main"):
+    """What one client is told, and how the program then ends, where the node leaves or before."""
+    it = Served(program, folder, network)
+    try:
+        wrote = it.client().says_all(given)
+    except OSError:
+        wrote = b""
+    return it.ends(wrote)
 
 
 # The cases. Each runs in an empty folder, and gives what the program did and what it was to do.
@@ -315,19 +550,19 @@ def serves_two_files(program):
     # no node leads the server along the headers that the scan finds, so that the chain stays empty
     put("a/blk00000.dat", record(GENESIS))
     put("a/blk00001.dat", record(BLOCK1))
-    return run(program, serve("a", client_port="0000000001"), ONE + b"{}\n"), (NONE_FOUND + INVALID, ENDED)
+    return ask_served(program, "a", ONE + b"{}\n"), (NONE_FOUND + INVALID, ENDED)
 
 
 def serves_blocks_in_any_order(program):
     os.mkdir("index")
     put("a/blk00000.dat", record(BLOCK1))
     put("a/blk00003.dat", record(GENESIS))
-    return run(program, serve("a"), ONE), (NONE_FOUND, ENDED)
+    return ask_served(program, "a", ONE), (NONE_FOUND, ENDED)
 
 
 def serves_no_folder(program):
     os.mkdir("index")
-    return run(program, serve("a"), ONE), (b"", FILES_FAILED)
+    return ask_served(program, "a", ONE), (b"", FILES_FAILED)
 
 
 def serves_again_over_its_index(program):
@@ -335,7 +570,7 @@ def serves_again_over_its_index(program):
     put("a/blk00000.dat", GOOD)
     os.mkdir("index")
     for _ in range(3):
-        did = run(program, serve("a"), ONE)
+        did = ask_served(program, "a", ONE)
         if did != as_wanted((NONE_FOUND, ENDED)) or held("index") != {"10.idx": b"\0"}:
             return (did, held("index")), (NONE_FOUND, ENDED)
     return did, (NONE_FOUND, ENDED)
@@ -351,7 +586,7 @@ def serves_from_an_index_made_elsewhere(program):
         b'{"id":3,"jsonrpc":"2.0","result":[{"height":1,"tx_hash":"%s","tx_pos":0,"value":5000000000}]}\n'
         % BLOCK1_TXID.encode()
     )
-    return run(program, serve("a"), given), (FOUND + wrote + replies([], 4), ENDED)
+    return ask_served(program, "a", given), (FOUND + wrote + replies([], 4), ENDED)
 
 
 def serves_from_the_commit_of_the_formats(program):
@@ -360,71 +595,71 @@ def serves_from_the_commit_of_the_formats(program):
     put("index/10.idx", index_of([GENESIS])[:-1] + commit_of_the_formats())
     given = ONE + asks(BLOCK1_SCRIPT, 2) + asks(BLOCK1_SCRIPT, 3, "get_balance")
     balance = b'{"id":3,"jsonrpc":"2.0","result":{"confirmed":5000000000,"unconfirmed":0}}\n'
-    return run(program, serve("a"), given), (FOUND + replies([(1, BLOCK1_TXID)], 2) + balance, ENDED)
+    return ask_served(program, "a", given), (FOUND + replies([(1, BLOCK1_TXID)], 2) + balance, ENDED)
 
 
 def index_of_another_network(program):
     put("a/blk00000.dat", record(GENESIS))
     put("index/10.idx", index_of([GENESIS]))
-    return run(program, serve("a", network="testnet3"), ONE), (b"", BAD_INDEX)
+    return ask_served(program, "a", ONE, "testnet3"), (b"", BAD_INDEX)
 
 
 def index_of_another_chain(program):
     # another first block stands alone in the block files
     put("a/blk00000.dat", record(GENESIS[:79] + b"\x00" + GENESIS[80:]))
     put("index/10.idx", index_of([GENESIS]))
-    return run(program, serve("a"), ONE), (b"", OTHER_CHAIN)
+    return ask_served(program, "a", ONE), (b"", OTHER_CHAIN)
 
 
 def index_of_another_chain_in_a_later_file(program):
     put("a/blk00001.dat", record(GENESIS[:79] + b"\x00" + GENESIS[80:]))
     put("index/10.idx", index_of([GENESIS]))
-    return run(program, serve("a"), ONE), (b"", OTHER_CHAIN)
+    return ask_served(program, "a", ONE), (b"", OTHER_CHAIN)
 
 
 def index_of_two_commits(program):
     os.mkdir("a")
     put("index/10.idx", index_by_steps([GENESIS, BLOCK1]))
     given = ONE + asks(BLOCK1_SCRIPT, 2)
-    return run(program, serve("a"), given), (FOUND + replies([(1, BLOCK1_TXID)], 2), ENDED)
+    return ask_served(program, "a", given), (FOUND + replies([(1, BLOCK1_TXID)], 2), ENDED)
 
 
 def index_on_a_full_disk(program):
     put("a/blk00000.dat", GOOD)
     os.mkdir("index")
     os.symlink("/dev/full", "index/10.idx")
-    return run(program, serve("a"), ONE), (b"", DISK_FAILED)
+    return ask_served(program, "a", ONE), (b"", DISK_FAILED)
 
 
 def index_without_a_folder(program):
     put("a/blk00000.dat", GOOD)
-    return run(program, serve("a"), ONE), (b"", DISK_FAILED)
+    return ask_served(program, "a", ONE), (b"", DISK_FAILED)
 
 
 def index_that_is_no_folder(program):
     put("a/blk00000.dat", GOOD)
     put("index", b"")
-    return run(program, serve("a"), ONE), (b"", DISK_FAILED)
+    return ask_served(program, "a", ONE), (b"", DISK_FAILED)
 
 
 def index_that_cannot_be_written(program):
     put("a/blk00000.dat", GOOD)
     os.makedirs("index/10.idx")
-    return run(program, serve("a"), ONE), (b"", DISK_FAILED)
+    return ask_served(program, "a", ONE), (b"", DISK_FAILED)
 
 
 def index_that_is_cut(program):
     # an open gate, and two of the eight bytes of a length
     put("a/blk00000.dat", GOOD)
     put("index/10.idx", b"\x01\x05\x00")
-    return run(program, serve("a"), ONE), (b"", BAD_INDEX)
+    return ask_served(program, "a", ONE), (b"", BAD_INDEX)
 
 
 def index_that_is_none(program):
     # a whole entry of three bytes, which spell no commit
     put("a/blk00000.dat", GOOD)
     put("index/10.idx", b"\x01\x03" + b"\x00" * 7 + b"abc\x00")
-    return run(program, serve("a"), ONE), (b"", BAD_INDEX)
+    return ask_served(program, "a", ONE), (b"", BAD_INDEX)
 
 
 def words_that_are_no_text(program):
@@ -527,29 +762,527 @@ def many_lines(program):
     return run(program, once("a"), given), (wrote, ENDED)
 
 
+# Each method over the two blocks of Bitcoin, with what it answers: a result, or a code and its message.
+EVERY_METHOD = [
+    (("server.version", "electrum/4.5", ["1.4", "1.4.2"]), ["el_serve 1.0", "1.4"]),
+    (("server.version",), (1, "version already agreed")),
+    (("server.features",), {
+        "genesis_hash": GENESIS_HASH, "hash_function": "sha256", "hosts": {}, "protocol_max": "1.4",
+        "protocol_min": "1.4", "pruning": None, "server_version": "el_serve 1.0",
+    }),
+    (("server.banner",), "Electrum Protocol 1.4 server over block files"),
+    (("server.donation_address",), ""),
+    (("server.ping",), None),
+    (("server.peers.subscribe",), []),
+    (("server.add_peer", {}), False),
+    (("blockchain.block.header", 0), HEX0),
+    (("blockchain.block.header", 1, 0), HEX1),
+    (("blockchain.block.header", 0, 1), {"branch": [BLOCK1_HASH], "header": HEX0, "root": HEADERS_ROOT}),
+    (("blockchain.block.header", 0, 2), (1, "bad checkpoint")),
+    (("blockchain.block.header", 2), (1, "no such height")),
+    (("blockchain.block.headers", 0, 2016), {"count": 2, "hex": HEX0 + HEX1, "max": 2016}),
+    (("blockchain.block.headers", 2, 5), {"count": 0, "hex": "", "max": 2016}),
+    (("blockchain.block.headers", 0, 2, 1), {
+        "branch": [GENESIS_HASH], "count": 2, "hex": HEX0 + HEX1, "max": 2016, "root": HEADERS_ROOT,
+    }),
+    (("blockchain.estimatefee", 2), -1),
+    (("blockchain.relayfee",), 0),
+    (("blockchain.headers.subscribe",), {"height": 1, "hex": HEX1}),
+    (("blockchain.scripthash.get_balance", BLOCK1_SCRIPT), {"confirmed": 5_000_000_000, "unconfirmed": 0}),
+    (("blockchain.scripthash.get_history", GENESIS_SCRIPT), [{"height": 0, "tx_hash": GENESIS_TXID}]),
+    (("blockchain.scripthash.get_mempool", BLOCK1_SCRIPT), []),
+    (("blockchain.scripthash.listunspent", BLOCK1_SCRIPT), [
+        {"height": 1, "tx_hash": BLOCK1_TXID, "tx_pos": 0, "value": 5_000_000_000},
+    ]),
+    (("blockchain.scripthash.subscribe", GENESIS_SCRIPT), status_of([GENESIS_TXID + ":0:"])),
+    (("blockchain.scripthash.subscribe", "00" * 32), None),
+    (("blockchain.scripthash.get_balance", "00" * 32), {"confirmed": 0, "unconfirmed": 0}),
+    (("blockchain.scripthash.listunspent", "00" * 32), []),
+    (("blockchain.transaction.broadcast", "00"), (2, "no relay")),
+    (("blockchain.transaction.get", GENESIS_TXID), GENESIS[81:].hex()),
+    (("blockchain.transaction.get", BLOCK1_TXID.upper(), False), BLOCK1[81:].hex()),
+    (("blockchain.transaction.get", GENESIS_TXID, True), (1, "verbose not served")),
+    (("blockchain.transaction.get", "00" * 32), (1, "no such transaction")),
+    (("blockchain.transaction.get_merkle", GENESIS_TXID, 0), {"block_height": 0, "merkle": [], "pos": 0}),
+    (("blockchain.transaction.get_merkle", GENESIS_TXID, 1), (1, "not in that block")),
+    (("blockchain.transaction.get_merkle", GENESIS_TXID, 2), (1, "no such height")),
+    (("blockchain.transaction.id_from_pos", 0, 0), GENESIS_TXID),
+    (("blockchain.transaction.id_from_pos", 1, 0, True), {"merkle": [], "tx_hash": BLOCK1_TXID}),
+    (("blockchain.transaction.id_from_pos", 0, 1), (1, "no such position")),
+    (("mempool.get_fee_histogram",), []),
+    (("blockchain.scripthash.unsubscribe", GENESIS_SCRIPT), (-32601, "unknown method")),
+    (("server.ping", 1), (-32602, "invalid params")),
+    (("blockchain.block.header",), (-32602, "invalid params")),
+    (("blockchain.block.header", -1), (-32602, "invalid params")),
+    (("blockchain.scripthash.get_balance", GENESIS_TXID[1:]), (-32602, "invalid params")),
+]
+EVERY_CALL = [call for call, _ in EVERY_METHOD]
+EVERY_ANSWER = [answer for _, answer in EVERY_METHOD]
+
+
 def every_method(program):
-    # what a coinbase pays of the first blocks: 50 bitcoins
+    put("a/blk00000.dat", GOOD)
+    did = run(program, once("a"), requests(EVERY_CALL))
+    return (answered(did[0]), *did[1:]), (EVERY_ANSWER, ENDED)
+
+
+def every_method_of_a_masked_file(program):
+    # where a transaction stands, its bytes are read once more, each by the mask of its own place
+    put("a/xor.dat", MASK)
+    put("a/blk00000.dat", masked(GOOD))
+    did = run(program, once("a"), requests(EVERY_CALL))
+    return (answered(did[0]), *did[1:]), (EVERY_ANSWER, ENDED)
+
+
+def parameters_by_name(program):
     put("a/blk00000.dat", GOOD)
     given = (
-        asks(BLOCK1_SCRIPT, 1, "get_balance") + asks(BLOCK1_SCRIPT, 2, "listunspent")
-        + asks("00" * 32, 3, "get_balance") + asks("00" * 32, 4, "listunspent")
-        + asks(BLOCK1_SCRIPT, 5, "get_mempool")
+        request("blockchain.block.header", {"height": 0, "cp_height": 1})
+        + request("blockchain.scripthash.get_history", {"scripthash": BLOCK1_SCRIPT}, 2)
+        + request("server.version", {"protocol_version": "1.4"}, 3)
+        + request("blockchain.block.header", {"height": 0, "depth": 1}, 4)
     )
-    wrote = (
-        b'{"id":1,"jsonrpc":"2.0","result":{"confirmed":5000000000,"unconfirmed":0}}\n'
-        b'{"id":2,"jsonrpc":"2.0","result":[{"height":1,"tx_hash":"%s","tx_pos":0,"value":5000000000}]}\n'
-        b'{"id":3,"jsonrpc":"2.0","result":{"confirmed":0,"unconfirmed":0}}\n'
-        b'{"id":4,"jsonrpc":"2.0","result":[]}\n' % BLOCK1_TXID.encode()
-    )
-    return run(program, once("a"), given), (wrote + INVALID, ENDED)
+    answers = [
+        {"branch": [BLOCK1_HASH], "header": HEX0, "root": HEADERS_ROOT},
+        [{"height": 1, "tx_hash": BLOCK1_TXID}], ["el_serve 1.0", "1.4"], (-32602, "invalid params"),
+    ]
+    did = run(program, once("a"), given)
+    return (answered(did[0]), *did[1:]), (answers, ENDED)
 
 
-def serves_every_method(program):
+def no_blocks(program):
+    os.mkdir("a")
+    calls = [
+        ("blockchain.headers.subscribe",), ("server.features",), ("blockchain.block.header", 0),
+        ("blockchain.block.headers", 0, 1), ("blockchain.transaction.id_from_pos", 0, 0),
+        ("blockchain.scripthash.subscribe", GENESIS_SCRIPT),
+    ]
+    answers = [
+        (1, "no blocks yet"), (1, "no blocks yet"), (1, "no such height"), {"count": 0, "hex": "", "max": 2016},
+        (1, "no such height"), None,
+    ]
+    did = run(program, once("a"), requests(calls))
+    return (answered(did[0]), *did[1:]), (answers, ENDED)
+
+
+# Lines of other forms, each with the line that answers it, or with nothing.
+PARSE = b'{"error":{"code":-32700,"message":"parse error"},"id":null,"jsonrpc":"2.0"}\n'
+ODD_LINES = [
+    (b"{", PARSE),
+    (b"", PARSE),
+    (b"\xff", PARSE),
+    (b'{"id":1,"method":"server.ping"} {}', PARSE),
+    (b'{"id":1,"method":"server.ping","x":' + b"[" * 127 + b"]" * 127 + b"}", PARSE),
+    (b"5", INVALID),
+    (b"[]", INVALID),
+    (b"{}", INVALID),
+    (b'{"method":"server.ping"}', b""),
+    (b'[{"method":"server.ping"}]', b""),
+    (b'{"id":null,"method":"server.ping"}', b'{"id":null,"jsonrpc":"2.0","result":null}\n'),
+    (b'{"id":"\\u20ac\\n","method":"server.ping"}', '{"id":"\u20ac\\n","jsonrpc":"2.0","result":null}\n'.encode()),
+    (b'{"id":1,"id":2,"method":"server.ping"}', b'{"id":2,"jsonrpc":"2.0","result":null}\n'),
+    (b'{"id":18446744073709551615,"method":"server.ping"}',
+     b'{"id":18446744073709551615,"jsonrpc":"2.0","result":null}\n'),
+    (b'{"id":-9223372036854775808,"method":"server.ping"}',
+     b'{"id":-9223372036854775808,"jsonrpc":"2.0","result":null}\n'),
+    (b'{"id":18446744073709551616,"method":"server.ping"}', INVALID),
+    (b'{"id":1.5,"method":"server.ping"}', INVALID),
+    (b'{"id":7}', b'{"error":{"code":-32600,"message":"invalid request"},"id":7,"jsonrpc":"2.0"}\n'),
+    (b'{"id":7,"method":"server.ping","params":"x"}',
+     b'{"error":{"code":-32600,"message":"invalid request"},"id":7,"jsonrpc":"2.0"}\n'),
+    (b'{"id":7,"method":"server.ping","params":null}', b'{"id":7,"jsonrpc":"2.0","result":null}\n'),
+    (b'[{"id":1,"method":"server.ping"},{"method":"server.ping"},{"id":2,"method":"nope"},5]',
+     b'[{"id":1,"jsonrpc":"2.0","result":null},'
+     b'{"error":{"code":-32601,"message":"unknown method"},"id":2,"jsonrpc":"2.0"},'
+     b'{"error":{"code":-32600,"message":"invalid request"},"id":null,"jsonrpc":"2.0"}]\n'),
+    (b"[[]]", b'[{"error":{"code":-32600,"message":"invalid request"},"id":null,"jsonrpc":"2.0"}]\n'),
+]
+
+
+def odd_lines(program):
+    put("a/blk00000.dat", GOOD)
+    did = run(program, once("a"), b"".join(line + b"\n" for line, _ in ODD_LINES))
+    return did, (b"".join(answer for _, answer in ODD_LINES), ENDED)
+
+
+# What a wallet sends as it starts, and what it is told, line by line.
+WALLET = b"".join([
+    b'{"jsonrpc":"2.0","id":0,"method":"server.version","params":["electrum/4.5",["1.4","1.4.2"]]}\n',
+    request("server.features", number=1),
+    request("blockchain.headers.subscribe", number=2),
+    request("blockchain.block.headers", [0, 2016], 3),
+    *(request("blockchain.scripthash.subscribe", [script_hash(k)], 4 + k) for k in range(40)),
+    request("blockchain.estimatefee", [2], 44),
+    request("blockchain.relayfee", number=45),
+    request("mempool.get_fee_histogram", number=46),
+    request("server.ping", number=47),
+    request("server.version", number=48),
+])
+WALLET_TOLD = b"".join([
+    b'{"id":0,"jsonrpc":"2.0","result":["el_serve 1.0","1.4"]}\n',
+    b'{"id":1,"jsonrpc":"2.0","result":{"genesis_hash":"%s","hash_function":"sha256","hosts":{},"protocol_max":"1.4",'
+    b'"protocol_min":"1.4","pruning":null,"server_version":"el_serve 1.0"}}\n' % GENESIS_HASH.encode(),
+    b'{"id":2,"jsonrpc":"2.0","result":{"height":1,"hex":"%s"}}\n' % HEX1.encode(),
+    b'{"id":3,"jsonrpc":"2.0","result":{"count":2,"hex":"%s","max":2016}}\n' % (HEX0 + HEX1).encode(),
+    *(b'{"id":%d,"jsonrpc":"2.0","result":null}\n' % (4 + k) for k in range(40)),
+    b'{"id":44,"jsonrpc":"2.0","result":-1}\n',
+    b'{"id":45,"jsonrpc":"2.0","result":0}\n',
+    b'{"id":46,"jsonrpc":"2.0","result":[]}\n',
+    b'{"id":47,"jsonrpc":"2.0","result":null}\n',
+    b'{"error":{"code":1,"message":"version already agreed"},"id":48,"jsonrpc":"2.0"}\n',
+])
+
+
+def start_of_a_wallet(program):
+    put("a/blk00000.dat", GOOD)
+    return run(program, once("a"), WALLET), (WALLET_TOLD, ENDED)
+
+
+def tip_line(data):
+    """The node's line that names a block as the tip."""
+    return b"tip %s\n" % block_id(data).encode()
+
+
+def at_line(data, height):
+    """The answer that the chain ends in that block."""
+    return b"at %s %d\n" % (block_id(data).encode(), height)
+
+
+def tx_line(data):
+    """The node's line that brings a transaction."""
+    return b"tx %s\n" % data.hex().encode()
+
+
+def txid(data):
+    """A transaction's id without a witness, as it is shown."""
+    return shown(double(data))
+
+
+def start_of_a_wallet_over_sockets(program):
+    # the same bytes in pieces of one byte
+    os.mkdir("index")
+    put("a/blk00000.dat", GOOD)
+    it = Served(program)
+    node, client = it.node(), it.client()
+    told = node.asks(tip_line(BLOCK1)) + client.asks(WALLET, 1)
+    return it.ends(told, node), (at_line(BLOCK1, 1) + WALLET_TOLD, ENDED)
+
+
+def every_method_over_sockets(program):
+    os.mkdir("index")
+    put("a/blk00000.dat", GOOD)
+    it = Served(program)
+    node, client = it.node(), it.client()
+    told = node.asks(tip_line(BLOCK1))
+    answers = answered(client.asks(requests(EVERY_CALL)))
+    return it.ends((told, answers), node), ((at_line(BLOCK1, 1), EVERY_ANSWER), ENDED)
+
+
+def serves_without_blocks(program):
     os.mkdir("index")
     put("a/blk00000.dat", GOOD)
     given = ONE + asks(GENESIS_SCRIPT, 2, "get_balance") + asks(GENESIS_SCRIPT, 3, "listunspent")
     empty = b'{"id":2,"jsonrpc":"2.0","result":{"confirmed":0,"unconfirmed":0}}\n'
-    return run(program, serve("a"), given), (NONE_FOUND + empty + replies([], 3), ENDED)
+    return ask_served(program, "a", given), (NONE_FOUND + empty + replies([], 3), ENDED)
+
+
+def tells_what_it_serves(program):
+    os.mkdir("index")
+    os.mkdir("a")
+    it = Served(program)
+    told = b"electrum_serve: serving main, blocks a, index index, clients on port %d, node on port %d\n" % (
+        it.client_port, it.node_port)
+    return it.ends(it.serves), (told, ENDED)
+
+
+def told_of(client, k):
+    """The history, the balance and the set's part of a script, as a client is told of them."""
+    return answered(client.asks(requests([
+        ("blockchain.scripthash.get_history", script_hash(k)), ("blockchain.scripthash.get_balance", script_hash(k)),
+        ("blockchain.scripthash.get_mempool", script_hash(k)), ("blockchain.scripthash.subscribe", script_hash(k)),
+    ])))
+
+
+def seen(history, confirmed, unconfirmed=0, pool=()):
+    """What a client is told where the history has these entries, and the set these of height and fee, by txid."""
+    waiting = [{"fee": fee, "height": height, "tx_hash": txid} for txid, height, fee in pool]
+    whole = list(history) + [(entry["height"], entry["tx_hash"]) for entry in waiting]
+    entries = [{"height": height, "tx_hash": txid} for height, txid in history]
+    return [
+        entries + waiting, {"confirmed": confirmed, "unconfirmed": unconfirmed}, waiting,
+        status_of(f"{txid}:{height}:" for height, txid in whole) if whole else None,
+    ]
+
+
+def node_leads_to_another_branch(program):
+    os.mkdir("index")
+    put("a/blk00000.dat", b"".join(record(it, REGTEST) for it in (ZERO, A1, A2, B1, B2)))
+    it = Served(program, network="regtest")
+    node, client = it.node(), it.client()
+    told = node.asks(tip_line(A2))
+    first = told_of(client, 1)
+    # the last block comes while the program runs
+    at = os.path.getsize("a/blk00000.dat")
+    with open("a/blk00000.dat", "ab") as blocks:
+        blocks.write(record(B3, REGTEST))
+    told += node.asks(tip_line(B3) + b"block 0 %d\n" % at + tip_line(B3), 7)
+    second = told_of(client, 1)
+    wanted = (
+        at_line(A2, 2) + b"refused unknown %s\n" % block_id(B3).encode() + b"block %s\n" % block_id(B3).encode()
+        + at_line(B3, 3),
+        seen([(1, txid(MOVED))], 2_500_000_000), seen([(2, txid(MOVED))], 2_500_000_000),
+    )
+    return it.ends((told, first, second), node), (wanted, ENDED)
+
+
+def node_tells_of_unconfirmed_transactions(program):
+    os.mkdir("index")
+    holding = block(ZERO, 1, 0, [coinbase(1, 0, 101), PARENT])
+    put("a/blk00000.dat", record(ZERO, REGTEST) + record(holding, REGTEST))
+    it = Served(program, network="regtest")
+    node, client = it.node(), it.client()
+    told = node.asks(tip_line(ZERO) + tx_line(PARENT) + tx_line(CHILD))
+    first = [told_of(client, k) for k in (101, 1, 2)]
+    got = answered(client.asks(requests([("blockchain.transaction.get", txid(CHILD))])))
+    told += node.asks(tip_line(holding))
+    second = [told_of(client, k) for k in (1, 2)]
+    told += node.asks(b"drop %s\n" % txid(CHILD).encode() * 2)
+    third = told_of(client, 2)
+    parent, child, base = txid(PARENT), txid(CHILD), txid(BASE)
+    wanted = (
+        at_line(ZERO, 0) + b"tx %s\ntx %s\n" % (parent.encode(), child.encode()) + at_line(holding, 1)
+        + b"gone %s\nrefused absent %s\n" % (child.encode(), child.encode()),
+        [
+            seen([(0, base)], 5_000_000_000, -5_000_000_000, [(parent, 0, 0)]),
+            seen([], 0, 0, sorted([(parent, 0, 0), (child, -1, 0)])),
+            seen([], 0, 5_000_000_000, [(child, -1, 0)]),
+        ],
+        [CHILD.hex()],
+        [
+            seen([(1, parent)], 5_000_000_000, -5_000_000_000, [(child, 0, 0)]),
+            seen([], 0, 5_000_000_000, [(child, 0, 0)]),
+        ],
+        seen([], 0),
+    )
+    return it.ends((told, first, got, second, third), node), (wanted, ENDED)
+
+
+def node_tells_of_refused_transactions(program):
+    os.mkdir("index")
+    put("a/blk00000.dat", record(ZERO, REGTEST))
+    it = Served(program, network="regtest", more=["--pool-count", "1"])
+    node = it.node()
+    coin, missing = (double(BASE), 0), (b"\x11" * 32, 0)
+    parent = txid(PARENT).encode()
+    given = [
+        (tip_line(ZERO), at_line(ZERO, 0)),
+        (b"tx 00\n", b"refused form\n"),
+        (tx_line(coinbase(5, 0, 1)), b"refused coinbase\n"),
+        (tx_line(BASE), b"refused coinbase\n"),
+        (tx_line(spend([coin], [(5_000_000_001, 1)])), b"refused overspends 5000000000 5000000001\n"),
+        (tx_line(PARENT), b"tx %s\n" % parent),
+        (tx_line(PARENT), b"refused known %s\n" % parent),
+        (tx_line(spend([coin], [(1, 3)])), b"refused conflict %s\n" % parent),
+        (tx_line(CHILD), b"refused full 1 65\n"),
+        (tx_line(spend([missing], [(1, 1)])), b"refused missing %s 0\n" % (b"11" * 32)),
+        (b"drop %s\n" % parent, b"gone %s\n" % parent),
+        (b"drop %s\n" % parent, b"refused absent %s\n" % parent),
+    ]
+    told = node.asks(b"".join(line for line, _ in given))
+    return it.ends(told, node), (b"".join(answer for _, answer in given), ENDED)
+
+
+def node_tells_of_a_confirmed_transaction(program):
+    os.mkdir("index")
+    put("a/blk00000.dat", b"".join(record(it, REGTEST) for it in (ZERO, A1)))
+    it = Served(program, network="regtest")
+    node = it.node()
+    told = node.asks(tip_line(A1) + tx_line(MOVED))
+    return it.ends(told, node), (at_line(A1, 1) + b"refused confirmed %s\n" % txid(MOVED).encode(), ENDED)
+
+
+def node_says_other_lines(program):
+    os.mkdir("index")
+    put("a/blk00000.dat", GOOD)
+    unknown = b"22" * 32
+    given = [
+        (b"Tip x\n", b"refused line\n"),
+        (b"tip %s\n" % unknown, b"refused unknown %s\n" % unknown),
+        (b"block 0 0\n", b"block %s\n" % GENESIS_HASH.encode()),
+        (b"block 0 1\n", b"refused place\n"),
+        (b"block 7 0\n", b"refused place\n"),
+        (b"tx\n", b"refused line\n"),
+        (b"tx 0\n", b"refused line\n"),
+        (b"tx  00\n", b"refused line\n"),
+        (b"drop 00\n", b"refused line\n"),
+        (b"x" * 8_000_101 + b"\n", b"refused long 8000100\n"),
+        (b"tip %s\n" % BLOCK1_HASH.encode(), b"at %s 1\n" % BLOCK1_HASH.encode()),
+        (b"tip %s\n" % BLOCK1_HASH.upper().encode(), b"at %s 1\n" % BLOCK1_HASH.encode()),
+    ]
+    it = Served(program)
+    node = it.node()
+    told = node.asks(b"".join(line for line, _ in given))
+    return it.ends(told, node), (b"".join(answer for _, answer in given), ENDED)
+
+
+def client_too_many(program):
+    os.mkdir("index")
+    put("a/blk00000.dat", GOOD)
+    it = Served(program)
+    node, first = it.node(), it.client()
+    told = node.asks(tip_line(BLOCK1)) + first.asks(ONE)
+    second = it.client()
+    told += second.rest() + first.asks(ONE)
+    first.leaves()
+    told += it.next_client_says(ONE)
+    return it.ends(told, node), (at_line(BLOCK1, 1) + FOUND * 3, ENDED)
+
+
+def client_that_breaks_off(program):
+    os.mkdir("index")
+    put("a/blk00000.dat", GOOD)
+    it = Served(program)
+    node, first = it.node(), it.client()
+    told = node.asks(tip_line(BLOCK1)) + first.asks(ONE)
+    first.says(ONE[:20])
+    first.resets()
+    told += it.next_client_says(ONE + ONE[:20])
+    return it.ends(told, node), (at_line(BLOCK1, 1) + FOUND * 2, ENDED)
+
+
+def client_of_another_version(program):
+    # it is closed after the answers to the whole batch; its next line has no effect
+    os.mkdir("index")
+    os.mkdir("a")
+    it = Served(program)
+    batch = b'[{"id":1,"method":"server.version","params":["x","1.5"]},{"id":2,"method":"server.ping"}]\n'
+    answer = (
+        b'[{"error":{"code":1,"message":"version not shared"},"id":1,"jsonrpc":"2.0"},'
+        b'{"id":2,"jsonrpc":"2.0","result":null}]\n'
+    )
+    client = it.client()
+    client.says(batch + request("server.ping"))
+    return it.ends(client.rest()), (answer, ENDED)
+
+
+def client_of_a_line_that_is_too_long(program):
+    # 1,000,000 bytes are read, and one more closes the client
+    os.mkdir("index")
+    os.mkdir("a")
+    it = Served(program)
+    longest = request("server.ping")[:-1].ljust(1_000_000)
+    client = it.client()
+    client.says(longest + b"\n" + longest)
+    told = client.hears()
+    client.says(b" ")
+    return it.ends(told + client.rest()), (b'{"id":1,"jsonrpc":"2.0","result":null}\n', ENDED)
+
+
+def client_that_reads_slowly(program):
+    # more is unsent for it than is kept for a client that is still read; its last request is answered all the same
+    os.mkdir("index")
+    big = coinbase(0, 0, 1).replace(b"\x05" + script(1), b"\xfe" + number(900_000) + b"x" * 900_000)
+    first = block(None, 0, 0, [big])
+    put("a/blk00000.dat", record(first, REGTEST))
+    it = Served(program, network="regtest")
+    node, client = it.node(), it.client()
+    told = node.asks(tip_line(first))
+    asked = [("blockchain.transaction.get", txid(big))] * 12
+    client.says(requests(asked))
+    time.sleep(2)
+    client.says(request("server.ping", number=13))
+    answers = answered(client.hears(13))
+    whole = [answer == big.hex() for answer in answers[:12]]
+    return it.ends((told, whole, answers[12]), node), ((at_line(first, 0), [True] * 12, None), ENDED)
+
+
+def second_node(program):
+    # it is closed at once; the first one leads on
+    os.mkdir("index")
+    put("a/blk00000.dat", GOOD)
+    it = Served(program)
+    node = it.node()
+    told = node.asks(tip_line(GENESIS))
+    told += it.node().rest() + node.asks(tip_line(BLOCK1))
+    return it.ends(told, node), (at_line(GENESIS, 0) + at_line(BLOCK1, 1), ENDED)
+
+
+def node_that_sends_no_more(program):
+    # it gets the answers to its whole lines; what it said last is none
+    os.mkdir("index")
+    put("a/blk00000.dat", GOOD)
+    it = Served(program)
+    node = it.node()
+    told = node.says_all(tip_line(GENESIS) + b"tip")
+    return it.ends(told, node), (at_line(GENESIS, 0), ENDED)
+
+
+def killed_after_a_move(program):
+    # the ports can be had at once, and the chain is the one that was told; the set is not kept
+    os.mkdir("index")
+    put("a/blk00000.dat", b"".join(record(it, REGTEST) for it in (ZERO, A1, A2, B1, B2, B3)))
+    ports = free_ports()
+    first = Served(program, network="regtest", ports=ports)
+    node, client = first.node(), first.client()
+    told = node.asks(tip_line(A2) + tx_line(spend([(double(MOVED), 0)], [(1, 1)])) + tip_line(B3))
+    before = told_of(client, 1)
+    first.killed()
+    second = Served(program, network="regtest", ports=ports)
+    node, client = second.node(), second.client()
+    header = answered(client.asks(request("blockchain.headers.subscribe")))
+    after = told_of(client, 1)
+    third = spend([(double(MOVED), 0)], [(1, 1)])
+    wanted = (
+        at_line(A2, 2) + b"tx %s\n" % txid(third).encode() + at_line(B3, 3),
+        seen([(2, txid(MOVED))], 2_500_000_000, 1 - 2_500_000_000, [(txid(third), 0, 2_499_999_999)]),
+        [{"height": 3, "hex": B3[:80].hex()}], seen([(2, txid(MOVED))], 2_500_000_000),
+    )
+    return second.ends((told, before, header, after), node), (wanted, ENDED)
+
+
+def killed_in_a_move(program):
+    # whatever moment it is stopped at, the chain is the one before the move or the one after it
+    os.mkdir("index")
+    put("a/blk00000.dat", b"".join(record(it, REGTEST) for it in (ZERO, A1, A2, B1, B2, B3)))
+    first = Served(program, network="regtest")
+    first.node().asks(tip_line(A2))
+    first.killed()
+    kept = held("index")
+    tips = {A2[:80].hex(): 2, B3[:80].hex(): 3}
+    for wait in range(12):
+        for name, data in kept.items():
+            put(f"index/{name}", data)
+        it = Served(program, network="regtest")
+        it.node().says(tip_line(B3))
+        time.sleep(wait / 4_000)
+        it.killed()
+        it = Served(program, network="regtest")
+        tip, = answered(it.client().asks(request("blockchain.headers.subscribe")))
+        did = it.ends(tips.get(tip["hex"]) == tip["height"])
+        if did != as_wanted((True, ENDED)):
+            break
+    return did, (True, ENDED)
+
+
+def stopped_by_a_signal(program):
+    os.mkdir("index")
+    os.mkdir("a")
+    it = Served(program)
+    it.started.send_signal(signal.SIGTERM)
+    printed, said, status = ends(it.started, None)
+    return (printed + said, b"electrum_serve: ended\n", status + signal.SIGTERM), (b"", ENDED)
+
+
+def port_that_is_taken(program):
+    os.mkdir("index")
+    os.mkdir("a")
+    results = []
+    for place in range(2):
+        ports = free_ports()
+        with socket.create_server(("127.0.0.1", ports[place])):
+            words = serve("a", "main", *(str(port) for port in ports))
+            results.append(run(program, words))
+    return results[0] if results[0] != as_wanted((b"", LINK_FAILED)) else results[1], (b"", LINK_FAILED)
 
 
 def input_in_pieces(program):
@@ -628,7 +1361,26 @@ CASES = [
     numbers_at_their_bounds,
     serves_two_files,
     serves_blocks_in_any_order,
-    serves_every_method,
+    serves_without_blocks,
+    every_method_over_sockets,
+    start_of_a_wallet_over_sockets,
+    tells_what_it_serves,
+    node_leads_to_another_branch,
+    node_tells_of_unconfirmed_transactions,
+    node_tells_of_refused_transactions,
+    node_tells_of_a_confirmed_transaction,
+    node_says_other_lines,
+    node_that_sends_no_more,
+    second_node,
+    client_too_many,
+    client_that_breaks_off,
+    client_of_another_version,
+    client_of_a_line_that_is_too_long,
+    client_that_reads_slowly,
+    killed_after_a_move,
+    killed_in_a_move,
+    stopped_by_a_signal,
+    port_that_is_taken,
     serves_no_folder,
     serves_again_over_its_index,
     serves_from_an_index_made_elsewhere,
@@ -660,6 +1412,11 @@ CASES = [
     second_block_alone,
     many_lines,
     every_method,
+    every_method_of_a_masked_file,
+    parameters_by_name,
+    no_blocks,
+    odd_lines,
+    start_of_a_wallet,
     input_in_pieces,
     input_cut_in_a_line,
     no_input,

@@ -2,11 +2,11 @@
 use Rattle.std.specs.Prelude.{◌≡◌, ◌≢◌, ℕ, ◌+◌, ◌≤◌, List, [], ◌∷◌, map, codes, String, Option, Some, None, IsSomeAnd}
 use Rattle.std.specs.Global.{Global}
 use Rattle.std.specs.String.{string_bytes}
-use Rattle.el_model.specs.NodeLines.{ShowsNumber}
+use Rattle.el_lines.specs.NodeLines.{ShowsNumber}
+use Rattle.el_mempool.specs.declared.entry.PoolLimits.{PoolLimits}
 use Rattle.el_words.specs.Options.{Word, Given, words_of, AreOptions, value_of}
 use Rattle.el_words.specs.declared.words.Network.{Network}
 use Rattle.el_words.specs.declared.words.Network.TheVariants as network
-use Rattle.el_words.specs.declared.words.PoolLimits.{PoolLimits}
 
 -- a network's name
 abbrev pub network_name : Network → List ℕ
@@ -44,6 +44,10 @@ pub record ArePorts (given : Given) (client_port node_port : ℕ) : Type 0 where
 pub record AreLimits (given : Given) (limits : PoolLimits) : Type 0 where
   pub count : IsLimit 1000000 (value_of (codes "--pool-count") given) limits.count
   pub bytes : IsLimit 300000000 (value_of (codes "--pool-bytes") given) limits.bytes
+
+-- the greatest limits, which stand where no others are given
+abbrev pub greatest_limits : PoolLimits
+greatest_limits = record { count = 1000000; bytes = 300000000 }
 
 -- the options of `once`, and those of `serve`
 abbrev pub once_options : List Word

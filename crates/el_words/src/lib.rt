@@ -7,4 +7,4 @@ mod reading;
 mod words;
 
 pub use laws::words_are_of_one_command;
-pub use words::{Command, Network, PoolLimits, ServeWords, once_of, read_words, serve_of};
+pub use words::{Command, Network, ServeWords, greatest_limits, once_of, read_words, serve_of};

@@ -2,17 +2,18 @@
 ghost use Rattle.std.specs.Prelude.{◌≡◌, ◌≢◌, ◌<◌, ◌^◌, ℕ, List, [], ◌∷◌, codes, is_some, true, map, Some, IfSome, IfNone, IfOk, IsSomeAnd, MatchOption};
 ghost use Rattle.clap.specs.Matches.{first_value, found_of};
 ghost use Rattle.el_words.specs.Options.{Word, Given, words_of, value_of};
-ghost use Rattle.el_words.specs.Words.{IsOnceOf, IsServeOf, IsUpTo, IsPort, IsLimit, ArePorts, AreLimits, network_name, network_magic, once_options, serve_options, texts};
+ghost use Rattle.el_words.specs.Words.{IsOnceOf, IsServeOf, IsUpTo, IsPort, IsLimit, ArePorts, AreLimits, greatest_limits, network_name, network_magic, once_options, serve_options, texts};
 ghost use Rattle.el_words.specs.Commands.{IsCommand, IsNoCommand};
 ghost use Rattle.el_words.specs.within.Reading.{GiveOptions};
 ghost use Rattle.el_words.specs.declared.words.Network as shape;
-ghost use Rattle.el_words.specs.declared.words.PoolLimits as limits_shape;
+ghost use Rattle.el_mempool.specs.declared.entry.PoolLimits as limits_shape;
 
 use crate::options::{are_options, first_of, value_in};
 use crate::reading::read_options;
 use clap::ArgMatches;
 use el_base::{OutOfMemory, Text};
 use el_lines::number_of;
+use el_mempool::PoolLimits;
 use std::alloc::Global;
 
 // The options of `once`, and those of `serve`.
@@ -61,6 +62,17 @@ impl Network {
         }
     }
 
+    /// The network's name.
+    pub fn name(self) -> &'static str
+        ensures { result.now ≡ network_name self }
+    {
+        match self {
+            Network::Main => "main",
+            Network::Testnet3 => "testnet3",
+            Network::Regtest => "regtest",
+        }
+    }
+
     /// The four bytes that begin the network's records in block files (Bitcoin's message start).
     pub fn magic(self) -> [u8; 4]
         ensures { result ≡ network_magic self }
@@ -73,13 +85,14 @@ impl Network {
     }
 }
 
-/// How much the unconfirmed set may hold.
-#[derive(Clone, Copy, Debug, PartialEq, Eq)]
-pub struct PoolLimits {
-    /// So many transactions, from 1 to 1,000,000.
-    pub count: u64,
-    /// So many bytes of transactions, from 1 to 300,000,000.
-    pub bytes: u64,
+/// The greatest limits of the unconfirmed set, which stand where no others are given.
+pub fn greatest_limits() -> PoolLimits
+    ensures { result ≡ greatest_limits }
+{
+    PoolLimits {
+        count: MAX_POOL_COUNT,
+        bytes: MAX_POOL_BYTES,
+    }
 }
 
 /// What the words ask for.
@@ -93,11 +106,11 @@ pub enum Command {
         index: Text,
         /// The network whose blocks they are.
         network: Network,
-        /// The port on which clients are served, from 1 to 65,535, which is not used yet.
+        /// The port on which clients are served, from 1 to 65,535.
         client_port: u16,
-        /// The port on which the node is served, from 1 to 65,535, which is not used yet; another one.
+        /// The port on which the node is served, from 1 to 65,535; another one.
         node_port: u16,
-        /// How much the unconfirmed set may hold, which is not used yet.
+        /// What the unconfirmed set may hold: 1 to 1,000,000 transactions, 1 to 300,000,000 bytes.
         limits: PoolLimits,
     },
     /// Answers one client on standard input from file 0 of a folder of block files.
@@ -118,7 +131,7 @@ pub struct ServeWords {
     pub client_port: u16,
     /// The port on which the node is served, from 1 to 65,535; another one.
     pub node_port: u16,
-    /// How much the unconfirmed set may hold.
+    /// What the unconfirmed set may hold: 1 to 1,000,000 transactions, 1 to 300,000,000 bytes.
     pub limits: PoolLimits,
 }
 

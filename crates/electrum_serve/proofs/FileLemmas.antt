@@ -5,7 +5,7 @@ use Rattle.std.specs.List.{AllByRecursion}
 use Rattle.std.proofs.lemmas.List.{drop-drop, take-append-drop, take_at, take-take, take_more, drop_more, map-append, length-take-le}
 use Rattle.el_base.proofs.Lists.{all_append, all_at}
 use Rattle.el_outside.specs.Files.{Grows, AllGrow, IsFile}
-use Rattle.el_outside.proofs.Stories.{grows_more, all_grow_more}
+use Rattle.el_outside.proofs.Traces.{grows_more, all_grow_more}
 use Rattle.el_outside.proofs.Calls.{HasRead, has_then}
 use Rattle.el_outside.specs.declared.archive.Place.{Place}
 use Rattle.el_tx.specs.Headers.{header_encoding, header_of}

@@ -7,10 +7,11 @@ use Rattle.el_outside.specs.declared.link.Link as link
 use Rattle.el_outside.specs.Disk.{Image}
 use Rattle.el_chain.specs.Chains.{Chain}
 use Rattle.el_journal.specs.declared.mark.TheConstants.{JOURNAL}
-use Rattle.el_model.specs.World.{World}
+use Rattle.el_mempool.specs.declared.entry.PoolLimits.{PoolLimits}
+use Rattle.el_world.specs.World.{World}
 use Rattle.el_outside.specs.Devices.{Device}
-use Rattle.el_model.specs.Run.{Stop}
-use Rattle.el_model.specs.Flights.{acked}
+use Rattle.el_world.specs.Run.{Stop}
+use Rattle.el_world.specs.Flights.{acked}
 use Rattle.el_logstore.specs.Images.{no_rows}
 use Rattle.el_rows.specs.declared.table.Table.{Table}
 use Rattle.el_rows.specs.declared.table.Table.TheVariants as table
@@ -105,9 +106,9 @@ module _ (P : Chain → Chain → Type 0) where
       with_more (λ X k. (k, r.1, r.2)) (run_pinned tells first node files c t _ r.0)
 
   module _ {A : Type 0} (tells : Type 0) (bytes : A → ℕ → List ℕ) (file_count : A → ℕ) (magic : List ℕ)
-      (chain : Chain) (c : Counts) (before after : A) (t : Traffic) where
-    served_pinned : (e : End) → IsServed tells bytes file_count magic chain P c before after t e
-        → Pinned P (λ Q. IsServed tells bytes file_count magic chain Q c before after t e)
+      (limits : PoolLimits) (chain : Chain) (c : Counts) (before after : A) (t : Traffic) where
+    served_pinned : (e : End) → IsServed tells bytes file_count magic limits chain P c before after t e
+        → Pinned P (λ Q. IsServed tells bytes file_count magic limits chain Q c before after t e)
     served_pinned e r = with_more (λ X k. record {
       now = r.now;
       nodes = r.nodes;
@@ -120,8 +121,8 @@ module _ (P : Chain → Chain → Type 0) where
     alone : {Q : (Chain → Chain → Type 0) → Type 0} → (a b : Chain) → P a b → Q (these a b) → Pinned P Q
     alone a b leaves ends = record { acked = a; flight = b; leaves = leaves; ends = ends }
 
-    serve_pinned : (s : Status) → ServeEnds tells bytes file_count magic chain P c before after t s
-        → Pinned P (λ Q. ServeEnds tells bytes file_count magic chain Q c before after t s)
+    serve_pinned : (s : Status) → ServeEnds tells bytes file_count magic limits chain P c before after t s
+        → Pinned P (λ Q. ServeEnds tells bytes file_count magic limits chain Q c before after t s)
     serve_pinned status.Ended r = served_pinned _ r
     serve_pinned status.Usage r = absurd r
     serve_pinned status.BadIndex r = absurd r
@@ -149,8 +150,8 @@ module _ (P : Chain → Chain → Type 0) where
     unopened_pinned was flight status.BadChain r = absurd r
 
     index_pinned : (was flight : Chain) (s : Status)
-        → IndexEnds tells bytes file_count magic was flight chain P c before after t s
-        → Pinned P (λ Q. IndexEnds tells bytes file_count magic was flight chain Q c before after t s)
+        → IndexEnds tells bytes file_count magic limits was flight chain P c before after t s
+        → Pinned P (λ Q. IndexEnds tells bytes file_count magic limits was flight chain Q c before after t s)
     index_pinned was flight s (inl r) = with_more (λ X k. inl k) (unopened_pinned was flight s r)
     index_pinned was flight s (inr r) = with_more (λ X k. inr k) (serve_pinned s r)
 
@@ -172,7 +173,8 @@ module _ {D A K : Type 0} (of_disk : disk.Ghosts D) (of_files : archive.Ghosts A
       let e = call was flight chain (λ m also. rw (same_networks also serves) is) in
       let only = only_served serves e.2 in
       let k = index_pinned (LeavesOneOf of_disk magic l.after.disk) of_files.tells of_files.bytes
-      of_files.file_count magic chain _ l.before.files l.after.files e.0 was flight l.status only in record {
+      of_files.file_count magic serves.limits chain _ l.before.files l.after.files e.0 was flight l.status only
+      in record {
         acked = k.acked;
         in_flight = k.flight;
         leaves = k.leaves;

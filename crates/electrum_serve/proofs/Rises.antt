@@ -4,7 +4,7 @@ use Rattle.el_outside.specs.Counts.{RoseBy, OnlyReads, CountsOnly}
 use Rattle.el_loop.specs.Counts as loop
 use Rattle.el_outside.specs.Devices.{Device, link, archive, disk, Faults, faults}
 use Rattle.el_loop.specs.Counts.{Counts, counts, HasRisen, IsCaused}
-use Rattle.el_loop.proofs.Rises.{each_more}
+use Rattle.el_outside.proofs.Devices.{each_more}
 use Rattle.el_loop.specs.declared.end.End.{End}
 use Rattle.el_loop.specs.declared.end.End.TheVariants as end
 use Rattle.electrum_serve.specs.Ends.{IsUnserved, IsOpenedEnd}

@@ -2,12 +2,12 @@
 use Rattle.std.proofs.Common.{◌≡◌, ◌≢◌, inl, inr, ℕ, List, [], ◌∷◌, ◌++◌, ◌∙◌, refl, sym, ap, Bool, true, arith}
 use Rattle.std.specs.Prelude.{◌⊎◌, Err}
 use Rattle.el_outside.specs.Counts.{RoseBy, OnlyReads, CountsOnly}
-use Rattle.el_outside.proofs.Stories.{rose_none}
+use Rattle.el_outside.proofs.Traces.{rose_none}
 use Rattle.el_chain.specs.declared.node.Node.{Node}
 use Rattle.el_chain.specs.Chains.{Chain}
-use Rattle.el_model.specs.World.{World}
+use Rattle.el_world.specs.World.{World}
 use Rattle.el_outside.specs.Devices.{Device, archive, disk, failures, link}
-use Rattle.el_model.specs.Run.{Stop}
+use Rattle.el_world.specs.Run.{Stop}
 use Rattle.el_words.specs.Words.{IsOnceOf, IsServeOf, network_magic}
 use Rattle.el_words.specs.Commands.{IsServe, IsOnce}
 use Rattle.electrum_serve.specs.Opened.{IsScanned, nodes_of_chain}
@@ -28,11 +28,11 @@ use Rattle.electrum_serve.specs.declared.status.Status.{Status}
 use Rattle.electrum_serve.specs.declared.status.Status.TheVariants as status
 use Rattle.el_words.specs.declared.words.Network.{Network}
 use Rattle.el_words.specs.declared.words.Command.TheVariants as command
-use Rattle.el_words.specs.declared.words.PoolLimits.{PoolLimits}
+use Rattle.el_mempool.specs.declared.entry.PoolLimits.{PoolLimits}
 use Rattle.el_words.proofs.OneCommand.{one_command}
 
 -- the words of `serve`, or of `once`, with their network's magic
-pub is_serve : {words : List (List ℕ)} {blocks index magic : List ℕ} {network : Network}
+abbrev pub is_serve : {words : List (List ℕ)} {blocks index magic : List ℕ} {network : Network}
     {client_port node_port : ℕ} {limits : PoolLimits}
     → IsServeOf words blocks index network client_port node_port limits → magic ≡ network_magic network
     → IsServe words magic
@@ -63,18 +63,27 @@ one_network {words} {blocks} {index} {magic} {of_network} {client_port} {node_po
     (command.Serve blocks index of_network client_port node_port limits) is.is_serve other in
     is.magic_is ∙ ap network_magic (let named : is.of_network ≡ of_network = cc in named)
 
+pub same_limits : {words : List (List ℕ)} {a b : List ℕ} (x : IsServe words a) (y : IsServe words b)
+    → x.limits ≡ y.limits
+same_limits {words} x y =
+    let same = one_command words
+    (command.Serve x.blocks x.index x.of_network x.client_port x.node_port x.limits)
+    (command.Serve y.blocks y.index y.of_network y.client_port y.node_port y.limits) x.is_serve y.is_serve in
+    let limits : x.limits ≡ y.limits = cc in
+    limits
+
 pub same_networks : {words : List (List ℕ)} {a b : List ℕ} → IsServe words a → IsServe words b → a ≡ b
 same_networks x y = one_network x y.is_serve ∙ sym y.magic_is
 
 -- a call with the words of `serve` ends as such
 pub only_served : {A : Type 0} {tells : Type 0} {bytes : A → ℕ → List ℕ} {file_count : A → ℕ}
     {words : List (List ℕ)} {was flight chain : Chain} {leaves : List ℕ → Chain → Chain → Type 0} {c : Counts}
-    {before after : A} {t : Traffic} {s : Status} {magic : List ℕ} → IsServe words magic
+    {before after : A} {t : Traffic} {s : Status} {magic : List ℕ} (asked : IsServe words magic)
     → Ends tells bytes file_count words was flight chain leaves c before after t s
-    → IndexEnds tells bytes file_count magic was flight chain (leaves magic) c before after t s
+    → IndexEnds tells bytes file_count magic asked.limits was flight chain (leaves magic) c before after t s
 only_served is (usage none spent silent) =
     absurd (none.not_serve is.blocks is.index is.of_network is.client_port is.node_port is.limits is.is_serve)
-only_served is (serve magic also e) = rw (same_networks also is) at e
+only_served is (serve magic also e) = rw (same_networks also is, same_limits also is) at e
 only_served is (once magic other e) =
     absurd (let a = is.is_serve.words_are in let b = other.is_once.words_are in cc)
 
@@ -132,10 +141,10 @@ module _ (c : Counts) (of_before of_after : Faults) (rises : (losses : List Devi
       record { traffic = k.traffic; calls = k.calls; rose = rises losses k.rose }
 
   served_told : {A : Type 0} (tells : Type 0) (bytes : A → ℕ → List ℕ) (file_count : A → ℕ) (magic : List ℕ)
-      (chain : Chain) (before after : A) (t : Traffic) (e : End)
-      → IsServed tells bytes file_count magic chain P c before after t e
-      → IsServed tells bytes file_count magic chain Q told before after t e
-  served_told tells bytes file_count magic chain before after t e r = record {
+      (limits : PoolLimits) (chain : Chain) (before after : A) (t : Traffic) (e : End)
+      → IsServed tells bytes file_count magic limits chain P c before after t e
+      → IsServed tells bytes file_count magic limits chain Q told before after t e
+  served_told tells bytes file_count magic limits chain before after t e r = record {
     now = r.now;
     nodes = r.nodes;
     scanned = r.scanned;
@@ -145,30 +154,30 @@ module _ (c : Counts) (of_before of_after : Faults) (rises : (losses : List Devi
   }
 
   pub serve_told : {A : Type 0} (tells : Type 0) (bytes : A → ℕ → List ℕ) (file_count : A → ℕ)
-      (magic : List ℕ) (chain : Chain) (before after : A) (t : Traffic) (s : Status)
-      → ServeEnds tells bytes file_count magic chain P c before after t s
-      → ServeEnds tells bytes file_count magic chain Q told before after t s
-  serve_told tells bytes file_count magic chain before after t status.Ended r =
-      served_told tells bytes file_count magic chain before after t _ r
-  serve_told tells bytes file_count magic chain before after t status.Usage r = r
-  serve_told tells bytes file_count magic chain before after t status.BadIndex r = r
-  serve_told tells bytes file_count magic chain before after t status.ArchiveFailed r =
+      (magic : List ℕ) (limits : PoolLimits) (chain : Chain) (before after : A) (t : Traffic) (s : Status)
+      → ServeEnds tells bytes file_count magic limits chain P c before after t s
+      → ServeEnds tells bytes file_count magic limits chain Q told before after t s
+  serve_told tells bytes file_count magic limits chain before after t status.Ended r =
+      served_told tells bytes file_count magic limits chain before after t _ r
+  serve_told tells bytes file_count magic limits chain before after t status.Usage r = r
+  serve_told tells bytes file_count magic limits chain before after t status.BadIndex r = r
+  serve_told tells bytes file_count magic limits chain before after t status.ArchiveFailed r =
       (silent_told t _ r.0, gives chain chain r.1)
-  serve_told tells bytes file_count magic chain before after t status.DiskFailed (inl r) =
+  serve_told tells bytes file_count magic limits chain before after t status.DiskFailed (inl r) =
       inl (silent_told t _ r.0, gives chain chain r.1)
-  serve_told tells bytes file_count magic chain before after t status.DiskFailed (inr r) =
-      inr (served_told tells bytes file_count magic chain before after t _ r)
-  serve_told tells bytes file_count magic chain before after t status.LinkFailed r =
-      served_told tells bytes file_count magic chain before after t _ r
-  serve_told tells bytes file_count magic chain before after t status.OutOfMemory (inl r) =
+  serve_told tells bytes file_count magic limits chain before after t status.DiskFailed (inr r) =
+      inr (served_told tells bytes file_count magic limits chain before after t _ r)
+  serve_told tells bytes file_count magic limits chain before after t status.LinkFailed r =
+      served_told tells bytes file_count magic limits chain before after t _ r
+  serve_told tells bytes file_count magic limits chain before after t status.OutOfMemory (inl r) =
       inl (silent_told t _ r.0, gives chain chain r.1)
-  serve_told tells bytes file_count magic chain before after t status.OutOfMemory (inr r) =
-      inr (served_told tells bytes file_count magic chain before after t _ r)
-  serve_told tells bytes file_count magic chain before after t status.TurnsSpent r =
-      served_told tells bytes file_count magic chain before after t _ r
-  serve_told tells bytes file_count magic chain before after t status.OtherChain r =
+  serve_told tells bytes file_count magic limits chain before after t status.OutOfMemory (inr r) =
+      inr (served_told tells bytes file_count magic limits chain before after t _ r)
+  serve_told tells bytes file_count magic limits chain before after t status.TurnsSpent r =
+      served_told tells bytes file_count magic limits chain before after t _ r
+  serve_told tells bytes file_count magic limits chain before after t status.OtherChain r =
       (r.0, silent_told t _ r.1, gives chain chain r.2)
-  serve_told tells bytes file_count magic chain before after t status.BadChain r = r
+  serve_told tells bytes file_count magic limits chain before after t status.BadChain r = r
 
 -- a count that stays 0 counts nothing, and another count may stay
 stays_still : (d n : ℕ) → RoseBy 0 0 n → RoseBy d d n
@@ -184,14 +193,16 @@ with_disk of_link of_archive link_now archive_now of_disk losses rose disk =
 
 -- a node and clients were served
 pub served_ends : {A : Type 0} (tells : Type 0) (bytes : A → ℕ → List ℕ) (file_count : A → ℕ)
-    (magic : List ℕ) (chain : Chain) (leaves : Chain → Chain → Type 0) (c : Counts) (before after : A)
-    (t : Traffic) (e : End) → IsServed tells bytes file_count magic chain leaves c before after t e
-    → ServeEnds tells bytes file_count magic chain leaves c before after t (status_of_end e)
-served_ends tells bytes file_count magic chain leaves c before after t end.Ended served = served
-served_ends tells bytes file_count magic chain leaves c before after t end.DiskFailed served = inr served
-served_ends tells bytes file_count magic chain leaves c before after t end.LinkFailed served = served
-served_ends tells bytes file_count magic chain leaves c before after t end.OutOfMemory served = inr served
-served_ends tells bytes file_count magic chain leaves c before after t end.TurnsSpent served = served
+    (magic : List ℕ) (limits : PoolLimits) (chain : Chain) (leaves : Chain → Chain → Type 0) (c : Counts)
+    (before after : A)
+    (t : Traffic) (e : End) → IsServed tells bytes file_count magic limits chain leaves c before after t e
+    → ServeEnds tells bytes file_count magic limits chain leaves c before after t (status_of_end e)
+served_ends tells bytes file_count magic limits chain leaves c before after t end.Ended served = served
+served_ends tells bytes file_count magic limits chain leaves c before after t end.DiskFailed served = inr served
+served_ends tells bytes file_count magic limits chain leaves c before after t end.LinkFailed served = served
+served_ends tells bytes file_count magic limits chain leaves c before after t end.OutOfMemory served =
+    inr served
+served_ends tells bytes file_count magic limits chain leaves c before after t end.TurnsSpent served = served
 
 -- a count that is as it was
 as_before : (a b : ℕ) → b ≡ a → RoseBy a b 0
@@ -215,7 +226,7 @@ silent turns calls of_link low high of_disk now losses none files index = record
 
 -- nobody was served from an index that is open
 pub start_ends : {A T : Type 0} (tells : Type 0) (bytes : A → ℕ → List ℕ) (file_count : A → ℕ)
-    (magic : List ℕ) (chain : Chain) (leaves : Chain → Chain → Type 0)
+    (magic : List ℕ) (limits : PoolLimits) (chain : Chain) (leaves : Chain → Chain → Type 0)
     (turns calls of_link low high of_disk now : ℕ) (before after : A) (e : StartFault)
     → OnlyReads {T = T} tells (bytes before) (bytes after) low high start.ArchiveFailed (Err e)
     → CountsOnly {T = T} of_disk now start.DiskFailed (Err e)
@@ -223,24 +234,24 @@ pub start_ends : {A T : Type 0} (tells : Type 0) (bytes : A → ℕ → List ℕ
     × IsScanned tells bytes file_count magic before after nodes
     × (is_other_chain (nodes_of_chain chain) nodes ≡ true))
     → leaves chain chain
-    → ServeEnds tells bytes file_count magic chain leaves
+    → ServeEnds tells bytes file_count magic limits chain leaves
     (counts turns calls calls (faults of_link low of_disk) (faults of_link high now))
     before after no_traffic (start_status e)
-start_ends tells bytes file_count magic chain leaves turns calls of_link low high of_disk now before after
-    start.DiskFailed reads counts other left =
+start_ends tells bytes file_count magic limits chain leaves turns calls of_link low high of_disk now before
+    after start.DiskFailed reads counts other left =
     inl (
       silent turns calls of_link low high of_disk now (disk ∷ []) refl
           (as_before low high (reads.others_uncounted (λ e. cc))) (counts.counted refl),
       left,
     )
-start_ends tells bytes file_count magic chain leaves turns calls of_link low high of_disk now before after
-    start.ArchiveFailed reads counts other left = (
+start_ends tells bytes file_count magic limits chain leaves turns calls of_link low high of_disk now before
+    after start.ArchiveFailed reads counts other left = (
       silent turns calls of_link low high of_disk now (archive ∷ []) refl (reads.counted refl)
           (as_before of_disk now (counts.others_uncounted (λ e. cc))),
       left,
     )
-start_ends tells bytes file_count magic chain leaves turns calls of_link low high of_disk now before after
-    start.OtherChain reads counts other left =
+start_ends tells bytes file_count magic limits chain leaves turns calls of_link low high of_disk now before
+    after start.OtherChain reads counts other left =
     let o = other refl in (
       record { nodes = o.0; scanned = o.1; other = o.2 },
       silent turns calls of_link low high of_disk now [] refl
@@ -248,8 +259,8 @@ start_ends tells bytes file_count magic chain leaves turns calls of_link low hig
           (as_before of_disk now (counts.others_uncounted (λ e. cc))),
       left,
     )
-start_ends tells bytes file_count magic chain leaves turns calls of_link low high of_disk now before after
-    start.Memory reads counts other left =
+start_ends tells bytes file_count magic limits chain leaves turns calls of_link low high of_disk now before
+    after start.Memory reads counts other left =
     inl (
       silent turns calls of_link low high of_disk now [] refl
           (as_before low high (reads.others_uncounted (λ e. cc)))

@@ -3,7 +3,7 @@ use Rattle.std.specs.Prelude.{ℕ, List}
 use Rattle.el_outside.specs.declared.archive.Archive as archive
 use Rattle.el_outside.specs.declared.disk.Disk as disk
 use Rattle.el_outside.specs.declared.link.Link as link
-use Rattle.el_outside.specs.Story.{GoesOn}
+use Rattle.el_outside.specs.Trace.{GoesOn}
 use Rattle.el_chain.specs.Chains.{Chain}
 use Rattle.electrum_serve.specs.Ends.{Ends}
 use Rattle.el_loop.specs.Counts.{Devices, counts_of}
@@ -28,7 +28,7 @@ call words turns before after status =
 abbrev pub CallEnds : {D A K : Type 0} → disk.Ghosts D → archive.Ghosts A → link.Ghosts K → Call D A K
     → Chain → Chain → Chain → (List ℕ → Chain → Chain → Type 0) → Type 0
 CallEnds of_disk of_files of_link c was flight chain leaves = (t : Traffic)
-    × (of_link.tells → GoesOn (of_link.story c.before.link) (of_link.story c.after.link) t.arrivals t.messages
+    × (of_link.tells → GoesOn (of_link.trace c.before.link) (of_link.trace c.after.link) t.arrivals t.messages
     t.closings)
     × Ends of_files.tells of_files.bytes of_files.file_count c.words was flight chain leaves
     (counts_of of_disk.faults of_files of_link c.turns c.before c.after) c.before.files c.after.files t

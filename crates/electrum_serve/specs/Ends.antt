@@ -3,9 +3,11 @@ use Rattle.std.specs.Prelude.{◌≡◌, ◌⊎◌, ℕ, List, [], ◌∷◌, tr
 use Rattle.el_outside.specs.Files.{AllGrow, IsFile}
 use Rattle.el_chain.specs.declared.node.Node.{Node}
 use Rattle.el_chain.specs.Chains.{Chain}
-use Rattle.el_model.specs.World.{quiet_world}
+use Rattle.el_mempool.specs.declared.entry.PoolLimits.{PoolLimits}
+use Rattle.el_world.specs.World.{initial_world}
 use Rattle.el_outside.specs.Devices.{Device, archive, disk}
 use Rattle.el_words.specs.Commands.{IsNoCommand, IsServe, IsOnce}
+use Rattle.el_words.specs.Words.{greatest_limits}
 use Rattle.electrum_serve.specs.File.{GivesNoChain}
 use Rattle.electrum_serve.specs.Opened.{all_added, nodes_of_chain, IsScanned, IsRead}
 use Rattle.electrum_serve.specs.OtherChain.{is_other_chain}
@@ -24,19 +26,19 @@ pub record IsSilent (c : Counts) (t : Traffic) (losses : List Device) : Type 0 w
   pub rose : Rose c.faults_before c.faults_after losses
 
 -- A node and clients were served, from the chain that the index had, with the headers of its blocks and then
--- those that the scan of all block files found. `before` and `after` are the archive before the call and
--- after it.
+-- those that the scan of all block files found; an unconfirmed set that is empty at first keeps to these
+-- limits. `before` and `after` are the archive before the call and after it.
 pub record IsServed {A : Type 0} (tells : Type 0) (bytes : A → ℕ → List ℕ) (file_count : A → ℕ)
-    (magic : List ℕ) (chain : Chain) (leaves : Chain → Chain → Type 0) (c : Counts) (before after : A)
-    (t : Traffic) (e : End) : Type 0 where
+    (magic : List ℕ) (limits : PoolLimits) (chain : Chain) (leaves : Chain → Chain → Type 0) (c : Counts)
+    (before after : A) (t : Traffic) (e : End) : Type 0 where
   pub now : A
   pub nodes : List Node
   pub scanned : IsScanned tells bytes file_count magic before now nodes
   pub same : is_other_chain (nodes_of_chain chain) nodes ≡ false
   pub grows : tells → AllGrow (bytes now) (bytes after)
   pub run : RunEnds tells
-      (quiet_world chain magic (all_added (all_added [] (nodes_of_chain chain)) nodes) (bytes now)) true
-      leaves (bytes after) c t e
+      (initial_world chain magic limits (all_added (all_added [] (nodes_of_chain chain)) nodes) (bytes now))
+      true leaves (bytes after) c t e
 
 -- the block files are those of another chain than the index's
 pub record IsOtherChain {A : Type 0} (tells : Type 0) (bytes : A → ℕ → List ℕ) (file_count : A → ℕ)
@@ -47,28 +49,28 @@ pub record IsOtherChain {A : Type 0} (tells : Type 0) (bytes : A → ℕ → Lis
 
 -- How a call with the words of `serve` ends, once the index is open and has this chain. `leaves` says of two
 -- chains that all that a crash may leave in the end stands for the one or for the other.
-abbrev pub ServeEnds : {A : Type 0} → Type 0 → (A → ℕ → List ℕ) → (A → ℕ) → List ℕ → Chain
+abbrev pub ServeEnds : {A : Type 0} → Type 0 → (A → ℕ → List ℕ) → (A → ℕ) → List ℕ → PoolLimits → Chain
     → (Chain → Chain → Type 0) → Counts → A → A → Traffic → Status → Type 0
-ServeEnds tells bytes file_count magic chain leaves c before after t status.Ended =
-    IsServed tells bytes file_count magic chain leaves c before after t end.Ended
-ServeEnds tells bytes file_count magic chain leaves c before after t status.LinkFailed =
-    IsServed tells bytes file_count magic chain leaves c before after t end.LinkFailed
-ServeEnds tells bytes file_count magic chain leaves c before after t status.TurnsSpent =
-    IsServed tells bytes file_count magic chain leaves c before after t end.TurnsSpent
+ServeEnds tells bytes file_count magic limits chain leaves c before after t status.Ended =
+    IsServed tells bytes file_count magic limits chain leaves c before after t end.Ended
+ServeEnds tells bytes file_count magic limits chain leaves c before after t status.LinkFailed =
+    IsServed tells bytes file_count magic limits chain leaves c before after t end.LinkFailed
+ServeEnds tells bytes file_count magic limits chain leaves c before after t status.TurnsSpent =
+    IsServed tells bytes file_count magic limits chain leaves c before after t end.TurnsSpent
 -- a call of the block files failed before the first arrival
-ServeEnds tells bytes file_count magic chain leaves c before after t status.ArchiveFailed =
+ServeEnds tells bytes file_count magic limits chain leaves c before after t status.ArchiveFailed =
     IsSilent c t (archive ∷ []) × leaves chain chain
-ServeEnds tells bytes file_count magic chain leaves c before after t status.OtherChain =
+ServeEnds tells bytes file_count magic limits chain leaves c before after t status.OtherChain =
     IsOtherChain tells bytes file_count magic chain before after × IsSilent c t [] × leaves chain chain
 -- a call of the index's device failed before the first arrival, or in the run
-ServeEnds tells bytes file_count magic chain leaves c before after t status.DiskFailed =
+ServeEnds tells bytes file_count magic limits chain leaves c before after t status.DiskFailed =
     (IsSilent c t (disk ∷ []) × leaves chain chain)
-    ⊎ IsServed tells bytes file_count magic chain leaves c before after t end.DiskFailed
+    ⊎ IsServed tells bytes file_count magic limits chain leaves c before after t end.DiskFailed
 -- out of memory before the first arrival, or in the run
-ServeEnds tells bytes file_count magic chain leaves c before after t status.OutOfMemory =
+ServeEnds tells bytes file_count magic limits chain leaves c before after t status.OutOfMemory =
     (IsSilent c t [] × leaves chain chain)
-    ⊎ IsServed tells bytes file_count magic chain leaves c before after t end.OutOfMemory
-ServeEnds tells bytes file_count magic chain leaves c before after t other = ⊥
+    ⊎ IsServed tells bytes file_count magic limits chain leaves c before after t end.OutOfMemory
+ServeEnds tells bytes file_count magic limits chain leaves c before after t other = ⊥
 
 -- How a call with the words of `serve` ends where the index isn't opened. A crash leaves then what it left
 -- before: the chain that was acknowledged or the one that was in flight.
@@ -80,11 +82,11 @@ UnopenedEnds was flight leaves c t other = ⊥
 
 -- How a call with the words of `serve` ends, for a disk that reads as an index of `chain`: the index is not
 -- opened, or it is, and has this chain.
-abbrev pub IndexEnds : {A : Type 0} → Type 0 → (A → ℕ → List ℕ) → (A → ℕ) → List ℕ → Chain → Chain → Chain
-    → (Chain → Chain → Type 0) → Counts → A → A → Traffic → Status → Type 0
-IndexEnds tells bytes file_count magic was flight chain leaves c before after t s =
+abbrev pub IndexEnds : {A : Type 0} → Type 0 → (A → ℕ → List ℕ) → (A → ℕ) → List ℕ → PoolLimits → Chain
+    → Chain → Chain → (Chain → Chain → Type 0) → Counts → A → A → Traffic → Status → Type 0
+IndexEnds tells bytes file_count magic limits was flight chain leaves c before after t s =
     UnopenedEnds was flight leaves c t s
-    ⊎ ServeEnds tells bytes file_count magic chain leaves c before after t s
+    ⊎ ServeEnds tells bytes file_count magic limits chain leaves c before after t s
 
 -- the statuses with which a call ends whose index is open
 abbrev pub IsOpenedEnd : Status → Type 0
@@ -100,8 +102,8 @@ IsUnopened status.DiskFailed = Unit {0}
 IsUnopened status.OutOfMemory = Unit {0}
 IsUnopened other = ⊥
 
--- Clients were served without a node, from the chain that file 0 gives, with its headers. No crash is spoken
--- of.
+-- Clients were served without a node, from the chain that file 0 gives, with its headers. Nothing unconfirmed
+-- comes, so that no limit is met. No crash is spoken of.
 pub record IsServedOnce (tells : Type 0) (magic : List ℕ) (c : Counts) (before after : ℕ → List ℕ)
     (t : Traffic) (e : End) : Type 0 where
   pub now : ℕ → List ℕ
@@ -109,8 +111,8 @@ pub record IsServedOnce (tells : Type 0) (magic : List ℕ) (c : Counts) (before
   pub chain : Chain
   pub read : IsRead tells before now magic nodes chain
   pub grows : tells → AllGrow now after
-  pub run : RunEnds tells (quiet_world chain magic (all_added [] nodes) now) false (λ acked flight. Unit {0})
-      after c t e
+  pub run : RunEnds tells (initial_world chain magic greatest_limits (all_added [] nodes) now) false
+      (λ acked flight. Unit {0}) after c t e
 
 -- file 0, as it was when its size was told, gives no chain
 abbrev pub IsBadFile : Type 0 → List ℕ → (ℕ → List ℕ) → (ℕ → List ℕ) → Type 0
@@ -142,7 +144,8 @@ IsUnserved status.OtherChain = Unit {0}
 IsUnserved status.BadChain = Unit {0}
 IsUnserved other = ⊥
 
--- How a call ends. The words of `serve` ask for an index on a disk, which reads as that of `chain`; `was`
+-- How a call ends. The words of `serve` ask for an index on a disk, which reads as that of `chain`, and give
+-- the limits of the unconfirmed set; `was`
 -- was acknowledged before, and `flight` was in flight. `leaves` says of a magic and two chains that all that
 -- a crash may leave of the disk in the end stands for the one or for the other, as an index of that network.
 pub data Ends {A : Type 0} (tells : Type 0) (bytes : A → ℕ → List ℕ) (file_count : A → ℕ)
@@ -150,8 +153,8 @@ pub data Ends {A : Type 0} (tells : Type 0) (bytes : A → ℕ → List ℕ) (fi
     (before after : A) (t : Traffic) (s : Status) : Type 0 where
   usage : IsNoCommand words → s ≡ status.Usage → IsSilent c t []
       → Ends tells bytes file_count words was flight chain leaves c before after t s
-  serve : (magic : List ℕ) → IsServe words magic
-      → IndexEnds tells bytes file_count magic was flight chain (leaves magic) c before after t s
+  serve : (magic : List ℕ) (asked : IsServe words magic)
+      → IndexEnds tells bytes file_count magic asked.limits was flight chain (leaves magic) c before after t s
       → Ends tells bytes file_count words was flight chain leaves c before after t s
   once : (magic : List ℕ) → IsOnce words magic
       → OnceEnds tells magic c (bytes before) (bytes after) t s

@@ -26,8 +26,8 @@ AreLives of_disk d [] = Unit {0}
 AreLives of_disk d (l ∷ more) = IsLeftBy of_disk d l.before.disk × AreLives of_disk l.after.disk more
 
 -- a life was lived over these block files and this link, and ended so
-pub record IsOver {D A K : Type 0} (l : Call D A K) (words : List (List ℕ)) (turns : ℕ) (files files_after : A)
-    (link link_after : K) (end : Status) : Type 0 where
+pub record IsOver {D A K : Type 0} (l : Call D A K) (words : List (List ℕ)) (turns : ℕ)
+    (files files_after : A) (link link_after : K) (end : Status) : Type 0 where
   pub words_are : l.words ≡ words
   pub turns_are : l.turns ≡ turns
   pub files_are : l.before.files ≡ files

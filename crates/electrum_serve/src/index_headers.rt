@@ -8,7 +8,7 @@ ghost use Rattle.el_block.specs.Blocks as blocks;
 ghost use Rattle.el_chain.specs.Chains.{Chain};
 ghost use Rattle.el_chain.specs.Records.{IsNode};
 ghost use Rattle.el_model.specs.LedgerCalls.{Asked};
-ghost use Rattle.el_model.specs.Plans.{blocks_in};
+ghost use Rattle.el_model.specs.Queries.{blocks_in};
 ghost use Rattle.electrum_serve.specs.Opened.{nodes_of_chain};
 
 use el_chain::Node;

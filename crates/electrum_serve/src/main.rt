@@ -12,9 +12,10 @@ mod serving;
 mod starting;
 mod status;
 
-pub use el_net::{BlockFiles, FileDisk, NoDisk, NoFiles, NoLink, StandardLink};
+pub use el_mempool::PoolLimits;
+pub use el_net::{BlockFiles, FileDisk, NoDisk, NoFiles, NoLink, StandardLink, TcpLink};
 pub use el_words::{
-    Command, Network, PoolLimits, ServeWords, once_of, read_words, serve_of,
+    Command, Network, ServeWords, greatest_limits, once_of, read_words, serve_of,
     words_are_of_one_command,
 };
 pub use lives::{Between, live, lives_go_on};

@@ -9,8 +9,8 @@ ghost use Rattle.electrum_serve.specs.Statuses.{code_of};
 use crate::serving::serve;
 use crate::status::Status;
 use el_base::OutOfMemory;
-use el_net::{BlockFiles, BlockFolder, FileDisk, NoDisk, NoFiles, NoLink, StandardLink};
-use el_outside::Disk;
+use el_net::{BlockFiles, BlockFolder, FileDisk, NoDisk, NoFiles, NoLink, StandardLink, TcpLink};
+use el_outside::{Disk, Link};
 use el_words::{Command, read_words};
 use std::alloc::Global;
 use std::process::ExitCode;
@@ -54,23 +54,46 @@ fn files_of(
     BlockFiles::new(rt, alloc, folder.as_str())
 }
 
-// Serves the words over a disk, the block files of their command and the standard streams.
-fn serve_over<D: Disk + Drop>(
+// Serves the words over a disk, the block files of their command and a link.
+fn serve_over<D: Disk + Drop, K: Link>(
     rt: &HostRuntime,
     words: &[String],
     command: &Command,
     disk: D,
+    link: &mut K,
 ) -> Result<Status, OutOfMemory>
     ensures refused { IsNoCommand (texts words.now) → IfOk result (λ status. status ≡ Status.Usage) }
     ensures lawful { IfOk result (λ status. status ≡ Status.Usage → IsNoCommand (texts words.now)) }
 {
     let mut archive = files_of(rt.clone()?, rt.alloc(), command)?;
-    let mut link = StandardLink::new(rt.clone()?);
-    let (status, _) = serve(rt.alloc(), words, disk, &mut archive, &mut link, TURNS);
+    let (status, _) = serve(rt.alloc(), words, disk, &mut archive, link, TURNS);
     Ok(status)
 }
 
-// Serves the command of these words over its devices: the files of its index, where it has one.
+// Tells on standard error what is served once the ports are open: the network, the folders and the ports.
+fn tell_start(rt: &HostRuntime, command: &Command, link: &TcpLink) {
+    if let (
+        Command::Serve {
+            blocks,
+            index,
+            network,
+            ..
+        },
+        Ok((client_port, node_port)),
+    ) = (command, link.ports())
+    {
+        let network = network.name();
+        let blocks = blocks.as_str();
+        let index = index.as_str();
+        let _ = eprint!(rt;
+            "electrum_serve: serving {network}, blocks {blocks}, index {index}, \
+             clients on port {client_port}, node on port {node_port}\n"
+        );
+    }
+}
+
+// Serves the command of these words over its devices: for `serve` the files of its index and two ports, for
+// `once` the standard streams.
 fn serve_command(
     rt: &HostRuntime,
     words: &[String],
@@ -80,11 +103,21 @@ fn serve_command(
     ensures lawful { IfOk result (λ status. status ≡ Status.Usage → IsNoCommand (texts words.now)) }
 {
     match command {
-        Command::Serve { index, .. } => {
+        Command::Serve {
+            index,
+            client_port,
+            node_port,
+            ..
+        } => {
             let disk = FileDisk::new(rt.clone()?, rt.alloc(), index.as_str())?;
-            serve_over(rt, words, command, disk)
+            let mut link = TcpLink::new(rt, rt.alloc(), *client_port, *node_port)?;
+            tell_start(rt, command, &link);
+            serve_over(rt, words, command, disk, &mut link)
         }
-        Command::Once { .. } => serve_over(rt, words, command, NoDisk { faults: 0 }),
+        Command::Once { .. } => {
+            let mut link = StandardLink::new(rt.clone()?);
+            serve_over(rt, words, command, NoDisk { faults: 0 }, &mut link)
+        }
     }
 }
 

@@ -2,7 +2,7 @@
 ghost use Rattle.std.specs.Prelude.{◌≡◌, ◌≢◌, ◌<◌, ℕ, List, [], IfOk, IsErrOf};
 ghost use Rattle.el_outside.specs.Counts.{OnlyReads};
 ghost use Rattle.el_outside.specs.Files.{AllGrow, IsFile};
-ghost use Rattle.el_outside.specs.Story.{GoesOn};
+ghost use Rattle.el_outside.specs.Trace.{GoesOn};
 ghost use Rattle.el_chain.specs.declared.node.Node as shape;
 ghost use Rattle.el_chain.specs.Chains.{Chain};
 ghost use Rattle.el_logstore.specs.Images.{IsBadIndex};
@@ -25,10 +25,11 @@ use crate::starting::serve_index;
 use crate::status::Status;
 use el_headers::HeaderTree;
 use el_loop::{RunOptions, serve_from};
-use el_model::PlainLedger;
+use el_mempool::PoolLimits;
 use el_outside::{Archive, Disk, Link};
+use el_plain::PlainLedger;
 use el_redo::{Mainnet, NetworkMagic, Regtest, Testnet3};
-use el_words::{Network, once_of, serve_of};
+use el_words::{Network, greatest_limits, once_of, serve_of};
 use std::alloc::Global;
 
 // How the program ends where file 0 can't be read.
@@ -69,6 +70,7 @@ fn open_file<A: Archive>(
 // `serve`: a node and clients, from the index on the disk and the headers of all block files.
 fn serve_disk<D: Disk, N: NetworkMagic, A: Archive, K: Link>(
     alloc: Global,
+    limits: PoolLimits,
     disk: D,
     archive: &mut A,
     link: &mut K,
@@ -76,9 +78,9 @@ fn serve_disk<D: Disk, N: NetworkMagic, A: Archive, K: Link>(
 ) -> (Status, D)
     ensures ends { (was flight chain : Chain) → IsIndexDisk ⟦<D as Disk>⟧ N.magic disk was flight chain
         → (traffic : Traffic)
-        × (K.tells → GoesOn (K.story link.old) (K.story link.new)
+        × (K.tells → GoesOn (K.trace link.old) (K.trace link.new)
         traffic.arrivals traffic.messages traffic.closings)
-        × IndexEnds A.tells A.bytes A.file_count N.magic was flight chain
+        × IndexEnds A.tells A.bytes A.file_count N.magic limits was flight chain
         (LeavesOneOf ⟦<D as Disk>⟧ N.magic result.1) (counts_of D.faults ⟦<A as Archive>⟧ ⟦<K as Link>⟧ turns
         (devices disk archive.old link.old) (devices result.1 archive.new link.new))
         archive.old archive.new traffic result.0 }
@@ -98,7 +100,15 @@ fn serve_disk<D: Disk, N: NetworkMagic, A: Archive, K: Link>(
 {
     match open_index::<D, N>(alloc, disk) {
         Ok(index) => {
-            let (status, index) = serve_index(alloc, index, N::magic(), archive, link, turns);
+            let (status, index) = serve_index(
+                alloc,
+                index,
+                N::magic(),
+                limits,
+                archive,
+                link,
+                turns,
+            );
             (status, index.into_rows().into_disk())
         }
         Err((status, disk)) => (status, disk),
@@ -109,6 +119,7 @@ fn serve_disk<D: Disk, N: NetworkMagic, A: Archive, K: Link>(
 fn serve_network<D: Disk, A: Archive, K: Link>(
     alloc: Global,
     network: Network,
+    limits: PoolLimits,
     disk: D,
     archive: &mut A,
     link: &mut K,
@@ -117,9 +128,9 @@ fn serve_network<D: Disk, A: Archive, K: Link>(
     ensures ends { (was flight chain : Chain)
         → IsIndexDisk ⟦<D as Disk>⟧ (network_magic network) disk was flight chain
         → (traffic : Traffic)
-        × (K.tells → GoesOn (K.story link.old) (K.story link.new)
+        × (K.tells → GoesOn (K.trace link.old) (K.trace link.new)
         traffic.arrivals traffic.messages traffic.closings)
-        × IndexEnds A.tells A.bytes A.file_count (network_magic network) was flight chain
+        × IndexEnds A.tells A.bytes A.file_count (network_magic network) limits was flight chain
         (LeavesOneOf ⟦<D as Disk>⟧ (network_magic network) result.1)
         (counts_of D.faults ⟦<A as Archive>⟧ ⟦<K as Link>⟧ turns
         (devices disk archive.old link.old) (devices result.1 archive.new link.new))
@@ -139,9 +150,13 @@ fn serve_network<D: Disk, A: Archive, K: Link>(
     ensures keeps { A.tells → AllGrow (A.bytes archive.old) (A.bytes archive.new) }
 {
     match network {
-        Network::Main => serve_disk::<D, Mainnet, A, K>(alloc, disk, archive, link, turns),
-        Network::Testnet3 => serve_disk::<D, Testnet3, A, K>(alloc, disk, archive, link, turns),
-        Network::Regtest => serve_disk::<D, Regtest, A, K>(alloc, disk, archive, link, turns),
+        Network::Main => serve_disk::<D, Mainnet, A, K>(alloc, limits, disk, archive, link, turns),
+        Network::Testnet3 => serve_disk::<D, Testnet3, A, K>(
+            alloc, limits, disk, archive, link, turns,
+        ),
+        Network::Regtest => serve_disk::<D, Regtest, A, K>(
+            alloc, limits, disk, archive, link, turns,
+        ),
     }
 }
 
@@ -154,7 +169,7 @@ fn serve_file<A: Archive, K: Link>(
     turns: u64,
 ) -> Status
     ensures ends { (disk : ℕ) → (traffic : Traffic)
-        × (K.tells → GoesOn (K.story link.old) (K.story link.new)
+        × (K.tells → GoesOn (K.trace link.old) (K.trace link.new)
         traffic.arrivals traffic.messages traffic.closings)
         × OnceEnds A.tells magic (counts_of (λ d. d) ⟦<A as Archive>⟧ ⟦<K as Link>⟧ turns
         (devices disk archive.old link.old) (devices disk archive.new link.new))
@@ -168,6 +183,7 @@ fn serve_file<A: Archive, K: Link>(
         Ok((tree, ledger)) => {
             let options = RunOptions {
                 magic,
+                limits: greatest_limits(),
                 node: false,
                 turns,
             };
@@ -217,7 +233,15 @@ pub fn serve<D: Disk, A: Archive, K: Link>(
     ensures keeps { A.tells → AllGrow (A.bytes archive.old) (A.bytes archive.new) }
 {
     if let Some(serve) = serve_of(words) {
-        return serve_network::<D, A, K>(alloc, serve.network, disk, archive, link, turns);
+        return serve_network::<D, A, K>(
+            alloc,
+            serve.network,
+            serve.limits,
+            disk,
+            archive,
+            link,
+            turns,
+        );
     }
     match once_of(words) {
         Some(network) => (

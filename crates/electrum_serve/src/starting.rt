@@ -1,7 +1,7 @@
 // A run from an index that is open.
 ghost use Rattle.std.specs.Prelude.{◌≡◌};
 ghost use Rattle.el_outside.specs.Files.{AllGrow};
-ghost use Rattle.el_outside.specs.Story.{GoesOn};
+ghost use Rattle.el_outside.specs.Trace.{GoesOn};
 ghost use Rattle.el_chain.specs.Chains.{Chain};
 ghost use Rattle.el_model.specs.Keeping.{LeavesEither};
 ghost use Rattle.el_loop.specs.Counts.{counts_of, devices};
@@ -13,6 +13,7 @@ ghost use Rattle.electrum_serve.specs.within.Unread.{start_status};
 use crate::opening::{StartFault, open_headers};
 use crate::status::Status;
 use el_loop::{RunOptions, serve_from};
+use el_mempool::PoolLimits;
 use el_model::Ledger;
 use el_outside::{Archive, Link};
 use std::alloc::Global;
@@ -29,20 +30,22 @@ fn status_of(fault: StartFault) -> Status
     }
 }
 
-/// Serves a node and clients from an index that is open. The ledger comes back as it stands.
+/// Serves a node and clients from an index that is open, with these limits of the unconfirmed set. The ledger
+/// comes back as it stands.
 pub fn serve_index<G: Ledger, A: Archive, K: Link>(
     alloc: Global,
     ledger: G,
     magic: [u8; 4],
+    limits: PoolLimits,
     archive: &mut A,
     link: &mut K,
     turns: u64,
 ) -> (Status, G)
     requires live { G.is_live ledger }
     ensures ends { (chain : Chain) → G.stands ledger chain → (traffic : Traffic)
-        × (K.tells → GoesOn (K.story link.old) (K.story link.new)
+        × (K.tells → GoesOn (K.trace link.old) (K.trace link.new)
         traffic.arrivals traffic.messages traffic.closings)
-        × ServeEnds A.tells A.bytes A.file_count magic chain
+        × ServeEnds A.tells A.bytes A.file_count magic limits chain
         (LeavesEither G.tells_crash G.means G.moment G.left_since result.1)
         (counts_of G.faults ⟦<A as Archive>⟧ ⟦<K as Link>⟧ turns
         (devices ledger archive.old link.old) (devices result.1 archive.new link.new))
@@ -58,6 +61,7 @@ pub fn serve_index<G: Ledger, A: Archive, K: Link>(
         Ok(tree) => {
             let options = RunOptions {
                 magic,
+                limits,
                 node: true,
                 turns,
             };

@@ -17,3 +17,4 @@ mod refused_blocks;
 mod reopened;
 mod runs;
 mod stopped_moves;
+mod unconfirmed;

@@ -174,7 +174,7 @@ fn long_line(alloc: Global, peer: Peer, len: usize) -> Result<Vec<Coming>, Alloc
     Ok(steps)
 }
 
-const REPLIES: &str = "1 {invalid}\n1 {invalid}\n1 {invalid}\n";
+const REPLIES: &str = "1 {invalid}\n1 {parse}\n1 {invalid}\n";
 
 const LONG: &str = "1 {invalid}\nclosed 1 Long\n";
 

@@ -10,7 +10,8 @@ use crate::tests::calls::TURNS;
 use crate::tests::names::named;
 use el_fakes::{SteadyArchive, SteadyLink};
 use el_gen::{BLOCK_1, GENESIS};
-use el_model::PlainLedger;
+use el_plain::PlainLedger;
+use el_words::greatest_limits;
 use std::alloc::Global;
 use std::test::Fail;
 
@@ -35,7 +36,15 @@ fn call(
     let ledger = ledger_of(alloc, count)?;
     let mut archive = SteadyArchive::new(files_of(alloc, files)?).ok_or("no such files")?;
     let mut link = SteadyLink::new(alloc, coming(alloc, steps, 1_000)?)?;
-    let (status, _) = serve_index(alloc, ledger, magic, &mut archive, &mut link, TURNS);
+    let (status, _) = serve_index(
+        alloc,
+        ledger,
+        magic,
+        greatest_limits(),
+        &mut archive,
+        &mut link,
+        TURNS,
+    );
     Ok((status, transcript(alloc, link.sent(), link.closed())?))
 }
 

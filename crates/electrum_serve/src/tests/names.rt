@@ -10,18 +10,33 @@ use std::alloc::{AllocError, Global};
 // blocks of a branch after the first branch's second block, one whose parent nobody has, and one at height 16
 // with another Merkle root; a hash that no block has; a transaction that spends the coin of Bitcoin's first
 // block, and a script that it pays to; and of the blocks that part and spend, the last one of each branch,
-// the coinbases of Z, and of A1 and D1, the transaction of A1, B2 and C1, that of D1, and the script of 101.
+// the coinbases of Z, and of A1 and D1, the transaction of A1, B2 and C1, that of D1, and the script of 101;
+// transactions that no block has, in digits: a child of that of A1, another spend of Z's coin and a child of
+// it, and refused ones; and what clients are told of that child.
 // A text has no name but such as come after it.
 const NAMES: &str = "\
     {asks} {\"id\":1,\"method\":\"blockchain.scripthash.get_history\",\"params\":[\"\n\
     {asked} \"]}\n\
     {asks-balance} {\"id\":1,\"method\":\"blockchain.scripthash.get_balance\",\"params\":[\"\n\
+    {asks-mempool} {\"id\":1,\"method\":\"blockchain.scripthash.get_mempool\",\"params\":[\"\n\
+    {subscribes} {\"id\":1,\"method\":\"blockchain.scripthash.subscribe\",\"params\":[\"\n\
+    {gets} {\"id\":1,\"method\":\"blockchain.transaction.get\",\"params\":[\"\n\
     {none} {lists}{listed}\n\
     {lists} {\"id\":1,\"jsonrpc\":\"2.0\",\"result\":[\n\
     {listed} ]}\n\
     {holds} {\"id\":1,\"jsonrpc\":\"2.0\",\"result\":{\"confirmed\":\n\
     {held} ,\"unconfirmed\":0}}\n\
     {invalid} {\"error\":{\"code\":-32600,\"message\":\"invalid request\"},\"id\":null,\"jsonrpc\":\"2.0\"}\n\
+    {parse} {\"error\":{\"code\":-32700,\"message\":\"parse error\"},\"id\":null,\"jsonrpc\":\"2.0\"}\n\
+    {changed} {\"error\":{\"code\":5,\"message\":\"block files changed\"},\"id\":1,\"jsonrpc\":\"2.0\"}\n\
+    {failed} {\"error\":{\"code\":4,\"message\":\"block files failed\"},\"id\":1,\"jsonrpc\":\"2.0\"}\n\
+    {gives} {\"id\":1,\"jsonrpc\":\"2.0\",\"result\":\"\n\
+    {given} \"}\n\
+    {null} {\"id\":1,\"jsonrpc\":\"2.0\",\"result\":null}\n\
+    {holds-none-yet} {\"id\":1,\"jsonrpc\":\"2.0\",\"result\":{\"confirmed\":0,\"unconfirmed\":\n\
+    {held-yet} }}\n\
+    {child-waits} {\"fee\":0,\"height\":-1,\"tx_hash\":\"{child-txid}\"}\n\
+    {child-waits-later} {\"fee\":0,\"height\":0,\"tx_hash\":\"{child-txid}\"}\n\
     {entry0} {\"height\":0,\"tx_hash\":\"{txid0}\"}\n\
     {entry1} {\"height\":1,\"tx_hash\":\"{txid1}\"}\n\
     {entry15} {\"height\":15,\"tx_hash\":\"{txid15}\"}\n\
@@ -71,6 +86,37 @@ const NAMES: &str = "\
     {halves-txid} ddddea3fd4937fba3daec6859297a96cdfc726bddec77f464084c1881b1635e3\n\
     {shared-txid} 8faf866b892c0a89fdc6b0f69ba1861ad111d4a55c04d95354ae3e7e3163a38b\n\
     {script101} 87db42382cbedc1754986e8d2b98ed07381d67e43bebb313f331acc40b7cecbb\n\
+    {halves} \
+    01000000012dcd77bb6fc3f3138bd618974e4660af6565e91af0981e55b4e98296a94fca300000000000ffffff\
+    ff0200f902950000000005040100000000f902950000000005046400000000000000\n\
+    {child} \
+    0100000001e335161b88c18440467fc7debd26c7df6ca9979285c6ae3dba7f93d43feadddd0000000000ffffff\
+    ff0100f902950000000005040200000000000000\n\
+    {parent} \
+    01000000012dcd77bb6fc3f3138bd618974e4660af6565e91af0981e55b4e98296a94fca300000000000ffffff\
+    ff0100f2052a0100000005040100000000000000\n\
+    {parents-child} \
+    010000000104eef8e5f674e85c0edbde0af8de32ece24327293fd239a968c94f9d9e8827550000000000ffffff\
+    ff0100f2052a0100000005040200000000000000\n\
+    {overspends} \
+    01000000012dcd77bb6fc3f3138bd618974e4660af6565e91af0981e55b4e98296a94fca300000000000ffffff\
+    ff0101f2052a0100000005040100000000000000\n\
+    {conflicts} \
+    01000000012dcd77bb6fc3f3138bd618974e4660af6565e91af0981e55b4e98296a94fca300000000000ffffff\
+    ff01010000000000000005040300000000000000\n\
+    {misses} \
+    010000000111111111111111111111111111111111111111111111111111111111111111110000000000ffffff\
+    ff01010000000000000005040100000000000000\n\
+    {makes-coins} \
+    01000000010000000000000000000000000000000000000000000000000000000000000000ffffffff06050500\
+    000000ffffffff0100f2052a0100000005040100000000000000\n\
+    {child-txid} d7234e55441a1b3406db9c1cb29c84250d039aed42a2b26060ebcc01984248e7\n\
+    {parent-txid} 5527889e9d4fc968a939d23f292743e2ec32def80adedb0e5ce874f6e5f8ee04\n\
+    {child-status} db8af50bbc16adf2eb06536f6fc1f6ebc614f6fdce970880b50fb7d2f6491fa6\n\
+    {child-status-later} eab4c64346ca283427d6f6045a15992c451af32f4337c81f4ea01a54f62e8543\n\
+    {ones} 1111111111111111111111111111111111111111111111111111111111111111\n\
+    {z-0} e24fc0cd4b74e58d1bcfa1d15b2c35345824b4e3e6e3959659d662c2ce011688\n\
+    {script2} 0d4d9b3ea98f8961b4590bc2f7a60c50b17bccd19422a122c86ab79d41c043f6\n\
     {program-script} 42506eaeb3302d6f1eb21baefa3037e6c0edadd1d3525f15720645dbd94140b1";
 
 // What names stand for of Bitcoin's first two blocks.

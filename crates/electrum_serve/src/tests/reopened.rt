@@ -18,7 +18,7 @@ const ASKS: &[Step<'static>] = &[
     Says(0, "tip {z-d1}\n"),
     Says(
         1,
-        "{asks-balance}{script101}{asked}\n{asks}{script101}{asked}\n",
+        "{asks-balance}{script101}{asked}\n{asks}{script101}{asked}\n{gets}{shared-txid}{asked}\n",
     ),
 ];
 
@@ -65,7 +65,7 @@ const LIVES: [Lives; 4] = [
         sent: "0 refused unknown {a0}\n1 {invalid}\n",
         kept: "",
     },
-    // what the coins of a script hold together, and its history, from the index
+    // what the coins of a script hold together, and its history, from the index; a transaction's bytes are gone
     Lives {
         files: Files::Forks,
         first: "tip {z-d1}\n",
@@ -73,7 +73,7 @@ const LIVES: [Lives; 4] = [
         second: (NO_FILES, ASKS),
         status: Status::Ended,
         sent: "0 at {z-d1} 1\n1 {holds}7500000000{held}\n\
-               1 {lists}{z-entry},{z1-entry},{shared-entry}{listed}\n",
+               1 {lists}{z-entry},{z1-entry},{shared-entry}{listed}\n1 {changed}\n",
         kept: "0 at {z-d1} 1\n",
     },
 ];

@@ -48,7 +48,7 @@ const RUNS: [(&str, Files, &[Step<'static>], &str); 17] = [
             Says(0, "block 0 296\ntx 00\ndrop {twos}\n\ntip"),
         ],
         "0 block {genesis}\n0 refused place\n0 refused unknown {twos}\n0 refused line\n0 at {block1} 1\n\
-         0 refused place\n0 block {block1}\n0 refused line\n0 refused line\n0 refused line\n",
+         0 refused place\n0 block {block1}\n0 refused form\n0 refused absent {twos}\n0 refused line\n",
     ),
     // a move has at most 16 blocks; a tip that is the tip is answered as one that was moved to
     (
@@ -133,7 +133,7 @@ const RUNS: [(&str, Files, &[Step<'static>], &str); 17] = [
             Says(0, "{a0}\n"),
             Says(1, "tip {a1}\n{asks}{script0}{asked}\n"),
         ],
-        "1 {invalid}\n0 at {a0} 0\n1 {invalid}\n1 {lists}{entry0}{listed}\n",
+        "1 {parse}\n0 at {a0} 0\n1 {parse}\n1 {lists}{entry0}{listed}\n",
     ),
     // one client at a time; the start of a line goes with its client
     (
@@ -194,7 +194,7 @@ const RUNS: [(&str, Files, &[Step<'static>], &str); 17] = [
         ONCE,
         Files::Parts(&[]),
         &[Opens(1), Says(1, "{asks}{script0}{asked}\n\n")],
-        "1 {none}\n1 {invalid}\n",
+        "1 {none}\n1 {parse}\n",
     ),
     (
         ONCE,

@@ -1,5 +1,5 @@
 use Rattle.std.proofs.Common.{◌≡◌, refl, ap, Err, ◌∙◌}
-use Rattle.el_outside.proofs.Stories.{grows_more}
+use Rattle.el_outside.proofs.Traces.{grows_more}
 use Rattle.el_outside.proofs.Calls.{has_none, has_one, has_then, reads_ok, reads_other, reads_failed}
 use Rattle.electrum_serve.specs.declared.file.FileFault.TheVariants as fault
 use Rattle.el_block.proofs.BlockLemmas.{one_block}

@@ -1,7 +1,7 @@
 use Rattle.std.proofs.Common.{◌≡◌, ◌≤◌, ◌∙◌, ap, sym, length, arith, take_all}
 use Rattle.el_base.proofs.Lists.{all_more}
 use Rattle.el_model.proofs.Quiets.{quiet_on}
-use Rattle.el_model.specs.Plans.{blocks_in}
+use Rattle.el_model.specs.Queries.{blocks_in}
 use Rattle.electrum_serve.specs.Opened.{nodes_of_chain}
 use Rattle.electrum_serve.proofs.Openings.{one_more, nodes_length}
 use Rattle.electrum_serve.proofs.index_headers.nodes_of.Goals as goal

@@ -1,5 +1,5 @@
 use Rattle.std.proofs.Common.{rules, refl}
-use Rattle.el_outside.proofs.Stories.{goes_none}
+use Rattle.el_outside.proofs.Traces.{goes_none}
 use Rattle.el_words.specs.Words.{texts}
 use Rattle.el_words.specs.Commands.{IsNoCommand}
 use Rattle.electrum_serve.specs.Ends.{usage, serve, once}

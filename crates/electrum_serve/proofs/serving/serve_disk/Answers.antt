@@ -1,5 +1,5 @@
 use Rattle.std.proofs.Common.{◌≡◌, ◌∙◌, inl, inr, ap}
-use Rattle.el_outside.proofs.Stories.{goes_none}
+use Rattle.el_outside.proofs.Traces.{goes_none}
 use Rattle.electrum_serve.specs.IndexDisks.{LeavesOneOf}
 use Rattle.el_loop.specs.Runs.{no_traffic}
 use Rattle.electrum_serve.proofs.Servings.{serve_told, unopened_ends}
@@ -16,7 +16,7 @@ returns-in-Ok-clause-ends g c = λ was flight chain is.
       r.1,
       inr (serve_told _ _ _ (λ losses rose. rose) _ _
           (λ acked flight' left image now. left is.told image (is.told, now))
-          g.A.Archive.tells g.A.Archive.bytes g.A.Archive.file_count _ chain _ _ r.0 _ r.2),
+          g.A.Archive.tells g.A.Archive.bytes g.A.Archive.file_count _ _ chain _ _ r.0 _ r.2),
     )
 
 pub returns-in-Ok-clause-causes : goal.returns-in-Ok-clause-causes

@@ -1,6 +1,6 @@
 use Rattle.std.proofs.Common.{ap, refl, Err, arith}
-use Rattle.el_outside.proofs.Stories.{goes_none, all_grow_more}
-use Rattle.el_model.specs.Plain.{IsPlain}
+use Rattle.el_outside.proofs.Traces.{goes_none, all_grow_more}
+use Rattle.el_plain.specs.Plain.{IsPlain}
 use Rattle.el_outside.specs.Devices as device
 use Rattle.el_outside.specs.Devices.{faults}
 use Rattle.el_loop.specs.Runs.{no_traffic}
@@ -12,7 +12,7 @@ pub returns-in-Ok-clause-ends : goal.returns-in-Ok-clause-ends
 returns-in-Ok-clause-ends g c = λ disk.
     let o = c.in-Ok.ensures.opened in
     let plain : IsPlain c.in-Ok.ledger c.in-Ok.ledger = record { is = refl; good = o.1.good } in
-    let r = rw (o.2, c.in-Ok.ensures.only_reads.uncounted) at
+    let r = rw (o.2, c.in-Ok.ensures.only_reads.uncounted, c.greatest_limits.ensures) at
     (c.serve_from-end.ensures.ends c.in-Ok.ledger plain) in (
       r.0,
       r.1,

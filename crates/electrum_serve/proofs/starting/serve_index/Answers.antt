@@ -1,5 +1,5 @@
 use Rattle.std.proofs.Common.{ap, Err, inl}
-use Rattle.el_outside.proofs.Stories.{goes_none, all_grow_more}
+use Rattle.el_outside.proofs.Traces.{goes_none, all_grow_more}
 use Rattle.el_loop.specs.Runs.{no_traffic}
 use Rattle.electrum_serve.proofs.Rises.{start_caused, opened_end, start_opened, run_caused, serves}
 use Rattle.electrum_serve.proofs.Servings.{served_ends, start_ends}
@@ -14,7 +14,7 @@ returns-in-Ok-clause-ends g c = λ chain stood.
       r.0,
       r.1,
       rw c.of_end.ensures (served_ends g.A.Archive.tells g.A.Archive.bytes g.A.Archive.file_count c.args.magic
-          chain _ _ _ _ r.0 _ (record {
+          c.args.limits chain _ _ _ _ r.0 _ (record {
             now = c.open_headers.new.archive;
             nodes = o.0;
             scanned = o.1;
@@ -33,7 +33,7 @@ returns-in-Err-clause-ends g c = λ chain stood. (
   no_traffic,
   λ t. goes_none _,
   rw c.status_of.ensures (start_ends g.A.Archive.tells g.A.Archive.bytes g.A.Archive.file_count c.args.magic
-      chain _ _ _ _ _ _ _ _ _ _ c.in-Err.fault c.in-Err.ensures.only_reads c.in-Err.ensures.cause
+      c.args.limits chain _ _ _ _ _ _ _ _ _ _ c.in-Err.fault c.in-Err.ensures.only_reads c.in-Err.ensures.cause
       (λ e. c.in-Err.ensures.other chain stood (ap Err e))
       (λ told left now. inl (g.met.G.Ledger.leaves_own c.open_headers.new.ledger chain left told
       (c.in-Err.ensures.quiet.stays.still_live c.requires.live)
