@@ -1,5 +1,6 @@
 pub mod Entries
 pub mod Listed
 pub mod Slots
+pub mod Renamed
 pub mod Cleared
 pub mod Told

@@ -7,7 +7,7 @@ use Rattle.std.specs.List.{AllByRecursion, list_any, find, sum_by}
 use Rattle.std.specs.Prelude.{option_map, option_copied, IfSome}
 use Rattle.std.specs.Result.{OnOk, OnErr}
 use Rattle.std.specs.Option.{option_or, option_flatten, is_some}
-use Rattle.std.specs.Map.{remove_entry, lookup}
+use Rattle.std.specs.Map.{lookup}
 use Rattle.indexmap.specs.IndexMap.{IndexMap, get, insert_entry, IsUnique}
 use Rattle.indexmap.proofs.CallerLemmas.{insert_entry-new}
 use Rattle.el_base.proofs.Lists.{all_more, all_weaker}
@@ -25,27 +25,6 @@ use Rattle.el_kept.proofs.Entries.{copied_some}
 
 abbrev pub Slot : Type 0
 Slot = Hash32 × Option KeptTx
-
-removed_standing : (id : Hash32) (es : List Slot) → StandRight es → by_txid id (standing es) ≡ None → standing (remove_entry (same_hash id) es) ≡ standing es
-removed_standing id [] right none = refl
-removed_standing id ((k, None) ∷ es) right none = elim (cases_Bool (same_hash id k)) [
-  | inl h ↦ rw h refl
-  | inr h ↦ rw h (removed_standing id es right.1 none)
-]
-removed_standing id ((k, Some e) ∷ es) right none = elim (cases_Bool (same_hash id k)) [
-  | inl h ↦ let own : same_hash id e.txid ≡ true = ap (same_hash id) right.0 ∙ h in let said = rw own at none in absurd (cc)
-  | inr h ↦
-      let other : same_hash id e.txid ≡ false = ap (same_hash id) right.0 ∙ h in
-      let more = rw other at none in
-      rw h (ap (λ l. e ∷ l) (removed_standing id es right.1 more))
-]
-
-removed_right : (id : Hash32) (es : List Slot) → StandRight es → StandRight (remove_entry (same_hash id) es)
-removed_right id [] right = tt
-removed_right id (e ∷ es) right = elim (cases_Bool (same_hash id e.0)) [
-  | inl h ↦ rw h right.1
-  | inr h ↦ rw h (right.0, removed_right id es right.1)
-]
 
 standing_last : (es : List Slot) (k : Hash32) (e : KeptTx) → standing (es ++ (k, Some e) ∷ []) ≡ standing es ++ e ∷ []
 standing_last [] k e = refl
@@ -101,17 +80,16 @@ sum_last (k ∷ ks) e =
     omega (arith, first, second, more)
 
 -- the table after the entry was put
-pub put_is : {S : Type 0} (old new : Table) (mid : IndexMap Hash32 (Option KeptTx) S) (e : KeptTx) → IsTable old (standing old.kept.entries) → by_txid e.txid (standing old.kept.entries) ≡ None
+pub put_is : {S : Type 0} (old new : Table) (mid : IndexMap Hash32 (Option KeptTx) S) (e : KeptTx) → IsTable old (standing old.kept.entries)
     → AllByRecursion (λ (s : Source). get same_outpoint old.spenders s.from ≡ None) e.inputs
-    → mid.entries ≡ remove_entry (same_hash e.txid) old.kept.entries → lookup (same_hash e.txid) mid.entries ≡ None → new.kept.entries ≡ insert_entry same_hash mid.entries e.txid (Some e) → IsUnique same_hash new.kept
+    → standing mid.entries ≡ standing old.kept.entries → StandRight mid.entries → lookup (same_hash e.txid) mid.entries ≡ None → new.kept.entries ≡ insert_entry same_hash mid.entries e.txid (Some e) → IsUnique same_hash new.kept
     → ((o : Outpoint) → get same_outpoint new.spenders o ≡ cond (list_any (is_source_of o) e.inputs) (Some e.txid) (get same_outpoint old.spenders o))
     → new.count ≡ old.count + 1 → new.bytes ≡ old.bytes + length e.bytes → IsTable new (standing old.kept.entries ++ e ∷ [])
-put_is old new mid e t none free cut absent put once takers count bytes =
+put_is old new mid e t free before right absent put once takers count bytes =
     let last : new.kept.entries ≡ mid.entries ++ (e.txid, Some e) ∷ [] = put ∙ insert_entry-new same_hash mid e.txid (Some e) absent in
-    let before : standing mid.entries ≡ standing old.kept.entries = ap standing cut ∙ removed_standing e.txid old.kept.entries t.right none in
     record {
       are = ap standing last ∙ standing_last mid.entries e.txid e ∙ ap (λ l. l ++ e ∷ []) before;
-      right = rw last (all_more (λ (x : Slot). IfSome x.1 (λ k. k.txid ≡ x.0)) mid.entries (e.txid, Some e) (rw cut (removed_right e.txid old.kept.entries t.right)) refl);
+      right = rw last (all_more (λ (x : Slot). IfSome x.1 (λ k. k.txid ≡ x.0)) mid.entries (e.txid, Some e) right refl);
       once = once;
       takers = λ o. takers_more o (get same_outpoint old.spenders o) (get same_outpoint new.spenders o) (get same_outpoint old.spenders) (standing old.kept.entries) e refl (t.takers o) free (takers o);
       alone = λ o. alone_more o (get same_outpoint new.spenders o) (get same_outpoint old.spenders) (standing old.kept.entries) e free (takers o) (t.alone o);
@@ -121,10 +99,10 @@ put_is old new mid e t none free cut absent put once takers count bytes =
 
 -- one slot more for one kept one more
 pub few_more : {S : Type 0} (mid : IndexMap Hash32 (Option KeptTx) S) (new : List Slot) (e : KeptTx)
-    (gone before count next : ℕ) → length mid.entries + gone ≡ before → lookup (same_hash e.txid) mid.entries ≡ None
+    (before count next : ℕ) → length mid.entries ≤ before → lookup (same_hash e.txid) mid.entries ≡ None
     → new ≡ insert_entry same_hash mid.entries e.txid (Some e) → next ≡ count + 1 → before ≤ count * 2 + 1
     → length new ≤ next * 2 + 1
-few_more mid new e gone before count next cut absent put more few =
+few_more mid new e before count next cut absent put more few =
     let last = ap length (put ∙ insert_entry-new same_hash mid e.txid (Some e) absent) in
     let both = length-append mid.entries ((e.txid, Some e) ∷ []) in
     omega (arith, cut, last, both, more, few)

@@ -1,41 +1,7 @@
 -- What the listings under a script hash tell is what clients see of the kept transactions.
-use Rattle.std.proofs.Common.{
-  ◌≡◌,
-  ◌⊎◌,
-  inl,
-  inr,
-  ℕ,
-  zero,
-  suc,
-  ◌+◌,
-  ◌<◌,
-  true,
-  false,
-  Bool,
-  cond,
-  not,
-  ◌&&◌,
-  ◌||◌,
-  List,
-  [],
-  ◌∷◌,
-  ◌++◌,
-  length,
-  drop,
-  get_or,
-  append_assoc,
-  Option,
-  None,
-  Some,
-  refl,
-  ap,
-  sym,
-  subst,
-  ◌∙◌,
-  arith,
-}
+use Rattle.std.proofs.Common.{◌≡◌, ◌⊎◌, inl, inr, ℕ, zero, suc, ◌+◌, ◌<◌, true, false, Bool, cond, not, ◌&&◌, ◌||◌, List, [], ◌∷◌, ◌++◌, length, Some, refl, ap, sym, subst, ◌∙◌, arith}
 use Rattle.std.proofs.lemmas.Bool.{cases_Bool, and_parts, or_cases, or_parts, true≢false, false_from_ne_true}
-use Rattle.std.proofs.lemmas.List.{append-nil, reverse-reverse, drop_more}
+use Rattle.std.proofs.lemmas.List.{append-nil, reverse-reverse}
 use Rattle.std.proofs.lemmas.List.Elements.{filter-append}
 use Rattle.std.proofs.lemmas.List.Kept.{IsStrictlySortedBy-filter}
 use Rattle.std.specs.Prelude.{reverse, replicate, map, option_map, option_to_list}
@@ -58,18 +24,16 @@ use Rattle.el_tx.specs.declared.types.Outpoint.{Outpoint}
 use Rattle.el_tx.specs.declared.types.TxOut.{TxOut}
 use Rattle.el_tx.specs.declared.types.Tx.{Tx}
 use Rattle.el_tx.specs.Hashing.{txid, same_outpoint}
-use Rattle.el_chain.specs.declared.coin.Coin.{Coin}
 use Rattle.el_chain.specs.Chains.{Chain}
 use Rattle.el_chain.specs.CoinLaws.{coins_made}
 use Rattle.el_chain.specs.Coins.{coin_made, script_hash_of}
 use Rattle.el_chain.specs.Headers.{same_hash}
 use Rattle.el_chain.specs.History.{funds}
-use Rattle.el_mempool.specs.declared.held.Held.{Held}
 use Rattle.el_mempool.specs.declared.held.KeptTx.{KeptTx}
 use Rattle.el_mempool.specs.Sift.{output_held, is_taken, held_by}
-use Rattle.el_mempool.specs.Refusals.{kept_with, spender_of}
+use Rattle.el_mempool.specs.Refusals.{kept_with}
 use Rattle.el_mempool.specs.Unconfirmed.{shown_cmp, by_shown, in_order, put, has_script, concerns, entry, made, pool_history, pool_unspent}
-use Rattle.el_mempool.specs.Standing.{kept_tx, StandsFor, is_at_script}
+use Rattle.el_mempool.specs.Standing.{kept_tx, StandsFor}
 use Rattle.el_mempool.proofs.Confirmed.{hash_self, hash_same}
 use Rattle.el_mempool.proofs.Named.{all_named}
 use Rattle.el_mempool.proofs.Ordered.{InOrder, ordered, all_in_order}
@@ -81,7 +45,7 @@ use Rattle.el_mempool.proofs.Unspent.{is_listed, filter_none, unfunded}
 use Rattle.el_kept.specs.declared.listing.Listing.{Listing}
 use Rattle.el_kept.specs.declared.table.Table.{Table}
 use Rattle.el_kept.specs.Tables.{standing, by_txid, slot, slot_at_script, takes_from, IsTable}
-use Rattle.el_kept.specs.Listings.{coin_of, listing_cmp, txid_of, listing, lists, is_in, AreListed, least, greatest, under, entries_listed, seen, is_out, outs_from}
+use Rattle.el_kept.specs.Listings.{coin_of, listing_cmp, txid_of, listing, lists, is_in, AreListed, least, greatest, under, entries_listed, seen, outs_from}
 use Rattle.el_kept.proofs.Entries.{entry_with, found_is, taker_is, spender_taken}
 use Rattle.el_kept.proofs.Listed.{listed_is}
 

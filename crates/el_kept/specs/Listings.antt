@@ -1,6 +1,6 @@
 -- Which kept transactions concern a script hash, in the order in which clients see them (Electrum Protocol
 -- 1.4, blockchain.scripthash.get_mempool).
-use Rattle.std.specs.Prelude.{◌≡◌, ℕ, ◌+◌, Bool, not, ◌&&◌, if◌then◌else◌, List, [], ◌∷◌, ◌++◌, reverse, replicate, option_to_list, flat_map}
+use Rattle.std.specs.Prelude.{◌≡◌, ℕ, ◌+◌, Bool, not, ◌&&◌, if◌then◌else◌, List, [], ◌∷◌, reverse, replicate, option_to_list, flat_map}
 use Rattle.std.specs.Option.{is_some}
 use Rattle.std.specs.declared.cmp.Ordering.{Ordering}
 use Rattle.std.specs.Ordering.{ordering_then, nat_cmp}

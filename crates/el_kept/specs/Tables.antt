@@ -80,7 +80,7 @@ pub record AreSame (t u : Table) : Type 0 where
   pub bytes : u.bytes ≡ t.bytes
   pub kept_once : IsUnique same_hash t.kept → IsUnique same_hash u.kept
 
--- there is room for one more transaction with so many inputs
+-- there is room for one more transaction with so many inputs, and for another name of a slot
 pub record HasRoom (t : Table) (inputs : ℕ) : Type 0 where
-  pub kept : 0 < spare t.kept
+  pub kept : 1 < spare t.kept
   pub spenders : inputs ≤ spare t.spenders

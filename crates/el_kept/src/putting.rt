@@ -1,5 +1,6 @@
 // An entry is put into the tables.
-ghost use Rattle.std.specs.Prelude.{◌≡◌, ◌≤◌, ◌<◌, ◌+◌, ◌++◌, ◌∷◌, [], None, Some, IfOk, OnOk, OnErr, length, if◌then◌else◌};
+ghost use Rattle.std.specs.Prelude.{◌≡◌, ◌≤◌, ◌<◌, ◌+◌, ◌++◌, ◌∷◌, [], true, None, Some, IfOk, OnOk, OnErr, length, replicate, if◌then◌else◌};
+ghost use Rattle.std.specs.Int.{w64, to_le_bytes};
 ghost use Rattle.std.specs.List.{AllByRecursion, list_any};
 ghost use Rattle.std.specs.Option.{is_some};
 ghost use Rattle.indexmap.specs.IndexMap.{get, spare, insert_entry, IsUnique};
@@ -9,7 +10,7 @@ ghost use Rattle.el_tx.specs.declared.types.Outpoint as outpoint_shape;
 ghost use Rattle.el_mempool.specs.declared.held.Source as source_shape;
 ghost use Rattle.el_base.specs.declared.hash.Hash32 as hash_shape;
 ghost use Rattle.el_mempool.specs.Standing.{is_at_script};
-ghost use Rattle.el_kept.specs.Tables.{standing, by_txid, is_source_of, IsTable, HasFewSlots, AreSame, HasRoom};
+ghost use Rattle.el_kept.specs.Tables.{standing, by_txid, is_source_of, IsTable, StandRight, HasFewSlots, AreSame, HasRoom};
 ghost use Rattle.el_kept.specs.Listings.{AreListed};
 
 use crate::listing::{Listing, list_under, unlist_under};
@@ -33,13 +34,13 @@ fn any_taken(table: &Table, inputs: &[Source]) -> bool
     false
 }
 
-// Finds room for one more transaction with so many inputs.
+// Finds room for one more transaction with so many inputs, and for another name of a slot.
 fn make_room(table: &mut Table, inputs: usize) -> Result<(), OutOfMemory>
     ensures same { AreSame table.old table.new }
     ensures slots { HasFewSlots table.old → HasFewSlots table.new }
     ensures room { OnOk result (HasRoom table.new inputs) }
 {
-    table.kept.reserve(1)?;
+    table.kept.reserve(2)?;
     table.spenders.reserve(inputs)?;
     Ok(())
 }
@@ -74,6 +75,57 @@ fn set_entry(kept: &mut IndexMap<Hash32, Option<KeptTx>>, txid: Hash32, entry: K
     kept.insert(txid, Some(entry)).unwrap();
 }
 
+// Another name for a slot, by a number. No transaction is known whose txid is so small.
+fn name_by(number: usize) -> Hash32
+    ensures { result.0 ≡ to_le_bytes w64 number ++ replicate 24 0 }
+{
+    let mut name = [0; 32];
+    name[..8].copy_from_slice((number as u64).to_le_bytes().as_slice());
+    Hash32(name)
+}
+
+// The slot with that txid, whose transaction was dropped, goes by a name that no slot has.
+fn rename(kept: &mut IndexMap<Hash32, Option<KeptTx>>, txid: &Hash32, name: Hash32)
+    requires room { 0 < spare kept.old }
+    requires right { StandRight kept.old.entries }
+    requires dropped { by_txid txid.now (standing kept.old.entries) ≡ None }
+    requires there { is_some (get same_hash kept.old txid.now) ≡ true }
+    requires new { get same_hash kept.old name ≡ None }
+    ensures standing { standing kept.new.entries ≡ standing kept.old.entries }
+    ensures right { StandRight kept.new.entries }
+    ensures free { get same_hash kept.new txid.now ≡ None }
+    ensures slots { length kept.new.entries ≡ length kept.old.entries }
+    ensures room { spare kept.old ≤ spare kept.new + 1 }
+{
+    // The last takes the place of the one that is removed.
+    kept.insert(name, None).unwrap();
+    kept.swap_remove(txid);
+}
+
+// No slot has that txid, whose transaction isn't kept: so an entry with it comes last. A slot whose transaction
+// was dropped goes by the count of slots, which each entry that is put raises; only where a txid is as small as
+// that is the slot taken out, and all after it moved.
+fn give_way(kept: &mut IndexMap<Hash32, Option<KeptTx>>, txid: &Hash32)
+    requires room { 1 < spare kept.old }
+    requires right { StandRight kept.old.entries }
+    requires dropped { by_txid txid.now (standing kept.old.entries) ≡ None }
+    ensures standing { standing kept.new.entries ≡ standing kept.old.entries }
+    ensures right { StandRight kept.new.entries }
+    ensures free { get same_hash kept.new txid.now ≡ None }
+    ensures slots { length kept.new.entries ≤ length kept.old.entries }
+    ensures room { 0 < spare kept.new }
+{
+    if !kept.contains_key(txid) {
+        return;
+    }
+    let name = name_by(kept.len());
+    if kept.contains_key(&name) {
+        kept.shift_remove(txid);
+        return;
+    }
+    rename(kept, txid, name);
+}
+
 // Puts the entry after the others; it is new, and nobody takes what it takes.
 fn put(table: &mut Table, entry: KeptTx, count: u64, bytes: u64)
     requires table { IsTable table.old (standing table.old.kept.entries) }
@@ -88,8 +140,7 @@ fn put(table: &mut Table, entry: KeptTx, count: u64, bytes: u64)
 {
     let txid = entry.txid;
     set_takers(&mut table.spenders, entry.inputs.as_slice(), txid);
-    // A slot whose transaction was dropped gives way, since the entry comes last.
-    table.kept.shift_remove(&txid);
+    give_way(&mut table.kept, &txid);
     set_entry(&mut table.kept, txid, entry);
     table.count = count;
     table.bytes = bytes;

@@ -1,6 +1,6 @@
 // A kept transaction over another chain.
 ghost use Rattle.std.specs.Prelude.{◌≡◌, true, false, None, List, map, IfOk, IfNone, IfSome};
-ghost use Rattle.std.specs.List.{AllByRecursion, list_any};
+ghost use Rattle.std.specs.List.{AllByRecursion};
 ghost use Rattle.indexmap.specs.IndexMap.{get};
 ghost use Rattle.el_outside.specs.Counts.{CountsOnly};
 ghost use Rattle.el_chain.specs.Chains.{Chain};
@@ -10,44 +10,16 @@ ghost use Rattle.el_tx.specs.Hashing.{same_outpoint};
 ghost use Rattle.el_mempool.specs.declared.held.Source as source_shape;
 ghost use Rattle.el_mempool.specs.Sift.{may_join};
 ghost use Rattle.el_mempool.specs.Standing.{sources};
-ghost use Rattle.el_kept.specs.Tables.{is_source_of};
 ghost use Rattle.el_pool.specs.within.Tables.{IsOver};
 ghost use Rattle.el_pool.specs.within.Renewal as renewal;
 
 use crate::asking::named;
+use crate::conflicts::are_free;
 use crate::room::{held_in, taken_by};
-use el_kept::{Table, taker_in};
+use el_kept::Table;
 use el_mempool::{KeptTx, Source};
 use el_model::{Ledger, QueryFault};
-use el_tx::Outpoint;
 use std::alloc::Global;
-
-// Whether one of the inputs takes the outpoint. Takes no memory.
-fn any_from(inputs: &[Source], outpoint: &Outpoint) -> bool
-    ensures { result ≡ list_any (is_source_of outpoint.now) inputs.now }
-{
-    for source in inputs {
-        if *outpoint == source.from {
-            return true;
-        }
-    }
-    false
-}
-
-// Whether nobody takes what the inputs take, and no two of them take the same. Takes no memory.
-fn are_free(table: &Table, inputs: &[Source]) -> bool
-    ensures { result ≡ renewal.are_free (get same_outpoint table.now.spenders) inputs.now }
-{
-    for (number, source) in inputs.iter().enumerate() {
-        if taker_in(table, &source.from).is_some() {
-            return false;
-        }
-        if any_from(&inputs[number + 1..], &source.from) {
-            return false;
-        }
-    }
-    true
-}
 
 // The inputs with what they now take; None where one takes nothing.
 fn taken_again<G: Ledger>(
@@ -109,7 +81,8 @@ pub fn renewed<G: Ledger>(
         return Ok(None);
     }
     let inputs = entry.inputs.as_slice();
-    if !are_free(table, inputs) {
+    let free = are_free(alloc, table, inputs)?;
+    if !free {
         return Ok(None);
     }
     let Some(found) = taken_again(alloc, table, ledger, inputs)? else {

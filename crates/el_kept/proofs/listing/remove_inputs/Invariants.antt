@@ -2,7 +2,6 @@ use Rattle.std.proofs.Common.{◌≡◌, ◌&&◌, cond, false, take}
 use Rattle.std.specs.List.{list_any}
 use Rattle.el_chain.specs.Headers.{same_hash}
 use Rattle.el_mempool.specs.Standing.{is_coin_at}
-use Rattle.el_mempool.specs.Unconfirmed.{has_script}
 use Rattle.el_kept.specs.declared.listing.Listing.{Listing}
 use Rattle.el_kept.specs.Listings.{is_in, txid_of}
 use Rattle.el_kept.proofs.listing.remove_inputs.Given as goal

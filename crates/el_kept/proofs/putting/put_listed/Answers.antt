@@ -1,7 +1,6 @@
 use Rattle.std.proofs.Common.{[], None, ◌∙◌, ap, cond}
 use Rattle.std.specs.List.{list_any}
 use Rattle.el_chain.specs.Headers.{same_hash}
-use Rattle.el_mempool.specs.Standing.{is_at_script}
 use Rattle.el_kept.specs.Tables.{standing}
 use Rattle.el_kept.specs.Listings.{is_in, txid_of}
 use Rattle.el_kept.proofs.Listed.{own_listings, others_all, listed_in, taken_off, own_when}

@@ -1,4 +1,3 @@
-use Rattle.std.proofs.Common.{sym}
 use Rattle.el_kept.specs.Tables.{standing}
 use Rattle.el_kept.proofs.Listed.{kept_found, kept_none, found_listings, found_out, listed_as}
 use Rattle.el_kept.proofs.Cleared.{none_without}

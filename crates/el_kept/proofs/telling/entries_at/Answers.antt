@@ -1,7 +1,7 @@
-use Rattle.std.proofs.Common.{◌≡◌, ◌∙◌, ◌++◌, List, [], refl, ap, sym}
+use Rattle.std.proofs.Common.{◌∙◌, List, refl}
 use Rattle.std.specs.Prelude.{map}
 use Rattle.el_kept.specs.declared.listing.Listing.{Listing}
-use Rattle.el_kept.specs.Listings.{seen, under, entries_listed}
+use Rattle.el_kept.specs.Listings.{seen, entries_listed}
 use Rattle.el_kept.proofs.Told.{history_told, at_end}
 use Rattle.el_kept.proofs.telling.entries_at.Goals as goal
 

@@ -1,8 +1,8 @@
-use Rattle.std.proofs.Common.{◌≡◌, ◌∙◌, ◌++◌, List, [], refl, ap, sym}
+use Rattle.std.proofs.Common.{◌∙◌, List, refl}
 use Rattle.std.specs.List.{flat_map}
 use Rattle.el_mempool.specs.declared.held.KeptTx.{KeptTx}
 use Rattle.el_kept.specs.declared.listing.Listing.{Listing}
-use Rattle.el_kept.specs.Listings.{outs_from, under, entries_listed}
+use Rattle.el_kept.specs.Listings.{outs_from, entries_listed}
 use Rattle.el_kept.proofs.Told.{unspent_told, at_end}
 use Rattle.el_kept.proofs.telling.outs_at.Goals as goal
 
