@@ -1,5 +1,7 @@
--- Where the block files have a chain's blocks, the bytes of its transactions are their own.
-use Rattle.std.proofs.Common.{◌≡◌, ◌∙◌, sym, ap, subst, ℕ, Bool, true, false, if◌then◌else◌, List, [], ◌∷◌, length, Option, Some, None, option_map, option_and_then, refl}
+-- Where the block files have a chain's blocks or its transactions, the bytes of these are their own.
+use Rattle.std.proofs.Common.{◌≡◌, ◌≢◌, ◌∙◌, sym, ap, subst, ℕ, ◌+◌, Bool, true, false, if◌then◌else◌, List, [], ◌∷◌, ◌++◌, length, Option, Some, None, option_map, option_and_then, Result, Ok, Err, refl}
+use Rattle.std.specs.Prelude.{IfErr}
+use Rattle.serde_json.specs.Data.{Data}
 use Rattle.std.specs.Str.{bytes_eq}
 use Rattle.std.proofs.lemmas.Slice.Eq.{bytes_eq-Decides}
 use Rattle.el_base.specs.declared.hash.Hash32.{Hash32}
@@ -8,13 +10,18 @@ use Rattle.el_tx.specs.Encoding.{Encodes, HasEncoding}
 use Rattle.el_tx.specs.Hashing.{txid, full_encoding}
 use Rattle.el_tx.proofs.Decoded.{is_full_encoding}
 use Rattle.el_chain.specs.Chains.{Chain}
-use Rattle.el_chain.specs.History.{Position, positions}
+use Rattle.el_chain.specs.Coins.{coins_after_all}
+use Rattle.el_chain.specs.Faults.{AreNext, IsGood}
+use Rattle.el_chain.specs.History.{Position, positions, positions_from, block_positions}
+use Rattle.el_chain.specs.declared.coin.Coin.{Coin}
 use Rattle.el_chain.specs.declared.node.Spot.{Spot}
 use Rattle.el_files.specs.Reading.{text_at, IsTxOf}
 use Rattle.el_model.specs.Queries.{newest, place_at, spot_of, find_tx}
-use Rattle.el_methods.specs.Archives.{HasBlocks, HasChanged}
-use Rattle.el_methods.proofs.Found.{chosen}
-use Rattle.el_methods.proofs.Places.{newest_stands}
+use Rattle.el_methods.specs.Archives.{HasBlocks, HasTransactions, HasChanged}
+use Rattle.el_methods.specs.declared.stop.Stop.{Stop}
+use Rattle.el_methods.specs.declared.stop.Stop.TheVariants as stop
+use Rattle.el_methods.proofs.Found.{chosen, newest-append}
+use Rattle.el_methods.proofs.Places.{newest_stands, has_encoding}
 
 same_hash : (a b : Hash32) → bytes_eq a.0 b.0 ≡ true → a ≡ b
 same_hash a b h = ap (λ (bytes : List ℕ). record { 0 = bytes }) ((bytes_eq-Decides a.0 b.0).0 h)
@@ -53,11 +60,48 @@ found : (chain : Chain) (s : Spot) (o : Option Position)
 found chain s None e = absurd (cc)
 found chain s (Some p) e = let at = placed p s (place_at chain p.height) e in (p, refl, at.0, at.1, at.2)
 
+-- the bytes at its spot are a transaction's own where they are its encoding
+stands_whole : (files : ℕ → List ℕ) (chain : Chain) (id : Hash32) (s : Spot) (p : Position) (place : Place)
+    → newest id (positions chain) ≡ Some p → spot_of p place ≡ s
+    → text_at (spot_of p place) (files place.file) ≡ full_encoding p.tx → HasEncoding p.tx
+    → HasChanged s id (files s.place.file) → ⊥
+stands_whole files chain id s p place new at stands has changed =
+    let whole = is_tx id p place _ stands has (has_txid id (positions chain) p new) in
+    let P : Spot → Type 0 = λ q. IsTxOf q.len id (text_at q (files q.place.file)) in
+    changed.1.other (subst P at whole)
+
 pub unchanged : (files : ℕ → List ℕ) (chain : Chain) (id : Hash32) (s : Spot) → HasBlocks files chain
     → find_tx chain id ≡ Some s → HasChanged s id (files s.place.file) → ⊥
 unchanged files chain id s has is changed =
     let at = found chain s (newest id (positions chain)) is in
     let stands = newest_stands files chain id at.0 at.2 has at.1 at.3 in
-    let whole = is_tx id at.0 at.2 _ stands.0 stands.1 (has_txid id (positions chain) at.0 at.1) in
-    let P : Spot → Type 0 = λ q. IsTxOf q.len id (text_at q (files q.place.file)) in
-    changed.1.other (subst P at.4 whole)
+    stands_whole files chain id s at.0 at.2 at.1 at.4 stands.0 stands.1 changed
+
+-- each transaction of blocks that may follow one another has an encoding
+encoded_from : (id : Hash32) (before : Chain) (height : ℕ) (chain : Chain) (coins : List Coin)
+    → AreNext before chain → (p : Position) → newest id (positions_from height chain coins) ≡ Some p
+    → HasEncoding p.tx
+encoded_from id before height [] coins next p e = absurd (cc)
+encoded_from id before height (b ∷ bs) coins next p e =
+    let after = coins_after_all height b.block.txs coins in
+    let here = block_positions height b.block.txs coins in
+    chosen (λ q. HasEncoding q.tx) (newest id (positions_from (height + 1) bs after)) (newest id here)
+    (λ q f. encoded_from id (before ++ b ∷ []) (height + 1) bs after next.1 q f)
+    (λ q f. has_encoding id next.0.encoded.0 height b coins next.0.encoded.1 q f) p
+    (sym (newest-append id here (positions_from (height + 1) bs after)) ∙ e)
+
+-- also where the block files have the transactions of a good chain
+of_transactions : (files : ℕ → List ℕ) (chain : Chain) (id : Hash32) (s : Spot) → IsGood chain
+    → HasTransactions files chain → find_tx chain id ≡ Some s → HasChanged s id (files s.place.file) → ⊥
+of_transactions files chain id s good has is changed =
+    let at = found chain s (newest id (positions chain)) is in
+    stands_whole files chain id s at.0 at.2 at.1 at.4 (has id at.0 at.2 at.1 at.3)
+    (encoded_from id [] 0 chain [] good.each at.0 at.1) changed
+
+-- so that they have changed is not told then
+pub not_told : (files : ℕ → List ℕ) (chain : Chain) (id : Hash32) (s : Spot) → IsGood chain
+    → HasTransactions files chain → find_tx chain id ≡ Some s → (given : Result Data Stop)
+    → IfErr given (λ e. e ≡ stop.Changed → HasChanged s id (files s.place.file)) → given ≢ Err stop.Changed
+not_told files chain id s good has is (Ok answer) told same = absurd (cc)
+not_told files chain id s good has is (Err e) told same =
+    of_transactions files chain id s good has is (told (let h : Err e ≡ Err stop.Changed = same in cc))

@@ -44,6 +44,15 @@ IsDiskCounted disk (Err stop.Archive) = ⊥
 IsDiskCounted disk (Err stop.Changed) = ⊥
 IsDiskCounted disk (Err stop.Memory) = disk 0
 
+-- The answer tells nothing of the block files: neither that a call of them failed nor that they have changed.
+abbrev pub TellsNoFiles : {T : Type 0} → Result T Stop → Type 0
+TellsNoFiles (Ok answer) = ⊤
+TellsNoFiles (Err (stop.Refused r)) = ⊤
+TellsNoFiles (Err stop.Disk) = ⊤
+TellsNoFiles (Err stop.Archive) = ⊥
+TellsNoFiles (Err stop.Changed) = ⊥
+TellsNoFiles (Err stop.Memory) = ⊤
+
 -- An answer can be printed: none of its numbers is a float.
 abbrev pub IsPrintableAnswer : {E : Type 0} → Result Data E → Type 0
 IsPrintableAnswer (Ok found) = IsPrintable found

@@ -1,5 +1,5 @@
 -- What each call is answered (Electrum Protocol 1.4): the table of methods.
-use Rattle.std.specs.Prelude.{◌≡◌, negsuc, Bool, true, false, if◌then◌else◌, List, [], Option, None, Some, Result, Ok, Err, codes}
+use Rattle.std.specs.Prelude.{◌≡◌, ◌≢◌, negsuc, Bool, true, false, if◌then◌else◌, List, [], Option, None, Some, Result, Ok, Err, codes}
 use Rattle.serde_json.specs.Data.{Data, null, boolean, number, string, array, no_items, item}
 use Rattle.serde_json.specs.Find.{of_integer}
 use Rattle.el_chain.specs.Chains.{Chain}
@@ -8,8 +8,9 @@ use Rattle.el_chain.specs.declared.node.Node.{Node}
 use Rattle.el_view.specs.Views.{balance}
 use Rattle.el_methods.specs.Results as result
 use Rattle.el_methods.specs.Results.{whole, balance_value}
-use Rattle.el_methods.specs.Outcomes.{IsReplyWith}
+use Rattle.el_methods.specs.Outcomes.{IsReplyWith, TellsNoFiles}
 use Rattle.el_methods.specs.declared.stop.Stop.{Stop}
+use Rattle.el_methods.specs.declared.stop.Stop.TheVariants as stop
 use Rattle.el_calls.specs.Versions.{is_shared}
 use Rattle.el_methods.specs.Sessions.{Subscription}
 use Rattle.el_methods.specs.declared.session.Version.{Version}
@@ -92,9 +93,12 @@ reads_files kept c = false
 
 -- A call is given this. It is as defined, unless it is read from the block files and they may not have the
 -- chain's transactions; `has` is that they have them. Where it is read from them, what is kept of the client
--- stays as it was in any case.
+-- stays as it was in any case. That a call of the block files failed, or that they have changed, is told only
+-- where it is read from them, and that they have changed only where they don't have the chain's transactions.
 pub record IsGiven (has : Type 0) (chain : Chain) (kept : List Tx) (found : List Node) (c : Call)
     (s t : Session) (given : Result Data Stop) : Type 0 where
   pub of_index : reads_files kept c ≡ false → IsReplyWith (replied chain kept found s c) s t given
   pub of_files : has → IsReplyWith (replied chain kept found s c) s t given
   pub still : reads_files kept c ≡ true → t ≡ s
+  pub untold : reads_files kept c ≡ false → TellsNoFiles given
+  pub unchanged : has → given ≢ Err stop.Changed

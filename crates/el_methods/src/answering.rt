@@ -1,5 +1,5 @@
 // The answer to a call.
-ghost use Rattle.std.specs.Prelude.{◌≡◌, ◌≤◌, ◌+◌, List, IfOk, true, false, codes};
+ghost use Rattle.std.specs.Prelude.{◌≡◌, ◌≢◌, ◌≤◌, ◌+◌, List, Err, IfOk, true, false, codes};
 ghost use Rattle.el_outside.specs.Counts.{RoseBy};
 ghost use Rattle.el_outside.specs.Files.{AllGrow};
 ghost use Rattle.el_tx.specs.declared.types.Tx as shape;
@@ -8,8 +8,9 @@ ghost use Rattle.el_mempool.specs.Standing.{StandsFor};
 ghost use Rattle.el_model.specs.Keeping.{Quiet};
 ghost use Rattle.el_methods.specs.Archives.{HasTransactions};
 ghost use Rattle.el_methods.specs.RowBounds.{rows_of};
-ghost use Rattle.el_methods.specs.Outcomes.{IsReplyWith, IsCounted, IsPrintableAnswer};
+ghost use Rattle.el_methods.specs.Outcomes.{IsReplyWith, IsCounted, IsDiskCounted, TellsNoFiles, IsPrintableAnswer};
 ghost use Rattle.el_methods.specs.Replied.{replied, reads_files, agreed};
+ghost use Rattle.el_methods.specs.declared.stop.Stop.TheVariants as stop;
 ghost use Rattle.serde_json.specs.Data.{array, item, no_items, string};
 
 use crate::blocks::{block_headers, headers_subscribe};
@@ -52,7 +53,7 @@ fn agree(
     ensures answer { IsReplyWith (agreed session.old session.old.version least most) session.old
         session.new result }
     ensures printable { IsPrintableAnswer result }
-    ensures counted { IsCounted (λ n. n ≡ 0) (λ n. n ≡ 0) result }
+    ensures counted { IsDiskCounted (λ n. n ≡ 0) result }
 {
     if session.version.is_some() {
         return Err(Stop::Refused(Refusal::VersionAgreed));
@@ -92,6 +93,12 @@ pub fn answer<G: Ledger, A: Archive>(
     ensures of_index { (chain : Chain) (kept : List shape.Tx) → G.stands ledger.old chain
         → StandsFor holdings.now.pool.entries chain kept → reads_files kept call ≡ false
         → IsReplyWith (replied chain kept holdings.now.tree session.old call) session.old session.new result }
+    // That the block files failed or have changed is told only where the call reads them.
+    ensures untold { (chain : Chain) (kept : List shape.Tx) → StandsFor holdings.now.pool.entries chain kept
+        → reads_files kept call ≡ false → TellsNoFiles result }
+    // That they have changed is told only where they don't have the chain's transactions at their places.
+    ensures unchanged { (chain : Chain) → G.stands ledger.old chain → A.tells
+        → HasTransactions (A.bytes archive.new) chain → result ≢ Err stop.Changed }
     ensures still { (kept : List shape.Tx) → reads_files kept call ≡ true → session.new ≡ session.old }
     ensures printable { IsPrintableAnswer result }
     ensures rows { (chain : Chain) → G.stands ledger.old chain

@@ -2,7 +2,7 @@
 ghost use Rattle.std.specs.Prelude.{◌≡◌, IfOk, OnOk, codes};
 ghost use Rattle.serde_json.specs.Data.{string, put};
 ghost use Rattle.el_methods.specs.Results as defined;
-ghost use Rattle.el_methods.specs.Outcomes.{IsAnswer, IsCounted, IsPrintableAnswer};
+ghost use Rattle.el_methods.specs.Outcomes.{IsAnswer, IsDiskCounted, IsPrintableAnswer};
 
 use crate::stop::Stop;
 use crate::texts::shown_of;
@@ -43,7 +43,7 @@ fn features_value(alloc: Global, genesis: &Hash32) -> Result<Answer, OutOfMemory
 pub fn features(alloc: Global, tree: &HeaderTree) -> Result<Answer, Stop>
     ensures answer { IsAnswer (defined.features tree.now) result }
     ensures printable { IsPrintableAnswer result }
-    ensures counted { IsCounted (λ n. n ≡ 0) (λ n. n ≡ 0) result }
+    ensures counted { IsDiskCounted (λ n. n ≡ 0) result }
 {
     let Some(genesis) = tree.genesis() else {
         return Err(Stop::Refused(Refusal::NoBlocks));

@@ -17,7 +17,7 @@ mod texts;
 mod transactions;
 
 pub use answering::answer;
-pub use blocks::HEADER_LIMIT;
+pub use blocks::{HEADER_LIMIT, headers_subscribe};
 pub use holdings::Holdings;
 pub use laws::{
     blocks_have_transactions, moves_have_records, records_stay, transactions_are_unchanged,
@@ -25,4 +25,6 @@ pub use laws::{
 };
 pub use limits::ENTRY_LIMIT;
 pub use session::{SUBSCRIPTION_LIMIT, Session, Subs, SubsFault, Version};
+pub use statuses::told_of;
 pub use stop::Stop;
+pub use texts::shown_of;

@@ -12,7 +12,7 @@ ghost use Rattle.el_methods.specs.Results as defined;
 ghost use Rattle.el_methods.specs.Results.{both_values};
 ghost use Rattle.el_view.specs.Rows.{script_rows, history_rows, unspent_rows};
 ghost use Rattle.el_methods.specs.within.Lengths.{are_too_many};
-ghost use Rattle.el_methods.specs.Outcomes.{IsAnswer, IsCounted, IsDiskCounted, IsPrintableAnswer};
+ghost use Rattle.el_methods.specs.Outcomes.{IsAnswer, IsDiskCounted, IsPrintableAnswer};
 
 use crate::limits::ENTRY_LIMIT;
 use crate::stop::Stop;
@@ -176,7 +176,7 @@ pub fn get_mempool(alloc: Global, pool: &Pool, s: &Hash32) -> Result<Answer, Sto
     ensures answer { (chain : Chain) (kept : List shape.Tx) → StandsFor pool.now.entries chain kept
         → IsAnswer (defined.get_mempool chain kept s.now.0) result }
     ensures printable { IsPrintableAnswer result }
-    ensures counted { IsCounted (λ n. n ≡ 0) (λ n. n ≡ 0) result }
+    ensures counted { IsDiskCounted (λ n. n ≡ 0) result }
 {
     let entries = pool.entries(s)?;
     if entries.len() > ENTRY_LIMIT {

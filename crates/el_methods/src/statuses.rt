@@ -21,8 +21,9 @@ use el_pool::Pool;
 use el_view::view_status;
 use std::alloc::Global;
 
-// A status as it is told.
-fn told_of(alloc: Global, status: Option<Hash32>) -> Result<Answer, OutOfMemory>
+/// A status as it is told (Electrum Protocol 1.4, "Status"): in hex, or null for a script hash without a
+/// history. Fails only where memory runs out.
+pub fn told_of(alloc: Global, status: Option<Hash32>) -> Result<Answer, OutOfMemory>
     ensures told { IfOk result (λ a. a ≡ told status) }
     ensures printable { IsPrintableAnswer result }
 {

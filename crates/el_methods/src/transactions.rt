@@ -1,5 +1,5 @@
 // Transactions of the chain and of the unconfirmed set.
-ghost use Rattle.std.specs.Prelude.{◌≡◌, ◌+◌, ◌≤◌, ℕ, List, [], Some, None, false, IfOk, IfErr, IfSome, IfNone, Ok, Err};
+ghost use Rattle.std.specs.Prelude.{◌≡◌, ◌≢◌, ◌+◌, ◌≤◌, ℕ, List, [], Some, None, false, IfOk, IfErr, IfSome, IfNone, Ok, Err};
 ghost use Rattle.el_outside.specs.Counts.{RoseBy};
 ghost use Rattle.el_outside.specs.Files.{AllGrow};
 ghost use Rattle.el_chain.specs.Chains.{Chain};
@@ -12,7 +12,7 @@ ghost use Rattle.el_methods.specs.Results.{hex, is_in_files};
 ghost use Rattle.el_mempool.specs.Standing.{StandsFor};
 ghost use Rattle.el_tx.specs.declared.types.Tx as tx_shape;
 ghost use Rattle.el_methods.specs.Archives.{HasTransactions, HasChanged};
-ghost use Rattle.el_methods.specs.Outcomes.{IsAnswer, IsCounted, IsDiskCounted, IsPrintableAnswer};
+ghost use Rattle.el_methods.specs.Outcomes.{IsAnswer, IsCounted, IsDiskCounted, TellsNoFiles, IsPrintableAnswer};
 ghost use Rattle.el_methods.specs.declared.stop.Stop.TheVariants as stop;
 ghost use Rattle.el_calls.specs.declared.refusal.Refusal as shape;
 ghost use Rattle.el_calls.specs.declared.refusal.Refusal.TheVariants as refusal;
@@ -91,6 +91,8 @@ fn confirmed_get<G: Ledger, A: Archive>(
     ensures answer { (chain : Chain) → G.stands ledger.old chain → A.tells
         → HasTransactions (A.bytes archive.new) chain
         → IsAnswer (defined.transaction_get chain [] id false) result }
+    ensures unchanged { (chain : Chain) → G.stands ledger.old chain → A.tells
+        → HasTransactions (A.bytes archive.new) chain → result ≢ Err stop.Changed }
     ensures changed { (chain : Chain) → G.stands ledger.old chain → A.tells
         → IfErr result (λ e. e ≡ stop.Changed → (spot : place.Spot) × (find_tx chain id ≡ Some spot)
         × HasChanged spot id (A.bytes archive.new spot.place.file)) }
@@ -140,6 +142,10 @@ pub fn transaction_get<G: Ledger, A: Archive>(
     ensures of_set { (chain : Chain) (kept : List tx_shape.Tx) → StandsFor pool.now.entries chain kept
         → is_in_files kept id verbose ≡ false
         → IsAnswer (defined.transaction_get chain kept id verbose) result }
+    ensures untold { (chain : Chain) (kept : List tx_shape.Tx) → StandsFor pool.now.entries chain kept
+        → is_in_files kept id verbose ≡ false → TellsNoFiles result }
+    ensures unchanged { (chain : Chain) → G.stands ledger.old chain → A.tells
+        → HasTransactions (A.bytes archive.new) chain → result ≢ Err stop.Changed }
     // Only where the bytes that stand at the transaction's place are not its own.
     ensures changed { (chain : Chain) → G.stands ledger.old chain → A.tells
         → IfErr result (λ e. e ≡ stop.Changed → (spot : place.Spot) × (find_tx chain id ≡ Some spot)

@@ -22,6 +22,9 @@ returns-in-Some-clause-answered g c = λ chain kept files stands over grew.
       of_files = λ has. answer.answer chain kept stands over has.0
           (transactions_stay _ _ chain (all_grow_more _ _ _ (grew has.0) (answer.grows has.0)) has.1);
       still = λ reads. answer.still kept reads;
+      untold = λ none. answer.untold chain kept over none;
+      unchanged = λ has. answer.unchanged chain stands has.0
+          (transactions_stay _ _ chain (all_grow_more _ _ _ (grew has.0) (answer.grows has.0)) has.1);
     })
     answer.counted
 
