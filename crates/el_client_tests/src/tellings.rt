@@ -1,12 +1,15 @@
-// What a client is told of its subscriptions as transactions come to the unconfirmed set. The statuses were
-// computed by another program from their texts.
+// What a client is told of its subscriptions as transactions come to the unconfirmed set, and of a new tip.
+// The statuses were computed by another program from their texts; the header is Bitcoin's own.
+use crate::methods::{decoded, world_of};
 use crate::views::{SCRIPT_100, SCRIPT_101, SCRIPT_EMPTY, again, hash, part, told, two_blocks};
-use el_base::Hash32;
+use el_base::{Bytes, Hash32};
 use el_chain::Touched;
-use el_methods::Subs;
+use el_gen::{BLOCK_1, GENESIS};
+use el_methods::{Session, Subs};
+use el_model::Ledger;
 use el_plain::PlainLedger;
 use el_pool::Pool;
-use el_subs::tell;
+use el_subs::{notify, tell};
 use std::alloc::Global;
 use std::test::Fail;
 
@@ -111,5 +114,114 @@ fn tells_in_order(alloc: Global) -> bool {
 #[test]
 fn told_in_order(rt: HostRuntime) -> Result<(), Fail> {
     assert!(rt; tells_in_order(rt.alloc()));
+    Ok(())
+}
+
+// The lines about both.
+const SCRIPT_LINES: [&[u8]; 2] = [
+    b"{\"jsonrpc\":\"2.0\",\"method\":\"blockchain.scripthash.subscribe\",\"params\":[\"87db42382cbedc175498\
+      6e8d2b98ed07381d67e43bebb313f331acc40b7cecbb\",\"cbf378a6ffa94909985aa750685853e0237de34f677c9596150d\
+      32dc4fbf7fea\"]}\n",
+    b"{\"jsonrpc\":\"2.0\",\"method\":\"blockchain.scripthash.subscribe\",\"params\":[\"c2491fb4db5d64056333\
+      4d5695cd0fae355b5f12c04ead37b5c3a9025f75acbb\",\"2c2a50297b1a63c7e5d576957592150459df740222105f6ab80d\
+      22111cffef89\"]}\n",
+];
+
+// The line about the header of Bitcoin's second block.
+const TIP_LINE: [&[u8]; 1] = [
+    b"{\"jsonrpc\":\"2.0\",\"method\":\"blockchain.headers.subscribe\",\"params\":[\
+      {\"height\":1,\"hex\":\"010000006fe28c0ab6f1b372c1a6a246ae63f74f931e8365e15a089c68d6190000000000982051\
+      fd1e4ba744bbbe680e1fee14677ba1a3c3540bf7b1cdb606e857233e0e61bc6649ffff001d01e36299\"}]}\n",
+];
+
+fn are_lines(lines: &[Bytes], wanted: &[&[u8]]) -> bool {
+    if lines.len() != wanted.len() {
+        return false;
+    }
+    for (line, text) in lines.iter().zip(wanted) {
+        if line.as_slice() != *text {
+            return false;
+        }
+    }
+    true
+}
+
+// Whether the client is told these lines.
+fn notifies(
+    alloc: Global,
+    session: &mut Session,
+    ledger: &mut PlainLedger,
+    pool: &Pool,
+    touched: &Touched,
+    before: &Option<Hash32>,
+    wanted: &[&[u8]],
+) -> bool {
+    match notify(alloc, session, ledger, pool, touched, before) {
+        Ok(lines) => are_lines(lines.as_slice(), wanted),
+        Err(_) => false,
+    }
+}
+
+fn notifies_of_scripts(alloc: Global) -> bool {
+    let mut world = begun(alloc);
+    let first = touched_by(&mut world, part(alloc).as_slice());
+    let Some(touched) = touched_by(&mut world, again(alloc).as_slice()) else {
+        return false;
+    };
+    let mut session = Session {
+        version: None,
+        headers: false,
+        subs: world.subs,
+    };
+    first.is_some()
+        && notifies(
+            alloc,
+            &mut session,
+            &mut world.ledger,
+            &world.pool,
+            &touched,
+            &None,
+            &SCRIPT_LINES,
+        )
+}
+
+// A client that doesn't subscribe to headers is told of its script hashes alone, in whole lines.
+#[test]
+fn lines_of_script_hashes(rt: HostRuntime) -> Result<(), Fail> {
+    assert!(rt; notifies_of_scripts(rt.alloc()));
+    Ok(())
+}
+
+fn notifies_of_the_tip(alloc: Global) -> Option<bool> {
+    let blocks = decoded(alloc, &[GENESIS, BLOCK_1])?;
+    let mut world = world_of(alloc, blocks.as_slice(), 0)?;
+    world.session.headers = true;
+    let touched = Touched::new(alloc);
+    let first = notifies(
+        alloc,
+        &mut world.session,
+        &mut world.ledger,
+        &world.holdings.pool,
+        &touched,
+        &None,
+        &TIP_LINE,
+    );
+    let now = world.ledger.tip();
+    let again = notifies(
+        alloc,
+        &mut world.session,
+        &mut world.ledger,
+        &world.holdings.pool,
+        &touched,
+        &now,
+        &[],
+    );
+    Some(first && again)
+}
+
+// A client that subscribes to headers is told of a new tip once.
+#[test]
+fn line_of_the_tip(rt: HostRuntime) -> Result<(), Fail> {
+    assert!(rt; notifies_of_the_tip(rt.alloc()) == Some(true));
     Ok(())
 }
