@@ -1,11 +1,10 @@
 -- The chain compared with a path.
-use Rattle.std.proofs.Common.{◌≡◌, ℕ, zero, suc, ◌+◌, ◌-◌, ◌<◌, ◌≤◌, true, false, Bool, List, [], ◌∷◌, length, take, drop, get_or, Option, Some, rules, refl, sym, ap, ◌∙◌, arith, ◌==◌, eqb-true, eq-eqb}
-use Rattle.std.proofs.lemmas.List.{drop_all, get_or_default}
-use Rattle.std.specs.Prelude.{IsTrue, ◌↔◌}
-use Rattle.std.specs.List.{AllByRecursion}
+use Rattle.std.proofs.Common.{◌≡◌, ◌⊎◌, inl, inr, ℕ, zero, suc, ◌+◌, ◌-◌, ◌<◌, ◌≤◌, true, false, Bool, List, [], ◌∷◌, length, take, drop, Option, None, Some, rules, refl, sym, ap, ◌∙◌, arith, ◌==◌, eqb-true, eq-eqb, nat_lt, ltb-true, ltb-false}
+use Rattle.std.proofs.lemmas.List.{drop_all}
+use Rattle.std.proofs.lemmas.Option.{slice_get_within}
+use Rattle.std.specs.Prelude.{IsTrue, ◌↔◌, min, slice_get}
 use Rattle.el_base.specs.declared.hash.Hash32.{Hash32}
 use Rattle.el_base.specs.Hashing.{sha256d}
-use Rattle.el_base.proofs.Lists.{left_at}
 use Rattle.el_chain.specs.declared.node.Node.{Node}
 use Rattle.el_chain.specs.declared.placed.Placed.{Placed}
 use Rattle.el_block.specs.Blocks.{block_hash}
@@ -14,43 +13,58 @@ use Rattle.el_chain.specs.Headers.{AreLinked, same_hash, IsPath, genesis}
 use Rattle.el_chain.specs.Moves.{shorter, last_hash}
 use Rattle.el_tx.specs.Headers.{header_encoding}
 use Rattle.el_lines.specs.NodeAnswers.{at_answer}
-use Rattle.el_world.specs.Plans.{common, back_of, rest_of, IsMoving}
+use Rattle.el_headers.specs.Adding.{IsEndOf}
+use Rattle.el_world.specs.Plans.{common, common_up_to, back_of, rest_of, IsMoving}
 use Rattle.el_model.specs.Queries.{header_at}
-use Rattle.el_sync.proofs.Lists.{linked_after, all_after}
+use Rattle.el_sync.specs.within.Below.{IsBelow}
+use Rattle.el_sync.proofs.Lists.{linked_after}
 
 -- the rest of a path is linked
 pub drop_linked : (path rest : List Node) → AreLinked zero_hash path → (n : ℕ) × (rest ≡ drop n path) → (x : Hash32) × AreLinked x rest
 drop_linked path rest h end = (last_hash zero_hash (take end.0 path), rw end.1 (linked_after end.0 zero_hash path h))
 
-pub drop_nodes : (P : Node → Type 0) (path rest : List Node) → AllByRecursion P path → (n : ℕ) × (rest ≡ drop n path) → AllByRecursion P rest
-drop_nodes P path rest h end = rw end.1 (all_after P end.0 path h)
-
 -- and where nothing is taken back, it is linked to the tip
 same_is : (a b : Hash32) → same_hash a b ≡ true → a ≡ b
 same_is a b h = ap (λ (l : List ℕ). record { 0 = l }) (search rules)
+
+-- how many are common, of a block and those above it
+up_to_less : (same : Bool) (above : ℕ) → common_up_to same above ≤ suc above
+up_to_less same (suc above) = omega arith
+up_to_less true zero = omega arith
+up_to_less false zero = omega arith
+
+-- after one block or more the last hash isn't what stood before them
+tip_not_before : (x y : Hash32) (chain : Chain) (count : ℕ) → suc count ≤ length chain → tip_after x (take (suc count) chain) ≡ tip_after y (take (suc count) chain)
+tip_not_before x y [] count le = absurd (omega (arith, le))
+tip_not_before x y (b ∷ bs) count le = refl
+
+common_within : (chain : Chain) (path : List Node) → common chain path ≤ length chain
+common_within [] path = omega arith
+common_within (b ∷ bs) [] = omega arith
+common_within (b ∷ bs) (n ∷ ns) =
+    let more = common_within bs ns in
+    let up = up_to_less (same_hash (block_hash b.block.header) n.hash) (common bs ns) in
+    omega (arith, more, up)
 
 common_linked : (before : Hash32) (chain : Chain) (path : List Node) → AreLinked before path
     → AreLinked (tip_after before (take (common chain path) chain)) (drop (common chain path) path)
 common_linked before [] path h = h
 common_linked before (b ∷ bs) [] h = tt
-common_linked before (b ∷ bs) (n ∷ ns) h = by (same_hash (block_hash b.block.header) n.hash) refl (common_linked n.hash bs ns h.1)
+common_linked before (b ∷ bs) (n ∷ ns) h = by (same_hash (block_hash b.block.header) n.hash) (common bs ns) refl refl (common_linked n.hash bs ns h.1)
   where
-    by : (s : Bool) → same_hash (block_hash b.block.header) n.hash ≡ s → AreLinked (tip_after n.hash (take (common bs ns) bs)) (drop (common bs ns) ns)
+    by : (s : Bool) (m : ℕ) → same_hash (block_hash b.block.header) n.hash ≡ s → common bs ns ≡ m → AreLinked (tip_after n.hash (take (common bs ns) bs)) (drop (common bs ns) ns)
         → AreLinked (tip_after before (take (common (b ∷ bs) (n ∷ ns)) (b ∷ bs))) (drop (common (b ∷ bs) (n ∷ ns)) (n ∷ ns))
-    by true e go =
-        let is = same_is (block_hash b.block.header) n.hash e in
-        let here : AreLinked (tip_after (block_hash b.block.header) (take (common bs ns) bs)) (drop (common bs ns) ns) = rw is go in
-        rw e here
-    by false e go = rw e h
-
-common_within : (chain : Chain) (path : List Node) → common chain path ≤ length chain
-common_within [] path = omega arith
-common_within (b ∷ bs) [] = omega arith
-common_within (b ∷ bs) (n ∷ ns) = by (same_hash (block_hash b.block.header) n.hash) refl (common_within bs ns)
-  where
-    by : (s : Bool) → same_hash (block_hash b.block.header) n.hash ≡ s → common bs ns ≤ length bs → common (b ∷ bs) (n ∷ ns) ≤ suc (length bs)
-    by true e le = rw e (omega (arith, le))
-    by false e le = rw e (omega arith)
+    by s (suc m) e is go =
+        let within = common_within bs ns in
+        let long : suc m ≤ length bs = omega (arith, within, is) in
+        let go' : AreLinked (tip_after n.hash (take (suc m) bs)) (drop (suc m) ns) = rw is at go in
+        let here : AreLinked (tip_after (block_hash b.block.header) (take (suc m) bs)) (drop (suc m) ns) = rw (tip_not_before (block_hash b.block.header) n.hash bs m long) go' in
+        rw is here
+    by true zero e is go =
+        let same = same_is (block_hash b.block.header) n.hash e in
+        let here : AreLinked (block_hash b.block.header) ns = rw same h.1 in
+        rw (e, is) here
+    by false zero e is go = rw (e, is) h
 
 -- the plan of a path fits the chain
 pub rest_fits : (chain : Chain) (path rest : List Node) (back : ℕ) → back ≡ back_of chain path → rest ≡ rest_of chain path → AreLinked zero_hash path
@@ -109,9 +123,6 @@ block_here (b ∷ bs) (suc i) text h =
     let r = block_here bs i text h in
     (r.0, r.1 ∙ ap (λ n. r.0 ∷ drop n (b ∷ bs)) (let e : suc (i + 1) ≡ suc i + 1 = omega arith in e), r.2)
 
-node_there : (path : List Node) (i : ℕ) (n d : Node) → i < length path → n ≡ get_or path i d → drop i path ≡ n ∷ drop (i + 1) path
-node_there path i n d lt is = left_at path i n lt (is ∙ get_or_default path i d n lt)
-
 hash_same : (a b : Hash32) → a ≡ b → same_hash a b ≡ true
 hash_same a b e = search rules
 
@@ -122,39 +133,108 @@ hash_other a b no_eq = by (same_hash a b) refl
     by true e = absurd (no_eq (same_is a b e))
     by false e = e
 
--- one block more is the same
-pub common_more : (chain : Chain) (path : List Node) (i : ℕ) (n d : Node) (text : List ℕ) → i < length path → n ≡ get_or path i d → header_at chain i ≡ Some text
-    → record { 0 = sha256d text } ≡ n.hash → common chain path ≡ i + common (drop i chain) (drop i path) → common chain path ≡ (i + 1) + common (drop (i + 1) chain) (drop (i + 1) path)
-common_more chain path i n d text lt is header same so_far =
-    let b = block_here chain i text header in
-    let hash : block_hash b.0.block.header ≡ n.hash = ap (λ (t : List ℕ). record { 0 = sha256d t }) b.2 ∙ same in
-    let yes_same = hash_same (block_hash b.0.block.header) n.hash hash in
-    let one : common (drop i chain) (drop i path) ≡ suc (common (drop (i + 1) chain) (drop (i + 1) path)) = rw (b.1, node_there path i n d lt is, yes_same) refl in
-    so_far ∙ ap (λ m. i + m) one ∙ (let e : i + suc (common (drop (i + 1) chain) (drop (i + 1) path)) ≡ (i + 1) + common (drop (i + 1) chain) (drop (i + 1) path) = omega arith in e)
+node_at : (path : List Node) (i : ℕ) (n : Node) → slice_get path i ≡ Some n → drop i path ≡ n ∷ drop (i + 1) path
+node_at [] i n h = absurd (let e = h in cc)
+node_at (m ∷ ms) zero n h = ap (λ (x : Node). x ∷ ms) (let e = h in cc)
+node_at (m ∷ ms) (suc i) n h = node_at ms i n h ∙ ap (λ k. n ∷ drop k (m ∷ ms)) (let e : suc (i + 1) ≡ suc i + 1 = omega arith in e)
 
--- the next block is another
-pub common_other : (chain : Chain) (path : List Node) (i : ℕ) (n d : Node) (text : List ℕ) → i < length path → n ≡ get_or path i d → header_at chain i ≡ Some text
-    → (record { 0 = sha256d text } ≡ n.hash → ⊥) → common chain path ≡ i + common (drop i chain) (drop i path) → i ≡ common chain path
-common_other chain path i n d text lt is header other so_far =
-    let b = block_here chain i text header in
+none_common : (chain : Chain) → common chain [] ≡ 0
+none_common [] = refl
+none_common (b ∷ bs) = refl
+
+-- where some block from a height on is common, so many are
+common_from : (chain : Chain) (path : List Node) (i count : ℕ) → common (drop i chain) (drop i path) ≡ suc count → common chain path ≡ suc (i + count)
+common_from chain path zero count is = is ∙ (let e : suc count ≡ suc (0 + count) = omega arith in e)
+common_from [] path (suc i) count is = absurd (let e = is in cc)
+common_from (b ∷ bs) [] (suc i) count is = absurd (let e = sym is ∙ none_common (drop i bs) in cc)
+common_from (b ∷ bs) (n ∷ ns) (suc i) count is =
+    let up : common (b ∷ bs) (n ∷ ns) ≡ suc (suc (i + count)) = rw (common_from bs ns i count is) refl in
+    up ∙ (let e : suc (suc (i + count)) ≡ suc (suc i + count) = omega arith in e)
+
+-- where none is, no more are than stand below
+common_to : (chain : Chain) (path : List Node) (i : ℕ) → common (drop i chain) (drop i path) ≡ 0 → common chain path ≤ i
+common_to chain path zero is = omega (arith, is)
+common_to [] path (suc i) is = omega arith
+common_to (b ∷ bs) [] (suc i) is = omega arith
+common_to (b ∷ bs) (n ∷ ns) (suc i) is =
+    let more = common_to bs ns i is in
+    let up = up_to_less (same_hash (block_hash b.block.header) n.hash) (common bs ns) in
+    omega (arith, more, up)
+
+pub below_to : (chain : Chain) (path : List Node) (i : ℕ) (last : Option Node) → IsBelow chain path i last → common chain path ≤ i
+below_to chain path i last is = common_to chain path i is.none_above
+
+-- one of the two ends there
+common_past : (chain : Chain) (path : List Node) (i : ℕ) → (length chain ≤ i) ⊎ (length path ≤ i) → common (drop i chain) (drop i path) ≡ 0
+common_past chain path i (inl le) = rw (drop_all i chain le) refl
+common_past chain path i (inr le) = rw (drop_all i path le) (none_common (drop i chain))
+
+-- the comparison begins at the end of the shorter one
+pub below_first : (chain : Chain) (path : List Node) (count both height : ℕ) (end : Node) (last : Option Node) → count ≡ length chain → IsEndOf path end height
+    → both ≡ min count (height + 1) → ((below : ℕ) → both ≤ length path → both ≡ suc below → last ≡ slice_get path below) → IsBelow chain path both last
+below_first chain path count both height end last blocks is_end is node =
+    let long : both ≤ length path = let e = is_end.1 in omega arith in record {
+      none_above = common_past chain path both (by (nat_lt both count) refl);
+      long = long;
+      node = λ below one. node below long one;
+    }
+  where
+    by : (s : Bool) → nat_lt both count ≡ s → (length chain ≤ both) ⊎ (length path ≤ both)
+    by true e = inr (let l = ltb-true both count e in let p = is_end.1 in omega arith)
+    by false e = inl (let l = ltb-false both count e in omega arith)
+
+-- the next block below is another
+pub below_next : (chain : Chain) (path : List Node) (i k : ℕ) (last next : Option Node) (n : Node) (text : List ℕ) → IsBelow chain path i last → i ≡ suc k → last ≡ Some n
+    → header_at chain k ≡ Some text → (record { 0 = sha256d text } ≡ n.hash → ⊥)
+    → ((height : ℕ) → slice_get path (suc height) ≡ Some n → next ≡ slice_get path height) → IsBelow chain path k next
+below_next chain path i k last next n text is one there header other parent =
+    let b = block_here chain k text header in
+    let here = sym (is.node k one) ∙ there in
     let no_same : same_hash (block_hash b.0.block.header) n.hash ≡ false =
     hash_other (block_hash b.0.block.header) n.hash (λ e. other (ap (λ (t : List ℕ). record { 0 = sha256d t }) (sym b.2) ∙ e)) in
-    let none : common (drop i chain) (drop i path) ≡ 0 = rw (b.1, node_there path i n d lt is, no_same) refl in
-    (let e : i ≡ i + 0 = omega arith in e) ∙ ap (λ m. i + m) (sym none) ∙ sym so_far
+    let next_one : i ≡ k + 1 = omega (arith, one) in
+    let above : common (drop (k + 1) chain) (drop (k + 1) path) ≡ 0 = rw (← next_one) is.none_above in
+    let long = is.long in record {
+      none_above = rw (b.1, node_at path k n here, no_same, above) refl;
+      long = omega (arith, one, long);
+      node = λ below e. parent below (ap (slice_get path) (sym e) ∙ here);
+    }
 
--- the chain has no more blocks
-pub common_short : (chain : Chain) (path : List Node) (i : ℕ) → length chain ≤ i → common chain path ≡ i + common (drop i chain) (drop i path) → i ≡ common chain path
-common_short chain path i le so_far =
-    (let e : i ≡ i + 0 = omega arith in e) ∙ ap (λ (l : Chain). i + common l (drop i path)) (sym (drop_all i chain le)) ∙ sym so_far
+-- the next block below is the same
+pub below_same : (chain : Chain) (path : List Node) (i k : ℕ) (last : Option Node) (n : Node) (text : List ℕ) → IsBelow chain path i last → i ≡ suc k → last ≡ Some n
+    → header_at chain k ≡ Some text → record { 0 = sha256d text } ≡ n.hash → common chain path ≡ i
+below_same chain path i k last n text is one there header same =
+    let b = block_here chain k text header in
+    let here = sym (is.node k one) ∙ there in
+    let hash : block_hash b.0.block.header ≡ n.hash = ap (λ (t : List ℕ). record { 0 = sha256d t }) b.2 ∙ same in
+    let yes_same = hash_same (block_hash b.0.block.header) n.hash hash in
+    let next_one : i ≡ k + 1 = omega (arith, one) in
+    let above : common (drop (k + 1) chain) (drop (k + 1) path) ≡ 0 = rw (← next_one) is.none_above in
+    let found : common (drop k chain) (drop k path) ≡ 1 = rw (b.1, node_at path k n here, yes_same, above) refl in
+    let all = common_from chain path k 0 found in
+    omega (arith, all, one)
 
--- the path has no more nodes
-pub common_ends : (chain : Chain) (path : List Node) (i : ℕ) → length path ≤ i → common chain path ≡ i + common (drop i chain) (drop i path) → i ≡ common chain path
-common_ends chain path i le so_far =
-    (let e : i ≡ i + 0 = omega arith in e) ∙ ap (λ m. i + m) (sym (rw (drop_all i path le) (none_common (drop i chain)))) ∙ sym so_far
-  where
-    none_common : (c : Chain) → common c [] ≡ 0
-    none_common [] = refl
-    none_common (b ∷ bs) = refl
+-- where nothing stands below, nothing is common
+pub below_none : (chain : Chain) (path : List Node) (i : ℕ) (last : Option Node) → IsBelow chain path i last → i ≡ 0 → 0 ≡ common chain path
+below_none chain path i last is none = let le = below_to chain path i last is in omega (arith, le, none)
+
+-- a path has a node at each height below its length
+node_below : (path : List Node) (i : ℕ) → i < length path → slice_get path i ≡ None → ⊥
+node_below [] i lt none = omega (arith, lt)
+node_below (n ∷ ns) zero lt none = let e = none in cc
+node_below (n ∷ ns) (suc i) lt none = node_below ns i (omega (arith, lt)) none
+
+pub below_has : (chain : Chain) (path : List Node) (i : ℕ) (last : Option Node) → IsBelow chain path i last → 0 < i → last ≡ None → ⊥
+below_has chain path i last is some none =
+    let one : i ≡ suc (i - 1) = omega (arith, some) in
+    let long = is.long in
+    node_below path (i - 1) (omega (arith, long, some)) (sym (is.node (i - 1) one) ∙ none)
+
+-- below a node of a path stands another
+pub none_below : (path : List Node) (n : Node) (height : ℕ) → slice_get path (suc height) ≡ Some n → slice_get path height ≡ None → ⊥
+none_below path n height is none =
+    let within = slice_get_within path (suc height) n is in
+    node_below path height (omega (arith, within)) none
 
 pub other_hash : (r : Bool) (P : Type 0) → r ≡ false → IsTrue r ↔ P → P → ⊥
 other_hash true P e b p = let f = e in cc

@@ -1,6 +1,7 @@
 -- What steps leave of a ledger and of block files, of which only the traits are known.
 use Rattle.std.proofs.Common.{◌≡◌, ◌≢◌, ◌⊎◌, inl, inr, Bool, false, ℕ, ◌≤◌, arith, List, [], ◌∷◌, ◌++◌, Option, Some, Result, Ok, Err, refl, sym, ap, ◌∙◌, append-nil, append_assoc}
 use Rattle.std.specs.Result.{IfOk, IfErr}
+use Rattle.el_base.specs.declared.hash.Hash32.{Hash32}
 use Rattle.el_outside.specs.Counts.{CountsOnly, RoseBy}
 use Rattle.el_outside.specs.Devices as device
 use Rattle.el_outside.specs.Devices.{Device, link, archive, disk, failures, faults, Rose}
@@ -23,9 +24,13 @@ use Rattle.el_world.specs.Side as side_of
 use Rattle.el_world.specs.Side.{Side, GoesAlong, IsSaid, Looks, Moving, Orders, OrdersLine, found_answer, found_after}
 use Rattle.el_model.specs.declared.ledger.Ledger as ledgers
 use Rattle.el_model.proofs.LedgerMoves.{LeavesOwn, asked_then, moved_then}
-use Rattle.el_mempool.specs.Standing.{PoolState, StandsFor}
+use Rattle.el_tx.specs.declared.types.Tx.{Tx}
+use Rattle.el_mempool.specs.Standing.{AreChanged, PoolState, StandsFor}
 use Rattle.el_methods.specs.declared.holdings.Holdings.{Holdings}
-use Rattle.el_world.specs.NodeSteps.{IsAt, Leads, SetStands}
+use Rattle.el_touched.proofs.Sides.{looks_self}
+use Rattle.el_touched.proofs.Stays.{status_stays}
+use Rattle.el_status.specs.Statuses.{status}
+use Rattle.el_world.specs.NodeSteps.{IsAt, Leads, SetStands, Touches}
 use Rattle.el_sync.specs.Steps.{IsFrom, NodeStep, RoseWith, StopsAt, by_disk, by_memory, untold}
 use Rattle.el_sync.specs.within.Parts.{IsPathMove, Looked, SaysRefusal, StandsAfter}
 use Rattle.el_sync.specs.declared.fault.StepFault.{StepFault}
@@ -63,89 +68,116 @@ pub not_disk : (e : MoveFault) (text : List ℕ) → SaysRefusal e text → e �
 not_disk e text says is = let h = rw is at says in h
 
 -- the set of a side that has left nothing to do stands over its chain
-pub stands_there : (pool : PoolState) (side : Side) → SetStands pool side → side.ahead ≡ [] → StandsFor pool.entries side.chain side.kept
-stands_there pool side set still = rw (set.still still) at set.stood
+pub stands_there : (pool : PoolState) (side : Side) (start : Chain) → SetStands pool side start → side.ahead ≡ [] → StandsFor pool.entries side.chain side.kept
+stands_there pool side start set still = rw (set.still still) at set.stood
+
+-- where chain and kept ones stay, nothing is touched
+pub touches_none : (side next : Side) (start : Chain) (moved changed : List Hash32) → next.chain ≡ side.chain → next.kept ≡ side.kept → Touches side start next start moved changed
+touches_none side next start moved changed chain kept = record {
+  status_stays = λ s out apart looks. rw kept refl;
+  looks = λ s out apart looks. rw chain looks;
+}
+
+-- where other transactions are kept over the same chain, those are that changed
+pub touches_kept : (side : Side) (start : Chain) (kept : List Tx) (moved changed : List Hash32) → start ≡ side.chain → AreChanged side.chain side.kept side.chain kept changed
+    → Touches side start (record side { kept = kept }) side.chain moved changed
+touches_kept side start kept moved changed is change = record {
+  status_stays = λ s out apart looks.
+      status_stays side.chain side.chain side.kept kept changed s (looks_self side.chain s.0) change apart ∙ ap (λ (c : Chain). status c side.kept s.0) (sym is);
+  looks = λ s out apart looks. looks_self side.chain s.0;
+}
 
 -- what a line says, after which other transactions are kept
-pub said_after : {tells : Type 0} (pool : PoolState) (side : Side) (text bytes : List ℕ) (said : NodeLine) (losses : List Device) → ReadsNodeLine bytes said
-    → StandsAfter pool side (Orders tells side (Some said) text losses) → StandsAfter pool side (OrdersLine tells side (line bytes) text losses)
-said_after pool side text bytes said losses reads after = record { kept = after.kept; done = (Some said, reads, after.done); stood = after.stood }
+pub said_after : {tells : Type 0} (pool : PoolState) (side : Side) (changed : List Hash32) (text bytes : List ℕ) (said : NodeLine) (losses : List Device) → ReadsNodeLine bytes said
+    → StandsAfter pool side changed (Orders tells side (Some said) text losses) → StandsAfter pool side changed (OrdersLine tells side (line bytes) text losses)
+said_after pool side changed text bytes said losses reads after = record { kept = after.kept; done = (Some said, reads, after.done); stood = after.stood; changes = after.changes }
 
 module _ {G A : Type 0} (of_ledger : ledgers.Ghosts G) (of_files : archives.Ghosts A) where
   -- ---- steps that are done
 
   -- a line that is only answered
-  pub answered : (old new : G) (a b : A) (side : Side) (pool : PoolState) (leads : List ℕ → List Device → Side → Type 0) (text : List ℕ) (found left : List Node)
-      → IsAt of_ledger of_files old pool a side → side.ahead ≡ [] → leads text [] side → found ≡ side.found → left ≡ [] → (of_files.tells → AllGrow (of_files.bytes a) (of_files.bytes b))
+  pub answered : (old new : G) (a b : A) (side : Side) (start : Chain) (pool : PoolState) (leads : List ℕ → List Device → Side → Type 0) (text : List ℕ) (found left : List Node)
+      (moved changed : List Hash32) → IsAt of_ledger of_files old pool a side start → side.ahead ≡ [] → leads text [] side → found ≡ side.found → left ≡ [] → (of_files.tells → AllGrow (of_files.bytes a) (of_files.bytes b))
       → Moved of_ledger old new side.chain side.chain → of_files.faults b ≡ of_files.faults a → of_ledger.faults new ≡ of_ledger.faults old
-      → Leads of_ledger of_files leads old new a b side text found left pool
-  answered old new a b side pool leads text found left at still led same none grows moved files_same disk_same = record {
+      → Leads of_ledger of_files leads old new a b side start text found left moved changed pool
+  answered old new a b side start pool leads text found left moved changed at still led same none grows went files_same disk_same = record {
     losses = [];
     next = side;
     led = led;
     found_is = same;
     ahead_is = none ∙ sym still;
     magic_is = refl;
+    next_start = start;
     set = at.set;
-    moved = moved;
+    touches = touches_none side side start moved changed refl refl;
+    went = went;
     told = λ t. grows_on side.files (of_files.bytes a) (of_files.bytes b) (at.told t) (grows t);
     rose = λ of_link. rose_of of_link _ _ _ _ [] refl (rose_still _ _ files_same) (rose_still _ _ disk_same);
   }
 
   -- one after which other transactions are kept
-  pub kept_leads : (old new : G) (a : A) (side : Side) (pool pool_new : PoolState) (leads : List ℕ → List Device → Side → Type 0) (text said : List ℕ) (found left : List Node)
-      → IsAt of_ledger of_files old pool a side → side.ahead ≡ [] → StandsAfter pool_new side (leads text []) → said ≡ text → found ≡ side.found → left ≡ [] → pool_new.limits ≡ pool.limits
+  pub kept_leads : (old new : G) (a : A) (side : Side) (start : Chain) (pool pool_new : PoolState) (leads : List ℕ → List Device → Side → Type 0) (text said : List ℕ) (found left : List Node)
+      (moved changed told : List Hash32) → IsAt of_ledger of_files old pool a side start → side.ahead ≡ [] → StandsAfter pool_new side changed (leads text []) → said ≡ text → found ≡ side.found → left ≡ []
+      → told ≡ changed → pool_new.limits ≡ pool.limits
       → Moved of_ledger old new side.chain side.chain → of_ledger.faults new ≡ of_ledger.faults old
-      → Leads of_ledger of_files leads old new a a side said found left pool_new
-  kept_leads old new a side pool pool_new leads text said found left at still after says same none limits moved disk_same = record {
+      → Leads of_ledger of_files leads old new a a side start said found left moved told pool_new
+  kept_leads old new a side start pool pool_new leads text said found left moved changed told at still after says same none tells limits went disk_same = record {
     losses = [];
     next = record side { kept = after.kept };
     led = rw says after.done;
     found_is = same;
     ahead_is = none ∙ sym still;
     magic_is = refl;
-    set = record { before = side.chain; stood = after.stood; still = λ e. refl; limits = limits ∙ at.set.limits };
-    moved = moved;
+    next_start = side.chain;
+    set = record { stood = after.stood; still = λ e. refl; limits = limits ∙ at.set.limits };
+    touches = touches_kept side start after.kept moved told (at.set.still still) (rw tells after.changes);
+    went = went;
     told = at.told;
     rose = λ of_link. rose_of of_link _ _ _ _ [] refl (rose_still _ _ refl) (rose_still _ _ disk_same);
   }
 
   -- what a step leads to it leads to in other words
-  pub leads_as : (old new : G) (a b : A) (side : Side) (P Q : List ℕ → List Device → Side → Type 0) (text : List ℕ) (found left : List Node) (pool : PoolState)
-      → ((losses : List Device) (next : Side) → P text losses next → Q text losses next) → Leads of_ledger of_files P old new a b side text found left pool
-      → Leads of_ledger of_files Q old new a b side text found left pool
-  leads_as old new a b side P Q text found left pool says l = record {
+  pub leads_as : (old new : G) (a b : A) (side : Side) (start : Chain) (P Q : List ℕ → List Device → Side → Type 0) (text : List ℕ) (found left : List Node) (moved changed : List Hash32) (pool : PoolState)
+      → ((losses : List Device) (next : Side) → P text losses next → Q text losses next) → Leads of_ledger of_files P old new a b side start text found left moved changed pool
+      → Leads of_ledger of_files Q old new a b side start text found left moved changed pool
+  leads_as old new a b side start P Q text found left moved changed pool says l = record {
     losses = l.losses;
     next = l.next;
     led = says l.losses l.next l.led;
     found_is = l.found_is;
     ahead_is = l.ahead_is;
     magic_is = l.magic_is;
+    next_start = l.next_start;
     set = l.set;
-    moved = l.moved;
+    touches = l.touches;
+    went = l.went;
     told = l.told;
     rose = l.rose;
   }
 
   -- also where the found headers have another name
-  pub leads_in : (old new : G) (a b : A) (side : Side) (P Q : List ℕ → List Device → Side → Type 0) (text : List ℕ) (found tree left : List Node) (pool : PoolState) → found ≡ tree
-      → ((losses : List Device) (next : Side) → P text losses next → Q text losses next) → Leads of_ledger of_files P old new a b side text found left pool
-      → Leads of_ledger of_files Q old new a b side text tree left pool
-  leads_in old new a b side P Q text found tree left pool same says l = rw same at (leads_as old new a b side P Q text found left pool says l)
+  pub leads_in : (old new : G) (a b : A) (side : Side) (start : Chain) (P Q : List ℕ → List Device → Side → Type 0) (text : List ℕ) (found tree left : List Node) (moved changed : List Hash32)
+      (pool : PoolState) → found ≡ tree
+      → ((losses : List Device) (next : Side) → P text losses next → Q text losses next) → Leads of_ledger of_files P old new a b side start text found left moved changed pool
+      → Leads of_ledger of_files Q old new a b side start text tree left moved changed pool
+  leads_in old new a b side start P Q text found tree left moved changed pool same says l =
+      rw same at (leads_as old new a b side start P Q text found left moved changed pool says l)
 
   -- a step after the ledger was asked
-  pub leads_on : (old mid new : G) (a b : A) (side : Side) (P : List ℕ → List Device → Side → Type 0) (text : List ℕ) (found left : List Node) (pool : PoolState)
+  pub leads_on : (old mid new : G) (a b : A) (side : Side) (start : Chain) (P : List ℕ → List Device → Side → Type 0) (text : List ℕ) (found left : List Node) (moved changed : List Hash32) (pool : PoolState)
       → LeavesOwn of_ledger → of_ledger.is_live old → Asked of_ledger old mid → of_ledger.faults mid ≡ of_ledger.faults old → of_ledger.stands old side.chain
-      → Leads of_ledger of_files P mid new a b side text found left pool → Leads of_ledger of_files P old new a b side text found left pool
-  leads_on old mid new a b side P text found left pool own live asked same stood l = record {
+      → Leads of_ledger of_files P mid new a b side start text found left moved changed pool → Leads of_ledger of_files P old new a b side start text found left moved changed pool
+  leads_on old mid new a b side start P text found left moved changed pool own live asked same stood l = record {
     losses = l.losses;
     next = l.next;
     led = l.led;
     found_is = l.found_is;
     ahead_is = l.ahead_is;
     magic_is = l.magic_is;
+    next_start = l.next_start;
     set = l.set;
-    moved = moved_then of_ledger old mid new side.chain l.next.chain own live asked stood l.moved;
+    touches = l.touches;
+    went = moved_then of_ledger old mid new side.chain l.next.chain own live asked stood l.went;
     told = l.told;
     rose = rw same at l.rose;
   }
@@ -292,18 +324,21 @@ module _ {A : Type 0} (of_files : archives.Ghosts A) where
 
 module _ {G A : Type 0} (of_ledger : ledgers.Ghosts G) (of_files : archives.Ghosts A) where
   -- a line that tells a place
-  pub block_leads : (l : G) (a b : A) (side : Side) (pool : PoolState) (bytes : List ℕ) (file at : ℕ) (text said : List ℕ) (tree left : List Node) → IsAt of_ledger of_files l pool a side → side.ahead ≡ []
+  pub block_leads : (l : G) (a b : A) (side : Side) (start : Chain) (pool : PoolState) (bytes : List ℕ) (file at : ℕ) (text said : List ℕ) (tree left : List Node) (moved changed : List Hash32)
+      → IsAt of_ledger of_files l pool a side start → side.ahead ≡ []
       → ReadsNodeLine bytes (line_said.block file at) → Looked of_files a b side file at text tree → said ≡ text → left ≡ [] → Moved of_ledger l l side.chain side.chain
-      → Leads of_ledger of_files (OrdersLine of_files.tells side (line bytes)) l l a b side said tree left pool
-  block_leads l a b side pool bytes file at text said tree left here still reads looked says none moved = record {
+      → Leads of_ledger of_files (OrdersLine of_files.tells side (line bytes)) l l a b side start said tree left moved changed pool
+  block_leads l a b side start pool bytes file at text said tree left moved changed here still reads looked says none went = record {
     losses = looked.losses;
     next = record side { found = tree; files = of_files.bytes b };
     led = (Some (line_said.block file at), reads, rw says looked.looks);
     magic_is = refl;
     found_is = refl;
     ahead_is = none ∙ sym still;
-    set = record { before = side.chain; stood = stands_there pool side here.set still; still = λ e. refl; limits = here.set.limits };
-    moved = moved;
+    next_start = start;
+    set = record { stood = here.set.stood; still = here.set.still; limits = here.set.limits };
+    touches = touches_none side (record side { found = tree; files = of_files.bytes b }) start moved changed refl refl;
+    went = went;
     told = λ t. all_grow_self (of_files.bytes b);
     rose = λ of_link. rose_of of_link _ _ _ _ looked.losses (archive_alone link looked.looks (λ e. cc)) looked.rose
         (rw (archive_alone disk looked.looks (λ e. cc)) (rose_still _ _ refl));
@@ -316,12 +351,13 @@ module _ {G A : Type 0} (of_ledger : ledgers.Ghosts G) (of_files : archives.Ghos
       archive_alone archive (side_of.fails files g says' is lost) other = absurd (other refl)
 
   -- one that is refused as none of a node: it says nothing, or something that is refused
-  pub refused_leads : (r : Result Step StepFault) (l : G) (a : A) (side : Side) (pool : PoolState) (bytes : List ℕ) (said : Option NodeLine) (tree : List Node) → IsAt of_ledger of_files l pool a side → side.ahead ≡ []
+  pub refused_leads : (r : Result Step StepFault) (l : G) (a : A) (side : Side) (start : Chain) (pool : PoolState) (bytes : List ℕ) (said : Option NodeLine) (tree : List Node)
+      → IsAt of_ledger of_files l pool a side start → side.ahead ≡ []
       → side.found ≡ tree → IsSaid bytes said → ((text : List ℕ) → text ≡ line_refused → Orders of_files.tells side said text [] side) → IfOk r (λ s. s.text ≡ line_refused) → IfOk r (λ s. s.left ≡ [])
-      → Moved of_ledger l l side.chain side.chain → IfOk r (λ s. Leads of_ledger of_files (OrdersLine of_files.tells side (line bytes)) l l a a side s.text tree s.left pool)
-  refused_leads (Err e) l a side pool bytes said tree here still same is orders says none moved = tt
-  refused_leads (Ok s) l a side pool bytes said tree here still same is orders says none moved =
-      answered of_ledger of_files l l a a side pool (OrdersLine of_files.tells side (line bytes)) s.text tree s.left here still (said, is, orders s.text says) (sym same) none
+      → Moved of_ledger l l side.chain side.chain → IfOk r (λ s. Leads of_ledger of_files (OrdersLine of_files.tells side (line bytes)) l l a a side start s.text tree s.left s.moved s.changed pool)
+  refused_leads (Err e) l a side start pool bytes said tree here still same is orders says none moved = tt
+  refused_leads (Ok s) l a side start pool bytes said tree here still same is orders says none moved =
+      answered of_ledger of_files l l a a side start pool (OrdersLine of_files.tells side (line bytes)) s.text tree s.left s.moved s.changed here still (said, is, orders s.text says) (sym same) none
       (λ t. all_grow_self (of_files.bytes a)) moved refl refl
 
 -- ---- what every step keeps

@@ -1,7 +1,7 @@
 -- Moves, and the sift after them.
 use Rattle.std.proofs.lemmas.List.{take_all}
 use Rattle.std.specs.Prelude.{if◌then◌else◌}
-use Rattle.std.proofs.Common.{◌≡◌, ◌≢◌, ◌⊎◌, inl, inr, ℕ, ◌-◌, ◌≤◌, ◌==◌, ◌&&◌, ◌||◌, arith, Bool, true, false, List, [], ◌∷◌, ◌++◌, length, take, Option, Result, Ok, Err, refl, sym, ◌∙◌, eqb-true}
+use Rattle.std.proofs.Common.{◌≡◌, ◌≢◌, ◌⊎◌, inl, inr, ℕ, ◌-◌, ◌<◌, ◌≤◌, ◌==◌, ◌&&◌, ◌||◌, arith, Bool, true, false, List, [], ◌∷◌, ◌++◌, length, take, Option, Result, Ok, Err, refl, sym, ap, ◌∙◌, eqb-true}
 use Rattle.std.specs.Result.{IfErr}
 use Rattle.el_base.specs.declared.hash.Hash32.{Hash32}
 use Rattle.el_outside.specs.Counts.{RoseBy}
@@ -19,7 +19,8 @@ use Rattle.el_chain.specs.Chains.{Chain, tip}
 use Rattle.el_chain.specs.Headers.{AreLinked}
 use Rattle.el_chain.specs.Moves.{InFlight, IsRefused, Moves, target, shorter, max_forward}
 use Rattle.el_mempool.specs.Sift.{sift}
-use Rattle.el_mempool.specs.Standing.{PoolState, StandsFor}
+use Rattle.el_chain.specs.Touches.{AreTouched}
+use Rattle.el_mempool.specs.Standing.{AreChanged, PoolState, StandsFor}
 use Rattle.el_model.specs.Keeping.{Either}
 use Rattle.el_model.specs.LedgerCalls.{Asked, CrashLeaves, Moved, failed_calls}
 use Rattle.el_model.specs.Queries.{tip_of, height_of}
@@ -31,7 +32,12 @@ use Rattle.el_world.specs.Flights.{IsUnderWay, before, in_move}
 use Rattle.el_world.specs.Plans.{left_of, plan_of}
 use Rattle.el_world.specs.Side as side_of
 use Rattle.el_world.specs.Side.{Side, Moving, kept_after}
-use Rattle.el_world.specs.NodeSteps.{IsAt, Leads, SetStands}
+use Rattle.el_touched.specs.Untouched.{KeepsOthers}
+use Rattle.el_touched.proofs.Sides.{looks_joined, looks_self, move_keeps}
+use Rattle.el_touched.proofs.Stays.{status_stays}
+use Rattle.el_status.specs.Statuses.{status}
+use Rattle.el_tx.specs.declared.types.Tx.{Tx}
+use Rattle.el_world.specs.NodeSteps.{IsAt, Leads, SetStands, Touches}
 use Rattle.el_sync.specs.Steps.{FailsBy, NodeStep, RoseWith, StopsAt, by_disk, by_memory, in_sift, untold}
 use Rattle.el_sync.specs.within.Parts.{MoveFailed, MoveKeeps, SaysRefusal, Tried, Tries, made, refused, failed}
 use Rattle.el_sync.specs.declared.fault.StepFault.{StepFault}
@@ -39,7 +45,7 @@ use Rattle.el_sync.specs.declared.fault.StepFault.TheVariants as fault
 use Rattle.el_sync.specs.declared.making.Made.{Made}
 use Rattle.el_sync.specs.declared.moving.Step.{Step}
 use Rattle.el_sync.proofs.Led.{all_grow_self, grows_on, stands_there, still_there}
-use Rattle.el_sync.proofs.Lists.{left_no_more}
+use Rattle.el_sync.proofs.Lists.{left_fewer, left_no_more, none_fewer}
 
 -- ---- whether the set is sifted
 
@@ -66,24 +72,57 @@ later_then front moved later ends is ended no_moved = by (length front == 0) (sy
     by true e = rw no_moved at e
     by false e = absurd (let bad = e in cc)
 
--- ---- what the set then stands for
+-- ---- what the set then stands for, and what was touched
 
-set_moved : (l : List Node) (chain : Chain) (files : ℕ → List ℕ) (pool pool_new : PoolState) (side : Side) → SetStands pool side → pool_new.limits ≡ pool.limits
+-- the start of the line, once a move left these blocks to put in: with the last one the line ends
+abbrev start_after : List Node → Chain → Chain → Chain
+start_after [] chain start = chain
+start_after (n ∷ ns) chain start = start
+
+set_moved : (l : List Node) (chain start : Chain) (files : ℕ → List ℕ) (pool pool_new : PoolState) (side : Side) → SetStands pool side start → pool_new.limits ≡ pool.limits
     → (l ≡ [] → StandsFor pool_new.entries chain (sift chain side.kept)) → ((n : Node) (ns : List Node) → l ≡ n ∷ ns → pool_new ≡ pool)
-    → SetStands pool_new (record side { chain = chain; kept = kept_after l chain side.kept; ahead = l; files = files })
-set_moved [] chain files pool pool_new side set limits sifts same =
-    record { before = chain; stood = sifts refl; still = λ e. refl; limits = limits ∙ set.limits }
-set_moved (n ∷ ns) chain files pool pool_new side set limits sifts same =
-    record { before = set.before; stood = rw (same n ns refl) set.stood; still = λ e. absurd (let bad = e in cc); limits = limits ∙ set.limits }
+    → SetStands pool_new (record side { chain = chain; kept = kept_after l chain side.kept; ahead = l; files = files }) (start_after l chain start)
+set_moved [] chain start files pool pool_new side set limits sifts same =
+    record { stood = sifts refl; still = λ e. refl; limits = limits ∙ set.limits }
+set_moved (n ∷ ns) chain start files pool pool_new side set limits sifts same =
+    record { stood = rw (same n ns refl) set.stood; still = λ e. absurd (let bad = e in cc); limits = limits ∙ set.limits }
 
-set_refused : (later : Bool) (files : ℕ → List ℕ) (pool pool_new : PoolState) (side : Side) → SetStands pool side → (later ≡ false → side.ahead ≡ []) → pool_new.limits ≡ pool.limits
+touches_moved : (l : List Node) (chain start : Chain) (files : ℕ → List ℕ) (side : Side) (moved changed : List Hash32) → KeepsOthers side.chain chain moved
+    → (l ≡ [] → AreChanged start side.kept chain (sift chain side.kept) changed)
+    → Touches side start (record side { chain = chain; kept = kept_after l chain side.kept; ahead = l; files = files }) (start_after l chain start) moved changed
+touches_moved [] chain start files side moved changed keeps change = record {
+  status_stays = λ s out apart looks.
+      status_stays start chain side.kept (sift chain side.kept) changed s (looks_joined start side.chain chain s.0 looks (keeps s out)) (change refl) apart;
+  looks = λ s out apart looks. looks_self chain s.0;
+}
+touches_moved (n ∷ ns) chain start files side moved changed keeps change = record {
+  status_stays = λ s out apart looks. refl;
+  looks = λ s out apart looks. looks_joined start side.chain chain s.0 looks (keeps s out);
+}
+
+set_refused : (later : Bool) (start : Chain) (files : ℕ → List ℕ) (pool pool_new : PoolState) (side : Side) → SetStands pool side start → (later ≡ false → side.ahead ≡ []) → pool_new.limits ≡ pool.limits
     → (later ≡ true → StandsFor pool_new.entries side.chain (sift side.chain side.kept)) → (later ≡ false → pool_new ≡ pool)
-    → SetStands pool_new (record side { kept = sift side.chain side.kept; ahead = []; files = files })
-set_refused true files pool pool_new side set still limits sifts same =
-    record { before = side.chain; stood = sifts refl; still = λ e. refl; limits = limits ∙ set.limits }
-set_refused false files pool pool_new side set still limits sifts same =
-    let there = stands_there pool side set (still refl) in
-    record { before = side.chain; stood = rw (same refl, there.sifted) there; still = λ e. refl; limits = limits ∙ set.limits }
+    → SetStands pool_new (record side { kept = sift side.chain side.kept; ahead = []; files = files }) side.chain
+set_refused true start files pool pool_new side set still limits sifts same =
+    record { stood = sifts refl; still = λ e. refl; limits = limits ∙ set.limits }
+set_refused false start files pool pool_new side set still limits sifts same =
+    let there = stands_there pool side start set (still refl) in
+    record { stood = rw (same refl, there.sifted) there; still = λ e. refl; limits = limits ∙ set.limits }
+
+touches_refused : (later : Bool) (start : Chain) (files : ℕ → List ℕ) (pool : PoolState) (side : Side) (moved changed : List Hash32) → SetStands pool side start → (later ≡ false → side.ahead ≡ [])
+    → (later ≡ true → AreChanged start side.kept side.chain (sift side.chain side.kept) changed)
+    → Touches side start (record side { kept = sift side.chain side.kept; ahead = []; files = files }) side.chain moved changed
+touches_refused true start files pool side moved changed set still change = record {
+  status_stays = λ s out apart looks. status_stays start side.chain side.kept (sift side.chain side.kept) changed s looks (change refl) apart;
+  looks = λ s out apart looks. looks_self side.chain s.0;
+}
+touches_refused false start files pool side moved changed set still change =
+    let there = stands_there pool side start set (still refl) in
+    record {
+      status_stays = λ s out apart looks.
+          ap (λ (kept : List Tx). status side.chain kept s.0) there.sifted ∙ ap (λ (c : Chain). status c side.kept s.0) (sym (set.still (still refl)));
+      looks = λ s out apart looks. looks_self side.chain s.0;
+    }
 
 -- by how much the count of the block files' failures rose where a refusal wasn't told
 pub files_rose : (f : MoveFault) (e : StepFault) (a b : ℕ) → (f ≡ stop.ArchiveFailed → RoseBy a b 1) → (f ≢ stop.ArchiveFailed → b ≡ a) → (e ≡ fault.DiskFailed → f ≡ stop.DiskFailed)
@@ -100,6 +139,11 @@ files_rose (stop.Refused h g) fault.Memory a b counted others is_disk = inl (ros
 pub made_no_more : (moved : Bool) (rest left : List Node) → left ≡ (if moved then left_of rest else []) → length left ≤ length rest
 made_no_more true rest left is = left_no_more rest left is
 made_no_more false rest left is = rw is (omega arith)
+
+-- and fewer where there were any
+pub made_fewer : (moved : Bool) (rest left : List Node) → left ≡ (if moved then left_of rest else []) → rest ≢ [] → length left < length rest
+made_fewer true rest left is some = left_fewer rest left is some
+made_fewer false rest left is some = none_fewer rest left is some
 
 -- a later move takes no block back
 pub fits_whole : (chain : Chain) (rest : List Node) → AreLinked (tip chain) rest → (0 ≤ length chain) × AreLinked (tip (shorter 0 chain)) rest
@@ -130,19 +174,19 @@ module _ {G A : Type 0} (of_ledger : ledgers.Ghosts G) (of_files : archives.Ghos
 
   -- ---- moves
 
-  -- a move that is made; P is what else is known of its blocks
-  pub made_tries : (old new : G) (a b : A) (side : Side) (back : ℕ) (rest forward : List Node) (top : Option Hash32) (height : Option ℕ) (m : Made) (P : Chain → Type 0)
+  -- a move that is made
+  pub made_tries : (old new : G) (a b : A) (side : Side) (back : ℕ) (rest forward : List Node) (top : Option Hash32) (height : Option ℕ) (m : Made)
       → (of_files.tells → AllGrow side.files (of_files.bytes a)) → (of_files.tells → AllGrow (of_files.bytes a) (of_files.bytes b))
       → (blocks : Chain) × Moves of_files.tells (of_files.bytes b) side.chain (record { back = back; forward = forward }) blocks
-      × of_ledger.stands new (target (record { back = back; forward = forward }) side.chain blocks) × P blocks
+      × of_ledger.stands new (target (record { back = back; forward = forward }) side.chain blocks) × AreTouched (record { back = back; forward = forward }) side.chain blocks m.touched
       × CrashLeaves of_ledger old new side.chain (target (record { back = back; forward = forward }) side.chain blocks)
       → forward ≡ take max_forward rest → ((c : Chain) → of_ledger.stands new c → top ≡ tip_of c) → ((c : Chain) → of_ledger.stands new c → height ≡ height_of c)
       → m.moved ≡ true → m.text ≡ at_answer top height → of_files.faults b ≡ of_files.faults a → of_ledger.faults new ≡ of_ledger.faults old
       → Tries of_ledger of_files old new a b side back rest m
-  made_tries old new a b side back rest forward top height m P told grows moved is tip_is height_is yes_moved text_is files_same disk_same = record {
+  made_tries old new a b side back rest forward top height m told grows moved is tip_is height_is yes_moved text_is files_same disk_same = record {
     losses = [];
     chain = shorter back side.chain ++ moved.0;
-    tried = made moved.0 (rw is at moved.1) yes_moved refl (rw (← tip_is (shorter back side.chain ++ moved.0) moved.2, ← height_is (shorter back side.chain ++ moved.0) moved.2) text_is) refl;
+    tried = made moved.0 (rw is at moved.1) (rw is at moved.3) yes_moved refl (rw (← tip_is (shorter back side.chain ++ moved.0) moved.2, ← height_is (shorter back side.chain ++ moved.0) moved.2) text_is) refl;
     grows = λ t. grows_on side.files (of_files.bytes a) (of_files.bytes b) (told t) (grows t);
     moved = record { stood = moved.2; crash = moved.4 };
     rose = λ of_link. rose_of of_link _ _ _ _ [] refl (rose_still _ _ files_same) (rose_still _ _ disk_same);
@@ -151,7 +195,7 @@ module _ {G A : Type 0} (of_ledger : ledgers.Ghosts G) (of_files : archives.Ghos
   -- one that is refused
   refused_tries : (old new : G) (a b : A) (side : Side) (back : ℕ) (rest : List Node) (m : Made) (losses : List Device)
       → (of_files.tells → AllGrow side.files (of_files.bytes a)) → (of_files.tells → AllGrow (of_files.bytes a) (of_files.bytes b)) → Moved of_ledger old new side.chain side.chain
-      → Tried of_files.tells side back rest m.moved m.text losses side.chain (of_files.bytes b)
+      → Tried of_files.tells side back rest m.moved m.text m.touched losses side.chain (of_files.bytes b)
       → ((of_link : ℕ) → Rose (failed_calls of_ledger of_files of_link old a) (failed_calls of_ledger of_files of_link new b) losses)
       → Tries of_ledger of_files old new a b side back rest m
   refused_tries old new a b side back rest m losses told grows moved tried rose = record {
@@ -167,20 +211,20 @@ module _ {G A : Type 0} (of_ledger : ledgers.Ghosts G) (of_files : archives.Ghos
       → (of_files.tells → AllGrow side.files (of_files.bytes a)) → (of_files.tells → AllGrow (of_files.bytes a) (of_files.bytes b)) → Moved of_ledger old new side.chain side.chain
       → IsRefused of_files.tells (of_files.bytes b) side.chain (record { back = back; forward = forward }) e → forward ≡ take max_forward rest
       → (e ≡ stop.ArchiveFailed → RoseBy (of_files.faults a) (of_files.faults b) 1) → (e ≢ stop.ArchiveFailed → of_files.faults b ≡ of_files.faults a)
-      → of_ledger.faults new ≡ of_ledger.faults old → m.moved ≡ false → SaysRefusal e m.text → Tries of_ledger of_files old new a b side back rest m
-  not_made old new a b side back rest forward stop.DiskFailed m told grows moved why is count still disk_same none says = absurd says
-  not_made old new a b side back rest forward stop.Memory m told grows moved why is count still disk_same none says = absurd says
-  not_made old new a b side back rest forward stop.ArchiveFailed m told grows moved why is count still disk_same none says =
-      refused_tries old new a b side back rest m (archive ∷ []) told grows moved (failed none refl says refl)
+      → of_ledger.faults new ≡ of_ledger.faults old → m.moved ≡ false → SaysRefusal e m.text → m.touched ≡ [] → Tries of_ledger of_files old new a b side back rest m
+  not_made old new a b side back rest forward stop.DiskFailed m told grows moved why is count still disk_same none says apart = absurd says
+  not_made old new a b side back rest forward stop.Memory m told grows moved why is count still disk_same none says apart = absurd says
+  not_made old new a b side back rest forward stop.ArchiveFailed m told grows moved why is count still disk_same none says apart =
+      refused_tries old new a b side back rest m (archive ∷ []) told grows moved (failed none refl says apart refl)
       (λ of_link. rose_of of_link _ _ _ _ (archive ∷ []) refl (count refl) (rose_still _ _ disk_same))
-  not_made old new a b side back rest forward (stop.Changed w f) m told grows moved why is count still disk_same none says =
-      refused_tries old new a b side back rest m [] told grows moved (refused (stop.Changed w f) (rw is at why) none refl says refl)
+  not_made old new a b side back rest forward (stop.Changed w f) m told grows moved why is count still disk_same none says apart =
+      refused_tries old new a b side back rest m [] told grows moved (refused (stop.Changed w f) (rw is at why) none refl says apart refl)
       (λ of_link. rose_of of_link _ _ _ _ [] refl (rose_still _ _ (still (λ e. let bad = e in cc))) (rose_still _ _ disk_same))
-  not_made old new a b side back rest forward (stop.BadBlock h f) m told grows moved why is count still disk_same none says =
-      refused_tries old new a b side back rest m [] told grows moved (refused (stop.BadBlock h f) (rw is at why) none refl says refl)
+  not_made old new a b side back rest forward (stop.BadBlock h f) m told grows moved why is count still disk_same none says apart =
+      refused_tries old new a b side back rest m [] told grows moved (refused (stop.BadBlock h f) (rw is at why) none refl says apart refl)
       (λ of_link. rose_of of_link _ _ _ _ [] refl (rose_still _ _ (still (λ e. let bad = e in cc))) (rose_still _ _ disk_same))
-  not_made old new a b side back rest forward (stop.Refused h f) m told grows moved why is count still disk_same none says =
-      refused_tries old new a b side back rest m [] told grows moved (refused (stop.Refused h f) (rw is at why) none refl says refl)
+  not_made old new a b side back rest forward (stop.Refused h f) m told grows moved why is count still disk_same none says apart =
+      refused_tries old new a b side back rest m [] told grows moved (refused (stop.Refused h f) (rw is at why) none refl says apart refl)
       (λ of_link. rose_of of_link _ _ _ _ [] refl (rose_still _ _ (still (λ e. let bad = e in cc))) (rose_still _ _ disk_same))
 
   -- the ledger's device failed in a move, or no memory was found to tell of its refusal
@@ -225,24 +269,26 @@ module _ {G A : Type 0} (of_ledger : ledgers.Ghosts G) (of_files : archives.Ghos
   }
 
   -- the set was sifted, or a later move is to do it
-  pub settled : (old mid new : G) (a b : A) (side : Side) (back : ℕ) (rest : List Node) (pool pool_new : PoolState) (m : Made) (later ends : Bool) → LeavesOwn of_ledger → of_ledger.is_live mid
-      → IsAt of_ledger of_files old pool a side → (later ≡ false → side.ahead ≡ []) → Tries of_ledger of_files old mid a b side back rest m → MoveKeeps of_ledger of_files old mid a b rest m
+  pub settled : (old mid new : G) (a b : A) (side : Side) (start : Chain) (back : ℕ) (rest : List Node) (pool pool_new : PoolState) (m : Made) (changed : List Hash32) (later ends : Bool) → LeavesOwn of_ledger → of_ledger.is_live mid
+      → IsAt of_ledger of_files old pool a side start → (later ≡ false → side.ahead ≡ []) → Tries of_ledger of_files old mid a b side back rest m → MoveKeeps of_ledger of_files old mid a b rest m
       → ends ≡ ((length m.left == 0) && (m.moved || later))
-      → ((first chain : Chain) → StandsFor pool.entries first side.kept → of_ledger.stands mid chain → ends ≡ true → StandsFor pool_new.entries chain (sift chain side.kept))
+      → ((first chain : Chain) → StandsFor pool.entries first side.kept → of_ledger.stands mid chain → ends ≡ true → StandsFor pool_new.entries chain (sift chain side.kept)
+      × AreChanged first side.kept chain (sift chain side.kept) changed)
       → (ends ≡ false → pool_new ≡ pool) → pool_new.limits ≡ pool.limits → Asked of_ledger mid new → of_ledger.faults new ≡ of_ledger.faults mid
-      → Leads of_ledger of_files (Moving of_files.tells side back rest) old new a b side m.text side.found m.left pool_new
-  settled old mid new a b side back rest pool pool_new m later ends own live at still t k is sifts same limits asked disk_same = by t.tried t.moved t.rose
+      → Leads of_ledger of_files (Moving of_files.tells side back rest) old new a b side start m.text side.found m.left m.touched changed pool_new
+  settled old mid new a b side start back rest pool pool_new m changed later ends own live at still t k is sifts same limits asked disk_same = by t.tried t.moved t.rose
     where
       rose_on : (losses : List Device) → ((of_link : ℕ) → Rose (failed_calls of_ledger of_files of_link old a) (failed_calls of_ledger of_files of_link mid b) losses)
           → (of_link : ℕ) → Rose (failed_calls of_ledger of_files of_link old a) (failed_calls of_ledger of_files of_link new b) losses
       rose_on losses rose of_link = rw disk_same (rose of_link)
 
-      by : {losses : List Device} {chain : Chain} → Tried of_files.tells side back rest m.moved m.text losses chain (of_files.bytes b) → Moved of_ledger old mid side.chain chain
+      by : {losses : List Device} {chain : Chain} → Tried of_files.tells side back rest m.moved m.text m.touched losses chain (of_files.bytes b) → Moved of_ledger old mid side.chain chain
           → ((of_link : ℕ) → Rose (failed_calls of_ledger of_files of_link old a) (failed_calls of_ledger of_files of_link mid b) losses)
-          → Leads of_ledger of_files (Moving of_files.tells side back rest) old new a b side m.text side.found m.left pool_new
-      by {losses} {chain} (made blocks moves yes_moved chain_is text_is lost) moved rose =
+          → Leads of_ledger of_files (Moving of_files.tells side back rest) old new a b side start m.text side.found m.left m.touched changed pool_new
+      by {losses} {chain} (made blocks moves touched yes_moved chain_is text_is lost) moved rose =
           let left_is : m.left ≡ left_of rest = k.left ∙ rw yes_moved refl in
           let stood : of_ledger.stands mid (shorter back side.chain ++ blocks) = rw chain_is at moved.stood in
+          let ended : left_of rest ≡ [] → ends ≡ true = λ none. ends_whole (left_of rest) m.left m.moved later ends is yes_moved left_is none in
           record {
             losses = losses;
             next = record side {
@@ -255,14 +301,16 @@ module _ {G A : Type 0} (of_ledger : ledgers.Ghosts G) (of_files : archives.Ghos
             found_is = refl;
             ahead_is = left_is;
             magic_is = refl;
-            set = set_moved (left_of rest) (shorter back side.chain ++ blocks) (of_files.bytes b) pool pool_new side at.set limits
-                (λ none. sifts at.set.before (shorter back side.chain ++ blocks) at.set.stood stood (ends_whole (left_of rest) m.left m.moved later ends is yes_moved left_is none))
-                (λ n ns some. same (ends_not n ns m.left m.moved later ends is (left_is ∙ some)));
-            moved = then_asked old mid new side.chain (shorter back side.chain ++ blocks) own live (rw chain_is at moved) asked;
+            next_start = start_after (left_of rest) (shorter back side.chain ++ blocks) start;
+            set = set_moved (left_of rest) (shorter back side.chain ++ blocks) start (of_files.bytes b) pool pool_new side at.set limits
+                (λ none. (sifts start (shorter back side.chain ++ blocks) at.set.stood stood (ended none)).0) (λ n ns some. same (ends_not n ns m.left m.moved later ends is (left_is ∙ some)));
+            touches = touches_moved (left_of rest) (shorter back side.chain ++ blocks) start (of_files.bytes b) side m.touched changed
+                (move_keeps (plan_of back rest) side.chain blocks m.touched touched) (λ none. (sifts start (shorter back side.chain ++ blocks) at.set.stood stood (ended none)).1);
+            went = then_asked old mid new side.chain (shorter back side.chain ++ blocks) own live (rw chain_is at moved) asked;
             told = λ t. all_grow_self (of_files.bytes b);
             rose = rose_on losses rose;
           }
-      by {losses} {chain} (refused e why no_moved chain_is says lost) moved rose =
+      by {losses} {chain} (refused e why no_moved chain_is says apart lost) moved rose =
           let left_is : m.left ≡ [] = k.left ∙ rw no_moved refl in
           let ended = ends_later m.left m.moved later ends is no_moved left_is in
           let moved_on : Moved of_ledger old mid side.chain side.chain = rw chain_is at moved in
@@ -273,13 +321,16 @@ module _ {G A : Type 0} (of_ledger : ledgers.Ghosts G) (of_files : archives.Ghos
             found_is = refl;
             ahead_is = left_is;
             magic_is = refl;
-            set = set_refused later (of_files.bytes b) pool pool_new side at.set still limits
-                (λ yes_later. sifts at.set.before side.chain at.set.stood moved_on.stood (ended ∙ yes_later)) (λ no_later. same (ended ∙ no_later));
-            moved = then_asked old mid new side.chain side.chain own live moved_on asked;
+            next_start = side.chain;
+            set = set_refused later start (of_files.bytes b) pool pool_new side at.set still limits
+                (λ yes_later. (sifts start side.chain at.set.stood moved_on.stood (ended ∙ yes_later)).0) (λ no_later. same (ended ∙ no_later));
+            touches = touches_refused later start (of_files.bytes b) pool side m.touched changed at.set still
+                (λ yes_later. (sifts start side.chain at.set.stood moved_on.stood (ended ∙ yes_later)).1);
+            went = then_asked old mid new side.chain side.chain own live moved_on asked;
             told = λ t. all_grow_self (of_files.bytes b);
             rose = rose_on losses rose;
           }
-      by {losses} {chain} (failed no_moved chain_is says lost) moved rose =
+      by {losses} {chain} (failed no_moved chain_is says apart lost) moved rose =
           let left_is : m.left ≡ [] = k.left ∙ rw no_moved refl in
           let ended = ends_later m.left m.moved later ends is no_moved left_is in
           let moved_on : Moved of_ledger old mid side.chain side.chain = rw chain_is at moved in
@@ -290,9 +341,12 @@ module _ {G A : Type 0} (of_ledger : ledgers.Ghosts G) (of_files : archives.Ghos
             found_is = refl;
             ahead_is = left_is;
             magic_is = refl;
-            set = set_refused later (of_files.bytes b) pool pool_new side at.set still limits
-                (λ yes_later. sifts at.set.before side.chain at.set.stood moved_on.stood (ended ∙ yes_later)) (λ no_later. same (ended ∙ no_later));
-            moved = then_asked old mid new side.chain side.chain own live moved_on asked;
+            next_start = side.chain;
+            set = set_refused later start (of_files.bytes b) pool pool_new side at.set still limits
+                (λ yes_later. (sifts start side.chain at.set.stood moved_on.stood (ended ∙ yes_later)).0) (λ no_later. same (ended ∙ no_later));
+            touches = touches_refused later start (of_files.bytes b) pool side m.touched changed at.set still
+                (λ yes_later. (sifts start side.chain at.set.stood moved_on.stood (ended ∙ yes_later)).1);
+            went = then_asked old mid new side.chain side.chain own live moved_on asked;
             told = λ t. all_grow_self (of_files.bytes b);
             rose = rose_on losses rose;
           }
@@ -335,13 +389,13 @@ module _ {G A : Type 0} (of_ledger : ledgers.Ghosts G) (of_files : archives.Ghos
       after_files fault.DiskFailed yes_later = in_sift yes_later refl refl refl
       after_files fault.Memory yes_later = untold refl refl refl
 
-      by : {losses : List Device} {chain : Chain} → Tried of_files.tells side back rest m.moved m.text losses chain (of_files.bytes b) → Moved of_ledger old mid side.chain chain
+      by : {losses : List Device} {chain : Chain} → Tried of_files.tells side back rest m.moved m.text m.touched losses chain (of_files.bytes b) → Moved of_ledger old mid side.chain chain
           → ((of_link : ℕ) → Rose (failed_calls of_ledger of_files of_link old a) (failed_calls of_ledger of_files of_link mid b) losses)
           → StopsAt of_ledger of_files old new a b side.chain later (λ (p : Plan). p ≡ plan_of back rest) e
-      by {losses} {chain} (made blocks moves yes_moved chain_is text_is lost) moved rose =
+      by {losses} {chain} (made blocks moves touched yes_moved chain_is text_is lost) moved rose =
           stops losses chain (in_move (plan_of back rest) refl (inr (blocks, moves, chain_is))) moved rose (rw lost (alone e chain))
-      by {losses} {chain} (refused f why no_moved chain_is says lost) moved rose = stops losses chain (before chain_is) moved rose (rw lost (alone e chain))
-      by {losses} {chain} (failed no_moved chain_is says lost) moved rose = stops losses chain (before chain_is) moved rose (rw (lost, chain_is) (after_files e (only no_moved)))
+      by {losses} {chain} (refused f why no_moved chain_is says apart lost) moved rose = stops losses chain (before chain_is) moved rose (rw lost (alone e chain))
+      by {losses} {chain} (failed no_moved chain_is says apart lost) moved rose = stops losses chain (before chain_is) moved rose (rw (lost, chain_is) (after_files e (only no_moved)))
 
   -- ---- what the step keeps
 
@@ -375,9 +429,9 @@ module _ {G A : Type 0} (of_ledger : ledgers.Ghosts G) (of_files : archives.Ghos
   more_files a b P (inl none) = omega (arith, none)
   more_files a b P (inr one) = omega (arith, one.1)
 
-  pub step_settled : (text : List ℕ) (old mid new : G) (a b : A) (rest : List Node) (m : Made) (later : Bool) → MoveKeeps of_ledger of_files old mid a b rest m → Asked of_ledger mid new
-      → of_ledger.faults new ≡ of_ledger.faults mid → NodeStep of_ledger of_files old new a b later (Ok (record { text = text; left = m.left }))
-  step_settled text old mid new a b rest m later k asked disk_same = record {
+  pub step_settled : (text : List ℕ) (moved changed : List Hash32) (old mid new : G) (a b : A) (rest : List Node) (m : Made) (later : Bool) → MoveKeeps of_ledger of_files old mid a b rest m → Asked of_ledger mid new
+      → of_ledger.faults new ≡ of_ledger.faults mid → NodeStep of_ledger of_files old new a b later (Ok (record { text = text; left = m.left; moved = moved; changed = changed }))
+  step_settled text moved changed old mid new a b rest m later k asked disk_same = record {
     live = asked.stays.still_live k.live;
     still_live = λ bad. absurd (let e = bad in cc);
     nodes = k.nodes;

@@ -12,12 +12,22 @@ ghost use Rattle.el_sync.specs.within.Parts.{NamesItself, StandsAfter};
 
 use crate::fault::StepFault;
 use el_base::{Bytes, Hash32};
+use el_chain::Touched;
 use el_lines::{absent_refused, gone_answer, pool_refused, tx_answer};
 use el_mempool::PoolFault;
 use el_model::Ledger;
 use el_pool::Pool;
 use el_tx::{decode_tx, txid};
 use std::alloc::Global;
+
+/// What a line about an unconfirmed transaction leaves.
+#[derive(Debug, Drop)]
+pub struct PoolAnswer {
+    /// What the node is answered.
+    pub text: Bytes,
+    /// The script hashes of which another thing is seen in the set, each once.
+    pub changed: Touched,
+}
 
 // The txid of the transaction that the bytes encode, which was refused for one that has it.
 fn own_txid(alloc: Global, bytes: &[u8]) -> Result<Hash32, StepFault>
@@ -47,10 +57,11 @@ fn told_txid(alloc: Global, bytes: &[u8], fault: PoolFault) -> Result<Hash32, St
 }
 
 // What the node is answered where the transaction that the bytes encode, or the bytes, are refused.
-fn refuse_tx(alloc: Global, bytes: &[u8], fault: PoolFault) -> Result<Bytes, StepFault>
+fn refuse_tx(alloc: Global, bytes: &[u8], fault: PoolFault) -> Result<PoolAnswer, StepFault>
     ensures told { (t : tx_shape.Tx) → Encodes bytes.now t
-        → IfOk result (λ text. say.pool_refused (hashing.txid t) fault ≡ Some text) }
-    ensures form { fault ≡ PoolFault.Bad → IfOk result (λ text. text ≡ say.form_refused) }
+        → IfOk result (λ r. say.pool_refused (hashing.txid t) fault ≡ Some r.text) }
+    ensures form { fault ≡ PoolFault.Bad → IfOk result (λ r. r.text ≡ say.form_refused) }
+    ensures none { IfOk result (λ r. r.changed ≡ []) }
     ensures no_disk { OnOk result (fault ≢ PoolFault.DiskFailed) }
     ensures no_memory { OnOk result (fault ≢ PoolFault.Memory) }
     ensures failed { IsErrOf result StepFault.DiskFailed → fault ≡ PoolFault.DiskFailed }
@@ -61,7 +72,10 @@ fn refuse_tx(alloc: Global, bytes: &[u8], fault: PoolFault) -> Result<Bytes, Ste
     }
     let id = told_txid(alloc, bytes, fault)?;
     match pool_refused(alloc, id, fault)? {
-        Some(text) => Ok(text),
+        Some(text) => Ok(PoolAnswer {
+            text,
+            changed: Touched::new(alloc),
+        }),
         None => Err(StepFault::Memory),
     }
 }
@@ -78,35 +92,39 @@ pub fn order_tx<G: Ledger>(
     ledger: &mut G,
     pool: &mut Pool,
     bytes: &[u8],
-) -> Result<Bytes, StepFault>
+) -> Result<PoolAnswer, StepFault>
     requires live { G.is_live ledger.old }
     ensures adds { (side : Side) → G.stands ledger.old side.chain
         → StandsFor pool.old.entries side.chain side.kept → pool.old.limits ≡ side.limits
-        → IfOk result (λ text. StandsAfter pool.new side (Adds side bytes.now text [])) }
+        → IfOk result (λ r. StandsAfter pool.new side r.changed (Adds side bytes.now r.text [])) }
     ensures limits { pool.new.limits ≡ pool.old.limits }
     ensures asked { Asked ⟦<G as Ledger>⟧ ledger.old ledger.new }
     ensures disk_rose { CountsOnly (G.faults ledger.old) (G.faults ledger.new) StepFault.DiskFailed result }
 {
-    let id = match pool.add(ledger, bytes) {
-        Ok((id, _)) => id,
-        Err(fault) => return refuse_tx(alloc, bytes, fault),
-    };
-    let text = tx_answer(alloc, id)?;
-    Ok(text)
+    match pool.add(ledger, bytes) {
+        Ok((id, changed)) => {
+            let text = tx_answer(alloc, id)?;
+            Ok(PoolAnswer { text, changed })
+        }
+        Err(fault) => refuse_tx(alloc, bytes, fault),
+    }
 }
 
 /// Takes a line that tells that the node no longer has the transaction of this txid: it is dropped from those
 /// that are kept, with those that spend it. Fails only where memory runs out.
-pub fn order_drop(alloc: Global, pool: &mut Pool, id: Hash32) -> Result<Bytes, StepFault>
+pub fn order_drop(alloc: Global, pool: &mut Pool, id: Hash32) -> Result<PoolAnswer, StepFault>
     ensures drops { (side : Side) → StandsFor pool.old.entries side.chain side.kept
-        → IfOk result (λ text. StandsAfter pool.new side (Drops side id text [])) }
+        → IfOk result (λ r. StandsAfter pool.new side r.changed (Drops side id r.text [])) }
     ensures limits { pool.new.limits ≡ pool.old.limits }
     ensures memory { IfErr result (λ e. e ≡ StepFault.Memory) }
 {
-    let Some(_touched) = pool.drop_tx(&id)? else {
+    let Some(changed) = pool.drop_tx(&id)? else {
         let text = absent_refused(alloc, id)?;
-        return Ok(text);
+        return Ok(PoolAnswer {
+            text,
+            changed: Touched::new(alloc),
+        });
     };
     let text = gone_answer(alloc, id)?;
-    Ok(text)
+    Ok(PoolAnswer { text, changed })
 }

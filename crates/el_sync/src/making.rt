@@ -16,7 +16,7 @@ ghost use Rattle.el_sync.specs.within.Parts.{MoveFailed, MoveKeeps, SaysRefusal,
 use crate::ahead::Ahead;
 use crate::fault::StepFault;
 use el_base::Bytes;
-use el_chain::{MoveFault, Plan};
+use el_chain::{MoveFault, Plan, Touched};
 use el_lines::{archive_refused, at_answer_in, move_refused, room_for_at};
 use el_model::Ledger;
 use el_outside::Archive;
@@ -31,6 +31,8 @@ pub struct Made {
     pub left: Ahead,
     /// Whether it was made.
     pub moved: bool,
+    /// The script hashes that it touched, each once.
+    pub touched: Touched,
 }
 
 // What the node is answered where a move is refused.
@@ -93,6 +95,7 @@ pub fn make_move<G: Ledger, A: Archive>(
             text: at_answer_in(room, moved.tip, moved.height),
             left: rest.passed(),
             moved: true,
+            touched: moved.touched,
         }),
         Err(fault) => {
             let text = refusal(alloc, fault)?;
@@ -101,6 +104,7 @@ pub fn make_move<G: Ledger, A: Archive>(
                 text,
                 left,
                 moved: false,
+                touched: Touched::new(alloc),
             })
         }
     }

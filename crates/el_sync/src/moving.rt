@@ -10,7 +10,7 @@ ghost use Rattle.el_chain.specs.Headers.{AreLinked};
 ghost use Rattle.el_chain.specs.Moves.{shorter, max_back};
 ghost use Rattle.el_chain.specs.Records.{IsNode};
 ghost use Rattle.el_mempool.specs.Sift.{sift};
-ghost use Rattle.el_mempool.specs.Standing.{StandsFor};
+ghost use Rattle.el_mempool.specs.Standing.{AreChanged, StandsFor};
 ghost use Rattle.el_model.specs.LedgerCalls.{Asked};
 ghost use Rattle.el_world.specs.Plans.{plan_of};
 ghost use Rattle.el_world.specs.Side.{Side, Moving};
@@ -21,6 +21,7 @@ use crate::ahead::Ahead;
 use crate::fault::StepFault;
 use crate::making::{Made, make_move};
 use el_base::Bytes;
+use el_chain::Touched;
 use el_methods::Holdings;
 use el_model::{Ledger, QueryFault};
 use el_outside::Archive;
@@ -34,6 +35,10 @@ pub struct Step {
     pub text: Bytes,
     /// The blocks that are left to later moves.
     pub left: Ahead,
+    /// The script hashes that a move of the chain touched, each once.
+    pub moved: Touched,
+    /// The script hashes of which another thing is seen in the unconfirmed set, each once.
+    pub changed: Touched,
 }
 
 // Whether a line ends with a move that has left these blocks, so that the set is sifted: it was made, or it
@@ -44,23 +49,30 @@ fn ends_line(left: &Ahead, moved: bool, later: bool) -> bool
     left.is_empty() && (moved || later)
 }
 
-// Sifts the set over the ledger's chain, where a line ends.
-fn settle<G: Ledger>(ledger: &mut G, pool: &mut Pool, ends: bool) -> Result<(), StepFault>
+// Sifts the set over the ledger's chain, where a line ends, and gives the script hashes that changed.
+fn settle<G: Ledger>(
+    alloc: Global,
+    ledger: &mut G,
+    pool: &mut Pool,
+    ends: bool,
+) -> Result<Touched, StepFault>
     requires live { G.is_live ledger.old }
     ensures sifted { (before chain : Chain) (kept : List tx_shape.Tx)
         → StandsFor pool.old.entries before kept → G.stands ledger.old chain
-        → OnOk result (ends ≡ true → StandsFor pool.new.entries chain (sift chain kept)) }
+        → IfOk result (λ changed. ends ≡ true → StandsFor pool.new.entries chain (sift chain kept)
+        × AreChanged before kept chain (sift chain kept) changed) }
     ensures same { OnOk result (ends ≡ false → pool.new ≡ pool.old) }
+    ensures none { IfOk result (λ changed. ends ≡ false → changed ≡ []) }
     ensures only { OnErr result (ends ≡ true) }
     ensures limits { pool.new.limits ≡ pool.old.limits }
     ensures asked { Asked ⟦<G as Ledger>⟧ ledger.old ledger.new }
     ensures disk_rose { CountsOnly (G.faults ledger.old) (G.faults ledger.new) StepFault.DiskFailed result }
 {
     if !ends {
-        return Ok(());
+        return Ok(Touched::new(alloc));
     }
     match pool.after_move(ledger) {
-        Ok(_) => Ok(()),
+        Ok(changed) => Ok(changed),
         Err(QueryFault::DiskFailed) => Err(StepFault::DiskFailed),
         Err(QueryFault::Memory) => Err(StepFault::Memory),
     }
@@ -89,11 +101,12 @@ pub fn move_once<G: Ledger, A: Archive>(
     requires linked { (before : hash_shape.Hash32) × AreLinked before rest }
     requires fits { (chain : Chain) → G.stands ledger.old chain
         → (back ≤ length chain) × AreLinked (tip (shorter back chain)) rest }
-    ensures moving { (side : Side)
-        → IsAt ⟦<G as Ledger>⟧ ⟦<A as Archive>⟧ ledger.old pool.old archive.old side
+    ensures moving { (side : Side) (start : Chain)
+        → IsAt ⟦<G as Ledger>⟧ ⟦<A as Archive>⟧ ledger.old pool.old archive.old side start
         → (later ≡ false → side.ahead ≡ []) → IfOk result (λ s.
         Leads ⟦<G as Ledger>⟧ ⟦<A as Archive>⟧ (Moving A.tells side back rest)
-        ledger.old ledger.new archive.old archive.new side s.text side.found s.left pool.new) }
+        ledger.old ledger.new archive.old archive.new side start s.text side.found s.left s.moved s.changed
+        pool.new) }
     ensures stopped { (chain : Chain) → G.stands ledger.old chain → IfErr result (
         StopsAt ⟦<G as Ledger>⟧ ⟦<A as Archive>⟧ ledger.old ledger.new archive.old archive.new chain later
         (λ (p : moves.Plan). p ≡ plan_of back rest)) }
@@ -103,10 +116,20 @@ pub fn move_once<G: Ledger, A: Archive>(
     ensures step { NodeStep ⟦<G as Ledger>⟧ ⟦<A as Archive>⟧ ledger.old ledger.new archive.old archive.new
         later result }
 {
-    let Made { text, left, moved } = make_move(alloc, ledger, back, rest, archive)?;
+    let Made {
+        text,
+        left,
+        moved,
+        touched,
+    } = make_move(alloc, ledger, back, rest, archive)?;
     let ends = ends_line(&left, moved, later);
-    settle(ledger, pool, ends)?;
-    Ok(Step { text, left })
+    let changed = settle(alloc, ledger, pool, ends)?;
+    Ok(Step {
+        text,
+        left,
+        moved: touched,
+        changed,
+    })
 }
 
 /// Makes the next of the later moves of a tip line, which takes no block back: the first of the rest are put
@@ -128,10 +151,11 @@ pub fn move_next<G: Ledger, A: Archive>(
     requires nodes { AllByRecursion IsNode rest }
     requires linked { (before : hash_shape.Hash32) × AreLinked before rest }
     requires fits { (chain : Chain) → G.stands ledger.old chain → AreLinked (tip chain) rest }
-    ensures moving { (side : Side)
-        → IsAt ⟦<G as Ledger>⟧ ⟦<A as Archive>⟧ ledger.old holdings.old.pool archive.old side
+    ensures moving { (side : Side) (start : Chain)
+        → IsAt ⟦<G as Ledger>⟧ ⟦<A as Archive>⟧ ledger.old holdings.old.pool archive.old side start
         → IfOk result (λ s. Leads ⟦<G as Ledger>⟧ ⟦<A as Archive>⟧ (Moving A.tells side 0 rest)
-        ledger.old ledger.new archive.old archive.new side s.text side.found s.left holdings.new.pool) }
+        ledger.old ledger.new archive.old archive.new side start s.text side.found s.left s.moved s.changed
+        holdings.new.pool) }
     ensures stopped { (chain : Chain) → G.stands ledger.old chain → IfErr result (
         StopsAt ⟦<G as Ledger>⟧ ⟦<A as Archive>⟧ ledger.old ledger.new archive.old archive.new chain true
         (λ (p : moves.Plan). p ≡ plan_of 0 rest)) }

@@ -1,11 +1,12 @@
 // The node's lines.
-ghost use Rattle.std.specs.Prelude.{◌≡◌, ◌≤◌, ◌⊎◌, ◌+◌, ℕ, [], false, Some, IfOk, IfErr, OnOk, OnErr, length};
-ghost use Rattle.std.specs.List.{AllByRecursion};
+ghost use Rattle.std.specs.Prelude.{◌≡◌, ◌≤◌, ◌⊎◌, ◌+◌, ℕ, List, [], false, Some, IfOk, IfErr, OnOk, OnErr, length};
 ghost use Rattle.el_outside.specs.Counts.{RoseBy};
 ghost use Rattle.el_outside.specs.Files.{AllGrow};
-ghost use Rattle.el_chain.specs.Chains.{Chain, zero_hash};
-ghost use Rattle.el_chain.specs.Headers.{AreLinked, added};
+ghost use Rattle.el_chain.specs.declared.node.Node as node_shape;
+ghost use Rattle.el_chain.specs.Chains.{Chain};
+ghost use Rattle.el_chain.specs.Headers.{IsPath, added};
 ghost use Rattle.el_chain.specs.Records.{IsNode};
+ghost use Rattle.el_headers.specs.Adding.{IsEndOf};
 ghost use Rattle.el_world.specs.Flights.{IsFirstMove};
 ghost use Rattle.el_lines.specs.Lines.{line};
 ghost use Rattle.el_lines.specs.NodeAnswers as say;
@@ -18,12 +19,12 @@ ghost use Rattle.el_sync.specs.within.Parts.{IsTipMove, IsPathMove, Looked};
 use crate::ahead::Ahead;
 use crate::comparing::{Way, compare, is_there};
 use crate::fault::StepFault;
-use crate::keeping::{order_drop, order_tx};
+use crate::keeping::{PoolAnswer, order_drop, order_tx};
 use crate::moving::{Step, move_once};
 use el_base::{Bytes, Hash32, OutOfMemory};
-use el_chain::{MAX_BACK, Node};
+use el_chain::{MAX_BACK, Node, Touched};
 use el_files::record_at;
-use el_headers::{Added, HeaderTree, PathFault};
+use el_headers::{Added, HeaderTree, PathEnd, PathFault};
 use el_lines::{
     LineEvent, NodeLine, NodeLineFault, archive_refused, at_answer, block_answer, deep_refused,
     genesis_refused, line_refused, long_refused, place_refused, read_node_line,
@@ -91,34 +92,55 @@ fn only_text(alloc: Global, text: Bytes) -> Step
     Step {
         text,
         left: Ahead::none(alloc),
+        moved: Touched::new(alloc),
+        changed: Touched::new(alloc),
     }
 }
 
-// Moves the chain along the path.
+// A line about an unconfirmed transaction, which leaves nothing to put in either.
+fn pool_step(alloc: Global, answer: PoolAnswer) -> Step
+    ensures text { result.text ≡ answer.text }
+    ensures left { result.left ≡ [] }
+    ensures changed { result.changed ≡ answer.changed }
+{
+    Step {
+        text: answer.text,
+        left: Ahead::none(alloc),
+        moved: Touched::new(alloc),
+        changed: answer.changed,
+    }
+}
+
+// Moves the chain along the path that ends there.
 fn move_along<G: Ledger, A: Archive>(
     alloc: Global,
     ledger: &mut G,
+    tree: &HeaderTree,
     pool: &mut Pool,
     archive: &mut A,
-    path: Vec<Node>,
+    end: &PathEnd,
 ) -> Result<Step, StepFault>
     requires live { G.is_live ledger.old }
-    requires nodes { AllByRecursion IsNode path.items }
-    requires linked { AreLinked zero_hash path.items }
-    ensures along { (side : Side)
-        → IsAt ⟦<G as Ledger>⟧ ⟦<A as Archive>⟧ ledger.old pool.old archive.old side
+    requires path { (path : List node_shape.Node) × IsPath tree.now end.now.node.hash path }
+    requires end { (path : List node_shape.Node) → IsPath tree.now end.now.node.hash path
+        → IsEndOf path end.now.node end.now.height }
+    ensures along { (path : List node_shape.Node) (side : Side) (start : Chain)
+        → IsPath tree.now end.now.node.hash path
+        → IsAt ⟦<G as Ledger>⟧ ⟦<A as Archive>⟧ ledger.old pool.old archive.old side start
         → side.ahead ≡ [] → IfOk result (λ s.
-        Leads ⟦<G as Ledger>⟧ ⟦<A as Archive>⟧ (GoesAlong A.tells side path.items)
-        ledger.old ledger.new archive.old archive.new side s.text side.found s.left pool.new) }
-    ensures stopped { (chain : Chain) → G.stands ledger.old chain → IfErr result (
+        Leads ⟦<G as Ledger>⟧ ⟦<A as Archive>⟧ (GoesAlong A.tells side path)
+        ledger.old ledger.new archive.old archive.new side start s.text side.found s.left s.moved s.changed
+        pool.new) }
+    ensures stopped { (path : List node_shape.Node) (chain : Chain)
+        → IsPath tree.now end.now.node.hash path → G.stands ledger.old chain → IfErr result (
         StopsAt ⟦<G as Ledger>⟧ ⟦<A as Archive>⟧ ledger.old ledger.new archive.old archive.new chain
-        false (IsPathMove chain path.items)) }
+        false (IsPathMove chain path)) }
     ensures limits { pool.new.limits ≡ pool.old.limits }
-    ensures fewer { IfOk result (λ s. length s.left ≤ length path.items) }
+    ensures fewer { IfOk result (λ s. length s.left ≤ length tree.now) }
     ensures step { NodeStep ⟦<G as Ledger>⟧ ⟦<A as Archive>⟧ ledger.old ledger.new archive.old archive.new
         false result }
 {
-    let Way { back, rest } = compare(ledger, path)?;
+    let Way { back, rest } = compare(alloc, ledger, tree, end)?;
     if back > MAX_BACK as usize {
         let text = deep_refused(alloc, back)?;
         return Ok(only_text(alloc, text));
@@ -140,13 +162,14 @@ fn order_tip<G: Ledger, A: Archive>(
     h: Hash32,
 ) -> Result<Step, StepFault>
     requires live { G.is_live ledger.old }
-    ensures tip { (side : Side)
-        → IsAt ⟦<G as Ledger>⟧ ⟦<A as Archive>⟧ ledger.old pool.old archive.old side
+    ensures tip { (side : Side) (start : Chain)
+        → IsAt ⟦<G as Ledger>⟧ ⟦<A as Archive>⟧ ledger.old pool.old archive.old side start
         → side.found ≡ tree.now → side.ahead ≡ [] → IfOk result (λ s.
         Leads ⟦<G as Ledger>⟧ ⟦<A as Archive>⟧ (Tips A.tells side h)
-        ledger.old ledger.new archive.old archive.new side s.text side.found s.left pool.new) }
-    ensures stopped { (side : Side)
-        → IsAt ⟦<G as Ledger>⟧ ⟦<A as Archive>⟧ ledger.old pool.old archive.old side
+        ledger.old ledger.new archive.old archive.new side start s.text side.found s.left s.moved s.changed
+        pool.new) }
+    ensures stopped { (side : Side) (start : Chain)
+        → IsAt ⟦<G as Ledger>⟧ ⟦<A as Archive>⟧ ledger.old pool.old archive.old side start
         → side.found ≡ tree.now → IfErr result (
         StopsAt ⟦<G as Ledger>⟧ ⟦<A as Archive>⟧ ledger.old ledger.new archive.old archive.new
         side.chain false (IsTipMove side h)) }
@@ -155,8 +178,8 @@ fn order_tip<G: Ledger, A: Archive>(
     ensures step { NodeStep ⟦<G as Ledger>⟧ ⟦<A as Archive>⟧ ledger.old ledger.new archive.old archive.new
         false result }
 {
-    match tree.path(alloc, h) {
-        Ok(path) => move_along(alloc, ledger, pool, archive, path),
+    match tree.path_end(&h) {
+        Ok(end) => move_along(alloc, ledger, tree, pool, archive, &end),
         Err(PathFault::Unknown) => {
             let text = unknown_refused(alloc, h)?;
             Ok(only_text(alloc, text))
@@ -188,14 +211,14 @@ fn order_line<G: Ledger, A: Archive>(
     text: &[u8],
 ) -> Result<Step, StepFault>
     requires live { G.is_live ledger.old }
-    ensures node { (side : Side)
-        → IsAt ⟦<G as Ledger>⟧ ⟦<A as Archive>⟧ ledger.old holdings.old.pool archive.old side
+    ensures node { (side : Side) (start : Chain)
+        → IsAt ⟦<G as Ledger>⟧ ⟦<A as Archive>⟧ ledger.old holdings.old.pool archive.old side start
         → IsFrom holdings.old side → IfOk result (λ s.
         Leads ⟦<G as Ledger>⟧ ⟦<A as Archive>⟧ (OrdersLine A.tells side (line text.now))
-        ledger.old ledger.new archive.old archive.new side s.text holdings.new.tree s.left
-        holdings.new.pool) }
-    ensures stopped { (side : Side)
-        → IsAt ⟦<G as Ledger>⟧ ⟦<A as Archive>⟧ ledger.old holdings.old.pool archive.old side
+        ledger.old ledger.new archive.old archive.new side start s.text holdings.new.tree s.left s.moved
+        s.changed holdings.new.pool) }
+    ensures stopped { (side : Side) (start : Chain)
+        → IsAt ⟦<G as Ledger>⟧ ⟦<A as Archive>⟧ ledger.old holdings.old.pool archive.old side start
         → IsFrom holdings.old side → IfErr result (
         StopsAt ⟦<G as Ledger>⟧ ⟦<A as Archive>⟧ ledger.old ledger.new archive.old archive.new
         side.chain false (IsFirstMove side (line text.now))) }
@@ -220,12 +243,12 @@ fn order_line<G: Ledger, A: Archive>(
             h,
         ),
         Ok(NodeLine::Tx(bytes)) => {
-            let text = order_tx(alloc, ledger, &mut holdings.pool, bytes.as_slice())?;
-            Ok(only_text(alloc, text))
+            let answer = order_tx(alloc, ledger, &mut holdings.pool, bytes.as_slice())?;
+            Ok(pool_step(alloc, answer))
         }
         Ok(NodeLine::Drop(id)) => {
-            let text = order_drop(alloc, &mut holdings.pool, id)?;
-            Ok(only_text(alloc, text))
+            let answer = order_drop(alloc, &mut holdings.pool, id)?;
+            Ok(pool_step(alloc, answer))
         }
         Err(NodeLineFault::Line) => refuse_line(alloc),
         Err(NodeLineFault::Memory) => Err(StepFault::Memory),
@@ -248,14 +271,14 @@ pub fn order<G: Ledger, A: Archive>(
     met: LineEvent,
 ) -> Result<Step, StepFault>
     requires live { G.is_live ledger.old }
-    ensures node { (side : Side)
-        → IsAt ⟦<G as Ledger>⟧ ⟦<A as Archive>⟧ ledger.old holdings.old.pool archive.old side
+    ensures node { (side : Side) (start : Chain)
+        → IsAt ⟦<G as Ledger>⟧ ⟦<A as Archive>⟧ ledger.old holdings.old.pool archive.old side start
         → IsFrom holdings.old side → IfOk result (λ s.
         Leads ⟦<G as Ledger>⟧ ⟦<A as Archive>⟧ (OrdersLine A.tells side (as_listed met))
-        ledger.old ledger.new archive.old archive.new side s.text holdings.new.tree s.left
-        holdings.new.pool) }
-    ensures stopped { (side : Side)
-        → IsAt ⟦<G as Ledger>⟧ ⟦<A as Archive>⟧ ledger.old holdings.old.pool archive.old side
+        ledger.old ledger.new archive.old archive.new side start s.text holdings.new.tree s.left s.moved
+        s.changed holdings.new.pool) }
+    ensures stopped { (side : Side) (start : Chain)
+        → IsAt ⟦<G as Ledger>⟧ ⟦<A as Archive>⟧ ledger.old holdings.old.pool archive.old side start
         → IsFrom holdings.old side → IfErr result (
         StopsAt ⟦<G as Ledger>⟧ ⟦<A as Archive>⟧ ledger.old ledger.new archive.old archive.new
         side.chain false (IsFirstMove side (as_listed met))) }

@@ -1,1 +1,3 @@
 mod PlanLaws
+mod Prefixes
+pub mod KeepTold

@@ -1,7 +1,7 @@
 -- The chain that is acknowledged where a run stops, and the one that is then in flight. Acknowledged is the
 -- chain of the world before the turn in which the run stops, since all that earlier turns gave was sent. In
 -- flight is the target of a move of that turn that has begun, if there is one.
-use Rattle.std.specs.Prelude.{◌≡◌, ◌≤◌, ℕ, List, [], ◌∷◌}
+use Rattle.std.specs.Prelude.{◌≡◌, ◌≤◌, ℕ, List, ◌∷◌}
 use Rattle.el_outside.specs.Devices.{Device}
 use Rattle.el_outside.specs.Files.{AllGrow}
 use Rattle.el_outside.specs.Trace.{ArrivalWithBytes, Message, Closing}
@@ -14,7 +14,7 @@ use Rattle.el_lines.specs.Lines.{LineEvent, line}
 use Rattle.el_lines.specs.NodeLines.{ReadsNodeLine, tip}
 use Rattle.el_world.specs.Plans.{back_of, rest_of, plan_of, IsMoving}
 use Rattle.el_world.specs.Side.{Side}
-use Rattle.el_world.specs.World.{World, Event, orders, IsStill, IsBusy}
+use Rattle.el_world.specs.World.{World, Event, orders, IsStill, IsBusy, AllTold}
 use Rattle.el_world.specs.Run.{Stop, Stops, disk_failed, sift_failed, no_memory, untold, unsent, StopsIn, unheard, in_turn}
 
 -- The first move of what is met in the node's bytes: of a tip line that takes back as many blocks as may be,
@@ -33,7 +33,7 @@ pub record IsFirstMove (side : Side) (met : LineEvent) (p : Plan) : Type 0 where
 -- The move of the turn: the next of the node's last tip line, or the first of a line that is next.
 pub data IsMoveOf (world : World) (left : List Event) (p : Plan) : Type 0 where
   later : IsBusy world → p ≡ plan_of 0 world.side.ahead → IsMoveOf world left p
-  first : (met : LineEvent) (rest : List Event) → IsStill world → left ≡ orders met ∷ rest
+  first : (met : LineEvent) (rest : List Event) → IsStill world → AllTold world → left ≡ orders met ∷ rest
       → IsFirstMove world.side met p → IsMoveOf world left p
 
 -- the chain is the one before the turn, or the target of a move that it may begin

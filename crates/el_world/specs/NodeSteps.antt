@@ -1,5 +1,6 @@
 -- A step of the node's work, over a ledger and block files of which only the types are known.
-use Rattle.std.specs.Prelude.{◌≡◌, ℕ, List, []}
+use Rattle.std.specs.Prelude.{◌≡◌, ℕ, false, List, []}
+use Rattle.el_base.specs.declared.hash.Hash32.{Hash32}
 use Rattle.el_outside.specs.declared.archive.Archive as archive
 use Rattle.el_outside.specs.Devices.{Device, Rose}
 use Rattle.el_outside.specs.Files.{AllGrow}
@@ -8,38 +9,52 @@ use Rattle.el_chain.specs.Chains.{Chain}
 use Rattle.el_mempool.specs.Standing.{PoolState, StandsFor}
 use Rattle.el_model.specs.declared.ledger.Ledger as ledger
 use Rattle.el_model.specs.LedgerCalls.{Moved, failed_calls}
+use Rattle.el_subs.specs.Told.{status}
+use Rattle.el_touched.specs.Untouched.{LooksSame, is_among}
 use Rattle.el_world.specs.Side.{Side}
 
--- The set stands for the transactions that are kept, over the chain that was there before the node's last tip
--- line: that is the side's chain where the line left nothing to do.
-pub record SetStands (pool : PoolState) (side : Side) : Type 0 where
-  pub before : Chain
-  pub stood : StandsFor pool.entries before side.kept
-  pub still : side.ahead ≡ [] → before ≡ side.chain
+-- The set stands for the transactions that are kept, over the chain that was there when the node's last tip
+-- line began, its start: that is the side's chain where the line left nothing to do.
+pub record SetStands (pool : PoolState) (side : Side) (start : Chain) : Type 0 where
+  pub stood : StandsFor pool.entries start side.kept
+  pub still : side.ahead ≡ [] → start ≡ side.chain
   pub limits : pool.limits ≡ side.limits
 
 -- the ledger stands for the side's chain, the set for what is kept, and the block files have all that the side
 -- knows of them
 pub record IsAt {G A : Type 0} (of_ledger : ledger.Ghosts G) (of_files : archive.Ghosts A) (l : G)
-    (pool : PoolState) (files : A) (side : Side) : Type 0 where
+    (pool : PoolState) (files : A) (side : Side) (start : Chain) : Type 0 where
   pub stood : of_ledger.stands l side.chain
-  pub set : SetStands pool side
+  pub set : SetStands pool side start
   pub told : of_files.tells → AllGrow side.files (of_files.bytes files)
+
+-- The script hashes that a step touched: `moved` by moving the chain, `changed` in the unconfirmed set. Of each
+-- other one that looked over the side's chain as it had over the line's start, the status over the start and
+-- what was kept is still the same, and it looks so still.
+pub record Touches (side : Side) (start : Chain) (next : Side) (next_start : Chain) (moved changed : List Hash32)
+    : Type 0 where
+  pub status_stays : (s : Hash32) → is_among moved s ≡ false → is_among changed s ≡ false
+      → LooksSame start side.chain s.0 → status next_start next.kept s ≡ status start side.kept s
+  pub looks : (s : Hash32) → is_among moved s ≡ false → is_among changed s ≡ false
+      → LooksSame start side.chain s.0 → LooksSame next_start next.chain s.0
 
 -- A step led on from the side, by what `leads` says of the node's answer, of the devices' failures and of the
 -- next side. Found and ahead are then these, the set is then `pool`, the ledger went from `old` to `new`, and
--- the block files from `before` to `after`.
+-- the block files from `before` to `after`; `moved` and `changed` are the script hashes that it touched.
 pub record Leads {G A : Type 0} (of_ledger : ledger.Ghosts G) (of_files : archive.Ghosts A)
     (leads : List ℕ → List Device → Side → Type 0) (old new : G) (before after : A)
-    (side : Side) (text : List ℕ) (found ahead : List Node) (pool : PoolState) : Type 0 where
+    (side : Side) (start : Chain) (text : List ℕ) (found ahead : List Node) (moved changed : List Hash32)
+    (pool : PoolState) : Type 0 where
   pub losses : List Device
   pub next : Side
   pub led : leads text losses next
   pub magic_is : next.magic ≡ side.magic
   pub found_is : found ≡ next.found
   pub ahead_is : ahead ≡ next.ahead
-  pub set : SetStands pool next
-  pub moved : Moved of_ledger old new side.chain next.chain
+  pub next_start : Chain
+  pub set : SetStands pool next next_start
+  pub touches : Touches side start next next_start moved changed
+  pub went : Moved of_ledger old new side.chain next.chain
   pub told : of_files.tells → AllGrow next.files (of_files.bytes after)
   pub rose : (of_link : ℕ) → Rose (failed_calls of_ledger of_files of_link old before)
       (failed_calls of_ledger of_files of_link new after) losses

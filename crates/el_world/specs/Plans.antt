@@ -1,6 +1,6 @@
 -- Which moves lead a chain along a path. The blocks that the chain and the path have in common stay; the
 -- others of the chain are taken back, and the path's rest is put in.
-use Rattle.std.specs.Prelude.{ℕ, zero, suc, ◌-◌, if◌then◌else◌, List, [], ◌∷◌, length, take, drop}
+use Rattle.std.specs.Prelude.{ℕ, zero, suc, ◌-◌, Bool, true, false, List, [], ◌∷◌, length, take, drop}
 use Rattle.el_block.specs.Blocks.{block_hash}
 use Rattle.el_chain.specs.declared.node.Node.{Node}
 use Rattle.el_chain.specs.declared.moves.Plan.{Plan}
@@ -8,11 +8,19 @@ use Rattle.el_chain.specs.Chains.{Chain}
 use Rattle.el_chain.specs.Headers.{same_hash}
 use Rattle.el_chain.specs.Moves.{max_forward}
 
--- how many blocks the chain and the path have in common, from the first on; blocks are compared by hash
+-- how many blocks stand up to and including the highest common one, of a block and those above it, where
+-- that many do of those above it alone; `same` is whether the block itself is common
+abbrev pub common_up_to : Bool → ℕ → ℕ
+common_up_to same (suc above) = suc (suc above)
+common_up_to true zero = 1
+common_up_to false zero = 0
+
+-- How many blocks the chain and the path have in common: those up to and including the highest block that
+-- both have at the same height, where the path leaves the chain. Blocks are compared by hash.
 abbrev pub common : Chain → List Node → ℕ
 common [] path = 0
 common (b ∷ bs) [] = 0
-common (b ∷ bs) (n ∷ ns) = if same_hash (block_hash b.block.header) n.hash then suc (common bs ns) else 0
+common (b ∷ bs) (n ∷ ns) = common_up_to (same_hash (block_hash b.block.header) n.hash) (common bs ns)
 
 -- how many blocks are to be taken back
 abbrev pub back_of : Chain → List Node → ℕ

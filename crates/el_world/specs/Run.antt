@@ -1,27 +1,31 @@
 -- A whole run: which messages may be sent and which clients closed, in which order, for a list of arrivals.
 -- A failed call of the link closes a client as gone, or stops the run; one of the block files is answered to
--- the node or to a client; one of the index's device is answered to a client, or stops the run. Where no
--- memory was found for that answer, the client is closed for that, or the run stops for it.
+-- the node or to a client; one of the index's device is answered to a client, closes one that was to be told,
+-- or stops the run. Where no memory was found for that answer, the client is closed for that, or the run stops
+-- for it.
 use Rattle.std.specs.Prelude.{◌≡◌, ◌⊎◌, ℕ, ◌==◌, List, [], ◌∷◌, ◌++◌, filter, true, not, if◌then◌else◌, Option, Some, None}
 use Rattle.std.specs.Option.{option_to_list}
 use Rattle.el_outside.specs.Devices.{Device, link, archive, disk}
 use Rattle.el_outside.specs.Trace.{ArrivalWithBytes, opened, brought, Message, Closing}
 use Rattle.el_outside.specs.declared.link.Why.{Why}
 use Rattle.el_outside.specs.declared.link.Why.TheVariants as why
-use Rattle.el_world.specs.World.{World, Event, orders, Outs, Takes, Works, IsStill, IsBusy, events, after_hearing, is_client, without_client, closes_memory}
+use Rattle.el_world.specs.World.{World, Event, orders, Outs, Takes, Works, Notifies, IsStill, IsBusy, AllTold, events, after_hearing, is_client, without_client, closes_memory}
 
 -- One turn, by which these events, one at most, are done. The device of each failed call stands among
 -- `losses`: it was answered or closed for.
 pub data OneTurn (tells : Type 0) (world : World) (done : List Event) (outs : Outs) (losses : List Device)
     (next : World) : Type 0 where
-  -- an event is taken; the node's last tip line left nothing to do
-  takes : (event : Event) → IsStill world → done ≡ event ∷ [] → Takes tells world event outs losses next
-      → OneTurn tells world done outs losses next
+  -- an event is taken; the node's last tip line left nothing to do, and everyone was told of it
+  takes : (event : Event) → IsStill world → AllTold world → done ≡ event ∷ []
+      → Takes tells world event outs losses next → OneTurn tells world done outs losses next
   -- the next move of that line
   works : IsBusy world → done ≡ [] → Works tells world outs losses next
       → OneTurn tells world done outs losses next
-  -- A client is closed as out of memory, for its bytes or a line of them. Its lines, which are left, will
-  -- have no effect.
+  -- a client is told of the node's last line
+  notifies : IsStill world → done ≡ [] → Notifies world outs losses next
+      → OneTurn tells world done outs losses next
+  -- A client is closed as out of memory, for its bytes, a line of them, or what it was to be told. Its lines,
+  -- which are left, will have no effect.
   departs : (p : ℕ) → is_client p world ≡ true → done ≡ [] → outs ≡ closes_memory p
       → next ≡ without_client p world → losses ≡ [] → OneTurn tells world done outs losses next
 
@@ -82,7 +86,7 @@ pub data Turns (tells : Type 0) (first : World)
       (losses ++ (failed ++ lost)) next
 
 -- Arrivals, one after the other, from the first world to the last: the bytes of each are heard, and its
--- events are done, with all that they leave to do, before the next arrives.
+-- events are done, with all that they leave to do and to tell, before the next arrives.
 pub data Run (tells : Type 0) (first : World)
     : List ArrivalWithBytes → List Message → List Closing → List Device → World → Type 0 where
   none : Run tells first [] [] [] [] first
@@ -92,7 +96,7 @@ pub data Run (tells : Type 0) (first : World)
       → Run tells first arrivals messages closings losses world
       → Turns tells (after_hearing arrival world) (events world arrival)
       more_messages more_closings more_losses next
-      → IsStill next
+      → IsStill next → AllTold next
       → Run tells first (arrivals ++ arrival ∷ []) (messages ++ more_messages) (closings ++ more_closings)
       (losses ++ more_losses) next
 
@@ -103,10 +107,11 @@ pub data Stop : Type 0 where
   by_link : Stop
   by_memory : Stop
 
--- the next turn is one of the node: a line of it, or a move that its last one left
+-- the next turn is one of the node: a move that its last line left, or a line of it where everyone was told
+-- of the last
 abbrev pub IsNodesTurn : World → List Event → Type 0
 IsNodesTurn world [] = IsBusy world
-IsNodesTurn world (orders said ∷ left) = Unit {0}
+IsNodesTurn world (orders said ∷ left) = IsBusy world ⊎ AllTold world
 IsNodesTurn world (event ∷ left) = IsBusy world
 
 -- what was lost by a message to the node that wasn't sent

@@ -1,6 +1,6 @@
 -- The side of the world that the node leads, and what each of its lines does to it. The device of each failed
 -- call stands among `losses`. `tells` is whether the block files tell their bytes.
-use Rattle.std.specs.Prelude.{◌≡◌, ◌⊎◌, ◌≤◌, ◌<◌, ◌&&◌, ℕ, Bool, true, false, not, if◌then◌else◌, MatchBool, List, [], ◌∷◌, ◌++◌, length, drop, Option, Some, None, IfSome}
+use Rattle.std.specs.Prelude.{◌≡◌, ◌≤◌, ◌<◌, ◌&&◌, ℕ, true, false, not, if◌then◌else◌, MatchBool, List, [], ◌∷◌, ◌++◌, length, drop, Option, Some, None, IfSome}
 use Rattle.el_base.specs.declared.hash.Hash32.{Hash32}
 use Rattle.el_outside.specs.Devices.{Device, archive}
 use Rattle.el_outside.specs.Files.{AllGrow, IsFile}

@@ -1,14 +1,16 @@
 -- What the server stands for, and what each event does to it. Peer 0 is the node, and the others are clients.
-use Rattle.std.specs.Prelude.{◌≡◌, ℕ, ◌==◌, nat_lt, Bool, false, not, if◌then◌else◌, List, [], ◌∷◌, ◌++◌, length, map, filter, find, MatchBool, Option, Some, None, Result, Ok, Err}
+use Rattle.std.specs.Prelude.{◌≡◌, ℕ, ◌==◌, nat_lt, Bool, true, false, not, if◌then◌else◌, List, [], ◌∷◌, ◌++◌, length, map, filter, find, MatchBool, Option, Some, None, Result, Ok, Err}
 use Rattle.std.specs.List.{list_any, flat_map}
 use Rattle.std.specs.Option.{option_to_list}
-use Rattle.el_outside.specs.Devices.{Device}
+use Rattle.el_outside.specs.Devices.{Device, disk}
 use Rattle.el_outside.specs.Trace.{ArrivalWithBytes, opened, brought, closed, quiet, ended, Message, Closing}
 use Rattle.el_outside.specs.declared.link.Why.TheVariants as why
+use Rattle.el_base.specs.declared.hash.Hash32.{Hash32}
 use Rattle.el_base.specs.declared.memory.OutOfMemory.{OutOfMemory}
 use Rattle.el_chain.specs.declared.node.Node.{Node}
 use Rattle.el_chain.specs.Chains.{Chain}
 use Rattle.el_mempool.specs.declared.entry.PoolLimits.{PoolLimits}
+use Rattle.el_model.specs.Queries.{tip_of}
 use Rattle.el_lines.specs.declared.limits.TheConstants.{LINE_LIMIT}
 use Rattle.el_world.specs.declared.limits.TheConstants.{CLIENT_LIMIT}
 use Rattle.el_lines.specs.Lines.{LineEvent, line, too_long, added_lines}
@@ -19,21 +21,25 @@ use Rattle.el_methods.specs.Archives.{HasTransactions}
 use Rattle.el_replies.specs.Losses.{AnswersOf}
 use Rattle.el_replies.specs.LineReplies.{IsLineReply}
 use Rattle.el_replies.specs.declared.line.LineReply.{LineReply}
+use Rattle.el_subs.specs.Told.{status}
+use Rattle.el_subs.specs.Notices.{notices, notified}
 use Rattle.el_world.specs.Side.{Side, quiet_side, Moving, OrdersLine}
 
 -- how many bytes a client's line may have, without its byte 10
 abbrev pub line_limit : ℕ
 line_limit = LINE_LIMIT
 
--- how many clients may be connected at once, until many are served
+-- how many clients may be connected at once
 abbrev pub client_limit : ℕ
 client_limit = CLIENT_LIMIT
 
--- A client: its number, all bytes that it has sent, and what is kept of it for its requests.
+-- A client: its number, all bytes that it has sent, what is kept of it for its requests, and whether it is
+-- still to be told of the node's last line.
 pub record Session : Type 0 where
   pub peer : ℕ
   pub heard : List ℕ
   pub client : client.Session
+  pub waits : Bool
 
 -- what is kept of one that has asked for nothing
 abbrev pub new_client : client.Session
@@ -41,19 +47,20 @@ new_client = record { version = None; headers = false; subs = [] }
 
 -- one that has just come
 abbrev pub new_session : ℕ → Session
-new_session p = record { peer = p; heard = []; client = new_client }
+new_session p = record { peer = p; heard = []; client = new_client; waits = false }
 
--- What the server knows: the side that the node leads; its clients in the order in which they came; and all
--- bytes that the node has sent.
+-- What the server knows: the side that the node leads; its clients in the order in which they came; all
+-- bytes that the node has sent; and the tip before the node's last line.
 pub record World : Type 0 where
   pub side : Side
   pub sessions : List Session
   pub heard : List ℕ
+  pub before : Option Hash32
 
 -- the world of a chain before any client came and the node said anything
 abbrev pub initial_world : Chain → List ℕ → PoolLimits → List Node → (ℕ → List ℕ) → World
 initial_world chain magic limits found files =
-    record { side = quiet_side chain magic limits found files; sessions = []; heard = [] }
+    record { side = quiet_side chain magic limits found files; sessions = []; heard = []; before = None }
 
 -- the session is that of this client
 abbrev pub is_peer : ℕ → Session → Bool
@@ -168,6 +175,10 @@ outs_of_reply p reply = record {
 abbrev pub closes_memory : ℕ → Outs
 closes_memory p = record { messages = []; closing = Some (record { peer = p; why = why.Memory }) }
 
+-- this client is closed, since the index's device failed while it was told
+abbrev pub closes_disk : ℕ → Outs
+closes_disk p = record { messages = []; closing = Some (record { peer = p; why = why.Disk }) }
+
 -- the world after it, where that is then kept of the client for its requests
 abbrev pub after_reply : ℕ → LineReply → Session → client.Session → World → World
 after_reply p reply session kept world =
@@ -216,6 +227,13 @@ pub record IsLed (leads : List ℕ → List Device → Side → Type 0) (world :
   pub outs_is : outs ≡ to_node text
   pub next_is : next ≡ record world { side = side }
 
+-- The world as a line of the node begins: its tip is kept, and each client is to be told of the line.
+abbrev pub begun : World → World
+begun world = record world {
+  before = tip_of world.side.chain;
+  sessions = map (λ (session : Session). record session { waits = true }) world.sessions;
+}
+
 -- One event: what it sends and closes, the device of each call that failed and was answered so, and the world
 -- after it. Of a tip line it is the first move; what the line leaves to do stands in the world, and is worked
 -- off before the next event. `tells` is whether the block files tell their bytes.
@@ -237,7 +255,7 @@ Takes tells world (says p too_long) outs losses next =
     (OnlyDoes nothing world outs losses next)
 -- a line of the node
 Takes tells world (orders met) outs losses next =
-    IsLed (OrdersLine tells world.side met) world outs losses next
+    IsLed (OrdersLine tells world.side met) (begun world) outs losses next
 
 -- nothing is left to do before the next event
 abbrev pub IsStill : World → Type 0
@@ -250,3 +268,35 @@ IsBusy world = IsMoving 0 world.side.ahead
 -- The next move of that line.
 abbrev pub Works : Type 0 → World → Outs → List Device → World → Type 0
 Works tells world outs losses next = IsLed (Moving tells world.side 0 world.side.ahead) world outs losses next
+
+-- the first client that is still to be told of the node's last line; clients stand by rising number
+abbrev pub next_told : World → Option Session
+next_told world = find (λ (session : Session). session.waits) world.sessions
+
+-- nobody is still to be told of it
+abbrev pub AllTold : World → Type 0
+AllTold world = next_told world ≡ None
+
+-- the client was told: what it was told last of each script hash is its status
+abbrev pub told : World → Session → Session
+told world session = record session {
+  client = notified (status world.side.chain world.side.kept) session.client;
+  waits = false;
+}
+
+-- all that it is told, in order
+abbrev pub outs_of_telling : World → Session → Outs
+outs_of_telling world session = record {
+  messages = map (λ (t : List ℕ). record { peer = session.peer; text = t })
+      (notices (status world.side.chain world.side.kept) world.before world.side.chain session.client);
+  closing = None;
+}
+
+-- The next client is told of the node's last line, once all of its moves are done; or the index's device
+-- failed while it was told, for which it is closed, and is told nothing.
+pub data Notifies (world : World) (outs : Outs) (losses : List Device) (next : World) : Type 0 where
+  tells : (session : Session) → next_told world ≡ Some session → outs ≡ outs_of_telling world session
+      → next ≡ with_session session.peer (told world session) world → losses ≡ []
+      → Notifies world outs losses next
+  fails : (session : Session) → next_told world ≡ Some session → outs ≡ closes_disk session.peer
+      → next ≡ without_client session.peer world → losses ≡ disk ∷ [] → Notifies world outs losses next

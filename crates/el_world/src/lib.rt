@@ -5,5 +5,5 @@
 mod laws;
 mod limits;
 
-pub use laws::moves_are_the_plan;
+pub use laws::{common_is_the_prefix, moves_are_the_plan, replies_keep_told};
 pub use limits::CLIENT_LIMIT;

@@ -1,4 +1,4 @@
 // The limit of clients: the code and the definitions cite it.
 
-/// How many clients may be connected at once, until many are served.
-pub const CLIENT_LIMIT: usize = 1;
+/// How many clients may be connected at once.
+pub const CLIENT_LIMIT: usize = 256;

@@ -15,9 +15,10 @@ use Rattle.el_chain.specs.Chains.{Chain}
 use Rattle.el_chain.specs.Headers.{AreLinked, IsPath}
 use Rattle.el_chain.specs.Moves.{Moves, IsRefused, shorter, max_back}
 use Rattle.el_chain.specs.Records.{IsNode}
+use Rattle.el_chain.specs.Touches.{AreTouched}
 use Rattle.el_mempool.specs.declared.fault.PoolFault.{PoolFault}
 use Rattle.el_mempool.specs.declared.fault.PoolFault.TheVariants as refusal
-use Rattle.el_mempool.specs.Standing.{PoolState, StandsFor}
+use Rattle.el_mempool.specs.Standing.{AreChanged, PoolState, StandsFor}
 use Rattle.el_model.specs.LedgerCalls.{Moved, failed_calls}
 use Rattle.el_model.specs.Queries.{height_of, tip_of}
 use Rattle.el_model.specs.declared.ledger.Ledger as ledgers
@@ -39,25 +40,26 @@ SaysRefusal (stop.Changed w f) text = move_refused (stop.Changed w f) ≡ Some t
 SaysRefusal (stop.BadBlock h f) text = move_refused (stop.BadBlock h f) ≡ Some text
 SaysRefusal (stop.Refused h f) text = move_refused (stop.Refused h f) ≡ Some text
 
--- What came of a move before the set is sifted: whether it was made, what the node is answered, and the chain
--- then.
+-- What came of a move before the set is sifted: whether it was made, what the node is answered, which script
+-- hashes it touched, and the chain then.
 pub data Tried (tells : Type 0) (side : Side) (back : ℕ) (rest : List Node) (moved : Bool) (text : List ℕ)
-    (losses : List Device) (chain : Chain) (files : ℕ → List ℕ) : Type 0 where
-  made : (blocks : Chain) → Moves tells files side.chain (plan_of back rest) blocks → moved ≡ true
+    (touched : List Hash32) (losses : List Device) (chain : Chain) (files : ℕ → List ℕ) : Type 0 where
+  made : (blocks : Chain) → Moves tells files side.chain (plan_of back rest) blocks
+      → AreTouched (plan_of back rest) side.chain blocks touched → moved ≡ true
       → chain ≡ shorter back side.chain ++ blocks → text ≡ at_answer (tip_of chain) (height_of chain)
-      → losses ≡ [] → Tried tells side back rest moved text losses chain files
+      → losses ≡ [] → Tried tells side back rest moved text touched losses chain files
   refused : (e : MoveFault) → IsRefused tells files side.chain (plan_of back rest) e → moved ≡ false
-      → chain ≡ side.chain → move_refused e ≡ Some text → losses ≡ []
-      → Tried tells side back rest moved text losses chain files
-  failed : moved ≡ false → chain ≡ side.chain → text ≡ archive_refused → losses ≡ archive ∷ []
-      → Tried tells side back rest moved text losses chain files
+      → chain ≡ side.chain → move_refused e ≡ Some text → touched ≡ [] → losses ≡ []
+      → Tried tells side back rest moved text touched losses chain files
+  failed : moved ≡ false → chain ≡ side.chain → text ≡ archive_refused → touched ≡ []
+      → losses ≡ archive ∷ [] → Tried tells side back rest moved text touched losses chain files
 
 -- A move was tried from the side.
 pub record Tries {G A : Type 0} (of_ledger : ledgers.Ghosts G) (of_files : archives.Ghosts A) (old new : G)
     (files_old files_new : A) (side : Side) (back : ℕ) (rest : List Node) (made : Made) : Type 0 where
   pub losses : List Device
   pub chain : Chain
-  pub tried : Tried of_files.tells side back rest made.moved made.text losses chain
+  pub tried : Tried of_files.tells side back rest made.moved made.text made.touched losses chain
       (of_files.bytes files_new)
   pub grows : of_files.tells → AllGrow side.files (of_files.bytes files_new)
   pub moved : Moved of_ledger old new side.chain chain
@@ -86,11 +88,13 @@ pub record MoveFailed {G A : Type 0} (of_ledger : ledgers.Ghosts G) (of_files : 
   pub disk_rose : e ≡ fault.DiskFailed → RoseBy (of_ledger.faults old) (of_ledger.faults new) 1
   pub disk_same : e ≢ fault.DiskFailed → of_ledger.faults new ≡ of_ledger.faults old
 
--- The set stands for what is kept of these transactions.
-pub record StandsAfter (pool : PoolState) (side : Side) (does : Side → Type 0) : Type 0 where
+-- The set stands for what is kept of these transactions, and these are the script hashes that changed.
+pub record StandsAfter (pool : PoolState) (side : Side) (changed : List Hash32) (does : Side → Type 0)
+    : Type 0 where
   pub kept : List Tx
   pub done : does (record side { kept = kept })
   pub stood : StandsFor pool.entries side.chain kept
+  pub changes : AreChanged side.chain side.kept side.chain kept changed
 
 -- the refusal tells the txid of the transaction itself
 abbrev pub NamesItself : PoolFault → Type 0

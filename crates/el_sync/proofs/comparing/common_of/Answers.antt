@@ -1,33 +1,23 @@
-use Rattle.std.proofs.Common.{◌≡◌, ◌∙◌, ap, length, refl, arith}
+use Rattle.std.proofs.Common.{◌≡◌, ◌∙◌, ◌+◌, length, ap, arith}
+use Rattle.std.specs.Prelude.{min}
 use Rattle.el_model.specs.Queries.{blocks_in}
-use Rattle.el_sync.proofs.Compared.{common_more, common_other, common_ends, common_short, other_hash, this_hash}
-use Rattle.el_model.proofs.LedgerMoves.{asked_on}
 use Rattle.el_model.proofs.Heights.{blocks_are}
+use Rattle.el_sync.proofs.Compared.{below_first}
 use Rattle.el_sync.proofs.comparing.common_of.Goals as goal
 
-pub returns-then-index-count-clause-common : goal.returns-then-index-count-clause-common
-returns-then-index-count-clause-common g c = λ chain stands.
-    let blocks : c.count_of-count.result ≡ length chain = c.count_of-count.ensures.blocks ∙ ap blocks_in (g.met.G.Ledger.height_is c.args.ledger.now chain stands) ∙ blocks_are chain in
-    common_short chain c.args.path.now c.loop-index.index (let t = c.if-index-count.true in omega arith) (c.loop-index.invariant.so_far chain stands)
-
-pub returns-then-not-has_hash-clause-common : goal.returns-then-not-has_hash-clause-common
-returns-then-not-has_hash-clause-common g c = λ chain stands.
-    let here = c.loop-index.invariant.asked.stays.still_stands chain stands in
-    common_other chain c.args.path.now c.loop-index.index _ _ c.in_ok-header.header c.loop-index-test.true refl (c.in_ok-header.ensures.header chain here)
-    (other_hash c.has_hash.result _ c.if-not-has_hash.true c.has_hash.ensures) (c.loop-index.invariant.so_far chain stands)
-
-pub loop-index-preserved : goal.loop-index-preserved
-loop-index-preserved g c =
-    record {
-      asked = asked_on g.G.Ledger c.args.ledger.now c.loop-index.ledger c.header.new.self c.loop-index.invariant.asked c.in_ok-header.ensures.quiet;
-      disk_count = c.in_ok-header.ensures.cause.uncounted ∙ c.loop-index.invariant.disk_count;
-      so_far = λ chain stands.
-          let here = c.loop-index.invariant.asked.stays.still_stands chain stands in
-          common_more chain c.args.path.now c.loop-index.index _ _ c.in_ok-header.header c.loop-index-test.true refl (c.in_ok-header.ensures.header chain here)
-          (this_hash c.has_hash.result _ c.if-not-has_hash.false c.has_hash.ensures) (c.loop-index.invariant.so_far chain stands);
-    }
-
 pub returns-clause-common : goal.returns-clause-common
-returns-clause-common g c = λ chain stands.
-    (let t = c.loop-index-test.false in let k = c.loop-index.auto.index-end in let e : length c.args.path.now ≡ c.loop-index.index = omega arith in e)
-    ∙ common_ends chain c.args.path.now c.loop-index.index (let t = c.loop-index-test.false in omega arith) (c.loop-index.invariant.so_far chain stands)
+returns-clause-common g c = λ hash path chain is is_end stands.
+    let blocks : c.count_of-count.result ≡ length chain = c.count_of-count.ensures.blocks ∙ ap blocks_in (g.met.G.Ledger.height_is c.args.ledger.now chain stands) ∙ blocks_are chain in
+    let few = c.count_of-count.ensures.few in
+    let both : c.min-both.result ≡ min c.count_of-count.result (c.args.end.now.height + 1) = omega (arith, few, c.min-both.ensures, c.saturating_add.ensures) in
+    c.common_below.ensures.common hash path chain is stands
+    (below_first chain path c.count_of-count.result c.min-both.result c.args.end.now.height c.args.end.now.node c.last_of-last.result blocks is_end both (λ below le one. c.last_of-last.ensures hash path below is is_end le one))
+
+pub returns-clause-rows : goal.returns-clause-rows
+returns-clause-rows g c = λ hash path chain is is_end stands.
+    let blocks : c.count_of-count.result ≡ length chain = c.count_of-count.ensures.blocks ∙ ap blocks_in (g.met.G.Ledger.height_is c.args.ledger.now chain stands) ∙ blocks_are chain in
+    let few = c.count_of-count.ensures.few in
+    let both : c.min-both.result ≡ min c.count_of-count.result (c.args.end.now.height + 1) = omega (arith, few, c.min-both.ensures, c.saturating_add.ensures) in
+    let rows = c.common_below.ensures.rows hash path chain is stands
+    (below_first chain path c.count_of-count.result c.min-both.result c.args.end.now.height c.args.end.now.node c.last_of-last.result blocks is_end both (λ below le one. c.last_of-last.ensures hash path below is is_end le one)) in
+    omega (arith, rows, blocks, both)

@@ -4,11 +4,11 @@ use Rattle.el_sync.proofs.keeping.order_drop.Goals as goal
 
 pub returns-in_default-clause-drops : goal.returns-in_default-clause-drops
 returns-in_default-clause-drops c = λ side stood.
-    let e = c.in_ok-_touched.ensures in
-    absent_side c.args.pool.now c.drop_tx.new.self side c.args.id c.in_ok-text.text stood (rw c.in_default.is at e.kept) (e.absent (ap Ok c.in_default.is)) c.in_ok-text.ensures
+    let e = c.in_ok-changed.ensures in
+    absent_side c.args.pool.now c.drop_tx.new.self side c.args.id c.in_ok-text.text _ c.new.ensures stood (rw c.in_default.is at e.kept) (e.absent (ap Ok c.in_default.is)) c.in_ok-text.ensures
 
 pub returns-clause-drops : goal.returns-clause-drops
 returns-clause-drops c = λ side stood.
-    let e = c.in_ok-_touched.ensures in
+    let e = c.in_ok-changed.ensures in
     let after = rw c.in-Some.is at (e.stands side.chain side.kept stood) in
-    drops_side c.args.pool.now c.drop_tx.new.self side c.args.id c.in_ok-text-2.text stood (rw c.in-Some.is at e.kept) after.0 c.in_ok-text-2.ensures
+    drops_side c.args.pool.now c.drop_tx.new.self side c.args.id c.in_ok-text-2.text _ stood (rw c.in-Some.is at e.kept) after c.in_ok-text-2.ensures

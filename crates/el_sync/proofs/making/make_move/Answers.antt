@@ -15,7 +15,7 @@ go-requires-clause-fits g c = λ chain stands. plan_fits c.args.back c.args.rest
 pub returns-in-Ok-clause-tried : goal.returns-in-Ok-clause-tried
 returns-in-Ok-clause-tried g c = λ side stood told.
     made_tries g.G.Ledger g.A.Archive c.args.ledger.now c.go.new.self c.args.archive.now c.go.new.archive side c.args.back c.args.rest
-    c.in_ok-forward.forward c.in-Ok.moved.tip c.in-Ok.moved.height _ _ told c.in-Ok.ensures.reads.keeps (c.in-Ok.ensures.moved side.chain stood) c.in_ok-forward.ensures
+    c.in_ok-forward.forward c.in-Ok.moved.tip c.in-Ok.moved.height _ told c.in-Ok.ensures.reads.keeps (c.in-Ok.ensures.moved side.chain stood) c.in_ok-forward.ensures
     (λ d s. c.in-Ok.ensures.answer.0 ∙ g.met.G.Ledger.tip_is c.go.new.self d s) (λ d s. c.in-Ok.ensures.answer.1 ∙ g.met.G.Ledger.height_is c.go.new.self d s)
     refl c.at_answer_in.ensures c.in-Ok.ensures.reads.uncounted c.in-Ok.ensures.cause.uncounted
 
@@ -41,7 +41,7 @@ returns-in_ok-text-in-Err-clause-tried g c = λ side stood told.
     c.in-Err.fault _ told e.reads.keeps
     (asked_moved g.G.Ledger c.args.ledger.now c.go.new.self side.chain (λ a d f h i j k. g.met.G.Ledger.leaves_own a d f h i j k) c.requires.live quiet stood)
     (e.refused side.chain stood) c.in_ok-forward.ensures (λ is. e.reads.counted (ap Err is)) (λ is. e.reads.others_uncounted is) (e.cause.others_uncounted other)
-    refl c.in_ok-text-in-Err.ensures.told
+    refl c.in_ok-text-in-Err.ensures.told c.new.ensures
 
 pub returns-in_err-text-in-Err-clause-stopped : goal.returns-in_err-text-in-Err-clause-stopped
 returns-in_err-text-in-Err-clause-stopped g c = λ chain stands.

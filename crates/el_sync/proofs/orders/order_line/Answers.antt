@@ -4,30 +4,30 @@ use Rattle.el_lines.specs.Lines.{line}
 use Rattle.el_lines.specs.NodeLines as said
 use Rattle.el_world.specs.Side.{OrdersLine, Tips}
 use Rattle.el_model.proofs.LedgerMoves.{asked_moved, asked_none}
-use Rattle.el_sync.proofs.Led.{asked_stops, block_leads, if_ok_map, if_err_map, kept_leads, leads_in, memory_of, refused_leads, said_after, stands_there, starved, starved_still, stops_as}
+use Rattle.el_sync.proofs.Led.{asked_stops, block_leads, if_ok_map, if_err_map, kept_leads, leads_in, memory_of, refused_leads, said_after, stands_there, starved, starved_still, step_asked, stops_as}
 use Rattle.el_sync.specs.declared.fault.StepFault.TheVariants as fault
 use Rattle.el_sync.specs.declared.moving.Step.{Step}
 use Rattle.el_methods.specs.declared.holdings.Holdings.{Holdings}
 use Rattle.el_sync.proofs.orders.order_line.Goals as goal
 
 pub returns-in_ok-text-in-Ok-Block-clause-node : goal.returns-in_ok-text-in-Ok-Block-clause-node
-returns-in_ok-text-in-Ok-Block-clause-node g c = λ side at from.
+returns-in_ok-text-in-Ok-Block-clause-node g c = λ side start at from.
     let same = ap (λ (h : Holdings). h.pool) c.in_ok-text-in-Ok-Block.ensures.same in
     rw same (
-    block_leads g.G.Ledger g.A.Archive c.args.ledger.now c.args.archive.now c.order_block.new.archive side c.args.holdings.now.pool c.args.text.now c.in-Ok-Block.file c.in-Ok-Block.at _ _ _ _ at from.still
+    block_leads g.G.Ledger g.A.Archive c.args.ledger.now c.args.archive.now c.order_block.new.archive side start c.args.holdings.now.pool c.args.text.now c.in-Ok-Block.file c.in-Ok-Block.at _ _ _ _ _ _ at from.still
     (rw c.in-Ok-Block.field-0-is at c.in-Ok-Block.ensures.read) (c.in_ok-text-in-Ok-Block.ensures.looked side from at.told) c.only_text.ensures.text c.only_text.ensures.left
     (asked_moved g.G.Ledger c.args.ledger.now c.args.ledger.now side.chain (λ a d f h i j k. g.met.G.Ledger.leaves_own a d f h i j k) c.requires.live (asked_none g.G.Ledger c.args.ledger.now) at.stood))
 
 pub returns-in-Ok-Tip-clause-node : goal.returns-in-Ok-Tip-clause-node
-returns-in-Ok-Tip-clause-node g c = λ side at from.
+returns-in-Ok-Tip-clause-node g c = λ side start at from.
     if_ok_map c.order_tip.result _ _ (λ s leads.
-    leads_in g.G.Ledger g.A.Archive c.args.ledger.now c.order_tip.new.ledger c.args.archive.now c.order_tip.new.archive side
-    (Tips g.A.Archive.tells side c.in-Ok-Tip.h) (OrdersLine g.A.Archive.tells side (line c.args.text.now)) s.text side.found c.args.holdings.now.tree s.left c.order_tip.new.pool from.found
+    leads_in g.G.Ledger g.A.Archive c.args.ledger.now c.order_tip.new.ledger c.args.archive.now c.order_tip.new.archive side start
+    (Tips g.A.Archive.tells side c.in-Ok-Tip.h) (OrdersLine g.A.Archive.tells side (line c.args.text.now)) s.text side.found c.args.holdings.now.tree s.left s.moved s.changed c.order_tip.new.pool from.found
     (λ losses next led. (Some (said.tip c.in-Ok-Tip.h.0), rw c.in-Ok-Tip.field-0-is at c.in-Ok-Tip.ensures.read, led)) leads)
-    (c.order_tip.ensures.tip side at from.found from.still)
+    (c.order_tip.ensures.tip side start at from.found from.still)
 
 pub returns-in-Ok-Tip-clause-stopped : goal.returns-in-Ok-Tip-clause-stopped
-returns-in-Ok-Tip-clause-stopped g c = λ side at from.
+returns-in-Ok-Tip-clause-stopped g c = λ side start at from.
     if_err_map c.order_tip.result _ _ (λ e f. stops_as g.G.Ledger g.A.Archive _ _ _ _ side.chain false _ _ e
     (λ p is. record {
       bytes = c.args.text.now;
@@ -40,59 +40,69 @@ returns-in-Ok-Tip-clause-stopped g c = λ side at from.
       moving = is.move_is.moving;
       plan_is = is.move_is.plan_is;
     }) f)
-    (c.order_tip.ensures.stopped side at from.found)
+    (c.order_tip.ensures.stopped side start at from.found)
 
-pub returns-in_ok-text-in-Ok-Tx-clause-node : goal.returns-in_ok-text-in-Ok-Tx-clause-node
-returns-in_ok-text-in-Ok-Tx-clause-node g c = λ side at from.
-    let e = c.in_ok-text-in-Ok-Tx.ensures in
-    kept_leads g.G.Ledger g.A.Archive c.args.ledger.now c.order_tx.new.ledger c.args.archive.now side c.args.holdings.now.pool c.order_tx.new.pool _ _ _ _ _ at from.still
-    (said_after c.order_tx.new.pool side _ c.args.text.now (said.tx c.in-Ok-Tx.bytes) _ (rw c.in-Ok-Tx.field-0-is at c.in-Ok-Tx.ensures.read) (rw c.as_slice.ensures at (e.adds side at.stood (stands_there c.args.holdings.now.pool side at.set from.still) at.set.limits)))
-    c.only_text-in-Ok-Tx.ensures.text (sym from.found) c.only_text-in-Ok-Tx.ensures.left e.limits
+pub returns-in_ok-answer-in-Ok-Tx-clause-node : goal.returns-in_ok-answer-in-Ok-Tx-clause-node
+returns-in_ok-answer-in-Ok-Tx-clause-node g c = λ side start at from.
+    let e = c.in_ok-answer-in-Ok-Tx.ensures in
+    kept_leads g.G.Ledger g.A.Archive c.args.ledger.now c.order_tx.new.ledger c.args.archive.now side start c.args.holdings.now.pool c.order_tx.new.pool _ _ _ _ _ _ _ _ at from.still
+    (said_after c.order_tx.new.pool side _ _ c.args.text.now (said.tx c.in-Ok-Tx.bytes) _ (rw c.in-Ok-Tx.field-0-is at c.in-Ok-Tx.ensures.read) (rw c.as_slice.ensures at (e.adds side at.stood (stands_there c.args.holdings.now.pool side start at.set from.still) at.set.limits)))
+    c.pool_step.ensures.text (sym from.found) c.pool_step.ensures.left c.pool_step.ensures.changed e.limits
     (asked_moved g.G.Ledger c.args.ledger.now c.order_tx.new.ledger side.chain (λ a d f h i j k. g.met.G.Ledger.leaves_own a d f h i j k) c.requires.live e.asked at.stood) e.disk_rose.uncounted
 
-pub returns-in_ok-text-in-Ok-Drop-clause-node : goal.returns-in_ok-text-in-Ok-Drop-clause-node
-returns-in_ok-text-in-Ok-Drop-clause-node g c = λ side at from.
-    let e = c.in_ok-text-in-Ok-Drop.ensures in
-    kept_leads g.G.Ledger g.A.Archive c.args.ledger.now c.args.ledger.now c.args.archive.now side c.args.holdings.now.pool c.order_drop.new.pool _ _ _ _ _ at from.still
-    (said_after c.order_drop.new.pool side _ c.args.text.now (said.dropped c.in-Ok-Drop.id.0) _ (rw c.in-Ok-Drop.field-0-is at c.in-Ok-Drop.ensures.read) (e.drops side (stands_there c.args.holdings.now.pool side at.set from.still)))
-    c.only_text-in-Ok-Drop.ensures.text (sym from.found) c.only_text-in-Ok-Drop.ensures.left e.limits
+pub returns-in_ok-answer-in-Ok-Drop-clause-node : goal.returns-in_ok-answer-in-Ok-Drop-clause-node
+returns-in_ok-answer-in-Ok-Drop-clause-node g c = λ side start at from.
+    let e = c.in_ok-answer-in-Ok-Drop.ensures in
+    kept_leads g.G.Ledger g.A.Archive c.args.ledger.now c.args.ledger.now c.args.archive.now side start c.args.holdings.now.pool c.order_drop.new.pool _ _ _ _ _ _ _ _ at from.still
+    (said_after c.order_drop.new.pool side _ _ c.args.text.now (said.dropped c.in-Ok-Drop.id.0) _ (rw c.in-Ok-Drop.field-0-is at c.in-Ok-Drop.ensures.read) (e.drops side (stands_there c.args.holdings.now.pool side start at.set from.still)))
+    c.pool_step-in-Ok-Drop.ensures.text (sym from.found) c.pool_step-in-Ok-Drop.ensures.left c.pool_step-in-Ok-Drop.ensures.changed e.limits
     (asked_moved g.G.Ledger c.args.ledger.now c.args.ledger.now side.chain (λ a d f h i j k. g.met.G.Ledger.leaves_own a d f h i j k) c.requires.live (asked_none g.G.Ledger c.args.ledger.now) at.stood) refl
 
 pub returns-in-Err-Line-clause-node : goal.returns-in-Err-Line-clause-node
-returns-in-Err-Line-clause-node g c = λ side at from.
-    refused_leads g.G.Ledger g.A.Archive c.refuse_line.result c.args.ledger.now c.args.archive.now side c.args.holdings.now.pool c.args.text.now None c.args.holdings.now.tree at from.still from.found
+returns-in-Err-Line-clause-node g c = λ side start at from.
+    refused_leads g.G.Ledger g.A.Archive c.refuse_line.result c.args.ledger.now c.args.archive.now side start c.args.holdings.now.pool c.args.text.now None c.args.holdings.now.tree at from.still from.found
     (rw c.in-Err-Line.field-0-is at c.in-Err-Line.ensures.refused) (λ text is. (is, refl, refl)) c.refuse_line.ensures.text c.refuse_line.ensures.left
     (asked_moved g.G.Ledger c.args.ledger.now c.args.ledger.now side.chain (λ a d f h i j k. g.met.G.Ledger.leaves_own a d f h i j k) c.requires.live (asked_none g.G.Ledger c.args.ledger.now) at.stood)
 
 pub returns-in_err-text-in-Ok-Block-clause-stopped : goal.returns-in_err-text-in-Ok-Block-clause-stopped
-returns-in_err-text-in-Ok-Block-clause-stopped g c = λ side at from.
+returns-in_err-text-in-Ok-Block-clause-stopped g c = λ side start at from.
     let p = err_from_is_err_and c.from_residual.result c.from_residual.ensures.1 in
     starved g.G.Ledger g.A.Archive c.from_residual.result c.args.ledger.now c.args.ledger.now c.args.archive.now c.order_block.new.archive side.chain _
     (asked_moved g.G.Ledger c.args.ledger.now c.args.ledger.now side.chain (λ a d f h i j k. g.met.G.Ledger.leaves_own a d f h i j k) c.requires.live (asked_none g.G.Ledger c.args.ledger.now) at.stood)
     (memory_of c.from_residual.result p.0 p.1 (p.2 ∙ c.in_err-text-in-Ok-Block.ensures.memory)) c.in_err-text-in-Ok-Block.ensures.archive_rose refl
 
-pub returns-in_err-text-in-Ok-Tx-clause-stopped : goal.returns-in_err-text-in-Ok-Tx-clause-stopped
-returns-in_err-text-in-Ok-Tx-clause-stopped g c = λ side at from.
-    let p = err_from_is_err_and c.from_residual-in_err-text-in-Ok-Tx.result c.from_residual-in_err-text-in-Ok-Tx.ensures.1 in
-    let e = c.in_err-text-in-Ok-Tx.ensures in
-    asked_stops g.G.Ledger g.A.Archive c.from_residual-in_err-text-in-Ok-Tx.result c.in_err-text-in-Ok-Tx.field-0.0 c.args.ledger.now c.order_tx.new.ledger c.args.archive.now side.chain _ (p.1 ∙ ap Err p.2)
+pub returns-in_err-answer-in-Ok-Tx-clause-stopped : goal.returns-in_err-answer-in-Ok-Tx-clause-stopped
+returns-in_err-answer-in-Ok-Tx-clause-stopped g c = λ side start at from.
+    let p = err_from_is_err_and c.from_residual-in_err-answer-in-Ok-Tx.result c.from_residual-in_err-answer-in-Ok-Tx.ensures.1 in
+    let e = c.in_err-answer-in-Ok-Tx.ensures in
+    asked_stops g.G.Ledger g.A.Archive c.from_residual-in_err-answer-in-Ok-Tx.result c.in_err-answer-in-Ok-Tx.field-0.0 c.args.ledger.now c.order_tx.new.ledger c.args.archive.now side.chain _ (p.1 ∙ ap Err p.2)
     (asked_moved g.G.Ledger c.args.ledger.now c.order_tx.new.ledger side.chain (λ a d f h i j k. g.met.G.Ledger.leaves_own a d f h i j k) c.requires.live e.asked at.stood)
     (λ is. e.disk_rose.counted (ap Err is)) (λ other. e.disk_rose.others_uncounted other)
 
-pub returns-in_err-text-in-Ok-Drop-clause-stopped : goal.returns-in_err-text-in-Ok-Drop-clause-stopped
-returns-in_err-text-in-Ok-Drop-clause-stopped g c = λ side at from.
-    let p = err_from_is_err_and c.from_residual-in_err-text-in-Ok-Drop.result c.from_residual-in_err-text-in-Ok-Drop.ensures.1 in
-    starved_still g.G.Ledger g.A.Archive c.from_residual-in_err-text-in-Ok-Drop.result c.args.ledger.now c.args.ledger.now c.args.archive.now side.chain _
+pub returns-in_err-answer-in-Ok-Drop-clause-stopped : goal.returns-in_err-answer-in-Ok-Drop-clause-stopped
+returns-in_err-answer-in-Ok-Drop-clause-stopped g c = λ side start at from.
+    let p = err_from_is_err_and c.from_residual-in_err-answer-in-Ok-Drop.result c.from_residual-in_err-answer-in-Ok-Drop.ensures.1 in
+    starved_still g.G.Ledger g.A.Archive c.from_residual-in_err-answer-in-Ok-Drop.result c.args.ledger.now c.args.ledger.now c.args.archive.now side.chain _
     (asked_moved g.G.Ledger c.args.ledger.now c.args.ledger.now side.chain (λ a d f h i j k. g.met.G.Ledger.leaves_own a d f h i j k) c.requires.live (asked_none g.G.Ledger c.args.ledger.now) at.stood)
-    (memory_of c.from_residual-in_err-text-in-Ok-Drop.result p.0 p.1 (p.2 ∙ c.in_err-text-in-Ok-Drop.ensures.memory)) refl
+    (memory_of c.from_residual-in_err-answer-in-Ok-Drop.result p.0 p.1 (p.2 ∙ c.in_err-answer-in-Ok-Drop.ensures.memory)) refl
 
 pub returns-in-Err-Line-clause-stopped : goal.returns-in-Err-Line-clause-stopped
-returns-in-Err-Line-clause-stopped g c = λ side at from.
+returns-in-Err-Line-clause-stopped g c = λ side start at from.
     starved_still g.G.Ledger g.A.Archive c.refuse_line.result c.args.ledger.now c.args.ledger.now c.args.archive.now side.chain _
     (asked_moved g.G.Ledger c.args.ledger.now c.args.ledger.now side.chain (λ a d f h i j k. g.met.G.Ledger.leaves_own a d f h i j k) c.requires.live (asked_none g.G.Ledger c.args.ledger.now) at.stood) c.refuse_line.ensures.memory refl
 
 pub returns-in-Err-Memory-clause-stopped : goal.returns-in-Err-Memory-clause-stopped
-returns-in-Err-Memory-clause-stopped g c = λ side at from.
+returns-in-Err-Memory-clause-stopped g c = λ side start at from.
     starved_still g.G.Ledger g.A.Archive {T = Step} (Err fault.Memory) c.args.ledger.now c.args.ledger.now c.args.archive.now side.chain _
     (asked_moved g.G.Ledger c.args.ledger.now c.args.ledger.now side.chain (λ a d f h i j k. g.met.G.Ledger.leaves_own a d f h i j k) c.requires.live (asked_none g.G.Ledger c.args.ledger.now) at.stood)
     refl refl
+
+pub returns-in_ok-answer-in-Ok-Tx-clause-step : goal.returns-in_ok-answer-in-Ok-Tx-clause-step
+returns-in_ok-answer-in-Ok-Tx-clause-step g c =
+    let e = c.in_ok-answer-in-Ok-Tx.ensures in
+    step_asked g.G.Ledger g.A.Archive c.pool_step.result c.args.ledger.now c.order_tx.new.ledger c.args.archive.now c.requires.live e.asked c.pool_step.ensures.left e.disk_rose.uncounted
+
+pub returns-in_ok-answer-in-Ok-Drop-clause-step : goal.returns-in_ok-answer-in-Ok-Drop-clause-step
+returns-in_ok-answer-in-Ok-Drop-clause-step g c =
+    step_asked g.G.Ledger g.A.Archive c.pool_step-in-Ok-Drop.result c.args.ledger.now c.args.ledger.now c.args.archive.now c.requires.live (asked_none g.G.Ledger c.args.ledger.now)
+    c.pool_step-in-Ok-Drop.ensures.left refl

@@ -2,56 +2,71 @@ use Rattle.std.proofs.Common.{Err, false, refl, ◌∙◌}
 use Rattle.std.proofs.lemmas.Result.{err_from_is_err_and}
 use Rattle.el_world.specs.Side.{Tips, along, unconnected, unknown}
 use Rattle.el_model.proofs.LedgerMoves.{asked_moved, asked_none}
-use Rattle.el_sync.proofs.Compared.{path_linked}
-use Rattle.el_sync.proofs.Led.{all_grow_self, answered, if_ok_map, if_err_map, leads_as, memory_of, starved_still, stops_as}
+use Rattle.el_sync.proofs.Led.{all_grow_self, answered, if_ok_map, if_err_map, leads_as, memory_of, starved_still, step_asked, stops_as}
 use Rattle.el_sync.specs.declared.fault.StepFault.TheVariants as fault
 use Rattle.el_sync.specs.declared.moving.Step.{Step}
 use Rattle.el_sync.proofs.orders.order_tip.Goals as goal
 
-pub move_along-requires-clause-linked : goal.move_along-requires-clause-linked
-move_along-requires-clause-linked g c = path_linked c.args.tree.now c.in-Ok.path.items c.args.h c.in-Ok.ensures.path
+pub move_along-requires-clause-path : goal.move_along-requires-clause-path
+move_along-requires-clause-path g c = (c.in-Ok.ensures.there.0, rw c.in-Ok.ensures.hash c.in-Ok.ensures.there.1)
+
+pub move_along-requires-clause-end : goal.move_along-requires-clause-end
+move_along-requires-clause-end g c = λ path is. c.in-Ok.ensures.end path (rw c.in-Ok.ensures.hash at is)
 
 pub returns-in-Ok-clause-tip : goal.returns-in-Ok-clause-tip
-returns-in-Ok-clause-tip g c = λ side at found still.
+returns-in-Ok-clause-tip g c = λ side start at found still.
+    let path = c.in-Ok.ensures.there.0 in
+    let is = c.in-Ok.ensures.there.1 in
     if_ok_map c.move_along.result _ _ (λ s leads.
-    leads_as g.G.Ledger g.A.Archive _ _ _ _ side _ _ s.text side.found s.left c.move_along.new.pool (λ losses next. along c.in-Ok.path.items (rw found c.in-Ok.ensures.path)) leads)
-    (c.move_along.ensures.along side at still)
+    leads_as g.G.Ledger g.A.Archive _ _ _ _ side start _ _ s.text side.found s.left s.moved s.changed c.move_along.new.pool (λ losses next. along path (rw found is)) leads)
+    (c.move_along.ensures.along path side start (rw c.in-Ok.ensures.hash is) at still)
 
 pub returns-in-Ok-clause-stopped : goal.returns-in-Ok-clause-stopped
-returns-in-Ok-clause-stopped g c = λ side at found.
+returns-in-Ok-clause-stopped g c = λ side start at found.
+    let path = c.in-Ok.ensures.there.0 in
+    let is = c.in-Ok.ensures.there.1 in
     if_err_map c.move_along.result _ _ (λ e f.
-    stops_as g.G.Ledger g.A.Archive _ _ _ _ side.chain false _ _ e (λ p is. record { path = c.in-Ok.path.items; is_path = rw found c.in-Ok.ensures.path; move_is = is }) f)
-    (c.move_along.ensures.stopped side.chain at.stood)
+    stops_as g.G.Ledger g.A.Archive _ _ _ _ side.chain false _ _ e (λ p first. record { path = path; is_path = rw found is; move_is = first }) f)
+    (c.move_along.ensures.stopped path side.chain (rw c.in-Ok.ensures.hash is) at.stood)
 
 pub returns-in_ok-text-in-Err-Unknown-clause-tip : goal.returns-in_ok-text-in-Err-Unknown-clause-tip
-returns-in_ok-text-in-Err-Unknown-clause-tip g c = λ side at found still.
-    answered g.G.Ledger g.A.Archive c.args.ledger.now c.args.ledger.now c.args.archive.now c.args.archive.now side c.args.pool.now (Tips g.A.Archive.tells side c.args.h) _ _ _ at still
+returns-in_ok-text-in-Err-Unknown-clause-tip g c = λ side start at found still.
+    answered g.G.Ledger g.A.Archive c.args.ledger.now c.args.ledger.now c.args.archive.now c.args.archive.now side start c.args.pool.now (Tips g.A.Archive.tells side c.args.h) _ _ _ _ _ at still
     (unknown (rw found (rw c.in-Err-Unknown.field-0-is at c.in-Err-Unknown.ensures.fault)) (c.only_text.ensures.text ∙ c.in_ok-text-in-Err-Unknown.ensures) refl refl) refl
     c.only_text.ensures.left (λ t. all_grow_self _) (asked_moved g.G.Ledger c.args.ledger.now c.args.ledger.now side.chain (λ a d f h i j k. g.met.G.Ledger.leaves_own a d f h i j k) c.requires.live (asked_none g.G.Ledger c.args.ledger.now) at.stood) refl refl
 
 pub returns-in_ok-text-in-Err-Unconnected-clause-tip : goal.returns-in_ok-text-in-Err-Unconnected-clause-tip
-returns-in_ok-text-in-Err-Unconnected-clause-tip g c = λ side at found still.
+returns-in_ok-text-in-Err-Unconnected-clause-tip g c = λ side start at found still.
     let why = rw c.in-Err-Unconnected.field-0-is at c.in-Err-Unconnected.ensures.fault in
-    answered g.G.Ledger g.A.Archive c.args.ledger.now c.args.ledger.now c.args.archive.now c.args.archive.now side c.args.pool.now (Tips g.A.Archive.tells side c.args.h) _ _ _ at still
+    answered g.G.Ledger g.A.Archive c.args.ledger.now c.args.ledger.now c.args.archive.now c.args.archive.now side start c.args.pool.now (Tips g.A.Archive.tells side c.args.h) _ _ _ _ _ at still
     (unconnected (rw found why.0) (rw found why.1) (c.only_text-in-Err-Unconnected.ensures.text ∙ c.in_ok-text-in-Err-Unconnected.ensures) refl refl) refl
     c.only_text-in-Err-Unconnected.ensures.left (λ t. all_grow_self _) (asked_moved g.G.Ledger c.args.ledger.now c.args.ledger.now side.chain (λ a d f h i j k. g.met.G.Ledger.leaves_own a d f h i j k) c.requires.live (asked_none g.G.Ledger c.args.ledger.now) at.stood) refl refl
 
 pub returns-in_err-text-in-Err-Unknown-clause-stopped : goal.returns-in_err-text-in-Err-Unknown-clause-stopped
-returns-in_err-text-in-Err-Unknown-clause-stopped g c = λ side at found.
+returns-in_err-text-in-Err-Unknown-clause-stopped g c = λ side start at found.
     let p = err_from_is_err_and c.from_residual.result c.from_residual.ensures.1 in
     starved_still g.G.Ledger g.A.Archive c.from_residual.result c.args.ledger.now c.args.ledger.now c.args.archive.now side.chain _
     (asked_moved g.G.Ledger c.args.ledger.now c.args.ledger.now side.chain (λ a d f h i j k. g.met.G.Ledger.leaves_own a d f h i j k) c.requires.live (asked_none g.G.Ledger c.args.ledger.now) at.stood)
     (memory_of c.from_residual.result p.0 p.1 p.2) refl
 
 pub returns-in_err-text-in-Err-Unconnected-clause-stopped : goal.returns-in_err-text-in-Err-Unconnected-clause-stopped
-returns-in_err-text-in-Err-Unconnected-clause-stopped g c = λ side at found.
+returns-in_err-text-in-Err-Unconnected-clause-stopped g c = λ side start at found.
     let p = err_from_is_err_and c.from_residual-in_err-text-in-Err-Unconnected.result c.from_residual-in_err-text-in-Err-Unconnected.ensures.1 in
     starved_still g.G.Ledger g.A.Archive c.from_residual-in_err-text-in-Err-Unconnected.result c.args.ledger.now c.args.ledger.now c.args.archive.now side.chain _
     (asked_moved g.G.Ledger c.args.ledger.now c.args.ledger.now side.chain (λ a d f h i j k. g.met.G.Ledger.leaves_own a d f h i j k) c.requires.live (asked_none g.G.Ledger c.args.ledger.now) at.stood)
     (memory_of c.from_residual-in_err-text-in-Err-Unconnected.result p.0 p.1 p.2) refl
 
 pub returns-in-Err-Memory-clause-stopped : goal.returns-in-Err-Memory-clause-stopped
-returns-in-Err-Memory-clause-stopped g c = λ side at found.
+returns-in-Err-Memory-clause-stopped g c = λ side start at found.
     starved_still g.G.Ledger g.A.Archive {T = Step} (Err fault.Memory) c.args.ledger.now c.args.ledger.now c.args.archive.now side.chain _
     (asked_moved g.G.Ledger c.args.ledger.now c.args.ledger.now side.chain (λ a d f h i j k. g.met.G.Ledger.leaves_own a d f h i j k) c.requires.live (asked_none g.G.Ledger c.args.ledger.now) at.stood)
     refl refl
+
+pub returns-in_ok-text-in-Err-Unknown-clause-step : goal.returns-in_ok-text-in-Err-Unknown-clause-step
+returns-in_ok-text-in-Err-Unknown-clause-step g c =
+    step_asked g.G.Ledger g.A.Archive c.only_text.result c.args.ledger.now c.args.ledger.now c.args.archive.now c.requires.live (asked_none g.G.Ledger c.args.ledger.now) c.only_text.ensures.left refl
+
+pub returns-in_ok-text-in-Err-Unconnected-clause-step : goal.returns-in_ok-text-in-Err-Unconnected-clause-step
+returns-in_ok-text-in-Err-Unconnected-clause-step g c =
+    step_asked g.G.Ledger g.A.Archive c.only_text-in-Err-Unconnected.result c.args.ledger.now c.args.ledger.now c.args.archive.now c.requires.live (asked_none g.G.Ledger c.args.ledger.now)
+    c.only_text-in-Err-Unconnected.ensures.left refl
