@@ -8,26 +8,31 @@ use Rattle.el_chain.specs.declared.node.Node.{Node}
 use Rattle.el_lines.specs.Lines.{LineEvent, lines, added_lines}
 use Rattle.el_lines.specs.NodeAnswers.{node_limit}
 use Rattle.el_world.specs.World as model
-use Rattle.el_world.specs.World.{World, Session, Event, new_session, IsStill, nothing, joins, leaves, says, orders, events, after_hearing, lines_said, is_peer, with_client, without_client, hearing, line_limit, client_limit}
+use Rattle.el_world.specs.World.{World, Session, Event, new_session, IsStill, AllTold, nothing, joins, leaves, says, orders, events, after_hearing, lines_said, is_peer, with_client, without_client, hearing, line_limit, client_limit}
 use Rattle.el_world.specs.Run as run
 use Rattle.el_world.specs.Run.{Turns}
 use Rattle.el_lines.proofs.Cuts.{either, pieces}
 use Rattle.el_lines.specs.LineStates.{IsAt}
-use Rattle.el_core.specs.State.{State, ClientState, IsIdle, IsMet, HearsLeft, in_order, losing, IsSession, Rising, SessionsAre, NodeLeaves, Stands, is_numbered}
+use Rattle.el_core.specs.State.{State, ClientState, IsIdle, IsMet, HearsLeft, in_order, losing, IsSession, Rising, SessionsAre, Tellings, NoneWaits, NodeLeaves, Stands, is_numbered}
 use Rattle.el_core.specs.Arrivals.{TookArrival, IsAfterArrival, Quietly, none, joined, departed, gone_from}
 use Rattle.el_core.specs.within.Clients.{IsFresh, Opens, node, joins as adds, one_more, Hears, nobody, client, Keeps, IsFed, IsPlace, replaced}
-use Rattle.el_core.proofs.Places.{not_same, no_some, zip_at, zip_replaced, rising_replaced, rising_more, all_at, all_map, one_mapped, one_there, none_mapped}
+use Rattle.el_core.proofs.Places.{not_same, no_some, zip_at, zip_replaced, rising_replaced, rising_more, all_at, all_map, all_replaced, one_mapped, one_there, none_mapped}
+use Rattle.el_core.proofs.Tellings.{none_waits}
 use Rattle.el_core.proofs.Sessions.{said_all, gone_stands, zip_push, zip_length, zip_all}
 
 -- turns that do the same as what was done at once
-pub quiet_turns : (tells : Type 0) (world next : World) (done : List Event) → IsStill world → Quietly world done next → Turns tells world done [] [] [] next
-quiet_turns tells world next done still none = run.none
-quiet_turns tells world next done still (joined p few) =
+pub quiet_turns : (tells : Type 0) (world next : World) (done : List Event) → IsStill world → AllTold world → Quietly world done next → Turns tells world done [] [] [] next
+quiet_turns tells world next done still all_told none = run.none
+quiet_turns tells world next done still all_told (joined p few) =
     run.more [] [] [] [] world (joins p ∷ []) nothing [] (with_client p world) [] [] [] (with_client p world) run.none
-    (run.takes (joins p) still refl (rw few (refl, refl, refl))) (run.all (with_client p world) None)
-quiet_turns tells world next done still (departed p) =
+    (run.takes (joins p) still all_told refl (rw few (refl, refl, refl))) (run.all (with_client p world) None)
+quiet_turns tells world next done still all_told (departed p) =
     run.more [] [] [] [] world (leaves p ∷ []) nothing [] (without_client p world) [] [] [] (without_client p world) run.none
-    (run.takes (leaves p) still refl (refl, refl, refl)) (run.all (without_client p world) None)
+    (run.takes (leaves p) still all_told refl (refl, refl, refl)) (run.all (without_client p world) None)
+
+all_more : {A : Type 0} (P : A → Type 0) (xs : List A) (y : A) → AllByRecursion P xs → P y → AllByRecursion P (xs ++ y ∷ [])
+all_more P [] y all h = (h, tt)
+all_more P (x ∷ xs) y all h = (all.0, all_more P xs y all.1 h)
 
 no_first : (a b : List Event) → [] ≡ a ++ b → a ≡ []
 no_first [] b e = refl
@@ -50,6 +55,7 @@ new_session_is p c fresh = record {
   peer = fresh.peer;
   limit = fresh.limit;
   kept = fresh.session;
+  waits = fresh.waits;
   met = λ n. record { kept = fresh.kept; at = fresh.at };
   speaks = λ e. absurd (no_some c.peer (sym e));
 }
@@ -81,19 +87,24 @@ module _ {G : Type 0} (stands : G → Chain → Type 0) where
   sessions_none s world stood = subst (λ (l : List Event). SessionsAre s.clients s.speaker s.surplus world.sessions l) (no_second stood.ordered stood.said stood.left_is) stood.sessions
 
   -- only the clients change
-  clients_change : (s : State G) (world : World) (clients : List ClientState) (speaker surplus : Option ℕ) (ss : List Session) (left : List Event) → Stands stands s world []
-      → SessionsAre clients speaker surplus ss left
+  clients_change : (s : State G) (world : World) (clients : List ClientState) (speaker surplus : Option ℕ) (ss : List Session) (left : List Event) (stood : Stands stands s world [])
+      → SessionsAre clients speaker surplus ss left → ((p : ℕ) → speaker ≡ Some p → NoneWaits ss) → ((p : ℕ) → surplus ≡ Some p → NoneWaits ss) → Tellings world.side stood.start s.touched ss
       → Stands stands (record s { clients = clients; speaker = speaker; surplus = surplus }) (record world { sessions = ss }) left
-  clients_change s world clients speaker surplus ss left stood are = record {
+  clients_change s world clients speaker surplus ss left stood are spoken last tellings = record {
     chain = stood.chain;
     magic = stood.magic;
     found = stood.found;
     ahead = stood.ahead;
+    start = stood.start;
     set = stood.set;
     ordered = [];
     node = subst (λ (l : List Event). NodeLeaves s.node world.heard l) (no_first stood.ordered stood.said stood.left_is) stood.node;
     said = left;
     sessions = are;
+    speaker_last = λ p e. (refl, spoken p e);
+    surplus_last = λ p e. (refl, last p e);
+    before = stood.before;
+    tellings = tellings;
     left_is = refl;
   }
 
@@ -101,6 +112,7 @@ module _ {G : Type 0} (stands : G → Chain → Type 0) where
   joined_taken : (s : State G) (world : World) (p : ℕ) (c : ClientState) → (p ≡ 0 → ⊥) → IsIdle s → AllByRecursion (λ (d : ClientState). d.peer < p) s.clients → Stands stands s world [] → IsFresh p c
       → nat_lt (length s.clients) client_limit ≡ true → TookArrival stands (opened p) world (record s { clients = s.clients ++ c ∷ [] })
   joined_taken s world p c other idle newest stood fresh few =
+      let t = stood.tellings in
       let are : SessionsAre s.clients None None world.sessions [] = rw (idle.speaker, idle.surplus) at (sessions_none s world stood) in
       let here : SessionsAre (s.clients ++ c ∷ []) s.speaker s.surplus (with_client p world).sessions [] = rw (idle.speaker, idle.surplus) (record {
         each = zip_push (IsSession None []) s.clients world.sessions c (new_session p) are.each (new_session_is p c fresh);
@@ -114,7 +126,12 @@ module _ {G : Type 0} (stands : G → Chain → Type 0) where
         next = with_client p world;
         whole = rw (not_same p 0 other) refl;
         quietly = joined p (rw (← zip_length (IsSession None []) s.clients world.sessions are.each) few);
-        stood = clients_change s world (s.clients ++ c ∷ []) s.speaker s.surplus (with_client p world).sessions [] stood here;
+        stood = clients_change s world (s.clients ++ c ∷ []) s.speaker s.surplus (with_client p world).sessions [] stood here (λ q e. absurd (no_some q (sym e ∙ idle.speaker))) (λ q e. absurd (no_some q (sym e ∙ idle.surplus)))
+            (record {
+              untouched = all_more _ world.sessions (new_session p) t.untouched tt;
+              told = λ still. all_more _ world.sessions (new_session p) (t.told still) (λ w. tt);
+              busy = λ some. absurd (some (sym stood.ahead ∙ idle.ahead));
+            });
         after = inl (refl, idle.surplus);
       }
 
@@ -134,7 +151,10 @@ module _ {G : Type 0} (stands : G → Chain → Type 0) where
               each = zip_again s.clients world.sessions are.each;
               rising = are.rising;
               leaves_left = (refl, rw (← zip_length (IsSession None []) s.clients world.sessions are.each) many);
-            }));
+            }))
+            (λ q e. absurd (no_some q (sym e ∙ idle.speaker)))
+            (λ q e. zip_all (IsSession None []) (λ (d : ClientState). d.waits ≡ false) (λ (u : Session). u.waits ≡ false) s.clients world.sessions (λ d u r l. sym r.waits ∙ l) are.each (none_waits s.clients idle.told))
+            stood.tellings;
         after = inr (inl (refl, refl));
       }
     where
@@ -143,7 +163,7 @@ module _ {G : Type 0} (stands : G → Chain → Type 0) where
       zip_again [] (y ∷ ys) z = absurd z
       zip_again (x ∷ xs) [] z = absurd z
       zip_again (x ∷ xs) (y ∷ ys) z =
-          (record { peer = z.0.peer; limit = z.0.limit; kept = z.0.kept; met = z.0.met; speaks = λ e. absurd (no_some x.peer (sym e)) }, zip_again xs ys z.1)
+          (record { peer = z.0.peer; limit = z.0.limit; kept = z.0.kept; waits = z.0.waits; met = z.0.met; speaks = λ e. absurd (no_some x.peer (sym e)) }, zip_again xs ys z.1)
 
   pub opened_taken : (s next : State G) (world : World) (p : ℕ) → IsIdle s → AllByRecursion (λ (d : ClientState). d.peer < p) s.clients → Stands stands s world [] → Opens p s next → TookArrival stands (opened p) world next
   opened_taken s next world p idle newest stood (node is_zero same) = rw (same, is_zero) (record {
@@ -201,6 +221,7 @@ module _ {G : Type 0} (stands : G → Chain → Type 0) where
     peer = keeps.peer ∙ s.peer;
     limit = keeps.limit ∙ s.limit;
     kept = keeps.session ∙ s.kept;
+    waits = keeps.waits ∙ s.waits;
     met = λ n. absurd (n (ap (λ (q : ℕ). Some q) (sym (keeps.peer ∙ is))));
     speaks = λ e. rw (whole, ← is) (more_left c kept x.heard bytes (s.met (λ f. no_some c.peer (sym f))) keeps);
   }
@@ -209,6 +230,9 @@ module _ {G : Type 0} (stands : G → Chain → Type 0) where
       → Keeps bytes c kept → TookArrival stands (brought p bytes) world (record s { clients = replaced i (Some kept) s.clients; speaker = Some p })
   client_taken s world p bytes i c kept other idle stood at is keeps =
       let are : SessionsAre s.clients None None world.sessions [] = rw (idle.speaker, idle.surplus) at (sessions_none s world stood) in
+      let t = stood.tellings in
+      let quiet_before : NoneWaits world.sessions =
+      zip_all (IsSession None []) (λ (d : ClientState). d.waits ≡ false) (λ (u : Session). u.waits ≡ false) s.clients world.sessions (λ d u r l. sym r.waits ∙ l) are.each (none_waits s.clients idle.told) in
       let z = zip_at (IsSession None []) s.clients world.sessions i c are.each at in
       let x = z.0 in
       let xp : x.peer ≡ p = sym z.2.peer ∙ is in
@@ -222,6 +246,7 @@ module _ {G : Type 0} (stands : G → Chain → Type 0) where
               peer = r.peer;
               limit = r.limit;
               kept = r.kept;
+              waits = r.waits;
               met = λ n. r.met (λ f. no_some d.peer (sym f));
               speaks = λ e. absurd (differ (sym r.peer ∙ sym (same_number p d.peer e) ∙ sym xp));
             })
@@ -231,7 +256,14 @@ module _ {G : Type 0} (stands : G → Chain → Type 0) where
       } in
       let now : Stands stands (record s { clients = replaced i (Some kept) s.clients; speaker = Some p; surplus = s.surplus }) (record world { sessions = ss }) left =
       clients_change s world (replaced i (Some kept) s.clients) (Some p) s.surplus ss left stood
-      (subst (λ (u : Option ℕ). SessionsAre (replaced i (Some kept) s.clients) (Some p) u ss left) (sym idle.surplus) now_are) in
+      (subst (λ (u : Option ℕ). SessionsAre (replaced i (Some kept) s.clients) (Some p) u ss left) (sym idle.surplus) now_are)
+      (λ q e. all_replaced _ world.sessions i (Some (record x { heard = x.heard ++ bytes })) quiet_before (all_at _ world.sessions i x quiet_before z.1))
+      (λ q e. absurd (no_some q (sym e ∙ idle.surplus)))
+      (record {
+        untouched = all_replaced _ world.sessions i (Some (record x { heard = x.heard ++ bytes })) t.untouched (all_at _ world.sessions i x t.untouched z.1);
+        told = λ still. all_replaced _ world.sessions i (Some (record x { heard = x.heard ++ bytes })) (t.told still) (all_at _ world.sessions i x (t.told still) z.1);
+        busy = λ some. absurd (some (sym stood.ahead ∙ idle.ahead));
+      }) in
       record {
         done = [];
         left = left;
@@ -290,6 +322,7 @@ module _ {G : Type 0} (stands : G → Chain → Type 0) where
           magic = ap (λ (u : State G). u.magic) same ∙ stood.magic;
           found = ap (λ (u : State G). u.found) same ∙ stood.found;
           ahead = ap (λ (u : State G). u.ahead) same ∙ stood.ahead;
+          start = stood.start;
           set = rw (ap (λ (u : State G). u.pool) same) stood.set;
           ordered = map orders (added_lines node_limit world.heard bytes);
           node = record {
@@ -301,6 +334,10 @@ module _ {G : Type 0} (stands : G → Chain → Type 0) where
           };
           said = [];
           sessions = rw (ap (λ (u : State G). u.clients) same, ap (λ (u : State G). u.speaker) same, ap (λ (u : State G). u.surplus) same) (sessions_none s world stood);
+          speaker_last = λ q e. absurd (no_some q (sym e ∙ ap (λ (u : State G). u.speaker) same ∙ idle.speaker));
+          surplus_last = λ q e. absurd (no_some q (sym e ∙ ap (λ (u : State G). u.surplus) same ∙ idle.surplus));
+          before = ap (λ (u : State G). u.before) same ∙ stood.before;
+          tellings = rw (ap (λ (u : State G). u.touched) same) stood.tellings;
           left_is = sym (append-nil (map orders (added_lines node_limit world.heard bytes)));
         };
         after = (refl, ap (λ (u : State G). u.surplus) same ∙ idle.surplus);
@@ -308,16 +345,21 @@ module _ {G : Type 0} (stands : G → Chain → Type 0) where
 
   -- before any arrival
   pub new_stands : (s : State G) (chain : Chain) (magic : List ℕ) (found : List Node) (files : ℕ → List ℕ) → stands s.ledger chain → s.magic ≡ magic → s.found ≡ found → s.ahead ≡ []
-      → s.pool.entries ≡ [] → s.clients ≡ [] → s.speaker ≡ None → s.surplus ≡ None → s.node.limit ≡ node_limit → IsAt s.node [] 0 → Stands stands s (model.initial_world chain magic s.pool.limits found files) []
-  new_stands s chain magic found files stood m f a none_kept c sp u limit at' = record {
+      → s.pool.entries ≡ [] → s.clients ≡ [] → s.speaker ≡ None → s.surplus ≡ None → s.before ≡ None → s.node.limit ≡ node_limit → IsAt s.node [] 0 → Stands stands s (model.initial_world chain magic s.pool.limits found files) []
+  new_stands s chain magic found files stood m f a none_kept c sp u b limit at' = record {
     chain = stood;
     magic = m;
     found = f;
     ahead = a;
-    set = record { before = chain; stood = rw none_kept (record { sifted = refl; are = refl; once = tt }); still = λ e. refl; limits = refl };
+    start = chain;
+    set = record { stood = rw none_kept (record { sifted = refl; are = refl; once = tt }); still = λ e. refl; limits = refl };
     ordered = [];
     node = record { limit = limit; given = 0; at = at'; few = omega arith; left_is = refl };
     said = [];
     sessions = rw (c, sp, u) (record { each = tt; rising = tt; leaves_left = tt });
+    speaker_last = λ q e. absurd (no_some q (sym e ∙ sp));
+    surplus_last = λ q e. absurd (no_some q (sym e ∙ u));
+    before = b;
+    tellings = record { untouched = tt; told = λ e. tt; busy = λ some. tt };
     left_is = refl;
   }

@@ -7,23 +7,27 @@ use Rattle.std.proofs.lemmas.List.Elements.{Contains-get_or}
 use Rattle.el_outside.specs.Trace.{Closing}
 use Rattle.el_outside.specs.declared.link.Why.TheVariants as why
 use Rattle.el_outside.specs.Devices.{Device}
+use Rattle.el_base.specs.declared.hash.Hash32.{Hash32}
 use Rattle.el_chain.specs.Chains.{Chain}
 use Rattle.el_lines.specs.Lines.{LineEvent, line, too_long, lines}
 use Rattle.el_lines.specs.NodeAnswers.{node_limit}
 use Rattle.el_world.specs.Side.{Side}
 use Rattle.el_world.specs.World as model
-use Rattle.el_world.specs.World.{World, Session, Event, joins, says, orders, outs_of_reply, closes_long, closes_memory, closes_surplus, reply_to, is_client, is_peer, line_limit}
+use Rattle.el_world.specs.World.{World, Session, Event, joins, says, orders, outs_of_reply, closes_long, closes_memory, closes_disk, closes_surplus, reply_to, AllTold, is_client, is_peer, line_limit}
 use Rattle.el_world.specs.Run.{IsNodesTurn}
 use Rattle.el_lines.proofs.Cuts.{either}
 use Rattle.el_lines.specs.LineStates.{LineState}
 use Rattle.el_lines.specs.declared.line_buffer.LineEvent.TheVariants as event
 use Rattle.el_core.specs.State.{State, ClientState, HearsLeft, in_order, losing, IsSession, SessionsAre, NodeLeaves, Stands}
-use Rattle.el_core.specs.Turn.{HasLost, MeetsLine, outs_of, closing_of}
-use Rattle.el_core.specs.within.Clients.{replied, starved, Gives, NextIsLine, ClientTurn, nobody, gone, steps, loses, departs, answers, waits, PeersTurn, closes, has_turn}
+use Rattle.el_core.specs.Turn.{HasLost, MeetsLine, WaitsToBeTold, outs_of, closing_of}
+use Rattle.el_core.specs.within.Clients.{replied, starved, Gives, NextIsLine, ClientTurn, nobody, gone, steps, loses, departs, answers, waits, PeersTurn, closes, has_turn, TellTurn, TellsAt, IsToTell, IsFirstWaiting}
+use Rattle.el_core.specs.within.Clients as telling
 use Rattle.el_core.specs.declared.out.Outs as code
-use Rattle.el_core.proofs.Places.{there_at}
+use Rattle.el_core.proofs.Places.{there_at, all_at, zip_at}
 use Rattle.el_core.proofs.Sessions.{left_first, left_none, ordered, all_met}
 use Rattle.el_core.proofs.Peers.{Speaking, speaking, gone_not}
+use Rattle.el_core.proofs.Tellings.{none_wait_world}
+use Rattle.el_core.proofs.Told.{first_waits, to_tell}
 
 -- the next event is none of the node's: then no line of the node is left
 said_next : (b : LineState) (heard : List ℕ) (own said : List Event) (e : Event) (rest : List Event) → NodeLeaves b heard own → e ∷ rest ≡ own ++ said → ((met : LineEvent) → e ≡ orders met → ⊥)
@@ -51,14 +55,14 @@ none_unread b heard own n none next_line =
     nothing_next b heard own (line g.0) n none g.1
 
 -- a whole line of the node is next
-pub nodes_turn : {G : Type 0} (stands : G → Chain → Type 0) (s : State G) (world : World) (left : List Event) → Stands stands s world left → NextIsLine s.node → IsNodesTurn world left
-nodes_turn stands s world left stood next_line =
+pub nodes_turn : {G : Type 0} (stands : G → Chain → Type 0) (s : State G) (world : World) (left : List Event) → Stands stands s world left → NextIsLine s.node → AllTold world → IsNodesTurn world left
+nodes_turn stands s world left stood next_line all_told =
     let n = stood.node in
     let few = subst (λ (l : ℕ). n.given ≤ length (lines l world.heard)) (sym n.limit) n.few in
     let g = next_line world.heard n.given n.at few in
     let listed = subst (λ (l : ℕ). slice_get (lines l world.heard) n.given ≡ Some (line g.0)) n.limit g.1 in
     let first = left_first orders (lines node_limit world.heard) n.given (line g.0) listed in
-    rw (stood.left_is ∙ ap (λ (l : List Event). l ++ stood.said) (n.left_is ∙ first)) tt
+    rw (stood.left_is ∙ ap (λ (l : List Event). l ++ stood.said) (n.left_is ∙ first)) (inr all_told)
 
 orders_no_line : (p : ℕ) (e met : LineEvent) → ◌≡◌ {A = Event} (says p e) (orders met) → ⊥
 orders_no_line p e met is = cc
@@ -91,6 +95,12 @@ same_peer p q e = ap (λ (x : Closing). x.peer) (one_closing _ _ e)
 
 long_other : (p q : ℕ) → CloseIs (closes_long p).closing q → ⊥
 long_other p q e = let w : why.Long ≡ why.Memory = ap (λ (x : Closing). x.why) (one_closing _ _ e) in cc
+
+disk_other : (p q : ℕ) → CloseIs (closes_disk p).closing q → ⊥
+disk_other p q e = let w : why.Disk ≡ why.Memory = ap (λ (x : Closing). x.why) (one_closing _ _ e) in cc
+
+none_other : (q : ℕ) → CloseIs None q → ⊥
+none_other q e = cc
 
 surplus_other : (p q : ℕ) → CloseIs (closes_surplus p).closing q → ⊥
 surplus_other p q e = let w : why.Clients ≡ why.Memory = ap (λ (x : Closing). x.why) (one_closing _ _ e) in cc
@@ -203,9 +213,31 @@ module _ {G : Type 0} (stands : G → Chain → Type 0) where
       rw l (memory_of tells side rose old world c o now stood.said p q i (speaking old world stood.said q i c (rw (is, unused) at stood.sessions) at peer_is) at turn told)
 
   pub found_memory : (old new : State G) (world : World) (left : List Event) (tells : Type 0) (side : Side) (rose : List Device → Type 0) (o : Option code.Outs) (p : ℕ) (stood : Stands stands old world left) → stood.ordered ≡ []
-      → PeersTurn tells side rose old o new → IfSome o (λ out. out.close ≡ Some (p, why.Memory) → HasLost p old.clients ⊎ MeetsLine p left)
+      → PeersTurn tells side rose old o new → IfSome o (λ out. out.close ≡ Some (p, why.Memory) → HasLost p old.clients ⊎ (MeetsLine p left ⊎ WaitsToBeTold p world))
   found_memory old new world left tells side rose None p stood none turn = tt
-  found_memory old new world left tells side rose (Some o) p stood none turn = λ told. peers_memory old new world left tells side rose o p stood none turn (ap closing_of told)
+  found_memory old new world left tells side rose (Some o) p stood none turn = λ told. elim (peers_memory old new world left tells side rose o p stood none turn (ap closing_of told)) [
+    | inl lost ↦ inl lost
+    | inr line_met ↦ inr (inl line_met)
+  ]
+
+  -- who is told is closed as out of memory
+  tell_starves : (side : Side) (before : Option Hash32) (rose : ℕ → Type 0) (c : ClientState) (outs : model.Outs) (now : Option ClientState) (p : ℕ) → TellTurn side before rose c outs now → CloseIs outs.closing p → c.peer ≡ p
+  tell_starves side before rose c outs now p (telling.tells outs_is now_is rose_so) told = absurd (none_other p (ap (λ (x : model.Outs). x.closing) (sym outs_is) ∙ told))
+  tell_starves side before rose c outs now p (telling.fails outs_is now_is rose_so) told = absurd (disk_other c.peer p (ap (λ (x : model.Outs). x.closing) (sym outs_is) ∙ told))
+  tell_starves side before rose c outs now p (telling.starves outs_is now_is rose_so) told = same_peer c.peer p (ap (λ (x : model.Outs). x.closing) (sym outs_is) ∙ told)
+
+  pub tell_memory : (old : State G) (world : World) (left : List Event) (rose : ℕ → Type 0) (outs : model.Outs) (i p : ℕ) (next : List ClientState) → Stands stands old world left → old.ahead ≡ [] → IsFirstWaiting old.clients (Some i)
+      → TellsAt (λ c now. (side : Side) → IsToTell stands old.ledger old.pool old.touched side c → TellTurn side old.before rose c outs now) i old.clients next → CloseIs outs.closing p → WaitsToBeTold p world
+  tell_memory old world left rose outs i p next stood ahead first t told =
+      let f = first_waits stands old world left i stood first t.client t.at in
+      let peer = tell_starves world.side old.before rose t.client outs t.left p (t.said world.side (to_tell stands old world left i t.client stood (sym stood.ahead ∙ ahead) t.at)) told in
+      (f.0, f.1, sym f.2 ∙ peer)
+
+  -- who is still to be told is none where all are told
+  pub tell_none : (old : State G) (world : World) (left : List Event) (i : ℕ) → Stands stands old world left → IsFirstWaiting old.clients (Some i) → AllTold world → ⊥
+  tell_none old world left i stood first all_told =
+      let z = zip_at (IsSession old.speaker stood.said) old.clients world.sessions i first.0 stood.sessions.each first.1 in
+      true≢false (sym (sym z.2.waits ∙ first.2) ∙ all_at _ world.sessions i z.0 (none_wait_world world.sessions all_told) z.1)
 
   long_of : (tells : Type 0) (side : Side) (rose : List Device → Type 0) (s : State G) (world : World) (c : ClientState) (o : Option code.Outs) (next : Option ClientState) (rest : List Event) (p q i : ℕ) → Speaking s world (says p too_long ∷ rest) q i c
       → slice_get s.clients i ≡ Some c → (HasLost p s.clients → ⊥) → ClientTurn tells side rose c o next → LongBy p o

@@ -6,10 +6,10 @@ use Rattle.std.proofs.Math.Nat.{mul-le-mul_left, mul-le-mul_right, suc-mul}
 use Rattle.el_outside.specs.Devices.{Device}
 use Rattle.el_lines.proofs.Cuts.{either}
 use Rattle.el_world.specs.Side.{Side}
-use Rattle.el_core.specs.State.{State, ClientState, IsIdle, is_numbered, work, work_of_node, work_of_client, work_of_clients, work_of_speaker, work_of_peers}
+use Rattle.el_core.specs.State.{State, ClientState, IsIdle, is_numbered, waiting, work, work_of_node, work_of_client, work_of_clients, work_of_speaker, work_of_surplus, work_of_peers}
 use Rattle.el_core.specs.Arrivals.{gone_from, kept_clients, kept_speaker}
 use Rattle.el_lines.specs.LineStates.{held}
-use Rattle.el_core.specs.within.Clients.{replaced, IsPlace, ClientTurn, TurnsAt, SpeakerSteps, steps, speaker_after, PeersTurn, has_turn}
+use Rattle.el_core.specs.within.Clients.{TellsAt, IsFirstWaiting, all_wait, replaced, IsPlace, ClientTurn, TurnsAt, SpeakerSteps, steps, speaker_after, PeersTurn, has_turn}
 use Rattle.el_core.specs.declared.out.Outs.{Outs}
 use Rattle.el_core.proofs.Places.{same_some, no_some}
 
@@ -18,11 +18,11 @@ speaker_gone None left e = refl
 speaker_gone (Some o) None e = refl
 speaker_gone (Some o) (Some c) e = absurd (true≢false e)
 
-pub speaker_stays : (outs : Option Outs) (left : Option ClientState) (o : Outs) (p : ℕ) (c : ClientState) → is_some left ≡ true → outs ≡ Some o → IfSome left (λ d. d.peer ≡ c.peer) → c.peer ≡ p
+pub speaker_stays : (outs : Option Outs) (left : Option ClientState) (o : Outs) (p : ℕ) (c : ClientState) → is_some left ≡ true → outs ≡ Some o → IfSome left (λ d. (d.peer ≡ c.peer) × (d.waits ≡ c.waits)) → c.peer ≡ p
     → Some p ≡ speaker_after outs left
 speaker_stays None left o p c e some same is = absurd (no_some o (sym some))
 speaker_stays (Some q) None o p c e some same is = absurd (true≢false (sym e))
-speaker_stays (Some q) (Some d) o p c e some same is = ap (λ (n : ℕ). Some n) (sym (same ∙ is))
+speaker_stays (Some q) (Some d) o p c e some same is = ap (λ (n : ℕ). Some n) (sym (same.0 ∙ is))
 
 pub steps_of : {G : Type 0} (says : ClientState → Option ClientState → Type 0) (tells : Type 0) (side : Side) (rose : List Device → Type 0) (s new : State G) (outs : Option Outs) (stays : Bool) (p i : ℕ) → s.speaker ≡ Some p → IsPlace p s.clients (Some i)
     → (t : TurnsAt says i s.clients outs stays new.clients) → ((c : ClientState) (left : Option ClientState) → says c left → ClientTurn tells side rose c outs left)
@@ -32,6 +32,37 @@ steps_of {G} says tells side rose s new outs stays p i is place t turn same spea
     steps p i t.client t.left is t.at peer (turn t.client t.left t.said)
     (same ∙ ap (λ (cs : List ClientState). record s { ledger = new.ledger; clients = cs; speaker = new.speaker }) t.next_is
     ∙ ap (λ (u : Option ℕ). record s { ledger = new.ledger; clients = replaced i t.left s.clients; speaker = u }) (speaker peer))
+
+length_replaced : (cs : List ClientState) (i : ℕ) (left : Option ClientState) → length (replaced i left cs) ≤ length cs
+length_replaced [] i left = omega arith
+length_replaced (c ∷ cs) zero None = omega arith
+length_replaced (c ∷ cs) zero (Some d) = omega arith
+length_replaced (c ∷ cs) (suc i) left = let l = length_replaced cs i left in omega arith
+
+pub turned_fewer : (says : ClientState → Option ClientState → Type 0) (i : ℕ) (cs next : List ClientState) (outs : Option Outs) (stays : Bool) → TurnsAt says i cs outs stays next → length next ≤ length cs
+turned_fewer says i cs next outs stays t = let l = length_replaced cs i t.left in subst (λ (n : List ClientState). length n ≤ length cs) (sym t.next_is) l
+
+waits_replaced : (cs : List ClientState) (i : ℕ) (c : ClientState) (left : Option ClientState) → slice_get cs i ≡ Some c → IfSome left (λ d. (d.peer ≡ c.peer) × (d.waits ≡ c.waits)) → length (waiting (replaced i left cs)) ≤ length (waiting cs)
+waits_replaced [] i c left at same = absurd (no_some c (sym at))
+waits_replaced (x ∷ cs) zero c None at same = elim (either x.waits) [
+  | inl h ↦ rw h (omega arith)
+  | inr h ↦ rw h (omega arith)
+]
+waits_replaced (x ∷ cs) zero c (Some d) at same =
+    let e : d.waits ≡ x.waits = same.1 ∙ ap (λ (y : ClientState). y.waits) (sym (same_some x c at)) in
+    elim (either x.waits) [
+      | inl h ↦ rw (e, h) (omega arith)
+      | inr h ↦ rw (e, h) (omega arith)
+    ]
+waits_replaced (x ∷ cs) (suc i) c left at same =
+    let l = waits_replaced cs i c left at same in
+    elim (either x.waits) [
+      | inl h ↦ rw h (omega arith)
+      | inr h ↦ rw h l
+    ]
+
+pub turned_waits : (says : ClientState → Option ClientState → Type 0) (i : ℕ) (cs next : List ClientState) (outs : Option Outs) (stays : Bool) → TurnsAt says i cs outs stays next → length (waiting next) ≤ length (waiting cs)
+turned_waits says i cs next outs stays t = subst (λ (n : List ClientState). length (waiting n) ≤ length (waiting cs)) (sym t.next_is) (waits_replaced cs i t.client t.left t.at t.same)
 
 work_replaced : (cs : List ClientState) (i : ℕ) (c : ClientState) (left : Option ClientState) → slice_get cs i ≡ Some c → work_of_clients (replaced i left cs) + work_of_client (Some c) ≡ work_of_clients cs + work_of_client left
 work_replaced [] i c left at = absurd (no_some c (sym at))
@@ -67,6 +98,30 @@ peers_of {G} tells side rose s mid next o unused made turn =
 
 -- ---- a client goes
 
+length_filter : (f : ClientState → Bool) (cs : List ClientState) → length (filter f cs) ≤ length cs
+length_filter f [] = omega arith
+length_filter f (c ∷ cs) =
+    let l = length_filter f cs in
+    elim (either (f c)) [
+      | inl h ↦ rw h (omega arith)
+      | inr h ↦ rw h (omega arith)
+    ]
+
+waits_filter : (f : ClientState → Bool) (cs : List ClientState) → length (waiting (filter f cs)) ≤ length (waiting cs)
+waits_filter f [] = omega arith
+waits_filter f (c ∷ cs) =
+    let l = waits_filter f cs in
+    elim (either (f c)) [
+      | inl h ↦ elim (either c.waits) [
+        | inl k ↦ rw (h, k) (omega arith)
+        | inr k ↦ rw (h, k) l
+      ]
+      | inr h ↦ elim (either c.waits) [
+        | inl k ↦ rw (h, k) (omega arith)
+        | inr k ↦ rw (h, k) l
+      ]
+    ]
+
 work_filter : (f : ClientState → Bool) (cs : List ClientState) → work_of_clients (filter f cs) ≤ work_of_clients cs
 work_filter f [] = omega arith
 work_filter f (c ∷ cs) =
@@ -86,13 +141,53 @@ speaker_filter p (Some q) cs =
     ]
 
 pub gone_work : {G : Type 0} (s : State G) (p : ℕ) → work (gone_from s p) ≤ work s
-gone_work {G} s p = let k = speaker_filter p s.speaker s.clients in omega arith
+gone_work {G} s p =
+    let l = length_filter (λ (c : ClientState). not (is_numbered p c)) s.clients in
+    let w = waits_filter (λ (c : ClientState). not (is_numbered p c)) s.clients in
+    let k = speaker_filter p s.speaker s.clients in
+    let m = mul-le-mul_left (work_of_node (held s.node) (length s.found) (length s.ahead)) (let e : length (kept_clients p s.clients) + 1 ≤ length s.clients + 1 = omega arith in e) in
+    omega arith
 
 pub same_of : {G : Type 0} (s mid next : State G) → mid ≡ record s { surplus = None } → next ≡ record mid { ledger = next.ledger; clients = next.clients; speaker = next.speaker }
     → next ≡ record s { ledger = next.ledger; clients = next.clients; speaker = next.speaker; surplus = next.surplus }
 same_of {G} s mid next a b =
     b ∙ ap (λ (m : State G). record m { ledger = next.ledger; clients = next.clients; speaker = next.speaker }) a
     ∙ ap (λ (u : Option ℕ). record s { ledger = next.ledger; clients = next.clients; speaker = next.speaker; surplus = u }) (sym (ap (λ (t : State G). t.surplus) b ∙ ap (λ (t : State G). t.surplus) a))
+
+-- ---- the telling of a client
+
+waits_first : (cs : List ClientState) (i : ℕ) (c : ClientState) (left : Option ClientState) → slice_get cs i ≡ Some c → c.waits ≡ true → IfSome left (λ d. d.waits ≡ false) → length (waiting (replaced i left cs)) < length (waiting cs)
+waits_first [] i c left at is told = absurd (no_some c (sym at))
+waits_first (x ∷ cs) zero c None at is told = rw (same_some x c at, is) (omega arith)
+waits_first (x ∷ cs) zero c (Some d) at is told = rw (same_some x c at, is, told) (omega arith)
+waits_first (x ∷ cs) (suc i) c left at is told =
+    let l = waits_first cs i c left at is told in
+    elim (either x.waits) [
+      | inl h ↦ rw h (omega arith)
+      | inr h ↦ rw h l
+    ]
+
+pub told_waits : (says : ClientState → Option ClientState → Type 0) (i : ℕ) (cs next : List ClientState) → TellsAt says i cs next → IsFirstWaiting cs (Some i) → length (waiting next) < length (waiting cs)
+told_waits says i cs next t first =
+    let is : t.client.waits ≡ true = ap (λ (d : ClientState). d.waits) (same_some _ _ (sym t.at ∙ first.1)) ∙ first.2 in
+    subst (λ (n : List ClientState). length (waiting n) < length (waiting cs)) (sym t.next_is) (waits_first cs i t.client t.left t.at is t.told)
+
+pub told_fewer : (says : ClientState → Option ClientState → Type 0) (i : ℕ) (cs next : List ClientState) → TellsAt says i cs next → length next ≤ length cs
+told_fewer says i cs next t = subst (λ (n : List ClientState). length n ≤ length cs) (sym t.next_is) (length_replaced cs i t.left)
+
+told_work : (says : ClientState → Option ClientState → Type 0) (i : ℕ) (cs next : List ClientState) (u : Option ℕ) → TellsAt says i cs next → work_of_speaker u next ≤ work_of_speaker u cs
+told_work says i cs next None t = omega arith
+told_work says i cs next (Some p) t = subst (λ (n : List ClientState). work_of_clients n ≤ work_of_clients cs) (sym t.next_is) (by t.left t.same)
+  where
+    by : (left : Option ClientState) → IfSome left (λ d. (d.buffer ≡ t.client.buffer) × (d.peer ≡ t.client.peer)) → work_of_clients (replaced i left cs) ≤ work_of_clients cs
+    by None same = let w = work_replaced cs i t.client None t.at in omega arith
+    by (Some d) same =
+        let w = work_replaced cs i t.client (Some d) t.at in
+        let e : held d.buffer ≡ held t.client.buffer = ap held same.0 in
+        omega arith
+
+pub told_peers : (says : ClientState → Option ClientState → Type 0) (i surplus : ℕ) (cs next : List ClientState) (u : Option ℕ) → TellsAt says i cs next → work_of_speaker u next + surplus ≤ work_of_speaker u cs + surplus
+told_peers says i surplus cs next u t = let w = told_work says i cs next u t in omega arith
 
 -- ---- turns come to an end
 
@@ -103,41 +198,100 @@ work_line l l' f f' a' lt few ahead =
     let three = suc-mul l' (f + l + 1) in
     omega arith
 
-pub ahead_less : {G : Type 0} (old new : State G) → length new.ahead < length old.ahead → new ≡ record old { ledger = new.ledger; pool = new.pool; ahead = new.ahead } → work new < work old
+-- less for the node makes room for telling all of the clients
+room_for_all : (a b n w w' p : ℕ) → a < b → w' ≤ n → a * (n + 1) + w' + p < b * (n + 1) + w + p
+room_for_all a b n w w' p lt few =
+    let two : suc a * (n + 1) ≤ b * (n + 1) = mul-le-mul_right (n + 1) (let e : suc a ≤ b = omega arith in e) in
+    let three = suc-mul a (n + 1) in
+    omega arith
+
+-- as much for the node, and fewer clients
+room_kept : (a n n' w w' p p' : ℕ) → n' ≤ n → w' + p' < w + p → a * (n' + 1) + w' + p' < a * (n + 1) + w + p
+room_kept a n n' w w' p p' fewer lt =
+    let one = mul-le-mul_left a (let e : n' + 1 ≤ n + 1 = omega arith in e) in
+    omega arith
+
+pub ahead_less : {G : Type 0} (old new : State G) → length new.ahead < length old.ahead → new ≡ record old { ledger = new.ledger; pool = new.pool; ahead = new.ahead; touched = new.touched } → work new < work old
 unfolding work_of_node
 ahead_less {G} old new fewer same =
+    let lt : held old.node * (length old.found + held old.node + 1) + length new.ahead < held old.node * (length old.found + held old.node + 1) + length old.ahead = omega arith in
+    let two = mul-le-mul_right (length old.clients + 1) lt in
+    let three = suc-mul (held old.node * (length old.found + held old.node + 1) + length new.ahead) (length old.clients + 1) in
     rw (ap (λ (s : State G). s.found) same, ap (λ (s : State G). s.node) same, ap (λ (s : State G). s.clients) same, ap (λ (s : State G). s.speaker) same, ap (λ (s : State G). s.surplus) same) (omega arith)
 
+length_waits : (cs : List ClientState) → length (all_wait cs) ≡ length cs
+length_waits [] = refl
+length_waits (c ∷ cs) = ap suc (length_waits cs)
+
+waiting_few : (cs : List ClientState) → length (waiting cs) ≤ length cs
+waiting_few [] = omega arith
+waiting_few (c ∷ cs) =
+    let l = waiting_few cs in
+    elim (either c.waits) [
+      | inl h ↦ rw h (omega arith)
+      | inr h ↦ rw h (omega arith)
+    ]
+
+work_waits : (u : Option ℕ) (cs : List ClientState) → work_of_speaker u (all_wait cs) ≡ work_of_speaker u cs
+work_waits None cs = refl
+work_waits (Some p) [] = refl
+work_waits (Some p) (c ∷ cs) = ap (λ (n : ℕ). held c.buffer + 1 + n) (work_waits (Some p) cs)
+
 pub line_less : {G : Type 0} (old mid new : State G) → mid ≡ record old { node = mid.node } → held mid.node < held old.node → length new.ahead ≤ length mid.found → length new.found ≤ length mid.found + 1
-    → new ≡ record mid { ledger = new.ledger; found = new.found; pool = new.pool; ahead = new.ahead } → work new < work old
+    → new.clients ≡ all_wait mid.clients → new ≡ record mid { ledger = new.ledger; found = new.found; pool = new.pool; ahead = new.ahead; clients = new.clients; before = new.before; touched = new.touched } → work new < work old
 unfolding work_of_node
-line_less {G} old mid new same less fewer more then =
+line_less {G} old mid new same less fewer more all_wait_so then =
     let found : mid.found ≡ old.found = ap (λ (s : State G). s.found) same in
+    let clients : new.clients ≡ all_wait old.clients = all_wait_so ∙ ap all_wait (ap (λ (s : State G). s.clients) same) in
     let fewer' = rw found at fewer in
     let more' = rw found at more in
     let w = work_line (held old.node) (held mid.node) (length old.found) (length new.found) (length new.ahead) less more' fewer' in
+    let few = waiting_few (all_wait old.clients) in
+    let len = length_waits old.clients in
+    let few' : length (waiting (all_wait old.clients)) ≤ length old.clients = omega arith in
+    let w' : held mid.node * (length new.found + held mid.node + 1) + length new.ahead < held old.node * (length old.found + held old.node + 1) + length old.ahead = omega arith in
+    let all = room_for_all _ _ (length old.clients) (length (waiting old.clients)) (length (waiting (all_wait old.clients))) (work_of_peers old) w' few' in
     rw (
       ap (λ (s : State G). s.node) then,
-      ap (λ (s : State G). s.clients) then,
       ap (λ (s : State G). s.speaker) then,
       ap (λ (s : State G). s.surplus) then,
-      ap (λ (s : State G). s.clients) same,
       ap (λ (s : State G). s.speaker) same,
       ap (λ (s : State G). s.surplus) same,
-    ) (omega arith)
+      clients,
+      len,
+      work_waits old.speaker old.clients,
+    ) all
 
 pub peers_less : {G : Type 0} (old new : State G) (o : Option Outs) → new ≡ record old { ledger = new.ledger; clients = new.clients; speaker = new.speaker; surplus = new.surplus }
-    → OnSome o (work_of_peers new < work_of_peers old) → IfSome o (λ out. work new < work old)
-peers_less old new None same less = tt
-peers_less {G} old new (Some o) same less =
-    rw (ap (λ (s : State G). s.found) same, ap (λ (s : State G). s.node) same, ap (λ (s : State G). s.ahead) same) (omega arith)
+    → length (waiting new.clients) ≤ length (waiting old.clients) → length new.clients ≤ length old.clients → OnSome o (work_of_peers new < work_of_peers old) → IfSome o (λ out. work new < work old)
+peers_less old new None same waits fewer less = tt
+peers_less {G} old new (Some o) same waits fewer less =
+    let lt : length (waiting new.clients) + work_of_peers new < length (waiting old.clients) + work_of_peers old = omega arith in
+    rw (ap (λ (s : State G). s.found) same, ap (λ (s : State G). s.node) same, ap (λ (s : State G). s.ahead) same)
+    (room_kept (work_of_node (held old.node) (length old.found) (length old.ahead)) (length old.clients) (length new.clients) (length (waiting old.clients)) (length (waiting new.clients)) (work_of_peers old) (work_of_peers new) fewer lt)
+
+-- a client was told, with so much work for the node
+pub told_less : (says : ClientState → Option ClientState → Type 0) (n i surplus : ℕ) (cs next : List ClientState) (u : Option ℕ) → TellsAt says i cs next → IsFirstWaiting cs (Some i)
+    → n * (length next + 1) + length (waiting next) + (work_of_speaker u next + surplus) < n * (length cs + 1) + length (waiting cs) + (work_of_speaker u cs + surplus)
+told_less says n i surplus cs next u t first =
+    let waits = told_waits says i cs next t first in
+    let fewer = told_fewer says i cs next t in
+    let peers = told_peers says i surplus cs next u t in
+    let lt : length (waiting next) + (work_of_speaker u next + surplus) < length (waiting cs) + (work_of_speaker u cs + surplus) = omega arith in
+    room_kept n (length cs) (length next) (length (waiting cs)) (length (waiting next)) (work_of_speaker u cs + surplus) (work_of_speaker u next + surplus) fewer lt
 
 -- nothing is left to do
-pub peers_idle : {G : Type 0} (old new : State G) (o : Option Outs) → old.ahead ≡ [] → new ≡ record old { ledger = new.ledger; clients = new.clients; speaker = new.speaker; surplus = new.surplus }
+pub peers_idle : {G : Type 0} (old new : State G) (o : Option Outs) → old.ahead ≡ [] → waiting old.clients ≡ [] → length (waiting new.clients) ≤ length (waiting old.clients)
+    → new ≡ record old { ledger = new.ledger; clients = new.clients; speaker = new.speaker; surplus = new.surplus }
     → IfNone o ((new.speaker ≡ None) × (new.surplus ≡ None)) → IfNone o (IsIdle new)
-peers_idle old new (Some o) still same done = tt
-peers_idle {G} old new None still same done = record {
+peers_idle old new (Some o) still quiet_all waits same done = tt
+peers_idle {G} old new None still quiet_all waits same done = record {
   ahead = ap (λ (s : State G). s.ahead) same ∙ still;
+  told = none_of (waiting new.clients) (rw quiet_all at waits);
   speaker = done.0;
   surplus = done.1;
 }
+  where
+    none_of : (cs : List ClientState) → length cs ≤ 0 → cs ≡ []
+    none_of [] few = refl
+    none_of (c ∷ cs) few = absurd (omega arith)

@@ -1,6 +1,7 @@
 -- Turns of the node, over what the server keeps and the world that it stands for.
-use Rattle.std.proofs.Common.{◌≡◌, inl, ℕ, zero, suc, ◌+◌, ◌==◌, Bool, true, false, true≢false, length, eqb-true, List, [], ◌∷◌, ◌++◌, map, drop, Option, Some, Result, Ok, Err, refl, ap, sym, ◌∙◌, arith, subst}
+use Rattle.std.proofs.Common.{◌≡◌, inl, inr, ℕ, zero, suc, ◌+◌, ◌==◌, Bool, true, false, true≢false, length, eqb-true, List, [], ◌∷◌, ◌++◌, map, drop, Option, Some, Result, Ok, Err, refl, ap, sym, ◌∙◌, arith, subst}
 use Rattle.std.specs.List.{AllByRecursion, slice_get}
+use Rattle.el_base.specs.declared.hash.Hash32.{Hash32}
 use Rattle.std.proofs.lemmas.Option.{slice_get_within}
 use Rattle.el_outside.specs.declared.archive.Archive as archive
 use Rattle.el_outside.specs.Devices.{Device}
@@ -10,30 +11,31 @@ use Rattle.el_chain.specs.declared.moves.Plan.{Plan}
 use Rattle.el_chain.specs.declared.node.Node.{Node}
 use Rattle.el_chain.specs.Chains.{Chain}
 use Rattle.el_model.specs.declared.ledger.Ledger as ledger
-use Rattle.el_model.specs.LedgerCalls.{failed_calls}
+use Rattle.el_model.specs.LedgerCalls.{Moved, failed_calls}
 use Rattle.el_mempool.specs.Standing.{PoolState}
-use Rattle.el_world.specs.NodeSteps.{Leads}
+use Rattle.el_world.specs.NodeSteps.{IsAt, Leads}
 use Rattle.el_lines.specs.Lines.{LineEvent, lines}
 use Rattle.el_lines.specs.NodeAnswers.{node_limit}
 use Rattle.el_world.specs.Plans.{IsMoving, plan_of}
 use Rattle.el_world.specs.Side.{Side, Moving, OrdersLine}
 use Rattle.el_world.specs.World as model
-use Rattle.el_world.specs.World.{World, Event, orders, reply_to, IsStill, IsBusy}
+use Rattle.el_world.specs.World.{World, Session, Event, orders, reply_to, IsStill, IsBusy, AllTold, begun}
 use Rattle.el_world.specs.Run as run
 use Rattle.el_world.specs.Run.{OneTurn, IsNodesTurn}
 use Rattle.el_world.specs.Flights.{later, first, IsFirstMove, IsMoveOf, IsUnderWay, before as not_moved, in_move}
 use Rattle.el_model.proofs.LedgerMoves.{LeavesOwn, asked_none, asked_moved}
 use Rattle.el_lines.specs.LineStates.{LineState}
-use Rattle.el_sync.specs.Steps.{NodeStep, FailsBy, by_disk, by_memory, untold, in_sift, StopsAt}
+use Rattle.el_sync.specs.Steps.{IsFrom, NodeStep, FailsBy, by_disk, by_memory, untold, in_sift, StopsAt}
 use Rattle.el_sync.specs.declared.fault.StepFault.{StepFault}
 use Rattle.el_sync.specs.declared.moving.Step.{Step}
 use Rattle.el_sync.specs.declared.fault.StepFault.TheVariants as fault
-use Rattle.el_core.specs.State.{State, NodeLeaves, Stands}
+use Rattle.el_core.specs.State.{State, NodeLeaves, NoneWaits, Stands}
 use Rattle.el_core.specs.Turn.{TookTurn, TurnFailed, GoesTo, outs_of, stop_of}
-use Rattle.el_core.specs.within.Answering.{Answered, NodeKeeps}
-use Rattle.el_core.specs.within.Clients.{Gives}
+use Rattle.el_core.specs.within.Answering.{Answered, Lost, NodeKeeps, holdings_of}
+use Rattle.el_core.specs.within.Clients.{Gives, begun_at}
 use Rattle.el_core.specs.declared.out.Outs.{Outs}
 use Rattle.el_core.proofs.Sessions.{left_first}
+use Rattle.el_core.proofs.Tellings.{tellings_led}
 
 pub moving_any : (b : ℕ) (ns : List Node) → (ns ≡ [] → ⊥) → IsMoving b ns
 moving_any zero [] some = absurd (some refl)
@@ -124,28 +126,64 @@ module _ {G A : Type 0} (l : ledger.Ghosts G) (f : archive.Ghosts A) where
     };
   }
 
-  pub found_same : (leads : List ℕ → List Device → Side → Type 0) (old new : G) (before after : A) (side : Side) (text : List ℕ) (found same ahead : List Node) (pool : PoolState) → found ≡ same
-      → Leads l f leads old new before after side text found ahead pool → Leads l f leads old new before after side text same ahead pool
-  found_same leads old new before after side text found same ahead pool is led = subst (λ (fs : List Node). Leads l f leads old new before after side text fs ahead pool) is led
+  -- no memory was found for what it touched
+  pub keeps_starved : (old new : G) (before after : A) (again : Bool) (step : Step) → NodeStep l f old new before after again (Ok step) → NodeKeeps l f old new before after (Err fault.Memory)
+  keeps_starved old new before after again step k = record {
+    live = tt;
+    still_live = λ e. k.live;
+    keeps = k.keeps;
+    archive_more = k.archive_more;
+    disk_rose = record { counted = λ e. absurd cc; uncounted = tt; others_uncounted = λ other. k.disk_rose.uncounted };
+  }
 
-  -- What is known of a turn of the node, which leaves the clients as they were.
+  pub found_same : (leads : List ℕ → List Device → Side → Type 0) (old new : G) (before after : A) (side : Side) (start : Chain) (text : List ℕ) (found same ahead : List Node) (moved changed : List Hash32) (pool : PoolState) → found ≡ same
+      → Leads l f leads old new before after side start text found ahead moved changed pool → Leads l f leads old new before after side start text same ahead moved changed pool
+  found_same leads old new before after side start text found same ahead moved changed pool is led = subst (λ (fs : List Node). Leads l f leads old new before after side start text fs ahead moved changed pool) is led
+
+  -- ---- a line that has begun
+
+  pub stops_begun : (s mid : State G) (new : G) (before after : A) (tip : Option Hash32) (e : LineEvent) (why : StepFault) → mid ≡ begun_at tip s
+      → ((side : Side) (start : Chain) → IsAt l f mid.ledger mid.pool before side start → IsFrom (holdings_of mid) side → StopsAt l f mid.ledger new before after side.chain false (IsFirstMove side e) why)
+      → (side : Side) (start : Chain) → IsAt l f s.ledger s.pool before side start → IsFrom (holdings_of s) side → StopsAt l f s.ledger new before after side.chain false (IsFirstMove side e) why
+  stops_begun s mid new before after tip e why same stops =
+      subst (λ (m : State G). (side : Side) (start : Chain) → IsAt l f m.ledger m.pool before side start → IsFrom (holdings_of m) side → StopsAt l f m.ledger new before after side.chain false (IsFirstMove side e) why) same stops
+
+  pub led_begun : (s mid : State G) (new : G) (before after : A) (tip : Option Hash32) (e : LineEvent) (text : List ℕ) (found ahead : List Node) (moved changed : List Hash32) (pool : PoolState) → mid ≡ begun_at tip s
+      → ((side : Side) (start : Chain) → IsAt l f mid.ledger mid.pool before side start → IsFrom (holdings_of mid) side
+      → Leads l f (OrdersLine f.tells side e) mid.ledger new before after side start text found ahead moved changed pool)
+      → (side : Side) (start : Chain) → IsAt l f s.ledger s.pool before side start → IsFrom (holdings_of s) side
+      → Leads l f (OrdersLine f.tells side e) s.ledger new before after side start text found ahead moved changed pool
+  led_begun s mid new before after tip e text found ahead moved changed pool same led =
+      subst (λ (m : State G). (side : Side) (start : Chain) → IsAt l f m.ledger m.pool before side start → IsFrom (holdings_of m) side
+      → Leads l f (OrdersLine f.tells side e) m.ledger new before after side start text found ahead moved changed pool) same led
+
+  pub keeps_begun : (s mid : State G) (new : G) (before after : A) (tip : Option Hash32) (result : Result Outs StepFault) → mid ≡ begun_at tip s → NodeKeeps l f mid.ledger new before after result → NodeKeeps l f s.ledger new before after result
+  keeps_begun s mid new before after tip result same keeps = subst (λ (m : State G). NodeKeeps l f m.ledger new before after result) same keeps
+
+  -- What is known of a step of the node, which leaves the clients as they were: all of them wait.
   pub record NodeTurned (leads : List ℕ → List Device → Side → Type 0) (old new : State G) (before after : A) (world : World) (left : List Event) (o : Outs) : Type 0 where
     pub stood : Stands l.stands old world left
-    pub answered : Answered l f leads old new before after world.side o
+    pub answered : Answered l f leads old new before after world.side stood.start o
     pub magic : new.magic ≡ old.magic
     pub clients : new.clients ≡ old.clients
     pub speaker : new.speaker ≡ old.speaker
     pub surplus : new.surplus ≡ old.surplus
+    pub before_is : new.before ≡ old.before
+    pub waits : AllByRecursion (λ (x : Session). x.waits ≡ true) world.sessions
 
   -- what is sent to the node goes to it
   to_node_goes : (o : model.Outs) (text : List ℕ) (next : World) (surplus : Option ℕ) → o ≡ reply_to 0 text → AllByRecursion (GoesTo next surplus o.closing) o.messages
   to_node_goes o text next surplus is = rw is (inl refl, tt)
 
-  built : (leads : List ℕ → List Device → Side → Type 0) (old new : State G) (before after : A) (world : World) (left : List Event) (o : Outs) (r : NodeTurned leads old new before after world left o)
-      (done ordered : List Event) → left ≡ done ++ (ordered ++ r.stood.said) → OneTurn f.tells world done (outs_of o) r.answered.led.losses (record world { side = r.answered.led.next })
-      → NodeLeaves new.node world.heard ordered → TookTurn l f old new before after world left (outs_of o)
-  built leads old new before after world left o r done ordered whole turn node =
-      let led = r.answered.led in
+  -- `base` and `start` are as the turn began, `old` and `world` as the step began
+  built : (leads : List ℕ → List Device → Side → Type 0) (base old new : State G) (before after : A) (start world : World) (left : List Event) (o : Outs) (r : NodeTurned leads old new before after world left o)
+      (done ordered : List Event) → old.ledger ≡ base.ledger → world.side ≡ start.side → left ≡ done ++ (ordered ++ r.stood.said)
+      → OneTurn f.tells start done (outs_of o) r.answered.led.losses (record world { side = r.answered.led.next })
+      → ((q : ℕ) → old.speaker ≡ Some q → (ordered ≡ []) × NoneWaits world.sessions) → ((q : ℕ) → old.surplus ≡ Some q → (ordered ≡ []) × NoneWaits world.sessions)
+      → NodeLeaves new.node world.heard ordered → TookTurn l f base new before after start left (outs_of o)
+  built leads base old new before after start world left o r done ordered ledger_is side_is whole turn spoken surplus_so node =
+      let a = r.answered in
+      let led = a.led in
       record {
         done = done;
         rest = ordered ++ r.stood.said;
@@ -154,21 +192,27 @@ module _ {G A : Type 0} (l : ledger.Ghosts G) (f : archive.Ghosts A) where
         whole = whole;
         turn = turn;
         stood = record {
-          chain = led.moved.stood;
+          chain = led.went.stood;
           magic = r.magic ∙ r.stood.magic ∙ sym led.magic_is;
           found = led.found_is;
           ahead = led.ahead_is;
+          start = led.next_start;
           set = led.set;
           ordered = ordered;
           node = node;
           said = r.stood.said;
           sessions = rw (r.clients, r.speaker, r.surplus) r.stood.sessions;
+          speaker_last = λ q e. spoken q (sym r.speaker ∙ e);
+          surplus_last = λ q e. surplus_so q (sym r.surplus ∙ e);
+          before = r.before_is ∙ r.stood.before;
+          tellings = tellings_led world.side led.next r.stood.start led.next_start a.moved a.changed old.touched new.touched old.clients world.sessions old.speaker r.stood.said
+              r.stood.tellings led.touches a.covers r.stood.sessions.each r.waits;
           left_is = refl;
         };
-        moved = led.moved;
+        moved = subst (λ (k : G). Moved l k new.ledger start.side.chain led.next.chain) ledger_is (subst (λ (s : Side). Moved l old.ledger new.ledger s.chain led.next.chain) side_is led.went);
         told = led.told;
-        sends_to = to_node_goes (outs_of o) r.answered.text (record world { side = led.next }) new.surplus r.answered.sends;
-        rose = led.rose;
+        sends_to = to_node_goes (outs_of o) a.text (record world { side = led.next }) new.surplus a.sends;
+        rose = subst (λ (k : G). Lost l f k new.ledger before after led.losses) ledger_is led.rose;
       }
 
   -- the next move of the node's last tip line
@@ -177,22 +221,28 @@ module _ {G A : Type 0} (l : ledger.Ghosts G) (f : archive.Ghosts A) where
       → TookTurn l f old new before after world left (outs_of o)
   ahead_step old new before after world left o r some node =
       let a = r.answered in
-      built (Moving f.tells world.side 0 world.side.ahead) old new before after world left o r [] r.stood.ordered r.stood.left_is
+      built (Moving f.tells world.side 0 world.side.ahead) old old new before after world world left o r [] r.stood.ordered refl refl r.stood.left_is
       (run.works (moving_any 0 world.side.ahead some) refl (record { text = a.text; side = a.led.next; led = a.led.led; outs_is = a.sends; next_is = refl }))
-      (rw node r.stood.node)
+      r.stood.speaker_last r.stood.surplus_last (rw node r.stood.node)
 
   -- a line of the node: the rest of the events
   rest_after : (left said ordered rest : List Event) (e : LineEvent) → left ≡ ordered ++ said → ordered ≡ orders e ∷ rest → left ≡ (orders e ∷ []) ++ (rest ++ said)
   rest_after left said ordered rest e is first_is = is ∙ ap (λ (es : List Event). es ++ said) first_is
 
-  pub node_step : (old new : State G) (before after : A) (world : World) (left : List Event) (o : Outs) (e : LineEvent)
-      (r : NodeTurned (OrdersLine f.tells world.side e) old new before after world left o) → NextOrder new.node world.heard r.stood.ordered e → IsStill world
-      → TookTurn l f old new before after world left (outs_of o)
-  node_step old new before after world left o e r n still =
+  -- where a line is left, nobody speaks, and none too many waits
+  never : (u : Option ℕ) (ordered rest : List Event) (e : LineEvent) (P Q : Type 0) → ordered ≡ orders e ∷ rest → ((q : ℕ) → u ≡ Some q → (ordered ≡ []) × P) → (q : ℕ) → u ≡ Some q → Q
+  never u ordered rest e P Q is last q speaks = absurd (let n = (last q speaks).0 in let f = sym is ∙ n in cc)
+
+  -- it has begun, and is worked
+  pub node_step : (base old new : State G) (before after : A) (start : World) (left : List Event) (o : Outs) (e : LineEvent)
+      (r : NodeTurned (OrdersLine f.tells start.side e) old new before after (begun start) left o) → NextOrder new.node start.heard r.stood.ordered e → IsStill start → AllTold start → old.ledger ≡ base.ledger
+      → TookTurn l f base new before after start left (outs_of o)
+  node_step base old new before after start left o e r n still all_told ledger_is =
       let a = r.answered in
-      built (OrdersLine f.tells world.side e) old new before after world left o r (orders e ∷ []) n.rest
+      built (OrdersLine f.tells start.side e) base old new before after start (begun start) left o r (orders e ∷ []) n.rest ledger_is refl
       (rest_after left r.stood.said r.stood.ordered n.rest e r.stood.left_is n.first_is)
-      (run.takes (orders e) still refl (record { text = a.text; side = a.led.next; led = a.led.led; outs_is = a.sends; next_is = refl }))
+      (run.takes (orders e) still all_told refl (record { text = a.text; side = a.led.next; led = a.led.led; outs_is = a.sends; next_is = refl }))
+      (never old.speaker r.stood.ordered n.rest e _ _ n.first_is r.stood.speaker_last) (never old.surplus r.stood.ordered n.rest e _ _ n.first_is r.stood.surplus_last)
       n.node
 
   -- ---- turns that fail
@@ -254,7 +304,7 @@ module _ {G A : Type 0} (l : ledger.Ghosts G) (f : archive.Ghosts A) where
 
   nodes_busy : (world : World) (left : List Event) → IsBusy world → IsNodesTurn world left
   nodes_busy world [] busy = busy
-  nodes_busy world (model.orders said ∷ left) busy = tt
+  nodes_busy world (model.orders said ∷ left) busy = inl busy
   nodes_busy world (model.joins p ∷ left) busy = busy
   nodes_busy world (model.leaves p ∷ left) busy = busy
   nodes_busy world (model.says p said ∷ left) busy = busy
@@ -268,8 +318,8 @@ module _ {G A : Type 0} (l : ledger.Ghosts G) (f : archive.Ghosts A) where
       failed_so old new before after world left true e (nodes_busy world left busy) (λ y. busy) s s.fails live
 
   pub line_failed : (old new : G) (before after : A) (world : World) (left rest : List Event) (e : StepFault) (said : LineEvent)
-      → IsStill world → left ≡ orders said ∷ rest → (e ≡ fault.Memory → l.is_live new)
+      → IsStill world → AllTold world → left ≡ orders said ∷ rest → (e ≡ fault.Memory → l.is_live new)
       → StopsAt l f old new before after world.side.chain false (IsFirstMove world.side said) e → TurnFailed l f old new before after world left e
-  line_failed old new before after world left rest e said still is live r =
-      let s = stops_by old new before after world.side.chain false (IsFirstMove world.side said) (IsMoveOf world left) e (λ p move. first said rest still is move) r in
-      failed_so old new before after world left false e (rw is tt) (λ y. absurd (true≢false (sym y))) s s.fails live
+  line_failed old new before after world left rest e said still all_told is live r =
+      let s = stops_by old new before after world.side.chain false (IsFirstMove world.side said) (IsMoveOf world left) e (λ p move. first said rest still all_told is move) r in
+      failed_so old new before after world left false e (rw is (inr all_told)) (λ y. absurd (true≢false (sym y))) s s.fails live

@@ -1,12 +1,12 @@
 -- The numbers of clients, of which none is greater than the last that was opened.
-use Rattle.std.proofs.Common.{◌≡◌, ℕ, ◌<◌, ◌≤◌, Bool, not, List, [], ◌∷◌, ◌++◌, Option, Some, None, arith}
+use Rattle.std.proofs.Common.{◌≡◌, ℕ, ◌<◌, ◌≤◌, Bool, true, not, List, [], ◌∷◌, ◌++◌, Option, Some, None, arith}
 use Rattle.std.specs.Prelude.{IfSome}
 use Rattle.std.specs.List.{AllByRecursion}
 use Rattle.el_core.specs.State.{State, ClientState, AreUpTo, is_numbered}
 use Rattle.el_core.specs.Arrivals.{kept_clients}
-use Rattle.el_core.specs.within.Clients.{Opens, node, joins, one_more, Hears, nobody, client, TurnsAt}
+use Rattle.el_core.specs.within.Clients.{Opens, node, joins, one_more, Hears, nobody, client, TurnsAt, TellsAt, all_wait}
 use Rattle.el_core.specs.declared.out.Outs.{Outs}
-use Rattle.el_core.proofs.Places.{IfThere, all_at, all_map, all_filter, all_replaced}
+use Rattle.el_core.proofs.Places.{IfThere, all_at, all_map, all_filter, all_mapped, all_replaced}
 
 pub up_to_later : (last now : ℕ) (cs : List ClientState) → last ≤ now → AreUpTo last cs → AreUpTo now cs
 up_to_later last now cs later up = all_map (λ (c : ClientState). c.peer ≤ last) (λ (c : ClientState). c.peer ≤ now) cs (λ c le. (let e : c.peer ≤ now = omega (arith, le, later) in e)) up
@@ -42,6 +42,19 @@ up_to_turned says i last cs next outs stays t up = rw t.next_is (all_replaced (�
     own : t.client.peer ≤ last
     own = all_at (λ (d : ClientState). d.peer ≤ last) cs i t.client up t.at
 
-    by : (left : Option ClientState) → IfSome left (λ d. d.peer ≡ t.client.peer) → IfThere (λ (d : ClientState). d.peer ≤ last) left
+    by : (left : Option ClientState) → IfSome left (λ d. (d.peer ≡ t.client.peer) × (d.waits ≡ t.client.waits)) → IfThere (λ (d : ClientState). d.peer ≤ last) left
     by None same = tt
-    by (Some d) same = rw same own
+    by (Some d) same = rw same.0 own
+
+pub up_to_waits : (last : ℕ) (cs : List ClientState) → AreUpTo last cs → AreUpTo last (all_wait cs)
+up_to_waits last cs up = all_mapped (λ (c : ClientState). c.peer ≤ last) (λ (c : ClientState). c.peer ≤ last) (λ (c : ClientState). record c { waits = true }) cs (λ c le. le) up
+
+pub up_to_told : (says : ClientState → Option ClientState → Type 0) (i last : ℕ) (cs next : List ClientState) → TellsAt says i cs next → AreUpTo last cs → AreUpTo last next
+up_to_told says i last cs next t up = rw t.next_is (all_replaced (λ (d : ClientState). d.peer ≤ last) cs i t.left up (by t.left t.same))
+  where
+    own : t.client.peer ≤ last
+    own = all_at (λ (d : ClientState). d.peer ≤ last) cs i t.client up t.at
+
+    by : (left : Option ClientState) → IfSome left (λ d. (d.buffer ≡ t.client.buffer) × (d.peer ≡ t.client.peer)) → IfThere (λ (d : ClientState). d.peer ≤ last) left
+    by None same = tt
+    by (Some d) same = rw same.1 own

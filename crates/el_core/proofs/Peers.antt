@@ -14,19 +14,23 @@ use Rattle.el_lines.specs.Lines.{LineEvent, line, too_long, lines}
 use Rattle.el_lines.specs.NodeAnswers.{node_limit}
 use Rattle.el_methods.specs.declared.session.Session as known
 use Rattle.el_replies.specs.declared.line.LineReply.{LineReply}
+use Rattle.el_subs.specs.Told as status_told
+use Rattle.el_subs.specs.Told.{status}
 use Rattle.el_world.specs.Side.{Side}
 use Rattle.el_world.specs.World as model
-use Rattle.el_world.specs.World.{World, Session, Event, IsStill, joins, says, orders, leaves, Takes, Outs, Comes, outs_of_reply, after_reply, with_session, nothing, closes_long, closes_memory, closes_surplus, is_client, is_peer, without_client, line_limit}
+use Rattle.el_world.specs.World.{World, Session, Event, IsStill, AllTold, joins, says, orders, leaves, Takes, Outs, Comes, outs_of_reply, after_reply, with_session, nothing, closes_long, closes_memory, closes_surplus, is_client, is_peer, without_client, line_limit}
 use Rattle.el_world.specs.Run as run
 use Rattle.el_world.specs.Run.{OneTurn, Turns}
 use Rattle.el_lines.specs.LineStates.{LineState, IsAt}
 use Rattle.el_lines.specs.declared.line_buffer.LineEvent.TheVariants as event
-use Rattle.el_core.specs.State.{State, ClientState, HasGivenAll, HearsLeft, in_order, IsSession, SessionsAre, Leaves, AllVoid, IsSaidBy, NodeLeaves, Stands, is_numbered}
+use Rattle.el_core.specs.State.{State, ClientState, HasGivenAll, HearsLeft, in_order, IsSession, SessionsAre, Leaves, NoneWaits, Tellings, AllVoid, IsSaidBy, NodeLeaves, Stands, is_numbered}
 use Rattle.el_core.specs.Turn.{TookTurn, IsDone, GoesTo, outs_of}
 use Rattle.el_core.specs.within.Answering.{Lost}
 use Rattle.el_core.specs.within.Clients.{LineAnswered, replied, starved, Gives, ClientTurn, loses, departs, answers, waits, nobody, gone, steps, PeersTurn, closes, has_turn, replaced, left_if, speaker_after}
 use Rattle.el_core.specs.declared.out.Outs as code
-use Rattle.el_core.proofs.Places.{Both, IfThere, same_some, no_some, zip_at, zip_replaced, rising_replaced, one_mapped, one_filtered, one_found, one_there, gone_itself, found_none, none_there}
+use Rattle.el_core.proofs.Places.{Both, IfThere, same_some, no_some, zip_at, zip_replaced, all_at, all_replaced, rising_replaced, one_mapped, one_filtered, one_found, one_there, gone_itself, found_none, none_there}
+use Rattle.el_world.proofs.KeepTold.{replies_keep_told}
+use Rattle.el_core.proofs.Tellings.{none_wait_world, all_statuses, tellings_replaced, untouched_of}
 use Rattle.el_core.proofs.Sessions.{said_all, void_all, left_first, left_none, ordered, left_void, all_met, zip_all}
 
 same_number : (a b : ℕ) → ◌≡◌ {A = Option ℕ} (Some a) (Some b) → a ≡ b
@@ -68,6 +72,7 @@ speaker_changes clients sessions p i c x left rest speaker now session are at is
         peer = r.peer;
         limit = r.limit;
         kept = r.kept;
+        waits = r.waits;
         met = λ n. r.met (λ e. differ (sym r.peer ∙ sym (same_number p d.peer e) ∙ sym is));
         speaks = λ e. absurd (other d y r differ either_is e);
       }) both;
@@ -84,7 +89,7 @@ replaced_same [] i x at = refl
 replaced_same (y ∷ ys) zero x at = ap (λ (t : Session). t ∷ ys) (sym (same_some y x at))
 replaced_same (y ∷ ys) (suc i) x at = ap (λ (l : List Session). y ∷ l) (replaced_same ys i x at)
 
-at_replaced : (ys : List Session) (j : ℕ) (y n : Session) → slice_get ys j ≡ Some y → slice_get (replaced j (Some n) ys) j ≡ Some n
+pub at_replaced : (ys : List Session) (j : ℕ) (y n : Session) → slice_get ys j ≡ Some y → slice_get (replaced j (Some n) ys) j ≡ Some n
 at_replaced [] j y n at = absurd (no_some y (sym at))
 at_replaced (u ∷ ys) zero y n at = refl
 at_replaced (u ∷ ys) (suc j) y n at = at_replaced ys j y n at
@@ -129,43 +134,53 @@ module _ {G A : Type 0} (l : ledger.Ghosts G) (f : archive.Ghosts A) where
     pub stood : Stands l.stands old world left
     pub none_left : stood.ordered ≡ []
     pub still : IsStill world
+    pub all_told : AllTold world
     pub moved : Moved l old.ledger new.ledger world.side.chain world.side.chain
     pub magic : new.magic ≡ old.magic
     pub found : new.found ≡ old.found
     pub pool : new.pool ≡ old.pool
     pub ahead : new.ahead ≡ old.ahead
     pub node : new.node ≡ old.node
+    pub before : new.before ≡ old.before
+    pub touched : new.touched ≡ old.touched
 
   left_said : (old new : State G) (world : World) (left : List Event) (r : Beside old new world left) → left ≡ r.stood.said
   left_said old new world left r = r.stood.left_is ∙ ap (λ (es : List Event). es ++ r.stood.said) r.none_left
 
   stood_after : (old new : State G) (world : World) (left : List Event) (r : Beside old new world left) (ss : List Session) (rest : List Event)
-      → SessionsAre new.clients new.speaker new.surplus ss rest → Stands l.stands new (record world { sessions = ss }) rest
-  stood_after old new world left r ss rest are = record {
+      → SessionsAre new.clients new.speaker new.surplus ss rest → ((q : ℕ) → new.speaker ≡ Some q → NoneWaits ss) → new.surplus ≡ None → Tellings world.side r.stood.start old.touched ss
+      → Stands l.stands new (record world { sessions = ss }) rest
+  stood_after old new world left r ss rest are spoken unused tellings = record {
     chain = r.moved.stood;
     magic = r.magic ∙ r.stood.magic;
     found = r.found ∙ r.stood.found;
     ahead = r.ahead ∙ r.stood.ahead;
+    start = r.stood.start;
     set = rw r.pool r.stood.set;
     ordered = [];
     node = rw r.node (subst (λ (es : List Event). NodeLeaves old.node world.heard es) r.none_left r.stood.node);
     said = rest;
     sessions = are;
+    speaker_last = λ q e. (refl, spoken q e);
+    surplus_last = λ q e. absurd (no_some q (sym e ∙ unused));
+    before = r.before ∙ r.stood.before;
+    tellings = rw r.touched tellings;
     left_is = refl;
   }
 
   built : (old new : State G) (before after : A) (world : World) (left : List Event) (o : Outs) (r : Beside old new world left) (told : f.tells → AllGrow world.side.files (f.bytes after)) (ss : List Session)
       (done rest : List Event) (losses : List Device) → left ≡ done ++ rest → OneTurn f.tells world done o losses (record world { sessions = ss }) → SessionsAre new.clients new.speaker new.surplus ss rest
+      → ((q : ℕ) → new.speaker ≡ Some q → NoneWaits ss) → new.surplus ≡ None → Tellings world.side r.stood.start old.touched ss
       → AllByRecursion (GoesTo (record world { sessions = ss }) new.surplus o.closing) o.messages → Lost l f old.ledger new.ledger before after losses
       → TookTurn l f old new before after world left o
-  built old new before after world left o r told ss done rest losses whole turn are sends rose = record {
+  built old new before after world left o r told ss done rest losses whole turn are spoken unused tellings sends rose = record {
     done = done;
     rest = rest;
     losses = losses;
     next = record world { sessions = ss };
     whole = whole;
     turn = turn;
-    stood = stood_after old new world left r ss rest are;
+    stood = stood_after old new world left r ss rest are spoken unused tellings;
     moved = r.moved;
     told = told;
     sends_to = sends;
@@ -179,16 +194,16 @@ module _ {G A : Type 0} (l : ledger.Ghosts G) (f : archive.Ghosts A) where
   surplus_step old new before after world left o r told (Some q) p are clients speaker unused is still = absurd are.leaves_left
   surplus_step old new before after world left o r told None p are clients speaker unused is still =
       built old new before after world left o r told world.sessions (joins p ∷ []) [] [] (left_said old new world left r ∙ are.leaves_left.0)
-      (run.takes (joins p) r.still refl (if_false _ _ _ are.leaves_left.1 (is, refl, refl)))
+      (run.takes (joins p) r.still r.all_told refl (if_false _ _ _ are.leaves_left.1 (is, refl, refl)))
       (rw (clients, speaker, unused) (record { each = again old.clients world.sessions are.each; rising = are.rising; leaves_left = tt }))
-      (rw is tt) still
+      (λ q e. absurd (no_some q (sym e ∙ speaker))) unused r.stood.tellings (rw is tt) still
     where
       again : (cs : List ClientState) (ss : List Session) → AllZip (IsSession None r.stood.said) cs ss → AllZip (IsSession None []) cs ss
       again [] [] z = tt
       again [] (y ∷ ys) z = absurd z
       again (x ∷ xs) [] z = absurd z
       again (x ∷ xs) (y ∷ ys) z =
-          (record { peer = z.0.peer; limit = z.0.limit; kept = z.0.kept; met = z.0.met; speaks = λ e. absurd (no_some x.peer (sym e)) }, again xs ys z.1)
+          (record { peer = z.0.peer; limit = z.0.limit; kept = z.0.kept; waits = z.0.waits; met = z.0.met; speaks = λ e. absurd (no_some x.peer (sym e)) }, again xs ys z.1)
 
   -- the client is closed, with these events done
   goes : (old new : State G) (before after : A) (world : World) (left : List Event) (o : Outs) (r : Beside old new world left) (told : f.tells → AllGrow world.side.files (f.bytes after)) (p i : ℕ) (c : ClientState) (w : Speaking old world r.stood.said p i c)
@@ -202,18 +217,22 @@ module _ {G A : Type 0} (l : ledger.Ghosts G) (f : archive.Ghosts A) where
       subst (λ (ss : List Session). OneTurn f.tells world done o losses (record world { sessions = ss })) gone_is turn in
       built old new before after world left o r told (replaced i None world.sessions) done rest losses whole turn'
       (rw (clients, speaker, unused) (speaker_changes old.clients world.sessions p i c w.session r.stood.said rest None None None w.are w.session_at w.peer (inr refl) tt tt void'))
-      (rw unused (sends (record world { sessions = replaced i None world.sessions }))) rose
+      (λ q e. absurd (no_some q (sym e ∙ speaker))) unused (tellings_replaced world.side r.stood.start old.touched world.sessions i None r.stood.tellings tt tt r.still) (rw unused (sends (record world { sessions = replaced i None world.sessions }))) rose
 
   -- the client stays with this session, and these events are left
   stays : (old new : State G) (before after : A) (world : World) (left : List Event) (o : Outs) (r : Beside old new world left) (told : f.tells → AllGrow world.side.files (f.bytes after)) (p i : ℕ) (c now : ClientState) (x : Session) (w : Speaking old world r.stood.said p i c)
-      (done rest : List Event) (losses : List Device) → x.peer ≡ w.session.peer → left ≡ done ++ rest → OneTurn f.tells world done o losses (record world { sessions = replaced i (Some x) world.sessions })
+      (done rest : List Event) (losses : List Device) → x.peer ≡ w.session.peer → x.waits ≡ w.session.waits → status_told.AllTold (status world.side.chain world.side.kept) x.client.subs → left ≡ done ++ rest → OneTurn f.tells world done o losses (record world { sessions = replaced i (Some x) world.sessions })
       → IsSession (Some p) rest now x → new.clients ≡ replaced i (Some now) old.clients → new.speaker ≡ Some p → new.surplus ≡ None
       → AllByRecursion (GoesTo (record world { sessions = replaced i (Some x) world.sessions }) None o.closing) o.messages → Lost l f old.ledger new.ledger before after losses
       → TookTurn l f old new before after world left o
-  stays old new before after world left o r told p i c now x w done rest losses same whole turn session clients speaker unused sends rose =
+  stays old new before after world left o r told p i c now x w done rest losses same waits_same statuses whole turn session clients speaker unused sends rose =
+      let quiet_before = none_wait_world world.sessions r.all_told in
+      let start_is = r.stood.set.still r.still in
       built old new before after world left o r told (replaced i (Some x) world.sessions) done rest losses whole turn
       (rw (clients, speaker, unused) (speaker_changes old.clients world.sessions p i c w.session r.stood.said rest (Some p) (Some now) (Some x) w.are w.session_at w.peer (inl refl) session same
       (one_there p (replaced i (Some x) world.sessions) i x (at_replaced world.sessions i w.session x w.session_at) (same ∙ w.peer))))
+      (λ q e. all_replaced _ world.sessions i (Some x) quiet_before (waits_same ∙ all_at _ world.sessions i w.session quiet_before w.session_at)) unused
+      (tellings_replaced world.side r.stood.start old.touched world.sessions i (Some x) r.stood.tellings (untouched_of world.side r.stood.start old.touched x.client.subs start_is statuses) (λ e. statuses) r.still)
       (rw unused sends) rose
 
   -- it is closed as out of memory, for its bytes or a line of them
@@ -235,7 +254,7 @@ module _ {G A : Type 0} (l : ledger.Ghosts G) (f : archive.Ghosts A) where
       let n = next_event c b e w.session.heard r.stood.said kept w.is.limit w.hears gives in
       let rest = map (says c.peer) (drop (n.given + 1) (lines line_limit w.session.heard)) in
       goes old new before after world left o r told p i c w (says c.peer e ∷ []) rest losses (left_said old new world left r ∙ n.first)
-      (rw peer_is (run.takes (says p e) r.still refl takes))
+      (rw peer_is (run.takes (says p e) r.still r.all_told refl takes))
       (subst (λ (q : ℕ). AllVoid (filter (λ (y : Session). not (is_peer p y)) world.sessions) (map (says q) (drop (n.given + 1) (lines line_limit w.session.heard)))) (sym peer_is)
       (void_all _ p _ (gone_itself p world.sessions) (said_all p (drop (n.given + 1) (lines line_limit w.session.heard)))))
       clients speaker unused sends rose
@@ -301,6 +320,7 @@ module _ {G A : Type 0} (l : ledger.Ghosts G) (f : archive.Ghosts A) where
         peer = w.is.peer;
         limit = limit ∙ w.is.limit;
         kept = refl;
+        waits = w.is.waits;
         met = λ e. absurd (e (ap (λ (q : ℕ). Some q) (sym peer_is)));
         speaks = λ e. in_order (n.given + 1) kept n.at n.few refl;
       } in
@@ -308,9 +328,12 @@ module _ {G A : Type 0} (l : ledger.Ghosts G) (f : archive.Ghosts A) where
       let mapped = sym (one_mapped p (λ (y : Session). x) world.sessions i w.session w.are.rising w.session_at w.peer) in
       let next_is : record world { sessions = replaced i (Some x) world.sessions } ≡ after_reply p reply w.session now world =
       rw stays_open (ap (λ (ss : List Session). record world { sessions = ss }) mapped) in
-      stays old new before after world left o r told p i c (record c { buffer = b; session = now }) x w (says c.peer (line bytes) ∷ []) rest losses refl
+      let all = all_statuses world.side r.stood.start old.touched world.sessions r.stood.tellings r.still (none_wait_world world.sessions r.all_told) in
+      let was_told = all_at _ world.sessions i w.session all w.session_at in
+      let statuses = replies_keep_told f.tells world.side bytes w.session.client now losses reply was_told comes' in
+      stays old new before after world left o r told p i c (record c { buffer = b; session = now }) x w (says c.peer (line bytes) ∷ []) rest losses refl refl statuses
       (left_said old new world left r ∙ n.first)
-      (rw peer_is (run.takes (says p (line bytes)) r.still refl
+      (rw peer_is (run.takes (says p (line bytes)) r.still r.all_told refl
       (line_takes old world r.stood.said o p i c w bytes losses (record world { sessions = replaced i (Some x) world.sessions }) (model.replied reply now comes' is next_is))))
       session clients speaker unused
       (rw is (reply_goes p reply.text reply.closes (record world { sessions = replaced i (Some x) world.sessions }) (λ e. there))) rose
@@ -393,12 +416,12 @@ module _ {G A : Type 0} (l : ledger.Ghosts G) (f : archive.Ghosts A) where
       let n : find (is_peer q) world.sessions ≡ None = rw v.1 v.2 in
       if_false _ _ _ (none_there q world.sessions (found_none q world.sessions n)) (refl, refl, refl)
 
-  void_more : (world : World) (done left : List Event) → IsStill world → AllVoid world.sessions left → Turns f.tells world done [] [] [] world → Turns f.tells world (done ++ left) [] [] [] world
-  void_more world done [] still void turns = rw (append-nil done) turns
-  void_more world done (e ∷ es) still void turns =
+  void_more : (world : World) (done left : List Event) → IsStill world → AllTold world → AllVoid world.sessions left → Turns f.tells world done [] [] [] world → Turns f.tells world (done ++ left) [] [] [] world
+  void_more world done [] still all_told void turns = rw (append-nil done) turns
+  void_more world done (e ∷ es) still all_told void turns =
       let one : Turns f.tells world (done ++ e ∷ []) [] [] [] world =
-      run.more done [] [] [] world (e ∷ []) nothing [] world [] [] [] world turns (run.takes e still refl (void_event world e void.0)) (run.all world None) in
-      let more = void_more world (done ++ e ∷ []) es still void.1 one in
+      run.more done [] [] [] world (e ∷ []) nothing [] world [] [] [] world turns (run.takes e still all_told refl (void_event world e void.0)) (run.all world None) in
+      let more = void_more world (done ++ e ∷ []) es still all_told void.1 one in
       rw (append_assoc done (e ∷ []) es) at more
 
   zip_none : (said : List Event) (cs : List ClientState) (ss : List Session) → AllZip (IsSession None said) cs ss → AllZip (IsSession None []) cs ss
@@ -406,15 +429,17 @@ module _ {G A : Type 0} (l : ledger.Ghosts G) (f : archive.Ghosts A) where
   zip_none said [] (y ∷ ys) z = absurd z
   zip_none said (x ∷ xs) [] z = absurd z
   zip_none said (x ∷ xs) (y ∷ ys) z =
-      (record { peer = z.0.peer; limit = z.0.limit; kept = z.0.kept; met = z.0.met; speaks = λ e. absurd (no_some x.peer (sym e)) }, zip_none said xs ys z.1)
+      (record { peer = z.0.peer; limit = z.0.limit; kept = z.0.kept; waits = z.0.waits; met = z.0.met; speaks = λ e. absurd (no_some x.peer (sym e)) }, zip_none said xs ys z.1)
 
   -- nobody spoke, or the one that spoke has no line left
   done_so : (old new : State G) (world : World) (left : List Event) (r : Beside old new world left) → SessionsAre new.clients None None world.sessions [] → new.speaker ≡ None → new.surplus ≡ None
       → AllVoid world.sessions r.stood.said → IsDone l.stands f.tells world left new
   done_so old new world left r are speaker unused void = record {
-    turns = void_more world [] left r.still (rw (left_said old new world left r) void) run.none;
+    turns = void_more world [] left r.still r.all_told (rw (left_said old new world left r) void) run.none;
     still = r.still;
-    stood = stood_after old new world left r world.sessions [] (rw (speaker, unused) are);
+    told = r.all_told;
+    statuses = all_statuses world.side r.stood.start old.touched world.sessions r.stood.tellings r.still (none_wait_world world.sessions r.all_told);
+    stood = stood_after old new world left r world.sessions [] (rw (speaker, unused) are) (λ q e. absurd (no_some q (sym e ∙ speaker))) unused r.stood.tellings;
   }
 
   -- no line of the one that speaks is left
@@ -431,6 +456,7 @@ module _ {G A : Type 0} (l : ledger.Ghosts G) (f : archive.Ghosts A) where
         peer = w.is.peer;
         limit = w.is.limit;
         kept = w.is.kept;
+        waits = w.is.waits;
         met = λ e. record { kept = idle.kept; at = subst (λ (n : ℕ). IsAt c.buffer w.session.heard n) all d.at };
         speaks = λ e. absurd (no_some c.peer (sym e));
       } in

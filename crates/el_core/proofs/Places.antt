@@ -49,6 +49,10 @@ pub all_map : {A : Type 0} (P Q : A → Type 0) (xs : List A) → ((x : A) → P
 all_map P Q [] f all = tt
 all_map P Q (x ∷ xs) f all = (f x all.0, all_map P Q xs f all.1)
 
+pub all_mapped : {A : Type 0} (P Q : A → Type 0) (g : A → A) (xs : List A) → ((x : A) → P x → Q (g x)) → AllByRecursion P xs → AllByRecursion Q (map g xs)
+all_mapped P Q g [] f all = tt
+all_mapped P Q g (x ∷ xs) f all = (f x all.0, all_mapped P Q g xs f all.1)
+
 pub all_filter : {A : Type 0} (P : A → Type 0) (p : A → Bool) (xs : List A) → AllByRecursion P xs → AllByRecursion P (filter p xs)
 all_filter P p [] all = tt
 all_filter P p (x ∷ xs) all = elim (either (p x)) [
@@ -121,6 +125,11 @@ rising_more (y ∷ ys) n up all = (more ys up.0, rising_more ys n up.1 all.1)
     more : (zs : List Session) → AllByRecursion (λ (u : Session). y.peer < u.peer) zs → AllByRecursion (λ (u : Session). y.peer < u.peer) (zs ++ n ∷ [])
     more [] h = (all.0, tt)
     more (z ∷ zs) h = (h.0, more zs h.1)
+
+pub rising_map : (g : Session → Session) → ((x : Session) → (g x).peer ≡ x.peer) → (ys : List Session) → Rising ys → Rising (map g ys)
+rising_map g same [] up = tt
+rising_map g same (y ∷ ys) up =
+    (rw (same y) (all_mapped (λ (u : Session). y.peer < u.peer) (λ (u : Session). y.peer < u.peer) g ys (λ x l. rw (same x) l) up.0), rising_map g same ys up.1)
 
 -- ---- what the model says of the session with a number
 

@@ -6,13 +6,15 @@ use Rattle.std.proofs.lemmas.List.{drop_all}
 use Rattle.std.proofs.lemmas.Option.{slice_get_within, get_or_from_slice_get}
 use Rattle.el_base.proofs.Lists.{left_at}
 use Rattle.el_chain.specs.Chains.{Chain}
+use Rattle.el_methods.specs.declared.session.Session as known
 use Rattle.el_lines.specs.Lines.{LineEvent, lines}
 use Rattle.el_world.specs.World.{World, Session, Event, says, is_peer, without_client, line_limit}
 use Rattle.el_lines.proofs.Cuts.{either}
 use Rattle.el_lines.specs.LineStates.{IsAt}
 use Rattle.el_core.specs.State.{State, ClientState, HasGivenAll, HearsLeft, in_order, losing, IsSession, SessionsAre, AllVoid, IsSaidBy, Stands, is_numbered}
 use Rattle.el_core.specs.Arrivals.{gone_from, kept_clients, kept_speaker}
-use Rattle.el_core.proofs.Places.{differs, no_some, same_some, all_map, rising_filter, gone_found, gone_itself, there_still}
+use Rattle.el_core.proofs.Places.{differs, no_some, same_some, all_map, all_filter, rising_filter, gone_found, gone_itself, there_still}
+use Rattle.el_core.proofs.Tellings.{tellings_gone}
 
 -- lines that a client said
 pub said_all : (p : ℕ) (ls : List LineEvent) → AllByRecursion (IsSaidBy p) (map (says p) ls)
@@ -47,6 +49,12 @@ ordered c heard left kept (losing lost all_said) = absurd (let e = sym kept ∙ 
 pub left_void : (sessions : List Session) (c : ClientState) (heard : List ℕ) (left : List Event) → find (is_peer c.peer) sessions ≡ None → HearsLeft c heard left → AllVoid sessions left
 left_void sessions c heard left none (in_order given same at few is) = rw is (void_all sessions c.peer _ none (said_all c.peer (drop given (lines line_limit heard))))
 left_void sessions c heard left none (losing lost all_said) = void_all sessions c.peer left none all_said
+
+-- what is kept of it for its requests, and whether it is to be told, don't matter
+pub hears_told : (c : ClientState) (heard : List ℕ) (left : List Event) (session : known.Session) (waits : Bool) → HearsLeft c heard left
+    → HearsLeft (record c { session = session; waits = waits }) heard left
+hears_told c heard left session waits (in_order given kept at few is) = in_order given kept at few is
+hears_told c heard left session waits (losing lost all) = losing lost all
 
 -- all lines were met
 pub all_met : (c : ClientState) (heard : List ℕ) (given : ℕ) → c.buffer.limit ≡ line_limit → HasGivenAll c.buffer → IsAt c.buffer heard given → given ≡ length (lines line_limit heard)
@@ -116,6 +124,7 @@ gone_by clients (Some q) sessions p left are = elim (either (q == p)) [
               peer = s.peer;
               limit = s.limit;
               kept = s.kept;
+              waits = s.waits;
               met = λ n. s.met (λ e. other_peer p x k (sym s.peer ∙ sym (same_some q c.peer e) ∙ same));
               speaks = λ e. absurd (no_some c.peer (sym e));
             }) are.each;
@@ -148,6 +157,13 @@ gone_by clients (Some q) sessions p left are = elim (either (q == p)) [
           | inr h ↦ heard_of xs ys q left z.1 (rw h at there)
         ]
 
+kept_some : (p : ℕ) (u : Option ℕ) (q : ℕ) → kept_speaker p u ≡ Some q → u ≡ Some q
+kept_some p None q e = e
+kept_some p (Some r) q e = elim (either (r == p)) [
+  | inl h ↦ absurd (no_some q (sym (rw h at e)))
+  | inr h ↦ rw h at e
+]
+
 module _ {G : Type 0} (stands : G → Chain → Type 0) where
   pub gone_stands : (s : State G) (world : World) (p : ℕ) (left : List Event) → s.surplus ≡ None → Stands stands s world left → Stands stands (gone_from s p) (without_client p world) left
   gone_stands s world p left unused stood = record {
@@ -155,10 +171,17 @@ module _ {G : Type 0} (stands : G → Chain → Type 0) where
     magic = stood.magic;
     found = stood.found;
     ahead = stood.ahead;
+    start = stood.start;
     set = stood.set;
     ordered = stood.ordered;
     node = stood.node;
     said = stood.said;
     sessions = rw unused (gone_by s.clients s.speaker world.sessions p stood.said (rw unused at stood.sessions));
+    speaker_last = λ q e.
+        let l = stood.speaker_last q (kept_some p s.speaker q e) in
+        (l.0, all_filter _ _ world.sessions l.1);
+    surplus_last = λ q e. absurd (no_some q (sym e ∙ unused));
+    before = stood.before;
+    tellings = tellings_gone world.side stood.start s.touched world.sessions p stood.tellings;
     left_is = stood.left_is;
   }

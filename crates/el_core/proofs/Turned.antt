@@ -1,6 +1,8 @@
 -- Turns of the server, over the states between its parts.
-use Rattle.std.proofs.Common.{◌≡◌, ℕ, false, List, [], ◌++◌, Option, refl, ap, sym, ◌∙◌, subst}
+use Rattle.std.proofs.Common.{◌≡◌, ℕ, true, false, List, [], ◌∷◌, ◌++◌, map, Option, Some, None, refl, ap, sym, ◌∙◌, subst}
 use Rattle.std.specs.Prelude.{IfSome, IfNone}
+use Rattle.std.specs.List.{AllByRecursion, AllZip}
+use Rattle.el_base.specs.declared.hash.Hash32.{Hash32}
 use Rattle.el_outside.specs.declared.archive.Archive as archive
 use Rattle.el_outside.specs.Files.{AllGrow}
 use Rattle.el_outside.proofs.Devices.{all_rose_none}
@@ -9,44 +11,111 @@ use Rattle.el_chain.specs.declared.node.Node.{Node}
 use Rattle.el_chain.specs.Chains.{Chain}
 use Rattle.el_model.specs.declared.ledger.Ledger as ledger
 use Rattle.el_model.specs.LedgerCalls.{Asked, failed_calls}
+use Rattle.el_model.specs.Queries.{tip_of}
 use Rattle.el_lines.specs.Lines.{LineEvent}
 use Rattle.el_mempool.specs.Standing.{StandsFor}
 use Rattle.el_world.specs.NodeSteps.{IsAt, Leads, SetStands}
 use Rattle.el_world.specs.Side.{Side, Moving, OrdersLine}
-use Rattle.el_world.specs.World.{World, Event}
+use Rattle.el_world.specs.World.{World, Session, Event, orders, IsStill, AllTold, begun, is_peer}
 use Rattle.el_world.specs.Run as run
 use Rattle.el_world.specs.Flights.{IsFirstMove}
 use Rattle.el_model.proofs.LedgerMoves.{LeavesOwn, asked_moved}
 use Rattle.el_sync.specs.Steps.{IsFrom, StopsAt}
 use Rattle.el_sync.specs.declared.fault.StepFault.{StepFault}
 use Rattle.el_sync.specs.declared.fault.StepFault.TheVariants as fault
-use Rattle.el_core.specs.State.{State, HasGivenAll, Stands}
+use Rattle.el_core.specs.State.{State, ClientState, HasGivenAll, IsSession, SessionsAre, AllVoid, Stands, waiting}
 use Rattle.el_core.specs.Turn.{TookTurn, TurnFailed, IsDone, outs_of}
 use Rattle.el_core.specs.within.Answering.{Answered, IsSettled, Lost, holdings_of}
-use Rattle.el_core.specs.within.Clients.{Gives, NextIsLine, PeersTurn}
+use Rattle.el_core.specs.within.Clients.{Gives, NextIsLine, PeersTurn, all_wait, begun_at}
+use Rattle.el_core.specs.within.Touching.{CoversAll}
 use Rattle.el_core.specs.declared.out.Outs as code
 use Rattle.el_core.proofs.Causes.{nodes_turn}
 use Rattle.el_core.proofs.Noded.{ahead_step, node_step, next_order, stops_still, line_failed}
 use Rattle.el_core.proofs.Peers.{Beside, peers_step, peers_none, none_ordered}
+use Rattle.el_core.proofs.Places.{no_some, all_map, all_mapped, rising_map, none_found, found_none}
+use Rattle.el_core.proofs.Sessions.{hears_told}
+use Rattle.el_core.proofs.Tellings.{all_told_world, none_wait_world, tellings_begun}
+
+-- ---- a line begins
+
+zip_waits : (speaker : Option ℕ) (said : List Event) (cs : List ClientState) (ss : List Session) → AllZip (IsSession speaker said) cs ss
+    → AllZip (IsSession speaker said) (all_wait cs) (map (λ (x : Session). record x { waits = true }) ss)
+zip_waits speaker said [] [] z = tt
+zip_waits speaker said [] (y ∷ ys) z = absurd z
+zip_waits speaker said (x ∷ xs) [] z = absurd z
+zip_waits speaker said (x ∷ xs) (y ∷ ys) z = (
+  record {
+    peer = z.0.peer;
+    limit = z.0.limit;
+    kept = z.0.kept;
+    waits = refl;
+    met = λ n. record { kept = (z.0.met n).kept; at = (z.0.met n).at };
+    speaks = λ e. hears_told x y.heard said x.session true (z.0.speaks e);
+  },
+  zip_waits speaker said xs ys z.1,
+)
+
+void_waits : (ss : List Session) (left : List Event) → AllVoid ss left → AllVoid (map (λ (x : Session). record x { waits = true }) ss) left
+void_waits ss left all =
+    all_map _ _ left (λ e v. (v.0, v.1, none_found v.0 _ (all_mapped (λ (y : Session). is_peer v.0 y ≡ false) (λ (y : Session). is_peer v.0 y ≡ false) (λ (x : Session). record x { waits = true }) ss (λ x h. h) (found_none v.0 ss v.2)))) all
+
+-- where a line is left, nobody speaks, and none too many waits
+none_where : (u : Option ℕ) (ordered rest : List Event) (e : LineEvent) (P : Type 0) → ordered ≡ orders e ∷ rest → ((q : ℕ) → u ≡ Some q → (ordered ≡ []) × P) → u ≡ None
+none_where None ordered rest e P is last = refl
+none_where (Some q) ordered rest e P is last = absurd (let n = (last q refl).0 in let f = sym is ∙ n in cc)
+
+begun_stands : {G : Type 0} (stands : G → Chain → Type 0) (old : State G) (start : World) (left rest : List Event) (e : LineEvent) (tip : Option Hash32) (stood : Stands stands old start left) → stood.ordered ≡ orders e ∷ rest
+    → IsStill start → AllTold start → tip ≡ tip_of start.side.chain → Stands stands (begun_at tip old) (begun start) left
+begun_stands {G} stands old start left rest e tip stood is still all_told tip_is =
+    let no_speaker = none_where old.speaker stood.ordered rest e _ is stood.speaker_last in
+    let no_surplus = none_where old.surplus stood.ordered rest e _ is stood.surplus_last in
+    let are : SessionsAre old.clients None None start.sessions stood.said = subst (λ (u : Option ℕ). SessionsAre old.clients u None start.sessions stood.said) no_speaker
+    (subst (λ (v : Option ℕ). SessionsAre old.clients old.speaker v start.sessions stood.said) no_surplus stood.sessions) in
+    let now : SessionsAre (all_wait old.clients) None None (begun start).sessions stood.said = record {
+      each = zip_waits None stood.said old.clients start.sessions are.each;
+      rising = rising_map (λ (x : Session). record x { waits = true }) (λ x. refl) start.sessions are.rising;
+      leaves_left = void_waits start.sessions stood.said are.leaves_left;
+    } in
+    record {
+      chain = stood.chain;
+      magic = stood.magic;
+      found = stood.found;
+      ahead = stood.ahead;
+      start = stood.start;
+      set = stood.set;
+      ordered = stood.ordered;
+      node = stood.node;
+      said = stood.said;
+      sessions = subst (λ (u : Option ℕ). SessionsAre (all_wait old.clients) u old.surplus (begun start).sessions stood.said) (sym no_speaker)
+          (subst (λ (v : Option ℕ). SessionsAre (all_wait old.clients) None v (begun start).sessions stood.said) (sym no_surplus) now);
+      speaker_last = λ q s. absurd (no_some q (sym s ∙ no_speaker));
+      surplus_last = λ q s. absurd (no_some q (sym s ∙ no_surplus));
+      before = tip_is;
+      tellings = tellings_begun start.side stood.start old.touched start.sessions stood.tellings still (stood.set.still still) (none_wait_world start.sessions all_told);
+      left_is = stood.left_is;
+    }
 
 module _ {G A : Type 0} (l : ledger.Ghosts G) (f : archive.Ghosts A) where
   -- a turn of the node's last tip line
   pub ahead_turned : (old new : State G) (before after : A) (world : World) (left : List Event) (o : code.Outs) → Stands l.stands old world left
-      → (f.tells → AllGrow world.side.files (f.bytes before)) → (old.ahead ≡ [] → ⊥) → new ≡ record old { ledger = new.ledger; pool = new.pool; ahead = new.ahead }
-      → ((side : Side) → IsAt l f old.ledger old.pool before side → side.found ≡ old.found → Answered l f (Moving f.tells side 0 old.ahead) old new before after side o)
+      → (f.tells → AllGrow world.side.files (f.bytes before)) → (old.ahead ≡ [] → ⊥) → new ≡ record old { ledger = new.ledger; pool = new.pool; ahead = new.ahead; touched = new.touched }
+      → ((side : Side) (start : Chain) → IsAt l f old.ledger old.pool before side start → side.found ≡ old.found → Answered l f (Moving f.tells side 0 old.ahead) old new before after side start o)
       → TookTurn l f old new before after world left (outs_of o)
   ahead_turned old new before after world left o stood told some same turn =
+      let busy : world.side.ahead ≡ [] → ⊥ = λ e. some (stood.ahead ∙ e) in
       ahead_step l f old new before after world left o
       (record {
         stood = stood;
-        answered = subst (λ (ns : List Node). Answered l f (Moving f.tells world.side 0 ns) old new before after world.side o) stood.ahead
-            (turn world.side (record { stood = stood.chain; set = stood.set; told = told }) (sym stood.found));
+        answered = subst (λ (ns : List Node). Answered l f (Moving f.tells world.side 0 ns) old new before after world.side stood.start o) stood.ahead
+            (turn world.side stood.start (record { stood = stood.chain; set = stood.set; told = told }) (sym stood.found));
         magic = ap (λ (s : State G). s.magic) same;
         clients = ap (λ (s : State G). s.clients) same;
         speaker = ap (λ (s : State G). s.speaker) same;
         surplus = ap (λ (s : State G). s.surplus) same;
+        before_is = ap (λ (s : State G). s.before) same;
+        waits = stood.tellings.busy busy;
       })
-      (λ e. some (stood.ahead ∙ e)) (ap (λ (s : State G). s.node) same)
+      busy (ap (λ (s : State G). s.node) same)
 
   -- the server's headers are the side's
   from_side : (old mid : State G) (world : World) (left : List Event) → Stands l.stands old world left → mid ≡ record old { node = mid.node } → mid.ahead ≡ [] → IsFrom (holdings_of mid) world.side
@@ -56,30 +125,44 @@ module _ {G A : Type 0} (l : ledger.Ghosts G) (f : archive.Ghosts A) where
     still = sym stood.ahead ∙ sym (ap (λ (s : State G). s.ahead) same) ∙ still;
   }
 
-  -- a line of the node
-  pub node_turned : (old mid new : State G) (before after : A) (world : World) (left : List Event) (o : code.Outs) (e : LineEvent) → Stands l.stands old world left
-      → (f.tells → AllGrow world.side.files (f.bytes before)) → mid.ahead ≡ [] → mid ≡ record old { node = mid.node } → mid.node.limit ≡ old.node.limit → Gives old.node e mid.node
-      → new ≡ record mid { ledger = new.ledger; found = new.found; pool = new.pool; ahead = new.ahead }
-      → ((side : Side) → IsAt l f mid.ledger mid.pool before side → IsFrom (holdings_of mid) side → Answered l f (OrdersLine f.tells side e) mid new before after side o)
+  -- a line of the node: `read` is the state after the line was read
+  pub node_turned : (old read new : State G) (before after : A) (world : World) (left : List Event) (o : code.Outs) (e : LineEvent) → ((k : G) (chain : Chain) → l.stands k chain → l.tip k ≡ tip_of chain) → Stands l.stands old world left
+      → (f.tells → AllGrow world.side.files (f.bytes before)) → read.ahead ≡ [] → waiting read.clients ≡ [] → read ≡ record old { node = read.node } → read.node.limit ≡ old.node.limit → Gives old.node e read.node
+      → new ≡ record read { ledger = new.ledger; found = new.found; pool = new.pool; ahead = new.ahead; clients = new.clients; before = new.before; touched = new.touched }
+      → (new.clients ≡ all_wait read.clients) × (new.before ≡ l.tip read.ledger)
+      → ((side : Side) (start : Chain) → IsAt l f read.ledger read.pool before side start → IsFrom (holdings_of read) side
+      → Answered l f (OrdersLine f.tells side e) (begun_at (l.tip read.ledger) read) new before after side start o)
       → TookTurn l f old new before after world left (outs_of o)
-  node_turned old mid new before after world left o e stood told still same limit gives then turn =
-      let ledger_is : mid.ledger ≡ old.ledger = ap (λ (s : State G). s.ledger) same in
-      let from = from_side old mid world left stood same still in
-      let set : SetStands mid.pool world.side = rw (ap (λ (s : State G). s.pool) same) stood.set in
-      let a = turn world.side (record { stood = rw ledger_is stood.chain; set = set; told = told }) from in
-      let led = subst (λ (k : G). Leads l f (OrdersLine f.tells world.side e) k new.ledger before after world.side a.text new.found new.ahead new.pool) ledger_is a.led in
-      let n = next_order old.node mid.node world.heard stood.ordered e stood.node limit gives in
-      let node : new.node ≡ mid.node = ap (λ (s : State G). s.node) then in
-      node_step l f old new before after world left o e
+  unfolding begun_stands
+  node_turned old read new before after world left o e tip_is stood told still quiet_all same limit gives then begins turn =
+      let ledger_is : read.ledger ≡ old.ledger = ap (λ (s : State G). s.ledger) same in
+      let from = from_side old read world left stood same still in
+      let clients_is : read.clients ≡ old.clients = ap (λ (s : State G). s.clients) same in
+      let all_told : AllTold world = all_told_world old.clients old.speaker stood.said world.sessions stood.sessions.each (rw clients_is at quiet_all) in
+      let n = next_order old.node read.node world.heard stood.ordered e stood.node limit gives in
+      let tip : l.tip read.ledger ≡ tip_of world.side.chain = tip_is read.ledger world.side.chain (rw ledger_is stood.chain) in
+      let began = begun_stands l.stands old world left n.rest e (l.tip read.ledger) stood n.first_is from.still all_told tip in
+      let a = turn world.side stood.start (record { stood = rw ledger_is stood.chain; set = rw (ap (λ (s : State G). s.pool) same) stood.set; told = told }) from in
+      let node : new.node ≡ read.node = ap (λ (s : State G). s.node) then in
+      node_step l f old (begun_at (l.tip read.ledger) old) new before after world left o e
       (record {
-        stood = stood;
-        answered = record { text = a.text; sends = a.sends; led = led };
+        stood = began;
+        answered = record {
+          text = a.text;
+          moved = a.moved;
+          changed = a.changed;
+          sends = a.sends;
+          led = subst (λ (k : G). Leads l f (OrdersLine f.tells world.side e) k new.ledger before after world.side stood.start a.text new.found new.ahead a.moved a.changed new.pool) ledger_is a.led;
+          covers = subst (λ (cs : List ClientState). CoversAll (all_wait cs) [] a.moved a.changed new.touched) clients_is a.covers;
+        };
         magic = ap (λ (s : State G). s.magic) then ∙ ap (λ (s : State G). s.magic) same;
-        clients = ap (λ (s : State G). s.clients) then ∙ ap (λ (s : State G). s.clients) same;
+        clients = begins.0 ∙ ap all_wait clients_is;
         speaker = ap (λ (s : State G). s.speaker) then ∙ ap (λ (s : State G). s.speaker) same;
         surplus = ap (λ (s : State G). s.surplus) then ∙ ap (λ (s : State G). s.surplus) same;
+        before_is = begins.1;
+        waits = all_mapped _ _ (λ (x : Session). record x { waits = true }) world.sessions (λ x h. refl) (none_wait_world world.sessions all_told);
       })
-      (rw node n) from.still
+      (rw node n) from.still all_told refl
 
   -- a client may be answered
   settled : (old : State G) (files : A) (world : World) (left : List Event) (known_files : ℕ → List ℕ) → Stands l.stands old world left → (f.tells → AllGrow known_files (f.bytes files)) → old.ahead ≡ []
@@ -92,28 +175,31 @@ module _ {G A : Type 0} (l : ledger.Ghosts G) (f : archive.Ghosts A) where
   }
 
   beside : (old new : State G) (world : World) (left : List Event) → LeavesOwn l → l.is_live old.ledger → Stands l.stands old world left
-      → old.ahead ≡ [] → HasGivenAll old.node → new ≡ record old { ledger = new.ledger; clients = new.clients; speaker = new.speaker; surplus = new.surplus }
+      → old.ahead ≡ [] → waiting old.clients ≡ [] → HasGivenAll old.node → new ≡ record old { ledger = new.ledger; clients = new.clients; speaker = new.speaker; surplus = new.surplus }
       → Asked l old.ledger new.ledger → Beside l f old new world left
-  beside old new world left own live stood still all same asked = record {
+  beside old new world left own live stood still quiet_all all same asked = record {
     stood = stood;
     none_left = none_ordered old.node world.heard stood.ordered stood.node all;
     still = sym stood.ahead ∙ still;
+    all_told = all_told_world old.clients old.speaker stood.said world.sessions stood.sessions.each quiet_all;
     moved = asked_moved l old.ledger new.ledger world.side.chain own live asked stood.chain;
     magic = ap (λ (s : State G). s.magic) same;
     found = ap (λ (s : State G). s.found) same;
     pool = ap (λ (s : State G). s.pool) same;
     ahead = ap (λ (s : State G). s.ahead) same;
     node = ap (λ (s : State G). s.node) same;
+    before = ap (λ (s : State G). s.before) same;
+    touched = ap (λ (s : State G). s.touched) same;
   }
 
   -- a turn where the node has nothing left
   pub peers_turned : (old new : State G) (before after : A) (world : World) (left : List Event) (o : Option code.Outs) → LeavesOwn l → l.is_live old.ledger → Stands l.stands old world left
-      → (f.tells → AllGrow world.side.files (f.bytes before)) → (f.tells → AllGrow (f.bytes before) (f.bytes after)) → old.ahead ≡ [] → HasGivenAll old.node
+      → (f.tells → AllGrow world.side.files (f.bytes before)) → (f.tells → AllGrow (f.bytes before) (f.bytes after)) → old.ahead ≡ [] → waiting old.clients ≡ [] → HasGivenAll old.node
       → new ≡ record old { ledger = new.ledger; clients = new.clients; speaker = new.speaker; surplus = new.surplus } → Asked l old.ledger new.ledger
       → ((side : Side) → IsSettled l f old.ledger (holdings_of old) before side → PeersTurn f.tells side (Lost l f old.ledger new.ledger before after) old o new)
       → IfSome o (λ out. TookTurn l f old new before after world left (outs_of out))
-  peers_turned old new before after world left o own live stood told grows still all same asked turn =
-      peers_step l f old new before after world left o (beside old new world left own live stood still all same asked)
+  peers_turned old new before after world left o own live stood told grows still quiet_all all same asked turn =
+      peers_step l f old new before after world left o (beside old new world left own live stood still quiet_all all same asked)
       (λ t. all_grow_more world.side.files (f.bytes before) (f.bytes after) (told t) (grows t))
       (turn world.side (settled old before world left world.side.files stood told still))
 
@@ -125,21 +211,21 @@ module _ {G A : Type 0} (l : ledger.Ghosts G) (f : archive.Ghosts A) where
       turn (record world.side { files = f.bytes before }) (settled old before world left (f.bytes before) stood (λ t. all_grow_none (f.bytes before)) still)
 
   pub peers_ended : (old new : State G) (before after : A) (world : World) (left : List Event) (o : Option code.Outs) → LeavesOwn l → l.is_live old.ledger → Stands l.stands old world left
-      → old.ahead ≡ [] → HasGivenAll old.node → new ≡ record old { ledger = new.ledger; clients = new.clients; speaker = new.speaker; surplus = new.surplus }
+      → old.ahead ≡ [] → waiting old.clients ≡ [] → HasGivenAll old.node → new ≡ record old { ledger = new.ledger; clients = new.clients; speaker = new.speaker; surplus = new.surplus }
       → Asked l old.ledger new.ledger
       → ((side : Side) → IsSettled l f old.ledger (holdings_of old) before side → PeersTurn f.tells side (Lost l f old.ledger new.ledger before after) old o new)
       → IfNone o (IsDone l.stands f.tells world left new)
-  peers_ended old new before after world left o own live stood still all same asked turn =
-      peers_none l f _ _ _ old new world left o (beside old new world left own live stood still all same asked)
+  peers_ended old new before after world left o own live stood still quiet_all all same asked turn =
+      peers_none l f _ _ _ old new world left o (beside old new world left own live stood still quiet_all all same asked)
       (peers_any old new before after world left o stood still turn)
 
 -- no memory for the node's next line: nothing has happened
 pub unread_failed : {G A : Type 0} (l : ledger.Ghosts G) (f : archive.Ghosts A) (old new : State G) (files : A) (world : World) (left : List Event) → LeavesOwn l → l.is_live old.ledger
-    → new ≡ old → Stands l.stands old world left → NextIsLine old.node → TurnFailed l f old.ledger new.ledger files files world left fault.Memory
-unread_failed l f old new files world left own live same stood line =
+    → new ≡ old → Stands l.stands old world left → NextIsLine old.node → waiting old.clients ≡ [] → TurnFailed l f old.ledger new.ledger files files world left fault.Memory
+unread_failed l f old new files world left own live same stood line quiet_all =
     rw same (record {
       losses = [];
-      stops = run.no_memory refl (nodes_turn l.stands old world left stood line) refl refl refl;
+      stops = run.no_memory refl (nodes_turn l.stands old world left stood line (all_told_world old.clients old.speaker stood.said world.sessions stood.sessions.each quiet_all)) refl refl refl;
       within = tt;
       rose = λ of_link. all_rose_none (failed_calls l f of_link old.ledger files);
       later = false;
@@ -148,17 +234,17 @@ unread_failed l f old new files world left own live same stood line =
       live = λ m. live;
     })
 
--- a line of the node in which the server stops
-pub node_failed : {G A : Type 0} (l : ledger.Ghosts G) (f : archive.Ghosts A) (old mid : State G) (new : G) (before after : A) (world : World) (left : List Event) (said : LineEvent) (e : StepFault)
-    → Stands l.stands old world left → (f.tells → AllGrow world.side.files (f.bytes before)) → mid.ahead ≡ [] → mid ≡ record old { node = mid.node } → mid.node.limit ≡ old.node.limit
-    → Gives old.node said mid.node → (e ≡ fault.Memory → l.is_live new)
-    → ((side : Side) → IsAt l f mid.ledger mid.pool before side → IsFrom (holdings_of mid) side → StopsAt l f mid.ledger new before after side.chain false (IsFirstMove side said) e)
+-- a line of the node in which the server stops: `read` is the state after the line was read
+pub node_failed : {G A : Type 0} (l : ledger.Ghosts G) (f : archive.Ghosts A) (old read : State G) (new : G) (before after : A) (world : World) (left : List Event) (said : LineEvent) (e : StepFault)
+    → Stands l.stands old world left → (f.tells → AllGrow world.side.files (f.bytes before)) → read.ahead ≡ [] → waiting read.clients ≡ [] → read ≡ record old { node = read.node } → read.node.limit ≡ old.node.limit
+    → Gives old.node said read.node → (e ≡ fault.Memory → l.is_live new)
+    → ((side : Side) (start : Chain) → IsAt l f read.ledger read.pool before side start → IsFrom (holdings_of read) side → StopsAt l f read.ledger new before after side.chain false (IsFirstMove side said) e)
     → TurnFailed l f old.ledger new before after world left e
-node_failed {G} l f old mid new before after world left said e stood told still same limit gives live stopped =
-    let ledger_is : mid.ledger ≡ old.ledger = ap (λ (s : State G). s.ledger) same in
-    let from = from_side l f old mid world left stood same still in
-    let n = next_order old.node mid.node world.heard stood.ordered said stood.node limit gives in
-    let set : SetStands mid.pool world.side = rw (ap (λ (s : State G). s.pool) same) stood.set in
-    let r = rw ledger_is at (stopped world.side (record { stood = rw ledger_is stood.chain; set = set; told = told }) from) in
-    line_failed l f old.ledger new before after world left (n.rest ++ stood.said) e said from.still
+node_failed {G} l f old read new before after world left said e stood told still quiet_all same limit gives live stopped =
+    let ledger_is : read.ledger ≡ old.ledger = ap (λ (s : State G). s.ledger) same in
+    let from = from_side l f old read world left stood same still in
+    let all_told : AllTold world = all_told_world old.clients old.speaker stood.said world.sessions stood.sessions.each (rw (ap (λ (s : State G). s.clients) same) at quiet_all) in
+    let n = next_order old.node read.node world.heard stood.ordered said stood.node limit gives in
+    let r = rw ledger_is at (stopped world.side stood.start (record { stood = rw ledger_is stood.chain; set = rw (ap (λ (s : State G). s.pool) same) stood.set; told = told }) from) in
+    line_failed l f old.ledger new before after world left (n.rest ++ stood.said) e said from.still all_told
     (stood.left_is ∙ ap (λ (es : List Event). es ++ stood.said) n.first_is) live r

@@ -1,28 +1,37 @@
 -- What the server keeps, and which world it stands for.
-use Rattle.std.specs.Prelude.{◌≡◌, ℕ, ◌+◌, ◌*◌, ◌≤◌, ◌<◌, ◌==◌, nat_lt, ⊤, Bool, true, false, List, [], ◌∷◌, ◌++◌, length, map, find, drop, Option, Some, None}
+use Rattle.std.specs.Prelude.{◌≡◌, ℕ, ◌+◌, ◌*◌, ◌≤◌, ◌<◌, ◌==◌, nat_lt, ⊤, Bool, true, false, List, [], ◌∷◌, ◌++◌, length, map, filter, find, drop, Option, Some, None}
 use Rattle.std.specs.List.{AllByRecursion, AllZip, list_any}
+use Rattle.el_base.specs.declared.hash.Hash32.{Hash32}
 use Rattle.el_chain.specs.declared.node.Node.{Node}
 use Rattle.el_chain.specs.Chains.{Chain}
 use Rattle.el_lines.specs.Lines.{lines}
 use Rattle.el_lines.specs.NodeAnswers.{node_limit}
 use Rattle.el_mempool.specs.Standing.{PoolState}
 use Rattle.el_methods.specs.declared.session.Session as client
+use Rattle.el_methods.specs.Sessions.{Subscription}
+use Rattle.el_subs.specs.Told as status_told
+use Rattle.el_subs.specs.Told.{status, is_touched, IsTold}
+use Rattle.el_touched.specs.Untouched.{LooksSame}
 use Rattle.el_world.specs.NodeSteps.{SetStands}
+use Rattle.el_world.specs.Side.{Side}
 use Rattle.el_world.specs.World.{World, Session, Event, says, orders, joins, leaves, is_peer, line_limit, client_limit}
 use Rattle.el_lines.specs.LineStates.{LineState, IsAt, held}
 
--- What is kept of a client: its bytes, as a line buffer keeps them that was fed all of them, whether bytes of
--- it were lost where memory ran out, and what is kept of it for its requests.
+-- What is kept of a client: its bytes, as a line buffer keeps them that was fed all of them; whether bytes of
+-- it were lost where memory ran out; what is kept of it for its requests; and whether it is still to be told
+-- of the node's last line.
 pub record ClientState : Type 0 where
   pub peer : ℕ
   pub buffer : LineState
   pub lost : Bool
   pub session : client.Session
+  pub waits : Bool
 
 -- the ledger, of some type; the network's magic; the nodes that were found; the unconfirmed set; the node's
 -- bytes, as a line buffer keeps them; the blocks that its last tip line is still to put in; the clients, in
--- the order in which they came; the one whose bytes came last, until all of its lines are met; and a client
--- too many that isn't closed yet
+-- the order in which they came; the one whose bytes came last, until all of its lines are met; a client too
+-- many that isn't closed yet; the tip before the node's last line; and the script hashes that this line
+-- touched so far, of those to which clients subscribe
 pub record State (G : Type 0) : Type 0 where
   pub ledger : G
   pub magic : List ℕ
@@ -33,6 +42,8 @@ pub record State (G : Type 0) : Type 0 where
   pub clients : List ClientState
   pub speaker : Option ℕ
   pub surplus : Option ℕ
+  pub before : Option Hash32
+  pub touched : List Hash32
 
 -- all lines of the bytes that were fed, which are cut at each byte 10, were given
 abbrev pub HasGivenAll : LineState → Type 0
@@ -51,6 +62,10 @@ HasNoWork (Some c) = IsHeardOut c
 abbrev pub is_numbered : ℕ → ClientState → Bool
 is_numbered p c = c.peer == p
 
+-- clients that are still to be told of the node's last line
+abbrev pub waiting : List ClientState → List ClientState
+waiting clients = filter (λ (c : ClientState). c.waits) clients
+
 -- no client has a greater number
 abbrev pub AreUpTo : ℕ → List ClientState → Type 0
 AreUpTo last clients = AllByRecursion (λ (c : ClientState). c.peer ≤ last) clients
@@ -58,6 +73,7 @@ AreUpTo last clients = AllByRecursion (λ (c : ClientState). c.peer ≤ last) cl
 -- the work of the last arrival is done
 pub record IsIdle {G : Type 0} (s : State G) : Type 0 where
   pub ahead : s.ahead ≡ []
+  pub told : waiting s.clients ≡ []
   pub speaker : s.speaker ≡ None
   pub surplus : s.surplus ≡ None
 
@@ -89,9 +105,12 @@ work_of_peers s = work_of_speaker s.speaker s.clients + work_of_surplus s.surplu
 unfoldable pub work_of_node : ℕ → ℕ → ℕ → ℕ
 work_of_node bytes found ahead = bytes * (found + bytes + 1) + ahead
 
--- at most how many turns are left
+-- at most how many turns are left: after each turn of the node each client is told once
 abbrev pub work : {G : Type 0} → State G → ℕ
-work s = work_of_node (held s.node) (length s.found) (length s.ahead) + work_of_peers s
+work s =
+    work_of_node (held s.node) (length s.found) (length s.ahead) * (length s.clients + 1)
+    + length (waiting s.clients)
+    + work_of_peers s
 
 -- the event is a line of the client
 abbrev pub IsSaidBy : ℕ → Event → Type 0
@@ -126,6 +145,7 @@ pub record IsSession (speaker : Option ℕ) (left : List Event) (c : ClientState
   pub peer : c.peer ≡ x.peer
   pub limit : c.buffer.limit ≡ line_limit
   pub kept : c.session ≡ x.client
+  pub waits : c.waits ≡ x.waits
   pub met : (speaker ≡ Some c.peer → ⊥) → IsMet c x.heard
   pub speaks : speaker ≡ Some c.peer → HearsLeft c x.heard left
 
@@ -149,6 +169,28 @@ pub record SessionsAre (clients : List ClientState) (speaker surplus : Option �
   pub rising : Rising sessions
   pub leaves_left : Leaves speaker surplus sessions left
 
+-- nobody is still to be told of the node's last line
+abbrev pub NoneWaits : List Session → Type 0
+NoneWaits sessions = AllByRecursion (λ (x : Session). x.waits ≡ false) sessions
+
+-- Where its script hash isn't touched, the status that was told last is the one over the start of the node's
+-- last line and what is kept, and the script hash looks over the side's chain as over that start.
+abbrev pub IsUntouched : Side → Chain → List Hash32 → Subscription → Type 0
+IsUntouched side start touched sub =
+    is_touched touched sub ≡ false
+    → IsTold (status start side.kept) sub × LooksSame start side.chain sub.0.0
+
+-- What was told last is right: of script hashes that aren't touched, and, once the node's last line is worked
+-- off, of all where the client was told of it. Nobody is told before.
+pub record Tellings (side : Side) (start : Chain) (touched : List Hash32) (sessions : List Session)
+    : Type 0 where
+  pub untouched : AllByRecursion
+      (λ (x : Session). AllByRecursion (IsUntouched side start touched) x.client.subs) sessions
+  pub told : side.ahead ≡ [] → AllByRecursion
+      (λ (x : Session). x.waits ≡ false
+      → status_told.AllTold (status side.chain side.kept) x.client.subs) sessions
+  pub busy : (side.ahead ≡ [] → ⊥) → AllByRecursion (λ (x : Session). x.waits ≡ true) sessions
+
 -- The node's bytes, all of which it has sent, leave these lines.
 pub record NodeLeaves (node : LineState) (heard : List ℕ) (left : List Event) : Type 0 where
   pub limit : node.limit ≡ node_limit
@@ -158,16 +200,23 @@ pub record NodeLeaves (node : LineState) (heard : List ℕ) (left : List Event) 
   pub left_is : left ≡ map orders (drop given (lines node_limit heard))
 
 -- The server stands for the world, and these events of the last arrival are left: the node's lines, and then
--- what the clients' bytes leave. `stands` says for which chains its ledger stands.
+-- what the clients' bytes leave. `stands` says for which chains its ledger stands; `start` is the chain that
+-- was there when the node's last tip line began, or the side's.
 pub record Stands {G : Type 0} (stands : G → Chain → Type 0) (s : State G) (world : World) (left : List Event)
     : Type 0 where
   pub chain : stands s.ledger world.side.chain
   pub magic : s.magic ≡ world.side.magic
   pub found : s.found ≡ world.side.found
   pub ahead : s.ahead ≡ world.side.ahead
-  pub set : SetStands s.pool world.side
+  pub start : Chain
+  pub set : SetStands s.pool world.side start
   pub ordered : List Event
   pub node : NodeLeaves s.node world.heard ordered
   pub said : List Event
   pub sessions : SessionsAre s.clients s.speaker s.surplus world.sessions said
+  -- where a client speaks, or one too many waits, the node has nothing left, and everyone was told
+  pub speaker_last : (p : ℕ) → s.speaker ≡ Some p → (ordered ≡ []) × NoneWaits world.sessions
+  pub surplus_last : (p : ℕ) → s.surplus ≡ Some p → (ordered ≡ []) × NoneWaits world.sessions
+  pub before : s.before ≡ world.before
+  pub tellings : Tellings world.side start s.touched world.sessions
   pub left_is : left ≡ ordered ++ said

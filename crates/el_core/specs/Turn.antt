@@ -10,9 +10,11 @@ use Rattle.el_chain.specs.Chains.{Chain}
 use Rattle.el_model.specs.declared.ledger.Ledger as ledger
 use Rattle.el_model.specs.LedgerCalls.{Moved, failed_calls}
 use Rattle.el_lines.specs.Lines.{line}
+use Rattle.el_subs.specs.Told as status_told
+use Rattle.el_subs.specs.Told.{status}
 use Rattle.el_world.specs.Flights.{IsMoveOf}
 use Rattle.el_world.specs.World as model
-use Rattle.el_world.specs.World.{World, Event, says, is_client, IsStill, closes_long}
+use Rattle.el_world.specs.World.{World, Session, Event, says, is_client, IsStill, AllTold, next_told, closes_long}
 use Rattle.el_world.specs.Run.{Turns, OneTurn, Closes, Stop, by_disk, by_memory, Stops, disk_failed, sift_failed, no_memory, untold, unsent}
 use Rattle.el_core.specs.State.{State, ClientState, Stands}
 use Rattle.el_sync.specs.declared.fault.StepFault.{StepFault}
@@ -42,6 +44,10 @@ pub record MeetsLine (p : ℕ) (left : List Event) : Type 0 where
   pub rest : List Event
   pub is : left ≡ says p (line bytes) ∷ rest
 
+-- the client is the next to be told of the node's last line
+abbrev pub WaitsToBeTold : ℕ → World → Type 0
+WaitsToBeTold p world = (session : Session) × (next_told world ≡ Some session) × (session.peer ≡ p)
+
 -- the turn closes this client for a line that is too long, and does no more
 abbrev pub ClosesLong : ℕ → Result (Option Outs) StepFault → Type 0
 ClosesLong p result = (o : Outs) × (result ≡ Ok (Some o)) × (outs_of o ≡ closes_long p)
@@ -69,11 +75,15 @@ pub record TookTurn {G A : Type 0} (of_ledger : ledger.Ghosts G) (of_files : arc
   pub rose : (of_link : ℕ) → Rose (failed_calls of_ledger of_files of_link old.ledger before)
       (failed_calls of_ledger of_files of_link new.ledger after) losses
 
--- No event is left, but perhaps lines of a client that is closed, which have no effect.
+-- No event is left, but perhaps lines of a client that is closed, which have no effect. Everyone was told of
+-- the node's last line, and of each subscription the status that was told last is its status.
 pub record IsDone {G : Type 0} (stands : G → Chain → Type 0) (tells : Type 0) (world : World)
     (left : List Event) (s : State G) : Type 0 where
   pub turns : Turns tells world left [] [] [] world
   pub still : IsStill world
+  pub told : AllTold world
+  pub statuses : AllByRecursion (λ (x : Session).
+      status_told.AllTold (status world.side.chain world.side.kept) x.client.subs) world.sessions
   pub stood : Stands stands s world []
 
 -- the stop that a fault of a turn is

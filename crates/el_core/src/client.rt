@@ -1,22 +1,28 @@
 // A client and its bytes.
-ghost use Rattle.std.specs.Prelude.{◌≡◌, ◌<◌, ◌≤◌, [], ◌∷◌, false, not, None, Some, OnOk, OnErr, OnSome, IfOk, IfSome, IfNone, length, vec_capacity};
+ghost use Rattle.std.specs.Prelude.{◌≡◌, ◌<◌, ◌≤◌, [], ◌∷◌, true, false, not, None, Some, OnOk, OnErr, OnSome, IfOk, IfSome, IfNone, length, vec_capacity};
+ghost use Rattle.el_outside.specs.Counts.{CountsOnly};
 ghost use Rattle.el_outside.specs.Files.{AllGrow};
 ghost use Rattle.el_model.specs.LedgerCalls.{Asked};
+ghost use Rattle.el_subs.specs.Notices.{notices};
+ghost use Rattle.el_subs.specs.Told.{status};
 ghost use Rattle.el_world.specs.Side.{Side};
 ghost use Rattle.el_world.specs.World.{line_limit, new_client, outs_of_reply, reply_to};
 ghost use Rattle.el_lines.specs.LineStates.{as_listed, held};
+ghost use Rattle.el_methods.specs.Sessions.{is_subscribed};
 ghost use Rattle.el_core.specs.State.{HasGivenAll, HasNoWork, IsHeardOut, work_of_client};
 ghost use Rattle.el_core.specs.Turn.{messages_of, outs_of};
 ghost use Rattle.el_core.specs.within.Answering.{IsSettled, Lost};
-ghost use Rattle.el_core.specs.within.Clients.{IsFresh, Keeps, Gives, NextIsLine, LineAnswered, Answers, ClientTurn, left_if};
+ghost use Rattle.el_core.specs.within.Clients.{IsFresh, Keeps, Gives, NextIsLine, LineAnswered, Answers, ClientTurn, IsToTell, left_if, told_client};
 
 use crate::out::Outs;
-use el_base::{Bytes, Listed, OutOfMemory};
+use el_base::{Bytes, Hash32, Listed, OutOfMemory};
+use el_chain::Touched;
 use el_lines::{LINE_LIMIT, LineBuffer, LineEvent};
 use el_methods::{Holdings, Session, Subs};
-use el_model::Ledger;
+use el_model::{Ledger, QueryFault};
 use el_outside::{Archive, Peer, Why};
 use el_replies::{LineReply, reply_line};
+use el_subs::notify;
 use std::alloc::Global;
 use std::marker::Model;
 
@@ -27,6 +33,7 @@ pub struct Client {
     buffer: LineBuffer,
     lost: bool,
     session: Session,
+    waits: bool,
 }
 
 impl Model for Client {
@@ -39,6 +46,7 @@ impl Model for Client {
       buffer = c.buffer;
       lost = c.lost;
       session = c.session;
+      waits = c.waits;
     } };
 }
 
@@ -63,6 +71,7 @@ impl Client {
             buffer: LineBuffer::new(alloc, LINE_LIMIT),
             lost: false,
             session: fresh_session(alloc),
+            waits: false,
         }
     }
 
@@ -78,6 +87,67 @@ impl Client {
         ensures { result ≡ self.now.lost }
     {
         self.lost
+    }
+
+    /// Whether the client is still to be told of the node's last line.
+    pub fn waits(&self) -> bool
+        ensures { result ≡ self.now.waits }
+    {
+        self.waits
+    }
+
+    /// From now on the client is to be told of a line of the node.
+    pub fn await_telling(&mut self)
+        ensures { self.new ≡ record self.old { waits = true } }
+    {
+        self.waits = true;
+    }
+
+    /// Whether the client subscribes to the script hash.
+    pub fn holds(&self, script_hash: &Hash32) -> bool
+        ensures { result ≡ is_subscribed script_hash.now self.now.session.subs }
+    {
+        self.session.subs.holds(script_hash)
+    }
+
+    /// The lines that the client is told of the node's last line. It then waits no more, and what it was told
+    /// is marked.
+    ///
+    /// # Errors
+    ///
+    /// `DiskFailed`, `Memory`; then the client is not used again.
+    pub fn tell<G: Ledger>(
+        &mut self,
+        alloc: Global,
+        ledger: &mut G,
+        holdings: &Holdings,
+        touched: &Touched,
+        before: &Option<Hash32>,
+    ) -> Result<Vec<Bytes>, QueryFault>
+        requires live { G.is_live ledger.old }
+        ensures told { (side : Side)
+            → IsToTell G.stands ledger.old holdings.now.pool touched.now side self.old
+            → IfOk result (λ lines. lines.items
+            ≡ notices (status side.chain side.kept) before.now side.chain self.old.session) }
+        ensures marked { (side : Side)
+            → IsToTell G.stands ledger.old holdings.now.pool touched.now side self.old
+            → OnOk result (self.new ≡ told_client side self.old) }
+        ensures done { OnOk result (self.new.waits ≡ false) }
+        ensures bytes { self.new.buffer ≡ self.old.buffer }
+        ensures peer { self.new.peer ≡ self.old.peer }
+        ensures quiet { Asked ⟦<G as Ledger>⟧ ledger.old ledger.new }
+        ensures cause { CountsOnly (G.faults ledger.old) (G.faults ledger.new) QueryFault.DiskFailed result }
+    {
+        let lines = notify(
+            alloc,
+            &mut self.session,
+            ledger,
+            &holdings.pool,
+            touched,
+            before,
+        )?;
+        self.waits = false;
+        Ok(lines)
     }
 
     /// Keeps the bytes of an arrival, or that there was no memory for them.
@@ -261,7 +331,7 @@ pub fn client_turn<G: Ledger, A: Archive>(
     ensures less { OnSome result.0 (work_of_client (left_if result.1 client.new)
         < work_of_client (Some client.old)) }
     ensures done { IfNone result.0 (HasNoWork (left_if result.1 client.new)) }
-    ensures same { client.new.peer ≡ client.old.peer }
+    ensures same { (client.new.peer ≡ client.old.peer) × (client.new.waits ≡ client.old.waits) }
 {
     let peer = client.peer();
     if client.is_lost() {

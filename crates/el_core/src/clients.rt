@@ -1,15 +1,20 @@
 // The clients, by rising number.
 ghost use Rattle.std.specs.Prelude.{◌≡◌, ◌<◌, ◌≤◌, [], ◌∷◌, ◌++◌, None, OnOk, OnErr, IfSome, IfNone, length};
+ghost use Rattle.el_outside.specs.Counts.{RoseBy};
 ghost use Rattle.el_outside.specs.Files.{AllGrow};
 ghost use Rattle.el_model.specs.LedgerCalls.{Asked};
 ghost use Rattle.el_world.specs.Side.{Side};
 ghost use Rattle.el_core.specs.Arrivals.{kept_clients};
 ghost use Rattle.el_core.specs.within.Answering.{IsSettled, Lost};
-ghost use Rattle.el_core.specs.within.Clients.{IsPlace, HearsAt, ClientTurn, TurnsAt, replaced};
+ghost use Rattle.el_core.specs.Turn.{outs_of};
+ghost use Rattle.el_core.specs.within.Clients.{IsPlace, IsFirstWaiting, HearsAt, ClientTurn, TurnsAt, IsToTell, TellTurn, TellsAt, all_wait, replaced};
+ghost use Rattle.el_core.specs.within.Touching.{is_held};
 
 use crate::client::{Client, client_turn};
 use crate::out::Outs;
-use el_base::OutOfMemory;
+use crate::telling::tell_turn;
+use el_base::{Hash32, OutOfMemory};
+use el_chain::Touched;
 use el_methods::Holdings;
 use el_model::Ledger;
 use el_outside::{Archive, Peer};
@@ -70,6 +75,35 @@ impl Clients {
         None
     }
 
+    /// Where the first client stands that is still to be told of the node's last line.
+    pub fn first_waiting(&self) -> Option<usize>
+        ensures place { IsFirstWaiting self.now result }
+        ensures inside { IfSome result (λ i. i < length self.now) }
+    {
+        for (i, client) in self.list.iter().enumerate() {
+            if client.waits() {
+                return Some(i);
+            }
+        }
+        None
+    }
+
+    /// Whether some client subscribes to the script hash.
+    pub fn hold(&self, script_hash: &Hash32) -> bool
+        ensures { result ≡ is_held self.now script_hash.now }
+    {
+        self.list.iter().any(|client| client.holds(script_hash))
+    }
+
+    /// All are to be told of a line of the node.
+    pub fn await_telling(&mut self)
+        ensures { self.new ≡ all_wait self.old }
+    {
+        for client in self.list.iter_mut() {
+            client.await_telling();
+        }
+    }
+
     // Takes away the client at that place.
     fn take_away(&mut self, i: usize)
         requires { i < length self.old }
@@ -122,5 +156,32 @@ impl Clients {
         }
         self.take_away(i);
         (outs, false)
+    }
+
+    /// The telling of the client at that place, which is gone where it was closed for it.
+    pub fn tell<G: Ledger>(
+        &mut self,
+        alloc: Global,
+        ledger: &mut G,
+        holdings: &Holdings,
+        touched: &Touched,
+        before: &Option<Hash32>,
+        i: usize,
+    ) -> Outs
+        requires inside { i < length self.old }
+        requires live { G.is_live ledger.old }
+        ensures turn { TellsAt (λ c left. (side : Side)
+            → IsToTell G.stands ledger.old holdings.now.pool touched.now side c
+            → TellTurn side before.now (λ n. RoseBy (G.faults ledger.old) (G.faults ledger.new) n)
+            c (outs_of result) left) i self.old self.new }
+        ensures quiet { Asked ⟦<G as Ledger>⟧ ledger.old ledger.new }
+        ensures disk_more { G.faults ledger.old ≤ G.faults ledger.new }
+    {
+        let (outs, stays) = tell_turn(alloc, ledger, holdings, touched, before, &mut self.list[i]);
+        if stays {
+            return outs;
+        }
+        self.take_away(i);
+        outs
     }
 }

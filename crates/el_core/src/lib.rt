@@ -8,6 +8,8 @@ mod client;
 mod clients;
 mod out;
 mod server;
+mod telling;
+mod touching;
 
 pub use out::Outs;
 pub use server::Server;

@@ -11,19 +11,21 @@ ghost use Rattle.el_world.specs.NodeSteps.{IsAt};
 ghost use Rattle.el_world.specs.Plans.{plan_of};
 ghost use Rattle.el_world.specs.Run.{MayStarve};
 ghost use Rattle.el_world.specs.Side.{Side, Moving, OrdersLine};
-ghost use Rattle.el_world.specs.World.{World, Event, joins, says, is_client, IsStill, initial_world, without_client, reply_to};
+ghost use Rattle.el_world.specs.World.{World, Event, joins, says, is_client, IsStill, AllTold, initial_world, without_client, reply_to};
 ghost use Rattle.el_lines.specs.LineStates.{as_listed, held};
 ghost use Rattle.el_sync.specs.Steps.{IsFrom, StopsAt};
-ghost use Rattle.el_core.specs.State.{AreUpTo, IsIdle, Stands, HasGivenAll, work, work_of_peers};
+ghost use Rattle.el_core.specs.State.{AreUpTo, IsIdle, Stands, HasGivenAll, waiting, work, work_of_peers};
 ghost use Rattle.el_core.specs.Arrivals.{TookArrival, IsAbove, IsUpTo, with_all_bytes, gone_from};
-ghost use Rattle.el_core.specs.Turn.{TookTurn, TurnFailed, IsDone, HasLost, MeetsLine, ClosesLong, outs_of};
+ghost use Rattle.el_core.specs.Turn.{TookTurn, TurnFailed, IsDone, HasLost, MeetsLine, WaitsToBeTold, ClosesLong, outs_of};
 ghost use Rattle.el_core.specs.within.Answering.{Answered, IsSettled, Lost, NodeKeeps, holdings_of};
-ghost use Rattle.el_core.specs.within.Clients.{Hears, Opens, Gives, NextIsLine, SpeakerSteps, PeersTurn};
+ghost use Rattle.el_core.specs.within.Clients.{Hears, Opens, Gives, NextIsLine, IsFirstWaiting, SpeakerSteps, PeersTurn, IsToTell, TellTurn, TellsAt, all_wait, begun_at};
 
 use crate::client::{Client, closing, room_for_one, sending_in};
 use crate::clients::Clients;
 use crate::out::Outs;
-use el_base::OutOfMemory;
+use crate::touching::touch;
+use el_base::{Hash32, OutOfMemory};
+use el_chain::Touched;
 use el_lines::{LineBuffer, LineEvent, NODE_LINE_LIMIT};
 use el_methods::Holdings;
 use el_model::Ledger;
@@ -35,8 +37,9 @@ use std::marker::Model;
 use std::mem;
 
 /// The server's state: the ledger that it answers from, the headers that were found and the unconfirmed set,
-/// the node's bytes and what its last tip line is still to do, its clients, which of them speaks, and a client
-/// too many that isn't closed yet. Contracts see it as a `State`, which stands for a `World`.
+/// the node's bytes and what its last tip line is still to do, its clients, which of them speaks, a client
+/// too many that isn't closed yet, and for the telling of clients the tip before the node's last line and what
+/// this line touched. Contracts see it as a `State`, which stands for a `World`.
 ///
 /// An arrival is taken by `take`; then `turn` is called until it answers None, and only then the next arrival
 /// is taken. What a turn gives is sent and closed before the next turn, and a client to whom a message can't
@@ -51,6 +54,8 @@ pub struct Server<G: Ledger> {
     clients: Clients,
     speaker: Option<Peer>,
     surplus: Option<Peer>,
+    before: Option<Hash32>,
+    touched: Touched,
 }
 
 impl<G: Ledger> Model for Server<G> {
@@ -74,6 +79,8 @@ impl<G: Ledger> Model for Server<G> {
       clients = s.clients;
       speaker = s.speaker;
       surplus = s.surplus;
+      before = s.before;
+      touched = s.touched;
     } };
 
     ghost invariant = { λ s. AllByRecursion IsNode s.ahead × AreLinked (named (G.tip s.ledger)) s.ahead
@@ -101,6 +108,8 @@ impl<G: Ledger> Server<G> {
             clients: Clients::new(alloc),
             speaker: None,
             surplus: None,
+            before: None,
+            touched: Touched::new(alloc),
         }
     }
 
@@ -117,6 +126,8 @@ impl<G: Ledger> Server<G> {
             clients: _,
             speaker: _,
             surplus: _,
+            before: _,
+            touched: _,
         } = self;
         ledger
     }
@@ -208,20 +219,23 @@ impl<G: Ledger> Server<G> {
     fn turn_ahead<A: Archive>(&mut self, archive: &mut A) -> Result<Outs, StepFault>
         requires live { G.is_live self.old.ledger }
         requires some { self.old.ahead ≢ [] }
-        ensures moving { (side : Side)
-            → IsAt ⟦<G as Ledger>⟧ ⟦<A as Archive>⟧ self.old.ledger self.old.pool archive.old side
+        ensures moving { (side : Side) (start : Chain)
+            → IsAt ⟦<G as Ledger>⟧ ⟦<A as Archive>⟧ self.old.ledger self.old.pool archive.old side start
             → side.found ≡ self.old.found → IfOk result (Answered ⟦<G as Ledger>⟧ ⟦<A as Archive>⟧
-            (Moving A.tells side 0 self.old.ahead) self.old self.new archive.old archive.new side) }
+            (Moving A.tells side 0 self.old.ahead) self.old self.new archive.old archive.new side start) }
         ensures sends { IfOk result (λ o. (text : List ℕ) × (outs_of o ≡ reply_to 0 text)) }
-        ensures stopped { (chain : Chain) → G.stands self.old.ledger chain → IfErr result (
+        ensures stopped { (side : Side) (start : Chain)
+            → IsAt ⟦<G as Ledger>⟧ ⟦<A as Archive>⟧ self.old.ledger self.old.pool archive.old side start
+            → IfErr result (
             StopsAt ⟦<G as Ledger>⟧ ⟦<A as Archive>⟧ self.old.ledger self.new.ledger archive.old archive.new
-            chain true (λ (p : moves.Plan). p ≡ plan_of 0 self.old.ahead)) }
+            side.chain true (λ (p : moves.Plan). p ≡ plan_of 0 self.old.ahead)) }
         ensures some { self.old.ahead ≢ [] }
         ensures fewer { OnOk result (length self.new.ahead < length self.old.ahead) }
         ensures same { self.new ≡ record self.old {
           ledger = self.new.ledger;
           pool = self.new.pool;
           ahead = self.new.ahead;
+          touched = self.new.touched;
         } }
         ensures step { NodeKeeps ⟦<G as Ledger>⟧ ⟦<A as Archive>⟧ self.old.ledger self.new.ledger
             archive.old archive.new result }
@@ -238,6 +252,10 @@ impl<G: Ledger> Server<G> {
             archive,
         ) {
             Ok(step) => {
+                let Ok(()) = touch(&self.clients, &mut self.touched, &step.moved, &step.changed)
+                else {
+                    return Err(StepFault::Memory);
+                };
                 self.ahead = step.left;
                 Ok(sending_in(room, 0, step.text))
             }
@@ -245,35 +263,55 @@ impl<G: Ledger> Server<G> {
         }
     }
 
-    // A line of the node.
+    // A line of the node begins: the tip is kept, nothing is touched yet, and each client is to be told.
+    // Takes no memory.
+    fn begin(&mut self)
+        ensures { self.new ≡ begun_at (G.tip self.old.ledger) self.old }
+    {
+        self.before = self.ledger.tip();
+        self.touched = Touched::new(self.alloc);
+        self.clients.await_telling();
+    }
+
+    // A line of the node, which was read: it begins, and is worked.
     fn turn_node<A: Archive>(&mut self, met: LineEvent, archive: &mut A) -> Result<Outs, StepFault>
         requires live { G.is_live self.old.ledger }
         requires still { self.old.ahead ≡ [] }
-        ensures node { (side : Side)
-            → IsAt ⟦<G as Ledger>⟧ ⟦<A as Archive>⟧ self.old.ledger self.old.pool archive.old side
+        requires told { waiting self.old.clients ≡ [] }
+        ensures node { (side : Side) (start : Chain)
+            → IsAt ⟦<G as Ledger>⟧ ⟦<A as Archive>⟧ self.old.ledger self.old.pool archive.old side start
             → IsFrom (holdings_of self.old) side → IfOk result (Answered ⟦<G as Ledger>⟧ ⟦<A as Archive>⟧
-            (OrdersLine A.tells side (as_listed met)) self.old self.new archive.old archive.new side) }
+            (OrdersLine A.tells side (as_listed met)) (begun_at (G.tip self.old.ledger) self.old) self.new
+            archive.old archive.new side start) }
         ensures sends { IfOk result (λ o. (text : List ℕ) × (outs_of o ≡ reply_to 0 text)) }
-        ensures stopped { (side : Side)
-            → IsAt ⟦<G as Ledger>⟧ ⟦<A as Archive>⟧ self.old.ledger self.old.pool archive.old side
+        ensures stopped { (side : Side) (start : Chain)
+            → IsAt ⟦<G as Ledger>⟧ ⟦<A as Archive>⟧ self.old.ledger self.old.pool archive.old side start
             → IsFrom (holdings_of self.old) side → IfErr result (
             StopsAt ⟦<G as Ledger>⟧ ⟦<A as Archive>⟧ self.old.ledger self.new.ledger archive.old archive.new
             side.chain false (IsFirstMove side (as_listed met))) }
         ensures still { self.old.ahead ≡ [] }
+        ensures told { waiting self.old.clients ≡ [] }
         ensures fewer { OnOk result (length self.new.ahead ≤ length self.old.found) }
         ensures more { OnOk result (length self.new.found ≤ length self.old.found + 1) }
+        ensures begun { OnOk result ((self.new.clients ≡ all_wait self.old.clients)
+            × (self.new.before ≡ G.tip self.old.ledger)) }
         ensures same { self.new ≡ record self.old {
           ledger = self.new.ledger;
           found = self.new.found;
           pool = self.new.pool;
           ahead = self.new.ahead;
+          clients = self.new.clients;
+          before = self.new.before;
+          touched = self.new.touched;
         } }
+        ensures numbers { (last : ℕ) → AreUpTo last self.old.clients → AreUpTo last self.new.clients }
         ensures step { NodeKeeps ⟦<G as Ledger>⟧ ⟦<A as Archive>⟧ self.old.ledger self.new.ledger
             archive.old archive.new result }
     {
         let Ok(room) = room_for_one(self.alloc) else {
             return Err(StepFault::Memory);
         };
+        self.begin();
         match order(
             self.alloc,
             &mut self.ledger,
@@ -282,11 +320,51 @@ impl<G: Ledger> Server<G> {
             met,
         ) {
             Ok(step) => {
+                let Ok(()) = touch(&self.clients, &mut self.touched, &step.moved, &step.changed)
+                else {
+                    return Err(StepFault::Memory);
+                };
                 self.ahead = step.left;
                 Ok(sending_in(room, 0, step.text))
             }
             Err(fault) => Err(fault),
         }
+    }
+
+    // The telling of the client at that place, the first that waits. The block files aren't read.
+    fn turn_tell<A: Archive>(&mut self, i: usize, archive: &A) -> Outs
+        requires live { G.is_live self.old.ledger }
+        requires inside { i < length self.old.clients }
+        requires still { self.old.ahead ≡ [] }
+        requires first { IsFirstWaiting self.old.clients (Some i) }
+        // The turn is the telling of the next client, as `Run` allows it.
+        ensures step { (world : World) (left : List Event) → Stands G.stands self.old world left
+            → (A.tells → AllGrow world.side.files (A.bytes archive.now))
+            → TookTurn ⟦<G as Ledger>⟧ ⟦<A as Archive>⟧ self.old self.new archive.now archive.now
+            world left (outs_of result) }
+        ensures tells { TellsAt (λ c left. (side : Side)
+            → IsToTell G.stands self.old.ledger self.old.pool self.old.touched side c
+            → TellTurn side self.old.before
+            (λ n. RoseBy (G.faults self.old.ledger) (G.faults self.new.ledger) n)
+            c (outs_of result) left) i self.old.clients self.new.clients }
+        ensures disk_more { G.faults self.old.ledger ≤ G.faults self.new.ledger }
+        ensures same { self.new ≡ record self.old {
+          ledger = self.new.ledger;
+          clients = self.new.clients;
+        } }
+        ensures less { work self.new < work self.old }
+        ensures numbers { (last : ℕ) → AreUpTo last self.old.clients → AreUpTo last self.new.clients }
+        ensures live { G.is_live self.new.ledger }
+    {
+        let _ = archive;
+        self.clients.tell(
+            self.alloc,
+            &mut self.ledger,
+            &self.holdings,
+            &self.touched,
+            &self.before,
+            i,
+        )
     }
 
     // The client too many, which is then forgotten.
@@ -317,6 +395,8 @@ impl<G: Ledger> Server<G> {
           speaker = self.new.speaker;
         } }
         ensures less { OnSome result (work_of_peers self.new < work_of_peers self.old) }
+        ensures waits { length (waiting self.new.clients) ≤ length (waiting self.old.clients) }
+        ensures fewer { length self.new.clients ≤ length self.old.clients }
         ensures done { IfNone result (self.new.speaker ≡ None) }
         ensures numbers { (last : ℕ) → AreUpTo last self.old.clients → AreUpTo last self.new.clients }
     {
@@ -381,6 +461,8 @@ impl<G: Ledger> Server<G> {
           surplus = self.new.surplus;
         } }
         ensures less { OnSome result (work_of_peers self.new < work_of_peers self.old) }
+        ensures waits { length (waiting self.new.clients) ≤ length (waiting self.old.clients) }
+        ensures fewer { length self.new.clients ≤ length self.old.clients }
         ensures unused { self.new.surplus ≡ None }
         ensures done { IfNone result ((self.new.speaker ≡ None) × (self.new.surplus ≡ None)) }
         ensures numbers { (last : ℕ) → AreUpTo last self.old.clients → AreUpTo last self.new.clients }
@@ -391,9 +473,9 @@ impl<G: Ledger> Server<G> {
         }
     }
 
-    /// Does the next piece of work: the next move of the node's last tip line, its next line, or what is left
-    /// of the client that speaks. None exactly where none is left to do; the start of a line, which is kept
-    /// until its end comes, is no work.
+    /// Does the next piece of work: the next move of the node's last tip line, the telling of a client after
+    /// it, the node's next line, or what is left of the client that speaks. None exactly where none is left to
+    /// do, and everyone was told; the start of a line, which is kept until its end comes, is no work.
     ///
     /// # Errors
     ///
@@ -406,7 +488,7 @@ impl<G: Ledger> Server<G> {
             → (A.tells → AllGrow world.side.files (A.bytes archive.old)) → IfOk result (λ found.
             IfSome found (λ o. TookTurn ⟦<G as Ledger>⟧ ⟦<A as Archive>⟧ self.old self.new
             archive.old archive.new world left (outs_of o))) }
-        // Where nothing is done, nothing is left.
+        // Where nothing is done, nothing is left, and everyone was told.
         ensures done { (world : World) (left : List Event) → Stands G.stands self.old world left
             → IfOk result (λ found. IfNone found (IsDone G.stands A.tells world left self.new)) }
         ensures unchanged { IfOk result (λ found. IfNone found
@@ -417,14 +499,16 @@ impl<G: Ledger> Server<G> {
             → (A.tells → AllGrow world.side.files (A.bytes archive.old)) → IfErr result (λ e.
             TurnFailed ⟦<G as Ledger>⟧ ⟦<A as Archive>⟧ self.old.ledger self.new.ledger
             archive.old archive.new world left e) }
-        // A closing as out of memory stands for lost bytes, or for a whole line or its reply that found none.
+        // A closing as out of memory stands for lost bytes, or for a whole line, its reply or what the client
+        // was to be told that found none.
         ensures memory { (world : World) (left : List Event) (p : ℕ) → Stands G.stands self.old world left
             → IfOk result (λ found. IfSome found (λ o. o.close ≡ Some (p, Why.Memory)
-            → HasLost p self.old.clients ⊎ MeetsLine p left)) }
+            → HasLost p self.old.clients ⊎ (MeetsLine p left ⊎ WaitsToBeTold p world))) }
         // A client's next line that is too long closes it as that, where none of its bytes were lost.
         ensures long { (world : World) (p : ℕ) (rest : List Event)
             → Stands G.stands self.old world (says p too_long ∷ rest) → IsStill world
-            → is_client p world ≡ true → (HasLost p self.old.clients → ⊥) → ClosesLong p result }
+            → AllTold world → is_client p world ≡ true → (HasLost p self.old.clients → ⊥)
+            → ClosesLong p result }
         // Who joins by a turn is one too many.
         ensures waiting { (world : World) (p : ℕ) (rest : List Event)
             → Stands G.stands self.old world (joins p ∷ rest) → self.old.surplus ≡ Some p }
@@ -447,6 +531,9 @@ impl<G: Ledger> Server<G> {
                 Ok(outs) => Ok(Some(outs)),
                 Err(fault) => Err(fault),
             };
+        }
+        if let Some(i) = self.clients.first_waiting() {
+            return Ok(Some(self.turn_tell(i, archive)));
         }
         match self.next_line() {
             Err(_) => Err(StepFault::Memory),

@@ -3,6 +3,16 @@
 #![tactic(auto)]
 
 #[cfg(test)]
+mod coins;
+#[cfg(test)]
+mod failing_rows;
+#[cfg(test)]
+mod failures;
+#[cfg(test)]
 mod lines;
 #[cfg(test)]
+mod names;
+#[cfg(test)]
 mod server;
+#[cfg(test)]
+mod tellings;

@@ -1,10 +1,12 @@
-// The server's core over block files in memory and the plain ledger: what the node and the client are
-// answered. The hashes were computed by another program from the rules on blocks.
-ghost use Rattle.std.specs.Prelude.{◌≡◌, ◌<◌, ◌≤◌, ◌∷◌, ℕ, [], length, IfOk, OnOk};
+// The server's core over block files and an index in memory: what the node and the client are answered. The
+// hashes were computed by another program from the rules on blocks.
+ghost use Rattle.std.specs.Prelude.{◌≡◌, ◌<◌, ◌≤◌, ◌∷◌, ℕ, [], length, IfOk, IfNone, OnOk};
 ghost use Rattle.std.specs.List.{AllByRecursion};
 ghost use Rattle.el_tx.specs.Encoding.{HasEncoding};
 ghost use Rattle.el_core.specs.State.{AreUpTo, IsIdle};
 
+use crate::failing_rows::FailingRows;
+use crate::names::named;
 use el_base::{Bytes, Hash32};
 use el_block::Block;
 use el_core::{Outs, Server};
@@ -14,14 +16,16 @@ use el_gen::{
     GENESIS_TXID, HEADER_0, HEADER_1, block, block_bytes, coinbase, spend,
 };
 use el_headers::HeaderTree;
+use el_index::Index;
 use el_lines::LINE_LIMIT;
 use el_mempool::PoolLimits;
 use el_methods::Holdings;
 use el_model::Ledger;
 use el_outside::{Arrival, Peer, Why};
-use el_plain::PlainLedger;
 use el_pool::Pool;
+use el_sync::StepFault;
 use el_tx::{Outpoint, Tx, block_hash, encode_header, encode_tx, txid};
+use itoa::Buffer;
 use std::alloc::Global;
 use std::test::Fail;
 
@@ -81,6 +85,9 @@ const HEADERS_ROOT: &str = "abdc2227d02d114b77be15085c1257709252a7a103f9ac0ab3c8
 
 const UNKNOWN: &str = "2222222222222222222222222222222222222222222222222222222222222222";
 
+// The ledger that is tried: an index over rows in memory, whose device may fail.
+pub(crate) type Tested = Index<FailingRows>;
+
 // One unconfirmed transaction is kept at most.
 const LIMITS: PoolLimits = PoolLimits {
     count: 1,
@@ -90,11 +97,11 @@ const LIMITS: PoolLimits = PoolLimits {
 // The four bytes before each record of Bitcoin's main network.
 const MAGIC: [u8; 4] = [0xf9, 0xbe, 0xb4, 0xd9];
 
-const ZERO: Hash32 = Hash32([0; 32]);
+pub(crate) const ZERO: Hash32 = Hash32([0; 32]);
 
 // What happens in a run.
 #[derive(Clone, Copy)]
-enum Step<'a> {
+pub(crate) enum Step<'a> {
     // From now on the block file has only its bytes from here to there.
     Part(usize, usize),
     // The next call of the block files fails.
@@ -103,14 +110,16 @@ enum Step<'a> {
     Opens(Peer),
     // A peer says this, where a capital letter stands for a hash.
     Says(Peer, &'a str),
+    // A peer says just this.
+    Spells(Peer, &'a str),
     // A client is told to be gone.
     Gone(Peer),
     // What was shown so far is left out.
     Forget,
 }
 
-// The text with a hash in place of each capital letter.
-fn spelled(alloc: Global, text: &str) -> Result<String, Fail> {
+// The text with a hash in place of each capital letter, and with what the names in braces stand for.
+pub(crate) fn spelled(alloc: Global, text: &str) -> Result<String, Fail> {
     let mut whole = String::new(alloc);
     for letter in text.chars() {
         match letter {
@@ -136,7 +145,7 @@ fn spelled(alloc: Global, text: &str) -> Result<String, Fail> {
             other => whole.push(other)?,
         }
     }
-    Ok(whole)
+    named(alloc, whole.as_str())
 }
 
 // What a letter stands for that names a transaction or a txid.
@@ -160,35 +169,59 @@ fn word_of(why: Why) -> &'static str {
         Why::Long => "long\n",
         Why::Clients => "clients\n",
         Why::Version => "version\n",
+        Why::Disk => "disk\n",
         _ => "other\n",
     }
 }
 
-// Adds what a turn sends, and why it closes.
+// Adds the number of a client but the first, and a blank.
+fn show_peer(p: Peer, shown: &mut Vec<u8>) -> Result<(), Fail> {
+    if p > 1 {
+        let mut digits = Buffer::new();
+        shown.extend_from_slice(digits.format(p).as_bytes())?;
+        shown.push(b' ')?;
+    }
+    Ok(())
+}
+
+// Adds what a turn sends, and why it closes, each after its client but where that is the first.
 fn show(outs: &Outs, shown: &mut Vec<u8>) -> Result<(), Fail> {
-    for (_, text) in outs.sends.as_slice() {
+    for (p, text) in outs.sends.as_slice() {
+        show_peer(*p, shown)?;
         shown.extend_from_slice(text.as_slice())?;
     }
-    if let Some((_, why)) = outs.close {
+    if let Some((p, why)) = outs.close {
+        show_peer(p, shown)?;
         shown.extend_from_slice(word_of(why).as_bytes())?;
     }
     Ok(())
 }
 
-// Makes all turns.
+// Why the server stopped, in words.
+fn stop_word(fault: StepFault) -> &'static str {
+    match fault {
+        StepFault::DiskFailed => "stopped by the disk\n",
+        StepFault::Memory => "stopped for memory\n",
+    }
+}
+
+// Makes all turns, and tells why the server stops, if it does.
 fn work_off(
-    server: &mut Server<PlainLedger>,
+    server: &mut Server<Tested>,
     archive: &mut MemArchive,
     shown: &mut Vec<u8>,
-) -> Result<(), Fail>
-    ensures idle { OnOk result (IsIdle server.new) }
+) -> Result<Option<StepFault>, Fail>
+    ensures idle { IfOk result (λ stop. IfNone stop (IsIdle server.new)) }
     ensures numbers { (last : ℕ) → AreUpTo last server.old.clients
         → OnOk result (AreUpTo last server.new.clients) }
 {
-    while let Some(outs) = server.turn(archive)? {
-        show(&outs, shown)?;
+    loop {
+        match server.turn(archive) {
+            Ok(Some(outs)) => show(&outs, shown)?,
+            Ok(None) => return Ok(None),
+            Err(fault) => return Ok(Some(fault)),
+        }
     }
-    Ok(())
 }
 
 // Block files of these bytes; the call with this number fails.
@@ -204,7 +237,7 @@ fn part_of(file: &[u8], from: usize, to: usize) -> &[u8] {
 }
 
 // A peer comes, which is greater than the last that came.
-fn open(server: &mut Server<PlainLedger>, p: Peer, last: &mut Peer) -> Result<(), Fail>
+fn open(server: &mut Server<Tested>, p: Peer, last: &mut Peer) -> Result<(), Fail>
     requires idle { IsIdle server.old }
     requires numbers { AreUpTo last.old server.old.clients }
     ensures numbers { OnOk result (AreUpTo last.new server.new.clients) }
@@ -216,10 +249,20 @@ fn open(server: &mut Server<PlainLedger>, p: Peer, last: &mut Peer) -> Result<()
     Ok(())
 }
 
+// A peer says just this.
+fn spell(server: &mut Server<Tested>, p: Peer, text: &str, last: Peer) -> Result<(), Fail>
+    requires idle { IsIdle server.old }
+    requires numbers { AreUpTo last server.old.clients }
+    ensures numbers { OnOk result (AreUpTo last server.new.clients) }
+{
+    server.take(Arrival::Bytes(p, text.len()), text.as_bytes())?;
+    Ok(())
+}
+
 // A peer says this.
 fn hear(
     alloc: Global,
-    server: &mut Server<PlainLedger>,
+    server: &mut Server<Tested>,
     p: Peer,
     text: &str,
     last: Peer,
@@ -229,24 +272,28 @@ fn hear(
     ensures numbers { OnOk result (AreUpTo last server.new.clients) }
 {
     let text = spelled(alloc, text)?;
-    server.take(Arrival::Bytes(p, text.len()), text.as_bytes())?;
-    Ok(())
+    spell(server, p, text.as_str(), last)
 }
 
 // A run: the server, its block files, the last peer that came, and what was shown.
 #[derive(Drop)]
 struct Run {
-    server: Server<PlainLedger>,
+    server: Server<Tested>,
     archive: MemArchive,
     last: Peer,
     shown: Vec<u8>,
 }
 
-// Makes one step, with all turns after it.
-fn make_step(alloc: Global, file: &[u8], run: &mut Run, step: Step<'_>) -> Result<(), Fail>
+// Makes one step, with all turns after it, and tells why the server stops, if it does.
+fn make_step(
+    alloc: Global,
+    file: &[u8],
+    run: &mut Run,
+    step: Step<'_>,
+) -> Result<Option<StepFault>, Fail>
     requires idle { IsIdle run.old.server }
     requires numbers { AreUpTo run.old.last run.old.server.clients }
-    ensures idle { OnOk result (IsIdle run.new.server) }
+    ensures idle { IfOk result (λ stop. IfNone stop (IsIdle run.new.server)) }
     ensures numbers { OnOk result (AreUpTo run.new.last run.new.server.clients) }
 {
     match step {
@@ -254,39 +301,68 @@ fn make_step(alloc: Global, file: &[u8], run: &mut Run, step: Step<'_>) -> Resul
         Step::Fails => run.archive = archive_of(alloc, file, 1)?,
         Step::Opens(p) => open(&mut run.server, p, &mut run.last)?,
         Step::Says(p, text) => hear(alloc, &mut run.server, p, text, run.last)?,
+        Step::Spells(p, text) => spell(&mut run.server, p, text, run.last)?,
         Step::Gone(p) => run.server.gone(p),
         Step::Forget => run.shown.truncate(0),
     }
     work_off(&mut run.server, &mut run.archive, &mut run.shown)
 }
 
-// What a run showed, and the height that its ledger then had.
-type Played = (Vec<u8>, Option<u32>);
+// An index over these rows, of which the device doesn't fail at once.
+pub(crate) fn index_of(alloc: Global, rows: FailingRows) -> Result<Tested, Fail> {
+    match Index::over(alloc, rows) {
+        Ok(index) => Ok(index),
+        Err(_) => Err(Fail::new("no index")),
+    }
+}
 
-// Makes these steps from a server that knows nothing, over a block file that has these bytes at first.
-fn play(alloc: Global, file: &[u8], steps: &[Step<'_>]) -> Result<Played, Fail> {
-    let mut run = Run {
-        server: Server::new(
-            alloc,
-            PlainLedger::new(alloc),
-            Holdings {
-                tree: HeaderTree::new(alloc),
-                magic: MAGIC,
-                pool: Pool::new(alloc, LIMITS),
-            },
-        ),
+// A run from a server over this ledger that has found no header, over a block file that has these bytes at
+// first.
+fn begun(alloc: Global, ledger: Tested, limits: PoolLimits, file: &[u8]) -> Result<Run, Fail>
+    ensures idle { IfOk result (λ run. IsIdle run.server) }
+    ensures numbers { IfOk result (λ run. AreUpTo run.last run.server.clients) }
+{
+    let holdings = Holdings {
+        tree: HeaderTree::new(alloc),
+        magic: MAGIC,
+        pool: Pool::new(alloc, limits),
+    };
+    Ok(Run {
+        server: Server::new(alloc, ledger, holdings),
         archive: archive_of(alloc, file, 0)?,
         last: 0,
         shown: Vec::new(alloc),
-    };
+    })
+}
+
+// Makes these steps over this ledger, and answers what was shown, where a server that stops is shown too, and
+// the ledger at the end.
+pub(crate) fn play(
+    alloc: Global,
+    ledger: Tested,
+    limits: PoolLimits,
+    file: &[u8],
+    steps: &[Step<'_>],
+) -> Result<(Vec<u8>, Tested), Fail> {
+    let mut run = begun(alloc, ledger, limits, file)?;
     for step in steps {
-        make_step(alloc, file, &mut run, *step)?;
+        if let Some(fault) = make_step(alloc, file, &mut run, *step)? {
+            run.shown.extend_from_slice(stop_word(fault).as_bytes())?;
+            break;
+        }
     }
-    Ok((run.shown, run.server.into_ledger().height()))
+    Ok((run.shown, run.server.into_ledger()))
+}
+
+// The text that these steps show over a ledger of no blocks, and the height that the ledger then has.
+fn played(alloc: Global, file: &[u8], steps: &[Step<'_>]) -> Result<(Vec<u8>, Option<u32>), Fail> {
+    let ledger = index_of(alloc, FailingRows::new(alloc))?;
+    let (shown, ledger) = play(alloc, ledger, LIMITS, file, steps)?;
+    Ok((shown, ledger.height()))
 }
 
 // Adds the record of a block with these bytes.
-fn add_record(text: &[u8], file: &mut Vec<u8>) -> Result<(), Fail> {
+pub(crate) fn add_record(text: &[u8], file: &mut Vec<u8>) -> Result<(), Fail> {
     file.extend_from_slice(MAGIC.as_slice())?;
     let [a, b, c, d, ..] = (text.len() as u64).to_le_bytes();
     file.extend_from_slice(&[a, b, c, d])?;
@@ -318,7 +394,7 @@ fn shows(
     wanted: &str,
     height: Option<u32>,
 ) -> Result<bool, Fail> {
-    let (shown, top) = play(alloc, file, run)?;
+    let (shown, top) = played(alloc, file, run)?;
     let wanted = spelled(alloc, wanted)?;
     Ok(shown.as_slice() == wanted.as_bytes() && top == height)
 }
@@ -417,7 +493,7 @@ fn answers_to_node_lines(rt: HostRuntime) -> Result<(), Fail> {
     Ok(())
 }
 
-fn one(alloc: Global, tx: Tx) -> Result<Vec<Tx>, Fail>
+pub(crate) fn one(alloc: Global, tx: Tx) -> Result<Vec<Tx>, Fail>
     ensures { IfOk result (λ txs. txs.items ≡ tx ∷ []) }
 {
     let mut txs = Vec::new(alloc);
@@ -545,7 +621,7 @@ fn listed(alloc: Global, parts: &[&[u8]]) -> Result<Vec<u8>, Fail> {
 }
 
 // The coinbase of the first block, and the outpoint of its output.
-fn first_coin(alloc: Global) -> Result<(Tx, Outpoint), Fail>
+pub(crate) fn first_coin(alloc: Global) -> Result<(Tx, Outpoint), Fail>
     ensures { IfOk result (λ made. HasEncoding made.0) }
 {
     let tx = coinbase(alloc, 0, 0, 101)?;
@@ -718,9 +794,6 @@ const INVALID: &str =
 const NO_JSON: &str =
     "{\"error\":{\"code\":-32700,\"message\":\"parse error\"},\"id\":null,\"jsonrpc\":\"2.0\"}\n";
 
-const CLIENTS_INVALID: &str = "clients\n\
-    {\"error\":{\"code\":-32600,\"message\":\"invalid request\"},\"id\":null,\"jsonrpc\":\"2.0\"}\n";
-
 const TOLD: Step<'static> = Step::Says(0, "block 0 0\ntip G\n");
 
 // What a client says, and what is answered.
@@ -819,19 +892,14 @@ const REQUESTS: [(&str, &str); 9] = [
     ),
 ];
 
-// Two clients, of which one may be served at once.
-const CLIENTS: [Step<'static>; 6] = [
-    Step::Opens(1),
-    Step::Opens(2),
-    Step::Says(2, "{}\n"),
-    Step::Gone(1),
-    Step::Opens(3),
-    Step::Says(3, "{}\n"),
-];
-
 // Whether these steps show this text.
-fn says(alloc: Global, file: &[u8], run: &[Step<'_>], wanted: &str) -> Result<bool, Fail> {
-    let (shown, _) = play(alloc, file, run)?;
+pub(crate) fn says(
+    alloc: Global,
+    file: &[u8],
+    run: &[Step<'_>],
+    wanted: &str,
+) -> Result<bool, Fail> {
+    let (shown, _) = played(alloc, file, run)?;
     let wanted = spelled(alloc, wanted)?;
     Ok(shown.as_slice() == wanted.as_bytes())
 }
@@ -841,12 +909,6 @@ fn client_lines(rt: HostRuntime) -> Result<(), Fail> {
     let file = first_file(rt.alloc())?;
     for (run, wanted) in CLIENT_LINES {
         assert!(rt; says(rt.alloc(), file.as_slice(), run, wanted)?, "{wanted}");
-    }
-    for (count, wanted) in [(1, ""), (3, "clients\n"), (6, CLIENTS_INVALID)] {
-        assert!(rt;
-            says(rt.alloc(), b"", &CLIENTS[..count], wanted)?,
-            "{wanted}"
-        );
     }
     Ok(())
 }

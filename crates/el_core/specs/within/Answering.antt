@@ -1,5 +1,7 @@
 -- What the server's parts do with the node's lines, and from what they answer.
 use Rattle.std.specs.Prelude.{◌≡◌, ◌≤◌, ℕ, List, Result, Err, OnOk}
+use Rattle.el_base.specs.declared.hash.Hash32.{Hash32}
+use Rattle.el_chain.specs.Chains.{Chain}
 use Rattle.el_outside.specs.declared.archive.Archive as archive
 use Rattle.el_outside.specs.Counts.{CountsOnly}
 use Rattle.el_outside.specs.Devices.{Device, Rose}
@@ -15,6 +17,7 @@ use Rattle.el_sync.specs.declared.fault.StepFault.TheVariants as fault
 use Rattle.el_methods.specs.declared.holdings.Holdings.{Holdings}
 use Rattle.el_core.specs.State.{State}
 use Rattle.el_core.specs.Turn.{outs_of}
+use Rattle.el_core.specs.within.Touching.{CoversAll}
 use Rattle.el_core.specs.declared.out.Outs.{Outs}
 
 -- what is held beside the ledger
@@ -36,14 +39,18 @@ Lost of_ledger of_files old new before after losses =
     (of_link : ℕ) → Rose (failed_calls of_ledger of_files of_link old before)
     (failed_calls of_ledger of_files of_link new after) losses
 
--- The node is answered, and the server led on from the side.
+-- The node is answered, and the server led on from the side. What the step touched is among the touched ones,
+-- as far as clients subscribe to it.
 pub record Answered {G A : Type 0} (of_ledger : ledger.Ghosts G) (of_files : archive.Ghosts A)
     (leads : List ℕ → List Device → Side → Type 0) (old new : State G) (before after : A) (side : Side)
-    (outs : Outs) : Type 0 where
+    (start : Chain) (outs : Outs) : Type 0 where
   pub text : List ℕ
+  pub moved : List Hash32
+  pub changed : List Hash32
   pub sends : outs_of outs ≡ reply_to 0 text
-  pub led : Leads of_ledger of_files leads old.ledger new.ledger before after side text new.found new.ahead
-      new.pool
+  pub led : Leads of_ledger of_files leads old.ledger new.ledger before after side start text new.found
+      new.ahead moved changed new.pool
+  pub covers : CoversAll old.clients old.touched moved changed new.touched
 
 -- What each turn of the node keeps, whatever the ledger stands for: block files only grow, and no count
 -- falls.

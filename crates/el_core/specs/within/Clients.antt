@@ -1,19 +1,24 @@
 -- What the server's parts do with its clients.
 use Rattle.std.specs.List.{AllByRecursion}
 use Rattle.std.specs.Option.{is_some}
-use Rattle.std.specs.Prelude.{IfSome, OnSome, nat_lt, Bool, not, take, zero, suc, ◌∷◌, ◌≡◌, ℕ, ◌+◌, ◌≤◌, ◌<◌, true, false, List, [], ◌++◌, length, Option, Some, None, Ok, Err, MatchBool, slice_get}
+use Rattle.std.specs.Prelude.{IfSome, OnSome, nat_lt, Bool, not, map, take, zero, suc, ◌∷◌, ◌≡◌, ℕ, ◌+◌, ◌≤◌, ◌<◌, true, false, List, [], ◌++◌, length, Option, Some, None, Ok, Err, MatchBool, slice_get}
+use Rattle.el_base.specs.declared.hash.Hash32.{Hash32}
 use Rattle.el_base.specs.declared.memory.OutOfMemory.{OutOfMemory}
+use Rattle.el_chain.specs.Chains.{Chain}
+use Rattle.el_mempool.specs.Standing.{PoolState, StandsFor}
 use Rattle.el_outside.specs.Devices.{Device}
 use Rattle.el_lines.specs.Lines.{LineEvent, line, lines}
 use Rattle.el_methods.specs.declared.session.Session as known
 use Rattle.el_replies.specs.declared.line.LineReply.{LineReply}
+use Rattle.el_subs.specs.Told.{status, OthersTold}
+use Rattle.el_subs.specs.Notices.{notices, notified}
 use Rattle.el_world.specs.Side.{Side}
 use Rattle.el_world.specs.World as model
-use Rattle.el_world.specs.World.{client_limit, line_limit, new_client, Comes, outs_of_reply, closes_long, closes_memory, closes_surplus}
+use Rattle.el_world.specs.World.{client_limit, line_limit, new_client, Comes, outs_of_reply, closes_long, closes_memory, closes_disk, closes_surplus}
 use Rattle.el_lines.specs.LineStates.{LineState, IsAt, as_listed}
 use Rattle.el_lines.specs.declared.line_buffer.LineEvent as met
 use Rattle.el_lines.specs.declared.line_buffer.LineEvent.TheVariants as event
-use Rattle.el_core.specs.State.{State, ClientState, IsHeardOut, is_numbered, work_of_client}
+use Rattle.el_core.specs.State.{State, ClientState, IsHeardOut, is_numbered, waiting, work_of_client}
 use Rattle.el_core.specs.Turn.{outs_of}
 use Rattle.el_core.specs.declared.out.Outs.{Outs}
 
@@ -24,6 +29,7 @@ pub record IsFresh (p : ℕ) (c : ClientState) : Type 0 where
   pub at : IsAt c.buffer [] 0
   pub kept : c.lost ≡ false
   pub session : c.session ≡ new_client
+  pub waits : c.waits ≡ false
 
 -- a peer comes: it is a client, one too many, or the node, which is none
 pub data Opens {G : Type 0} (p : ℕ) (s next : State G) : Type 0 where
@@ -32,6 +38,14 @@ pub data Opens {G : Type 0} (p : ℕ) (s next : State G) : Type 0 where
       → next ≡ record s { clients = s.clients ++ c ∷ [] } → Opens p s next
   one_more : (p ≡ 0 → ⊥) → nat_lt (length s.clients) client_limit ≡ false
       → next ≡ record s { surplus = Some p } → Opens p s next
+
+-- all are to be told of a line of the node
+abbrev pub all_wait : List ClientState → List ClientState
+all_wait clients = map (λ (c : ClientState). record c { waits = true }) clients
+
+-- the server as a line of the node begins, where this is the tip: nothing is touched yet
+abbrev pub begun_at : {G : Type 0} → Option Hash32 → State G → State G
+begun_at tip s = record s { clients = all_wait s.clients; before = tip; touched = [] }
 
 -- the bytes were fed
 abbrev pub IsFed : LineState → List ℕ → LineState → Type 0
@@ -42,6 +56,7 @@ pub record Keeps (bytes : List ℕ) (c next : ClientState) : Type 0 where
   pub limit : next.buffer.limit ≡ c.buffer.limit
   pub peer : next.peer ≡ c.peer
   pub session : next.session ≡ c.session
+  pub waits : next.waits ≡ c.waits
   pub kept : MatchBool next.lost (next.buffer ≡ c.buffer) (IsFed c.buffer bytes next.buffer)
 
 -- the list with another client at that place, or without it
@@ -57,6 +72,12 @@ IsPlace p clients None = AllByRecursion (λ (c : ClientState). is_numbered p c �
 IsPlace p clients (Some i) =
     (c : ClientState) × (slice_get clients i ≡ Some c) × (c.peer ≡ p)
     × AllByRecursion (λ (d : ClientState). is_numbered p d ≡ false) (take i clients)
+
+-- nobody is still to be told of the node's last line, or the first such client stands there
+abbrev pub IsFirstWaiting : List ClientState → Option ℕ → Type 0
+IsFirstWaiting clients None = waiting clients ≡ []
+IsFirstWaiting clients (Some i) =
+    (c : ClientState) × (slice_get clients i ≡ Some c) × (c.waits ≡ true) × (waiting (take i clients) ≡ [])
 
 -- the client at that place keeps its bytes, or that there was no memory for them
 abbrev pub HearsAt : ℕ → List ℕ → List ClientState → List ClientState → Type 0
@@ -132,7 +153,7 @@ pub record TurnsAt (says : ClientState → Option ClientState → Type 0) (i : �
   pub at : slice_get clients i ≡ Some client
   pub next_is : next ≡ replaced i left clients
   pub stays_is : stays ≡ is_some left
-  pub same : IfSome left (λ d. d.peer ≡ client.peer)
+  pub same : IfSome left (λ d. (d.peer ≡ client.peer) × (d.waits ≡ client.waits))
   pub less : OnSome outs (work_of_client left < work_of_client (Some client))
   pub said : says client left
 
@@ -163,3 +184,44 @@ pub data PeersTurn {G : Type 0} (tells : Type 0) (side : Side) (rose : List Devi
       → next ≡ record s { surplus = None } → rose [] → PeersTurn tells side rose s outs next
   has_turn : s.surplus ≡ None → SpeakerSteps tells side rose s outs next
       → PeersTurn tells side rose s outs next
+
+-- all that the client is told of the node's last line, over the side
+abbrev pub told_outs : Side → Option Hash32 → ClientState → model.Outs
+told_outs side before c = record {
+  messages = map (λ (t : List ℕ). record { peer = c.peer; text = t })
+      (notices (status side.chain side.kept) before side.chain c.session);
+  closing = None;
+}
+
+-- the client once it was told
+abbrev pub told_client : Side → ClientState → ClientState
+told_client side c =
+    record c { session = notified (status side.chain side.kept) c.session; waits = false }
+
+-- From these a client is told over the side: the ledger stands for its chain and the set for what is kept,
+-- and each subscription to a script hash that isn't touched was told its status.
+pub record IsToTell {G : Type 0} (stands : G → Chain → Type 0) (l : G) (pool : PoolState)
+    (touched : List Hash32) (side : Side) (c : ClientState) : Type 0 where
+  pub stood : stands l side.chain
+  pub set : StandsFor pool.entries side.chain side.kept
+  pub others : OthersTold (status side.chain side.kept) touched c.session.subs
+
+-- What a client gets that is told of the node's last line: all of it, or its closing. `rose` says by how much
+-- the count of the disk's failed calls rose.
+pub data TellTurn (side : Side) (before : Option Hash32) (rose : ℕ → Type 0) (c : ClientState)
+    (outs : model.Outs) (left : Option ClientState) : Type 0 where
+  tells : outs ≡ told_outs side before c → left ≡ Some (told_client side c) → rose 0
+      → TellTurn side before rose c outs left
+  fails : outs ≡ closes_disk c.peer → left ≡ None → rose 1 → TellTurn side before rose c outs left
+  starves : outs ≡ closes_memory c.peer → left ≡ None → rose 0 → TellTurn side before rose c outs left
+
+-- The telling of the client at that place, which is left or not: what `says` says of both.
+pub record TellsAt (says : ClientState → Option ClientState → Type 0) (i : ℕ)
+    (clients next : List ClientState) : Type 0 where
+  pub client : ClientState
+  pub left : Option ClientState
+  pub at : slice_get clients i ≡ Some client
+  pub next_is : next ≡ replaced i left clients
+  pub told : IfSome left (λ d. d.waits ≡ false)
+  pub same : IfSome left (λ d. (d.buffer ≡ client.buffer) × (d.peer ≡ client.peer))
+  pub said : says client left

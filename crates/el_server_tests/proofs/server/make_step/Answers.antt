@@ -2,6 +2,7 @@ use Rattle.el_server_tests.proofs.server.make_step.Goals.{in-Part+in_ok-run-in-P
 use Rattle.el_server_tests.proofs.server.make_step.Goals.{in-Fails+in_ok-run-in-Fails}
 use Rattle.el_server_tests.proofs.server.make_step.Goals.{in-Opens+in_ok-open-in-Opens}
 use Rattle.el_server_tests.proofs.server.make_step.Goals.{in-Says+in_ok-hear-in-Says}
+use Rattle.el_server_tests.proofs.server.make_step.Goals.{in-Spells+in_ok-spell-in-Spells}
 use Rattle.el_server_tests.proofs.server.make_step.Goals.{in-Gone, in-Forget}
 use Rattle.el_server_tests.proofs.server.make_step.Goals as goal
 
@@ -11,6 +12,7 @@ returns-clause-numbers c = c.work_off.ensures.numbers c.match-step.run.last (eli
   | in-Fails+in_ok-run-in-Fails w ↦ rw w.run-is c.requires.numbers
   | in-Opens+in_ok-open-in-Opens w ↦ rw w.run-is w.in_ok-open-in-Opens.ensures.numbers
   | in-Says+in_ok-hear-in-Says w ↦ rw w.run-is w.in_ok-hear-in-Says.ensures.numbers
+  | in-Spells+in_ok-spell-in-Spells w ↦ rw w.run-is w.in_ok-spell-in-Spells.ensures.numbers
   | in-Gone w ↦ rw w.run-is (w.gone.ensures.numbers _ c.requires.numbers)
   | in-Forget w ↦ rw w.run-is c.requires.numbers
 ])

@@ -6,5 +6,6 @@ returns-in-Ok c = rw (← c.self.view_is) (record {
   limit = c.feed.ensures.limit;
   peer = refl;
   session = refl;
+  waits = refl;
   kept = λ fed given at. c.in-Ok.ensures.at fed given at;
 })

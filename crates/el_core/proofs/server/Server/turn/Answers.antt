@@ -1,14 +1,15 @@
-use Rattle.std.proofs.Common.{◌∙◌, ap, Ok, Err}
+use Rattle.std.proofs.Common.{◌∙◌, sym, ap, subst, Some, Ok, Err, inr}
 use Rattle.el_core.proofs.Noded.{nil_if}
 use Rattle.el_core.proofs.server.Server.turn.Goals as goal
 use Rattle.el_core.specs.Turn.{outs_of, closing_of}
-use Rattle.el_core.proofs.Causes.{waiting_joins, none_ordered_before, none_given, none_unread, reply_other, found_memory, peers_long}
+use Rattle.el_core.proofs.Causes.{waiting_joins, none_ordered_before, none_given, none_unread, reply_other, found_memory, peers_long, tell_memory, tell_none}
+use Rattle.el_core.specs.within.Clients.{IsFirstWaiting}
 use Rattle.el_core.proofs.Peers.{none_ordered}
 use Rattle.el_lines.specs.LineStates.{as_listed}
 use Rattle.std.proofs.Common.{length, ◌==◌}
-use Rattle.el_core.specs.State.{State}
+use Rattle.el_core.specs.State.{State, AreUpTo, waiting}
 use Rattle.el_core.proofs.Noded.{ahead_failed}
-use Rattle.el_core.proofs.Measured.{ahead_less, line_less, peers_idle}
+use Rattle.el_core.proofs.Measured.{ahead_less, line_less, peers_less, peers_idle}
 use Rattle.el_core.proofs.Turned.{ahead_turned, node_turned, peers_turned, peers_any, peers_ended, node_failed, unread_failed}
 
 pub returns-in-Ok-clause-step : goal.returns-in-Ok-clause-step
@@ -25,12 +26,12 @@ returns-in-Err-clause-failed g c = λ world left stood told.
     let k = e.step in
     ahead_failed g.G.Ledger g.A.Archive c.args.self.now.ledger c.turn_ahead.new.self.ledger c.args.archive.now c.turn_ahead.new.archive world left c.in-Err.fault
     (λ none. e.some (stood.ahead ∙ none))
-    (λ is. k.still_live (ap Err is)) (rw stood.ahead at (e.stopped world.side.chain stood.chain))
+    (λ is. k.still_live (ap Err is)) (rw stood.ahead at (e.stopped world.side stood.start (record { stood = stood.chain; set = stood.set; told = told })))
 
 pub returns-in-Err-next_line-clause-failed : goal.returns-in-Err-next_line-clause-failed
 returns-in-Err-next_line-clause-failed g c = λ world left stood told.
     unread_failed g.G.Ledger g.A.Archive c.args.self.now c.next_line.new.self c.args.archive.now world left (λ m n d t h i j. g.met.G.Ledger.leaves_own m n d t h i j) c.requires.live
-    c.in-Err-next_line.ensures.refused stood c.in-Err-next_line.ensures.line
+    c.in-Err-next_line.ensures.refused stood c.in-Err-next_line.ensures.line (ap (λ (s : State g.row.G.Denot). waiting s.clients) (sym c.self.view_is) ∙ c.in_default.ensures.place)
 
 pub returns-in-Ok-None-clause-step : goal.returns-in-Ok-None-clause-step
 returns-in-Ok-None-clause-step g c = λ world left stood told.
@@ -40,7 +41,7 @@ returns-in-Ok-None-clause-step g c = λ world left stood told.
     let q = rw unchanged at c.turn_peers.ensures.quiet in
     let s = rw unchanged at c.turn_peers.ensures.same in
     peers_turned g.G.Ledger g.A.Archive c.args.self.now c.turn_peers.new.self c.args.archive.now c.turn_peers.new.archive world left c.turn_peers.result (λ m n d t h i j. g.met.G.Ledger.leaves_own m n d t h i j) c.requires.live
-    stood told c.turn_peers.ensures.keeps (nil_if c.args.self.now.ahead c.is_empty.result c.if-not-is_empty.false (c.is_empty.ensures ∙ ap (λ (s : State g.row.G.Denot). length s.ahead == 0) c.self.view_is)) all s q p
+    stood told c.turn_peers.ensures.keeps (nil_if c.args.self.now.ahead c.is_empty.result c.if-not-is_empty.false (c.is_empty.ensures ∙ ap (λ (s : State g.row.G.Denot). length s.ahead == 0) c.self.view_is)) (ap (λ (s : State g.row.G.Denot). waiting s.clients) (sym c.self.view_is) ∙ c.in_default.ensures.place) all s q p
 
 pub returns-in-Ok-None-clause-done : goal.returns-in-Ok-None-clause-done
 returns-in-Ok-None-clause-done g c = λ world left stood.
@@ -50,24 +51,24 @@ returns-in-Ok-None-clause-done g c = λ world left stood.
     let q = rw unchanged at c.turn_peers.ensures.quiet in
     let s = rw unchanged at c.turn_peers.ensures.same in
     peers_ended g.G.Ledger g.A.Archive c.args.self.now c.turn_peers.new.self c.args.archive.now c.turn_peers.new.archive world left c.turn_peers.result (λ m n d t h i j. g.met.G.Ledger.leaves_own m n d t h i j) c.requires.live
-    stood (nil_if c.args.self.now.ahead c.is_empty.result c.if-not-is_empty.false (c.is_empty.ensures ∙ ap (λ (s : State g.row.G.Denot). length s.ahead == 0) c.self.view_is)) all s q p
+    stood (nil_if c.args.self.now.ahead c.is_empty.result c.if-not-is_empty.false (c.is_empty.ensures ∙ ap (λ (s : State g.row.G.Denot). length s.ahead == 0) c.self.view_is)) (ap (λ (s : State g.row.G.Denot). waiting s.clients) (sym c.self.view_is) ∙ c.in_default.ensures.place) all s q p
 
 pub returns-in-Ok-None-clause-idle : goal.returns-in-Ok-None-clause-idle
 returns-in-Ok-None-clause-idle g c =
     let unchanged = rw c.in-Ok-None.field-0-is at c.in-Ok-None.ensures.unchanged in
     let s = rw unchanged at c.turn_peers.ensures.same in
-    peers_idle c.args.self.now c.turn_peers.new.self c.turn_peers.result (nil_if c.args.self.now.ahead c.is_empty.result c.if-not-is_empty.false (c.is_empty.ensures ∙ ap (λ (s : State g.row.G.Denot). length s.ahead == 0) c.self.view_is)) s c.turn_peers.ensures.done
+    peers_idle c.args.self.now c.turn_peers.new.self c.turn_peers.result (nil_if c.args.self.now.ahead c.is_empty.result c.if-not-is_empty.false (c.is_empty.ensures ∙ ap (λ (s : State g.row.G.Denot). length s.ahead == 0) c.self.view_is)) (ap (λ (s : State g.row.G.Denot). waiting s.clients) (sym c.self.view_is) ∙ c.in_default.ensures.place) (rw unchanged at c.turn_peers.ensures.waits) s c.turn_peers.ensures.done
 
 pub returns-in-Ok-turn_node-clause-step : goal.returns-in-Ok-turn_node-clause-step
 returns-in-Ok-turn_node-clause-step g c = λ world left stood told.
     let e = c.in-Ok-turn_node.ensures in
     node_turned g.G.Ledger g.A.Archive c.args.self.now c.next_line.new.self c.turn_node.new.self c.args.archive.now c.turn_node.new.archive world left c.in-Ok-turn_node.outs
-    (as_listed c.in-Ok-Some.met) stood told e.still c.in-Ok-Some.ensures.same c.in-Ok-Some.ensures.limit (rw c.in-Ok-Some.field-0-is at c.in-Ok-Some.ensures.met) e.same e.node
+    (as_listed c.in-Ok-Some.met) (λ k chain h. g.met.G.Ledger.tip_is k chain h) stood told e.still e.told c.in-Ok-Some.ensures.same c.in-Ok-Some.ensures.limit (rw c.in-Ok-Some.field-0-is at c.in-Ok-Some.ensures.met) e.same e.begun e.node
 
 pub returns-in-Ok-turn_node-clause-less : goal.returns-in-Ok-turn_node-clause-less
 returns-in-Ok-turn_node-clause-less g c =
     let e = c.in-Ok-turn_node.ensures in
-    line_less c.args.self.now c.next_line.new.self c.turn_node.new.self c.in-Ok-Some.ensures.same (rw c.in-Ok-Some.field-0-is at c.in-Ok-Some.ensures.consumed) e.fewer e.more e.same
+    line_less c.args.self.now c.next_line.new.self c.turn_node.new.self c.in-Ok-Some.ensures.same (rw c.in-Ok-Some.field-0-is at c.in-Ok-Some.ensures.consumed) e.fewer e.more e.begun.0 e.same
 
 pub returns-in-Err-turn_node-clause-failed : goal.returns-in-Err-turn_node-clause-failed
 returns-in-Err-turn_node-clause-failed g c = λ world left stood told.
@@ -75,7 +76,7 @@ returns-in-Err-turn_node-clause-failed g c = λ world left stood told.
     let k = e.step in
     node_failed g.G.Ledger g.A.Archive c.args.self.now c.next_line.new.self c.turn_node.new.self.ledger c.args.archive.now c.turn_node.new.archive world left
     (as_listed c.in-Ok-Some.met) c.in-Err-turn_node.fault
-    stood told e.still c.in-Ok-Some.ensures.same c.in-Ok-Some.ensures.limit (rw c.in-Ok-Some.field-0-is at c.in-Ok-Some.ensures.met)
+    stood told e.still e.told c.in-Ok-Some.ensures.same c.in-Ok-Some.ensures.limit (rw c.in-Ok-Some.field-0-is at c.in-Ok-Some.ensures.met)
     (λ is. k.still_live (ap Err is)) e.stopped
 
 pub returns-in-Ok-clause-waiting : goal.returns-in-Ok-clause-waiting
@@ -102,13 +103,13 @@ returns-in-Ok-clause-memory g c = λ world left p stood told.
     absurd (reply_other (outs_of c.in-Ok.outs) 0 p t.0 t.1 (ap closing_of told))
 
 pub returns-in-Ok-clause-long : goal.returns-in-Ok-clause-long
-returns-in-Ok-clause-long g c = λ world p rest stood still is kept. absurd (c.in-Ok.ensures.some (stood.ahead ∙ still))
+returns-in-Ok-clause-long g c = λ world p rest stood still told is kept. absurd (c.in-Ok.ensures.some (stood.ahead ∙ still))
 
 pub returns-in-Err-clause-long : goal.returns-in-Err-clause-long
-returns-in-Err-clause-long g c = λ world p rest stood still is kept. absurd (c.in-Err.ensures.some (stood.ahead ∙ still))
+returns-in-Err-clause-long g c = λ world p rest stood still told is kept. absurd (c.in-Err.ensures.some (stood.ahead ∙ still))
 
 pub returns-in-Err-next_line-clause-long : goal.returns-in-Err-next_line-clause-long
-returns-in-Err-next_line-clause-long g c = λ world p rest stood still is kept.
+returns-in-Err-next_line-clause-long g c = λ world p rest stood still told is kept.
     let n = none_ordered_before g.G.Ledger.stands c.args.self.now world p _ rest stood in
     absurd (none_unread c.args.self.now.node world.heard stood.ordered stood.node n.0 c.in-Err-next_line.ensures.line)
 
@@ -122,7 +123,7 @@ returns-in-Ok-None-clause-memory g c = λ world left p stood.
     (peers_any g.G.Ledger g.A.Archive c.args.self.now c.turn_peers.new.self c.args.archive.now c.turn_peers.new.archive world left c.turn_peers.result stood (nil_if c.args.self.now.ahead c.is_empty.result c.if-not-is_empty.false (c.is_empty.ensures ∙ ap (λ (s : State g.row.G.Denot). length s.ahead == 0) c.self.view_is)) turn)
 
 pub returns-in-Ok-None-clause-long : goal.returns-in-Ok-None-clause-long
-returns-in-Ok-None-clause-long g c = λ world p rest stood still is kept.
+returns-in-Ok-None-clause-long g c = λ world p rest stood still told is kept.
     let unchanged = rw c.in-Ok-None.field-0-is at c.in-Ok-None.ensures.unchanged in
     let turn = rw unchanged at c.turn_peers.ensures.peers in
     let l = peers_long g.G.Ledger.stands c.args.self.now c.turn_peers.new.self world p rest _ _ _ c.turn_peers.result stood is kept
@@ -135,12 +136,12 @@ returns-in-Ok-turn_node-clause-memory g c = λ world left p stood told.
     absurd (reply_other (outs_of c.in-Ok-turn_node.outs) 0 p t.0 t.1 (ap closing_of told))
 
 pub returns-in-Ok-turn_node-clause-long : goal.returns-in-Ok-turn_node-clause-long
-returns-in-Ok-turn_node-clause-long g c = λ world p rest stood still is kept.
+returns-in-Ok-turn_node-clause-long g c = λ world p rest stood still told is kept.
     let n = none_ordered_before g.G.Ledger.stands c.args.self.now world p _ rest stood in
     absurd (none_given c.args.self.now.node c.next_line.new.self.node world.heard stood.ordered _ stood.node n.0 (rw c.in-Ok-Some.field-0-is at c.in-Ok-Some.ensures.met))
 
 pub returns-in-Err-turn_node-clause-long : goal.returns-in-Err-turn_node-clause-long
-returns-in-Err-turn_node-clause-long g c = λ world p rest stood still is kept.
+returns-in-Err-turn_node-clause-long g c = λ world p rest stood still told is kept.
     let n = none_ordered_before g.G.Ledger.stands c.args.self.now world p _ rest stood in
     absurd (none_given c.args.self.now.node c.next_line.new.self.node world.heard stood.ordered _ stood.node n.0 (rw c.in-Ok-Some.field-0-is at c.in-Ok-Some.ensures.met))
 
@@ -148,3 +149,29 @@ pub returns-in-Ok-None-clause-numbers : goal.returns-in-Ok-None-clause-numbers
 returns-in-Ok-None-clause-numbers g c = λ last up.
     let unchanged = rw c.in-Ok-None.field-0-is at c.in-Ok-None.ensures.unchanged in
     c.turn_peers.ensures.numbers last (rw unchanged up)
+
+pub returns-in-Some-clause-waiting : goal.returns-in-Some-clause-waiting
+returns-in-Some-clause-waiting g c = λ world p rest stood. waiting_joins g.G.Ledger.stands c.args.self.now world p rest stood
+
+pub returns-in-Some-clause-memory : goal.returns-in-Some-clause-memory
+returns-in-Some-clause-memory g c = λ world left p stood told.
+    let first = subst (λ (s : State g.row.G.Denot). IsFirstWaiting s.clients (Some c.in-Some.i)) c.self.view_is c.in-Some.ensures.place in
+    inr (inr (tell_memory g.G.Ledger.stands c.args.self.now world left _ (outs_of c.turn_tell.result) c.in-Some.i p c.turn_tell.new.self.clients stood
+    (nil_if c.args.self.now.ahead c.is_empty.result c.if-not-is_empty.false (c.is_empty.ensures ∙ ap (λ (s : State g.row.G.Denot). length s.ahead == 0) c.self.view_is)) first c.turn_tell.ensures.tells (ap closing_of told)))
+
+pub returns-in-Some-clause-long : goal.returns-in-Some-clause-long
+returns-in-Some-clause-long g c = λ world p rest stood still told is kept.
+    let first = subst (λ (s : State g.row.G.Denot). IsFirstWaiting s.clients (Some c.in-Some.i)) c.self.view_is c.in-Some.ensures.place in
+    absurd (tell_none g.G.Ledger.stands c.args.self.now world _ c.in-Some.i stood first told)
+
+pub returns-in-Ok-None-clause-less : goal.returns-in-Ok-None-clause-less
+returns-in-Ok-None-clause-less g c =
+    let unchanged = rw c.in-Ok-None.field-0-is at c.in-Ok-None.ensures.unchanged in
+    let s = rw unchanged at c.turn_peers.ensures.same in
+    peers_less c.args.self.now c.turn_peers.new.self c.turn_peers.result s (rw unchanged at c.turn_peers.ensures.waits) (rw unchanged at c.turn_peers.ensures.fewer) (rw unchanged at c.turn_peers.ensures.less)
+
+pub returns-in-Ok-turn_node-clause-numbers : goal.returns-in-Ok-turn_node-clause-numbers
+returns-in-Ok-turn_node-clause-numbers g c = λ last up. c.turn_node.ensures.numbers last (subst (λ (s : State g.row.G.Denot). AreUpTo last s.clients) (sym c.in-Ok-Some.ensures.same) up)
+
+pub returns-in-Err-turn_node-clause-numbers : goal.returns-in-Err-turn_node-clause-numbers
+returns-in-Err-turn_node-clause-numbers g c = λ last up. c.turn_node.ensures.numbers last (subst (λ (s : State g.row.G.Denot). AreUpTo last s.clients) (sym c.in-Ok-Some.ensures.same) up)

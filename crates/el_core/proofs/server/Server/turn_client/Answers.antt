@@ -3,7 +3,7 @@ use Rattle.el_core.specs.State.{work_of_surplus}
 use Rattle.el_core.specs.within.Clients.{gone, speaker_after}
 use Rattle.el_core.specs.declared.out.Outs.{Outs}
 use Rattle.el_core.proofs.Losing.{lost_none}
-use Rattle.el_core.proofs.Measured.{steps_of, speaker_gone, speaker_stays, turned_less, turned_gone, on_some}
+use Rattle.el_core.proofs.Measured.{steps_of, speaker_gone, speaker_stays, turned_less, turned_gone, turned_waits, turned_fewer, on_some}
 use Rattle.el_core.proofs.Numbers.{up_to_turned}
 use Rattle.el_core.proofs.server.Server.turn_client.Goals as goal
 
@@ -50,3 +50,21 @@ returns-in-Some-outs-clause-numbers g c = λ last up. (up_to_turned _ c.in-Some-
 
 pub returns-in-None-clause-numbers : goal.returns-in-None-clause-numbers
 returns-in-None-clause-numbers g c = λ last up. (up_to_turned _ c.in-Some-place_of.i last _ _ c.turn-outs.result.0 c.turn-outs.result.1 c.turn-outs.ensures.turn (rw (← c.self.view_is) at up))
+
+pub returns-then-not-stays-clause-waits : goal.returns-then-not-stays-clause-waits
+returns-then-not-stays-clause-waits g c = rw (← c.self.view_is) (turned_waits _ c.in-Some-place_of.i _ _ c.turn-outs.result.0 c.turn-outs.result.1 c.turn-outs.ensures.turn)
+
+pub returns-then-not-stays-clause-fewer : goal.returns-then-not-stays-clause-fewer
+returns-then-not-stays-clause-fewer g c = rw (← c.self.view_is) (turned_fewer _ c.in-Some-place_of.i _ _ c.turn-outs.result.0 c.turn-outs.result.1 c.turn-outs.ensures.turn)
+
+pub returns-in-Some-outs-clause-waits : goal.returns-in-Some-outs-clause-waits
+returns-in-Some-outs-clause-waits g c = rw (← c.self.view_is) (turned_waits _ c.in-Some-place_of.i _ _ c.turn-outs.result.0 c.turn-outs.result.1 c.turn-outs.ensures.turn)
+
+pub returns-in-Some-outs-clause-fewer : goal.returns-in-Some-outs-clause-fewer
+returns-in-Some-outs-clause-fewer g c = rw (← c.self.view_is) (turned_fewer _ c.in-Some-place_of.i _ _ c.turn-outs.result.0 c.turn-outs.result.1 c.turn-outs.ensures.turn)
+
+pub returns-in-None-clause-waits : goal.returns-in-None-clause-waits
+returns-in-None-clause-waits g c = rw (← c.self.view_is) (turned_waits _ c.in-Some-place_of.i _ _ c.turn-outs.result.0 c.turn-outs.result.1 c.turn-outs.ensures.turn)
+
+pub returns-in-None-clause-fewer : goal.returns-in-None-clause-fewer
+returns-in-None-clause-fewer g c = rw (← c.self.view_is) (turned_fewer _ c.in-Some-place_of.i _ _ c.turn-outs.result.0 c.turn-outs.result.1 c.turn-outs.ensures.turn)

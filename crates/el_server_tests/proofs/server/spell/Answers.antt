@@ -1,5 +1,5 @@
 use Rattle.std.proofs.Common.{arith}
-use Rattle.el_server_tests.proofs.server.hear.Goals as goal
+use Rattle.el_server_tests.proofs.server.spell.Goals as goal
 
 pub returns : goal.returns
 returns c = record {

@@ -1,0 +1,15 @@
+use Rattle.std.proofs.Common.{ℕ, length, ap, refl, ◌∙◌}
+use Rattle.el_rows.specs.declared.table.Table.{Table}
+use Rattle.el_rows.specs.Reads.{OnlyRead}
+use Rattle.el_rows.specs.Tables.{tables_of}
+use Rattle.el_server_tests.specs.declared.failing_rows.FailingRows.{FailingRows}
+use Rattle.el_server_tests.proofs.failing_rows.FailingRowsRows.commit.Goals as goal
+
+pub returns-clause-memory : goal.returns-clause-memory
+returns-clause-memory c failed = record {
+  same = refl;
+  count = (c.commit.ensures.memory failed).count
+      ∙ ap {B = Table → ℕ} (λ (s : FailingRows) t. length (tables_of s.rows.rows t)) c.call.ensures.same;
+  live = tt;
+  crash = λ no. absurd no;
+}

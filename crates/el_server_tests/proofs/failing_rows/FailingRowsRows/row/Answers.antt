@@ -1,0 +1,15 @@
+use Rattle.std.proofs.Common.{ℕ, length, ap, refl, ◌∙◌}
+use Rattle.el_rows.specs.declared.table.Table.{Table}
+use Rattle.el_rows.specs.Reads.{OnlyRead}
+use Rattle.el_rows.specs.Tables.{tables_of}
+use Rattle.el_server_tests.specs.declared.failing_rows.FailingRows.{FailingRows}
+use Rattle.el_server_tests.proofs.failing_rows.FailingRowsRows.row.Goals as goal
+
+pub returns-clause-reads : goal.returns-clause-reads
+returns-clause-reads c = record {
+  same = refl;
+  count = c.row.ensures.reads.count
+      ∙ ap {B = Table → ℕ} (λ (s : FailingRows) t. length (tables_of s.rows.rows t)) c.call.ensures.same;
+  live = tt;
+  crash = λ no. absurd no;
+}
