@@ -1,6 +1,6 @@
 -- An arrival, with all turns that it asks for.
 use Rattle.std.proofs.Common.{◌≡◌, inl, inr, ℕ, ◌==◌, false, not, List, [], ◌∷◌, ◌++◌, map, None, refl, sym, ap, ◌∙◌, append_assoc, IsTrue}
-use Rattle.std.specs.Prelude.{Result, Ok, Err, OnOk, IfErr}
+use Rattle.std.specs.Prelude.{Result, Ok, Err, OnOk, IfErr, find}
 use Rattle.std.specs.List.{filter}
 use Rattle.el_outside.specs.declared.archive.Archive as archive
 use Rattle.el_outside.specs.declared.link.Link as link
@@ -9,7 +9,7 @@ use Rattle.el_outside.specs.Trace.{Trace, ArrivalWithBytes, opened, brought, clo
 use Rattle.el_outside.proofs.Traces.{goes_none, arrived_stays_open, new_not_open}
 use Rattle.el_chain.specs.Chains.{Chain}
 use Rattle.el_model.specs.declared.ledger.Ledger as ledger
-use Rattle.el_world.specs.World.{World, Session, Event, is_peer, hearing, after_hearing, events, IsStill, nothing}
+use Rattle.el_world.specs.World.{World, Session, Event, is_peer, hearing, after_hearing, events, IsStill, AllTold, nothing}
 use Rattle.el_world.specs.Run.{Turns, none as no_turns, more, takes, all, Stop, by_memory, unheard, in_turn, MayStarve}
 use Rattle.el_lines.proofs.Cuts.{either}
 use Rattle.el_core.specs.State.{State}
@@ -62,13 +62,13 @@ not_client trace sessions p new all' = elim (either (some_peer p sessions)) [
 
 -- events that are done with an arrival, as turns
 pub quietly_turns : (tells : Type 0) (world : World) (done : List Event) (next : World) → IsStill world
-    → Quietly world done next → Turns tells world done [] [] [] next
-quietly_turns tells world done next still none = no_turns
-quietly_turns tells world done next still (joined p few) =
+    → AllTold world → Quietly world done next → Turns tells world done [] [] [] next
+quietly_turns tells world done next still told none = no_turns
+quietly_turns tells world done next still told (joined p few) =
     more [] [] [] [] world _ nothing [] next [] [] [] next no_turns
-    (takes _ still refl (rw few (refl, refl, refl))) (all next None)
-quietly_turns tells world done next still (departed p) =
-    more [] [] [] [] world _ nothing [] next [] [] [] next no_turns (takes _ still refl (refl, refl, refl))
+    (takes _ still told refl (rw few (refl, refl, refl))) (all next None)
+quietly_turns tells world done next still told (departed p) =
+    more [] [] [] [] world _ nothing [] next [] [] [] next no_turns (takes _ still told refl (refl, refl, refl))
     (all next None)
 
 still_after : (a : ArrivalWithBytes) (world : World) → (after_hearing a world).side.ahead ≡ world.side.ahead
@@ -77,6 +77,29 @@ still_after (brought p bytes) world = elim (either (p == 0)) [ inl h ↦ rw h re
 still_after (closed p) world = refl
 still_after quiet world = refl
 still_after ended world = refl
+
+-- whoever is heard, nobody is to be told for that
+heard_waits : (p : ℕ) (bytes : List ℕ) (x : Session) → (hearing p bytes x).waits ≡ x.waits
+heard_waits p bytes x = elim (either (x.peer == p)) [ inl h ↦ rw h refl | inr h ↦ rw h refl ]
+
+none_heard : (p : ℕ) (bytes : List ℕ) (sessions : List Session)
+    → find (λ (x : Session). x.waits) sessions ≡ None
+    → find (λ (x : Session). x.waits) (map (hearing p bytes) sessions) ≡ None
+none_heard p bytes [] nobody = refl
+none_heard p bytes (x ∷ xs) nobody = elim (either x.waits) [
+  | inl h ↦ absurd (let e = rw h at nobody in cc)
+  | inr h ↦ rw (heard_waits p bytes x, h) (none_heard p bytes xs (rw h at nobody))
+]
+
+told_after : (a : ArrivalWithBytes) (world : World) → AllTold world → AllTold (after_hearing a world)
+told_after (opened p) world told = told
+told_after (brought p bytes) world told = elim (either (p == 0)) [
+  | inl h ↦ rw h told
+  | inr h ↦ rw h (none_heard p bytes world.sessions told)
+]
+told_after (closed p) world told = told
+told_after quiet world told = told
+told_after ended world told = told
 
 pub on_ok : {T E : Type 0} (P Q : Type 0) (r : Result T E) → (P → Q) → OnOk r P → OnOk r Q
 on_ok P Q (Ok x) f h = f h
@@ -109,14 +132,14 @@ module _ {G A K : Type 0} (of_ledger : ledger.Ghosts G) (of_files : archive.Ghos
     (of_link : link.Ghosts K) where
   -- an arrival was taken, and its work is done
   pub arrival_done : (a : ArrivalWithBytes) (world : World) (old taken : State G) (files : A) (k : K)
-      (now : Snapshot G A K) → IsStill world → taken.ledger ≡ old.ledger
+      (now : Snapshot G A K) → IsStill world → AllTold world → taken.ledger ≡ old.ledger
       → (t : TookArrival of_ledger.stands a world taken)
       → Finished of_ledger of_files of_link t.next t.left (snapshot taken files k) now
       → Finished of_ledger of_files of_link (after_hearing a world) (events world a) (snapshot old files k)
       now
-  arrival_done a world old taken files k now still same t f =
+  arrival_done a world old taken files k now still told same t f =
       let q = quietly_turns of_files.tells (after_hearing a world) t.done t.next
-      (still_after a world ∙ still) t.quietly in
+      (still_after a world ∙ still) (told_after a world told) t.quietly in
       let turns = turns_then of_files.tells (after_hearing a world) t.next f.world t.done t.left [] f.messages
       []
       f.closings [] f.losses q f.turns in
@@ -127,6 +150,8 @@ module _ {G A K : Type 0} (of_ledger : ledger.Ghosts G) (of_files : archive.Ghos
         world = f.world;
         turns = rw t.whole turns;
         still = f.still;
+        told = f.told;
+        statuses = f.statuses;
         stood = f.stood;
         went = record { trace = f.went.trace; rose = rw (← same) f.went.rose };
         ready = f.ready;
@@ -135,12 +160,12 @@ module _ {G A K : Type 0} (of_ledger : ledger.Ghosts G) (of_files : archive.Ghos
   -- or the run stops in it
   pub arrival_stopped : (leaves : Chain → Chain → Type 0) (a : ArrivalWithBytes) (world : World)
       (old taken : State G) (files : A) (k : K) (now : Snapshot G A K) (stop : Stop) → IsStill world
-      → taken.ledger ≡ old.ledger → (t : TookArrival of_ledger.stands a world taken)
+      → AllTold world → taken.ledger ≡ old.ledger → (t : TookArrival of_ledger.stands a world taken)
       → Stopped of_ledger of_files of_link leaves t.next t.left stop (snapshot taken files k) now
       → StoppedIn of_ledger of_files of_link leaves world a stop (snapshot old files k) now
-  arrival_stopped leaves a world old taken files k now stop still same t f =
+  arrival_stopped leaves a world old taken files k now stop still told same t f =
       let q = quietly_turns of_files.tells (after_hearing a world) t.done t.next
-      (still_after a world ∙ still) t.quietly in
+      (still_after a world ∙ still) (told_after a world told) t.quietly in
       let whole = t.whole ∙ ap (λ (l : List Event). t.done ++ l) f.whole
       ∙ sym (append_assoc t.done f.done f.left) in
       let turns = turns_then of_files.tells (after_hearing a world) t.next f.world t.done f.done [] f.messages

@@ -1,5 +1,5 @@
 -- Which peers are open.
-use Rattle.std.proofs.Common.{◌≡◌, inl, inr, ℕ, ◌==◌, Bool, true, false, not, List, [], ◌∷◌, map, Some, refl, IsTrue, eqb-true}
+use Rattle.std.proofs.Common.{◌≡◌, inl, inr, ℕ, ◌==◌, Bool, true, false, not, List, [], ◌∷◌, map, Some, refl, IsTrue, eq-eqb, eqb-true}
 use Rattle.std.specs.Prelude.{MatchBool, find, if◌then◌else◌}
 use Rattle.std.specs.List.{filter, list_any}
 use Rattle.el_outside.specs.Trace.{Trace, Message, GoesOn, is_open}
@@ -17,6 +17,44 @@ closed_open s t p reason open' h = rw open' at h
 
 abbrev pub some_peer : ℕ → List Session → Bool
 some_peer p sessions = list_any (is_peer p) sessions
+
+-- the numbers of the clients
+abbrev pub peers : List Session → List ℕ
+peers sessions = map (λ (session : Session). session.peer) sessions
+
+-- clients with the same numbers are as open
+pub same_open : (t : Trace) (xs ys : List Session) → peers xs ≡ peers ys → AllOpen t xs → AllOpen t ys
+same_open t [] [] same all = tt
+same_open t [] (y ∷ ys) same all = absurd cc
+same_open t (x ∷ xs) [] same all = absurd cc
+same_open t (x ∷ xs) (y ∷ ys) same all =
+    let here : x.peer ≡ y.peer = cc in
+    let more : peers xs ≡ peers ys = cc in
+    (rw (← here) all.0, same_open t xs ys more all.1)
+
+pub same_peer : (p : ℕ) (xs ys : List Session) → peers xs ≡ peers ys → some_peer p xs ≡ some_peer p ys
+same_peer p [] [] same = refl
+same_peer p [] (y ∷ ys) same = absurd cc
+same_peer p (x ∷ xs) [] same = absurd cc
+same_peer p (x ∷ xs) (y ∷ ys) same =
+    let here : x.peer ≡ y.peer = cc in
+    let more : peers xs ≡ peers ys = cc in
+    rw (here, same_peer p xs ys more) refl
+
+-- a session changes, and its number doesn't
+pub peers_with : (sessions : List Session) (p : ℕ) (now : Session) → now.peer ≡ p
+    → peers (map (λ (session : Session). if is_peer p session then now else session) sessions) ≡ peers sessions
+peers_with [] p now is = refl
+peers_with (x ∷ xs) p now is = elim (either (x.peer == p)) [
+  | inl h ↦ rw (h, peers_with xs p now is, is, eqb-true x.peer p h) refl
+  | inr h ↦ rw (h, peers_with xs p now is) refl
+]
+
+-- all are to be told of a line of the node
+pub peers_begun : (sessions : List Session)
+    → peers (map (λ (session : Session). record session { waits = true }) sessions) ≡ peers sessions
+peers_begun [] = refl
+peers_begun (x ∷ xs) = rw (peers_begun xs) refl
 
 abbrev pub but : ℕ → List Session → List Session
 but p sessions = filter (λ (session : Session). not (is_peer p session)) sessions
@@ -91,6 +129,18 @@ found_open s [] p x is all = absurd cc
 found_open s (y ∷ ys) p x is all = elim (either (y.peer == p)) [
   | inl h ↦ let e : y ≡ x = (let f = rw h at is in cc) in rw (← e) all.0
   | inr h ↦ found_open s ys p x (rw h at is) all.1
+]
+
+-- who is found by anything is a client
+pub who_is_client : (sessions : List Session) (which : Session → Bool) (x : Session)
+    → find which sessions ≡ Some x → some_peer x.peer sessions ≡ true
+who_is_client [] which x is = absurd cc
+who_is_client (y ∷ ys) which x is = elim (either (which y)) [
+  | inl h ↦ let e : y ≡ x = (let f = rw h at is in cc) in rw (e, eq-eqb x.peer x.peer refl) refl
+  | inr h ↦ elim (either (y.peer == x.peer)) [
+    | inl k ↦ rw k refl
+    | inr k ↦ rw k (who_is_client ys which x (rw h at is))
+  ]
 ]
 
 pub found_client : (sessions : List Session) (p : ℕ) (x : Session) → find (is_peer p) sessions ≡ Some x

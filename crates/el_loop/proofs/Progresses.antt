@@ -19,7 +19,6 @@ use Rattle.el_world.specs.Flights.{FliesAt, IsUnderWay, IsMoveOf}
 use Rattle.el_core.specs.State.{State, Stands}
 use Rattle.el_core.specs.Turn.{TookTurn, TurnFailed, IsWithin, KeepsChain, IsDone, stop_of}
 use Rattle.el_sync.specs.declared.fault.StepFault.{StepFault}
-use Rattle.el_sync.specs.declared.fault.StepFault.TheVariants as fault
 use Rattle.el_loop.specs.within.Sending.{StoppedSending}
 use Rattle.el_loop.specs.within.Progress.{ClientsAreOpen, CanDeliver, Delivered, Snapshot, snapshot, failed, IsReady, Progress, Finished, Stopped}
 use Rattle.el_loop.proofs.Turned.{after_turn, still_waiting, turn_to_one}
@@ -238,6 +237,8 @@ module _ {G A K : Type 0} (of_ledger : ledger.Ghosts G) (of_files : archive.Ghos
         world = p.world;
         turns = rw p.whole (rw (append-nil p.messages, append-nil p.closings, append-nil p.losses) at both);
         still = d.still;
+        told = d.told;
+        statuses = d.statuses;
         stood = d.stood;
         went = record { trace = p.went.trace; rose = rw (same.0, same.1) p.went.rose };
         ready = record {

@@ -14,13 +14,13 @@ use Rattle.el_outside.proofs.Devices.{all_rose_none, all_rose_on}
 use Rattle.el_outside.proofs.Traces.{goes_none, goes_more, rose_more, rose_none, opened_is_open, new_unused}
 use Rattle.el_chain.specs.Chains.{Chain}
 use Rattle.el_model.specs.declared.ledger.Ledger as ledger
-use Rattle.el_world.specs.World.{World, new_session, after_hearing, events, without_node, without_client}
+use Rattle.el_world.specs.World.{World, new_session, after_hearing, events, without_node, without_client, AllTold}
 use Rattle.el_world.specs.Run.{Run, none, more, Stop}
 use Rattle.el_lines.proofs.Cuts.{either}
 use Rattle.el_core.specs.State.{State, Stands}
 use Rattle.el_core.specs.Arrivals.{IsAfterArrival}
 use Rattle.el_loop.specs.Counts.{Counts, counts}
-use Rattle.el_loop.specs.Runs.{Traffic, taken, IsHalted, NoneEnds, is_end, RunEnds, next_failed}
+use Rattle.el_loop.specs.Runs.{Traffic, taken, StatusesAreTold, IsHalted, NoneEnds, is_end, RunEnds, next_failed}
 use Rattle.el_loop.specs.declared.end.End.{End}
 use Rattle.el_loop.specs.declared.end.End.TheVariants as end
 use Rattle.el_loop.specs.declared.halt.Halt.{Halt}
@@ -161,6 +161,8 @@ module _ {G A K : Type 0} (of_ledger : ledger.Ghosts G) (of_files : archive.Ghos
     losses = [];
     world = first;
     run = run_none of_files.tells first node;
+    told = rw nobody refl;
+    statuses = rw nobody tt;
     stood = stood;
     none_ends = tt;
     counted = refl;
@@ -270,6 +272,8 @@ module _ {G A K : Type 0} (of_ledger : ledger.Ghosts G) (of_files : archive.Ghos
     pub losses : List Device
     pub world : World
     pub run : Run of_files.tells first (taken node (front ++ a ∷ [])) messages closings losses world
+    pub told : AllTold world
+    pub statuses : StatusesAreTold world
     pub stood : Stands of_ledger.stands now.server world []
     pub none_ends : NoneEnds front
     pub counted : length front ≡ count
@@ -294,7 +298,9 @@ module _ {G A K : Type 0} (of_ledger : ledger.Ghosts G) (of_files : archive.Ghos
     world = f.world;
     run = rw (taken_more node g.arrivals a)
         (more (taken node g.arrivals) g.messages g.closings g.losses g.world (taken_one node a) f.messages
-        f.closings f.losses f.world g.run f.turns f.still);
+        f.closings f.losses f.world g.run f.turns f.still f.told);
+    told = f.told;
+    statuses = f.statuses;
     stood = f.stood;
     none_ends = g.none_ends;
     counted = g.counted;
@@ -317,6 +323,8 @@ module _ {G A K : Type 0} (of_ledger : ledger.Ghosts G) (of_files : archive.Ghos
     losses = f.losses;
     world = f.world;
     run = f.run;
+    told = f.told;
+    statuses = f.statuses;
     stood = f.stood;
     none_ends = all_more _ f.front a f.none_ends on;
     counted = let h = f.counted in simp length-append (omega arith);
@@ -348,6 +356,7 @@ module _ {G A K : Type 0} (of_ledger : ledger.Ghosts G) (of_files : archive.Ghos
         losses = f.losses;
         world = f.world;
         run = f.run;
+        statuses = f.statuses;
         grown = f.ready.grown;
         counted = record {
           calls = rw add-zero f.calls;
@@ -374,6 +383,7 @@ module _ {G A K : Type 0} (of_ledger : ledger.Ghosts G) (of_files : archive.Ghos
         losses = g.losses;
         world = g.world;
         run = g.run;
+        statuses = g.statuses;
         grown = g.ready.grown;
         counted = record {
           calls = rw add-zero g.calls;
@@ -404,6 +414,7 @@ module _ {G A K : Type 0} (of_ledger : ledger.Ghosts G) (of_files : archive.Ghos
         losses = g.losses;
         world = g.world;
         run = g.run;
+        statuses = g.statuses;
         grown = g.ready.grown;
         counted = record {
           calls = rose_more (of_link.calls before.link) (of_link.calls mid.link) (of_link.calls k)

@@ -8,15 +8,17 @@ use Rattle.el_outside.specs.declared.link.Why.{Why}
 use Rattle.el_outside.specs.declared.link.Why.TheVariants as why
 use Rattle.el_chain.specs.Chains.{Chain}
 use Rattle.el_lines.specs.Lines.{LineEvent, line, too_long}
+use Rattle.el_subs.specs.Told.{status}
+use Rattle.el_subs.specs.Notices.{notices}
 use Rattle.el_world.specs.Side.{Side}
-use Rattle.el_world.specs.World.{World, Session, Event, joins, leaves, says, orders, Outs, IsLed, Takes, Replied, replied, starved, is_peer, is_client, without_client, client_limit}
+use Rattle.el_world.specs.World.{World, Session, Event, joins, leaves, says, orders, Outs, IsLed, Takes, Replied, replied, starved, Notifies, tells as is_told, fails, told, begun, outs_of_telling, with_session, is_peer, is_client, without_client, client_limit}
 use Rattle.el_outside.specs.Devices.{Device}
-use Rattle.el_world.specs.Run.{OneTurn, takes, works, departs}
+use Rattle.el_world.specs.Run.{OneTurn, takes, works, notifies, departs}
 use Rattle.el_lines.proofs.Cuts.{either}
 use Rattle.el_core.specs.State.{State, ClientState, Stands, IsSession, SessionsAre, AllVoid, HearsLeft, in_order, losing, IsSaidBy}
 use Rattle.el_loop.specs.within.Sending.{AllOpen, CanClose}
 use Rattle.el_loop.specs.within.Progress.{IsNotClosed, ClientsAreOpen}
-use Rattle.el_loop.proofs.Openness.{some_peer, client_open, all_but, not_among, all_same, found_open, found_client, stranger_left}
+use Rattle.el_loop.proofs.Openness.{peers, same_open, same_peer, peers_with, peers_begun, client_open, all_but, not_among, all_same, found_open, found_client, who_is_client, stranger_left}
 
 -- all clients are open, and who is closed is open and no client
 pub record After (trace : Trace) (outs : Outs) (next : World) : Type 0 where
@@ -26,16 +28,34 @@ pub record After (trace : Trace) (outs : Outs) (next : World) : Type 0 where
 -- nobody is closed, and nobody comes or leaves
 pub record Quietly (world : World) (outs : Outs) (next : World) : Type 0 where
   pub none : outs.closing ≡ None
-  pub same : next.sessions ≡ world.sessions
+  pub same : peers next.sessions ≡ peers world.sessions
 
 quiet_after : (trace : Trace) (world : World) (outs : Outs) (next : World) → Quietly world outs next
     → AllOpen trace world.sessions → After trace outs next
-quiet_after trace world outs next q are = record { sessions = rw q.same are; closing = rw q.none tt }
+quiet_after trace world outs next q are = record {
+  sessions = same_open trace world.sessions next.sessions (sym q.same) are;
+  closing = rw q.none tt;
+}
 
 -- the node is answered
 by_lead : (leads : List ℕ → List Device → Side → Type 0) (world : World) (outs : Outs) (losses : List Device)
     (next : World) → IsLed leads world outs losses next → Quietly world outs next
 by_lead leads world outs losses next l = record { none = rw l.outs_is refl; same = rw l.next_is refl }
+
+-- where a line of the node begins, with which all are to be told
+by_line_of_node : (leads : List ℕ → List Device → Side → Type 0) (world : World) (outs : Outs)
+    (losses : List Device) (next : World) → IsLed leads (begun world) outs losses next
+    → Quietly world outs next
+by_line_of_node leads world outs losses next l =
+    record { none = rw l.outs_is refl; same = rw l.next_is (peers_begun world.sessions) }
+
+-- a client is told
+by_telling : (world : World) (session : Session) (outs : Outs) (next : World) → outs ≡ outs_of_telling world session
+    → next ≡ with_session session.peer (told world session) world → Quietly world outs next
+by_telling world session outs next outs_is next_is = record {
+  none = rw outs_is refl;
+  same = rw next_is (peers_with world.sessions session.peer (told world session) refl);
+}
 
 -- a client is closed
 shut : (trace : Trace) (world : World) (p : ℕ) (reason : Why) (outs : Outs) (next : World)
@@ -136,21 +156,32 @@ by_event stands tells trace s world left rest (says p too_long) outs losses next
       | inl h ↦ let e = rw h at t in shut trace world p why.Long outs next h
           (ap (λ (o : Outs). o.closing) e.0) e.1 are.sessions
       | inr h ↦ let e = rw h at t in quiet_after trace world outs next
-          (record { none = ap (λ (o : Outs). o.closing) e.0; same = ap (λ (w : World). w.sessions) e.1 })
+          (record { none = ap (λ (o : Outs). o.closing) e.0; same = ap (λ (w : World). peers w.sessions) e.1 })
           are.sessions
     ]
 by_event stands tells trace s world left rest (orders met) outs losses next stood is t are =
-    quiet_after trace world outs next (by_lead _ world outs losses next t) are.sessions
+    quiet_after trace world outs next (by_line_of_node _ world outs losses next t) are.sessions
+
+-- who is told, or closed since the index's device failed
+by_notice : (trace : Trace) (world : World) (outs : Outs) (losses : List Device) (next : World)
+    → Notifies world outs losses next → AllOpen trace world.sessions → After trace outs next
+by_notice trace world outs losses next (is_told session is outs_is next_is lossless) are =
+    quiet_after trace world outs next (by_telling world session outs next outs_is next_is) are
+by_notice trace world outs losses next (fails session is outs_is next_is lost) are =
+    shut trace world session.peer why.Disk outs next (who_is_client world.sessions _ session is)
+    (ap (λ (o : Outs). o.closing) outs_is) next_is are
 
 pub after_turn : {G : Type 0} (stands : G → Chain → Type 0) (tells : Type 0) (trace : Trace) (s : State G)
     (world : World) (left rest done : List Event) (outs : Outs) (losses : List Device)
     (next : World) → Stands stands s world left → left ≡ done ++ rest
     → OneTurn tells world done outs losses next → ClientsAreOpen s world trace → After trace outs next
-after_turn stands tells trace s world left rest done outs losses next stood whole (takes event still is t)
-    are =
+after_turn stands tells trace s world left rest done outs losses next stood whole
+    (takes event still all_told is t) are =
     by_event stands tells trace s world left rest event outs losses next stood (rw is at whole) t are
 after_turn stands tells trace s world left rest done outs losses next stood whole (works busy is t) are =
     quiet_after trace world outs next (by_lead _ world outs losses next t) are.sessions
+after_turn stands tells trace s world left rest done outs losses next stood whole (notifies still is t) are =
+    by_notice trace world outs losses next t are.sessions
 after_turn stands tells trace s world left rest done outs losses next stood whole
     (departs p client is closes gone lost) are =
     shut trace world p why.Memory outs next client (ap (λ (o : Outs). o.closing) closes) gone are.sessions
@@ -233,7 +264,7 @@ by_node tells world [] event rest ys q outs losses next split more t =
     absurd (let e : [] ≡ ys ++ joins q ∷ [] = cc in no_more_after q ys e)
 by_node tells world (m ∷ ms) event rest ys q outs losses next split more t =
     let is : event ≡ orders m = cc in
-    by_lead _ world outs losses next (rw is at t)
+    by_line_of_node _ world outs losses next (rw is at t)
 
 -- What becomes of a client too many that waits after a turn: it waited before, and is neither closed nor
 -- connected.
@@ -244,7 +275,7 @@ pub record StillWaits (surplus : Option ℕ) (world : World) (outs : Outs) (next
 stays_by : (world : World) (outs : Outs) (next : World) (q : ℕ) → Quietly world outs next
     → is_client q world ≡ false → (is_client q next ≡ false) × IsNotClosed q outs.closing
 stays_by world outs next q quiet missing =
-    (ap (λ (l : List Session). some_peer q l) quiet.same ∙ missing, rw quiet.none tt)
+    (same_peer q next.sessions world.sessions quiet.same ∙ missing, rw quiet.none tt)
 
 -- another client is closed
 stays_apart : (world : World) (outs : Outs) (next : World) (p q : ℕ) (reason : Why) → is_client p world ≡ true
@@ -254,6 +285,16 @@ stays_apart world outs next p q reason client closing gone missing = elim (eithe
   | inl h ↦ absurd (let e = eqb-true q p h in let f = rw e at missing in cc)
   | inr h ↦ (rw gone (stranger_left world.sessions q p missing), rw closing h)
 ]
+
+-- another client is told
+stays_told : (world : World) (outs : Outs) (losses : List Device) (next : World) (q : ℕ)
+    → Notifies world outs losses next → is_client q world ≡ false
+    → (is_client q next ≡ false) × IsNotClosed q outs.closing
+stays_told world outs losses next q (is_told session is outs_is next_is lossless) =
+    stays_by world outs next q (by_telling world session outs next outs_is next_is)
+stays_told world outs losses next q (fails session is outs_is next_is lost) =
+    stays_apart world outs next session.peer q why.Disk (who_is_client world.sessions _ session is)
+    (ap (λ (o : Outs). o.closing) outs_is) next_is
 
 -- Where a client too many waits after a turn, it waited before, and stays as it was.
 pub still_waiting : {G : Type 0} (stands : G → Chain → Type 0) (tells : Type 0) (s turned : State G)
@@ -277,24 +318,24 @@ still_waiting stands tells s turned world left rest done outs losses next q stoo
     record {
       waited = then'.too_many;
       stays = elim turn [
-        | takes event still one t ↦
+        | takes event still all_told one t ↦
             let both = ap (λ (l : List Event). l ++ joins q ∷ []) (sym stood.node.left_is)
             ∙ ap (λ (l : List Event). stood.ordered ++ l) (sym then'.is) ∙ sym stood.left_is
             ∙ whole ∙ ap (λ (l : List Event). l ++ rest) one in
             stays_by world outs next q
             (by_node tells world _ event rest later.ordered q outs losses next both more t)
         | works busy none t ↦ stays_by world outs next q (by_lead _ world outs losses next t)
+        | notifies still none t ↦ stays_told world outs losses next q t
         | departs p client none closes gone lost ↦ stays_apart world outs next p q why.Memory client
             (ap (λ (o : Outs). o.closing) closes) gone
       ];
     }
 
 -- The messages of a turn go to one peer.
-all_to : (p : ℕ) (text : Option (List ℕ))
-    → AllByRecursion (λ (m : Message). m.peer ≡ p)
-    (map (λ (t : List ℕ). record { peer = p; text = t }) (option_to_list text))
-all_to p None = tt
-all_to p (Some t) = (refl, tt)
+all_to : (p : ℕ) (texts : List (List ℕ))
+    → AllByRecursion (λ (m : Message). m.peer ≡ p) (map (λ (t : List ℕ). record { peer = p; text = t }) texts)
+all_to p [] = tt
+all_to p (t ∷ ts) = (refl, all_to p ts)
 
 abbrev pub ToOne : Outs → Type 0
 ToOne outs = (p : ℕ) × AllByRecursion (λ (m : Message). m.peer ≡ p) outs.messages
@@ -319,18 +360,26 @@ event_to_one tells world (says p (line bytes)) outs losses next t =
         → ToOne outs
     line_to_one tells world p bytes None outs losses next t = (0, rw t.0 tt)
     line_to_one tells world p bytes (Some session) outs losses next
-        (replied reply kept comes outs_is next_is) = (p, rw outs_is (all_to p reply.text))
+        (replied reply kept comes outs_is next_is) = (p, rw outs_is (all_to p (option_to_list reply.text)))
     line_to_one tells world p bytes (Some session) outs losses next
         (starved e kept comes outs_is next_is) = (p, rw outs_is tt)
 event_to_one tells world (says p too_long) outs losses next t = elim (either (is_client p world)) [
   | inl h ↦ let e = rw h at t in (0, rw e.0 tt)
   | inr h ↦ let e = rw h at t in (0, rw e.0 tt)
 ]
-event_to_one tells world (orders met) outs losses next t = lead_to_one _ world outs losses next t
+event_to_one tells world (orders met) outs losses next t = lead_to_one _ (begun world) outs losses next t
+
+notice_to_one : (world : World) (outs : Outs) (losses : List Device) (next : World)
+    → Notifies world outs losses next → ToOne outs
+notice_to_one world outs losses next (is_told session is outs_is next_is lossless) =
+    let told = notices (status world.side.chain world.side.kept) world.before world.side.chain session.client in
+    (session.peer, rw outs_is (all_to session.peer told))
+notice_to_one world outs losses next (fails session is outs_is next_is lost) = (0, rw outs_is tt)
 
 pub turn_to_one : (tells : Type 0) (world : World) (done : List Event) (outs : Outs) (losses : List Device)
     (next : World) → OneTurn tells world done outs losses next → ToOne outs
-turn_to_one tells world done outs losses next (takes event still is t) =
+turn_to_one tells world done outs losses next (takes event still all_told is t) =
     event_to_one tells world event outs losses next t
 turn_to_one tells world done outs losses next (works busy is t) = lead_to_one _ world outs losses next t
+turn_to_one tells world done outs losses next (notifies still is t) = notice_to_one world outs losses next t
 turn_to_one tells world done outs losses next (departs p client is closes gone lost) = (0, rw closes tt)

@@ -5,7 +5,8 @@ use Rattle.el_outside.specs.Counts.{RoseBy}
 use Rattle.el_outside.specs.Files.{AllGrow}
 use Rattle.el_outside.specs.Trace.{ArrivalWithBytes, opened, brought, closed, quiet, ended, Message, Closing}
 use Rattle.el_chain.specs.Chains.{Chain}
-use Rattle.el_world.specs.World.{World, without_node}
+use Rattle.el_subs.specs.Told.{AllTold, status}
+use Rattle.el_world.specs.World.{World, Session, without_node}
 use Rattle.el_outside.specs.Devices.{Device, link}
 use Rattle.el_world.specs.Run.{Run, Halts, Stop, by_disk, by_link, by_memory, files_left}
 use Rattle.el_world.specs.Flights.{acked, Flies}
@@ -67,6 +68,11 @@ abbrev pub taken : Bool → List ArrivalWithBytes → List ArrivalWithBytes
 taken true arrivals = arrivals
 taken false arrivals = map without_node arrivals
 
+-- what each client was told last of a script hash that it subscribes to is that one's status
+abbrev pub StatusesAreTold : World → Type 0
+StatusesAreTold world = AllByRecursion
+    (λ (session : Session). AllTold (status world.side.chain world.side.kept) session.client.subs) world.sessions
+
 -- The traffic is that of a run from the first world, all turns of which were made. `tells` is whether the
 -- block files tell their bytes, and `files` are those as they are in the end. `leaves` says of two chains
 -- that all that a crash may leave in the end stands for the one, which is acknowledged, or for the other,
@@ -76,6 +82,7 @@ pub record IsRun (tells : Type 0) (first : World) (node : Bool) (leaves : Chain 
   pub losses : List Device
   pub world : World
   pub run : Run tells first (taken node t.arrivals) t.messages t.closings losses world
+  pub statuses : StatusesAreTold world
   pub grown : tells → AllGrow world.side.files files
   pub counted : IsCounted c t losses failed
   pub crash : leaves world.side.chain world.side.chain

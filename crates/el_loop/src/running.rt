@@ -2,7 +2,7 @@
 ghost use Rattle.std.specs.Prelude.{◌≡◌, ◌≤◌, ℕ, List, [], length, OnOk, IfErr};
 ghost use Rattle.el_outside.specs.Files.{AllGrow};
 ghost use Rattle.el_outside.specs.Trace.{GoesOn, with_bytes};
-ghost use Rattle.el_world.specs.World.{World, Event, events, after_hearing};
+ghost use Rattle.el_world.specs.World.{World, Event, AllTold, events, after_hearing};
 ghost use Rattle.el_model.specs.Keeping.{LeavesEither};
 ghost use Rattle.el_core.specs.State.{State, Stands, AreUpTo, IsIdle};
 ghost use Rattle.el_core.specs.Arrivals.{with_all_bytes, IsAfterArrival, IsAbove, IsUpTo};
@@ -107,7 +107,7 @@ fn serve_arrival<G: Ledger, A: Archive, K: Link>(
     requires live { G.is_live server.old.ledger }
     requires idle { IsIdle server.old }
     requires new { (last : ℕ) × AreUpTo last server.old.clients × IsAbove last arrival }
-    ensures served { (world : World) → Stands G.stands server.old world []
+    ensures served { (world : World) → Stands G.stands server.old world [] → AllTold world
         → (A.tells → AllGrow world.side.files (A.bytes archive.old))
         → (K.tells → (next : World) (s : State G)
         → IsAfterArrival (with_all_bytes arrival bytes.now) world next s.surplus
@@ -116,7 +116,7 @@ fn serve_arrival<G: Ledger, A: Archive, K: Link>(
         (after_hearing (with_all_bytes arrival bytes.now) world)
         (events world (with_all_bytes arrival bytes.now))
         (snapshot server.old archive.old link.old) (snapshot server.new archive.new link.new)) }
-    ensures stopped { (world : World) → Stands G.stands server.old world []
+    ensures stopped { (world : World) → Stands G.stands server.old world [] → AllTold world
         → (A.tells → AllGrow world.side.files (A.bytes archive.old))
         → (K.tells → (next : World) (s : State G)
         → IsAfterArrival (with_all_bytes arrival bytes.now) world next s.surplus

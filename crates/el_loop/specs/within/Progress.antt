@@ -10,11 +10,11 @@ use Rattle.el_outside.specs.Trace.{Trace, ArrivalWithBytes, Message, Closing, Go
 use Rattle.el_chain.specs.Chains.{Chain}
 use Rattle.el_model.specs.declared.ledger.Ledger as ledger
 use Rattle.el_model.specs.LedgerCalls.{failed_calls}
-use Rattle.el_world.specs.World.{World, Event, is_client, without_node, IsStill, Outs}
+use Rattle.el_world.specs.World.{World, Event, is_client, without_node, IsStill, AllTold, Outs}
 use Rattle.el_world.specs.Run.{Stop, Turns, Stops, files_at, StopsIn, files_left, Delivers, Run}
 use Rattle.el_world.specs.Flights.{acked, FliesAt, Flies}
 use Rattle.el_core.specs.State.{State, Stands}
-use Rattle.el_loop.specs.Runs.{NoneEnds, taken}
+use Rattle.el_loop.specs.Runs.{NoneEnds, taken, StatusesAreTold}
 use Rattle.el_loop.specs.within.Sending.{AllOpen, CanSend}
 
 -- the clients of the world, and the one too many, are open
@@ -102,7 +102,7 @@ module _ {G A K : Type 0} (of_ledger : ledger.Ghosts G) (of_files : archive.Ghos
     pub went : WentOn before now [] messages closings losses
     pub ready : IsReady world now
 
-  -- All of these events are done, and the node's last line leaves nothing to do.
+  -- All of these events are done, and the node's last line leaves nothing to do and nobody to be told.
   pub record Finished (first : World) (all : List Event) (before now : Snapshot G A K) : Type 0 where
     pub messages : List Message
     pub closings : List Closing
@@ -110,6 +110,8 @@ module _ {G A K : Type 0} (of_ledger : ledger.Ghosts G) (of_files : archive.Ghos
     pub world : World
     pub turns : Turns of_files.tells first all messages closings losses world
     pub still : IsStill world
+    pub told : AllTold world
+    pub statuses : StatusesAreTold world
     pub stood : Stands of_ledger.stands now.server world []
     pub went : WentOn before now [] messages closings losses
     pub ready : IsReady world now
@@ -157,6 +159,8 @@ module _ {G A K : Type 0} (of_ledger : ledger.Ghosts G) (of_files : archive.Ghos
     pub losses : List Device
     pub world : World
     pub run : Run of_files.tells first (taken node arrivals) messages closings losses world
+    pub told : AllTold world
+    pub statuses : StatusesAreTold world
     pub stood : Stands of_ledger.stands now.server world []
     pub none_ends : NoneEnds arrivals
     pub counted : length arrivals ≡ count

@@ -70,7 +70,7 @@ returns-in-Err-clause-ends g c = λ first stood nobody files.
     is going.ready.are_open (λ t p lt. g.met.K.Link.greater_is_new c.loop-turn.link p t lt)
     c.in-Ok.ensures.lawful
     c.in-Ok.ensures.took in
-    let stopped = c.in-Err.ensures.stopped going.world going.stood going.ready.grown are in
+    let stopped = c.in-Err.ensures.stopped going.world going.stood going.told going.ready.grown are in
     rw c.end.ensures (told_halt g.G.Ledger g.A.Archive g.K.Link first c.args.options.node _
     c.args.options.turns
     (snapshot c.args.server.now c.args.archive.now c.args.link.now)
@@ -98,7 +98,7 @@ returns-then-ends-clause-ends g c = λ first stood nobody files.
     is going.ready.are_open (λ t p lt. g.met.K.Link.greater_is_new c.loop-turn.link p t lt)
     c.in-Ok.ensures.lawful
     c.in-Ok.ensures.took in
-    let done = c.in_default-serve_arrival.ensures.served going.world going.stood going.ready.grown are in
+    let done = c.in_default-serve_arrival.ensures.served going.world going.stood going.told going.ready.grown are in
     told_ended g.G.Ledger g.A.Archive g.K.Link _ first c.args.options.node c.loop-turn._turn
     c.args.options.turns (with_bytes c.in-Ok.arrival c.next.new.buf) _
     (snapshot c.serve_arrival.new.server c.serve_arrival.new.archive c.serve_arrival.new.link)
@@ -125,7 +125,7 @@ loop-turn-preserved g c = record {
       c.next.new.buf (with_all_bytes c.as_taken-taken.result c.brought.result.now) _ _ _ _
       is going.ready.are_open (λ t p lt. g.met.K.Link.greater_is_new c.loop-turn.link p t lt)
       c.in-Ok.ensures.lawful c.in-Ok.ensures.took in
-      let done = c.in_default-serve_arrival.ensures.served going.world going.stood going.ready.grown are in
+      let done = c.in_default-serve_arrival.ensures.served going.world going.stood going.told going.ready.grown are in
       going_more g.G.Ledger g.A.Archive g.K.Link first c.args.options.node c.loop-turn._turn
       (with_bytes c.in-Ok.arrival c.next.new.buf) _ _
       (one_further g.G.Ledger g.A.Archive g.K.Link first c.args.options.node c.loop-turn._turn

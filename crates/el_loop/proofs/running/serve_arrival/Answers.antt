@@ -3,36 +3,36 @@ use Rattle.el_loop.proofs.Arrivals.{arrival_done, arrival_stopped, arrival_lost,
 use Rattle.el_loop.proofs.running.serve_arrival.Goals as goal
 
 pub returns-in-Ok-clause-served : goal.returns-in-Ok-clause-served
-returns-in-Ok-clause-served g c = λ world stood grown are.
+returns-in-Ok-clause-served g c = λ world stood told grown are.
     let t = c.in-Ok.ensures.taken world stood in
     let still = sym stood.ahead ∙ c.requires.idle.ahead in
     let same = taken_files g.G.Ledger.stands _ world c.take.new.self t in
     let done = c.work_off.ensures.finished t.next t.left t.stood (record {
-      are_open = λ told. are told t.next c.take.new.self t.after;
-      grown = λ told. rw same (grown told);
+      are_open = λ tells. are tells t.next c.take.new.self t.after;
+      grown = λ tells. rw same (grown tells);
     }) in
     on_ok _ _ c.work_off.result (λ f. arrival_done g.G.Ledger g.A.Archive g.K.Link _ world c.args.server.now
-    c.take.new.self _ _ _ still c.in-Ok.ensures.ledger t f)
+    c.take.new.self _ _ _ still told c.in-Ok.ensures.ledger t f)
     done
 
 pub returns-in-Ok-clause-stopped : goal.returns-in-Ok-clause-stopped
-returns-in-Ok-clause-stopped g c = λ world stood grown are.
+returns-in-Ok-clause-stopped g c = λ world stood told grown are.
     let t = c.in-Ok.ensures.taken world stood in
     let still = sym stood.ahead ∙ c.requires.idle.ahead in
     let same = taken_files g.G.Ledger.stands _ world c.take.new.self t in
     let stopped = c.work_off.ensures.stopped t.next t.left t.stood (record {
-      are_open = λ told. are told t.next c.take.new.self t.after;
-      grown = λ told. rw same (grown told);
+      are_open = λ tells. are tells t.next c.take.new.self t.after;
+      grown = λ tells. rw same (grown tells);
     }) in
     if_err _ _ c.work_off.result (λ e f. arrival_stopped g.G.Ledger g.A.Archive g.K.Link _ _ world
-    c.args.server.now c.take.new.self _ _ _ _ still c.in-Ok.ensures.ledger t f)
+    c.args.server.now c.take.new.self _ _ _ _ still told c.in-Ok.ensures.ledger t f)
     stopped
 
 pub returns-in-Err-clause-stopped : goal.returns-in-Err-clause-stopped
-returns-in-Err-clause-stopped g c = λ world stood grown are.
+returns-in-Err-clause-stopped g c = λ world stood told grown are.
     rw c.in-Err.ensures.refused (arrival_lost g.G.Ledger g.A.Archive g.K.Link _ _ world _
     c.in-Err.ensures.memory grown
-    (λ told left now. inl (g.met.G.Ledger.leaves_own c.args.server.now.ledger world.side.chain left told
+    (λ tells left now. inl (g.met.G.Ledger.leaves_own c.args.server.now.ledger world.side.chain left tells
     c.requires.live
     stood.chain now)))
 
