@@ -15,6 +15,7 @@ usage: .ci/docs.py [PASSED FAILED]    checks; the last line is 'N passed, M fail
 import os
 import re
 import sys
+import textwrap
 
 TOP = os.path.dirname(os.path.dirname(os.path.abspath(__file__)))
 CRATES = os.path.join(TOP, "crates")
@@ -70,15 +71,6 @@ class Source:
                     self.names.setdefault(made.group(1), part)
                 if not re.match(r"\s*(--|//)", line):
                     self.parts[part] += line + "\n"
-
-    def about(self):
-        """The first sentence of the comment that the file begins with."""
-        lines = []
-        for line in self.text.splitlines():
-            if not line.startswith(("--", "//")):
-                break
-            lines.append(line[2:].strip())
-        return re.split(r"(?<=[.])\s", " ".join(lines))[0].rstrip(".")
 
 
 class Sources:
@@ -200,16 +192,20 @@ def list_of(sources, parts):
     items = in_reading_order(sources, {path for path, _ in parts if path.endswith(".rt")})
     count = sum(sources.at(path).parts[name].count("\n") for path, name in parts if path.endswith(".antt"))
     lines = [f"{len(definitions)} files of definitions, of which about {round(count, -2)} lines are needed:", ""] if parts else ["Nothing."]
-    if definitions:
-        lines += ["| File below `crates/` | What it has |", "|---|---|"]
-        lines += [f"| `{path}` | {sources.at(path).about()} |" for path in definitions]
+    lines += by_folder((path, [os.path.basename(path).removesuffix(".antt")]) for path in definitions)
     if items:
         lines += ["", "The types, traits and constants of the program that they speak of:", ""]
-        lines += ["| File below `crates/` | Names |", "|---|---|"]
-        for path in items:
-            names = [f"`{name}`" for name in sources.at(path).parts if (path, name) in parts]
-            lines.append(f"| `{path}` | {', '.join(names)} |")
+        lines += by_folder((path, [name for name in sources.at(path).parts if (path, name) in parts]) for path in items)
     return lines
+
+
+def by_folder(files):
+    """One item for each folder, with what is named of its files in their order; each file is a path and these names."""
+    folders = {}
+    for path, names in files:
+        folders.setdefault(os.path.dirname(path), []).extend(f"`{name}`" for name in names)
+    wide = dict(width=COLUMNS, subsequent_indent="  ", break_long_words=False, break_on_hyphens=False)
+    return [line for folder, names in folders.items() for line in textwrap.wrap(f"- `{folder}`: {', '.join(names)}", **wide)]
 
 
 def with_lists(page):
@@ -244,10 +240,10 @@ def wrong_rules():
         if len(row) != len(rows[0]):
             yield f"docs/RULES.md: a row has other cells than the heading: {row[0]}"
         for column, cell in list(zip(rows[0], row))[1:]:
-            parts = re.findall(r"([^;]+?) in `([^`]+)`", cell)
-            if not parts:
-                yield f"docs/RULES.md: no file in the cell: {cell}"
-            for words, path in parts:
+            parts = re.findall(r"`([^`]+)`: ([^;]+)", cell)
+            if len(parts) != cell.count(";") + 1:
+                yield f"docs/RULES.md: not a file and its words, or several with ';' between: {cell}"
+            for path, words in parts:
                 if not os.path.isfile(os.path.join(CRATES, path)):
                     yield f"docs/RULES.md: no file {path}"
                 else:

@@ -315,6 +315,41 @@ def status_of(lines):
     return hashlib.sha256("".join(lines).encode()).hexdigest()
 
 
+def read_tx(data, at):
+    """Of a transaction that begins there: where it ends, the coins that it spends, and the scripts that it pays to."""
+    count, at, coins, scripts = data[at + 4], at + 5, [], []
+    for _ in range(count):
+        coins.append(data[at:at + 36])
+        at += 41 + data[at + 36]
+    count, at = data[at], at + 1
+    for _ in range(count):
+        scripts.append(data[at + 9:at + 9 + data[at + 8]])
+        at += 9 + data[at + 8]
+    return at + 4, coins, scripts
+
+
+def statuses(chain, kept=()):
+    """The status of each script that these blocks, and then unconfirmed transactions, pay to, by a scan of them. No
+    unconfirmed one spends another."""
+    owners, lines = {}, {}
+
+    def scan(data, at, height):
+        end, coins, scripts = read_tx(data, at)
+        hash_bytes = double(data[at:end])
+        owners.update((hash_bytes + number(place), script) for place, script in enumerate(scripts))
+        for owner in {*scripts, *(owners[coin] for coin in coins if coin in owners)}:
+            lines.setdefault(owner, []).append(f"{shown(hash_bytes)}:{height}:")
+        return end
+
+    for height, data in enumerate(chain):
+        at = 81
+        for _ in range(data[80]):
+            at = scan(data, at, height)
+    for tx in kept:
+        scan(tx, 0, 0)
+    return {owner: status_of(entries) for owner, entries in lines.items()}
+
+
 def start(program, words, **streams):
     # Without a buffer, so that what is left behind a line that was read is still there at the end.
     return subprocess.Popen([program, *words], stderr=subprocess.PIPE, bufsize=0, **streams)
@@ -366,6 +401,13 @@ class Peer:
     def hears(self, count=1):
         """So many lines that the program sends; fewer where it ends the connection."""
         return b"".join(self.lines.readline() for _ in range(count))
+
+    def has_come(self):
+        """What came and was not heard yet, of the first 65,536 bytes."""
+        try:
+            return self.socket.recv(65_536, socket.MSG_PEEK | socket.MSG_DONTWAIT)
+        except BlockingIOError:
+            return b""
 
     def asks(self, given, size=None):
         """The lines that answer these lines, one each."""
@@ -905,32 +947,66 @@ def odd_lines(program):
     return did, (b"".join(answer for _, answer in ODD_LINES), ENDED)
 
 
-# What a wallet sends as it starts, and what it is told, line by line.
-WALLET = b"".join([
-    b'{"jsonrpc":"2.0","id":0,"method":"server.version","params":["electrum/4.5",["1.4","1.4.2"]]}\n',
-    request("server.features", number=1),
-    request("blockchain.headers.subscribe", number=2),
-    request("blockchain.block.headers", [0, 2016], 3),
-    *(request("blockchain.scripthash.subscribe", [script_hash(k)], 4 + k) for k in range(40)),
-    request("blockchain.estimatefee", [2], 44),
-    request("blockchain.relayfee", number=45),
-    request("mempool.get_fee_histogram", number=46),
-    request("server.ping", number=47),
-    request("server.version", number=48),
-])
-WALLET_TOLD = b"".join([
-    b'{"id":0,"jsonrpc":"2.0","result":["el_serve 1.0","1.4"]}\n',
-    b'{"id":1,"jsonrpc":"2.0","result":{"genesis_hash":"%s","hash_function":"sha256","hosts":{},"protocol_max":"1.4",'
-    b'"protocol_min":"1.4","pruning":null,"server_version":"el_serve 1.0"}}\n' % GENESIS_HASH.encode(),
-    b'{"id":2,"jsonrpc":"2.0","result":{"height":1,"hex":"%s"}}\n' % HEX1.encode(),
-    b'{"id":3,"jsonrpc":"2.0","result":{"count":2,"hex":"%s","max":2016}}\n' % (HEX0 + HEX1).encode(),
-    *(b'{"id":%d,"jsonrpc":"2.0","result":null}\n' % (4 + k) for k in range(40)),
-    b'{"id":44,"jsonrpc":"2.0","result":-1}\n',
-    b'{"id":45,"jsonrpc":"2.0","result":0}\n',
-    b'{"id":46,"jsonrpc":"2.0","result":[]}\n',
-    b'{"id":47,"jsonrpc":"2.0","result":null}\n',
-    b'{"error":{"code":1,"message":"version already agreed"},"id":48,"jsonrpc":"2.0"}\n',
-])
+def wallet(scripts):
+    """What a wallet of forty scripts sends as it starts."""
+    return b"".join([
+        b'{"jsonrpc":"2.0","id":0,"method":"server.version","params":["electrum/4.5",["1.4","1.4.2"]]}\n',
+        request("server.features", number=1),
+        request("blockchain.headers.subscribe", number=2),
+        request("blockchain.block.headers", [0, 2016], 3),
+        *(request("blockchain.scripthash.subscribe", [script_hash(k)], number) for number, k in enumerate(scripts, 4)),
+        request("blockchain.estimatefee", [2], 44),
+        request("blockchain.relayfee", number=45),
+        request("mempool.get_fee_histogram", number=46),
+        request("server.ping", number=47),
+        request("server.version", number=48),
+    ])
+
+
+def wallet_told(scripts, chain):
+    """What it is told over a chain, line by line."""
+    headers = [data[:80].hex().encode() for data in chain]
+    told = statuses(chain)
+    return b"".join([
+        b'{"id":0,"jsonrpc":"2.0","result":["el_serve 1.0","1.4"]}\n',
+        b'{"id":1,"jsonrpc":"2.0","result":{"genesis_hash":"%s","hash_function":"sha256","hosts":{},'
+        b'"protocol_max":"1.4","protocol_min":"1.4","pruning":null,"server_version":"el_serve 1.0"}}\n'
+        % block_id(chain[0]).encode(),
+        b'{"id":2,"jsonrpc":"2.0","result":{"height":%d,"hex":"%s"}}\n' % (len(chain) - 1, headers[-1]),
+        b'{"id":3,"jsonrpc":"2.0","result":{"count":%d,"hex":"%s","max":2016}}\n' % (len(chain), b"".join(headers)),
+        *(b'{"id":%d,"jsonrpc":"2.0","result":%s}\n' % (number, json.dumps(told.get(script(k))).encode())
+          for number, k in enumerate(scripts, 4)),
+        b'{"id":44,"jsonrpc":"2.0","result":-1}\n',
+        b'{"id":45,"jsonrpc":"2.0","result":0}\n',
+        b'{"id":46,"jsonrpc":"2.0","result":[]}\n',
+        b'{"id":47,"jsonrpc":"2.0","result":null}\n',
+        b'{"error":{"code":1,"message":"version already agreed"},"id":48,"jsonrpc":"2.0"}\n',
+    ])
+
+
+WALLET, WALLET_TOLD = wallet(range(40)), wallet_told(range(40), [GENESIS, BLOCK1])
+
+
+def tip_news(chain):
+    """What a client that subscribes to headers is told of a new tip."""
+    return (
+        b'{"jsonrpc":"2.0","method":"blockchain.headers.subscribe","params":[{"height":%d,"hex":"%s"}]}\n'
+        % (len(chain) - 1, chain[-1][:80].hex().encode()))
+
+
+def script_news(k, told):
+    """What a client that subscribes to a script is told where these are the statuses now."""
+    return (
+        b'{"jsonrpc":"2.0","method":"blockchain.scripthash.subscribe","params":["%s",%s]}\n'
+        % (script_hash(k).encode(), json.dumps(told.get(script(k))).encode()))
+
+
+def news_of(scripts, was, now, kept_before=(), kept_now=()):
+    """What a client that subscribes to headers and these scripts is told where one chain became another one."""
+    before, after = statuses(was, kept_before), statuses(now, kept_now)
+    changed = [k for k in scripts if after.get(script(k)) != before.get(script(k))]
+    tip = b"" if was[-1] == now[-1] else tip_news(now)
+    return tip + b"".join(script_news(k, after) for k in changed)
 
 
 def start_of_a_wallet(program):
@@ -1025,11 +1101,11 @@ def node_leads_to_another_branch(program):
     at = os.path.getsize("a/blk00000.dat")
     with open("a/blk00000.dat", "ab") as blocks:
         blocks.write(record(B3, REGTEST))
-    told += node.asks(tip_line(B3) + b"block 0 %d\n" % at + tip_line(B3), 7)
+    told += node.asks(tip_line(B3) + b"block 0 %d\n" % at + tip_line(B3), 7) + client.hears()
     second = told_of(client, 1)
     wanted = (
         at_line(A2, 2) + b"refused unknown %s\n" % block_id(B3).encode() + b"block %s\n" % block_id(B3).encode()
-        + at_line(B3, 3),
+        + at_line(B3, 3) + script_news(1, statuses([ZERO, B1, B2, B3])),
         seen([(1, txid(MOVED))], 2_500_000_000), seen([(2, txid(MOVED))], 2_500_000_000),
     )
     return it.ends((told, first, second), node), (wanted, ENDED)
@@ -1044,14 +1120,17 @@ def node_tells_of_unconfirmed_transactions(program):
     told = node.asks(tip_line(ZERO) + tx_line(PARENT) + tx_line(CHILD))
     first = [told_of(client, k) for k in (101, 1, 2)]
     got = answered(client.asks(requests([("blockchain.transaction.get", txid(CHILD))])))
-    told += node.asks(tip_line(holding))
+    told += node.asks(tip_line(holding)) + client.hears(3)
     second = [told_of(client, k) for k in (1, 2)]
-    told += node.asks(b"drop %s\n" % txid(CHILD).encode() * 2)
+    told += node.asks(b"drop %s\n" % txid(CHILD).encode() * 2) + client.hears(2)
     third = told_of(client, 2)
+    moved, dropped = statuses([ZERO, holding], [CHILD]), statuses([ZERO, holding])
     parent, child, base = txid(PARENT), txid(CHILD), txid(BASE)
     wanted = (
         at_line(ZERO, 0) + b"tx %s\ntx %s\n" % (parent.encode(), child.encode()) + at_line(holding, 1)
-        + b"gone %s\nrefused absent %s\n" % (child.encode(), child.encode()),
+        + b"".join(script_news(k, moved) for k in (101, 1, 2))
+        + b"gone %s\nrefused absent %s\n" % (child.encode(), child.encode())
+        + script_news(1, dropped) + script_news(2, dropped),
         [
             seen([(0, base)], 5_000_000_000, -5_000_000_000, [(parent, 0, 0)]),
             seen([], 0, 0, sorted([(parent, 0, 0), (child, -1, 0)])),
@@ -1125,17 +1204,104 @@ def node_says_other_lines(program):
     return it.ends(told, node), (b"".join(answer for _, answer in given), ENDED)
 
 
-def client_too_many(program):
+def two_wallets_are_told_of_blocks(program):
+    # the node has its answer before a client is told, and clients are told in the order in which they came
+    os.mkdir("index")
+    put("a/blk00000.dat", b"".join(record(it, REGTEST) for it in (ZERO, A1, A2, B1, B2, B3)))
+    it = Served(program, network="regtest")
+    node = it.node()
+    told = node.asks(tip_line(ZERO))
+    wallets = [(it.client(), range(40)), (it.client(), range(119, 79, -1))]
+    told += b"".join(client.asks(wallet(scripts)) for client, scripts in wallets)
+    wanted = at_line(ZERO, 0) + b"".join(wallet_told(scripts, [ZERO]) for _, scripts in wallets)
+    chains = [[ZERO], [ZERO, A1], [ZERO, A1, A2], [ZERO, B1, B2, B3]]
+    in_order = []
+    for was, now in zip(chains, chains[1:]):
+        news = [news_of(scripts, was, now) for _, scripts in wallets]
+        answer = at_line(now[-1], len(now) - 1)
+        node.says(tip_line(now[-1]))
+        heard = wallets[1][0].hears(news[1].count(b"\n"))
+        in_order.append(wallets[0][0].has_come() == news[0] and node.has_come() == answer)
+        told += node.hears() + wallets[0][0].hears(news[0].count(b"\n")) + heard
+        wanted += answer + b"".join(news)
+    told += b"".join(client.asks(request("server.ping")) for client, _ in wallets)
+    wanted += b'{"id":1,"jsonrpc":"2.0","result":null}\n' * 2
+    return it.ends((told, in_order), node), ((wanted, [True] * 3), ENDED)
+
+
+def clients_are_told_of_unconfirmed_transactions(program):
+    # nobody is told of a line that changes nothing, and of the tip only where it is another one
+    os.mkdir("index")
+    holding = block(ZERO, 1, 0, [coinbase(1, 0, 7), PARENT])
+    put("a/blk00000.dat", record(ZERO, REGTEST) + record(holding, REGTEST))
+    it = Served(program, network="regtest")
+    node, client = it.node(), it.client()
+    scripts = [1, 2, 101, 7]
+    told = node.asks(tip_line(ZERO))
+    client.asks(request("blockchain.headers.subscribe"))
+    client.asks(requests(("blockchain.scripthash.subscribe", script_hash(k)) for k in scripts))
+    parent = txid(PARENT).encode()
+    steps = [
+        (tx_line(PARENT), b"tx %s\n" % parent, ([ZERO], [ZERO], (), [PARENT])),
+        (tx_line(PARENT), b"refused known %s\n" % parent, None),
+        (b"block 0 0\n", b"block %s\n" % block_id(ZERO).encode(), None),
+        (b"drop %s\n" % parent, b"gone %s\n" % parent, ([ZERO], [ZERO], [PARENT], ())),
+        (tx_line(PARENT), b"tx %s\n" % parent, ([ZERO], [ZERO], (), [PARENT])),
+        (tip_line(holding), at_line(holding, 1), ([ZERO], [ZERO, holding], [PARENT], ())),
+        (tip_line(holding), at_line(holding, 1), None),
+    ]
+    wanted = at_line(ZERO, 0)
+    for line, answer, change in steps:
+        told += node.asks(line)
+        news = news_of(scripts, *change) if change else b""
+        told += client.hears(news.count(b"\n")) + client.asks(request("server.ping"))
+        wanted += answer + news + b'{"id":1,"jsonrpc":"2.0","result":null}\n'
+    return it.ends(told, node), (wanted, ENDED)
+
+
+def three_clients_of_whom_one_leaves(program):
+    # the second one breaks off; the others are told on, and one that comes later is told of what comes later
+    os.mkdir("index")
+    put("a/blk00000.dat", b"".join(record(it, REGTEST) for it in (ZERO, A1, A2)))
+    it = Served(program, network="regtest")
+    node, clients = it.node(), [it.client() for _ in range(3)]
+    subscribes = requests([
+        ("blockchain.headers.subscribe",), ("blockchain.scripthash.subscribe", script_hash(101)),
+        ("blockchain.scripthash.subscribe", script_hash(1)),
+    ])
+    told = node.asks(tip_line(ZERO))
+    for client in clients:
+        client.asks(subscribes)
+    clients.pop(1).resets()
+    news = news_of([101, 1], [ZERO], [ZERO, A1])
+    told += node.asks(tip_line(A1)) + b"".join(client.hears(news.count(b"\n")) for client in clients)
+    clients.append(it.client())
+    clients[2].asks(subscribes)
+    later = news_of([101, 1], [ZERO, A1], [ZERO, A1, A2])
+    told += node.asks(tip_line(A2)) + b"".join(client.hears(later.count(b"\n")) for client in clients)
+    wanted = at_line(ZERO, 0) + at_line(A1, 1) + news * 2 + at_line(A2, 2) + later * 3
+    return it.ends(told, node), (wanted, ENDED)
+
+
+def as_many_clients_as_may_be(program):
+    # one more is closed unheard; all others are told; and where one leaves another one may come
     os.mkdir("index")
     put("a/blk00000.dat", GOOD)
     it = Served(program)
-    node, first = it.node(), it.client()
-    told = node.asks(tip_line(BLOCK1)) + first.asks(ONE)
-    second = it.client()
-    told += second.rest() + first.asks(ONE)
-    first.leaves()
+    node, clients = it.node(), [it.client() for _ in range(256)]
+    told = node.asks(tip_line(GENESIS))
+    answers = {client.asks(request("blockchain.headers.subscribe")) for client in clients}
+    told += it.client().rest() + node.asks(tip_line(BLOCK1))
+    news = {client.hears() for client in clients}
+    clients.pop(100).leaves()
     told += it.next_client_says(ONE)
-    return it.ends(told, node), (at_line(BLOCK1, 1) + FOUND * 3, ENDED)
+    told += b"".join(client.asks(ONE) for client in clients)
+    wanted = (
+        at_line(GENESIS, 0) + at_line(BLOCK1, 1) + FOUND * 256,
+        {b'{"id":1,"jsonrpc":"2.0","result":{"height":0,"hex":"%s"}}\n' % HEX0.encode()},
+        {tip_news([GENESIS, BLOCK1])},
+    )
+    return it.ends((told, answers, news), node), (wanted, ENDED)
 
 
 def client_that_breaks_off(program):
@@ -1179,21 +1345,27 @@ def client_of_a_line_that_is_too_long(program):
 
 
 def client_that_reads_slowly(program):
-    # more is unsent for it than is kept for a client that is still read; its last request is answered all the same
+    # more is unsent for it than is kept for a client that is still read; its last request is answered all the same, and
+    # another client is answered and told meanwhile
     os.mkdir("index")
     big = coinbase(0, 0, 1).replace(b"\x05" + script(1), b"\xfe" + number(900_000) + b"x" * 900_000)
     first = block(None, 0, 0, [big])
-    put("a/blk00000.dat", record(first, REGTEST))
+    second = block(first, 1, 0, [coinbase(1, 0, 1)])
+    put("a/blk00000.dat", record(first, REGTEST) + record(second, REGTEST))
     it = Served(program, network="regtest")
-    node, client = it.node(), it.client()
-    told = node.asks(tip_line(first))
+    node, client, other = it.node(), it.client(), it.client()
+    told = node.asks(tip_line(first)) + other.asks(request("blockchain.headers.subscribe"))
     asked = [("blockchain.transaction.get", txid(big))] * 12
     client.says(requests(asked))
     time.sleep(2)
+    told += node.asks(tip_line(second)) + other.hears()
     client.says(request("server.ping", number=13))
     answers = answered(client.hears(13))
     whole = [answer == big.hex() for answer in answers[:12]]
-    return it.ends((told, whole, answers[12]), node), ((at_line(first, 0), [True] * 12, None), ENDED)
+    wanted = (
+        at_line(first, 0) + b'{"id":1,"jsonrpc":"2.0","result":{"height":0,"hex":"%s"}}\n' % first[:80].hex().encode()
+        + at_line(second, 1) + tip_news([first, second]))
+    return it.ends((told, whole, answers[12]), node), ((wanted, [True] * 12, None), ENDED)
 
 
 def second_node(program):
@@ -1215,6 +1387,20 @@ def node_that_sends_no_more(program):
     node = it.node()
     told = node.says_all(tip_line(GENESIS) + b"tip")
     return it.ends(told, node), (at_line(GENESIS, 0), ENDED)
+
+
+def node_that_leaves_in_a_line(program):
+    # it breaks off as soon as it has said a line of several moves: what comes to be answered can't be sent
+    os.mkdir("index")
+    chain = [ZERO]
+    for height in range(1, 60):
+        chain.append(block(chain[-1], height, 0, [coinbase(height, 0, 101)]))
+    put("a/blk00000.dat", b"".join(record(it, REGTEST) for it in chain))
+    it = Served(program, network="regtest")
+    node, client = it.node(), it.client()
+    node.says(tip_line(chain[-1]))
+    node.resets()
+    return it.ends(client.rest(), node), (b"", LINK_FAILED)
 
 
 def killed_after_a_move(program):
@@ -1371,8 +1557,12 @@ CASES = [
     node_tells_of_a_confirmed_transaction,
     node_says_other_lines,
     node_that_sends_no_more,
+    node_that_leaves_in_a_line,
     second_node,
-    client_too_many,
+    as_many_clients_as_may_be,
+    three_clients_of_whom_one_leaves,
+    two_wallets_are_told_of_blocks,
+    clients_are_told_of_unconfirmed_transactions,
     client_that_breaks_off,
     client_of_another_version,
     client_of_a_line_that_is_too_long,

@@ -60,6 +60,7 @@ module _ (P : Chain → Chain → Type 0) where
       losses = r.losses;
       world = r.world;
       run = r.run;
+      statuses = r.statuses;
       grown = r.grown;
       counted = r.counted;
       crash = both r.world.side.chain r.world.side.chain;

@@ -106,6 +106,7 @@ module _ (c : Counts) (of_before of_after : Faults) (rises : (losses : List Devi
     losses = r.losses;
     world = r.world;
     run = r.run;
+    statuses = r.statuses;
     grown = r.grown;
     counted = counted_told t r.losses failed r.counted;
     crash = gives r.world.side.chain r.world.side.chain r.crash;

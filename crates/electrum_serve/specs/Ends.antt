@@ -145,9 +145,9 @@ IsUnserved status.BadChain = Unit {0}
 IsUnserved other = ⊥
 
 -- How a call ends. The words of `serve` ask for an index on a disk, which reads as that of `chain`, and give
--- the limits of the unconfirmed set; `was`
--- was acknowledged before, and `flight` was in flight. `leaves` says of a magic and two chains that all that
--- a crash may leave of the disk in the end stands for the one or for the other, as an index of that network.
+-- the limits of the unconfirmed set; `was` was acknowledged before, and `flight` was in flight. `leaves` says
+-- of a magic and two chains that all that a crash may leave of the disk in the end stands for the one or for
+-- the other, as an index of that network.
 pub data Ends {A : Type 0} (tells : Type 0) (bytes : A → ℕ → List ℕ) (file_count : A → ℕ)
     (words : List (List ℕ)) (was flight chain : Chain) (leaves : List ℕ → Chain → Chain → Type 0) (c : Counts)
     (before after : A) (t : Traffic) (s : Status) : Type 0 where

@@ -86,6 +86,7 @@ pub(super) fn call_steady(
 // Which call of each device fails, from 1 on, and 0 for none; and how many calls of `next` may be made.
 #[derive(Clone, Copy)]
 pub(super) struct Failing {
+    pub(super) disk: u64,
     pub(super) archive: u64,
     pub(super) next: u64,
     pub(super) send: u64,
@@ -93,6 +94,7 @@ pub(super) struct Failing {
 }
 
 pub(super) const NONE_FAILS: Failing = Failing {
+    disk: 0,
     archive: 0,
     next: 0,
     send: 0,
@@ -100,13 +102,14 @@ pub(super) const NONE_FAILS: Failing = Failing {
 };
 
 // How a call over devices that may fail ended, and what was sent and closed; how often the archive was
-// called, and how many calls of the archive and of the link failed.
+// called, and how many calls of the archive and of the link failed; and the disk as it then stands.
 #[derive(Drop)]
 pub(super) struct Counted {
     pub(super) status: Status,
     pub(super) text: String,
     pub(super) archive_calls: u64,
     pub(super) faults: (u64, u64),
+    pub(super) disk: MemDisk,
 }
 
 // A call over devices of which these calls fail.
@@ -121,11 +124,17 @@ pub(super) fn call_failing(
     let nexts = Vec::from_slice(alloc, &[fails.next])?;
     let sends = Vec::from_slice(alloc, &[fails.send])?;
     let mut link = MemLink::new(alloc, coming, nexts, sends)?;
-    let status = serve_over(alloc, words, &mut archive, &mut link, fails.turns)?;
+    let failing = FailingCalls {
+        listed: Vec::from_slice(alloc, &[fails.disk])?,
+        ..failing_from(alloc, None)
+    };
+    let disk = MemDisk::new(alloc, failing);
+    let (status, disk) = serve_on(alloc, words, disk, &mut archive, &mut link, fails.turns)?;
     Ok(Counted {
         status,
         text: transcript(alloc, link.sent(), link.closed())?,
         archive_calls: archive.calls(),
         faults: (archive.faults(), link.faults()),
+        disk,
     })
 }

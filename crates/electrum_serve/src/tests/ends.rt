@@ -98,6 +98,74 @@ fn turns_that_end(rt: HostRuntime) -> Result<(), Fail> {
     Ok(())
 }
 
+// A peer that leaves: what comes; which send fails, since the peer is gone by then, and 0 for none; how the
+// run ends, and what is sent and closed.
+const LEAVING: [(&[Step<'static>], u64, Status, &str); 7] = [
+    // the node at rest, and in a line
+    (
+        &[Opens(1), Says(0, "tip {a0}\n"), Leaves(0), Says(1, "{}\n")],
+        0,
+        Status::Ended,
+        "0 at {a0} 0\n",
+    ),
+    (
+        &[Says(0, "tip {a0}\ntip {a0}"), Leaves(0)],
+        0,
+        Status::Ended,
+        "0 at {a0} 0\n",
+    ),
+    // before its answer
+    (
+        &[Says(0, "tip {a0}\n"), Leaves(0)],
+        1,
+        Status::LinkFailed,
+        "",
+    ),
+    (
+        &[Says(0, "block 0 0\ntip {a0}\nx\n"), Leaves(0)],
+        2,
+        Status::LinkFailed,
+        "0 block {a0}\n",
+    ),
+    (
+        &[Opens(1), Says(1, "{}\n"), Says(0, "x\n"), Leaves(0)],
+        2,
+        Status::LinkFailed,
+        "1 {invalid}\n",
+    ),
+    // a client at rest, and before its answer
+    (
+        &[Opens(1), Says(1, "{}\n{"), Leaves(1), Says(0, "tip {a0}\n")],
+        0,
+        Status::Ended,
+        "1 {invalid}\n0 at {a0} 0\n",
+    ),
+    (
+        &[
+            Opens(1),
+            Says(1, "{}\n{}\n"),
+            Leaves(1),
+            Says(0, "tip {a0}\n"),
+        ],
+        1,
+        Status::Ended,
+        "0 at {a0} 0\nclosed 1 Gone\n",
+    ),
+];
+
+#[test]
+fn peers_that_leave(rt: HostRuntime) -> Result<(), Fail> {
+    let alloc = rt.alloc();
+    for (steps, send, status, sent) in LEAVING {
+        let files = files_of(alloc, Files::Branch(1))?;
+        let fails = Failing { send, ..NONE_FAILS };
+        let found = call_failing(alloc, SERVE, files, coming(alloc, steps, 1_000)?, fails)?;
+        assert_eq!(rt; found.text.as_str(), named(alloc, sent)?.as_str());
+        assert_eq!(rt; found.status, status);
+    }
+    Ok(())
+}
+
 // The words, the files, and how the call ends.
 const CHAINS: [(&str, Files, Status); 11] = [
     (ONCE_MAIN, Files::Parts(&[Block(BLOCK_1)]), Status::BadChain),

@@ -10,32 +10,57 @@ use el_gen::{block, coinbase, spend};
 use el_tx::{Outpoint, Tx, txid};
 use std::alloc::Global;
 
-// A block: the number in the table of the block before it, its height and its branch. Its coinbase pays to
-// the script of 101. Where it spends the first block's coin, half of that goes to the script of this number,
-// half to the script of 100.
-type Made = (Option<usize>, u8, u8, Option<u32>);
+// Where the first block's coin goes.
+#[derive(Clone, Copy)]
+enum Pays {
+    Nowhere,
+    // Half of it to the script of this number, half to the script of 100.
+    Halves(u32),
+    // All of it to the script of this number.
+    Whole(u32),
+}
 
-// Z is the first block. Of three branches on it one has A1 and A2, one B1, B2 and B3, and one C1 alone; the
-// same transaction stands in A1, B2 and C1. D1, on Z too, has another one.
-const FORKS: [Made; 8] = [
-    (None, 0, 0, None),
-    (Some(0), 1, 0, Some(1)),
-    (Some(1), 2, 0, None),
-    (Some(0), 1, 1, None),
-    (Some(3), 2, 1, Some(1)),
-    (Some(4), 3, 1, None),
-    (Some(0), 1, 1, Some(1)),
-    (Some(0), 1, 0, Some(101)),
+// A block: the number in the table of the block before it, its height and its branch, and where it spends the
+// first block's coin. Its coinbase pays to the script of 101.
+type Made = (Option<usize>, u8, u8, Pays);
+
+// Z is the first block. Of three branches on it one has A1 and A2, one B1, B2 and B3, and one C1, C2 and C3;
+// the same transaction stands in A1, B2 and C1. D1 and E1, on Z too, have another one each.
+const FORKS: [Made; 11] = [
+    (None, 0, 0, Pays::Nowhere),
+    (Some(0), 1, 0, Pays::Halves(1)),
+    (Some(1), 2, 0, Pays::Nowhere),
+    (Some(0), 1, 1, Pays::Nowhere),
+    (Some(3), 2, 1, Pays::Halves(1)),
+    (Some(4), 3, 1, Pays::Nowhere),
+    (Some(0), 1, 1, Pays::Halves(1)),
+    (Some(0), 1, 0, Pays::Halves(101)),
+    (Some(6), 2, 1, Pays::Nowhere),
+    (Some(8), 3, 1, Pays::Nowhere),
+    (Some(0), 1, 0, Pays::Whole(1)),
 ];
+
+// The coin of the first block.
+fn first_coin(alloc: Global) -> Result<Outpoint, OutOfMemory> {
+    let txid = txid(alloc, &coinbase(alloc, 0, 0, 101)?)?;
+    Ok(Outpoint { txid, index: 0 })
+}
 
 // The transaction that gives the two halves of the first block's coin, one to the script of this number.
 fn halves(alloc: Global, k: u32) -> Result<Tx, OutOfMemory>
     ensures { IfOk result HasEncoding }
 {
-    let txid = txid(alloc, &coinbase(alloc, 0, 0, 101)?)?;
-    let coin = Outpoint { txid, index: 0 };
+    let coin = first_coin(alloc)?;
     let outputs = [(2_500_000_000, k), (2_500_000_000, 100)];
     spend(alloc, [coin].as_slice(), outputs.as_slice())
+}
+
+// The transaction that gives the first block's coin to the script of this number.
+fn whole(alloc: Global, k: u32) -> Result<Tx, OutOfMemory>
+    ensures { IfOk result HasEncoding }
+{
+    let coin = first_coin(alloc)?;
+    spend(alloc, [coin].as_slice(), [(5_000_000_000, k)].as_slice())
 }
 
 // The transactions of a block.
@@ -45,8 +70,10 @@ fn txs_of(alloc: Global, made: Made) -> Result<Vec<Tx>, OutOfMemory>
 {
     let (_, height, branch, pays) = made;
     let mut txs = one(alloc, coinbase(alloc, u32::from(height), branch, 101)?)?;
-    if let Some(k) = pays {
-        txs.push(halves(alloc, k)?)?;
+    match pays {
+        Pays::Nowhere => {}
+        Pays::Halves(k) => txs.push(halves(alloc, k)?)?,
+        Pays::Whole(k) => txs.push(whole(alloc, k)?)?,
     }
     Ok(txs)
 }

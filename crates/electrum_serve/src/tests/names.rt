@@ -5,14 +5,14 @@ use el_gen::{
 };
 use std::alloc::{AllocError, Global};
 
-// What names stand for, each after its name and a blank: requests and replies; blocks of the first branch on
-// regtest, and of each its coinbase and the script that it pays to; another first block, another second one,
-// blocks of a branch after the first branch's second block, one whose parent nobody has, and one at height 16
-// with another Merkle root; a hash that no block has; a transaction that spends the coin of Bitcoin's first
-// block, and a script that it pays to; and of the blocks that part and spend, the last one of each branch,
-// the coinbases of Z, and of A1 and D1, the transaction of A1, B2 and C1, that of D1, and the script of 101;
-// transactions that no block has, in digits: a child of that of A1, another spend of Z's coin and a child of
-// it, and refused ones; and what clients are told of that child.
+// What names stand for, each after its name and a blank: requests, replies and notifications; blocks of the
+// first branch on regtest, of each its coinbase and the script that it pays to, and the status of the second
+// one's; another first block, another second one, blocks of a branch after the first branch's second block, one
+// whose parent nobody has, and one at height 16 with another Merkle root; a hash that no block has; a
+// transaction that spends the coin of Bitcoin's first block, and a script that it pays to; and of the blocks
+// that part and spend, the last one of each branch, the coinbases of Z, and of A1 and D1, the transaction of A1,
+// B2 and C1, that of D1, and the script of 101; transactions that no block has, in digits: a child of that of
+// A1, another spend of Z's coin and a child of it, and refused ones; and what clients are told of that child.
 // A text has no name but such as come after it.
 const NAMES: &str = "\
     {asks} {\"id\":1,\"method\":\"blockchain.scripthash.get_history\",\"params\":[\"\n\
@@ -32,6 +32,17 @@ const NAMES: &str = "\
     {failed} {\"error\":{\"code\":4,\"message\":\"block files failed\"},\"id\":1,\"jsonrpc\":\"2.0\"}\n\
     {gives} {\"id\":1,\"jsonrpc\":\"2.0\",\"result\":\"\n\
     {given} \"}\n\
+    {heads} {\"id\":1,\"method\":\"blockchain.headers.subscribe\"}\n\
+    {tip-is} {\"id\":1,\"jsonrpc\":\"2.0\",\"result\":{\"height\":\n\
+    {tells-tip} {\"jsonrpc\":\"2.0\",\"method\":\"blockchain.headers.subscribe\",\"params\":[{\"height\":\n\
+    {hex} ,\"hex\":\"\n\
+    {tip-given} \"}}\n\
+    {tip-told} \"}]}\n\
+    {holds-less} ,\"unconfirmed\":\n\
+    {tells} {\"jsonrpc\":\"2.0\",\"method\":\"blockchain.scripthash.subscribe\",\"params\":[\"\n\
+    {now} \",\"\n\
+    {now-none} \",null]}\n\
+    {told} \"]}\n\
     {null} {\"id\":1,\"jsonrpc\":\"2.0\",\"result\":null}\n\
     {holds-none-yet} {\"id\":1,\"jsonrpc\":\"2.0\",\"result\":{\"confirmed\":0,\"unconfirmed\":\n\
     {held-yet} }}\n\
@@ -73,6 +84,7 @@ const NAMES: &str = "\
     {c17} 579dbbc8c70b0c05ad319ff84300ada8d302d8cfbf13684b5c05b1849240ea63\n\
     {c33} 7e9743d230c82ab8e282c63061746dbe2a670fa4a355cb5603c4a87c98520706\n\
     {c34} b4e54a33205e90e2c415f44d230cb9d822e4d0910c4239bb1334a98c6861aa4b\n\
+    {status1} abe56b53449fa9b0f4516ae772061b3cadcdfe46dab76c0ceee2e6f01860cf4f\n\
     {lost} d33d23d8278af73522f4de92cb0e2f1e55445e5eda7642fb4fc7862059f43837\n\
     {bad16} 8690d9d6eb9f4b82e9d1ddadf5898728e41695dbaff106c553d0476387f6a37f\n\
     {twos} 2222222222222222222222222222222222222222222222222222222222222222\n\
@@ -117,6 +129,31 @@ const NAMES: &str = "\
     {ones} 1111111111111111111111111111111111111111111111111111111111111111\n\
     {z-0} e24fc0cd4b74e58d1bcfa1d15b2c35345824b4e3e6e3959659d662c2ce011688\n\
     {script2} 0d4d9b3ea98f8961b4590bc2f7a60c50b17bccd19422a122c86ab79d41c043f6\n\
+    {z-header} \
+    0100000000000000000000000000000000000000000000000000000000000000000000002dcd77bb6fc3f3138b\
+    d618974e4660af6565e91af0981e55b4e98296a94fca3029ab5f49ffff7f2000000000\n\
+    {a2-header} \
+    01000000a1b77949af0e8bb168ce7d0c52a7b57c50763d4e5eb7be27b409731c0b6cda96063f6cd5710bb3b8c7\
+    0641c400b39fa8398405d4443652444de869a49b422ddad9af5f49ffff7f2000000000\n\
+    {b3-header} \
+    0100000056429a748ea293ae3e2e5494c276d063043a93df01b0e5a445eff1cddb826232c1518bcffee793f9bb\
+    1111dda2e0a34af207b8b8113d4e870286cf99f4725ba031b25f49ffff7f2001000000\n\
+    {c3-header} \
+    01000000699742a73f81eb4139264e0dc7a7df30c311278f6904bfa8f6715fb963a3cdb7c1518bcffee793f9bb\
+    1111dda2e0a34af207b8b8113d4e870286cf99f4725ba031b25f49ffff7f2001000000\n\
+    {z-c3} 85ad736863c9403faf287ff60961fafa5fbef3c207c3f6ede9d4edb181859345\n\
+    {z-e1} ae3372bcff207bba0f0bdc4fa9aad7a139f447ecb168f77841ad0befd5196e08\n\
+    {conflicts-txid} 8381ab3257eb066d810edafa4f0fcbdd94366bf75393f25e4743354d6c686ded\n\
+    {parents-child-txid} a566cc4feebbe7019c3d91a8c7633ff48cfbcc41200ea80a3d921e00d6db7b84\n\
+    {halves-status} 52bcba0578d289f215041d04e38a4a5776e7517405be7419070e3edd02a27854\n\
+    {halves-status-1} 419685066c62e49d381eb4ff6ba456cd91cbef0830300b2e083f16bbf1a63ab1\n\
+    {halves-status-2} 7f6af4c1e138d4cecca1844a6bc70cbd1c8dc5515e11bb34272f88b805b183d4\n\
+    {both-status} d419f305d08d238dd293f816285bdbf4e57d5b0c3615dd2623f201790dd40f38\n\
+    {both-status-1} 0def6372a25199f8c7ea1dfc183f2e77e127d052e6114764e9ad6651f03cd652\n\
+    {parents-child-status} cd2da1348b0dabd0c464a8bba0485b06a2981c8d8a4eb480257479d35e1cb466\n\
+    {parents-child-status-later} f254a2ef13e8416b0ec8afd47a1af60666b72bfd56a630a48c8f134ee9b7b2ea\n\
+    {script3} 471f7659325175fa384ece76ab3f3354bb5e5d470df916096465257ec03c9d8c\n\
+    {script100} c2491fb4db5d640563334d5695cd0fae355b5f12c04ead37b5c3a9025f75acbb\n\
     {program-script} 42506eaeb3302d6f1eb21baefa3037e6c0edadd1d3525f15720645dbd94140b1";
 
 // What names stand for of Bitcoin's first two blocks.

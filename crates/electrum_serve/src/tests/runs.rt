@@ -135,7 +135,7 @@ const RUNS: [(&str, Files, &[Step<'static>], &str); 17] = [
         ],
         "1 {parse}\n0 at {a0} 0\n1 {parse}\n1 {lists}{entry0}{listed}\n",
     ),
-    // one client at a time; the start of a line goes with its client
+    // the start of a line goes with its client
     (
         SERVE,
         Files::Branch(2),
@@ -149,7 +149,7 @@ const RUNS: [(&str, Files, &[Step<'static>], &str); 17] = [
             Says(0, "tip {a0}\n"),
             Says(7, "{asks}{script0}{asked}\n"),
         ],
-        "0 at {a0} 0\n7 {lists}{entry0}{listed}\nclosed 2 Clients\n",
+        "0 at {a0} 0\n7 {lists}{entry0}{listed}\n",
     ),
     // nothing comes after the node has left
     (
@@ -213,10 +213,11 @@ const RUNS: [(&str, Files, &[Step<'static>], &str); 17] = [
             Opens(1),
             Opens(2),
             Says(1, "{asks}{script16}{asked}\n"),
+            Says(2, "{asks}{script15}{asked}\n"),
             Leaves(0),
             Says(1, "{}\n"),
         ],
-        "1 {lists}{entry16}{listed}\nclosed 2 Clients\n",
+        "1 {lists}{entry16}{listed}\n2 {lists}{entry15}{listed}\n",
     ),
 ];
 

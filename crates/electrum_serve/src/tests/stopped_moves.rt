@@ -10,11 +10,13 @@ use std::alloc::Global;
 use std::test::Fail;
 
 // One move in the second of two lives: the files, what the node says in both, and what it is answered in the
-// second; what it asks of the index alone, and what it is answered before the move and after it.
+// second, before the move and in all; what it asks of the index alone, and what it is answered before the move
+// and after it.
 struct Moving {
     files: Files,
     first: &'static str,
     second: &'static str,
+    front: &'static str,
     told: &'static str,
     asks: &'static str,
     old: &'static str,
@@ -26,6 +28,7 @@ const EXTENDED: Moving = Moving {
     files: Files::Branch(4),
     first: "tip {a0}\n",
     second: "tip {a3}\n",
+    front: "",
     told: "0 at {a3} 3\n",
     asks: "tip {a3}\ntip {a0}\n",
     old: "0 refused unknown {a3}\n0 at {a0} 0\n",
@@ -37,10 +40,24 @@ const TURNED: Moving = Moving {
     files: Files::Forks,
     first: "tip {z-a2}\n",
     second: "tip {z-b3}\n",
+    front: "",
     told: "0 at {z-b3} 3\n",
     asks: "tip {z-a2}\ntip {z-b3}\n",
     old: "0 at {z-a2} 2\n0 refused unknown {z-b3}\n",
     new: "0 refused unknown {z-a2}\n0 at {z-b3} 3\n",
+};
+
+// Two blocks forth, which have one of two unconfirmed transactions; the other stays.
+const SIFTED: Moving = Moving {
+    files: Files::Forks,
+    first: "tip {z-0}\n",
+    second: "tx {halves}\ntx {child}\ntip {z-a2}\ndrop {halves-txid}\ndrop {child-txid}\n",
+    front: "0 tx {halves-txid}\n0 tx {child-txid}\n",
+    told: "0 tx {halves-txid}\n0 tx {child-txid}\n0 at {z-a2} 2\n0 refused absent {halves-txid}\n\
+           0 gone {child-txid}\n",
+    asks: "tip {z-a2}\ntip {z-0}\n",
+    old: "0 refused unknown {z-a2}\n0 at {z-0} 0\n",
+    new: "0 at {z-a2} 2\n0 at {z-0} 0\n",
 };
 
 // The disk after the first life, with all that was written synced.
@@ -83,10 +100,17 @@ fn calls_of(alloc: Global, moving: &Moving, disk: &MemDisk) -> Result<u64, Fail>
     )
 }
 
-// Whether the second life ended as it must where one of its calls failed, or none.
-fn is_ended(alloc: Global, moving: &Moving, life: &Life, failed: bool) -> Result<bool, Fail> {
+// Whether the second life ended as it must where a call of its opening failed, one after it, or none.
+fn is_ended(
+    alloc: Global,
+    moving: &Moving,
+    life: &Life,
+    failed: bool,
+    opened: bool,
+) -> Result<bool, Fail> {
     let (status, told) = if failed {
-        (Status::DiskFailed, "")
+        let front = if opened { moving.front } else { "" };
+        (Status::DiskFailed, front)
     } else {
         (Status::Ended, moving.told)
     };
@@ -142,7 +166,7 @@ fn an_extension_stopped_at_each_call(rt: HostRuntime) -> Result<(), Fail> {
     for call in 1..=calls.saturating_add(1) {
         let life = second_life(alloc, &EXTENDED, &disk, Some(call))?;
         let told = calls < call;
-        assert!(rt; is_ended(alloc, &EXTENDED, &life, !told)?, "{call}");
+        assert!(rt; is_ended(alloc, &EXTENDED, &life, !told, true)?, "{call}");
         // the opening writes nothing, so that all images are one
         let images = if call <= calls / 2 { 1 } else { IMAGE_COUNT };
         let is_left = leaves_either(alloc, &EXTENDED, &life.disk, told, images)?;
@@ -192,7 +216,7 @@ fn first_wrong(alloc: Global, moving: &Moving, is_late: bool) -> Result<Option<u
     for call in from..=to {
         let life = second_life(alloc, moving, &disk, Some(call))?;
         let told = calls < call;
-        let is_ended = is_ended(alloc, moving, &life, !told)?;
+        let is_ended = is_ended(alloc, moving, &life, !told, true)?;
         if !is_ended || !opens_to_either(alloc, moving, &life.disk, told, call)? {
             return Ok(Some(call));
         }
@@ -209,5 +233,30 @@ fn a_reorganisation_stopped_early(rt: HostRuntime) -> Result<(), Fail> {
 #[test]
 fn a_reorganisation_stopped_late(rt: HostRuntime) -> Result<(), Fail> {
     assert_eq!(rt; first_wrong(rt.alloc(), &TURNED, true)?, None);
+    Ok(())
+}
+
+// How many calls of the disk a life makes on it in which nothing comes.
+fn calls_of_opening(alloc: Global, disk: &MemDisk) -> Result<u64, Fail> {
+    let disk = disk.crashed(&[], failing_from(alloc, None))?;
+    Ok(live(alloc, SERVE, disk, NO_FILES, &[])?.disk.calls())
+}
+
+#[test]
+fn a_move_with_a_set_stopped_at_each_call(rt: HostRuntime) -> Result<(), Fail> {
+    let alloc = rt.alloc();
+    let disk = first_life(alloc, &SIFTED)?;
+    let opening = calls_of_opening(alloc, &disk)?;
+    let calls = calls_of(alloc, &SIFTED, &disk)?;
+    assert!(rt; 0 < opening && opening < calls);
+    for call in 1..=calls.saturating_add(1) {
+        let life = second_life(alloc, &SIFTED, &disk, Some(call))?;
+        let told = calls < call;
+        let is_ended = is_ended(alloc, &SIFTED, &life, !told, opening < call)?;
+        assert!(rt; is_ended, "{call}");
+        let images = if call <= opening { 1 } else { IMAGE_COUNT };
+        let is_left = leaves_either(alloc, &SIFTED, &life.disk, told, images)?;
+        assert!(rt; is_left, "{call}");
+    }
     Ok(())
 }

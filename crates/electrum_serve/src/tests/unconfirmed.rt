@@ -3,9 +3,8 @@ use crate::status::Status;
 use crate::tests::block_files::{Files, files_of};
 use crate::tests::bringing::Step::{Opens, Says};
 use crate::tests::bringing::{Step, coming};
-use crate::tests::calls::{Counted, Failing, NONE_FAILS, SERVE, call_failing, call_steady};
+use crate::tests::calls::{SERVE, call_steady};
 use crate::tests::names::named;
-use std::alloc::Global;
 use std::test::Fail;
 
 // Words by which one transaction is kept at most.
@@ -20,7 +19,8 @@ const ASKS: Step<'static> = Says(
 
 // The words, what comes, and what is sent.
 const RUNS: [(&str, &[Step<'static>], &str); 3] = [
-    // a child is seen with its parent, which a block then has, and goes where another spend of the coin comes
+    // a child is seen with its parent, which a block then has, and goes where another spend of the coin comes; the
+    // client is told of that
     (
         SERVE,
         &[
@@ -42,9 +42,10 @@ const RUNS: [(&str, &[Step<'static>], &str); 3] = [
         "0 at {z-0} 0\n0 tx {halves-txid}\n0 tx {child-txid}\n\
          1 {lists}{child-waits}{listed}\n1 {gives}{child-status}{given}\n\
          1 {lists}{child-waits}{listed}\n1 {holds-none-yet}2500000000{held-yet}\n1 {gives}{child}{given}\n\
-         0 at {z-a2} 2\n1 {lists}{child-waits-later}{listed}\n1 {gives}{child-status-later}{given}\n\
+         0 at {z-a2} 2\n1 {tells}{script2}{now}{child-status-later}{told}\n\
+         1 {lists}{child-waits-later}{listed}\n1 {gives}{child-status-later}{given}\n\
          0 at {z-b3} 3\n1 {lists}{child-waits-later}{listed}\n1 {gives}{child-status-later}{given}\n\
-         0 at {z-d1} 1\n1 {none}\n1 {null}\n0 refused absent {child-txid}\n",
+         0 at {z-d1} 1\n1 {tells}{script2}{now-none}\n1 {none}\n1 {null}\n0 refused absent {child-txid}\n",
     ),
     // each refusal, where one transaction is kept at most
     (
@@ -81,90 +82,6 @@ fn unconfirmed_transactions(rt: HostRuntime) -> Result<(), Fail> {
         let (status, text) = call_steady(alloc, words, files, steps)?;
         assert_eq!(rt; text.as_str(), named(alloc, sent)?.as_str());
         assert_eq!(rt; status, Status::Ended);
-    }
-    Ok(())
-}
-
-// A run with lines of each kind.
-const STEPS: &[Step<'static>] = &[
-    Opens(1),
-    Says(
-        0,
-        "tip {z-0}\ntx {halves}\ntx {child}\ntip {z-a2}\ndrop {child-txid}\n",
-    ),
-    Says(1, "{gets}{z-txid}{asked}\n{asks-mempool}{script2}{asked}\n"),
-];
-
-// What the node is told in it: where nothing fails, where the block files fail in its first tip line, and
-// where they do in its second.
-const SOUND: &str =
-    "0 at {z-0} 0\n0 tx {halves-txid}\n0 tx {child-txid}\n0 at {z-a2} 2\n0 gone {child-txid}\n";
-
-const FIRST_FAILS: &str =
-    "0 refused archive\n0 refused missing {z-txid} 0\n0 refused missing {halves-txid} 0\n\
-                           0 at {z-a2} 2\n0 refused absent {child-txid}\n";
-
-const SECOND_FAILS: &str =
-    "0 at {z-0} 0\n0 tx {halves-txid}\n0 tx {child-txid}\n0 refused archive\n\
-                            0 gone {child-txid}\n";
-
-// Its run where these calls fail.
-fn run(alloc: Global, fails: Failing) -> Result<Counted, Fail> {
-    let files = files_of(alloc, Files::Forks)?;
-    call_failing(alloc, SERVE, files, coming(alloc, STEPS, 1_000)?, fails)
-}
-
-// Whether the text begins so.
-fn begins(alloc: Global, text: &str, front: &str) -> Result<bool, Fail> {
-    Ok(text.starts_with(named(alloc, front)?.as_str()))
-}
-
-#[test]
-fn each_call_of_the_archive_with_a_set(rt: HostRuntime) -> Result<(), Fail> {
-    let alloc = rt.alloc();
-    let all = run(alloc, NONE_FAILS)?.archive_calls.min(1_000);
-    let mut counts = [0u64; 5];
-    for archive in 1..=all {
-        let fails = Failing {
-            archive,
-            ..NONE_FAILS
-        };
-        let found = run(alloc, fails)?;
-        let text = found.text.as_str();
-        assert_eq!(rt; found.faults, (1, 0));
-        let place = if found.status == Status::ArchiveFailed {
-            0
-        } else if begins(alloc, text, FIRST_FAILS)? {
-            1
-        } else if begins(alloc, text, SECOND_FAILS)? {
-            2
-        } else if begins(alloc, text, SOUND)?
-            && text.contains(named(alloc, "1 {failed}\n")?.as_str())
-        {
-            3
-        } else {
-            4
-        };
-        counts[place] = counts[place].saturating_add(1);
-    }
-    let [opened, first, second, got, other] = counts;
-    assert!(rt; 0 < opened && 0 < first && 0 < second && 0 < got && other == 0);
-    Ok(())
-}
-
-#[test]
-fn each_send_to_the_node_with_a_set(rt: HostRuntime) -> Result<(), Fail> {
-    let alloc = rt.alloc();
-    let sound = named(alloc, SOUND)?;
-    let mut front = String::new(alloc);
-    let mut send = 1u64;
-    for line in sound.lines() {
-        let found = run(alloc, Failing { send, ..NONE_FAILS })?;
-        assert_eq!(rt; found.status, Status::LinkFailed);
-        assert_eq!(rt; found.text.as_str(), front.as_str());
-        front.push_str(line)?;
-        front.push_str("\n")?;
-        send = send.saturating_add(1);
     }
     Ok(())
 }
