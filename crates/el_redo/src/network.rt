@@ -1,7 +1,7 @@
 // The network that a body is for.
 ghost use Rattle.std.specs.Prelude.{◌≡◌, [], ◌∷◌};
 
-/// A network, by a type: its blocks in files begin with its magic, and so do the files of an index.
+/// A network, by a type: the records of its block files begin with its magic, and its indexes name it.
 pub trait NetworkMagic {
     ghost use Rattle.std.specs.Prelude.{◌≡◌, ℕ, List};
 
