@@ -1,5 +1,5 @@
-// What clients see of the coins and the history of a script hash, also where a block has a transaction that an
-// older block has, and where an unconfirmed transaction takes a coin.
+// What clients see of the coins and the history of a script hash, also where a block has a transaction that
+// an older block has, and where an unconfirmed transaction takes a coin.
 ghost use Rattle.std.specs.Prelude.{◌≤◌, length, IfOk, IfSome};
 ghost use Rattle.std.specs.List.{AllByRecursion};
 ghost use Rattle.el_tx.specs.Encoding.{HasEncoding};
@@ -130,7 +130,8 @@ const CASES: [Case; 3] = [
          {result}{balance}7500000000{of-it}-2500000000}}\n\
          {result}[{\"height\":1,{second-coin}]}\n",
     ),
-    // the same coinbase once more overwrites its coin, of which the older is there again once it is taken back
+    // the same coinbase once more overwrites its coin, of which the older is there again once it is taken
+    // back
     (
         &[
             TELLS,
@@ -162,8 +163,8 @@ const CASES: [Case; 3] = [
          {result}{balance}5000000000{of-it}0}}\n\
          {result}[{\"height\":0,{first-coin}]}\n",
     ),
-    // a coinbase once more after its coin was spent makes it anew; taken back, it leaves the coin spent, and an
-    // unconfirmed transaction that takes it goes
+    // a coinbase once more after its coin was spent makes it anew; taken back, it leaves the coin spent, and
+    // an unconfirmed transaction that takes it goes
     (
         &[
             TELLS,

@@ -48,8 +48,8 @@ fn batch(alloc: Global, from: u32, to: u32) -> Result<String, Fail> {
     Ok(text)
 }
 
-// What a client with 49,999 subscriptions says and the node after it: one more is held, and another one isn't,
-// which is told by nothing.
+// What a client with 49,999 subscriptions says and the node after it: one more is held, and another one
+// isn't, which is told by nothing.
 const LAST: [Step<'static>; 5] = [
     Says(
         1,
@@ -188,8 +188,8 @@ fn steps_of(telling: &Telling) -> [Step<'static>; 11] {
     ]
 }
 
-// What is shown where the client of that number, from 1 on, is closed while it is told of the first line; 0 for
-// none.
+// What is shown where the client of that number, from 1 on, is closed while it is told of the first line; 0
+// for none.
 fn shown_without(alloc: Global, telling: &Telling, closed: usize) -> Result<String, Fail> {
     let mut text = String::from_str(alloc, telling.answers.first)?;
     for (place, told) in telling.told.iter().enumerate() {
@@ -206,8 +206,8 @@ fn shown_without(alloc: Global, telling: &Telling, closed: usize) -> Result<Stri
     spelled(alloc, text.as_str())
 }
 
-// What of a run is shown: 0 where the server stopped, the number of the client that was closed, from 1 on, and
-// 4 for another text.
+// What of a run is shown: 0 where the server stopped, the number of the client that was closed, from 1 on,
+// and 4 for another text.
 fn closed_in(alloc: Global, telling: &Telling, shown: &[u8]) -> Result<usize, Fail> {
     if shown == b"stopped by the disk\n".as_slice() {
         return Ok(0);

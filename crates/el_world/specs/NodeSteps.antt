@@ -20,19 +20,19 @@ pub record SetStands (pool : PoolState) (side : Side) (start : Chain) : Type 0 w
   pub still : side.ahead ≡ [] → start ≡ side.chain
   pub limits : pool.limits ≡ side.limits
 
--- the ledger stands for the side's chain, the set for what is kept, and the block files have all that the side
--- knows of them
+-- the ledger stands for the side's chain, the set for what is kept, and the block files have all that the
+-- side knows of them
 pub record IsAt {G A : Type 0} (of_ledger : ledger.Ghosts G) (of_files : archive.Ghosts A) (l : G)
     (pool : PoolState) (files : A) (side : Side) (start : Chain) : Type 0 where
   pub stood : of_ledger.stands l side.chain
   pub set : SetStands pool side start
   pub told : of_files.tells → AllGrow side.files (of_files.bytes files)
 
--- The script hashes that a step touched: `moved` by moving the chain, `changed` in the unconfirmed set. Of each
--- other one that looked over the side's chain as it had over the line's start, the status over the start and
--- what was kept is still the same, and it looks so still.
-pub record Touches (side : Side) (start : Chain) (next : Side) (next_start : Chain) (moved changed : List Hash32)
-    : Type 0 where
+-- The script hashes that a step touched: `moved` by moving the chain, `changed` in the unconfirmed set. Of
+-- each other one that looked over the side's chain as it had over the line's start, the status over the start
+-- and what was kept is still the same, and it looks so still.
+pub record Touches (side : Side) (start : Chain) (next : Side) (next_start : Chain)
+    (moved changed : List Hash32) : Type 0 where
   pub status_stays : (s : Hash32) → is_among moved s ≡ false → is_among changed s ≡ false
       → LooksSame start side.chain s.0 → status next_start next.kept s ≡ status start side.kept s
   pub looks : (s : Hash32) → is_among moved s ≡ false → is_among changed s ≡ false
