@@ -1,18 +1,14 @@
 -- Lists of coins: look-ups, sums, and what taking and putting a coin does to them.
-use Rattle.std.proofs.Common.{◌≡◌, inl, inr, ℕ, ◌+◌, ◌≤◌, Bool, true, false, cond, List, [], ◌∷◌, ◌++◌, Option, None, Some, refl, ap, sym, ◌∙◌, arith, eq-eqb, eqb-true, true≢false, is_some, ◌==◌}
+use Rattle.std.proofs.Common.{◌≡◌, inl, inr, ℕ, ◌+◌, Bool, true, false, cond, List, [], ◌∷◌, ◌++◌, Option, None, Some, refl, ap, sym, ◌∙◌, arith, eq-eqb, eqb-true, true≢false, is_some, ◌==◌}
 use Rattle.std.proofs.lemmas.Bool.{cases_Bool, and_parts}
 use Rattle.std.proofs.lemmas.Slice.Eq.{bytes_eq-Decides}
 use Rattle.std.specs.Str.{bytes_eq}
 use Rattle.std.specs.Cmp.{IsEquivalence}
-use Rattle.std.specs.Option.{option_flatten}
-use Rattle.std.proofs.lemmas.Map.Made.{update_all_distinct}
-use Rattle.indexmap.specs.IndexMap.{IndexMap, get, IsUnique, InsertsAll}
 use Rattle.el_tx.specs.declared.types.Outpoint.{Outpoint}
 use Rattle.el_tx.specs.Hashing.{same_outpoint}
 use Rattle.el_chain.specs.declared.coin.Coin.{Coin}
 use Rattle.el_chain.specs.Coins.{without, add_coin, supply}
-use Rattle.el_chain.specs.Faults.{has_coin}
-use Rattle.el_chain.specs.within.CoinTables.{coin_by, coin_over, coin_in, value_in, AreOnce, StandsFor}
+use Rattle.el_chain.specs.CoinLists.{coin_in, value_in, AreOnce}
 
 -- one outpoint is the other exactly where they are equal
 pub same_from : (a b : Outpoint) → a ≡ b → same_outpoint a b ≡ true
@@ -147,65 +143,6 @@ supply_put c coins once =
     let more = supply_more (without c.outpoint coins) c in
     omega arith
 
--- a coin is there exactly where the look-up has one
-pub there : (o : Outpoint) (coins : List Coin) → has_coin o coins ≡ is_some (coin_in coins o)
-there o [] = refl
-there o (c ∷ cs) = elim (cases_Bool (same_outpoint c.outpoint o)) [
-  | inl h ↦ rw h refl
-  | inr h ↦ rw h (there o cs)
-]
-
--- an outpoint's coin holds no more than all
-pub value_within : (look : Outpoint → Option Coin) (sum : ℕ) (coins : List Coin) (o : Outpoint) → StandsFor look sum coins → value_in (look o) ≤ sum
-value_within look sum coins o h =
-    let is = ap value_in (h.each o) in
-    let out = supply_without o coins h.once in
-    let total = h.total in
-    omega arith
-
--- what stands for coins stands for those without one, or with one more, once its look-ups and its sum are changed so
-pub taken : (look new : Outpoint → Option Coin) (sum sum_new : ℕ) (coins : List Coin) (p : Outpoint) → StandsFor look sum coins
-    → ((o : Outpoint) → new o ≡ cond (same_outpoint p o) None (look o)) → sum_new + value_in (look p) ≡ sum → StandsFor new sum_new (without p coins)
-taken look new sum sum_new coins p h says total = record {
-  each = λ o. says o ∙ ap (cond (same_outpoint p o) None) (h.each o) ∙ sym (in_without p coins o);
-  total =
-      let is = ap value_in (h.each p) in
-      let out = supply_without p coins h.once in
-      let all = h.total in
-      omega arith;
-  once = once_without p coins h.once;
-}
-
-pub made : (look new : Outpoint → Option Coin) (sum sum_new : ℕ) (coins : List Coin) (c : Coin) → StandsFor look sum coins
-    → ((o : Outpoint) → new o ≡ cond (same_outpoint c.outpoint o) (Some c) (look o)) → sum_new + value_in (look c.outpoint) ≡ sum + c.value
-    → StandsFor new sum_new (add_coin c coins)
-made look new sum sum_new coins c h says total = record {
-  each = λ o. says o ∙ ap (cond (same_outpoint c.outpoint o) (Some c)) (h.each o) ∙ sym (in_put c coins o);
-  total =
-      let is = ap value_in (h.each c.outpoint) in
-      let out = supply_put c coins h.once in
-      let all = h.total in
-      omega arith;
-  once = once_put c coins h.once;
-}
-
--- where an outpoint has no coin, nothing is taken
-pub taken_none : (look : Outpoint → Option Coin) (sum : ℕ) (coins : List Coin) (p : Outpoint) → StandsFor look sum coins → look p ≡ None
-    → StandsFor look sum (without p coins)
-taken_none look sum coins p h none = rw (without_none p coins (sym (h.each p) ∙ none)) h
-
--- what a look-up's answer says of the coins
-pub there_by : (look : Outpoint → Option Coin) (sum : ℕ) (coins : List Coin) (o : Outpoint) (found : Option Coin) (b : Bool) → StandsFor look sum coins
-    → found ≡ look o → is_some found ≡ b → b ≡ has_coin o coins
-there_by look sum coins o found b h is some = sym some ∙ ap is_some (is ∙ h.each o) ∙ sym (there o coins)
-
-pub none_by : (found looked : Option Coin) → found ≡ looked → is_some found ≡ false → looked ≡ None
-none_by found looked is none = sym is ∙ empty found none
-  where
-    empty : (r : Option Coin) → is_some r ≡ false → r ≡ None
-    empty None e = refl
-    empty (Some x) e = absurd (true≢false e)
-
 -- outpoints are equal in the way that a table of coins needs
 pub outpoints_equal : IsEquivalence same_outpoint
 outpoints_equal = record {
@@ -217,9 +154,3 @@ outpoints_equal = record {
     by : (a b : Outpoint) (r : Bool) → same_outpoint a b ≡ r → same_outpoint a b ≡ same_outpoint b a
     by a b true e = e ∙ sym (same_from b a (sym (same_gives a b e)))
     by a b false e = e ∙ sym (apart_turned a b e)
-
--- a table over which another one was laid
-pub laid : {S : Type 0} (base new changes : IndexMap Outpoint (Option Coin) S) → IsUnique same_outpoint changes
-    → InsertsAll same_outpoint base changes.entries new → (o : Outpoint) → coin_by new o ≡ coin_over base changes o
-laid base new changes unique inserts o =
-    ap option_flatten (inserts.0 o ∙ update_all_distinct outpoints_equal same_outpoint (λ _ _. refl) (get same_outpoint base) changes.entries o unique)

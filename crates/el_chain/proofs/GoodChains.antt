@@ -2,36 +2,27 @@
 use Rattle.std.proofs.Common.{◌≡◌, inl, inr, ℕ, suc, ◌+◌, ◌<◌, ◌≤◌, Bool, true, false, nat_lt, List, [], ◌∷◌, ◌++◌, length, Option, None, Some, refl, ap, ◌∙◌, append_assoc, append-nil, arith, length-append}
 use Rattle.std.proofs.lemmas.Bool.{cases_Bool, ltb-false}
 use Rattle.std.specs.List.{AllByRecursion, flat_map}
-use Rattle.std.specs.Option.{option_or, option_flatten}
-use Rattle.std.specs.Map.{lookup as entry_lookup}
-use Rattle.indexmap.specs.IndexMap.{IndexMap}
-use Rattle.el_tx.specs.declared.types.Outpoint.{Outpoint}
+use Rattle.std.specs.Option.{option_or}
 use Rattle.std.specs.Int.{w32, w64, to_le_bytes}
 use Rattle.el_base.specs.Compact.{compact}
 use Rattle.el_tx.specs.declared.types.TxOut.{TxOut}
 use Rattle.el_tx.specs.declared.types.TxIn.{TxIn}
 use Rattle.el_tx.specs.declared.types.Tx.{Tx}
-use Rattle.el_tx.specs.Hashing.{full_encoding, same_outpoint}
+use Rattle.el_tx.specs.Hashing.{full_encoding}
 use Rattle.el_tx.specs.Headers.{header_encoding}
-use Rattle.el_tx.specs.Encoding.{max_money, counted, sized, outpoint_encoding, input_encoding, output_encoding, stack_encoding, version_encoding, body_encoding, has_witness, HasEncoding}
+use Rattle.el_tx.specs.Encoding.{counted, sized, outpoint_encoding, input_encoding, output_encoding, stack_encoding, version_encoding, body_encoding, has_witness, HasEncoding}
 use Rattle.el_block.specs.declared.block.Block.{Block}
 use Rattle.el_chain.specs.declared.placed.Placed.{Placed}
 use Rattle.el_chain.specs.declared.coin.Coin.{Coin}
-use Rattle.el_chain.specs.declared.coins.CoinTable.{CoinTable}
 use Rattle.el_chain.specs.declared.fault.ConnectFault.TheVariants as refusal
 use Rattle.el_block.specs.Blocks.{HasBlockEncoding, EncodesBlock}
-use Rattle.el_chain.specs.Chains.{Chain, tip}
+use Rattle.el_chain.specs.Chains.{Chain}
 use Rattle.el_block.specs.declared.limits.TheConstants.{MAX_BLOCK_WEIGHT}
 use Rattle.el_chain.specs.declared.limits.TheConstants.{ROW_LIMIT}
 use Rattle.el_chain.specs.Coins.{coins_after_all, coins_from, coins}
-use Rattle.el_chain.specs.Faults.{full, full_fault, missing_fault, first_fault, fault, IsNext, AreNext, IsGood}
+use Rattle.el_chain.specs.Faults.{full, full_fault, missing_fault, first_fault, IsNext, AreNext}
 use Rattle.el_chain.specs.History.{positions, block_positions, first_start}
-use Rattle.el_chain.specs.declared.tally.Tally.{Tally}
-use Rattle.el_chain.specs.within.Tallies.{IsTally, AreFew}
-use Rattle.el_chain.proofs.Tallies.{positions_more}
-use Rattle.el_chain.specs.within.CoinTables.{lookup, coin_by, coin_over, StandsFor, FitsBlock, HasFitting}
-use Rattle.el_chain.specs.within.CoinLayers.{Holds, IsPlainChain}
-use Rattle.el_block.proofs.BlockLemmas.{one_some}
+use Rattle.el_chain.specs.CoinLists.{FitsBlock}
 
 -- each output has a text of some bytes
 outputs_within : (os : List TxOut) → length os ≤ length (flat_map output_encoding os)
@@ -102,23 +93,6 @@ fits_of_encoded b h =
     let all = back_of (header_encoding b.header) (counted full_encoding b.txs) in
     all_fit b.txs s.text.each (omega arith)
 
--- so do the transactions of each block of a good chain
-pub chain_fits : (before chain : Chain) → AreNext before chain → AllByRecursion HasFitting chain
-chain_fits before [] h = tt
-chain_fits before (b ∷ bs) h = (fits_of_encoded b.block h.0.encoded, chain_fits (before ++ b ∷ []) bs h.1)
-
--- what holds of the blocks of two parts holds of each part's
-parted : (front back : Chain) → AllByRecursion HasFitting (front ++ back) → AllByRecursion HasFitting front × AllByRecursion HasFitting back
-parted [] back all = (tt, all)
-parted (x ∷ front) back all = let rest = parted front back all.1 in ((all.0, rest.0), rest.1)
-
--- the blocks of a good chain that stands in two parts
-pub front_fits : (front back : Chain) → IsGood (front ++ back) → AllByRecursion HasFitting front
-front_fits front back h = (parted front back (chain_fits [] (front ++ back) h.each)).0
-
-pub back_fits : (front back : Chain) → IsGood (front ++ back) → AllByRecursion HasFitting back
-back_fits front back h = (parted front back (chain_fits [] (front ++ back) h.each)).1
-
 -- one block more
 pub next_more : (before chain : Chain) (b : Placed) → AreNext before chain → IsNext (before ++ chain) b.block → AreNext before (chain ++ b ∷ [])
 next_more before [] b h next = (rw (append-nil before) at next, tt)
@@ -161,50 +135,3 @@ has_room chain (t ∷ ts) h some =
         some_none : Some (refusal.Full 1 ROW_LIMIT) ≡ None → ⊥
         some_none f = cc
     by false e none = let least = ltb-false ROW_LIMIT (length chain + 1) e in omega arith
-
--- what is kept goes on with one block more
-pub kept_more : (chain : Chain) (b : Placed) (kept new : CoinTable) (tally counted : Tally) → IsPlainChain chain kept tally → HasBlockEncoding b.block → b.block.header.previous ≡ tip chain
-    → fault chain b.block ≡ None → new.supply ≤ max_money
-    → StandsFor (coin_by new.map) new.supply (coins_after_all (length chain) b.block.txs (coins chain))
-    → IsTally counted (positions chain ++ block_positions (length chain) b.block.txs (coins chain)) → AreFew counted → IsPlainChain (chain ++ b ∷ []) new counted
-kept_more chain b kept new tally counted h encoded names none money stands counts rows = record {
-  good = record { each = next_more [] chain b h.good.each (record { encoded = encoded; names = names; faultless = none }) };
-  few =
-      let s : EncodesBlock encoded.0 b.block = encoded.1 in
-      let room = has_room chain b.block.txs none (one_some b.block.txs s.coinbase) in
-      let joined = length-append chain (b ∷ []) in
-      omega arith;
-  money = money;
-  stands = rw (coins_more 0 chain b []) (rw (let e : 0 + length chain ≡ length chain = omega arith in e) stands);
-  counted = rw (positions_more chain b) counts;
-  rows = rows;
-}
-
--- an empty table over another one says what that one says
-pub over_empty : {S : Type 0} (base start : IndexMap Outpoint (Option Coin) S) → start.entries ≡ [] → (o : Outpoint) → coin_over base start o ≡ coin_by base o
-over_empty base start none o = ap (λ (es : List (Outpoint × Option Coin)). option_flatten (option_or (entry_lookup (same_outpoint o) es) (lookup base o))) none
-
--- before the first change, what is kept over which nothing is laid
-pub over_begins : (base start : CoinTable) (chain : Chain) (tally : Tally) → IsPlainChain chain base tally → start.map.entries ≡ [] → start.supply ≡ base.supply → Holds base start (coins chain)
-over_begins base start chain tally h none same = record {
-  each = λ o. over_empty base.map start.map none o ∙ h.stands.each o;
-  total = same ∙ h.stands.total;
-  once = h.stands.once;
-}
-
--- what is kept goes on with one block more, once the changes that it makes are laid over what was kept
-pub kept_connected : (chain : Chain) (b : Placed) (base changes new : CoinTable) (tally counted : Tally) (blocks : Chain) (ts : List Tx) → IsPlainChain chain base tally → HasBlockEncoding b.block
-    → b.block.header.previous ≡ tip chain → blocks ≡ chain → ts ≡ b.block.txs
-    → first_fault (positions blocks) (block_positions (length blocks) ts (coins blocks)) ≡ None → Holds base changes (coins_after_all (length blocks) ts (coins blocks))
-    → changes.supply ≤ max_money → IsTally counted (positions blocks ++ block_positions (length blocks) ts (coins blocks)) → AreFew counted
-    → ((o : Outpoint) → coin_by new.map o ≡ coin_over base.map changes.map o) → new.supply ≡ changes.supply → IsPlainChain (chain ++ b ∷ []) new counted
-kept_connected chain b base changes new tally counted blocks ts h encoded names tall txs faultless after money counts rows laid total =
-    let clean = rw (tall, txs) at faultless in
-    let stands = rw (tall, txs) at after in
-    let so = rw (tall, txs) at counts in
-    let most = rw (← total) at money in
-    kept_more chain b base new tally counted h encoded names clean most (record {
-      each = λ o. laid o ∙ stands.each o;
-      total = total ∙ stands.total;
-      once = stands.once;
-    }) so rows

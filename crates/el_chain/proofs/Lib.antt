@@ -1,12 +1,9 @@
-pub mod BackMoves
 pub mod Chains
 pub mod CoinLists
-pub mod CoinsAgain
 pub mod CoinSteps
 pub mod Meters
 pub mod Histories
 pub mod Tallies
-pub mod Connecting
 pub mod GoodChains
 pub mod DraftSteps
 pub mod GivenChains
@@ -16,4 +13,3 @@ pub mod NoHistories
 pub mod TouchedScripts
 pub mod RecordBytes
 pub mod TouchLemmas
-pub mod BalanceLemmas

@@ -14,7 +14,7 @@ use Rattle.el_chain.specs.Chains.{Chain}
 use Rattle.el_chain.specs.Coins.{script_hash_of, without, add_coin, coin_made, spend_inputs, add_outputs, coins_left, coins_after, coins_after_all}
 use Rattle.el_chain.specs.CoinLaws.{HasNone}
 use Rattle.el_chain.specs.History.{funds, spends, has_own}
-use Rattle.el_chain.specs.within.Listings.{listed_in, listed_from}
+use Rattle.el_chain.specs.Listings.{listed_in, listed_from}
 use Rattle.el_chain.proofs.Histories.{own_without, own_put, blocks_listed}
 
 -- no coin has the script hash

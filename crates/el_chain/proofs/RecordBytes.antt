@@ -1,5 +1,5 @@
 -- Records that stand in a file, which may have grown since, and what is read of them.
-use Rattle.std.proofs.Common.{◌≡◌, ℕ, zero, suc, ◌+◌, ◌-◌, ◌<◌, ◌≤◌, ◌^◌, min, List, [], ◌∷◌, ◌++◌, length, take, drop, refl, sym, ap, ◌∙◌, arith, length-drop, Bool, true, false, ◌&&◌, if◌then◌else◌, IsTrue, nat_le, Result, Ok, Err}
+use Rattle.std.proofs.Common.{◌≡◌, ℕ, ◌+◌, ◌-◌, ◌<◌, ◌≤◌, ◌^◌, min, List, ◌++◌, length, take, drop, refl, sym, ap, ◌∙◌, arith, length-drop, Bool, true, false, ◌&&◌, if◌then◌else◌, IsTrue, nat_le, Result, Err}
 use Rattle.std.specs.Prelude.{Option, None, Some, option_map, IfOk}
 use Rattle.std.specs.Int.{w32, to_le_bytes, cast_signed, cast_unsigned}
 use Rattle.std.specs.Str.{bytes_eq}

@@ -3,10 +3,12 @@ pub mod Coins
 pub mod RowCounts
 pub mod Faults
 pub mod History
+pub mod Listings
 pub mod Records
 pub mod Reading
 pub mod Headers
 pub mod Moves
 pub mod Touches
+pub mod CoinLists
 pub mod CoinLaws
 pub mod within

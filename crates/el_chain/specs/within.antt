@@ -1,9 +1,1 @@
-pub mod CoinTables
-pub mod Meters
-pub mod Tallies
-pub mod CoinLayers
-pub mod Listings
-pub mod Drafts
 pub mod Passing
-pub mod Touching
-pub mod Balances

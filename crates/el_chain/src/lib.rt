@@ -1,30 +1,19 @@
 //! What a chain of Bitcoin's blocks, its coins and the history of a script hash (Electrum Protocol 1.4) mean:
-//! `specs/` has the definitions. The program beside them is a plain one: it keeps a chain as a list of whole
-//! blocks with their coins.
+//! `specs/` has the definitions.
 #![tactic(auto)]
 
-mod anew;
-mod balance;
 mod coin;
-mod coins;
-mod drafts;
 mod entry;
 mod fault;
 mod filling;
-mod history;
 mod laws;
 mod limits;
-mod meter;
 mod moves;
-mod moving;
 mod node;
 mod placed;
-mod plain_chain;
 mod read_fault;
 mod reading;
-mod tally;
 mod touched;
-mod touching;
 
 pub use coin::Coin;
 pub use entry::Entry;
@@ -38,7 +27,6 @@ pub use limits::{MAX_BACK, MAX_FORWARD, MIN_BLOCK_SIZE, PREFIX_SIZE, ROW_LIMIT};
 pub use moves::{MoveFault, Moved, Plan};
 pub use node::{Node, Spot};
 pub use placed::Placed;
-pub use plain_chain::PlainChain;
 pub use read_fault::{ReadFault, ScanFault};
 pub use reading::{compare_block, read_block, read_part};
 pub use touched::Touched;

@@ -6,8 +6,9 @@ ghost use Rattle.el_chain.specs.Chains.{tip};
 
 use el_base::Hash32;
 use el_block::{Block, decode_block};
-use el_chain::{ConnectFault, Entry, PlainChain, Touched};
+use el_chain::{ConnectFault, Entry, Touched};
 use el_outside::Place;
+use el_plain::PlainChain;
 use el_tx::Outpoint;
 use std::alloc::Global;
 use std::test::Fail;

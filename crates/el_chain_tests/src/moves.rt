@@ -13,11 +13,11 @@ use crate::records::{
 };
 use el_base::{Bytes, Hash32, Listed};
 use el_block::BlockFault;
-use el_chain::{ConnectFault, MoveFault, Moved, PlainChain, Plan};
+use el_chain::{ConnectFault, MoveFault, Moved, Plan};
 use el_fakes::MemArchive;
 use el_model::{Ledger, Mark, Stop, go_on};
 use el_outside::Archive;
-use el_plain::PlainLedger;
+use el_plain::{PlainChain, PlainLedger};
 use std::alloc::Global;
 use std::test::Fail;
 

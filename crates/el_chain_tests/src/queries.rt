@@ -10,10 +10,10 @@ use crate::records::{
 };
 use el_base::{Bytes, Hash32};
 use el_block::{Block, decode_block};
-use el_chain::{Coin, Entry, PlainChain, Spot};
+use el_chain::{Coin, Entry, Spot};
 use el_model::Ledger;
 use el_outside::Place;
-use el_plain::PlainLedger;
+use el_plain::{PlainChain, PlainLedger};
 use el_tx::block_hash;
 use std::alloc::Global;
 use std::test::Fail;

@@ -17,7 +17,7 @@ use Rattle.el_chain.specs.declared.coin.Coin.{Coin}
 use Rattle.el_chain.specs.Chains.{Chain}
 use Rattle.el_chain.specs.Coins.{without, spend_inputs, coin_made, add_coin, add_outputs, coins_left, coins_after, coins_after_all, coins_from, coins, supply}
 use Rattle.el_chain.specs.Headers.{same_hash}
-use Rattle.el_chain.specs.within.CoinTables.{coin_in, value_in, AreOnce}
+use Rattle.el_chain.specs.CoinLists.{coin_in, value_in, AreOnce}
 use Rattle.el_chain.proofs.CoinLists.{same_gives, same_self, same_from, in_without, in_put, once_without, once_put, supply_without, supply_put}
 use Rattle.el_mempool.specs.declared.held.Held.{Held}
 use Rattle.el_mempool.specs.Sift.{coin_held, coin_named, output_held, output_of, output_among, named, any_takes, is_taken, each_takes, held_by, total_held, is_confirmed, may_join, sift}

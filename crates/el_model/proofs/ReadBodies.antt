@@ -6,10 +6,10 @@ use Rattle.el_outside.specs.Files.{AllGrow}
 use Rattle.el_chain.specs.declared.node.Node.{Node}
 use Rattle.el_chain.specs.declared.moves.MoveFault.{MoveFault}
 use Rattle.el_chain.specs.declared.moves.MoveFault.TheVariants as stop
-use Rattle.el_chain.specs.Records.{IsBlockOf}
-use Rattle.el_chain.specs.Moves.{body_of}
-use Rattle.el_chain.specs.Moves.{AreOf, AreRead}
-use Rattle.el_chain.specs.Records.{IsNode}
+use Rattle.el_chain.specs.Records.{IsBlockOf, IsNode}
+use Rattle.el_chain.specs.Chains.{Chain}
+use Rattle.el_chain.specs.Moves.{AreOf, AreRead, Moves, body_of}
+use Rattle.el_chain.specs.declared.moves.Plan.{Plan}
 use Rattle.el_base.proofs.Lists.{cut_at, left_at, taken_at}
 use Rattle.el_model.specs.within.Reading.{IsUnreadOne, IsUnread}
 
@@ -37,6 +37,14 @@ texts_grow old new (n ∷ ns) (t ∷ ts) grows of is =
     let here : t ≡ body_of old n = cc in
     let there : ts ≡ map (body_of old) ns = cc in
     rw (← body_grows old new n t grows of.0 here, ← texts_grow old new ns ts grows of.1 there) refl
+
+-- a move is one over files that have grown
+pub moves_grow : (told : Type 0) (old new : ℕ → List ℕ) (chain : Chain) (p : Plan) (blocks : Chain) → (told → AllGrow old new) → Moves told old chain p blocks → Moves told new chain p blocks
+moves_grow told old new chain p blocks grows m = record {
+  texts = m.texts;
+  read = record { of = m.read.of; told = λ t. texts_grow old new p.forward m.texts (grows t) m.read.of (m.read.told t) };
+  blocks_are = m.blocks_are;
+}
 
 of_more : (ns : List Node) (ts : List (List ℕ)) (n : Node) (t : List ℕ) → AreOf ns ts → IsBlockOf n t → AreOf (ns ++ n ∷ []) (ts ++ t ∷ [])
 of_more [] [] n t h of = (of, tt)

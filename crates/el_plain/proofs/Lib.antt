@@ -3,3 +3,7 @@ pub mod Mapped
 pub mod Spenders
 pub mod OwnCoins
 pub mod Lightness
+pub mod BackMoves
+pub mod DraftSteps
+pub mod GoodChains
+pub mod Histories

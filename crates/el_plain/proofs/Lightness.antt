@@ -14,8 +14,9 @@ use Rattle.el_block.specs.Blocks.{HasBlockEncoding, EncodesBlock}
 use Rattle.el_chain.specs.declared.placed.Placed.{Placed}
 use Rattle.el_chain.specs.Chains.{Chain}
 use Rattle.el_chain.specs.Faults.{AreNext, IsGood}
-use Rattle.el_chain.specs.within.CoinTables.{FitsBlock, HasFitting}
-use Rattle.el_chain.proofs.GoodChains.{chain_fits}
+use Rattle.el_chain.specs.CoinLists.{FitsBlock}
+use Rattle.el_coins.specs.CoinTables.{HasFitting}
+use Rattle.el_coins.proofs.GoodChains.{chain_fits}
 use Rattle.el_plain.specs.within.Light.{IsLight, HasFewOutputs, HaveFewOutputs}
 
 -- a transaction has some bytes

@@ -8,9 +8,10 @@ ghost use Rattle.el_chain.specs.Moves.{IsPlan, FitsChain, Moves, IsRefused, targ
 ghost use Rattle.el_chain.specs.Touches.{AreTouched};
 ghost use Rattle.el_model.specs.Queries.{blocks_in, height_of, tip_of};
 
+use crate::plain_chain::PlainChain;
 use el_base::Hash32;
 use el_block::Block;
-use el_chain::{ConnectFault, MoveFault, Moved, Placed, PlainChain, Plan};
+use el_chain::{ConnectFault, MoveFault, Moved, Placed, Plan};
 use el_model::read_all;
 use el_outside::{Archive, Place};
 use std::alloc::Global;

@@ -3,7 +3,7 @@ use Rattle.sha2.specs.Sha256.{sha256}
 use Rattle.el_plain.proofs.OwnCoins.{coin_is}
 use Rattle.std.proofs.lemmas.List.{drop_all}
 use Rattle.el_chain.specs.Coins.{add_coin, coin_made}
-use Rattle.el_chain.proofs.CoinSteps.{output_step}
+use Rattle.el_coins.proofs.CoinSteps.{output_step}
 use Rattle.el_plain.proofs.own_coins.add_outputs.Goals as goal
 
 pub loop-index-preserved : goal.loop-index-preserved

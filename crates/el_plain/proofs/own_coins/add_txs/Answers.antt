@@ -1,7 +1,7 @@
 use Rattle.std.proofs.Common.{◌∙◌, arith}
 use Rattle.std.proofs.lemmas.List.{drop_all}
 use Rattle.el_chain.specs.Coins.{coins_left, coins_after}
-use Rattle.el_chain.proofs.Histories.{after_step}
+use Rattle.el_coins.proofs.Histories.{after_step}
 use Rattle.el_plain.specs.within.Light.{HasFewOutputs}
 use Rattle.el_plain.proofs.OwnCoins.{all_after, all_here}
 use Rattle.el_plain.proofs.own_coins.add_txs.Goals as goal

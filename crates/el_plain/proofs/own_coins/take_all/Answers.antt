@@ -1,7 +1,7 @@
 use Rattle.std.proofs.Common.{◌∙◌, arith}
 use Rattle.std.proofs.lemmas.List.{drop_all}
 use Rattle.el_chain.specs.Coins.{without}
-use Rattle.el_chain.proofs.Histories.{drop_step}
+use Rattle.el_coins.proofs.Histories.{drop_step}
 use Rattle.el_plain.proofs.own_coins.take_all.Goals as goal
 
 pub loop-input-preserved : goal.loop-input-preserved

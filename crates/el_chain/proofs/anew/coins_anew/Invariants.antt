@@ -1,6 +1,0 @@
-use Rattle.std.proofs.Common.{◌≡◌, []}
-use Rattle.el_chain.proofs.CoinsAgain.{GoesAnew}
-use Rattle.el_chain.proofs.anew.coins_anew.Given as goal
-
-abbrev pub invariant-loop-index : goal.invariant-loop-index
-invariant-loop-index l = GoesAnew l.none l.blocks l.index l.coins l.tally

@@ -1,0 +1,11 @@
+pub mod BalanceLemmas
+pub mod CoinLists
+pub mod CoinSteps
+pub mod CoinsAgain
+pub mod Connecting
+pub mod DraftSteps
+pub mod GoodChains
+pub mod Histories
+pub mod Meters
+pub mod Tallies
+pub mod TouchLemmas

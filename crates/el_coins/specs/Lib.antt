@@ -1,0 +1,6 @@
+pub mod CoinLayers
+pub mod CoinTables
+pub mod Drafts
+pub mod Tallies
+pub mod Touching
+pub mod within
