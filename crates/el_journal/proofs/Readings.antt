@@ -121,6 +121,14 @@ length_read file buf place at n entry rest short is eight at_is n_is filled =
     sym (take_all 8 buf (omega (arith, eight))) ∙ same ∙ ap (λ (l : List ℕ). take 8 l) behind ∙ take_at (to_le_bytes w64 (length entry)) (entry ++ rest) 8 refl in
     ap (λ (l : List ℕ). from_le_bytes w64 l) read ∙ from_le_bytes-to_le_bytes_8 (length entry) (omega (arith, whole, short))
 
+-- a read of a length gives all of its bytes
+pub eight_read : (file : List ℕ) (place at n : ℕ) (entry rest : List ℕ) → length file < 2 ^ 62 → drop place file ≡ entry_bytes entry ++ rest
+    → at ≡ min (place + 1) 18446744073709551615 → n ≡ min 8 (length file - at) → n ≡ 8
+eight_read file place at n entry rest short is at_is n_is =
+    let whole = rest_size file place entry rest is in
+    let next : at ≡ place + 1 = omega (arith, whole, short, at_is) in
+    omega (arith, whole, next, n_is)
+
 -- ---- marks
 
 -- the entry at a mark

@@ -37,6 +37,10 @@ pub enum EntryFault {
     /// A call on the device that keeps the index failed.
     #[error("index device failed")]
     DiskFailed,
+    /// A read gave fewer bytes than the entry has whose gate stands at this place, as of a file that was cut
+    /// meanwhile.
+    #[error("journal is cut at {place}")]
+    BadJournal { place: u64 },
     /// Out of memory.
     #[error("out of memory")]
     Memory,

@@ -1,5 +1,5 @@
 // A journal over a disk.
-ghost use Rattle.std.specs.Prelude.{◌≡◌, ◌≢◌, ◌⊎◌, ◌<◌, ◌+◌, ◌↔◌, ℕ, List, [], ◌∷◌, ◌++◌, get_or, OnOk, IfOk, IfErr, IsTrue, MatchResult};
+ghost use Rattle.std.specs.Prelude.{◌≡◌, ◌≢◌, ◌⊎◌, ◌<◌, ◌≤◌, ◌+◌, ◌↔◌, ℕ, List, [], ◌∷◌, ◌++◌, get_or, length, OnOk, IfOk, IfErr, IsTrue, MatchResult};
 ghost use Rattle.el_outside.specs.Counts.{HasCause, CountsOnly};
 ghost use Rattle.el_journal.specs.Entries.{HasEntries, IsBad, SameJournal};
 ghost use Rattle.el_journal.specs.Journals.{Holds, OnlyJournal, IsOnlyRead, HasEither, disk_in, opened};
@@ -56,6 +56,9 @@ pub fn open_journal<D: Disk>(alloc: Global, mut disk: D) -> Result<Journal<D>, (
     ensures bad { D.tells → IfErr result (λ e. (place : ℕ) → e.0 ≡ fault.BadJournal place
         → IsBad place (D.seen disk JOURNAL)) }
     ensures memory { IfErr result (λ e. e.0 ≢ fault.Memory) }
+    // A file of two bytes or more stays as it is, also behind the gate after its last entry.
+    ensures seen { D.tells → 2 ≤ length (D.seen disk JOURNAL)
+        → IfOk result (λ journal. D.seen journal.disk ≡ D.seen disk) }
     // Each image that a crash since the start may leave is one that it might have left before, with the same
     // journal.
     ensures crash { D.tells → OnlyJournal ⟦<D as Disk>⟧ SameJournal disk (disk_in result) }
@@ -90,12 +93,21 @@ impl<D: Disk> Journal<D> {
 
     /// Reads an entry, numbered from 0 on. Whatever it answers, the journal stays as it was. Entries that are
     /// read in order are each found at once; else the file is walked from the front.
+    ///
+    /// # Errors
+    ///
+    /// `DiskFailed`, `Memory`; `BadJournal` where a read gives fewer bytes than the entry has, which no disk
+    /// does that keeps what was written.
     pub fn entry(&mut self, i: u64) -> Result<Vec<u8>, EntryFault>
         requires { i < self.old.count }
         ensures entry { (entries : List (List ℕ)) → Holds ⟦<D as Disk>⟧ self.old entries
             → IfOk result (λ bytes. bytes.items ≡ get_or entries i []) }
+        ensures whole { (entries : List (List ℕ)) → Holds ⟦<D as Disk>⟧ self.old entries
+            → IfErr result (λ e. (place : ℕ) → e ≢ entry_fault.BadJournal place) }
         ensures stays { (entries : List (List ℕ)) → Holds ⟦<D as Disk>⟧ self.old entries
             → Holds ⟦<D as Disk>⟧ self.new entries }
+        // The entry after it is found at once.
+        ensures next { OnOk result (self.new.mark.number ≡ i + 1) }
         ensures count { self.new.count ≡ self.old.count }
         ensures read { D.tells → IsOnlyRead ⟦<D as Disk>⟧ self.old.disk self.new.disk }
         ensures cause { CountsOnly (D.faults self.old.disk) (D.faults self.new.disk)
@@ -123,6 +135,7 @@ impl<D: Disk> Journal<D> {
             → OnlyJournal ⟦<D as Disk>⟧ (λ old new. HasEither entries bytes.now new)
             self.old.disk self.new.disk }
         ensures count { OnOk result (self.new.count ≡ self.old.count + 1) }
+        ensures mark { self.new.mark ≡ self.old.mark }
         ensures cause { HasCause (D.faults self.old.disk) (D.faults self.new.disk) result }
     {
         self.end = append_at(&mut self.disk, self.end, bytes)?;

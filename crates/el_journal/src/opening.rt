@@ -1,5 +1,5 @@
 // Opening the journal of a disk.
-ghost use Rattle.std.specs.Prelude.{◌≡◌, ◌≢◌, ◌<◌, ◌≤◌, ◌+◌, ◌-◌, ◌*◌, ℕ, List, length, drop, IfOk, IfErr};
+ghost use Rattle.std.specs.Prelude.{◌≡◌, ◌≢◌, ◌<◌, ◌≤◌, ◌+◌, ◌-◌, ◌*◌, ℕ, List, length, drop, IfOk, IfErr, OnOk};
 ghost use Rattle.el_outside.specs.Counts.{HasCause, CountsOnly};
 ghost use Rattle.el_outside.specs.declared.archive.TheConstants.{SIZE_LIMIT};
 ghost use Rattle.el_journal.specs.declared.fault.JournalFault.TheVariants as fault;
@@ -66,6 +66,9 @@ pub(crate) fn open<D: Disk>(disk: &mut D) -> Result<Mark, JournalFault>
     ensures memory { IfErr result (λ e. e ≢ fault.Memory) }
     ensures room { IfOk result (λ end. 9 * end.number ≤ end.place) }
     ensures small { IfOk result (λ end. end.place < SIZE_LIMIT) }
+    // What stands behind the gate after the last entry stays.
+    ensures seen { D.tells → 2 ≤ length (D.seen disk.old JOURNAL)
+        → OnOk result (D.seen disk.new ≡ D.seen disk.old) }
     ensures crash { D.tells → OnlyJournal ⟦<D as Disk>⟧ SameJournal disk.old disk.new }
     ensures cause { CountsOnly (D.faults disk.old) (D.faults disk.new) fault.DiskFailed result }
 {

@@ -3,7 +3,7 @@ use Rattle.std.proofs.Common.{◌≡◌, ◌<◌, ◌≤◌, ◌+◌, ℕ, suc, 
 use Rattle.std.proofs.Math.Path.{fun_ext}
 use Rattle.std.proofs.lemmas.List.{take-append-drop, take-take, get_or-take, length-take-le, take_more}
 use Rattle.std.proofs.lemmas.Bool.{cases_lt}
-use Rattle.el_rows.specs.Tables.{Tables}
+use Rattle.el_row_formats.specs.Tables.{Tables}
 use Rattle.el_rows.specs.Reads.{Same}
 use Rattle.el_rows.specs.Changes.{Changes, Update, under}
 use Rattle.el_rows.proofs.UnderLemmas.{same_under}

@@ -1,7 +1,7 @@
 -- The tables that an image of a disk stands for.
 use Rattle.std.specs.Prelude.{◌≡◌, ◌⊎◌, ◌<◌, ℕ, List, [], ◌∷◌, length, take, get_or}
 use Rattle.el_outside.specs.Disk.{Image}
-use Rattle.el_rows.specs.Tables.{Tables}
+use Rattle.el_row_formats.specs.Tables.{Tables}
 use Rattle.el_rows.specs.Reads.{Same}
 use Rattle.el_rows.specs.Changes.{Update, under}
 use Rattle.el_journal.specs.declared.mark.TheConstants.{JOURNAL}

@@ -3,7 +3,7 @@ use Rattle.std.specs.Prelude.{◌≡◌, ℕ, List, Result, Ok, Err}
 use Rattle.std.proofs.Common.{sym, subst, inl}
 use Rattle.el_outside.specs.declared.disk.Disk as disk
 use Rattle.el_outside.specs.Disk.{Image}
-use Rattle.el_rows.specs.Tables.{Tables, tables_of}
+use Rattle.el_row_formats.specs.Tables.{Tables, tables_of}
 use Rattle.el_journal.specs.declared.mark.TheConstants.{JOURNAL}
 use Rattle.el_journal.specs.Entries.{EndsAfter}
 use Rattle.el_journal.specs.Journals.{JournalState, Holds}

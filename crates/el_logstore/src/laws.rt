@@ -2,7 +2,7 @@
 ghost use Rattle.std.specs.Prelude.{◌≡◌, ◌<◌, ℕ, List, length};
 ghost use Rattle.el_outside.specs.Disk.{Image};
 ghost use Rattle.el_outside.specs.declared.archive.TheConstants.{SIZE_LIMIT};
-ghost use Rattle.el_rows.specs.Tables.{Tables};
+ghost use Rattle.el_row_formats.specs.Tables.{Tables};
 ghost use Rattle.el_rows.specs.Reads.{Same};
 ghost use Rattle.el_journal.specs.declared.mark.TheConstants.{JOURNAL};
 ghost use Rattle.el_logstore.specs.Images.{Shows, IsBadIndex};

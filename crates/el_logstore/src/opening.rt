@@ -3,7 +3,7 @@ ghost use Rattle.std.specs.Prelude.{◌≡◌, ◌≢◌, ◌⊎◌, ◌<◌, �
 ghost use Rattle.el_outside.specs.Counts.{CountsOnly};
 ghost use Rattle.el_outside.specs.Disk.{Image};
 ghost use Rattle.el_outside.specs.Moments.{LeftNow};
-ghost use Rattle.el_rows.specs.Tables.{Tables, tables_of};
+ghost use Rattle.el_row_formats.specs.Tables.{Tables, tables_of};
 ghost use Rattle.el_rows.specs.Reads.{Same};
 ghost use Rattle.el_rows.specs.Changes.{Update, under};
 ghost use Rattle.el_journal.specs.declared.mark.TheConstants.{JOURNAL};
@@ -26,7 +26,8 @@ fn body_of<D: Disk>(journal: &mut Journal<D>, i: u64) -> Result<Vec<u8>, OpenFau
     requires { i < journal.old.count }
     ensures entry { (entries : List (List ℕ)) → Holds ⟦<D as Disk>⟧ journal.old entries
         → IfOk result (λ bytes. bytes.items ≡ get_or entries i []) }
-    ensures good { IfErr result (λ e. (file wanted found : ℕ) → e ≢ fault.BadIndex file wanted found) }
+    ensures good { (entries : List (List ℕ)) → Holds ⟦<D as Disk>⟧ journal.old entries
+        → IfErr result (λ e. (file wanted found : ℕ) → e ≢ fault.BadIndex file wanted found) }
     ensures stays { (entries : List (List ℕ)) → Holds ⟦<D as Disk>⟧ journal.old entries
         → Holds ⟦<D as Disk>⟧ journal.new entries }
     ensures count { journal.new.count ≡ journal.old.count }
@@ -37,18 +38,17 @@ fn body_of<D: Disk>(journal: &mut Journal<D>, i: u64) -> Result<Vec<u8>, OpenFau
     match journal.entry(i) {
         Ok(body) => Ok(body),
         Err(EntryFault::DiskFailed) => Err(OpenFault::DiskFailed),
+        Err(EntryFault::BadJournal { place }) => Err(OpenFault::BadIndex {
+            file: JOURNAL,
+            wanted: 0,
+            found: place,
+        }),
         Err(EntryFault::Memory) => Err(OpenFault::Memory),
     }
 }
 
 // Makes the rows those after the body of that number, where it spells a commit.
-fn redo(
-    alloc: Global,
-    rows: &mut VecRows,
-    magic: [u8; 4],
-    body: &[u8],
-    i: u64,
-) -> Result<(), OpenFault>
+fn redo(rows: &mut VecRows, magic: [u8; 4], body: &[u8], i: u64) -> Result<(), OpenFault>
     ensures made { OnOk result ((update : Update) × Commits magic (tables_of rows.old.rows) body.now update
         × Same (under (tables_of rows.old.rows) update.counts update.changes) (tables_of rows.new.rows)) }
     ensures bad { IfErr result (λ e. (file wanted found : ℕ) → e ≡ fault.BadIndex file wanted found
@@ -56,7 +56,7 @@ fn redo(
         × ((update : Update) → Commits magic (tables_of rows.old.rows) body.now update → ⊥)) }
     ensures no_disk { IfErr result (λ e. e ≢ fault.DiskFailed) }
 {
-    match apply(alloc, rows, magic, body) {
+    match apply(rows, magic, body) {
         Ok(()) => Ok(()),
         Err(RedoFault::NoCommit) => Err(OpenFault::BadIndex {
             file: JOURNAL,
@@ -69,7 +69,6 @@ fn redo(
 
 // Makes the rows those after all entries, read in order, each once.
 fn replay<D: Disk>(
-    alloc: Global,
     journal: &mut Journal<D>,
     rows: &mut VecRows,
     magic: [u8; 4],
@@ -88,7 +87,7 @@ fn replay<D: Disk>(
 {
     for i in 0..journal.len() {
         let body = body_of(journal, i)?;
-        redo(alloc, rows, magic, &body, i)?;
+        redo(rows, magic, &body, i)?;
     }
     Ok(())
 }
@@ -145,7 +144,7 @@ pub fn open_log<D: Disk, N: NetworkMagic>(
         Err((fault, disk)) => return Err((of_journal(fault), disk)),
     };
     let mut rows = VecRows::new(alloc);
-    match replay(alloc, &mut journal, &mut rows, N::magic()) {
+    match replay(&mut journal, &mut rows, N::magic()) {
         Ok(()) => Ok(LogStore {
             alloc,
             network: PhantomData,

@@ -1,14 +1,15 @@
 // A store of commits in a journal.
 ghost use Rattle.std.specs.Prelude.{◌≡◌, ◌↔◌, ℕ, refl, length};
 ghost use Rattle.el_outside.specs.Disk.{Image};
-ghost use Rattle.el_rows.specs.Tables.{Tables, tables_of};
+ghost use Rattle.el_row_formats.specs.Tables.{Tables, tables_of};
 ghost use Rattle.el_logstore.specs.Images.{Shows};
 ghost use Rattle.el_logstore.specs.Stores.{IsLeft, IsLive, kept_shows, disk_below};
 
 use el_journal::Journal;
 use el_outside::{Disk, DiskFailed};
 use el_redo::{NetworkMagic, redo_body};
-use el_rows::{CommitFault, Rows, Sealed, Table, VecRows};
+use el_row_formats::Table;
+use el_rows::{CommitFault, Rows, Sealed, VecRows};
 use std::alloc::Global;
 use std::marker::PhantomData;
 

@@ -7,12 +7,12 @@ use Rattle.std.proofs.lemmas.Nat.{from_le_bytes-to_le_bytes_8}
 use Rattle.std.proofs.lemmas.List.{append_cancel_left, take_at, take_more, take-append-drop}
 use Rattle.std.proofs.lemmas.Option.{slice_get_within, get_or_from_slice_get}
 use Rattle.el_base.proofs.Lists.{same_cut}
-use Rattle.el_rows.specs.declared.table.Table.{Table}
-use Rattle.el_rows.specs.declared.table.Table.TheVariants as table
-use Rattle.el_rows.specs.declared.table.RowKey.{RowKey}
-use Rattle.el_rows.specs.Tables.{number_of, index_of, size_of, limit_of}
-use Rattle.el_rows.specs.Changes.{Changes, Update, IsMadeFrom, count_at, key, changed_at}
-use Rattle.el_rows.proofs.Keys.{same_index}
+use Rattle.el_row_formats.specs.declared.table.Table.{Table}
+use Rattle.el_row_formats.specs.declared.table.Table.TheVariants as table
+use Rattle.el_row_formats.specs.declared.table.RowKey.{RowKey}
+use Rattle.el_row_formats.specs.Tables.{number_of, index_of, size_of, limit_of, key}
+use Rattle.el_rows.specs.Changes.{Changes, Update, IsMadeFrom, count_at, changed_at}
+use Rattle.el_row_formats.proofs.Keys.{same_index}
 use Rattle.el_rows.proofs.InMemoryLemmas.{change_at}
 use Rattle.el_redo.specs.RedoBody.{all_tables, head_bytes, numbers_bytes, meta_row, change_bytes, changes_bytes, IsCommit}
 

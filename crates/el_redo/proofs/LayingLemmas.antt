@@ -1,17 +1,17 @@
 -- Changed rows that are laid over tables one by one.
-use Rattle.std.proofs.Common.{◌≡◌, ◌≢◌, ◌<◌, ◌≤◌, ◌+◌, ◌-◌, ◌^◌, ℕ, List, [], ◌∷◌, ◌++◌, true, false, Some, None, Option, length, get_or, take, unwrap_or, max, refl, ap, sym, ◌∙◌, arith, subst, ⊎_elim, append_assoc, length-append}
+use Rattle.std.proofs.Common.{◌≡◌, ◌≢◌, ◌<◌, ◌≤◌, ◌+◌, ◌-◌, ◌^◌, ℕ, List, [], ◌∷◌, ◌++◌, true, false, Some, None, Option, length, get_or, take, unwrap_or, max, refl, ap, sym, ◌∙◌, arith, subst, ⊎_elim, append_assoc, append-nil, length-append}
 use Rattle.std.specs.Prelude.{IsSome}
 use Rattle.std.specs.List.Sorted.{IsStrictlySortedBy}
 use Rattle.std.specs.Map.{keys_of}
 use Rattle.std.specs.declared.cmp.Ordering.TheVariants.{Less}
 use Rattle.std.proofs.Math.ListN.{set, length-set}
-use Rattle.std.proofs.lemmas.List.{get_or_append_left, get_or-append_right, get_or-set_same, get_or-set_other, get_or-take, length-take, take_all}
+use Rattle.std.proofs.lemmas.List.{nil_from_length, get_or_append_left, get_or-append_right, get_or-set_same, get_or-set_other, length-take}
 use Rattle.std.proofs.lemmas.Bool.{cases_lt, cases_eq}
-use Rattle.el_rows.specs.declared.table.Table.{Table}
-use Rattle.el_rows.specs.declared.table.RowKey.{RowKey}
-use Rattle.el_rows.specs.Tables.{Tables, size_of, limit_of, row_cmp}
-use Rattle.el_rows.specs.Changes.{Changes, IsMadeFrom, OnTable, key, changed_at, count_at, row_under, under}
-use Rattle.el_rows.proofs.Keys.{self_key, other_key, same_table}
+use Rattle.el_row_formats.specs.declared.table.Table.{Table}
+use Rattle.el_row_formats.specs.declared.table.RowKey.{RowKey}
+use Rattle.el_row_formats.specs.Tables.{Tables, size_of, limit_of, row_cmp, key}
+use Rattle.el_rows.specs.Changes.{Changes, IsMadeFrom, IsResized, OnTable, changed_at, count_at, row_under, under}
+use Rattle.el_row_formats.proofs.Keys.{self_key, other_key, same_table}
 use Rattle.el_rows.proofs.UnderLemmas.{is_under}
 use Rattle.el_redo.specs.RedoBody.{change_bytes, changes_bytes}
 use Rattle.el_redo.specs.within.Laying.{Follows, IsNext, IsPut, IsLaid}
@@ -38,10 +38,6 @@ put_after old new k row is on = record {
   beside = λ i le ne. ap (λ (r : List (List ℕ)). get_or r i []) on.here ∙ get_or_append_left (old k.table) (row ∷ []) [] i le;
   others = on.others;
 }
-
--- a table was left as it was, where it has few rows
-pub none_cut : (old : Tables) (t : Table) (n : ℕ) → length (old t) ≤ n → OnTable old old t (take n (old t))
-none_cut old t n le = record { here = sym (take_all n (old t) le); others = λ u ne. refl }
 
 -- ---- no row yet
 
@@ -223,7 +219,7 @@ module _ (bytes rest : List ℕ) (last : Option RowKey) (old : Tables) (counts :
 
 -- ---- the tables at the end
 
-limited_by : (old : Tables) (counts : List ℕ) (changes : Changes) (now : Tables) → IsLaid old counts changes now → ((t : Table) → count_at counts t ≤ limit_of t)
+pub limited_by : (old : Tables) (counts : List ℕ) (changes : Changes) (now : Tables) → IsLaid old counts changes now → ((t : Table) → count_at counts t ≤ limit_of t)
     → IsMadeFrom (count_at counts) counts changes
 limited_by old counts changes now laid limited = record {
   covers = λ t i lt none. lt;
@@ -274,14 +270,54 @@ module _ (full old : Tables) (counts : List ℕ) (cut : (t : Table) → old t �
       rising = laid.rising;
     }
 
-    pub are_under : (t : Table) → under full counts changes t ≡ now t
-    are_under t = is_under full counts changes t (now t) (filled t) (λ i lt.
-        let in_now : i < length (now t) = subst (λ n. i < n) (sym (filled t)) lt in
-        laid.rows t i in_now ∙ row_of t i in_now (changed_at changes t i) refl)
-      where
-        row_of : (t : Table) (i : ℕ) → i < length (now t) → (o : Option (List ℕ)) → changed_at changes t i ≡ o
-            → unwrap_or (changed_at changes t i) (get_or (old t) i []) ≡ unwrap_or (changed_at changes t i) (get_or (full t) i [])
-        row_of t i lt (Some row) is = rw is refl
-        row_of t i lt None is =
-            let below : i < count_at counts t = subst (λ n. i < n) (filled t) lt in
-            rw is (ap (λ (r : List (List ℕ)). get_or r i []) (cut t) ∙ get_or-take (count_at counts t) (full t) i [] below)
+-- a commit over some tables has each row below a new count
+pub made_over : (base : Table → ℕ) (counts : List ℕ) (changes : Changes) → IsMadeFrom base counts changes → IsMadeFrom (count_at counts) counts changes
+made_over base counts changes made = record {
+  covers = λ t i lt none. lt;
+  sized = made.sized;
+  limited = made.limited;
+  within = made.within;
+  rising = made.rising;
+}
+
+-- the tables of a commit are those that its changes were laid over, given its counts
+module _ (full grown : Tables) (counts : List ℕ) (changes laid_changes : Changes) (now : Tables) (made : IsMadeFrom (λ t. length (full t)) counts changes) (resized : IsResized counts full grown)
+    (laid : IsLaid grown counts laid_changes now) (same : changes_bytes laid_changes ≡ changes_bytes changes) where
+  one : laid_changes ≡ changes
+  one = same_changes laid_changes changes (made_fits (count_at counts) counts laid_changes (limited_by grown counts laid_changes now laid made.limited)) (made_fits (λ t. length (full t)) counts changes made) same
+
+  long : (t : Table) → length (now t) ≡ count_at counts t
+  long t = omega (arith, laid.least t, laid.most t, resized.long t)
+
+  row_of : (t : Table) (i : ℕ) → i < count_at counts t → (o : Option (List ℕ)) → changed_at changes t i ≡ o → unwrap_or (changed_at changes t i) (get_or (grown t) i []) ≡ unwrap_or (changed_at changes t i) (get_or (full t) i [])
+  row_of t i lt (Some row) is = rw is refl
+  row_of t i lt None is = rw is (resized.first t i (made.covers t i lt is) lt)
+
+  pub laid_under : (t : Table) → now t ≡ under full counts changes t
+  laid_under t = sym (is_under full counts changes t (now t) (long t) (λ i lt. laid.rows t i (subst (λ n. i < n) (sym (long t)) lt)
+      ∙ ap (λ (c : Changes). row_under grown c t i) one ∙ row_of t i lt (changed_at changes t i) refl))
+
+-- where no change follows any more, all of them were laid
+pub all_laid : (bytes rest : List ℕ) (last : Option RowKey) (old : Tables) (counts : List ℕ) (now : Tables) (all : Changes) → HasRead bytes rest last old counts now → IsMadeFrom (count_at counts) counts all
+    → bytes ≡ changes_bytes all → ((t : Table) → length (old t) ≡ count_at counts t)
+    → ((k : RowKey) (row more : List ℕ) → IsNext counts last k row → rest ≡ change_bytes (k, row) ++ more → ⊥) → (changes : Changes) × (bytes ≡ changes_bytes changes) × IsLaid old counts changes now
+all_laid bytes rest last old counts now all was made spells long none = (
+  was.changes,
+  was.spelled ∙ ap (λ (r : List ℕ). changes_bytes was.changes ++ r) (nil_from_length rest ended) ∙ append-nil (changes_bytes was.changes),
+  was.laid,
+)
+  where
+    from_old : IsMadeFrom (λ t. length (old t)) counts all
+    from_old = record {
+      covers = λ t i lt nowhere. subst (λ n. i < n) (sym (long t)) lt;
+      sized = made.sized;
+      limited = made.limited;
+      within = made.within;
+      rising = made.rising;
+    }
+
+    ended : length rest ≡ 0
+    ended = ⊎_elim
+        (λ (some : 0 < length rest). absurd (let found = has_next bytes rest last old counts now was all from_old spells (omega (arith, some)) in none found.0.0 found.0.1 (changes_bytes found.1) found.4 found.3))
+        (λ (less : length rest ≤ 0). omega (arith, less))
+        (cases_lt 0 (length rest))

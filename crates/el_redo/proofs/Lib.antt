@@ -1,3 +1,4 @@
 pub mod BodyLemmas
 pub mod Sorting
 pub mod LayingLemmas
+pub mod CheckingLemmas

@@ -6,10 +6,10 @@ use Rattle.std.specs.Map.{lookup, keys_of}
 use Rattle.std.specs.BTreeMap.{is_at}
 use Rattle.std.specs.Ordering.{ordering_reverse}
 use Rattle.std.specs.declared.cmp.Ordering.TheVariants.{Less}
-use Rattle.el_rows.specs.declared.table.RowKey.{RowKey}
-use Rattle.el_rows.specs.Tables.{row_cmp}
+use Rattle.el_row_formats.specs.declared.table.RowKey.{RowKey}
+use Rattle.el_row_formats.specs.Tables.{row_cmp}
 use Rattle.el_rows.specs.Changes.{Changes}
-use Rattle.el_rows.proofs.Keys.{keys_total}
+use Rattle.el_row_formats.proofs.Keys.{keys_total}
 
 -- all keys come before this one
 abbrev pub AllBefore : Changes → RowKey → Type 0

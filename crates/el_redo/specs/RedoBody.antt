@@ -1,10 +1,10 @@
 -- The bytes of a commit: the body of a redo record in format 1. Numbers are little endian.
 use Rattle.std.specs.Prelude.{◌≡◌, ℕ, List, [], ◌∷◌, ◌++◌, map}
 use Rattle.std.specs.Int.{w32, w64, to_le_bytes}
-use Rattle.el_rows.specs.declared.table.Table.{Table}
-use Rattle.el_rows.specs.declared.table.Table.TheVariants as table
-use Rattle.el_rows.specs.declared.table.RowKey.{RowKey}
-use Rattle.el_rows.specs.Tables.{number_of}
+use Rattle.el_row_formats.specs.declared.table.Table.{Table}
+use Rattle.el_row_formats.specs.declared.table.Table.TheVariants as table
+use Rattle.el_row_formats.specs.declared.table.RowKey.{RowKey}
+use Rattle.el_row_formats.specs.Tables.{number_of}
 use Rattle.el_rows.specs.Changes.{Changes, Update, IsMadeFrom, count_at}
 use Rattle.el_redo.specs.declared.head.TheConstants.{FORMAT}
 

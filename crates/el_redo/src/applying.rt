@@ -1,70 +1,24 @@
 // Making the tables those after a commit.
-ghost use Rattle.std.specs.Prelude.{◌≡◌, ◌<◌, ◌≤◌, ◌^◌, ℕ, List, length, Err, OnOk, OnErr, IfOk, IsTrue, ◌↔◌};
-ghost use Rattle.el_rows.specs.Tables.{Tables, tables_of, limit_of};
+ghost use Rattle.std.specs.Prelude.{◌≡◌, length, Err, OnOk, OnErr};
+ghost use Rattle.el_row_formats.specs.Tables.{tables_of};
 ghost use Rattle.el_rows.specs.Reads.{Same};
-ghost use Rattle.el_rows.specs.Changes.{Changes, Update, IsMadeFrom, count_at, under};
-ghost use Rattle.el_rows.specs.declared.table.Table.{Table};
-ghost use Rattle.el_redo.specs.RedoBody.{changes_bytes, IsCommit};
+ghost use Rattle.el_rows.specs.Changes.{Update, under};
+ghost use Rattle.el_redo.specs.RedoBody.{IsCommit};
 
 use crate::RedoFault;
-use crate::laying::{cut, is_full, lay_all};
-use crate::reading::{count_of, read_meta};
-use el_rows::{Rows, Sealed, TABLES, Table, Txn, VecRows};
-use std::alloc::Global;
-
-// Whether no count is above the limit.
-fn are_limited(counts: &[u64; TABLES]) -> bool
-    ensures limited { IsTrue result ↔ ((t : Table) → count_at counts.now t ≤ limit_of t) }
-    ensures fit { (t : Table) → count_at counts.now t < 2 ^ 64 }
-{
-    for t in Table::ALL {
-        if count_of(counts, t) > t.limit() {
-            return false;
-        }
-    }
-    true
-}
-
-// The edits that the changed rows spell, with these new counts.
-fn edits(
-    alloc: Global,
-    rows: &mut VecRows,
-    counts: &[u64; TABLES],
-    bytes: &[u8],
-) -> Result<Sealed, RedoFault>
-    requires { (t : Table) → count_at counts.now t ≤ limit_of t }
-    ensures made { IfOk result
-        (λ s. IsMadeFrom (λ t. length (tables_of rows.old.rows t)) s.counts s.changes) }
-    ensures tables { IfOk result (λ s. (changes : Changes) × (bytes.now ≡ changes_bytes changes)
-        × IsMadeFrom (λ t. length (tables_of rows.old.rows t)) counts.now changes
-        × Same (under (tables_of rows.old.rows) counts.now changes)
-        (under (tables_of rows.old.rows) s.counts s.changes)) }
-    ensures no_commit { result ≡ Err RedoFault.NoCommit → (changes : Changes)
-        → IsMadeFrom (λ t. length (tables_of rows.old.rows t)) counts.now changes
-        → bytes.now ≡ changes_bytes changes → ⊥ }
-    ensures rows { rows.new ≡ rows.old }
-{
-    let mut txn = Txn::new(alloc, rows);
-    cut(&mut txn, counts);
-    lay_all(&mut txn, counts, bytes)?;
-    if !is_full(&txn, counts) {
-        return Err(RedoFault::NoCommit);
-    }
-    Ok(txn.seal()?)
-}
+use crate::checking::{are_limited, are_made};
+use crate::laying::lay_all;
+use crate::reading::read_meta;
+use el_rows::VecRows;
 
 /// Makes the rows those after the commit that the body spells for the network with this magic, whose bytes
-/// are in the order in which block files have them.
+/// are in the order in which block files have them. The body is checked as a whole before a row is laid, and
+/// takes no memory but for the rows that are added.
 ///
 /// # Errors
 ///
 /// `NoCommit` exactly where the body spells none, and `Memory`. Nothing has changed then.
-pub fn apply(
-    alloc: Global,
-    rows: &mut VecRows,
-    magic: [u8; 4],
-    body: &[u8],
-) -> Result<(), RedoFault>
+pub fn apply(rows: &mut VecRows, magic: [u8; 4], body: &[u8]) -> Result<(), RedoFault>
     ensures ok { OnOk result ((update : Update)
         × IsCommit magic (λ t. length (tables_of rows.old.rows t)) body.now update
         × Same (under (tables_of rows.old.rows) update.counts update.changes) (tables_of rows.new.rows)) }
@@ -79,9 +33,10 @@ pub fn apply(
     if !are_limited(&counts) {
         return Err(RedoFault::NoCommit);
     }
-    let sealed = edits(alloc, rows, &counts, meta.1)?;
-    match rows.commit(&sealed) {
-        Ok(()) => Ok(()),
-        Err(_) => Err(RedoFault::Memory),
+    if !are_made(rows, &counts, meta.1) {
+        return Err(RedoFault::NoCommit);
     }
+    rows.resize(&counts)?;
+    lay_all(rows, &counts, meta.1);
+    Ok(())
 }

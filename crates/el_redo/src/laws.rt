@@ -1,6 +1,6 @@
 // What holds of bodies.
 ghost use Rattle.std.specs.Prelude.{◌≡◌, ℕ, List};
-ghost use Rattle.el_rows.specs.declared.table.Table.{Table};
+ghost use Rattle.el_row_formats.specs.declared.table.Table.{Table};
 ghost use Rattle.el_rows.specs.Changes.{Update, count_at};
 ghost use Rattle.el_redo.specs.RedoBody.{IsCommit};
 

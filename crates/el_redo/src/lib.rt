@@ -2,6 +2,7 @@
 #![tactic(auto)]
 
 mod applying;
+mod checking;
 mod faults;
 mod head;
 mod laws;

@@ -1,15 +1,15 @@
 // Reading the bytes of a commit.
 ghost use Rattle.std.specs.Prelude.{◌≡◌, ◌<◌, ◌≤◌, ◌+◌, ◌↔◌, ◌^◌, ◌++◌, List, ℕ, length, IsTrue, IfSome, IfNone};
 ghost use Rattle.std.specs.Int.{w64, to_le_bytes};
-ghost use Rattle.el_rows.specs.Tables.{number_of, size_of};
+ghost use Rattle.el_row_formats.specs.Tables.{number_of, size_of};
 ghost use Rattle.el_rows.specs.Changes.{count_at};
-ghost use Rattle.el_rows.specs.declared.table.Table.{Table};
-ghost use Rattle.el_rows.specs.declared.table.RowKey.{RowKey};
+ghost use Rattle.el_row_formats.specs.declared.table.Table.{Table};
+ghost use Rattle.el_row_formats.specs.declared.table.RowKey.{RowKey};
 ghost use Rattle.el_redo.specs.RedoBody.{head_bytes, numbers_bytes, meta_row, change_bytes};
 ghost use Rattle.el_redo.specs.within.Laying.{Follows, IsNext};
 
 use crate::head::head;
-use el_rows::{RowKey, TABLES, Table};
+use el_row_formats::{RowKey, TABLES, Table};
 
 // The first N bytes, and the bytes after them.
 fn array<const N: usize>(bytes: &[u8]) -> ([u8; N], &[u8])

@@ -1,11 +1,13 @@
 // Writing the bytes of a commit.
-ghost use Rattle.std.specs.Prelude.{◌≡◌, ◌++◌, List, ℕ, OnOk, IfOk};
-ghost use Rattle.el_rows.specs.Changes.{key};
+ghost use Rattle.std.specs.Prelude.{◌≡◌, ◌<◌, ◌≤◌, ◌+◌, ◌*◌, ◌++◌, List, ℕ, Some, length, take, slice_get, OnOk, IfOk};
+ghost use Rattle.el_rows.specs.Changes.{Changes};
+ghost use Rattle.el_row_formats.specs.Tables.{key, size_of, limit_of, row_at};
 ghost use Rattle.el_redo.specs.RedoBody.{numbers_bytes, meta_row, change_bytes, changes_bytes, redo_body};
 
 use crate::head::head;
 use el_base::{Bytes, OutOfMemory};
-use el_rows::{Sealed, Table};
+use el_row_formats::Table;
+use el_rows::Sealed;
 use std::alloc::Global;
 
 // Adds numbers, each in eight bytes.
@@ -37,13 +39,64 @@ fn meta(alloc: Global, magic: [u8; 4], sealed: &Sealed) -> Result<Bytes, OutOfMe
     Ok(body)
 }
 
+// How many bytes the changed rows take, as far as a number can tell.
+fn room(sealed: &Sealed) -> usize {
+    let mut room: usize = 0;
+    let mut k = 0;
+    while k < sealed.changes() {
+        let run = sealed.run(k);
+        let each = run.table.size() + 9;
+        room = room.saturating_add(each.saturating_mul(run.rows));
+        k += run.rows;
+    }
+    room
+}
+
 // Adds a changed row.
-fn put_change(body: &mut Bytes, t: Table, i: u64, row: &[u8]) -> Result<(), OutOfMemory>
-    ensures { OnOk result (body.new ≡ body.old ++ change_bytes (key t i, row.now)) }
+fn put_change(body: &mut Vec<u8>, t: Table, i: u64, row: &[u8]) -> Result<(), OutOfMemory>
+    ensures { OnOk result (body.new.items ≡ body.old.items ++ change_bytes (key t i, row.now)) }
 {
-    body.extend(&[t.number()])?;
-    body.extend(&i.to_le_bytes())?;
-    body.extend(row)?;
+    body.push(t.number())?;
+    body.extend_from_slice(&i.to_le_bytes())?;
+    body.extend_from_slice(row)?;
+    Ok(())
+}
+
+// Adds so many rows of a table from that number on, whose bytes stand one after another: those of the changes
+// from that place on.
+fn put_rows(
+    body: &mut Vec<u8>,
+    t: Table,
+    first: u64,
+    rows: usize,
+    bytes: &[u8],
+) -> Result<(), OutOfMemory>
+    requires long { length bytes.now ≡ rows * size_of t }
+    requires limit { first + rows ≤ limit_of t }
+    ensures { (changes : Changes) (k : ℕ) (front : List ℕ)
+        → ((j : ℕ) → j < rows
+        → slice_get changes (k + j) ≡ Some (key t (first + j), row_at (size_of t) bytes.now j))
+        → body.old.items ≡ front ++ changes_bytes (take k changes)
+        → OnOk result (body.new.items ≡ front ++ changes_bytes (take (k + rows) changes)) }
+{
+    let size = t.size();
+    for j in 0..rows {
+        let at = j * size;
+        put_change(body, t, first + j as u64, &bytes[at..at + size])?;
+    }
+    Ok(())
+}
+
+// Adds the changed rows.
+fn put_changes(body: &mut Vec<u8>, sealed: &Sealed) -> Result<(), OutOfMemory>
+    ensures { OnOk result (body.new.items ≡ body.old.items ++ changes_bytes sealed.now.changes) }
+{
+    let mut k = 0;
+    while k < sealed.changes() {
+        let run = sealed.run(k);
+        put_rows(body, run.table, run.first, run.rows, run.bytes)?;
+        k += run.rows;
+    }
     Ok(())
 }
 
@@ -53,10 +106,8 @@ fn put_change(body: &mut Bytes, t: Table, i: u64, row: &[u8]) -> Result<(), OutO
 pub fn redo_body(alloc: Global, magic: [u8; 4], sealed: &Sealed) -> Result<Bytes, OutOfMemory>
     ensures { IfOk result (λ b. b ≡ redo_body magic sealed.now) }
 {
-    let mut body = meta(alloc, magic, sealed)?;
-    for k in 0..sealed.changes() {
-        let (t, i, row) = sealed.change(k);
-        put_change(&mut body, t, i, row)?;
-    }
-    Ok(body)
+    let mut body = meta(alloc, magic, sealed)?.into_vec();
+    body.reserve_exact(room(sealed))?;
+    put_changes(&mut body, sealed)?;
+    Ok(Bytes::from_vec(body))
 }

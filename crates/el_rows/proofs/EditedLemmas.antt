@@ -6,12 +6,12 @@ use Rattle.std.proofs.lemmas.List.{get_or-set_same, get_or-set_other, get_or_def
 use Rattle.std.proofs.lemmas.Bool.{cases_eq, cases_lt}
 use Rattle.std.specs.Map.{lookup}
 use Rattle.std.specs.BTreeMap.{is_at}
-use Rattle.el_rows.specs.declared.table.Table.{Table}
-use Rattle.el_rows.specs.declared.table.Table.TheVariants as table
-use Rattle.el_rows.specs.Tables.{row_cmp, index_of, size_of, limit_of}
-use Rattle.el_rows.specs.Changes.{Changes, Sets, Counts, key, changed_at, count_at}
+use Rattle.el_row_formats.specs.declared.table.Table.{Table}
+use Rattle.el_row_formats.specs.declared.table.Table.TheVariants as table
+use Rattle.el_row_formats.specs.Tables.{row_cmp, index_of, size_of, limit_of, key}
+use Rattle.el_rows.specs.Changes.{Changes, Sets, Counts, changed_at, count_at}
 use Rattle.el_rows.specs.within.EditedTables.{EditedTable, edited_at, no_edits, edits_of, numbered, changes_in, all_changes, Writes, AreEdited}
-use Rattle.el_rows.proofs.Keys.{same_key, self_key, other_key, same_index, same_table}
+use Rattle.el_row_formats.proofs.Keys.{same_key, self_key, other_key, same_index, same_table}
 
 pub eq_true : (i j : ℕ) → i ≡ j → nat_eq i j ≡ true
 eq_true i j e = grind arith

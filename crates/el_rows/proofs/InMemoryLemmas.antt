@@ -11,14 +11,14 @@ use Rattle.std.proofs.lemmas.Cmp.{eq_by_cmp_equiv}
 use Rattle.std.proofs.lemmas.Option.{slice_get_within, get_or_from_slice_get}
 use Rattle.std.specs.BTreeMap.{is_at}
 use Rattle.std.specs.Map.{keys_of}
-use Rattle.el_rows.specs.declared.table.Table.{Table}
-use Rattle.el_rows.specs.declared.table.Table.TheVariants as table
-use Rattle.el_rows.specs.declared.table.RowKey.{RowKey}
-use Rattle.el_rows.specs.Tables.{Tables, tables_of, listed, index_of, row_cmp}
-use Rattle.el_rows.specs.Changes.{Changes, IsMadeFrom, key, changed_at, count_at, under}
+use Rattle.el_row_formats.specs.declared.table.Table.{Table}
+use Rattle.el_row_formats.specs.declared.table.Table.TheVariants as table
+use Rattle.el_row_formats.specs.declared.table.RowKey.{RowKey}
+use Rattle.el_row_formats.specs.Tables.{Tables, tables_of, listed, index_of, row_cmp, key}
+use Rattle.el_rows.specs.Changes.{Changes, IsMadeFrom, changed_at, count_at, under}
 use Rattle.el_rows.specs.within.SizedRows.{SizedRows}
 use Rattle.el_rows.specs.within.InMemory.{HasGrown, no_list, list_of, kept_of, shown_rows, AreSized, HasRoom, AreKept, AllGrown, AreWritten}
-use Rattle.el_rows.proofs.Keys.{keys_total, same_table, same_index, other_key}
+use Rattle.el_row_formats.proofs.Keys.{keys_total, same_table, same_index, other_key}
 use Rattle.el_rows.proofs.EditedLemmas.{if_false}
 use Rattle.el_rows.proofs.UnderLemmas.{is_under}
 
@@ -27,10 +27,10 @@ pub is_read : (kept : List SizedRows) (t : Table) (i : ℕ) (list : SizedRows) �
 is_read kept t i list lt at = get_or_default kept i list no_list lt ∙ ap (λ (n : ℕ). get_or kept n no_list) at
 
 -- one list was set
-set_at : (kept : List SizedRows) (t : Table) (list : SizedRows) → index_of t < length kept → list_of (set kept (index_of t) list) t ≡ list
+pub set_at : (kept : List SizedRows) (t : Table) (list : SizedRows) → index_of t < length kept → list_of (set kept (index_of t) list) t ≡ list
 set_at kept t list lt = get_or-set_same kept (index_of t) list no_list lt
 
-set_beside : (kept : List SizedRows) (t u : Table) (list : SizedRows) → u ≢ t → list_of (set kept (index_of t) list) u ≡ list_of kept u
+pub set_beside : (kept : List SizedRows) (t u : Table) (list : SizedRows) → u ≢ t → list_of (set kept (index_of t) list) u ≡ list_of kept u
 set_beside kept t u list ne = get_or-set_other kept (index_of t) (index_of u) list no_list (λ e. ne (same_index u t e))
 
 not_grown : (size : ℕ) (old : List (List ℕ)) → HasGrown size old old
@@ -139,7 +139,7 @@ module _ (base : Table → ℕ) (counts : List ℕ) (changes : Changes) (old mid
   same_size = made.sized t i row found ∙ sym (so_far.sizes t ∙ sized t)
 
 -- and what it leaves
-abbrev set_row : List SizedRows → Table → ℕ → List ℕ → SizedRows
+abbrev pub set_row : List SizedRows → Table → ℕ → List ℕ → SizedRows
 set_row kept t i row = record { size = (list_of kept t).size; rows = set (kept_of kept t) i row }
 
 module _ (base : Table → ℕ) (counts : List ℕ) (changes : Changes) (old mid new : List SizedRows) (k : ℕ) (t : Table) (i : ℕ) (row : List ℕ)

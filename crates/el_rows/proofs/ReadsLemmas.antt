@@ -1,8 +1,8 @@
 -- How reads go on.
 use Rattle.std.proofs.Common.{◌≡◌, ℕ, ◌∙◌, sym, refl, subst}
 use Rattle.el_outside.proofs.Moments.{no_call, no_more_joined}
-use Rattle.el_rows.specs.declared.table.Table.{Table}
-use Rattle.el_rows.specs.Tables.{Tables}
+use Rattle.el_row_formats.specs.declared.table.Table.{Table}
+use Rattle.el_row_formats.specs.Tables.{Tables}
 use Rattle.el_rows.specs.Reads.{OnlyRead}
 
 module _ {R C : Type 0} (lists : R → Tables) (counts : R → Table → ℕ) (is_live : R → Type 0) (tells_crash : Type 0) (moment : R → ℕ) (left_since : R → ℕ → C → Type 0) where

@@ -2,15 +2,17 @@
 use Rattle.std.proofs.Common.{◌≡◌, ◌≢◌, ◌<◌, ◌≤◌, ◌+◌, ◌-◌, ◌*◌, ℕ, List, [], ◌∷◌, ◌++◌, length, get_or, take, drop, ap, sym, ◌∙◌, arith, subst, ⊎_elim, length-append, Vec, rules}
 use Rattle.std.specs.Vec.{with_items}
 use Rattle.std.proofs.Math.ListN.{set, length-set}
-use Rattle.std.proofs.lemmas.List.{get_or_append_left, get_or_push, get_or-set_same, get_or-set_other, take-append-le, take_all, drop_at, with_items_is, places}
+use Rattle.std.proofs.lemmas.List.{get_or_append_left, get_or_push, get_or-set_same, get_or-set_other, take-append-le, take-take, drop-drop, take_all, drop_at, with_items_is, places}
 use Rattle.std.proofs.lemmas.List.Edits.{length-between}
 use Rattle.std.proofs.lemmas.List.FromFn.{length-map-range_with_len, get_or-map-range_with_len, fill_by_all}
+use Rattle.std.proofs.Math.Nat.{add-mul}
 use Rattle.std.proofs.lemmas.Nat.{row_fits, mul-le}
 use Rattle.std.proofs.lemmas.Slice.{between_is, take-put_mid_below, drop-put_mid, between-put_mid}
 use borrow.Rule.Slice.PartMut.{put_mid}
 use Rattle.std.proofs.lemmas.Bool.{cases_lt, cases_eq}
 use Rattle.el_rows.specs.within.InMemory.{HasGrown}
-use Rattle.el_rows.specs.within.SizedRows.{SizedRows, row_at, cut_rows}
+use Rattle.el_row_formats.specs.Tables.{row_at}
+use Rattle.el_rows.specs.within.SizedRows.{SizedRows, cut_rows}
 
 -- how many there are, one of them, and all of them
 module _ (size : ℕ) (bytes : List ℕ) (count : ℕ) where
@@ -32,6 +34,20 @@ row_within size bytes count i whole lt = omega (arith, whole, row_fits i size co
 
 length-row_at : (size : ℕ) (bytes : List ℕ) (count i : ℕ) → length bytes ≡ count * size → i < count → length (row_at size bytes i) ≡ size
 length-row_at size bytes count i whole lt = length-between bytes (i * size) (i * size + size) (row_within size bytes count i whole lt) ∙ (let e : i * size + size - i * size ≡ size = omega arith in e)
+
+-- a row among the bytes from one row to another
+row_between : (size : ℕ) (bytes : List ℕ) (from to j : ℕ) → from + j < to → row_at size (take (to * size - from * size) (drop (from * size) bytes)) j ≡ row_at size bytes (from + j)
+row_between size bytes from to j lt =
+    let part = to * size - from * size in
+    let ys = drop (from * size) bytes in
+    let whole : (from + j) * size ≡ from * size + j * size = add-mul from j size in
+    let le : j * size + size ≤ part = omega (arith, whole, row_fits (from + j) size to size lt (omega arith)) in
+    between_is (take part ys) (j * size) (j * size + size)
+    ∙ ap (λ (b : List ℕ). drop (j * size) b) (take-take (j * size + size) part ys le)
+    ∙ sym (between_is ys (j * size) (j * size + size))
+    ∙ ap (λ (b : List ℕ). take (j * size + size - j * size) b) (drop-drop (j * size) (from * size) bytes)
+    ∙ ap (λ (n : ℕ). take n (drop (from * size + j * size) bytes)) (let e : j * size + size - j * size ≡ (from + j) * size + size - (from + j) * size = omega arith in e)
+    ∙ ap (λ (n : ℕ). take ((from + j) * size + size - (from + j) * size) (drop n bytes)) (sym whole)
 
 -- bytes that follow leave a row
 row_before : (size : ℕ) (bytes more : List ℕ) (i : ℕ) → i * size + size ≤ length bytes → row_at size (bytes ++ more) i ≡ row_at size bytes i
@@ -130,6 +146,12 @@ module _ (self : SizedRows) (size : ℕ) (bytes : List ℕ) (count : ℕ) (is : 
 
   pub is_within : (i : ℕ) → length bytes ≡ count * size → i < length self.rows → i * size + size ≤ length bytes
   is_within i whole lt = row_within size bytes count i whole (omega (arith, count_is, lt))
+
+  pub is_end : (n : ℕ) → length bytes ≡ count * size → n ≤ length self.rows → n * size ≤ length bytes
+  is_end n whole le = omega (arith, whole, mul-le n size count size (omega (arith, count_is, le)) (omega arith))
+
+  pub between_rows : (from to j : ℕ) → to ≤ length self.rows → from + j < to → row_at self.size (take (to * size - from * size) (drop (from * size) bytes)) j ≡ get_or self.rows (from + j) []
+  between_rows from to j le lt = ap (λ (s : ℕ). row_at s (take (to * size - from * size) (drop (from * size) bytes)) j) (sym size_is) ∙ row_between size bytes from to j lt ∙ row_is (from + j) (omega (arith, le, lt))
 
   pub written : (new : List ℕ) (i : ℕ) (row : List ℕ) → length bytes ≡ count * size → i < length self.rows → length row ≡ self.size → new ≡ put_mid (i * size) size bytes row
       → ◌≡◌ {A = SizedRows} (record { size = size; rows = cut_rows size new count }) (record { size = self.size; rows = set self.rows i row })

@@ -11,13 +11,13 @@ use Rattle.std.proofs.lemmas.Option.{slice_get-get_or}
 use Rattle.std.proofs.lemmas.Bool.{cases_lt}
 use Rattle.std.proofs.lemmas.List.Folds.{list_any-append}
 use Rattle.std.proofs.lemmas.Map.Keys.{sorted_from_strictly_increasing}
-use Rattle.el_rows.specs.declared.table.Table.{Table}
-use Rattle.el_rows.specs.declared.table.Table.TheVariants as table
-use Rattle.el_rows.specs.declared.table.RowKey.{RowKey}
-use Rattle.el_rows.specs.Tables.{row_cmp, index_of}
-use Rattle.el_rows.specs.Changes.{Changes, IsMadeFrom, key, changed_at, count_at, shown_at}
+use Rattle.el_row_formats.specs.declared.table.Table.{Table}
+use Rattle.el_row_formats.specs.declared.table.Table.TheVariants as table
+use Rattle.el_row_formats.specs.declared.table.RowKey.{RowKey}
+use Rattle.el_row_formats.specs.Tables.{row_cmp, index_of, key}
+use Rattle.el_rows.specs.Changes.{Changes, IsMadeFrom, changed_at, count_at, shown_at}
 use Rattle.el_rows.specs.within.EditedTables.{EditedTable, edited_at, edits_of, all_changes, listed_changes, AreEdited}
-use Rattle.el_rows.proofs.Keys.{same_key, other_key, same_index, same_table}
+use Rattle.el_row_formats.proofs.Keys.{same_key, other_key, same_index, same_table}
 use Rattle.el_rows.proofs.EditedLemmas.{same_row, at_changes, if_true, if_false}
 
 -- whether a key is among keys
@@ -57,10 +57,10 @@ listed_at changes [] n k is = cc
 listed_at changes (x ∷ keys) zero k is = let same : x ≡ k = cc in ap (λ (y : RowKey). Some (y, listed_row changes y)) same
 listed_at changes (x ∷ keys) (suc n) k is = listed_at changes keys n k is
 
-nat_lt_true : (i n : ℕ) → nat_lt i n ≡ true → i < n
+pub nat_lt_true : (i n : ℕ) → nat_lt i n ≡ true → i < n
 nat_lt_true i n h = grind arith
 
-lt_nat_true : (i n : ℕ) → i < n → nat_lt i n ≡ true
+pub lt_nat_true : (i n : ℕ) → i < n → nat_lt i n ≡ true
 lt_nat_true i n h = grind arith
 
 if_some : (b : Bool) (o : Option (List ℕ)) (x : List ℕ) → cond b o None ≡ Some x → (b ≡ true) × (o ≡ Some x)

@@ -1,5 +1,5 @@
 -- How calls over a transaction of rows go on.
-use Rattle.std.proofs.Common.{◌≡◌, ◌≤◌, Result, Ok, refl, sym, subst, ◌∙◌, arith}
+use Rattle.std.proofs.Common.{◌≡◌, ◌≤◌, Ok, refl, sym, subst, ◌∙◌, arith}
 use Rattle.el_rows.specs.declared.open.Open.{Open}
 use Rattle.el_rows.specs.declared.rows.Rows as rows
 use Rattle.el_rows.specs.declared.edits.Layer as layer

@@ -5,10 +5,10 @@ use Rattle.std.proofs.lemmas.List.{get_or-set_same, get_or-set_other, get_or_app
 use Rattle.std.proofs.lemmas.List.FromFn.{length-map-range_with_len, get_or-map-range_with_len, fill_by_all, take-map-range_with_len}
 use Rattle.std.proofs.lemmas.Bool.{cases_eq}
 use Rattle.std.specs.BTreeMap.{is_at}
-use Rattle.el_rows.specs.declared.table.Table.{Table}
-use Rattle.el_rows.specs.Tables.{Tables, row_cmp}
-use Rattle.el_rows.specs.Changes.{Changes, key, changed_at, count_at, row_under, under, Sets, OnTable}
-use Rattle.el_rows.proofs.Keys.{self_key, other_key}
+use Rattle.el_row_formats.specs.declared.table.Table.{Table}
+use Rattle.el_row_formats.specs.Tables.{Tables, row_cmp, key}
+use Rattle.el_rows.specs.Changes.{Changes, changed_at, count_at, row_under, under, Sets, OnTable}
+use Rattle.el_row_formats.proofs.Keys.{self_key, other_key}
 
 -- how many rows there are
 pub length-under : (lists : Tables) (counts : List ℕ) (changes : Changes) (t : Table) → length (under lists counts changes t) ≡ count_at counts t

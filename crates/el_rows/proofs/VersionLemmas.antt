@@ -3,8 +3,8 @@ use Rattle.std.proofs.Common.{◌≡◌, ◌⊎◌, inl, inr, ⊎_elim, ◌<◌,
 use Rattle.std.proofs.lemmas.List.{get_or_append_left, get_or-append_right}
 use Rattle.std.proofs.lemmas.Bool.{cases_lt}
 use Rattle.el_outside.specs.Moments.{LeavesOnly}
-use Rattle.el_rows.specs.declared.table.Table.{Table}
-use Rattle.el_rows.specs.Tables.{Tables, tables_of}
+use Rattle.el_row_formats.specs.declared.table.Table.{Table}
+use Rattle.el_row_formats.specs.Tables.{Tables, tables_of}
 use Rattle.el_rows.specs.Changes.{Changes, under}
 use Rattle.el_rows.specs.Reads.{Same, IsEither}
 use Rattle.el_rows.specs.within.Versions.{last_of, IsOneSince, only_last}

@@ -6,16 +6,13 @@ use Rattle.std.specs.List.{range_with_len}
 use Rattle.std.specs.List.Sorted.{IsStrictlySortedBy}
 use Rattle.std.specs.Map.{lookup, keys_of}
 use Rattle.std.specs.BTreeMap.{is_at}
-use Rattle.el_rows.specs.declared.table.Table.{Table}
-use Rattle.el_rows.specs.declared.table.RowKey.{RowKey}
-use Rattle.el_rows.specs.Tables.{Tables, index_of, size_of, limit_of, row_cmp}
+use Rattle.el_row_formats.specs.declared.table.Table.{Table}
+use Rattle.el_row_formats.specs.declared.table.RowKey.{RowKey}
+use Rattle.el_row_formats.specs.Tables.{Tables, index_of, key, size_of, limit_of, row_cmp}
 
 -- changed rows
 abbrev pub Changes : Type 0
 Changes = List (RowKey × List ℕ)
-
-abbrev pub key : Table → ℕ → RowKey
-key t i = record { table = t; row = i }
 
 -- the changed row, where it was changed
 abbrev pub changed_at : Changes → Table → ℕ → Option (List ℕ)
@@ -66,6 +63,12 @@ pub record Counts (old new : List ℕ) (t : Table) (n : ℕ) : Type 0 where
 pub record OnTable (old new : Tables) (t : Table) (rows : List (List ℕ)) : Type 0 where
   pub here : new t ≡ rows
   pub others : (u : Table) → u ≢ t → new u ≡ old u
+
+-- each table has so many rows now, the first of which are those that it had
+pub record IsResized (counts : List ℕ) (old new : Tables) : Type 0 where
+  pub long : (t : Table) → length (new t) ≡ count_at counts t
+  pub first : (t : Table) (i : ℕ) → i < length (old t) → i < count_at counts t
+      → get_or (new t) i [] ≡ get_or (old t) i []
 
 -- a changed row, where it is shown under these counts
 abbrev pub shown_at : List ℕ → Changes → Table → ℕ → Option (List ℕ)

@@ -1,8 +1,8 @@
 -- What calls of rows alone leave as it was.
 use Rattle.std.specs.Prelude.{◌≡◌, ◌⊎◌, ℕ, List}
 use Rattle.el_outside.specs.Moments.{LeavesNoMore}
-use Rattle.el_rows.specs.declared.table.Table.{Table}
-use Rattle.el_rows.specs.Tables.{Tables}
+use Rattle.el_row_formats.specs.declared.table.Table.{Table}
+use Rattle.el_row_formats.specs.Tables.{Tables}
 
 -- the same rows in each table
 abbrev pub Same : Tables → Tables → Type 0

@@ -5,7 +5,7 @@ use Rattle.el_outside.specs.declared.disk.DiskFailed.{DiskFailed}
 use Rattle.el_rows.specs.declared.open.Open.{Open}
 use Rattle.el_rows.specs.declared.rows.Rows as rows
 use Rattle.el_rows.specs.declared.edits.Layer as layer
-use Rattle.el_rows.specs.Tables.{Tables}
+use Rattle.el_row_formats.specs.Tables.{Tables}
 use Rattle.el_rows.specs.Changes.{Edited, under}
 use Rattle.el_rows.specs.Reads.{OnlyRead}
 

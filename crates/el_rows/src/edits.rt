@@ -1,15 +1,16 @@
 // Edits of tables, apart from the rows below them.
-ghost use Rattle.std.specs.Prelude.{◌≡◌, ◌≢◌, ◌<◌, ◌≤◌, ◌+◌, ◌++◌, ◌&&◌, ℕ, List, [], None, map, length, OnOk, OnErr, IfOk, Err, IsOkUnless, option_map, is_some, nat_eq, nat_lt, IfSome, get_or};
+ghost use Rattle.std.specs.Prelude.{◌≡◌, ◌≢◌, ◌<◌, ◌≤◌, ◌+◌, ◌-◌, ◌*◌, ◌++◌, ◌&&◌, ℕ, List, [], None, Some, map, length, OnOk, OnErr, IfOk, Err, IsOkUnless, option_map, is_some, nat_eq, nat_lt, IfSome, get_or};
 ghost use Rattle.std.specs.List.{list_any};
 ghost use Rattle.std.specs.List.Sorted.{IsStrictlyIncreasing, IsStrictlySortedBy};
 ghost use Rattle.std.specs.BTreeMap.{is_at};
-ghost use Rattle.el_rows.specs.Tables.{number_of, size_of, limit_of, row_cmp};
-ghost use Rattle.el_rows.specs.Changes.{key, count_at, changed_at, Sets, Counts, shown_at, IsMadeFrom};
+ghost use Rattle.el_row_formats.specs.Tables.{number_of, size_of, limit_of, row_at, row_cmp, key};
+ghost use Rattle.el_rows.specs.Changes.{count_at, changed_at, Sets, Counts, shown_at, IsMadeFrom};
 ghost use Rattle.el_rows.specs.within.EditedTables.{edits_of, Writes};
 
 use crate::table_edits::TableEdits;
-use crate::{AppendFault, RowKey, Sealed, TABLES, Table};
+use crate::{AppendFault, Sealed};
 use el_base::OutOfMemory;
+use el_row_formats::{RowKey, TABLES, Table};
 use std::alloc::Global;
 use std::marker::Model;
 
@@ -90,6 +91,25 @@ impl Edits {
     {
         let place = t.index();
         self.tables[place].get(self.base[place], i)
+    }
+
+    /// How many rows the table had before.
+    pub(crate) fn base(&self, t: Table) -> u64
+        ensures { result ≡ count_at self.now.base t }
+    {
+        self.base[t.index()]
+    }
+
+    /// The bytes of the rows that were added to a table, from that one on, one after another.
+    pub(crate) fn added(&self, t: Table, i: u64) -> &[u8]
+        requires added { count_at self.now.base t ≤ i }
+        requires below { i ≤ count_at self.now.counts t }
+        ensures long { length result.now ≡ (count_at self.now.counts t - i) * size_of t }
+        ensures each { (j : ℕ) → i + j < count_at self.now.counts t
+            → changed_at self.now.changes t (i + j) ≡ Some (row_at (size_of t) result.now j) }
+    {
+        let place = t.index();
+        self.tables[place].added(self.base[place], i, self.counts[place])
     }
 
     /// Changes a row that is there.

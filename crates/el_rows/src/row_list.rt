@@ -1,5 +1,6 @@
 // The rows of one table, in memory.
-ghost use Rattle.std.specs.Prelude.{◌≡◌, ◌<◌, ◌≤◌, [], ◌∷◌, ◌++◌, length, get_or, slice_set, OnOk, OnErr, IfOk};
+ghost use Rattle.std.specs.Prelude.{◌≡◌, ◌<◌, ◌≤◌, ◌+◌, ◌-◌, ◌*◌, ℕ, [], ◌∷◌, ◌++◌, length, get_or, slice_set, OnOk, OnErr, IfOk};
+ghost use Rattle.el_row_formats.specs.Tables.{row_at};
 ghost use Rattle.el_rows.specs.within.InMemory.{HasGrown};
 
 use el_base::OutOfMemory;
@@ -52,6 +53,17 @@ impl RowList {
     {
         let at = i * self.size;
         &self.bytes[at..at + self.size]
+    }
+
+    /// The bytes of the rows from one place to another, one after another.
+    pub(crate) fn between(&self, from: usize, to: usize) -> &[u8]
+        requires rising { from ≤ to }
+        requires within { to ≤ length self.now.rows }
+        ensures long { length result.now ≡ (to - from) * self.now.size }
+        ensures each { (j : ℕ) → from + j < to
+            → row_at self.now.size result.now j ≡ get_or self.now.rows (from + j) [] }
+    {
+        &self.bytes[from * self.size..to * self.size]
     }
 
     /// Writes over a row, in place.

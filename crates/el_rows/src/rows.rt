@@ -1,18 +1,19 @@
 // A store of tables.
 ghost use Rattle.std.specs.Prelude.{◌≡◌, ◌<◌, ◌≤◌, ◌+◌, ℕ, List, [], length, OnOk, OnErr, IfOk, IsErrOf, get_or};
 ghost use Rattle.el_outside.specs.Counts.{HasCause, CountsOnly};
-ghost use Rattle.el_rows.specs.Tables.{size_of, limit_of};
+ghost use Rattle.el_row_formats.specs.Tables.{size_of, limit_of};
 ghost use Rattle.el_rows.specs.Reads.{OnlyRead, Same, IsEither};
 ghost use Rattle.el_outside.specs.Moments.{LeavesOnly};
 ghost use Rattle.el_rows.specs.Changes.{IsMadeFrom, under, count_at};
 
-use crate::{CommitFault, Sealed, Table};
+use crate::{CommitFault, Sealed};
 use el_outside::DiskFailed;
+use el_row_formats::Table;
 
 /// A store of tables of rows.
 pub trait Rows {
     ghost use Rattle.std.specs.Prelude.{◌≡◌, ◌≤◌, ℕ, List, length};
-    ghost use Rattle.el_rows.specs.declared.table.Table.{Table};
+    ghost use Rattle.el_row_formats.specs.declared.table.Table.{Table};
 
     /// Whether the store tells what its rows hold. One in memory does, one over a real disk doesn't.
     ghost tells: { Type 0 };

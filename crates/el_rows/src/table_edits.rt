@@ -1,8 +1,9 @@
 // The edits of one table.
-ghost use Rattle.std.specs.Prelude.{◌≡◌, ◌<◌, ◌≤◌, ◌+◌, ◌&&◌, ℕ, [], None, Some, cond, length, OnOk, OnErr, IfOk, option_map, is_some, nat_lt, nat_eq};
+ghost use Rattle.std.specs.Prelude.{◌≡◌, ◌<◌, ◌≤◌, ◌+◌, ◌-◌, ◌*◌, ◌&&◌, ℕ, [], None, Some, cond, length, OnOk, OnErr, IfOk, option_map, is_some, nat_lt, nat_eq};
 ghost use Rattle.std.specs.List.{list_any};
 ghost use Rattle.std.specs.List.Sorted.{IsStrictlyIncreasing};
 ghost use Rattle.std.specs.Map.{lookup};
+ghost use Rattle.el_row_formats.specs.Tables.{row_at};
 ghost use Rattle.el_rows.specs.within.EditedTables.{edited_at, IsWritten, Writes};
 
 use crate::row_list::RowList;
@@ -61,6 +62,19 @@ impl TableEdits {
             return Some(self.added.row(place));
         }
         None
+    }
+
+    /// The bytes of the added rows from that one on and below the count, one after another.
+    pub(crate) fn added(&self, base: u64, i: u64, count: u64) -> &[u8]
+        requires added { base ≤ i }
+        requires rising { i ≤ count }
+        requires room { count ≤ base + length self.now.added.rows }
+        ensures long { length result.now ≡ (count - i) * self.now.added.size }
+        ensures each { (j : ℕ) → i + j < count
+            → edited_at base self.now (i + j) ≡ Some (row_at self.now.added.size result.now j) }
+    {
+        self.added
+            .between((i - base) as usize, (count - base) as usize)
     }
 
     // Changes a row below the base, or changes it again.

@@ -4,9 +4,9 @@ use Rattle.std.specs.Option.{ForSome}
 use Rattle.std.specs.List.Sorted.{IsStrictlySortedBy}
 use Rattle.std.specs.Map.{keys_of}
 use Rattle.std.specs.declared.cmp.Ordering.TheVariants.{Less}
-use Rattle.el_rows.specs.declared.table.Table.{Table}
-use Rattle.el_rows.specs.declared.table.RowKey.{RowKey}
-use Rattle.el_rows.specs.Tables.{Tables, size_of, row_cmp}
+use Rattle.el_row_formats.specs.declared.table.Table.{Table}
+use Rattle.el_row_formats.specs.declared.table.RowKey.{RowKey}
+use Rattle.el_row_formats.specs.Tables.{Tables, size_of, row_cmp}
 use Rattle.el_rows.specs.Changes.{Changes, changed_at, count_at, row_under}
 
 -- the key comes after the last one, if there is one

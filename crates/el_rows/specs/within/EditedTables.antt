@@ -1,12 +1,15 @@
 -- The edits of one table: of the rows below its base those that were changed, and all rows from there on.
-use Rattle.std.specs.Prelude.{◌≡◌, ◌<◌, ◌≤◌, ◌+◌, ◌-◌, ℕ, List, [], ◌∷◌, ◌++◌, Option, None, Some, map, cond, unwrap_or, length, get_or, slice_get, nat_lt, nat_eq}
+use Rattle.std.specs.Prelude.{◌≡◌, ◌<◌, ◌≤◌, ◌+◌, ◌-◌, ℕ, List, [], ◌∷◌, ◌++◌, ◌&&◌, is_some, Option, None, Some, map, cond, unwrap_or, length, get_or, slice_get, nat_lt, nat_eq}
+use Rattle.std.specs.List.{list_any}
+use Rattle.std.specs.List.Sorted.{IsStrictlySortedBy}
 use Rattle.std.specs.Map.{lookup}
+use Rattle.std.specs.BTreeMap.{is_at}
 use Rattle.std.specs.Option.{ForSome}
-use Rattle.el_rows.specs.declared.table.Table.{Table}
-use Rattle.el_rows.specs.declared.table.Table.TheVariants as table
-use Rattle.el_rows.specs.Tables.{index_of, size_of, limit_of}
-use Rattle.el_rows.specs.declared.table.RowKey.{RowKey}
-use Rattle.el_rows.specs.Changes.{Changes, key, changed_at, count_at}
+use Rattle.el_row_formats.specs.declared.table.Table.{Table}
+use Rattle.el_row_formats.specs.declared.table.Table.TheVariants as table
+use Rattle.el_row_formats.specs.Tables.{index_of, size_of, limit_of, row_cmp, key}
+use Rattle.el_row_formats.specs.declared.table.RowKey.{RowKey}
+use Rattle.el_rows.specs.Changes.{Changes, changed_at, count_at}
 use Rattle.el_rows.specs.within.SizedRows.{SizedRows}
 
 -- the changed rows by their numbers, and the added ones in order
@@ -75,3 +78,9 @@ pub record AreEdited (base counts : List ℕ) (tables : List EditedTable) : Type
 -- the changed rows of these keys
 abbrev pub listed_changes : Changes → List RowKey → Changes
 listed_changes changes keys = map (λ k. (k, unwrap_or (changed_at changes k.table k.row) [])) keys
+
+-- these are the keys of the changed rows that are shown under these counts, and they rise
+pub record AreShown (counts : List ℕ) (changes : Changes) (keys : List RowKey) : Type 0 where
+  pub rising : IsStrictlySortedBy row_cmp keys
+  pub each : (t : Table) (i : ℕ)
+      → list_any (is_at (row_cmp (key t i))) keys ≡ (nat_lt i (count_at counts t) && is_some (changed_at changes t i))

@@ -1,7 +1,7 @@
 -- The eight tables in memory.
 use Rattle.std.specs.Prelude.{◌≡◌, ◌<◌, ◌≤◌, ℕ, List, [], length, get_or, take, unwrap_or}
-use Rattle.el_rows.specs.declared.table.Table.{Table}
-use Rattle.el_rows.specs.Tables.{Tables, index_of, size_of, limit_of}
+use Rattle.el_row_formats.specs.declared.table.Table.{Table}
+use Rattle.el_row_formats.specs.Tables.{Tables, index_of, size_of, limit_of}
 use Rattle.el_rows.specs.Changes.{Changes, changed_at, count_at}
 use Rattle.el_rows.specs.within.SizedRows.{SizedRows}
 

@@ -1,7 +1,7 @@
 -- Tables that are kept with all their versions, the oldest first.
 use Rattle.std.specs.Prelude.{◌≤◌, ◌<◌, ◌-◌, ℕ, List, [], length, get_or}
 use Rattle.std.proofs.Common.{◌≡◌, ◌+◌, ap, ◌∙◌, arith}
-use Rattle.el_rows.specs.Tables.{Tables, tables_of}
+use Rattle.el_row_formats.specs.Tables.{Tables, tables_of}
 use Rattle.el_rows.specs.Reads.{Same}
 
 -- the last version

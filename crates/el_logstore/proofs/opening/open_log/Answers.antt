@@ -1,5 +1,5 @@
 use Rattle.std.proofs.Common.{inl, inr, ⊎_elim, ℕ, List, sym, ap, ◌∙◌, subst}
-use Rattle.el_rows.specs.Tables.{tables_of}
+use Rattle.el_row_formats.specs.Tables.{tables_of}
 use Rattle.el_journal.specs.declared.mark.TheConstants.{JOURNAL}
 use Rattle.el_redo.specs.declared.faults.OpenFault.TheVariants as fault
 use Rattle.el_logstore.specs.Images.{no_rows, Makes, HasNoCommitAt}

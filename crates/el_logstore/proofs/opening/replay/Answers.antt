@@ -1,9 +1,15 @@
 use Rattle.std.proofs.Common.{◌<◌, length, sym, ◌∙◌, arith}
 use Rattle.std.proofs.lemmas.Result.{err_from_is_err_and}
-use Rattle.el_rows.specs.Tables.{tables_of}
+use Rattle.el_row_formats.specs.Tables.{tables_of}
 use Rattle.el_journal.proofs.Steps.{read_more}
 use Rattle.el_logstore.proofs.MakesLemmas.{makes_next, no_commit_here}
 use Rattle.el_logstore.proofs.opening.replay.Goals as goal
+
+pub returns-in_err-body-clause-bad : goal.returns-in_err-body-clause-bad
+returns-in_err-body-clause-bad g c entries holds =
+    let p = err_from_is_err_and c.from_residual.result c.from_residual.ensures.1 in
+    rw p.1 (λ file wanted found is.
+    absurd (c.in_err-body.ensures.good entries (c.loop-i.invariant.stays entries holds) file wanted found (sym p.2 ∙ is)))
 
 pub returns-in_err-redo-clause-bad : goal.returns-in_err-redo-clause-bad
 returns-in_err-redo-clause-bad g c entries holds =

@@ -1,5 +1,5 @@
 use Rattle.std.proofs.Common.{◌≡◌, ℕ, List, take}
-use Rattle.el_rows.specs.Tables.{tables_of}
+use Rattle.el_row_formats.specs.Tables.{tables_of}
 use Rattle.el_journal.specs.Journals.{Holds, IsOnlyRead}
 use Rattle.el_logstore.specs.Images.{Makes, no_rows}
 use Rattle.el_logstore.proofs.opening.replay.Given as goal

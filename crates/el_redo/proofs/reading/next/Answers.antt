@@ -1,8 +1,8 @@
 use Rattle.std.proofs.Common.{◌≡◌, ◌<◌, ℕ, List, ◌^◌, sym, ◌∙◌, arith, subst, true, false, get_or, rules}
-use Rattle.el_rows.specs.declared.table.RowKey.{RowKey}
+use Rattle.el_row_formats.specs.declared.table.RowKey.{RowKey}
 use Rattle.el_rows.specs.Changes.{count_at}
-use Rattle.el_rows.specs.declared.table.Table.{Table}
-use Rattle.el_rows.specs.Tables.{index_of}
+use Rattle.el_row_formats.specs.declared.table.Table.{Table}
+use Rattle.el_row_formats.specs.Tables.{index_of}
 use Rattle.el_redo.specs.within.Laying.{Follows}
 use Rattle.el_redo.proofs.BodyLemmas.{one_change}
 use Rattle.el_redo.proofs.reading.next.Goals as goal

@@ -1,7 +1,6 @@
 use Rattle.std.proofs.Common.{◌≡◌, ℕ, List, length, get_or, sym, ap, ◌∙◌, arith}
-use Rattle.el_rows.specs.Tables.{size_of}
-use Rattle.el_rows.specs.Changes.{key}
-use Rattle.el_rows.proofs.Keys.{same_index}
+use Rattle.el_row_formats.specs.Tables.{size_of, key}
+use Rattle.el_row_formats.proofs.Keys.{same_index}
 use Rattle.el_redo.proofs.BodyLemmas.{change_long, change_number, change_read}
 use Rattle.el_redo.proofs.reading.read_change.Goals as goal
 

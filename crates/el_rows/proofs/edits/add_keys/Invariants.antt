@@ -1,5 +1,5 @@
 use Rattle.std.proofs.Common.{◌≡◌, ◌++◌, map, take}
-use Rattle.el_rows.specs.Changes.{key}
+use Rattle.el_row_formats.specs.Tables.{key}
 use Rattle.el_rows.proofs.edits.add_keys.Given as goal
 
 abbrev pub invariant-loop-row : goal.invariant-loop-row

@@ -2,7 +2,7 @@ use Rattle.std.proofs.Common.{ℕ, ap, ◌∙◌, arith, subst}
 use Rattle.std.proofs.Math.ListN.{set}
 use Rattle.el_rows.specs.within.SizedRows.{SizedRows}
 use Rattle.el_rows.specs.within.InMemory.{HasGrown}
-use Rattle.el_rows.proofs.Keys.{index_within}
+use Rattle.el_row_formats.proofs.Keys.{index_within}
 use Rattle.el_rows.proofs.InMemoryLemmas.{is_read, one_grown}
 use Rattle.el_rows.proofs.vec_rows.grow_one.Goals as goal
 

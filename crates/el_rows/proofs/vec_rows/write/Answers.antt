@@ -1,5 +1,5 @@
 use Rattle.std.proofs.Common.{arith}
-use Rattle.el_rows.proofs.Keys.{index_within}
+use Rattle.el_row_formats.proofs.Keys.{index_within}
 use Rattle.el_rows.proofs.InMemoryLemmas.{in_mid, same_size, write_more}
 use Rattle.el_rows.proofs.vec_rows.write.Goals as goal
 

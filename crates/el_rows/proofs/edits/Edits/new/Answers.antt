@@ -1,6 +1,6 @@
 use Rattle.std.proofs.Common.{◌≡◌, [], ◌∷◌, ap, ◌∙◌}
-use Rattle.el_rows.specs.declared.table.Table.TheVariants as table
-use Rattle.el_rows.specs.Tables.{size_of}
+use Rattle.el_row_formats.specs.declared.table.Table.TheVariants as table
+use Rattle.el_row_formats.specs.Tables.{size_of}
 use Rattle.el_rows.specs.within.EditedTables.{edits_of}
 use Rattle.el_rows.proofs.EditedLemmas.{none_of, none_edited}
 use Rattle.el_rows.proofs.edits.Edits.new.Goals as goal

@@ -1,6 +1,6 @@
 use Rattle.std.proofs.Common.{◌<◌, ◌++◌, ℕ, List, map, ap, sym, ◌∙◌, subst, arith}
-use Rattle.el_rows.specs.declared.table.RowKey.{RowKey}
-use Rattle.el_rows.specs.Changes.{key}
+use Rattle.el_row_formats.specs.declared.table.RowKey.{RowKey}
+use Rattle.el_row_formats.specs.Tables.{key}
 use Rattle.el_rows.proofs.SealedLemmas.{AreListed, none_listed, listed_more, nth_table, nth_index}
 use Rattle.el_rows.proofs.edits.Edits.order.Goals as goal
 

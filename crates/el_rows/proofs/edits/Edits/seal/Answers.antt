@@ -1,6 +1,6 @@
 use Rattle.std.proofs.Common.{◌≡◌, ◌&&◌, ℕ, sym, subst, ap, ◌∙◌}
 use Rattle.std.specs.Prelude.{is_some, nat_lt}
-use Rattle.el_rows.specs.declared.table.Table.{Table}
+use Rattle.el_row_formats.specs.declared.table.Table.{Table}
 use Rattle.el_rows.specs.Changes.{Edited, Update, IsMadeFrom, changed_at, count_at}
 use Rattle.el_rows.specs.within.EditedTables.{all_changes}
 use Rattle.el_rows.proofs.SealedLemmas.{has_key, made, listed_shown}

@@ -1,5 +1,5 @@
 use Rattle.std.proofs.Common.{ℕ, List, length, ap, ◌∙◌, refl, arith}
-use Rattle.el_rows.specs.Tables.{tables_of}
+use Rattle.el_row_formats.specs.Tables.{tables_of}
 use Rattle.el_rows.specs.within.Versions.{last_of}
 use Rattle.el_rows.proofs.UnderLemmas.{length-under}
 use Rattle.el_rows.proofs.VersionLemmas.{last_more, committed, more_length, edited}

@@ -1,0 +1,63 @@
+-- Tables of rows, each a list of rows of bytes.
+use Rattle.std.specs.Prelude.{◌+◌, ◌*◌, ℕ, List, [], ◌∷◌, map, get_or, slice_range}
+use Rattle.std.specs.Ordering.{nat_cmp, ordering_then}
+use Rattle.std.specs.declared.cmp.Ordering.{Ordering}
+use Rattle.el_chain.specs.declared.limits.TheConstants.{ROW_LIMIT}
+use Rattle.el_row_formats.specs.declared.table.Table.{Table}
+use Rattle.el_row_formats.specs.declared.table.Table.TheVariants as table
+use Rattle.el_row_formats.specs.declared.table.RowKey.{RowKey}
+
+-- the rows of each table
+abbrev pub Tables : Type 0
+Tables = Table → List (List ℕ)
+
+abbrev pub index_of : Table → ℕ
+index_of table.Blocks = 0
+index_of table.Txs = 1
+index_of table.TxHeads = 2
+index_of table.Outs = 3
+index_of table.Ins = 4
+index_of table.Scripts = 5
+index_of table.ScriptHeads = 6
+index_of table.Entries = 7
+
+-- the tables in a list of them
+abbrev pub tables_of : List (List (List ℕ)) → Tables
+tables_of list t = get_or list (index_of t) []
+
+-- and back
+abbrev pub listed : Tables → List (List (List ℕ))
+listed tables = map tables
+    (table.Blocks ∷ table.Txs ∷ table.TxHeads ∷ table.Outs
+    ∷ table.Ins ∷ table.Scripts ∷ table.ScriptHeads ∷ table.Entries ∷ [])
+
+-- the row of that number among rows of one size, whose bytes stand one after another
+abbrev pub row_at : ℕ → List ℕ → ℕ → List ℕ
+row_at size bytes i = slice_range bytes (i * size) (i * size + size)
+
+-- the number that faults and files name it by
+abbrev pub number_of : Table → ℕ
+number_of t = index_of t + 1
+
+-- how many bytes each of its rows has
+abbrev pub size_of : Table → ℕ
+size_of table.Blocks = 112
+size_of table.Txs = 68
+size_of table.TxHeads = 4
+size_of table.Outs = 21
+size_of table.Ins = 4
+size_of table.Scripts = 52
+size_of table.ScriptHeads = 4
+size_of table.Entries = 12
+
+-- how many rows a table may have
+abbrev pub limit_of : Table → ℕ
+limit_of t = ROW_LIMIT
+
+-- the key of a row: its table and its number
+abbrev pub key : Table → ℕ → RowKey
+key t i = record { table = t; row = i }
+
+-- rows by rising table, and then by rising number
+abbrev pub row_cmp : RowKey → RowKey → Ordering
+row_cmp a b = ordering_then (nat_cmp (index_of a.table) (index_of b.table)) (nat_cmp a.row b.row)
