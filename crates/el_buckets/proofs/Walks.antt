@@ -1,6 +1,6 @@
 -- Walks along a bucket: from its head by the links, over the hashes alone.
 use Rattle.std.proofs.Common.{◌≡◌, inl, inr, ℕ, zero, suc, ◌+◌, ◌-◌, ◌<◌, ◌≤◌, Bool, true, false, cond, List, [], ◌∷◌, ◌++◌, length, take, get_or, Option, None, Some, refl, ap, sym, ◌∙◌, arith, count_by, eq-eqb, length-append, add-zero}
-use Rattle.std.proofs.lemmas.Bool.{cases_Bool}
+use Rattle.std.proofs.lemmas.Bool.{cases_Bool, cases_lt, lt-ltb, le-ltb}
 use Rattle.std.proofs.Math.Seq.{take-suc}
 use Rattle.std.proofs.lemmas.List.{get_or_at, get_or_append_left, get_or-take, take-take, take_all, take-append-le, length-take-le}
 use Rattle.std.proofs.lemmas.List.Sums.{count_by_more_yes, count_by_more_no}
@@ -11,8 +11,8 @@ use Rattle.el_tables.specs.Tables.{greatest, bucket_in}
 use Rattle.el_tables.proofs.Outputs.{from_front}
 use Rattle.el_tables.proofs.OlderWalks.{greatest_more}
 use Rattle.el_tables.proofs.Scripts.{hash_gives}
-use Rattle.el_rows.specs.RowBytes.{link_number}
-use Rattle.el_buckets.specs.Buckets.{share_bucket}
+use Rattle.el_row_formats.specs.RowBytes.{link_number}
+use Rattle.el_buckets.specs.Buckets.{below, share_bucket}
 
 -- one more than the number that a link names, or 0
 abbrev pub end_of : Option ℕ → ℕ
@@ -156,6 +156,17 @@ end_below n (Some m) less = let lt = less m refl in omega arith
 pub number_below : (n : ℕ) (o : Option ℕ) → ForSome o (λ m. m < n) → link_number o ≤ n
 number_below n None less = omega arith
 number_below n (Some m) less = let lt = less m refl in omega arith
+
+-- what is left of a link is below its own row
+pub less_than : (n : ℕ) (link : Option ℕ) (m : ℕ) → below n link ≡ Some m → m < n
+less_than n None m is = absurd cc
+less_than n (Some k) m is = elim (cases_lt k n) [
+  | inl lt ↦ let test = lt-ltb k n lt in let left = rw test at is in let same : k ≡ m = cc in omega (arith, lt, same)
+  | inr le ↦ let test = le-ltb k n le in let left = rw test at is in absurd (none_some left)
+]
+  where
+    none_some : None ≡ Some m → ⊥
+    none_some q = cc
 
 -- a hash is in its own bucket
 pub in_own_bucket : (count : ℕ) (h x : Hash32) → same_hash x h ≡ true → share_bucket count h x ≡ true

@@ -4,10 +4,10 @@ use Rattle.el_base.specs.declared.hash.Hash32.{Hash32}
 use Rattle.el_chain.specs.Headers.{same_hash}
 use Rattle.el_tables.specs.Lists.{ListedTx, Lists}
 use Rattle.el_tables.specs.Tables.{HeadCounts, bucket_in, greatest}
-use Rattle.el_rows.specs.Tables.{Tables}
-use Rattle.el_rows.specs.RowBytes.{link_bytes}
-use Rattle.el_rows.specs.declared.table.Table.{Table}
-use Rattle.el_rows.specs.declared.table.Table.TheVariants as table
+use Rattle.el_row_formats.specs.Tables.{Tables}
+use Rattle.el_row_formats.specs.RowBytes.{link_bytes}
+use Rattle.el_row_formats.specs.declared.table.Table.{Table}
+use Rattle.el_row_formats.specs.declared.table.Table.TheVariants as table
 use Rattle.el_buckets.specs.declared.bucket.Buckets.{Buckets}
 use Rattle.el_buckets.specs.declared.bucket.Buckets.TheVariants as buckets
 

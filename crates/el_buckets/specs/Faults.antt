@@ -1,7 +1,7 @@
 -- Faults of rows as faults of a connection.
 use Rattle.std.specs.Prelude.{◌≡◌, ◌<◌, ◌⊎◌, ℕ}
-use Rattle.el_rows.specs.Tables.{limit_of, number_of}
-use Rattle.el_rows.specs.declared.table.Table.{Table}
+use Rattle.el_row_formats.specs.Tables.{limit_of, number_of}
+use Rattle.el_row_formats.specs.declared.table.Table.{Table}
 use Rattle.el_rows.specs.declared.faults.AppendFault.{AppendFault}
 use Rattle.el_rows.specs.declared.faults.AppendFault.TheVariants as append
 use Rattle.el_chain.specs.declared.fault.ConnectFault.{ConnectFault}

@@ -1,14 +1,14 @@
 // Tables whose rows are found by a hash.
 ghost use Rattle.std.specs.Prelude.{◌≡◌, ◌<◌, ◌≤◌, length, Option};
-ghost use Rattle.el_rows.specs.Tables.{size_of};
-ghost use Rattle.el_rows.specs.RowBytes.{tx_row_bytes, script_row_bytes, FitsTxRow, FitsScriptRow};
-ghost use Rattle.el_rows.specs.declared.tx_row.TxRow as tx_shape;
-ghost use Rattle.el_rows.specs.declared.script_row.ScriptRow as script_shape;
+ghost use Rattle.el_row_formats.specs.Tables.{size_of};
+ghost use Rattle.el_row_formats.specs.RowBytes.{tx_row_bytes, script_row_bytes, FitsTxRow, FitsScriptRow};
+ghost use Rattle.el_row_formats.specs.declared.tx_row.TxRow as tx_shape;
+ghost use Rattle.el_row_formats.specs.declared.script_row.ScriptRow as script_shape;
 ghost use Rattle.el_tables.specs.Tables.{bucket_in};
 ghost use Rattle.el_buckets.specs.Buckets.{rows_of, heads_of, below};
 
 use el_base::Hash32;
-use el_rows::{ScriptRow, Table, TxRow};
+use el_row_formats::{ScriptRow, Table, TxRow};
 
 /// Two tables: rows that are found by a hash, and the heads of their buckets.
 #[derive(Clone, Copy, Debug, PartialEq, Eq)]

@@ -1,20 +1,22 @@
 // The newest row of a hash, and the head of its bucket.
-ghost use Rattle.std.specs.Prelude.{◌≡◌, ◌<◌, ◌≤◌, ◌+◌, ◌^◌, ℕ, List, length, take, get_or, OnOk, IfOk, None};
+ghost use Rattle.std.specs.Prelude.{◌≡◌, ◌<◌, ◌≤◌, ◌+◌, ◌^◌, ℕ, List, [], length, take, get_or, OnOk, IfOk, None};
 ghost use Rattle.std.specs.Option.{ForSome};
 ghost use Rattle.el_chain.specs.Chains.{zero_hash};
-ghost use Rattle.el_rows.specs.RowBytes.{link_number};
+ghost use Rattle.el_row_formats.specs.RowBytes.{link_number};
+ghost use Rattle.el_row_formats.specs.Tables.{size_of};
 ghost use Rattle.el_rows.specs.Transaction.{tables_in, reads_in, disk_failed, ReadsRows};
 ghost use Rattle.el_tables.specs.ChainLists.{ListedBlock};
 ghost use Rattle.el_tables.specs.Lists as lists;
 ghost use Rattle.el_tables.specs.Tables.{HeadCounts};
-ghost use Rattle.el_buckets.specs.Rows.{Hold};
+ghost use Rattle.el_schema.specs.Rows.{Hold};
 ghost use Rattle.el_buckets.specs.Buckets.{rows_of, heads_of, hashes_of, count_of, newest_of, bucket_head, bucket_size};
 
 use crate::Buckets;
 use crate::bucket::{bucket_of, if_below};
 use el_base::Hash32;
 use el_outside::DiskFailed;
-use el_rows::{HeadRow, Rows, Txn};
+use el_row_formats::HeadRow;
+use el_rows::{Rows, Txn};
 
 /// What a walk along a bucket found.
 #[derive(Clone, Copy, Debug, PartialEq, Eq)]
@@ -36,6 +38,7 @@ fn head<R: Rows>(
         → Hold counts bs l (tables_in t.old) → 0 < count_of buckets counts
         → IfOk result (λ h. h ≡ bucket_head (count_of buckets counts) hash.now (hashes_of buckets l)) }
     ensures none { length (tables_in t.old (heads_of buckets)) ≡ 0 → IfOk result (λ h. h ≡ None) }
+    ensures idle { length (tables_in t.old (heads_of buckets)) ≡ 0 → reads_in t.new ≡ reads_in t.old }
     ensures below { IfOk result (λ h. ForSome h (λ n. n < length (tables_in t.old (rows_of buckets)))) }
     ensures fits { IfOk result (λ h. link_number h < 2 ^ 32) }
     ensures read { ReadsRows disk_failed t.old t.new result }
@@ -50,14 +53,18 @@ fn head<R: Rows>(
     Ok(if_below(HeadRow::read(&row).head, t.count(buckets.rows())))
 }
 
-// The hash of a row, and its link to the next in its bucket, which is none where it isn't below the row.
+// Reads a row: its hash, and its link to the next in its bucket, which is none where it isn't below the row.
 fn at_row<R: Rows>(
     t: &mut Txn<'_, R>,
     buckets: Buckets,
     n: u64,
+    row: &mut [u8],
 ) -> Result<(Hash32, Option<u64>), DiskFailed>
     requires live { R.is_live t.old.rows.now }
     requires below { n < length (tables_in t.old (rows_of buckets)) }
+    requires sized { length row.old ≡ size_of (rows_of buckets) }
+    ensures row { R.tells → OnOk result (row.new ≡ get_or (tables_in t.old (rows_of buckets)) n []) }
+    ensures sized { length row.new ≡ size_of (rows_of buckets) }
     ensures hash { (counts : HeadCounts) (bs : List ListedBlock) (l : lists.Lists) → R.tells
         → Hold counts bs l (tables_in t.old)
         → IfOk result (λ r. r.0 ≡ get_or (hashes_of buckets l) n zero_hash) }
@@ -68,15 +75,58 @@ fn at_row<R: Rows>(
     ensures read { ReadsRows disk_failed t.old t.new result }
     ensures rows { reads_in t.new ≤ reads_in t.old + 1 }
 {
-    let mut row = [0; 68];
-    let row = &mut row[..buckets.rows().size()];
     t.get(buckets.rows(), n, row)?;
     let (hash, next) = buckets.hash_and_next(row);
     Ok((hash, if_below(next, n)))
 }
 
-/// The newest row with the hash, and the head of its bucket. It takes no memory and changes nothing. It reads
-/// one head, and rows of the bucket alone.
+/// The newest row with the hash, whose bytes it hands back, and the head of its bucket. It takes no memory
+/// and changes nothing. It reads one head, and rows of the bucket alone, each once.
+pub fn find_row<R: Rows>(
+    t: &mut Txn<'_, R>,
+    buckets: Buckets,
+    hash: &Hash32,
+    row: &mut [u8],
+) -> Result<Found, DiskFailed>
+    requires live { R.is_live t.old.rows.now }
+    requires sized { length row.old ≡ size_of (rows_of buckets) }
+    ensures newest { (counts : HeadCounts) (bs : List ListedBlock) (l : lists.Lists) → R.tells
+        → Hold counts bs l (tables_in t.old) → 0 < count_of buckets counts
+        → IfOk result (λ f. f.newest ≡ newest_of hash.now (hashes_of buckets l)) }
+    ensures head { (counts : HeadCounts) (bs : List ListedBlock) (l : lists.Lists) → R.tells
+        → Hold counts bs l (tables_in t.old) → 0 < count_of buckets counts
+        → IfOk result (λ f. f.head ≡ bucket_head (count_of buckets counts) hash.now (hashes_of buckets l)) }
+    ensures rows { (counts : HeadCounts) (bs : List ListedBlock) (l : lists.Lists) → R.tells
+        → Hold counts bs l (tables_in t.old) → 0 < count_of buckets counts
+        → reads_in t.new ≤ reads_in t.old + 1
+        + bucket_size (count_of buckets counts) hash.now (hashes_of buckets l) }
+    // What follows holds over any rows.
+    ensures row { R.tells → IfOk result
+        (λ f. ForSome f.newest (λ n. row.new ≡ get_or (tables_in t.old (rows_of buckets)) n [])) }
+    ensures sized { length row.new ≡ size_of (rows_of buckets) }
+    ensures none { length (tables_in t.old (heads_of buckets)) ≡ 0 → IfOk result (λ f. f.newest ≡ None) }
+    ensures idle { length (tables_in t.old (heads_of buckets)) ≡ 0 → reads_in t.new ≡ reads_in t.old }
+    ensures below { IfOk result
+        (λ f. ForSome f.newest (λ n. n < length (tables_in t.old (rows_of buckets)))) }
+    ensures head_below { IfOk result
+        (λ f. ForSome f.head (λ n. n < length (tables_in t.old (rows_of buckets)))) }
+    ensures fits { IfOk result (λ f. link_number f.newest < 2 ^ 32) }
+    ensures head_fits { IfOk result (λ f. link_number f.head < 2 ^ 32) }
+    ensures read { ReadsRows disk_failed t.old t.new result }
+{
+    let head = head(t, buckets, hash)?;
+    let mut link = head;
+    while let Some(n) = link {
+        let (found, next) = at_row(t, buckets, n, row)?;
+        if found == *hash {
+            break;
+        }
+        link = next;
+    }
+    Ok(Found { newest: link, head })
+}
+
+/// The number of the newest row with the hash, and the head of its bucket, as `find_row` finds them.
 pub fn find<R: Rows>(
     t: &mut Txn<'_, R>,
     buckets: Buckets,
@@ -95,6 +145,7 @@ pub fn find<R: Rows>(
         + bucket_size (count_of buckets counts) hash.now (hashes_of buckets l) }
     // What follows holds over any rows.
     ensures none { length (tables_in t.old (heads_of buckets)) ≡ 0 → IfOk result (λ f. f.newest ≡ None) }
+    ensures idle { length (tables_in t.old (heads_of buckets)) ≡ 0 → reads_in t.new ≡ reads_in t.old }
     ensures below { IfOk result
         (λ f. ForSome f.newest (λ n. n < length (tables_in t.old (rows_of buckets)))) }
     ensures head_below { IfOk result
@@ -103,14 +154,6 @@ pub fn find<R: Rows>(
     ensures head_fits { IfOk result (λ f. link_number f.head < 2 ^ 32) }
     ensures read { ReadsRows disk_failed t.old t.new result }
 {
-    let head = head(t, buckets, hash)?;
-    let mut link = head;
-    while let Some(n) = link {
-        let (found, next) = at_row(t, buckets, n)?;
-        if found == *hash {
-            break;
-        }
-        link = next;
-    }
-    Ok(Found { newest: link, head })
+    let mut row = [0; 68];
+    find_row(t, buckets, hash, &mut row[..buckets.rows().size()])
 }

@@ -21,29 +21,28 @@ use Rattle.el_chain.specs.Chains.{Chain, tip}
 use Rattle.el_chain.specs.Faults.{fault, IsGood, IsNext, AreNext}
 use Rattle.el_chain.specs.RowCounts.{spending_inputs}
 use Rattle.el_chain.specs.History.{first_start}
-use Rattle.el_chain.specs.within.CoinTables.{FitsBlock}
+use Rattle.el_chain.specs.CoinLists.{FitsBlock}
 use Rattle.el_chain.proofs.GoodChains.{fits_of_encoded, all_in_encoding, next_more, has_room, first_none}
 use Rattle.el_prepare.specs.declared.prepared.PreparedTx.{PreparedTx}
 use Rattle.el_prepare.specs.Prepared.{prepared, prepared_tx, prepared_txs, paid, taken}
 use Rattle.el_tables.specs.ChainLists.{ListedBlock, lists, listed_blocks}
-use Rattle.el_tables.specs.Connecting as listed
-use Rattle.el_tables.specs.Connecting.{◌>>=◌, connect_txs, connect_tx, missing_at, ok_unless, bounds_by, full_by, prepared_block, block_between}
+use Rattle.el_tables.specs.Connecting.{◌>>=◌, connect_txs, connect_tx, missing_at, ok_unless, bounds_by, full_by, block_between}
 use Rattle.el_tables.specs.Lists.{Lists, unspent_sum}
 use Rattle.el_tables.specs.Tables.{HeadCounts, format_1, heads_for}
 use Rattle.el_tables.proofs.Outputs.{from_front}
 use Rattle.el_tables.proofs.UndoneBlocks.{row_more, good_before}
 use Rattle.el_tables.proofs.WholeBlocks.{connects}
-use Rattle.el_rows.specs.Tables as held
-use Rattle.el_rows.specs.declared.table.Table.TheVariants as table
-use Rattle.el_buckets.specs.Rows.{Hold, block_fields}
-use Rattle.el_stands.specs.Standing.{StandFor, HoldChain, heads_in}
-use Rattle.el_connect.specs.within.Parts.{Reached, IsBetween, LedTo, as_listed, values, IsSmall, connect_next, connect_all}
+use Rattle.el_row_formats.specs.Tables as held
+use Rattle.el_row_formats.specs.declared.table.Table.TheVariants as table
+use Rattle.el_schema.specs.Rows.{Hold, block_fields}
+use Rattle.el_schema.specs.Standing.{StandFor, HoldChain, heads_in}
+use Rattle.el_connect.specs.within.Parts.{Reached, IsBetween, LedTo, values, IsSmall, connect_next, connect_all}
 use Rattle.el_connect.proofs.StepLemmas.{money_fits}
 use Rattle.el_connect.proofs.MadeLemmas.{between_next}
 use Rattle.el_chain.specs.declared.fault.ConnectFault.TheVariants as refusal
 use Rattle.el_tables.proofs.FitLemmas.{chain_fits}
 use Rattle.el_tx.specs.Headers.{header_encoding}
-use Rattle.el_stands.proofs.StandingLemmas.{stands}
+use Rattle.el_schema.proofs.StandingLemmas.{stands}
 
 -- 1. What is prepared of a block is small
 
@@ -132,22 +131,18 @@ few_txs b encoded =
 
 -- 2. The steps with what is prepared are those of the lists
 
-listed_txs : (start : ℕ) (ts : List Tx) → map as_listed (prepared_txs start ts) ≡ listed.prepared_txs start ts
-listed_txs start [] = refl
-listed_txs start (t ∷ ts) = ap (λ (ps : List listed.PreparedTx). listed.prepared_tx start t ∷ ps) (listed_txs (start + length (full_encoding t)) ts)
-
-all_are : (ps : List PreparedTx) (height index : ℕ) (l : Lists) → connect_all height index ps l ≡ connect_txs height index (map as_listed ps) l
+all_are : (ps : List PreparedTx) (height index : ℕ) (l : Lists) → connect_all height index ps l ≡ connect_txs height index ps l
 all_are [] height index l = refl
-all_are (p ∷ ps) height index l = by (missing_at index (connect_tx height (as_listed p) l)) (λ m. all_are ps height (index + 1) m)
+all_are (p ∷ ps) height index l = by (missing_at index (connect_tx height p l)) (λ m. all_are ps height (index + 1) m)
   where
-    within : (b : Option ConnectFault) (m : Lists) → connect_all height (index + 1) ps m ≡ connect_txs height (index + 1) (map as_listed ps) m
-        → (ok_unless b m >>= (λ (x : Lists). connect_all height (index + 1) ps x)) ≡ (ok_unless b m >>= (λ (x : Lists). connect_txs height (index + 1) (map as_listed ps) x))
+    within : (b : Option ConnectFault) (m : Lists) → connect_all height (index + 1) ps m ≡ connect_txs height (index + 1) ps m
+        → (ok_unless b m >>= (λ (x : Lists). connect_all height (index + 1) ps x)) ≡ (ok_unless b m >>= (λ (x : Lists). connect_txs height (index + 1) ps x))
     within None m same = same
     within (Some e) m same = refl
 
-    by : (r : Result Lists ConnectFault) → ((m : Lists) → connect_all height (index + 1) ps m ≡ connect_txs height (index + 1) (map as_listed ps) m)
+    by : (r : Result Lists ConnectFault) → ((m : Lists) → connect_all height (index + 1) ps m ≡ connect_txs height (index + 1) ps m)
         → ((r >>= (λ (m : Lists). ok_unless (bounds_by height m) m)) >>= (λ (m : Lists). connect_all height (index + 1) ps m))
-        ≡ (r >>= (λ (c : Lists). ok_unless (bounds_by height c) c >>= (λ (w : Lists). connect_txs height (index + 1) (map as_listed ps) w)))
+        ≡ (r >>= (λ (c : Lists). ok_unless (bounds_by height c) c >>= (λ (w : Lists). connect_txs height (index + 1) ps w)))
     by (Err e) rest = refl
     by (Ok m) rest = within (bounds_by height m) m (rest m)
 
@@ -156,12 +151,7 @@ pub block_leads : (chain : Chain) (b : Placed) → IsGood chain
     → connect_all (length chain) 0 (prepared b.block).txs (lists chain) ≡ ok_unless (fault chain b.block) (lists (chain ++ b ∷ []))
 block_leads chain b good =
     all_are (prepared b.block).txs (length chain) 0 (lists chain)
-    ∙ ap (λ (ps : List listed.PreparedTx). connect_txs (length chain) 0 ps (lists chain)) (listed_txs (first_start b.block.txs) b.block.txs)
     ∙ connects chain b good
-
-listed_count : (start : ℕ) (ts : List Tx) → length (listed.prepared_txs start ts) ≡ length ts
-listed_count start [] = refl
-listed_count start (t ∷ ts) = ap (λ n. suc n) (listed_count (start + length (full_encoding t)) ts)
 
 -- what it leads to tells the fault
 pub led_on : (f : Option ConnectFault) (l m : Lists) → ok_unless f l ≡ Ok m → (f ≡ None) × (l ≡ m)
@@ -184,7 +174,7 @@ led_off (Some g) l e h = cc
 sum_within : (ps : List PreparedTx) (height index : ℕ) (l m : Lists) → connect_all height index ps l ≡ Ok m → unspent_sum l.outs ≤ max_money → unspent_sum m.outs ≤ max_money
 sum_within [] height index l m led le = (let same : l ≡ m = cc in subst (λ (x : Lists). unspent_sum x.outs ≤ max_money) same le)
 sum_within (p ∷ ps) height index l m led le =
-    by (missing_at index (connect_tx height (as_listed p) l)) (λ c e within. sum_within ps height (index + 1) c m e within) led
+    by (missing_at index (connect_tx height p l)) (λ c e within. sum_within ps height (index + 1) c m e within) led
   where
     wrong : (f : ConnectFault) → Err f ≡ Ok m → ⊥
     wrong f h = cc
@@ -246,7 +236,7 @@ sum_before rows sum none some chain = from_front (λ (c : Chain). HoldChain rows
   where
     more : (c : Chain) (b : Placed) → (HoldChain rows c → sum ≡ unspent_sum (lists c).outs) → HoldChain rows (c ++ b ∷ []) → sum ≡ unspent_sum (lists (c ++ b ∷ [])).outs
     more c b before hold =
-        some (heads_in (c ++ b ∷ [])) (listed_blocks c) (block_between (prepared_block b.block) b.place (lists c) (lists (c ++ b ∷ []))) (lists (c ++ b ∷ []))
+        some (heads_in (c ++ b ∷ [])) (listed_blocks c) (block_between (prepared b.block) b.place (lists c) (lists (c ++ b ∷ []))) (lists (c ++ b ∷ []))
         (subst (λ (bs : List ListedBlock). Hold (heads_in (c ++ b ∷ [])) bs (lists (c ++ b ∷ [])) rows) (row_more c b) hold)
 
 -- 4. The chain with the block
@@ -263,10 +253,10 @@ heads_last counts (x ∷ xs) b = refl
 
 -- rows that hold the lists of the chain with the block, and its row
 pub chain_held : (rows : held.Tables) (chain : Chain) (b : Placed)
-    → Hold format_1 (listed_blocks chain ++ block_between (prepared_block b.block) b.place (lists chain) (lists (chain ++ b ∷ [])) ∷ []) (lists (chain ++ b ∷ [])) rows
+    → Hold format_1 (listed_blocks chain ++ block_between (prepared b.block) b.place (lists chain) (lists (chain ++ b ∷ [])) ∷ []) (lists (chain ++ b ∷ [])) rows
     → HoldChain rows (chain ++ b ∷ [])
 chain_held rows chain b hold =
-    let row = block_between (prepared_block b.block) b.place (lists chain) (lists (chain ++ b ∷ [])) in
+    let row = block_between (prepared b.block) b.place (lists chain) (lists (chain ++ b ∷ [])) in
     let is = row_more chain b in
     let heads : heads_in (chain ++ b ∷ []) ≡ format_1 = ap (heads_for format_1) is ∙ heads_last format_1 (listed_blocks chain) row in
     subst (λ (counts : HeadCounts). Hold counts (listed_blocks (chain ++ b ∷ [])) (lists (chain ++ b ∷ [])) rows) (sym heads)
@@ -280,7 +270,7 @@ blocks_from height first (b ∷ bs) cs =
 -- as many rows of blocks as blocks
 pub height_is : (rows : held.Tables) (chain : Chain) → HoldChain rows chain → length (rows table.Blocks) ≡ length chain
 height_is rows chain hold =
-    ap length (hold.each table.Blocks) ∙ length-map (listed_blocks chain) (λ b. Rattle.el_rows.specs.RowBytes.block_row_bytes (block_fields b)) ∙ blocks_from 0 0 chain []
+    ap length (hold.each table.Blocks) ∙ length-map (listed_blocks chain) (λ b. Rattle.el_row_formats.specs.RowBytes.block_row_bytes (block_fields b)) ∙ blocks_from 0 0 chain []
 
 -- 5. The block in rows
 
@@ -311,9 +301,8 @@ module _ (chain : Chain) (b : Placed) (height : ℕ) (ps : List PreparedTx) (goo
   block_put rows new sum first count header encoded names led head from many appends =
       let both = led_on (fault chain b.block) (lists (chain ++ b ∷ [])) led.lists (sym leads ∙ led.led) in
       let after = lists (chain ++ b ∷ []) in
-      let x = block_between (prepared_block b.block) b.place (lists chain) after in
-      let counted = many ∙ txs_count (first_start b.block.txs) b.block.txs ∙ sym (listed_count (first_start b.block.txs) b.block.txs) in
+      let x = block_between (prepared b.block) b.place (lists chain) after in
       let total : sum ≡ unspent_sum after.outs = led.reached.sum_is ∙ ap (λ (l : Lists). unspent_sum l.outs) (sym both.1) in
       let hold = subst (λ (l : Lists). Hold format_1 (listed_blocks chain) l rows) (sym both.1) led.reached.hold in
-      let put = appends after x hold (rw (head, from, counted, total) refl) in
+      let put = appends after x hold (rw (head, from, many, total) refl) in
       (both.0, stands new (chain ++ b ∷ []) (good_more chain b good encoded names both.0) (chain_held new chain b put))

@@ -2,17 +2,17 @@
 use Rattle.std.proofs.Common.{◌≡◌, ◌≢◌, ℕ, take, Option, None, Some, option_and_then, refl, ap, sym, ◌∙◌}
 use Rattle.el_base.specs.declared.hash.Hash32.{Hash32}
 use Rattle.el_tx.specs.declared.types.Outpoint.{Outpoint}
-use Rattle.el_rows.specs.declared.out_row.OutRow.{OutRow}
-use Rattle.el_rows.specs.declared.out_row.State.{State}
-use Rattle.el_rows.specs.declared.out_row.State.TheVariants as out
-use Rattle.el_buckets.specs.Rows.{out_fields}
+use Rattle.el_row_formats.specs.declared.out_row.OutRow.{OutRow}
+use Rattle.el_row_formats.specs.declared.out_row.State.{State}
+use Rattle.el_row_formats.specs.declared.out_row.State.TheVariants as out
+use Rattle.el_schema.specs.Rows.{out_fields}
 use Rattle.el_tables.specs.Edits.{no_out}
 use Rattle.el_tables.specs.Lists.{Lists, output_number, coin_number, if_unspent, replaced, newest_tx}
 use Rattle.el_tables.proofs.Found.{none_named}
 use Rattle.el_spend.specs.Outputs.{named_among}
 use Rattle.el_spend.specs.declared.lookup.NamedOutput.{NamedOutput}
 use Rattle.el_spend.proofs.Found.{coin_here, coin_gone_here, coin_nowhere, coin_number_is, coin_number_none}
-use Rattle.el_spend.proofs.Rows.{found_at}
+use Rattle.el_schema.proofs.Rows.{found_at}
 use Rattle.el_connect.specs.declared.outputs.Maker.{Maker}
 use Rattle.el_connect.specs.within.Parts.{value_of, coin_value, IsMaker}
 

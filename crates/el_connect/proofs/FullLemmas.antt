@@ -20,14 +20,14 @@ use Rattle.el_tables.proofs.FitLemmas.{take_out_fits}
 use Rattle.el_tables.proofs.OutEdits.{is_there}
 use Rattle.el_tables.proofs.RunningSums.{spent_less}
 use Rattle.el_rows.specs.Changes.{OnTable}
-use Rattle.el_rows.specs.Tables as held
-use Rattle.el_rows.specs.declared.table.Table.TheVariants as table
+use Rattle.el_row_formats.specs.Tables as held
+use Rattle.el_row_formats.specs.declared.table.Table.TheVariants as table
 use Rattle.el_buckets.specs.Faults.{NotAdded}
-use Rattle.el_buckets.specs.Rows.{Hold}
-use Rattle.el_spend.proofs.Rows.{on_ins}
-use Rattle.el_connect.specs.within.Parts.{Reached, IsBetween, IsCounted, OutsInTurn, as_listed, connect_next, made_by, scripts_of, touch_coins}
+use Rattle.el_schema.specs.Rows.{Hold}
+use Rattle.el_schema.proofs.Rows.{on_ins}
+use Rattle.el_schema.proofs.Held.{count_ins}
+use Rattle.el_connect.specs.within.Parts.{Reached, IsBetween, IsCounted, OutsInTurn, connect_next, made_by, scripts_of, touch_coins}
 use Rattle.el_connect.specs.within.Full.{TakenBy, TakingOn, FineCoins, IsNext, ReadyCoins}
-use Rattle.el_connect.proofs.RowLemmas.{ins_long}
 use Rattle.el_connect.proofs.StepLemmas.{state_long, input_missing, input_spent, inputs_end, last_txid, before_last, money_fits, not_added}
 use Rattle.el_connect.proofs.TouchLemmas.{coin_touched, full_none, full_some, fund_scripts, touch_scripts}
 use Rattle.el_connect.proofs.MadeLemmas.{made_txs, made_outs, made_ins, tx_leads}
@@ -174,7 +174,7 @@ full_next height index p l e fine is =
 pub ins_refused : (counts : HeadCounts) (bs : List ListedBlock) (l : Lists) (rows : held.Tables) (e : ConnectFault) → Hold counts bs l rows → length l.ins < ROW_LIMIT
     → (e ≡ refusal.DiskFailed) ⊎ NotAdded table.Ins (length (rows table.Ins)) e → (e ≡ refusal.DiskFailed) ⊎ (e ≡ refusal.Memory)
 ins_refused counts bs l rows e hold few (inl disk) = inl disk
-ins_refused counts bs l rows e hold few (inr why) = inr (not_added table.Ins (length (rows table.Ins)) e (let many = ins_long counts bs l rows hold in omega arith) why)
+ins_refused counts bs l rows e hold few (inr why) = inr (not_added table.Ins (length (rows table.Ins)) e (let many = count_ins counts bs l rows hold in omega arith) why)
 
 -- the first of the tables that are counted
 pub full_blocks : (height : ℕ) (l : Lists) (e : ConnectFault) → ROW_LIMIT < height + 1 → e ≡ refusal.Full 1 ROW_LIMIT → full_by height l ≡ Some e
@@ -220,7 +220,7 @@ same_lists x y r a b = cc
 module _ (counts : HeadCounts) (bs : List ListedBlock) (start l : Lists) (height index : ℕ) (p : PreparedTx) (rows : held.Tables) (left sum by : ℕ) (is : List Outpoint) (count : by ≡ length l.txs) (same : is ≡ p.inputs) (between : IsBetween l)
     (taken : TakingOn counts bs by start l rows left sum (length is) (λ real. spend_all by 0 is l ≡ Ok real)) where
   abbrev t : ListedTx
-  t = listed_after height (as_listed p) l
+  t = listed_after height p l
 
   abbrev after : Lists
   after = made_by t p.outputs taken.real
@@ -233,7 +233,7 @@ module _ (counts : HeadCounts) (bs : List ListedBlock) (start l : Lists) (height
   spends =
       ap (λ (k : ℕ). spend_all k 0 p.inputs l) (sym count) ∙ ap (λ (xs : List Outpoint). spend_all by 0 xs l) (sym same) ∙ taken.left_is
 
-  leads : connect_tx height (as_listed p) l ≡ Ok after
+  leads : connect_tx height p l ≡ Ok after
   leads = tx_leads height p l taken.real spends taken.real_txs
 
   real_count : by ≡ length taken.real.txs
@@ -247,7 +247,7 @@ module _ (counts : HeadCounts) (bs : List ListedBlock) (start l : Lists) (height
 
   is_next : IsNext taken.now (add_tx t taken.real) by p.txid
   is_next =
-      let u = listed_after height (as_listed p) l in
+      let u = listed_after height p l in
       record {
         number_is = real_count ∙ sym (ap (λ (ts : List ListedTx). length ts) taken.txs);
         front = ap (λ (k : ℕ). take k (add_tx u taken.real).txs) real_count ∙ before_last taken.real.txs u ∙ sym taken.txs;
@@ -265,7 +265,7 @@ module _ (counts : HeadCounts) (bs : List ListedBlock) (start l : Lists) (height
 
   pub coins_fine : Looked (λ x. money_fault (unspent_sum x.outs) ≡ None) → FineCoins height p l
   coins_fine tells =
-      let u = listed_after height (as_listed p) l in
+      let u = listed_after height p l in
       let txs = ap (λ (ts : List ListedTx). length ts) (made_txs u p.outputs taken.real) in
       let one = length-append taken.real.txs (u ∷ []) in
       let before = ap (λ (ts : List ListedTx). length ts) taken.real_txs in
@@ -307,7 +307,7 @@ module _ (counts : HeadCounts) (bs : List ListedBlock) (start l : Lists) (height
     scripts_wrong e os at counted tells (inr full) =
         let fine = coins_fine tells in
         let scripts = ap (λ (xs : List Hash32). length xs) (made_scripts os at) in
-        let lists = ap (λ (x : Lists). length x.scripts) (same_lists after fine.lists (connect_tx height (as_listed p) l) leads fine.led) in
+        let lists = ap (λ (x : Lists). length x.scripts) (same_lists after fine.lists (connect_tx height p l) leads fine.led) in
         let over = full.1 in
         let low = counted.block in
         let a = counted.txs in
@@ -343,6 +343,6 @@ module _ (counts : HeadCounts) (bs : List ListedBlock) (start l : Lists) (height
           ins = taken.ins ∙ ap (λ (x : Lists). x.ins ++ taken.coins) whole;
           many = taken.many ∙ ap (λ (xs : List Outpoint). length xs) same;
           low = omega arith;
-          money = money_fits (unspent_sum (made_by (listed_after height (as_listed p) l) p.outputs taken.real).outs) (money_none tells);
+          money = money_fits (unspent_sum (made_by (listed_after height p l) p.outputs taken.real).outs) (money_none tells);
           few = omega arith;
         }

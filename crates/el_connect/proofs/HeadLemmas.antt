@@ -8,13 +8,13 @@ use Rattle.el_tables.specs.Lists.{no_lists}
 use Rattle.el_tables.specs.Tables as typed
 use Rattle.el_tables.specs.Tables.{HeadCounts, format_1, tables_of}
 use Rattle.el_tables.proofs.TxEdits.{first_heads}
-use Rattle.el_rows.specs.RowBytes.{link_bytes, head_row_bytes, FitsHeadRow}
-use Rattle.el_rows.specs.Tables as held
-use Rattle.el_rows.specs.declared.table.Table.{Table}
-use Rattle.el_rows.specs.declared.table.Table.TheVariants as table
-use Rattle.el_buckets.specs.Rows.{Encode, Hold, bytes_of, head_fields}
-use Rattle.el_buckets.proofs.Held.{count_tx_heads, count_script_heads}
-use Rattle.el_stands.specs.Standing.{HoldChain}
+use Rattle.el_row_formats.specs.RowBytes.{link_bytes, head_row_bytes, FitsHeadRow}
+use Rattle.el_row_formats.specs.Tables as held
+use Rattle.el_row_formats.specs.declared.table.Table.{Table}
+use Rattle.el_row_formats.specs.declared.table.Table.TheVariants as table
+use Rattle.el_schema.specs.Rows.{Encode, Hold, bytes_of, head_fields}
+use Rattle.el_schema.proofs.Held.{count_tx_heads, count_script_heads}
+use Rattle.el_schema.specs.Standing.{HoldChain}
 
 map_same : {X Y : Type 0} (f : X → Y) (n : ℕ) (x : X) → map f (replicate n x) ≡ replicate n (f x)
 map_same f zero x = refl

@@ -9,7 +9,7 @@ use Rattle.el_tables.specs.ChainLists.{ListedBlock}
 use Rattle.el_tables.specs.Connecting.{fund, fund_all, script_of_output}
 use Rattle.el_tables.specs.Lists.{Lists, ListedTx, add_entry, unspent_sum}
 use Rattle.el_tables.specs.Tables.{HeadCounts}
-use Rattle.el_rows.specs.Tables as held
+use Rattle.el_row_formats.specs.Tables as held
 use Rattle.el_connect.specs.declared.outputs.Maker.{Maker}
 use Rattle.el_connect.specs.within.Parts.{Reached, HasRoom, IsMaker, FundingOn, TouchingOn, Overflows, touch_coins, values}
 use Rattle.el_connect.proofs.StepLemmas.{output_funded, outputs_end, values_left, funded_at_most}

@@ -10,7 +10,7 @@ use Rattle.el_chain.specs.declared.fault.ConnectFault.{ConnectFault}
 use Rattle.el_prepare.specs.declared.prepared.PreparedTx.{PreparedTx}
 use Rattle.el_tables.specs.Connecting.{◌>>=◌, spend_all, spend_coin, fund, fund_all, listed_after, connect_tx, missing_at, ok_unless, bounds_by, full_by}
 use Rattle.el_tables.specs.Lists.{State, Lists, ListedTx, ListedOut, add_entry, add_tx, bury, coin_number, replaced, script_number, unspent_sum}
-use Rattle.el_connect.specs.within.Parts.{IsBetween, OutsInTurn, as_listed, connect_next, made_by}
+use Rattle.el_connect.specs.within.Parts.{IsBetween, OutsInTurn, connect_next, made_by}
 use Rattle.el_connect.proofs.StepLemmas.{bury_long, fund_txs, state_long}
 use Rattle.el_connect.proofs.TouchLemmas.{within_full}
 
@@ -44,10 +44,10 @@ made_ins t os l = ins_after (length l.txs) 0 os (add_tx t l)
 
 -- where its coins led to these lists
 pub tx_leads : (height : ℕ) (p : PreparedTx) (l real : Lists) → spend_all (length l.txs) 0 p.inputs l ≡ Ok real → real.txs ≡ l.txs
-    → connect_tx height (as_listed p) l ≡ Ok (made_by (listed_after height (as_listed p) l) p.outputs real)
+    → connect_tx height p l ≡ Ok (made_by (listed_after height p l) p.outputs real)
 tx_leads height p l real led same =
-    ap (λ (q : Result Lists ℕ). q >>= (λ (x : Lists). Ok (fund_all (length l.txs) 0 p.outputs (add_tx (listed_after height (as_listed p) l) x)))) led
-    ∙ ap (λ (ts : List ListedTx). Ok (fund_all (length ts) 0 p.outputs (add_tx (listed_after height (as_listed p) l) real))) (sym same)
+    ap (λ (q : Result Lists ℕ). q >>= (λ (x : Lists). Ok (fund_all (length l.txs) 0 p.outputs (add_tx (listed_after height p l) x)))) led
+    ∙ ap (λ (ts : List ListedTx). Ok (fund_all (length ts) 0 p.outputs (add_tx (listed_after height p l) real))) (sym same)
 
 -- 2. Between transactions
 
@@ -85,17 +85,17 @@ between_next height index p l m led between = go (spend_all (length l.txs) 0 p.i
     made : (real : Lists) → spend_all (length l.txs) 0 p.inputs l ≡ Ok real → IsBetween m
     made real is =
         let leaves = inputs_leave (length l.txs) 0 p.inputs l real is in
-        let x = made_by (listed_after height (as_listed p) l) p.outputs real in
+        let x = made_by (listed_after height p l) p.outputs real in
         let leads = tx_leads height p l real is leaves.0 in
         let step : connect_next height index p l ≡ ok_unless (bounds_by height x) x =
         ap (λ (r : Result Lists ℕ). missing_at index r >>= (λ (y : Lists). ok_unless (bounds_by height y) y)) leads in
         let both = bounded (bounds_by height x) x (sym step ∙ led) in
         let tables = second_none (money_fault (unspent_sum x.outs)) (full_by height x) both.0 in
         let low = second_none (full 5 (length x.ins)) _ (second_none (full 4 (length x.outs)) _ (second_none (full 2 (length x.txs)) _ (second_none (full 1 (height + 1)) _ tables))) in
-        let txs = made_txs (listed_after height (as_listed p) l) p.outputs real ∙ ap (λ (ts : List ListedTx). ts ++ listed_after height (as_listed p) l ∷ []) leaves.0 in
-        let outs = made_outs (listed_after height (as_listed p) l) p.outputs real in
+        let txs = made_txs (listed_after height p l) p.outputs real ∙ ap (λ (ts : List ListedTx). ts ++ listed_after height p l ∷ []) leaves.0 in
+        let outs = made_outs (listed_after height p l) p.outputs real in
         let long = leaves.1 in
-        let turn = turn_more 0 (length l.outs) (length x.outs) l.txs (listed_after height (as_listed p) l) between.outs refl (omega arith) in
+        let turn = turn_more 0 (length l.outs) (length x.outs) l.txs (listed_after height p l) between.outs refl (omega arith) in
         subst IsBetween both.1 (record {
           outs = subst (λ (ts : List ListedTx). OutsInTurn 0 ts (length x.outs)) (sym txs) turn;
           scripts = within_full 6 (length x.scripts) (first_none _ _ low);
@@ -106,7 +106,7 @@ between_next height index p l m led between = go (spend_all (length l.txs) 0 p.i
     go (Ok real) is = made real is
     go (Err at) is =
         let step : connect_next height index p l ≡ missing_at {A = Lists} index (Err at) =
-        ap (λ (r : Result Lists ℕ). missing_at index (r >>= (λ (x : Lists). Ok (fund_all (length l.txs) 0 p.outputs (add_tx (listed_after height (as_listed p) l) x)))) >>= (λ (y : Lists). ok_unless (bounds_by height y) y)) is in
+        ap (λ (r : Result Lists ℕ). missing_at index (r >>= (λ (x : Lists). Ok (fund_all (length l.txs) 0 p.outputs (add_tx (listed_after height p l) x)))) >>= (λ (y : Lists). ok_unless (bounds_by height y) y)) is in
         absurd (none (sym step ∙ led))
       where
         none : missing_at {A = Lists} index (Err at) ≡ Ok m → ⊥

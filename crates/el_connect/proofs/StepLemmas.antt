@@ -21,12 +21,12 @@ use Rattle.el_tables.proofs.FitLemmas.{touch_fits, add_out_fits}
 use Rattle.el_tables.proofs.Sums.{balance_within}
 use Rattle.el_tables.proofs.RunningSums.{alone_more, buries_more}
 use Rattle.el_tables.proofs.Scripts.{once_has, number_within}
-use Rattle.el_rows.specs.Tables as held
-use Rattle.el_rows.specs.declared.table.Table.{Table}
-use Rattle.el_rows.specs.declared.table.Table.TheVariants as table
+use Rattle.el_row_formats.specs.Tables as held
+use Rattle.el_row_formats.specs.declared.table.Table.{Table}
+use Rattle.el_row_formats.specs.declared.table.Table.TheVariants as table
 use Rattle.el_buckets.specs.Faults.{NotAdded}
-use Rattle.el_buckets.specs.Rows.{Hold}
-use Rattle.el_buckets.proofs.Held.{count_txs}
+use Rattle.el_schema.specs.Rows.{Hold}
+use Rattle.el_schema.proofs.Held.{count_txs}
 use Rattle.el_spend.specs.Outputs.{BalancesFit}
 use Rattle.el_connect.specs.within.Parts.{Reached, values, value_of}
 

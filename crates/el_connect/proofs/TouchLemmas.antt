@@ -18,11 +18,11 @@ use Rattle.el_tables.specs.Lists.{State, Lists, ListedOut, ListedEntry, add_entr
 use Rattle.el_tables.specs.ChainLists.{ListedBlock}
 use Rattle.el_tables.specs.Tables.{HeadCounts}
 use Rattle.el_tables.proofs.FitLemmas.{touch_fits}
-use Rattle.el_rows.specs.Tables as held
-use Rattle.el_buckets.specs.Rows.{Hold}
+use Rattle.el_row_formats.specs.Tables as held
+use Rattle.el_schema.specs.Rows.{Hold}
 use Rattle.el_buckets.specs.Faults.{NotAdded}
-use Rattle.el_buckets.proofs.Held.{count_scripts}
-use Rattle.el_rows.specs.declared.table.Table.TheVariants as table
+use Rattle.el_schema.proofs.Held.{count_scripts}
+use Rattle.el_row_formats.specs.declared.table.Table.TheVariants as table
 use Rattle.el_script.specs.Touches.{touch_full}
 use Rattle.el_script.proofs.Causes.{hash_there}
 use Rattle.el_connect.specs.within.Parts.{HasRoom, Overflows, Reached, touch_coins, scripts_of}

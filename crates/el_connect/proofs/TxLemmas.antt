@@ -18,11 +18,11 @@ use Rattle.el_tables.specs.Connecting.{◌>>=◌, spend_all, fund_all, listed_af
 use Rattle.el_tables.specs.Lists.{Lists, ListedTx, ListedOut, ListedEntry, add_tx, unspent_sum, txid_at, newest_tx}
 use Rattle.el_tables.specs.Tables.{HeadCounts}
 use Rattle.el_tables.proofs.FitLemmas.{tx_fits}
-use Rattle.el_rows.specs.Tables as held
-use Rattle.el_buckets.specs.Rows.{Hold}
+use Rattle.el_row_formats.specs.Tables as held
+use Rattle.el_schema.specs.Rows.{Hold}
 use Rattle.el_connect.specs.declared.outputs.Maker.{Maker}
 use Rattle.el_connect.specs.within.Full.{ReadyCoins}
-use Rattle.el_connect.specs.within.Parts.{Reached, HasRoom, IsBetween, IsMaker, IsSmall, IsCounted, LedTo, LeadingOn, Overflows, TouchingOn, as_listed, connect_next, connect_all, made_by, touch_coins, values}
+use Rattle.el_connect.specs.within.Parts.{Reached, HasRoom, IsBetween, IsMaker, IsSmall, IsCounted, LedTo, LeadingOn, Overflows, TouchingOn, connect_next, connect_all, made_by, touch_coins, values}
 use Rattle.el_connect.proofs.StepLemmas.{last_txid}
 use Rattle.el_connect.proofs.TouchLemmas.{full_last, full_none, full_some, fund_more, refused_later, touch_txs, touch_outs, touch_ins}
 use Rattle.el_connect.proofs.MadeLemmas.{between_next, made_txs, made_outs, made_ins, money_none, tx_leads}
@@ -63,12 +63,12 @@ made_at l t os number is = ap (λ (k : ℕ). fund_all k 0 os (add_tx t l)) is
 
 -- an input without a coin is the transaction's fault
 pub tx_missing : (index height by : ℕ) (p : PreparedTx) (l : Lists) (e : ConnectFault) → by ≡ length l.txs → missing_at {A = Lists} index (spend_all by 0 p.inputs l) ≡ Err e
-    → missing_at {A = Lists} index (connect_tx height (as_listed p) l) ≡ Err e
+    → missing_at {A = Lists} index (connect_tx height p l) ≡ Err e
 tx_missing index height by p l e count is =
     go (spend_all (length l.txs) 0 p.inputs l) (subst (λ (k : ℕ). missing_at {A = Lists} index (spend_all k 0 p.inputs l) ≡ Err e) count is)
   where
     go : (r : Result Lists ℕ) → missing_at {A = Lists} index r ≡ Err e
-        → missing_at {A = Lists} index (r >>= (λ (x : Lists). Ok (fund_all (length l.txs) 0 p.outputs (add_tx (listed_after height (as_listed p) l) x)))) ≡ Err e
+        → missing_at {A = Lists} index (r >>= (λ (x : Lists). Ok (fund_all (length l.txs) 0 p.outputs (add_tx (listed_after height p l) x)))) ≡ Err e
     go (Err i) h = h
     go (Ok x) h = absurd (wrong h)
       where
@@ -77,7 +77,7 @@ tx_missing index height by p l e count is =
 
 pub missing_refused : (index height by : ℕ) (p : PreparedTx) (l : Lists) (is : List Outpoint) (e : ConnectFault) → by ≡ length l.txs → is ≡ p.inputs
     → (e ≡ refusal.DiskFailed) ⊎ ((e ≡ refusal.Memory) ⊎ (missing_at {A = Lists} index (spend_all by 0 is l) ≡ Err e))
-    → (e ≡ refusal.DiskFailed) ⊎ ((e ≡ refusal.Memory) ⊎ (missing_at {A = Lists} index (connect_tx height (as_listed p) l) ≡ Err e))
+    → (e ≡ refusal.DiskFailed) ⊎ ((e ≡ refusal.Memory) ⊎ (missing_at {A = Lists} index (connect_tx height p l) ≡ Err e))
 missing_refused index height by p l is e count same (inl disk) = inl disk
 missing_refused index height by p l is e count same (inr (inl memory)) = inr (inl memory)
 missing_refused index height by p l is e count same (inr (inr missing)) =
@@ -101,7 +101,7 @@ err_mapped (Err e) p f = f e p
 module _ (counts : HeadCounts) (bs : List ListedBlock) (l : Lists) (height index : ℕ) (p : PreparedTx) (ready_rows : held.Tables) (left : ℕ) (counted : IsCounted height p l) (between : IsBetween l)
     (ready : ReadyCoins counts bs ready_rows left height p l) where
   abbrev t : ListedTx
-  t = listed_after height (as_listed p) l
+  t = listed_after height p l
 
   abbrev end : Lists
   end = made_by t p.outputs ready.real
@@ -115,7 +115,7 @@ module _ (counts : HeadCounts) (bs : List ListedBlock) (l : Lists) (height index
   real_ins : ready.real.ins ≡ ready.now.ins
   real_ins = ap (λ (x : Lists). x.ins) ready.touched ∙ touch_ins (length l.txs) ready.coins ready.now
 
-  leads : connect_tx height (as_listed p) l ≡ Ok end
+  leads : connect_tx height p l ≡ Ok end
   leads = tx_leads height p l ready.real ready.led real_txs
 
   -- there is room for what comes
@@ -182,15 +182,15 @@ module _ (counts : HeadCounts) (bs : List ListedBlock) (l : Lists) (height index
       next_end ∙ ap (λ (b : Option ConnectFault). ok_unless b end) (full_some 8 (length end.entries) over.1) ∙ ap (λ (f : ConnectFault). Err f) (sym over.0)
 
   -- after the script hashes of its coins have their entries
-  module _ (by : ℕ) (row : ListedTx) (os : List (ℕ × Hash32)) (rows : held.Tables) (is : by ≡ length l.txs) (row_is : row ≡ listed_after height (as_listed p) l) (os_are : os ≡ p.outputs)
+  module _ (by : ℕ) (row : ListedTx) (os : List (ℕ × Hash32)) (rows : held.Tables) (is : by ≡ length l.txs) (row_is : row ≡ listed_after height p l) (os_are : os ≡ p.outputs)
       (touching : TouchingOn counts bs rows left ready.now (length p.outputs) (λ now. touch_coins by ready.coins ready.now ≡ now)) where
     real_is : touching.lists ≡ ready.real
     real_is = sym touching.left ∙ ap (λ (n : ℕ). touch_coins n ready.coins ready.now) is ∙ sym ready.touched
 
     end_is : made_by row os touching.lists ≡ end
     end_is =
-        ap (λ (u : ListedTx). made_by u os touching.lists) row_is ∙ ap (λ (xs : List (ℕ × Hash32)). made_by (listed_after height (as_listed p) l) xs touching.lists) os_are
-        ∙ ap (made_by (listed_after height (as_listed p) l) p.outputs) real_is
+        ap (λ (u : ListedTx). made_by u os touching.lists) row_is ∙ ap (λ (xs : List (ℕ × Hash32)). made_by (listed_after height p l) xs touching.lists) os_are
+        ∙ ap (made_by (listed_after height p l) p.outputs) real_is
 
     pub fit_ready : IsSmall p → unspent_sum touching.lists.outs + values os < 2 ^ 64
     fit_ready small =
@@ -244,7 +244,7 @@ module _ (counts : HeadCounts) (bs : List ListedBlock) (l : Lists) (height index
       omega arith
 
 pub tx_refused : (height index : ℕ) (p : PreparedTx) (l : Lists) (e : ConnectFault)
-    → (e ≡ refusal.DiskFailed) ⊎ ((e ≡ refusal.Memory) ⊎ (missing_at index (connect_tx height (as_listed p) l) ≡ Err e))
+    → (e ≡ refusal.DiskFailed) ⊎ ((e ≡ refusal.Memory) ⊎ (missing_at index (connect_tx height p l) ≡ Err e))
     → (e ≡ refusal.DiskFailed) ⊎ ((e ≡ refusal.Memory) ⊎ (connect_next height index p l ≡ Err e))
 tx_refused height index p l e (inl disk) = inl disk
 tx_refused height index p l e (inr (inl memory)) = inr (inl memory)

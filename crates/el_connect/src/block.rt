@@ -5,15 +5,15 @@ ghost use Rattle.el_block.specs.declared.block.Block as shape;
 ghost use Rattle.el_chain.specs.Chains.{Chain, tip};
 ghost use Rattle.el_chain.specs.Faults.{fault};
 ghost use Rattle.el_prepare.specs.Prepared.{prepared};
-ghost use Rattle.el_rows.specs.RowBytes.{FitsBlockRow};
+ghost use Rattle.el_row_formats.specs.RowBytes.{FitsBlockRow};
 ghost use Rattle.el_rows.specs.Transaction.{tables_in, EditsRows, EditsAlone};
-ghost use Rattle.el_rows.specs.declared.table.Table.{Table};
+ghost use Rattle.el_row_formats.specs.declared.table.Table.{Table};
 ghost use Rattle.el_buckets.specs.Faults.{NotAdded};
-ghost use Rattle.el_buckets.specs.Rows.{Hold, block_fields};
+ghost use Rattle.el_schema.specs.Rows.{Hold, block_fields};
 ghost use Rattle.el_tables.specs.ChainLists.{ListedBlock};
 ghost use Rattle.el_tables.specs.Lists.{Lists};
 ghost use Rattle.el_tables.specs.Tables.{HeadCounts};
-ghost use Rattle.el_stands.specs.Standing.{StandFor};
+ghost use Rattle.el_schema.specs.Standing.{StandFor};
 
 use crate::heads::add_all_heads;
 use crate::reading::last_sum;
@@ -22,7 +22,8 @@ use el_buckets::not_appended;
 use el_chain::ConnectFault;
 use el_outside::Place;
 use el_prepare::Prepared;
-use el_rows::{BlockRow, Rows, Table, Txn};
+use el_row_formats::{BlockRow, Table};
+use el_rows::{Rows, Txn};
 
 // The row of a block: its header's bytes, its place by file, offset and length, the number of its first
 // transaction, how many it has, and what all coins hold after it.

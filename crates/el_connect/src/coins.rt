@@ -2,13 +2,13 @@
 ghost use Rattle.std.specs.Prelude.{◌≡◌, ◌⊎◌, ◌<◌, ◌≤◌, ◌+◌, ◌^◌, ℕ, List, [], length, Ok, Err, OnOk, IfOk, IfErr};
 ghost use Rattle.el_chain.specs.declared.limits.TheConstants.{ROW_LIMIT};
 ghost use Rattle.el_rows.specs.Transaction.{tables_in, EditsRows};
-ghost use Rattle.el_rows.specs.declared.table.Table.{Table};
+ghost use Rattle.el_row_formats.specs.declared.table.Table.{Table};
 ghost use Rattle.el_tables.specs.ChainLists.{ListedBlock};
 ghost use Rattle.el_tables.specs.Connecting.{spend_all, missing_at};
 ghost use Rattle.el_tables.specs.Lists.{Lists, unspent_sum};
 ghost use Rattle.el_tables.specs.Tables.{HeadCounts};
 ghost use Rattle.el_tx.specs.Encoding.{max_money};
-ghost use Rattle.el_buckets.specs.Rows.{Hold};
+ghost use Rattle.el_schema.specs.Rows.{Hold};
 ghost use Rattle.el_connect.specs.within.Parts.{Reached, IsSmall, IsBetween, IsCounted, connect_next};
 ghost use Rattle.el_connect.specs.within.Full.{TakenBy, TakingOn, FineCoins, ReadyCoins};
 
@@ -17,7 +17,8 @@ use crate::reading::output_value;
 use crate::scripts::check_scripts;
 use el_chain::ConnectFault;
 use el_prepare::PreparedTx;
-use el_rows::{Rows, Table, Txn};
+use el_row_formats::Table;
+use el_rows::{Rows, Txn};
 use el_spend::spend;
 use el_tx::Outpoint;
 

@@ -1,17 +1,18 @@
 // The heads of buckets, which are there from the first block on.
 ghost use Rattle.std.specs.Prelude.{◌≡◌, ◌≢◌, ◌<◌, replicate, length, OnOk, IfErr, None};
-ghost use Rattle.el_rows.specs.RowBytes.{link_bytes};
-ghost use Rattle.el_rows.specs.Tables.{size_of};
+ghost use Rattle.el_row_formats.specs.RowBytes.{link_bytes};
+ghost use Rattle.el_row_formats.specs.Tables.{size_of};
 ghost use Rattle.el_rows.specs.Transaction.{tables_in, EditsAlone};
-ghost use Rattle.el_rows.specs.declared.table.Table.{Table};
+ghost use Rattle.el_row_formats.specs.declared.table.Table.{Table};
 ghost use Rattle.el_chain.specs.Chains.{Chain};
 ghost use Rattle.el_tables.specs.ChainLists.{lists, listed_blocks};
 ghost use Rattle.el_tables.specs.Tables.{format_1};
-ghost use Rattle.el_buckets.specs.Rows.{Hold};
-ghost use Rattle.el_stands.specs.Standing.{HoldChain};
+ghost use Rattle.el_schema.specs.Rows.{Hold};
+ghost use Rattle.el_schema.specs.Standing.{HoldChain};
 
 use el_chain::ConnectFault;
-use el_rows::{Rows, Table, Txn};
+use el_row_formats::Table;
+use el_rows::{Rows, Txn};
 
 // How many rows a table of heads has.
 const HEADS: u64 = 65536;

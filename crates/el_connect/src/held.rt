@@ -4,11 +4,12 @@ ghost use Rattle.el_rows.specs.Transaction.{tables_in, ReadsRows};
 ghost use Rattle.el_tables.specs.ChainLists.{ListedBlock};
 ghost use Rattle.el_tables.specs.Lists.{Lists};
 ghost use Rattle.el_tables.specs.Tables.{HeadCounts};
-ghost use Rattle.el_buckets.specs.Rows.{Hold};
+ghost use Rattle.el_schema.specs.Rows.{Hold};
 ghost use Rattle.el_connect.specs.within.Parts.{coin_value};
 
 use el_chain::ConnectFault;
-use el_rows::{OutRow, Rows, State, Txn};
+use el_row_formats::{OutRow, State};
+use el_rows::{Rows, Txn};
 use el_spend::named_output;
 use el_tx::Outpoint;
 

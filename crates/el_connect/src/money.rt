@@ -7,7 +7,7 @@ ghost use Rattle.el_tables.specs.Connecting.{fund_all};
 ghost use Rattle.el_tables.specs.Lists.{Lists, unspent_sum};
 ghost use Rattle.el_tables.specs.Tables.{HeadCounts};
 ghost use Rattle.el_tx.specs.Encoding.{max_money};
-ghost use Rattle.el_buckets.specs.Rows.{Hold};
+ghost use Rattle.el_schema.specs.Rows.{Hold};
 ghost use Rattle.el_connect.specs.within.Parts.{IsSmall, OutsInTurn, values};
 ghost use Rattle.el_connect.specs.within.Full.{IsNext};
 

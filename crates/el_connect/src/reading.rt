@@ -1,37 +1,17 @@
-// Rows by their numbers.
-ghost use Rattle.std.specs.Prelude.{◌≡◌, ◌<◌, ◌≤◌, ℕ, List, [], ◌∷◌, ◌++◌, length, get_or, take, OnOk, IfOk, IfErr};
-ghost use Rattle.el_rows.specs.Tables.{size_of};
+// What single rows tell.
+ghost use Rattle.std.specs.Prelude.{◌≡◌, ◌<◌, ◌≤◌, List, [], ◌∷◌, ◌++◌, length, get_or, take, IfOk, IfErr};
 ghost use Rattle.el_rows.specs.Transaction.{tables_in, ReadsRows};
-ghost use Rattle.el_rows.specs.declared.table.Table.{Table};
+ghost use Rattle.el_row_formats.specs.declared.table.Table.{Table};
 ghost use Rattle.el_tables.specs.ChainLists.{ListedBlock};
 ghost use Rattle.el_tables.specs.Edits.{no_out};
 ghost use Rattle.el_tables.specs.Lists.{Lists, script_at, newest_tx, txid_at};
 ghost use Rattle.el_tables.specs.Tables.{HeadCounts};
-ghost use Rattle.el_buckets.specs.Rows.{Hold};
+ghost use Rattle.el_schema.specs.Rows.{Hold};
 
 use el_chain::ConnectFault;
-use el_outside::DiskFailed;
-use el_rows::{BlockRow, InRow, OutRow, Rows, Table, TxRow, Txn};
-
-// Reads a row.
-fn read_row<R: Rows>(
-    t: &mut Txn<'_, R>,
-    table: Table,
-    n: u64,
-    buf: &mut [u8],
-) -> Result<(), ConnectFault>
-    requires live { R.is_live t.old.rows.now }
-    requires below { n < length (tables_in t.old table) }
-    requires sized { length buf.old ≡ size_of table }
-    ensures row { R.tells → OnOk result (buf.new ≡ get_or (tables_in t.old table) n []) }
-    ensures fault { IfErr result (λ e. e ≡ ConnectFault.DiskFailed) }
-    ensures read { ReadsRows ConnectFault.DiskFailed t.old t.new result }
-{
-    match t.get(table, n, buf) {
-        Ok(()) => Ok(()),
-        Err(DiskFailed) => Err(ConnectFault::DiskFailed),
-    }
-}
+use el_row_formats::Table;
+use el_rows::{Rows, Txn};
+use el_schema::{block_row, in_row, out_row, tx_row};
 
 // The value of the output of that number.
 pub(crate) fn output_value<R: Rows>(t: &mut Txn<'_, R>, k: u64) -> Result<u64, ConnectFault>
@@ -42,9 +22,8 @@ pub(crate) fn output_value<R: Rows>(t: &mut Txn<'_, R>, k: u64) -> Result<u64, C
     ensures fault { IfErr result (λ e. e ≡ ConnectFault.DiskFailed) }
     ensures read { ReadsRows ConnectFault.DiskFailed t.old t.new result }
 {
-    let mut bytes = [0; 21];
-    read_row(t, Table::Outs, k, &mut bytes)?;
-    Ok(OutRow::read(&bytes).value)
+    let row = out_row(t, k).map_err(|_| ConnectFault::DiskFailed)?;
+    Ok(row.value)
 }
 
 // The number of the output that the input of that number takes; 0 where there is no such input.
@@ -58,9 +37,8 @@ pub(crate) fn input_coin<R: Rows>(t: &mut Txn<'_, R>, n: u64) -> Result<u64, Con
     if n >= t.count(Table::Ins) {
         return Ok(0);
     }
-    let mut bytes = [0; 4];
-    read_row(t, Table::Ins, n, &mut bytes)?;
-    Ok(InRow::read(&bytes).out)
+    let row = in_row(t, n).map_err(|_| ConnectFault::DiskFailed)?;
+    Ok(row.out)
 }
 
 // The number of the script hash of the output of that number; 0 where there is no such output.
@@ -74,9 +52,8 @@ pub(crate) fn script_number<R: Rows>(t: &mut Txn<'_, R>, k: u64) -> Result<u64, 
     if k >= t.count(Table::Outs) {
         return Ok(0);
     }
-    let mut bytes = [0; 21];
-    read_row(t, Table::Outs, k, &mut bytes)?;
-    Ok(OutRow::read(&bytes).script)
+    let row = out_row(t, k).map_err(|_| ConnectFault::DiskFailed)?;
+    Ok(row.script)
 }
 
 // The newest transaction with the same txid before that of that number.
@@ -89,9 +66,8 @@ pub(crate) fn older_tx<R: Rows>(t: &mut Txn<'_, R>, n: u64) -> Result<Option<u64
     ensures fault { IfErr result (λ e. e ≡ ConnectFault.DiskFailed) }
     ensures read { ReadsRows ConnectFault.DiskFailed t.old t.new result }
 {
-    let mut bytes = [0; 68];
-    read_row(t, Table::Txs, n, &mut bytes)?;
-    Ok(TxRow::read(&bytes).older)
+    let row = tx_row(t, n).map_err(|_| ConnectFault::DiskFailed)?;
+    Ok(row.older)
 }
 
 // What all coins hold after the last block, and 0 where there is none.
@@ -107,7 +83,6 @@ pub(crate) fn last_sum<R: Rows>(t: &mut Txn<'_, R>) -> Result<u64, ConnectFault>
     if count == 0 {
         return Ok(0);
     }
-    let mut bytes = [0; 112];
-    read_row(t, Table::Blocks, count - 1, &mut bytes)?;
-    Ok(BlockRow::read(&bytes).sum)
+    let row = block_row(t, count - 1).map_err(|_| ConnectFault::DiskFailed)?;
+    Ok(row.sum)
 }

@@ -1,19 +1,20 @@
 // Room in the tables.
 ghost use Rattle.std.specs.Prelude.{◌≡◌, ◌≢◌, ◌<◌, ◌≤◌, ◌+◌, ◌^◌, List, length, Some, OnOk, IfErr, MatchResult};
 ghost use Rattle.el_chain.specs.declared.limits.TheConstants.{ROW_LIMIT};
-ghost use Rattle.el_rows.specs.Tables.{number_of};
+ghost use Rattle.el_row_formats.specs.Tables.{number_of};
 ghost use Rattle.el_rows.specs.Transaction.{tables_in};
-ghost use Rattle.el_rows.specs.declared.table.Table.{Table};
+ghost use Rattle.el_row_formats.specs.declared.table.Table.{Table};
 ghost use Rattle.el_tables.specs.ChainLists.{ListedBlock};
 ghost use Rattle.el_tables.specs.Connecting.{full_by};
 ghost use Rattle.el_tables.specs.Lists.{Lists};
 ghost use Rattle.el_tables.specs.Tables.{HeadCounts};
-ghost use Rattle.el_buckets.specs.Rows.{Hold};
+ghost use Rattle.el_schema.specs.Rows.{Hold};
 ghost use Rattle.el_connect.specs.within.Parts.{IsSmall};
 
 use el_chain::{ConnectFault, ROW_LIMIT};
 use el_prepare::PreparedTx;
-use el_rows::{Rows, Table, Txn};
+use el_row_formats::Table;
+use el_rows::{Rows, Txn};
 
 // Refuses more rows than the table may have.
 pub(crate) fn check_table(table: Table, rows: u64) -> Result<(), ConnectFault>

@@ -7,13 +7,14 @@ ghost use Rattle.el_tables.specs.ChainLists.{ListedBlock};
 ghost use Rattle.el_tables.specs.Fits.{Fits};
 ghost use Rattle.el_tables.specs.Lists.{Lists};
 ghost use Rattle.el_tables.specs.Tables.{HeadCounts};
-ghost use Rattle.el_buckets.specs.Rows.{Hold};
+ghost use Rattle.el_schema.specs.Rows.{Hold};
 ghost use Rattle.el_connect.specs.within.Parts.{scripts_of};
 
 use crate::room::check_table;
 use el_base::Hash32;
 use el_chain::{ConnectFault, ROW_LIMIT};
-use el_rows::{Rows, Table, Txn};
+use el_row_formats::Table;
+use el_rows::{Rows, Txn};
 use el_script::find_script;
 
 // Whether one of the outputs has that script hash.

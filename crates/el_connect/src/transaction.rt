@@ -3,15 +3,15 @@ ghost use Rattle.std.specs.Prelude.{◌≡◌, ◌⊎◌, ◌<◌, ◌≤◌, �
 ghost use Rattle.std.specs.List.{AllByRecursion};
 ghost use Rattle.el_chain.specs.declared.limits.TheConstants.{ROW_LIMIT};
 ghost use Rattle.el_rows.specs.Transaction.{tables_in, EditsRows};
-ghost use Rattle.el_rows.specs.declared.table.Table.{Table};
+ghost use Rattle.el_row_formats.specs.declared.table.Table.{Table};
 ghost use Rattle.el_tables.specs.ChainLists.{ListedBlock};
 ghost use Rattle.el_tables.specs.Connecting.{listed_after};
-ghost use Rattle.el_rows.specs.RowBytes.{FitsTxRow};
-ghost use Rattle.el_buckets.specs.Rows.{listed_tx};
+ghost use Rattle.el_row_formats.specs.RowBytes.{FitsTxRow};
+ghost use Rattle.el_schema.specs.Rows.{listed_tx};
 ghost use Rattle.el_tables.specs.Lists.{Lists, unspent_sum};
 ghost use Rattle.el_tables.specs.Tables.{HeadCounts};
 ghost use Rattle.el_tx.specs.Encoding.{max_money};
-ghost use Rattle.el_connect.specs.within.Parts.{Reached, HasRoom, IsSmall, IsBetween, IsCounted, LedTo, Overflows, as_listed, connect_next, connect_all, made_by, values};
+ghost use Rattle.el_connect.specs.within.Parts.{Reached, HasRoom, IsSmall, IsBetween, IsCounted, LedTo, Overflows, connect_next, connect_all, made_by, values};
 
 use crate::coins::{check_coins, take_inputs};
 use crate::inputs::touch_inputs;
@@ -22,7 +22,8 @@ use el_base::Hash32;
 use el_chain::ConnectFault;
 use el_position::add_tx;
 use el_prepare::PreparedTx;
-use el_rows::{Rows, Table, TxRow, Txn};
+use el_row_formats::{Table, TxRow};
+use el_rows::{Rows, Txn};
 
 // The row of a transaction of a block of that height, with the numbers of its first output and its first
 // input. Its links are left open.
@@ -32,7 +33,7 @@ fn row_of(tx: &PreparedTx, height: u32, first_out: u64, first_in: u64) -> TxRow
     requires first_in { first_in < 2 ^ 32 }
     ensures fits { FitsTxRow result }
     ensures listed { (l : Lists) → first_out ≡ length l.outs → first_in ≡ length l.ins
-        → listed_tx result ≡ listed_after height (as_listed tx.now) l }
+        → listed_tx result ≡ listed_after height tx.now l }
 {
     TxRow {
         txid: tx.txid,

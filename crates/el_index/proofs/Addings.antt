@@ -22,8 +22,8 @@ use Rattle.el_chain.specs.Records.{IsNode, IsBlockOf}
 use Rattle.el_chain.proofs.Chains.{tip_last}
 use Rattle.el_chain.proofs.DraftSteps.{header_same}
 use Rattle.el_chain.proofs.GoodChains.{next_more}
-use Rattle.el_rows.specs.Tables.{Tables}
-use Rattle.el_stands.specs.Standing.{StandFor}
+use Rattle.el_row_formats.specs.Tables.{Tables}
+use Rattle.el_schema.specs.Standing.{StandFor}
 use Rattle.el_index.specs.within.Adding.{AreAdded, IsAfter, AreAfter, AreMoved, IsOwn}
 use Rattle.el_index.proofs.Touchings.{Law, added_none, added_more, moved_touches, whole}
 

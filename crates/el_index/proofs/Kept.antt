@@ -4,14 +4,14 @@ use Rattle.std.proofs.Common.{◌≡◌, inl, inr, ⊎_elim, ℕ, zero, suc, ◌
 use Rattle.el_base.specs.declared.hash.Hash32.{Hash32}
 use Rattle.el_outside.specs.Moments.{LeavesOnly}
 use Rattle.el_outside.proofs.Moments.{joined, weaker, still_only}
-use Rattle.el_rows.specs.declared.table.Table.{Table}
-use Rattle.el_rows.specs.declared.table.Table.TheVariants as table
-use Rattle.el_rows.specs.Tables.{Tables}
+use Rattle.el_row_formats.specs.declared.table.Table.{Table}
+use Rattle.el_row_formats.specs.declared.table.Table.TheVariants as table
+use Rattle.el_row_formats.specs.Tables.{Tables}
 use Rattle.el_rows.specs.Reads.{OnlyRead, IsEither}
 use Rattle.el_chain.specs.Chains.{Chain}
 use Rattle.el_model.specs.Keeping.{Quiet, Either}
 use Rattle.el_model.specs.Queries.{blocks_in}
-use Rattle.el_stands.specs.Standing.{StandFor}
+use Rattle.el_schema.specs.Standing.{StandFor}
 use Rattle.el_index.specs.Means.{top, IsIndexOf, Means}
 
 -- a height that is at most the top is below the count

@@ -6,9 +6,9 @@ use Rattle.el_block.specs.Blocks.{block_hash}
 use Rattle.el_tx.specs.Headers.{header_encoding}
 use Rattle.el_chain.specs.Chains.{Chain, tip_after, zero_hash}
 use Rattle.el_model.specs.Queries.{tip_of, header_at}
-use Rattle.el_rows.specs.Tables.{Tables}
-use Rattle.el_rows.specs.declared.table.Table.TheVariants as table
-use Rattle.el_stands.specs.Standing.{StandFor}
+use Rattle.el_row_formats.specs.Tables.{Tables}
+use Rattle.el_row_formats.specs.declared.table.Table.TheVariants as table
+use Rattle.el_schema.specs.Standing.{StandFor}
 use Rattle.el_index.specs.within.Laws.{block_rows}
 
 pub no_tip : (rows : Tables) (chain : Chain) → StandFor rows chain → length (rows table.Blocks) ≡ 0 → None ≡ tip_of chain

@@ -14,9 +14,9 @@ use Rattle.el_chain.specs.Records.{IsNode}
 use Rattle.el_chain.specs.Touches.{AreTouched}
 use Rattle.el_chain.proofs.DraftSteps.{header_same}
 use Rattle.el_model.specs.Queries.{tip_of}
-use Rattle.el_rows.specs.Tables.{Tables}
+use Rattle.el_row_formats.specs.Tables.{Tables}
 use Rattle.el_rows.specs.Reads.{Same}
-use Rattle.el_stands.proofs.StandingLemmas.{same_stand}
+use Rattle.el_schema.proofs.StandingLemmas.{same_stand}
 use Rattle.el_index.specs.within.Adding.{AreMoved, FliesTo, IsOwn}
 
 -- equal rows

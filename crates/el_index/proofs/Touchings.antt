@@ -13,7 +13,7 @@ use Rattle.el_chain.specs.History.{Position, positions_from, block_positions}
 use Rattle.el_chain.specs.Moves.{shorter}
 use Rattle.el_chain.specs.Touches.{touches, touches_any, Touch}
 use Rattle.el_chain.proofs.GoodChains.{coins_more}
-use Rattle.el_touching.specs.TouchedBy.{touched_in}
+use Rattle.el_queries.specs.TouchedBy.{touched_in}
 use Rattle.el_index.specs.within.Adding.{touched_among, AreAdded}
 
 or_none : (b : Bool) → b ≡ (b || false)

@@ -3,8 +3,8 @@ use Rattle.std.specs.Prelude.{◌≡◌, ℕ, zero, suc, Option, None, Some}
 use Rattle.el_base.specs.declared.hash.Hash32.{Hash32}
 use Rattle.el_chain.specs.Chains.{Chain}
 use Rattle.el_model.specs.Queries.{tip_of}
-use Rattle.el_rows.specs.Tables.{Tables}
-use Rattle.el_stands.specs.Standing.{StandFor}
+use Rattle.el_row_formats.specs.Tables.{Tables}
+use Rattle.el_schema.specs.Standing.{StandFor}
 
 -- the height of the last of so many blocks
 abbrev pub top : ℕ → Option ℕ

@@ -4,8 +4,8 @@ ghost use Rattle.el_chain.specs.declared.placed.Placed as shape;
 ghost use Rattle.el_chain.specs.Chains.{Chain};
 ghost use Rattle.el_chain.specs.Moves.{shorter};
 ghost use Rattle.el_rows.specs.Transaction.{tables_in, EditsRows};
-ghost use Rattle.el_rows.specs.declared.table.Table.{Table};
-ghost use Rattle.el_stands.specs.Standing.{StandFor};
+ghost use Rattle.el_row_formats.specs.declared.table.Table.{Table};
+ghost use Rattle.el_schema.specs.Standing.{StandFor};
 ghost use Rattle.el_index.specs.within.Adding.{AreAdded, IsOwn};
 
 use crate::step_faults::{touch, undo};

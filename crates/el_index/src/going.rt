@@ -9,8 +9,8 @@ ghost use Rattle.el_outside.specs.Counts.{CountsOnly};
 ghost use Rattle.el_outside.specs.Moments.{LeavesOnly};
 ghost use Rattle.el_rows.specs.Reads.{OnlyRead};
 ghost use Rattle.el_rows.specs.Transaction.{tables_in, ReadsRows, EditsRows};
-ghost use Rattle.el_rows.specs.declared.table.Table.{Table};
-ghost use Rattle.el_stands.specs.Standing.{StandFor};
+ghost use Rattle.el_row_formats.specs.declared.table.Table.{Table};
+ghost use Rattle.el_schema.specs.Standing.{StandFor};
 ghost use Rattle.el_index.specs.Means.{Means};
 ghost use Rattle.el_index.specs.within.Adding.{AreMoved, FliesTo, IsOwn};
 
@@ -21,8 +21,8 @@ use crate::last_block::last_hash;
 use el_base::{Bytes, Hash32};
 use el_chain::{MoveFault, Node, Plan, Touched};
 use el_outside::DiskFailed;
+use el_queries::each_block_touches_what_the_move_touches;
 use el_rows::{CommitFault, Rows, Txn};
-use el_touching::each_block_touches_what_the_move_touches;
 use std::alloc::Global;
 
 // The edits of a move, and the script hashes that it touches.

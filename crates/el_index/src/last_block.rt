@@ -5,13 +5,14 @@ ghost use Rattle.el_model.specs.Queries.{tip_of};
 ghost use Rattle.el_outside.specs.Counts.{HasCause};
 ghost use Rattle.el_rows.specs.Reads.{OnlyRead};
 ghost use Rattle.el_rows.specs.Transaction.{tables_in, reads_in, disk_failed, ReadsRows};
-ghost use Rattle.el_rows.specs.declared.table.Table.{Table};
-ghost use Rattle.el_stands.specs.Standing.{StandFor};
+ghost use Rattle.el_row_formats.specs.declared.table.Table.{Table};
+ghost use Rattle.el_schema.specs.Standing.{StandFor};
 
 use el_base::Hash32;
-use el_lookups::header;
 use el_outside::DiskFailed;
-use el_rows::{Rows, Table, Txn};
+use el_queries::header;
+use el_row_formats::Table;
+use el_rows::{Rows, Txn};
 use el_tx::block_hash;
 use std::alloc::Global;
 

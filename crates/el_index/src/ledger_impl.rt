@@ -1,19 +1,21 @@
 // The index as a ledger.
 ghost use Rattle.std.specs.Prelude.{◌≡◌, ◌≤◌};
-ghost use Rattle.el_rows.specs.Tables.{limit_of};
-ghost use Rattle.el_rows.specs.declared.table.Table.{Table};
-ghost use Rattle.el_rows.specs.declared.table.Table.TheVariants as table;
+ghost use Rattle.el_row_formats.specs.Tables.{limit_of};
+ghost use Rattle.el_row_formats.specs.declared.table.Table.{Table};
+ghost use Rattle.el_row_formats.specs.declared.table.Table.TheVariants as table;
 ghost use Rattle.el_index.specs.Means.{top, IsIndexOf, Means};
 ghost use Rattle.el_index.specs.within.Laws as laws;
 
 use crate::index::Index;
 use el_base::Hash32;
 use el_chain::{Coin, Entry, MoveFault, Moved, Plan, Spot, Touched};
-use el_histories::{balance, history, unspent};
-use el_lookups::{block_txids, coin, find_tx, hashes, header, place, spender};
 use el_model::{Ledger, QueryFault, read_all};
 use el_outside::{Archive, DiskFailed, Place};
-use el_rows::{Rows, Table, Txn};
+use el_queries::{
+    balance, block_txids, coin, find_tx, hashes, header, history, place, spender, unspent,
+};
+use el_row_formats::Table;
+use el_rows::{Rows, Txn};
 use el_tx::Outpoint;
 use std::alloc::Global;
 

@@ -3,14 +3,14 @@ ghost use Rattle.std.specs.Prelude.{◌≡◌, ◌≢◌, ◌⊎◌, ◌≤◌, 
 ghost use Rattle.el_chain.specs.declared.placed.Placed as shape;
 ghost use Rattle.el_chain.specs.Chains.{Chain};
 ghost use Rattle.el_rows.specs.Transaction.{tables_in, ReadsRows, EditsRows};
-ghost use Rattle.el_rows.specs.declared.table.Table.{Table};
-ghost use Rattle.el_stands.specs.Standing.{StandFor};
+ghost use Rattle.el_row_formats.specs.declared.table.Table.{Table};
+ghost use Rattle.el_schema.specs.Standing.{StandFor};
 ghost use Rattle.el_index.specs.within.Adding.{AreAdded, IsOwn};
 
 use el_chain::{MoveFault, Touched};
 use el_model::QueryFault;
+use el_queries::touch_last;
 use el_rows::{Rows, Txn};
-use el_touching::touch_last;
 use el_undo::disconnect;
 
 // The fault of a step, as a move's.

@@ -1,13 +1,14 @@
 // What no contract says: that each call succeeds where memory is ample.
 ghost use Rattle.std.specs.Prelude.{◌≡◌, ◌<◌, ◌^◌};
-ghost use Rattle.el_rows.specs.RowBytes.{link_number};
+ghost use Rattle.el_row_formats.specs.RowBytes.{link_number};
 
 use crate::failing_rows::FailingRows;
 use crate::fixtures::hash;
 use el_buckets::{Buckets, Found, find, if_below, not_appended, pop, push};
 use el_chain::ConnectFault;
 use el_outside::DiskFailed;
-use el_rows::{AppendFault, Rows, Table, Txn, VecRows};
+use el_row_formats::Table;
+use el_rows::{AppendFault, Rows, Txn, VecRows};
 use std::alloc::Global;
 use std::process::Abort;
 use std::test::Fail;

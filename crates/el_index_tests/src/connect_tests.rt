@@ -7,9 +7,8 @@ use crate::blocks_put::{PLACE, coin_of, coinbase_block, put, spending_block};
 use el_base::sha256;
 use el_chain::ConnectFault;
 use el_gen::locking_script;
-use el_rows::{
-    BlockRow, EntryRow, InRow, OutRow, Rows, ScriptRow, State, Table, TxRow, Txn, VecRows,
-};
+use el_row_formats::{BlockRow, EntryRow, InRow, OutRow, ScriptRow, State, Table, TxRow};
+use el_rows::{Rows, Txn, VecRows};
 use el_tx::Outpoint;
 use std::alloc::Global;
 use std::process::Abort;

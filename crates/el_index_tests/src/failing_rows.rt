@@ -1,10 +1,11 @@
 // A store that stands for no chain, takes no commit, and whose device fails.
 ghost use Rattle.std.specs.Prelude.{◌≡◌, [], get_or, min};
-ghost use Rattle.el_rows.specs.Tables.{index_of, limit_of};
+ghost use Rattle.el_row_formats.specs.Tables.{index_of, limit_of};
 
 use crate::fixtures::block_row;
 use el_outside::DiskFailed;
-use el_rows::{CommitFault, ReadCount, Rows, Sealed, TABLES, Table};
+use el_row_formats::{TABLES, Table};
+use el_rows::{CommitFault, ReadCount, Rows, Sealed};
 
 // The most rows that a table may have.
 const LIMIT: u64 = 4_294_967_295;

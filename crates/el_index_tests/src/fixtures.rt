@@ -1,10 +1,11 @@
 // What the tests of steps share: hashes of a number, and rows that are written by hand.
 ghost use Rattle.std.specs.Prelude.{◌≡◌, ◌<◌, ◌^◌};
-ghost use Rattle.el_rows.specs.RowBytes.{FitsBlockRow, FitsTxRow};
+ghost use Rattle.el_row_formats.specs.RowBytes.{FitsBlockRow, FitsTxRow};
 
 use el_base::Hash32;
 use el_outside::Place;
-use el_rows::{BlockRow, Rows, Table, TxRow, Txn};
+use el_row_formats::{BlockRow, Table, TxRow};
+use el_rows::{Rows, Txn};
 use el_tx::Outpoint;
 use std::test::Fail;
 

@@ -1,6 +1,9 @@
 // Laws: each can be called, and does nothing.
-use el_histories::{entries_are_counted_by_the_history, scripts_of_lists_are_those_of_outputs};
-use el_stands::{rows_of_one_chain_are_equal, rows_that_stand_hold_the_lists, same_rows_stand};
+use el_queries::{
+    each_block_touches_what_the_move_touches, entries_are_counted_by_the_history,
+    scripts_of_lists_are_those_of_outputs,
+};
+use el_schema::{rows_of_one_chain_are_equal, rows_that_stand_hold_the_lists, same_rows_stand};
 use el_tables::{
     a_block_connects, a_block_disconnects, a_block_has_its_row, a_good_chain_has_tables,
     a_step_leaves_rows, add_entry_edits_rows, add_output_edits_rows, add_tx_edits_rows,
@@ -11,7 +14,6 @@ use el_tables::{
     take_back_entry_edits_rows, take_back_output_edits_rows, take_back_tx_edits_rows,
     unspend_edits_rows,
 };
-use el_touching::each_block_touches_what_the_move_touches;
 
 #[test]
 fn laws_of_chains_do_nothing() {

@@ -1,18 +1,19 @@
 // What no contract says: that each call succeeds where memory is ample, and what it answers over rows that
 // stand for nothing.
 ghost use Rattle.std.specs.Prelude.{◌≡◌, ◌<◌, ◌^◌, IfOk};
-ghost use Rattle.el_rows.specs.RowBytes.{FitsBlockRow, state_by};
+ghost use Rattle.el_row_formats.specs.RowBytes.{FitsBlockRow, state_by};
 
 use crate::failing_rows::FailingRows;
 use crate::fixtures::{add_block, add_heads, block_row, hash, outpoint, tx_row};
 use el_base::Hash32;
 use el_chain::{Coin, Entry, Spot};
 use el_gen::{BLOCK_1_HASH, GENESIS_HASH, HEADER_0, HEADER_1};
-use el_lookups::{block_txids, coin, find_tx, hashes, header, place, spender};
 use el_model::QueryFault;
 use el_outside::{DiskFailed, Place};
 use el_position::add_tx;
-use el_rows::{BlockRow, OutRow, Rows, ScriptRow, State, Table, Txn, VecRows};
+use el_queries::{block_txids, coin, find_tx, hashes, header, place, spender};
+use el_row_formats::{BlockRow, OutRow, ScriptRow, State, Table};
+use el_rows::{Rows, Txn, VecRows};
 use el_spend::{add_out, spend};
 use std::alloc::Global;
 use std::process::Abort;

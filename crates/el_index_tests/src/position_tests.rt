@@ -1,13 +1,14 @@
 // What no contract says: that each call succeeds where memory is ample, and a long run beside a plain list.
 ghost use Rattle.std.specs.Prelude.{◌≡◌, ◌<◌, ◌^◌, ◌+◌, max, min, refl};
-ghost use Rattle.el_rows.specs.RowBytes.{link_number, FitsTxRow};
+ghost use Rattle.el_row_formats.specs.RowBytes.{link_number, FitsTxRow};
 
 use crate::failing_rows::FailingRows;
 use crate::fixtures::{add_heads, hash};
 use el_chain::ConnectFault;
 use el_outside::DiskFailed;
 use el_position::{add_tx, newest, take_back_tx};
-use el_rows::{Rows, Table, TxRow, Txn, VecRows};
+use el_row_formats::{Table, TxRow};
+use el_rows::{Rows, Txn, VecRows};
 use std::alloc::Global;
 use std::process::Abort;
 use std::test::Fail;

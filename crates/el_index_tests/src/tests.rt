@@ -4,7 +4,8 @@ use crate::{
     bucket_tests, connect_tests, full_tests, history_tests, lookup_tests, position_tests,
     script_tests, spend_tests, touching_tests, undo_tests,
 };
-use el_rows::{AppendFault, Table, Txn};
+use el_row_formats::Table;
+use el_rows::{AppendFault, Txn};
 use std::test::Fail;
 
 #[test]

@@ -1,11 +1,12 @@
 // What no contract says: that blocks are taken back where memory is ample, and that the call returns over
 // rows that stand for nothing and over a device that fails.
 ghost use Rattle.std.specs.Prelude.{◌≡◌, ◌<◌, ◌^◌, length};
-ghost use Rattle.el_rows.specs.RowBytes.{FitsTxRow};
+ghost use Rattle.el_row_formats.specs.RowBytes.{FitsTxRow};
 
 use crate::fixtures::{add_block, add_heads, block_row, hash, outpoint, tx_row};
 use el_position::add_tx;
-use el_rows::{Table, TxRow, Txn, VecRows};
+use el_row_formats::{Table, TxRow};
+use el_rows::{Txn, VecRows};
 use el_script::touch;
 use el_spend::{add_out, spend};
 use el_undo::disconnect;

@@ -5,14 +5,14 @@ use Rattle.el_chain.specs.Chains.{Chain, tip}
 use Rattle.el_chain.specs.declared.moves.Plan.{Plan}
 use Rattle.el_model.specs.Queries.{tip_of}
 use Rattle.el_model.specs.Going.{AreMovesOf}
-use Rattle.el_rows.specs.Tables as held
-use Rattle.el_rows.specs.declared.table.Table.{Table}
-use Rattle.el_rows.specs.declared.table.Table.TheVariants as table
+use Rattle.el_row_formats.specs.Tables as held
+use Rattle.el_row_formats.specs.declared.table.Table.{Table}
+use Rattle.el_row_formats.specs.declared.table.Table.TheVariants as table
 use Rattle.el_tables.specs.ChainLists.{lists, listed_blocks}
 use Rattle.el_tables.specs.Tables.{tables_of}
-use Rattle.el_buckets.specs.Rows.{bytes_of}
-use Rattle.el_stands.specs.Standing.{StandFor, heads_in}
-use Rattle.el_stands.proofs.StandingLemmas.{stands}
+use Rattle.el_schema.specs.Rows.{bytes_of}
+use Rattle.el_schema.specs.Standing.{StandFor, heads_in}
+use Rattle.el_schema.proofs.StandingLemmas.{stands}
 
 pub none_stand : (rows : held.Tables) → ((t : Table) → rows t ≡ []) → StandFor rows []
 none_stand rows none = stands rows [] (record { each = tt }) (record {

@@ -6,7 +6,7 @@ ghost use Rattle.el_chain.specs.Chains.{Chain, tip};
 ghost use Rattle.el_prepare.specs.Prepared.{prepared};
 ghost use Rattle.el_rows.specs.Reads.{Same};
 ghost use Rattle.el_rows.specs.Transaction.{tables_in, EditsRows};
-ghost use Rattle.el_stands.specs.Standing.{StandFor};
+ghost use Rattle.el_schema.specs.Standing.{StandFor};
 
 use el_chain::ConnectFault;
 use el_connect::connect;

@@ -14,7 +14,8 @@ use el_laws::{
 };
 use el_outside::Place;
 use el_prepare::{Prepared, prepare_one};
-use el_rows::{Rows, Table, Txn, VecRows};
+use el_row_formats::Table;
+use el_rows::{Rows, Txn, VecRows};
 use std::alloc::Global;
 use std::process::Abort;
 use std::test::Fail;

@@ -4,7 +4,7 @@ ghost use Rattle.std.specs.Prelude.{◌≡◌, ◌≤◌, length, IfOk, IsTrue, 
 ghost use Rattle.std.specs.List.{AllByRecursion};
 ghost use Rattle.el_index.specs.Means.{top};
 ghost use Rattle.el_model.specs.Queries.{height_of};
-ghost use Rattle.el_rows.specs.Tables.{tables_of};
+ghost use Rattle.el_row_formats.specs.Tables.{tables_of};
 ghost use Rattle.el_tx.specs.Encoding.{HasEncoding};
 
 use crate::laid::{Files, answer, files_of, go, numbers, opened, record_of, script_hash};
@@ -14,7 +14,8 @@ use el_gen::{coinbase, spend};
 use el_index::Index;
 use el_model::Ledger;
 use el_plain::PlainLedger;
-use el_rows::{Rows, Table, Txn, VecRows};
+use el_row_formats::Table;
+use el_rows::{Rows, Txn, VecRows};
 use el_tx::{Outpoint, Tx, txid};
 use std::alloc::Global;
 use std::process::Abort;

@@ -1,2 +1,1 @@
 pub mod TxSteps
-pub mod Answered

@@ -12,15 +12,15 @@ use Rattle.el_tables.specs.Tables.{HeadCounts, tables_of, bucket_in, heads}
 use Rattle.el_tables.specs.Edits as edit
 use Rattle.el_tables.proofs.TxEdits.{newest_is, add_tx_rows, take_back_tx_rows}
 use Rattle.el_tables.proofs.RowLists.{head_is}
-use Rattle.el_rows.specs.Tables as held
-use Rattle.el_rows.specs.declared.table.Table.{Table}
-use Rattle.el_rows.specs.declared.table.Table.TheVariants as table
-use Rattle.el_rows.specs.declared.tx_row.TxRow.{TxRow}
-use Rattle.el_rows.specs.RowBytes.{tx_row_bytes, head_row_bytes, link_bytes, link_number, FitsTxRow, FitsHeadRow}
-use Rattle.el_buckets.specs.Rows.{Hold, Encode, bytes_of, listed_tx, tx_fields, head_fields}
+use Rattle.el_row_formats.specs.Tables as held
+use Rattle.el_row_formats.specs.declared.table.Table.{Table}
+use Rattle.el_row_formats.specs.declared.table.Table.TheVariants as table
+use Rattle.el_row_formats.specs.declared.tx_row.TxRow.{TxRow}
+use Rattle.el_row_formats.specs.RowBytes.{tx_row_bytes, head_row_bytes, link_bytes, link_number, FitsTxRow, FitsHeadRow}
+use Rattle.el_schema.specs.Rows.{Hold, Encode, bytes_of, listed_tx, tx_fields, head_fields}
 use Rattle.el_buckets.specs.Buckets.{Pushed, Popped, OthersStay, bucket_head, newest_of, share_bucket}
 use Rattle.el_buckets.specs.declared.bucket.Buckets.TheVariants as buckets
-use Rattle.el_buckets.proofs.Held.{greatest_map, all_more, all_set, all_at, all_but_last, but_last_at, last_at, no_tx_row}
+use Rattle.el_schema.proofs.Held.{greatest_map, all_more, all_set, all_at, all_but_last, but_last_at, last_at, no_tx_row}
 
 abbrev id_of : ListedTx → Hash32
 id_of t = t.txid

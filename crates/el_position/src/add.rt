@@ -1,19 +1,20 @@
 // A transaction more.
 ghost use Rattle.std.specs.Prelude.{◌≡◌, ◌<◌, ◌≤◌, ◌+◌, ◌⊎◌, ℕ, List, length, map, IfOk, IfErr, OnOk};
-ghost use Rattle.el_rows.specs.declared.table.Table.{Table};
-ghost use Rattle.el_rows.specs.RowBytes.{FitsTxRow};
-ghost use Rattle.el_rows.specs.Tables.{limit_of};
+ghost use Rattle.el_row_formats.specs.declared.table.Table.{Table};
+ghost use Rattle.el_row_formats.specs.RowBytes.{FitsTxRow};
+ghost use Rattle.el_row_formats.specs.Tables.{limit_of};
 ghost use Rattle.el_rows.specs.Transaction.{tables_in, reads_in, EditsRows};
 ghost use Rattle.el_tables.specs.ChainLists.{ListedBlock};
 ghost use Rattle.el_tables.specs.Lists as lists;
 ghost use Rattle.el_tables.specs.Tables.{HeadCounts};
-ghost use Rattle.el_buckets.specs.Rows.{Hold, listed_tx};
+ghost use Rattle.el_schema.specs.Rows.{Hold, listed_tx};
 ghost use Rattle.el_buckets.specs.Faults.{NotAdded};
 ghost use Rattle.el_buckets.specs.Buckets.{bucket_size, OthersStay};
 
 use el_buckets::{Buckets, find, push};
 use el_chain::ConnectFault;
-use el_rows::{Rows, Table, TxRow, Txn};
+use el_row_formats::{Table, TxRow};
+use el_rows::{Rows, Txn};
 
 /// Adds a transaction after the last, and answers its number. The row's links aren't looked at: they become
 /// the newest transaction with its txid and the newest in its bucket. After a fault the transaction of rows

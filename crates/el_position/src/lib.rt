@@ -6,5 +6,5 @@ mod lookup;
 mod take_back;
 
 pub use add::add_tx;
-pub use lookup::newest;
+pub use lookup::{NumberedTx, newest, newest_row};
 pub use take_back::take_back_tx;

@@ -16,10 +16,10 @@ use Rattle.el_tables.specs.Tables.{HeadCounts}
 use Rattle.el_tables.proofs.FitLemmas.{new_has_no_entry, script_found}
 use Rattle.el_tables.proofs.ScriptEdits.{touch_new}
 use Rattle.el_tables.proofs.Scripts.{hash_from, hash_gives, number_at}
-use Rattle.el_rows.specs.Tables as held
-use Rattle.el_rows.specs.declared.table.Table.TheVariants as table
+use Rattle.el_row_formats.specs.Tables as held
+use Rattle.el_row_formats.specs.declared.table.Table.TheVariants as table
 use Rattle.el_buckets.specs.Faults.{NotAdded}
-use Rattle.el_buckets.specs.Rows.{Hold}
+use Rattle.el_schema.specs.Rows.{Hold}
 use Rattle.el_buckets.specs.Buckets.{newest_of}
 use Rattle.el_script.specs.Touches.{touch_full}
 use Rattle.el_script.specs.within.RowSteps.{IsEntryFault, IsScriptFault}

@@ -1,2 +1,3 @@
 pub mod ScriptSteps
 pub mod Causes
+pub mod FoundScripts

@@ -17,16 +17,17 @@ use Rattle.el_tables.proofs.FitLemmas.{touch_new_fits, take_back_entry_fits}
 use Rattle.el_tables.proofs.RowLists.{head_is, length_rows, rows_at}
 use Rattle.el_tables.proofs.ScriptEdits.{touch_known_rows, last_entry_is}
 use Rattle.el_tables.proofs.Scripts.{number_within}
-use Rattle.el_rows.specs.Tables as held
-use Rattle.el_rows.specs.declared.table.Table.{Table}
-use Rattle.el_rows.specs.declared.table.Table.TheVariants as table
-use Rattle.el_rows.specs.declared.script_row.ScriptRow.{ScriptRow}
-use Rattle.el_rows.specs.declared.entry_row.EntryRow.{EntryRow}
-use Rattle.el_rows.specs.RowBytes.{script_row_bytes, head_row_bytes, entry_row_bytes, link_bytes, link_number, FitsScriptRow, FitsHeadRow, FitsEntryRow}
-use Rattle.el_buckets.specs.Rows.{Hold, Encode, bytes_of, script_fields, head_fields, entry_fields}
+use Rattle.el_row_formats.specs.Tables as held
+use Rattle.el_row_formats.specs.declared.table.Table.{Table}
+use Rattle.el_row_formats.specs.declared.table.Table.TheVariants as table
+use Rattle.el_row_formats.specs.declared.script_row.ScriptRow.{ScriptRow}
+use Rattle.el_row_formats.specs.declared.entry_row.EntryRow.{EntryRow}
+use Rattle.el_row_formats.specs.RowBytes.{script_row_bytes, head_row_bytes, entry_row_bytes, link_bytes, link_number, FitsScriptRow, FitsHeadRow, FitsEntryRow}
+use Rattle.el_schema.specs.Rows.{Hold, Encode, bytes_of, script_fields, head_fields, entry_fields}
 use Rattle.el_buckets.specs.Buckets.{Popped, bucket_head, below}
 use Rattle.el_buckets.specs.declared.bucket.Buckets.TheVariants as buckets
-use Rattle.el_buckets.proofs.Held.{all_more, all_set, all_at, all_but_last, but_last_at, last_at, below_all}
+use Rattle.el_schema.proofs.Held.{all_more, all_set, all_at, all_but_last, but_last_at, last_at}
+use Rattle.el_buckets.proofs.Heads.{below_all}
 use Rattle.el_script.specs.within.RowSteps.{first_row, entered_row, left_row, new_entry, ScriptMore, EntryMore, ThreeStay}
 
 -- what stands for an entry that isn't there

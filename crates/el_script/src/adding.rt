@@ -1,16 +1,17 @@
 // A script or an entry more.
 ghost use Rattle.std.specs.Prelude.{◌≡◌, ◌<◌, ◌≤◌, ◌+◌, ◌⊎◌, ◌^◌, ℕ, length, OnOk, IfErr};
-ghost use Rattle.el_rows.specs.RowBytes.{link_number, FitsScriptRow};
-ghost use Rattle.el_rows.specs.Tables.{limit_of, number_of};
+ghost use Rattle.el_row_formats.specs.RowBytes.{link_number, FitsScriptRow};
+ghost use Rattle.el_row_formats.specs.Tables.{limit_of, number_of};
 ghost use Rattle.el_rows.specs.Transaction.{tables_in, EditsAlone};
-ghost use Rattle.el_rows.specs.declared.table.Table.{Table};
+ghost use Rattle.el_row_formats.specs.declared.table.Table.{Table};
 ghost use Rattle.el_script.specs.within.RowSteps.{ScriptMore, EntryMore, ThreeStay, IsEntryFault, IsScriptFault};
 
 use crate::row::{append_entry, put_script};
 use el_base::Hash32;
 use el_buckets::{Buckets, push};
 use el_chain::ConnectFault;
-use el_rows::{EntryRow, Rows, ScriptRow, Table, Txn};
+use el_row_formats::{EntryRow, ScriptRow, Table};
+use el_rows::{Rows, Txn};
 
 // The table is full.
 fn full(t: Table) -> ConnectFault

@@ -7,6 +7,6 @@ mod row;
 mod take_back;
 mod touching;
 
-pub use lookup::find_script;
+pub use lookup::{FoundScript, find_script, found_script};
 pub use take_back::take_back_entry;
 pub use touching::{touch, touch_number};

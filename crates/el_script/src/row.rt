@@ -1,72 +1,17 @@
-// Rows of scripts and of entries.
-ghost use Rattle.std.specs.Prelude.{◌≡◌, ◌<◌, ◌≤◌, ◌+◌, ◌⊎◌, [], ◌∷◌, ◌++◌, length, get_or, slice_set, OnOk, OnErr, IfOk, IfErr};
+// Rows of scripts and of entries, written.
+ghost use Rattle.std.specs.Prelude.{◌≡◌, ◌<◌, [], ◌∷◌, ◌++◌, length, slice_set, OnOk, OnErr, IfOk, IfErr};
 ghost use Rattle.el_buckets.specs.Faults.{NotAdded};
 ghost use Rattle.el_rows.specs.Changes.{OnTable};
-ghost use Rattle.el_rows.specs.RowBytes.{script_row_bytes, entry_row_bytes, FitsScriptRow, FitsEntryRow};
-ghost use Rattle.el_rows.specs.Tables.{limit_of, size_of};
-ghost use Rattle.el_rows.specs.Transaction.{tables_in, reads_in, ReadsRows, EditsAlone};
-ghost use Rattle.el_rows.specs.declared.entry_row.EntryRow as entry_shape;
-ghost use Rattle.el_rows.specs.declared.script_row.ScriptRow as script_shape;
-ghost use Rattle.el_rows.specs.declared.table.Table.{Table};
+ghost use Rattle.el_row_formats.specs.RowBytes.{script_row_bytes, entry_row_bytes, FitsScriptRow, FitsEntryRow};
+ghost use Rattle.el_row_formats.specs.Tables.{limit_of};
+ghost use Rattle.el_rows.specs.Transaction.{tables_in, EditsAlone};
+ghost use Rattle.el_row_formats.specs.declared.table.Table.{Table};
 
 use el_base::OutOfMemory;
 use el_buckets::not_appended;
 use el_chain::ConnectFault;
-use el_outside::DiskFailed;
-use el_rows::{EntryRow, Rows, ScriptRow, Table, Txn};
-
-// Reads a row.
-fn read_row<R: Rows>(
-    t: &mut Txn<'_, R>,
-    table: Table,
-    n: u64,
-    buf: &mut [u8],
-) -> Result<(), ConnectFault>
-    requires live { R.is_live t.old.rows.now }
-    requires below { n < length (tables_in t.old table) }
-    requires sized { length buf.old ≡ size_of table }
-    ensures row { R.tells → OnOk result (buf.new ≡ get_or (tables_in t.old table) n []) }
-    ensures fault { IfErr result (λ e. e ≡ ConnectFault.DiskFailed) }
-    ensures read { ReadsRows ConnectFault.DiskFailed t.old t.new result }
-    ensures rows { reads_in t.new ≤ reads_in t.old + 1 }
-{
-    match t.get(table, n, buf) {
-        Ok(()) => Ok(()),
-        Err(DiskFailed) => Err(ConnectFault::DiskFailed),
-    }
-}
-
-// The row of a script.
-pub(crate) fn script_row<R: Rows>(t: &mut Txn<'_, R>, n: u64) -> Result<ScriptRow, ConnectFault>
-    requires live { R.is_live t.old.rows.now }
-    requires below { n < length (tables_in t.old Table.Scripts) }
-    ensures only { R.tells → IfOk result (λ r. (s : script_shape.ScriptRow) → FitsScriptRow s
-        → script_row_bytes s ≡ get_or (tables_in t.old Table.Scripts) n [] → s ≡ r) }
-    ensures fits { IfOk result (λ r. FitsScriptRow r) }
-    ensures fault { IfErr result (λ e. e ≡ ConnectFault.DiskFailed) }
-    ensures read { ReadsRows ConnectFault.DiskFailed t.old t.new result }
-    ensures rows { reads_in t.new ≤ reads_in t.old + 1 }
-{
-    let mut bytes = [0; 52];
-    read_row(t, Table::Scripts, n, &mut bytes)?;
-    Ok(ScriptRow::read(&bytes))
-}
-
-// The row of an entry.
-pub(crate) fn entry_row<R: Rows>(t: &mut Txn<'_, R>, n: u64) -> Result<EntryRow, ConnectFault>
-    requires live { R.is_live t.old.rows.now }
-    requires below { n < length (tables_in t.old Table.Entries) }
-    ensures only { R.tells → IfOk result (λ r. (e : entry_shape.EntryRow) → FitsEntryRow e
-        → entry_row_bytes e ≡ get_or (tables_in t.old Table.Entries) n [] → e ≡ r) }
-    ensures fits { IfOk result (λ r. FitsEntryRow r) }
-    ensures fault { IfErr result (λ e. e ≡ ConnectFault.DiskFailed) }
-    ensures read { ReadsRows ConnectFault.DiskFailed t.old t.new result }
-    ensures rows { reads_in t.new ≤ reads_in t.old + 1 }
-{
-    let mut bytes = [0; 12];
-    read_row(t, Table::Entries, n, &mut bytes)?;
-    Ok(EntryRow::read(&bytes))
-}
+use el_row_formats::{EntryRow, ScriptRow, Table};
+use el_rows::{Rows, Txn};
 
 // Writes over the row of a script. It fails only for want of memory, and then nothing has changed.
 pub(crate) fn put_script<R: Rows>(

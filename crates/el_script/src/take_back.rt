@@ -1,23 +1,25 @@
 // An entry less.
 ghost use Rattle.std.specs.Prelude.{◌≡◌, ◌≢◌, ◌<◌, ◌≤◌, ◌+◌, ◌-◌, ◌^◌, [], ℕ, List, length, get_or, slice_set, ◌⊎◌, OnOk, OnErr, IfErr, IsOk};
 ghost use Rattle.el_rows.specs.Changes.{OnTable};
-ghost use Rattle.el_rows.specs.RowBytes.{script_row_bytes, FitsScriptRow};
+ghost use Rattle.el_row_formats.specs.RowBytes.{script_row_bytes, FitsScriptRow};
 ghost use Rattle.el_rows.specs.Transaction.{tables_in, reads_in, EditsRows};
-ghost use Rattle.el_rows.specs.declared.script_row.ScriptRow as script_shape;
-ghost use Rattle.el_rows.specs.declared.table.Table.{Table};
+ghost use Rattle.el_row_formats.specs.declared.script_row.ScriptRow as script_shape;
+ghost use Rattle.el_row_formats.specs.declared.table.Table.{Table};
 ghost use Rattle.el_tables.specs.ChainLists.{ListedBlock};
 ghost use Rattle.el_tables.specs.Disconnecting as back;
 ghost use Rattle.el_tables.specs.Fits.{IsNumbered};
 ghost use Rattle.el_tables.specs.Lists.{Lists};
 ghost use Rattle.el_tables.specs.Tables.{HeadCounts};
 ghost use Rattle.el_buckets.specs.Buckets.{OthersStay, Popped, below};
-ghost use Rattle.el_buckets.specs.Rows.{Hold};
+ghost use Rattle.el_schema.specs.Rows.{Hold};
 ghost use Rattle.el_script.specs.within.RowSteps.{left_row, IsStepFault};
 
-use crate::row::{entry_row, put_script, script_row};
+use crate::row::put_script;
 use el_buckets::{Buckets, if_below, pop};
 use el_chain::ConnectFault;
-use el_rows::{Rows, ScriptRow, Table, Txn};
+use el_row_formats::{ScriptRow, Table};
+use el_rows::{Rows, Txn};
+use el_schema::{entry_row, script_row};
 
 // The script of that number has one entry less, and its last is this one. A script that isn't there stays
 // away. After a fault nothing has changed.
@@ -40,7 +42,7 @@ fn leave_entry<R: Rows>(t: &mut Txn<'_, R>, script: u64, before: u64) -> Result<
     if script >= t.count(Table::Scripts) {
         return Ok(());
     }
-    let row = script_row(t, script)?;
+    let row = script_row(t, script).map_err(|_| ConnectFault::DiskFailed)?;
     let left = ScriptRow {
         last: Some(before),
         entries: row.entries.saturating_sub(1),
@@ -71,7 +73,7 @@ fn drop_script<R: Rows>(t: &mut Txn<'_, R>) -> Result<(), ConnectFault>
         return Ok(());
     }
     let last = count - 1;
-    let row = script_row(t, last)?;
+    let row = script_row(t, last).map_err(|_| ConnectFault::DiskFailed)?;
     let next = if_below(row.next, last);
     pop(t, Buckets::ScriptHashes, &row.script, last, next)?;
     Ok(())
@@ -103,7 +105,7 @@ pub fn take_back_entry<R: Rows>(t: &mut Txn<'_, R>) -> Result<(), ConnectFault>
         return Ok(());
     }
     let last = count - 1;
-    let entry = entry_row(t, last)?;
+    let entry = entry_row(t, last).map_err(|_| ConnectFault::DiskFailed)?;
     match if_below(entry.before, last) {
         Some(before) => leave_entry(t, entry.script, before)?,
         None => drop_script(t)?,

@@ -3,23 +3,24 @@ ghost use Rattle.std.specs.Prelude.{◌≡◌, ◌≢◌, ◌⊎◌, ◌<◌, �
 ghost use Rattle.std.specs.Option.{ForSome};
 ghost use Rattle.el_chain.specs.Chains.{zero_hash};
 ghost use Rattle.el_rows.specs.Transaction.{tables_in, reads_in, ReadsRows, EditsRows};
-ghost use Rattle.el_rows.specs.declared.table.Table.{Table};
+ghost use Rattle.el_row_formats.specs.declared.table.Table.{Table};
 ghost use Rattle.el_tables.specs.ChainLists.{ListedBlock};
 ghost use Rattle.el_tables.specs.Edits.{tx_of_last};
 ghost use Rattle.el_tables.specs.Fits.{Fits};
 ghost use Rattle.el_tables.specs.Lists.{ListedEntry, Lists, add_entry, is_tx, script_number};
 ghost use Rattle.el_tables.specs.Tables.{HeadCounts};
 ghost use Rattle.el_buckets.specs.Faults.{NotAdded};
-ghost use Rattle.el_buckets.specs.Rows.{Hold};
+ghost use Rattle.el_schema.specs.Rows.{Hold};
 ghost use Rattle.el_buckets.specs.Buckets.{bucket_size};
 ghost use Rattle.el_script.specs.Touches.{touch_full};
 
 use crate::adding::{add_known, add_script};
-use crate::row::{entry_row, script_row};
 use el_base::Hash32;
 use el_buckets::{Buckets, find, if_below};
 use el_chain::ConnectFault;
-use el_rows::{Rows, Table, Txn};
+use el_row_formats::Table;
+use el_rows::{Rows, Txn};
+use el_schema::{entry_row, script_row};
 
 // The entry that the link names is of that transaction.
 fn is_entry_of<R: Rows>(
@@ -37,7 +38,10 @@ fn is_entry_of<R: Rows>(
 {
     match last {
         None => Ok(false),
-        Some(n) => Ok(entry_row(t, n)?.tx == tx),
+        Some(n) => {
+            let row = entry_row(t, n).map_err(|_| ConnectFault::DiskFailed)?;
+            Ok(row.tx == tx)
+        }
     }
 }
 
@@ -74,7 +78,7 @@ pub fn touch_number<R: Rows>(t: &mut Txn<'_, R>, script: u64, tx: u64) -> Result
     ensures edits { EditsRows ConnectFault.DiskFailed t.old t.new result }
 {
     prove!(script < t.count(Table::Scripts));
-    let row = script_row(t, script)?;
+    let row = script_row(t, script).map_err(|_| ConnectFault::DiskFailed)?;
     let last = if_below(row.last, t.count(Table::Entries));
     if is_entry_of(t, last, tx)? {
         return Ok(());

@@ -8,12 +8,12 @@ use Rattle.el_tables.specs.Edits.{no_out}
 use Rattle.el_tables.specs.Lists.{State, ListedTx, ListedOut, Lists, is_unspent, unspent_at, if_unspent, output_number}
 use Rattle.el_tables.specs.Lists.State.{Unspent, Spent, Buried}
 use Rattle.el_tables.proofs.OutEdits.{is_there, buried_is, spent_is}
-use Rattle.el_rows.specs.declared.out_row.OutRow.{OutRow}
-use Rattle.el_rows.specs.declared.out_row.State.TheVariants as out
-use Rattle.el_buckets.specs.Rows.{out_fields, state_fields}
+use Rattle.el_row_formats.specs.declared.out_row.OutRow.{OutRow}
+use Rattle.el_row_formats.specs.declared.out_row.State.TheVariants as out
+use Rattle.el_schema.specs.Rows.{out_fields, state_fields}
 use Rattle.el_spend.specs.Outputs.{output_at, coin_among}
 use Rattle.el_spend.specs.declared.lookup.NamedOutput.{NamedOutput}
-use Rattle.el_spend.proofs.Rows.{found_at, found_within}
+use Rattle.el_schema.proofs.Rows.{found_at, found_within}
 
 -- 1. An output with its row
 

@@ -16,12 +16,13 @@ use Rattle.el_tables.proofs.Outputs.{from_front}
 use Rattle.el_tables.proofs.RowLists.{length_rows, rows_at}
 use Rattle.el_tables.proofs.Scripts.{hash_gives}
 use Rattle.el_tables.proofs.TxEdits.{newest_is}
-use Rattle.el_rows.specs.declared.tx_row.TxRow.{TxRow}
-use Rattle.el_buckets.specs.Rows.{tx_fields}
+use Rattle.el_row_formats.specs.declared.tx_row.TxRow.{TxRow}
+use Rattle.el_schema.specs.Rows.{tx_fields}
 use Rattle.el_buckets.specs.Buckets.{below as if_less}
-use Rattle.el_buckets.proofs.Held.{below_all, no_tx, no_tx_row}
+use Rattle.el_schema.proofs.Held.{no_tx, no_tx_row}
+use Rattle.el_buckets.proofs.Heads.{below_all}
 use Rattle.el_buckets.proofs.Walks.{Passes, end_of, end_within, greatest_passes, greatest_at, up_to, fewer_rows, rows_within}
-use Rattle.el_spend.proofs.Rows.{found_at, found_within}
+use Rattle.el_schema.proofs.Rows.{found_at, found_within, listed_row, row_within}
 
 -- 1. The output's number, by the greatest transaction that has it
 
@@ -37,17 +38,6 @@ has_it o t id lt = let more = lt-ltb o.index t.outs lt in rw (id, more) refl
 
 pub has_not : (o : Outpoint) (t : ListedTx) → t.outs ≤ o.index → has_output o t ≡ false
 has_not o t le = and_right (has_txid o t) (nat_lt o.index t.outs) (le-ltb o.index t.outs le)
-
--- what is left of a link is below its own row
-pub less_than : (n : ℕ) (link : Option ℕ) (m : ℕ) → if_less n link ≡ Some m → m < n
-less_than n None m is = absurd cc
-less_than n (Some k) m is = elim (cases_lt k n) [
-  | inl lt ↦ let test = lt-ltb k n lt in let left = rw test at is in let same : k ≡ m = cc in omega (arith, lt, same)
-  | inr le ↦ let test = le-ltb k n le in let left = rw test at is in absurd (none_some left)
-]
-  where
-    none_some : None ≡ Some m → ⊥
-    none_some q = cc
 
 abbrev pub Named : Outpoint → ListedTx → List ListedTx → Option ℕ → Type 0
 Named o d ts None = output_number o ts ≡ None
@@ -179,21 +169,6 @@ module _ (o : Outpoint) (below : ℕ) (d : ListedTx) (ts : List ListedTx) where
   older_all link passes = rows_within (has_output o) (has_txid o) (has_id o) d ts link passes
 
 -- 3. The row of a transaction
-
--- the row of that number is that of its transaction
-pub listed_row : (c : ℕ) (ts : List ListedTx) (n : ℕ) (row : TxRow) → Some row ≡ option_map tx_fields (slice_get (rows_from (tx_row c ts) 0 ts) n)
-    → row ≡ tx_fields (tx_row c ts n (get_or ts n no_tx))
-listed_row c ts n row e =
-    let rows = rows_from (tx_row c ts) 0 ts in
-    let lt = found_within tx_fields rows n row e in
-    let long = length_rows (tx_row c ts) 0 ts in
-    found_at tx_fields rows n no_tx_row row e ∙ ap tx_fields (rows_at (tx_row c ts) no_tx_row no_tx 0 n n ts (omega arith) (omega arith))
-
-pub row_within : (c : ℕ) (ts : List ListedTx) (n : ℕ) (row : TxRow) → Some row ≡ option_map tx_fields (slice_get (rows_from (tx_row c ts) 0 ts) n) → n < length ts
-row_within c ts n row e =
-    let lt = found_within tx_fields (rows_from (tx_row c ts) 0 ts) n row e in
-    let long = length_rows (tx_row c ts) 0 ts in
-    omega arith
 
 -- its `older` is the newest before it with the outpoint's txid, if it has this itself
 pub older_is : (o : Outpoint) (below : ℕ) (c : ℕ) (ts : List ListedTx) (n : ℕ) (row : TxRow) → IsOlder o below no_tx ts (Some n)

@@ -17,19 +17,19 @@ use Rattle.el_tables.proofs.OutEdits.{coin_back_rows, buried_rows, is_there, tak
 use Rattle.el_tables.proofs.RowLists.{rows_at, length_rows}
 use Rattle.el_tables.proofs.Sums.{balance_more, value_at}
 use Rattle.el_rows.specs.Changes.{OnTable}
-use Rattle.el_rows.specs.Tables as held_tables
-use Rattle.el_rows.specs.RowBytes.{script_row_bytes, out_row_bytes, state_by, FitsScriptRow, FitsOutRow}
-use Rattle.el_rows.specs.Tables.{limit_of}
-use Rattle.el_rows.specs.declared.table.Table.{Table}
-use Rattle.el_rows.specs.declared.table.Table.TheVariants as table
-use Rattle.el_rows.specs.declared.script_row.ScriptRow.{ScriptRow}
-use Rattle.el_rows.specs.declared.out_row.OutRow.{OutRow}
-use Rattle.el_rows.specs.declared.out_row.State as out_state
+use Rattle.el_row_formats.specs.Tables as held_tables
+use Rattle.el_row_formats.specs.RowBytes.{script_row_bytes, out_row_bytes, state_by, FitsScriptRow, FitsOutRow}
+use Rattle.el_row_formats.specs.Tables.{limit_of}
+use Rattle.el_row_formats.specs.declared.table.Table.{Table}
+use Rattle.el_row_formats.specs.declared.table.Table.TheVariants as table
+use Rattle.el_row_formats.specs.declared.script_row.ScriptRow.{ScriptRow}
+use Rattle.el_row_formats.specs.declared.out_row.OutRow.{OutRow}
+use Rattle.el_row_formats.specs.declared.out_row.State as out_state
 use Rattle.el_buckets.specs.Faults.{NotAdded}
-use Rattle.el_buckets.specs.Rows.{Encode, Hold, script_fields, out_fields, state_fields}
+use Rattle.el_schema.specs.Rows.{Encode, Hold, script_fields, out_fields, state_fields}
 use Rattle.el_spend.specs.Outputs.{BalancesFit}
 use Rattle.el_spend.specs.within.Parts.{IsOutRow, balance_raised, balance_lowered, state_changed, out_appended, in_appended, unburied_lists, spent_given_back, named_by}
-use Rattle.el_spend.proofs.Rows.{found_at, found_within, set_past, script_set, out_set, count_scripts}
+use Rattle.el_schema.proofs.Rows.{found_at, found_within, set_past, script_set, out_set, count_scripts}
 
 -- 1. Balances
 

@@ -5,7 +5,7 @@ use Rattle.el_tx.specs.declared.types.Outpoint.{Outpoint}
 use Rattle.el_chain.specs.Headers.{same_hash}
 use Rattle.el_tables.specs.Lists.{ListedTx, ListedOut, Lists, output_number, coin_number, replaced, balance_of}
 use Rattle.el_buckets.specs.Buckets.{bucket_size}
-use Rattle.el_buckets.specs.Rows.{out_fields}
+use Rattle.el_schema.specs.Rows.{out_fields}
 use Rattle.el_spend.specs.declared.lookup.NamedOutput.{NamedOutput}
 
 -- the output of that number with its row, if there is one

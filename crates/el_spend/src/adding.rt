@@ -1,17 +1,17 @@
 // An output more.
 ghost use Rattle.std.specs.Prelude.{◌≡◌, ◌≢◌, ◌⊎◌, ◌<◌, ◌≤◌, ◌+◌, ◌^◌, ℕ, List, length, take, OnOk, IfOk, IfErr, None, option_map};
 ghost use Rattle.std.specs.Option.{ForSome};
-ghost use Rattle.el_rows.specs.RowBytes.{FitsOutRow};
-ghost use Rattle.el_rows.specs.Tables.{limit_of};
+ghost use Rattle.el_row_formats.specs.RowBytes.{FitsOutRow};
+ghost use Rattle.el_row_formats.specs.Tables.{limit_of};
 ghost use Rattle.el_rows.specs.Transaction.{tables_in, reads_in, disk_failed, ReadsRows, EditsRows, EditsAlone};
-ghost use Rattle.el_rows.specs.declared.table.Table.{Table};
+ghost use Rattle.el_row_formats.specs.declared.table.Table.{Table};
 ghost use Rattle.el_tables.specs.ChainLists.{ListedBlock};
 ghost use Rattle.el_tables.specs.Edits as edit;
 ghost use Rattle.el_tables.specs.Lists as lists;
 ghost use Rattle.el_tables.specs.Tables as typed;
 ghost use Rattle.el_tables.specs.Tables.{HeadCounts};
 ghost use Rattle.el_buckets.specs.Faults.{NotAdded};
-ghost use Rattle.el_buckets.specs.Rows.{Encode, Hold};
+ghost use Rattle.el_schema.specs.Rows.{Encode, Hold};
 ghost use Rattle.el_spend.specs.Outputs.{rows_to_find, replaced_output, BalancesFit};
 ghost use Rattle.el_spend.specs.within.Parts.{IsOutRow, out_appended};
 
@@ -19,12 +19,13 @@ use crate::NamedOutput;
 use crate::balance::raise;
 use crate::coins::take_coin;
 use crate::lookup::coin;
-use crate::reading::tx_row;
 use el_base::Hash32;
 use el_buckets::not_appended;
 use el_chain::ConnectFault;
 use el_outside::DiskFailed;
-use el_rows::{OutRow, Rows, State, Table, Txn};
+use el_row_formats::{OutRow, State, Table};
+use el_rows::{Rows, Txn};
+use el_schema::tx_row;
 use el_tx::Outpoint;
 
 // The txid of the transaction of that number, and none where its row tells that no transaction before has the

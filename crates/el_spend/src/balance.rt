@@ -1,19 +1,20 @@
 // Running balances of scripts.
 ghost use Rattle.std.specs.Prelude.{◌≡◌, ◌≢◌, ◌⊎◌, ◌<◌, ◌≤◌, ◌+◌, ◌^◌, [], length, get_or, slice_set, OnOk, OnErr, IfErr};
 ghost use Rattle.el_rows.specs.Changes.{OnTable};
-ghost use Rattle.el_rows.specs.RowBytes.{script_row_bytes, FitsScriptRow};
+ghost use Rattle.el_row_formats.specs.RowBytes.{script_row_bytes, FitsScriptRow};
 ghost use Rattle.el_rows.specs.Transaction.{tables_in, reads_in, EditsRows, EditsAlone};
-ghost use Rattle.el_rows.specs.declared.script_row.ScriptRow as shape;
-ghost use Rattle.el_rows.specs.declared.table.Table.{Table};
+ghost use Rattle.el_row_formats.specs.declared.script_row.ScriptRow as shape;
+ghost use Rattle.el_row_formats.specs.declared.table.Table.{Table};
 ghost use Rattle.el_tables.specs.Edits as edit;
 ghost use Rattle.el_tables.specs.Tables as typed;
-ghost use Rattle.el_buckets.specs.Rows.{Encode};
+ghost use Rattle.el_schema.specs.Rows.{Encode};
 ghost use Rattle.el_spend.specs.within.Parts.{balance_raised, balance_lowered, raised, lowered};
 
-use crate::reading::script_row;
 use el_base::OutOfMemory;
 use el_chain::ConnectFault;
-use el_rows::{Rows, ScriptRow, Table, Txn};
+use el_row_formats::{ScriptRow, Table};
+use el_rows::{Rows, Txn};
+use el_schema::script_row;
 
 // Writes over the row of a script.
 fn put_script<R: Rows>(t: &mut Txn<'_, R>, n: u64, row: &ScriptRow) -> Result<(), OutOfMemory>

@@ -1,20 +1,21 @@
 // Outputs that become unspent, or are no longer.
 ghost use Rattle.std.specs.Prelude.{◌≡◌, ◌≢◌, ◌⊎◌, ◌<◌, ◌≤◌, ◌+◌, ◌^◌, length, slice_set, OnOk, OnErr, IfErr};
 ghost use Rattle.el_rows.specs.Changes.{OnTable};
-ghost use Rattle.el_rows.specs.RowBytes.{out_row_bytes, state_by, FitsOutRow};
+ghost use Rattle.el_row_formats.specs.RowBytes.{out_row_bytes, state_by, FitsOutRow};
 ghost use Rattle.el_rows.specs.Transaction.{tables_in, reads_in, EditsRows, EditsAlone};
-ghost use Rattle.el_rows.specs.declared.table.Table.{Table};
+ghost use Rattle.el_row_formats.specs.declared.table.Table.{Table};
 ghost use Rattle.el_tables.specs.Edits as edit;
 ghost use Rattle.el_tables.specs.Lists as lists;
 ghost use Rattle.el_tables.specs.Tables as typed;
-ghost use Rattle.el_buckets.specs.Rows.{Encode, state_fields};
+ghost use Rattle.el_schema.specs.Rows.{Encode, state_fields};
 ghost use Rattle.el_spend.specs.within.Parts.{IsOutRow, state_changed};
 
 use crate::NamedOutput;
 use crate::balance::{lower, raise};
 use el_base::OutOfMemory;
 use el_chain::ConnectFault;
-use el_rows::{OutRow, Rows, State, Table, Txn};
+use el_row_formats::{OutRow, State, Table};
+use el_rows::{Rows, Txn};
 
 // Gives the output another state.
 fn put_state<R: Rows>(

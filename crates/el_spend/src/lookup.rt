@@ -1,23 +1,24 @@
 // The output that an outpoint names.
 ghost use Rattle.std.specs.Prelude.{◌≡◌, ◌<◌, ◌≤◌, ◌+◌, ◌^◌, ℕ, List, [], length, map, take, get_or, IfOk, None};
 ghost use Rattle.std.specs.Option.{ForSome};
-ghost use Rattle.el_rows.specs.RowBytes.{FitsOutRow, ReadsAsOut};
-ghost use Rattle.el_rows.specs.Tables.{limit_of};
+ghost use Rattle.el_row_formats.specs.RowBytes.{FitsOutRow, ReadsAsOut};
+ghost use Rattle.el_row_formats.specs.Tables.{limit_of};
 ghost use Rattle.el_rows.specs.Transaction.{tables_in, reads_in, disk_failed, ReadsRows};
-ghost use Rattle.el_rows.specs.declared.table.Table.{Table};
+ghost use Rattle.el_row_formats.specs.declared.table.Table.{Table};
 ghost use Rattle.el_tables.specs.ChainLists.{ListedBlock};
 ghost use Rattle.el_tables.specs.Lists as lists;
 ghost use Rattle.el_tables.specs.Tables as typed;
 ghost use Rattle.el_tables.specs.Tables.{HeadCounts};
 ghost use Rattle.el_buckets.specs.Buckets.{bucket_size};
-ghost use Rattle.el_buckets.specs.Rows.{Encode, Hold};
+ghost use Rattle.el_schema.specs.Rows.{Encode, Hold};
 ghost use Rattle.el_spend.specs.Outputs.{named_among, output_at, txs_with, rows_to_find, coin_among};
 
-use crate::reading::{out_row, tx_row};
 use el_buckets::if_below;
 use el_outside::DiskFailed;
 use el_position::newest;
-use el_rows::{OutRow, Rows, State, Table, Txn};
+use el_row_formats::{OutRow, State, Table};
+use el_rows::{Rows, Txn};
+use el_schema::{out_row, tx_row};
 use el_tx::Outpoint;
 
 /// An output that is there.

@@ -1,15 +1,15 @@
 // An input more.
 ghost use Rattle.std.specs.Prelude.{◌≡◌, ◌≢◌, ◌⊎◌, ◌<◌, ◌≤◌, ◌+◌, ◌^◌, ℕ, List, length, OnOk, IfOk, IfErr, IsSome, None, unwrap_or};
 ghost use Rattle.std.specs.Option.{ForSome};
-ghost use Rattle.el_rows.specs.Tables.{limit_of};
+ghost use Rattle.el_row_formats.specs.Tables.{limit_of};
 ghost use Rattle.el_rows.specs.Transaction.{tables_in, reads_in, EditsRows, EditsAlone};
-ghost use Rattle.el_rows.specs.declared.table.Table.{Table};
+ghost use Rattle.el_row_formats.specs.declared.table.Table.{Table};
 ghost use Rattle.el_tables.specs.ChainLists.{ListedBlock};
 ghost use Rattle.el_tables.specs.Lists as lists;
 ghost use Rattle.el_tables.specs.Tables as typed;
 ghost use Rattle.el_tables.specs.Tables.{HeadCounts};
 ghost use Rattle.el_buckets.specs.Faults.{NotAdded};
-ghost use Rattle.el_buckets.specs.Rows.{Encode, Hold};
+ghost use Rattle.el_schema.specs.Rows.{Encode, Hold};
 ghost use Rattle.el_spend.specs.Outputs.{rows_to_find};
 ghost use Rattle.el_spend.specs.within.Parts.{in_appended};
 
@@ -17,7 +17,8 @@ use crate::coins::take_coin;
 use crate::lookup::coin;
 use el_buckets::not_appended;
 use el_chain::ConnectFault;
-use el_rows::{InRow, Rows, State, Table, Txn};
+use el_row_formats::{InRow, State, Table};
+use el_rows::{Rows, Txn};
 use el_tx::Outpoint;
 
 // Adds an input that spends the output of that number, and answers the input's number.

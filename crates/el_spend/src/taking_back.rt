@@ -1,16 +1,16 @@
 // An output less.
 ghost use Rattle.std.specs.Prelude.{◌≡◌, ◌≢◌, ◌⊎◌, ◌<◌, ◌≤◌, ◌+◌, ◌-◌, ◌^◌, ℕ, List, Some, length, OnOk, IfOk, IfErr};
 ghost use Rattle.std.specs.Option.{ForSome};
-ghost use Rattle.el_rows.specs.RowBytes.{FitsOutRow};
+ghost use Rattle.el_row_formats.specs.RowBytes.{FitsOutRow};
 ghost use Rattle.el_rows.specs.Transaction.{tables_in, reads_in, disk_failed, ReadsRows, EditsRows};
-ghost use Rattle.el_rows.specs.declared.table.Table.{Table};
+ghost use Rattle.el_row_formats.specs.declared.table.Table.{Table};
 ghost use Rattle.el_tables.specs.ChainLists.{ListedBlock};
 ghost use Rattle.el_tables.specs.Disconnecting as back;
 ghost use Rattle.el_tables.specs.Edits as edit;
 ghost use Rattle.el_tables.specs.Lists as lists;
 ghost use Rattle.el_tables.specs.Tables as typed;
 ghost use Rattle.el_tables.specs.Tables.{HeadCounts};
-ghost use Rattle.el_buckets.specs.Rows.{Encode, Hold, out_fields};
+ghost use Rattle.el_schema.specs.Rows.{Encode, Hold, out_fields};
 ghost use Rattle.el_spend.specs.Outputs.{rows_to_find, named_among, BalancesFit};
 ghost use Rattle.el_spend.specs.within.Parts.{outpoint_at, unburied_lists, held_by, balance_lowered};
 
@@ -18,10 +18,12 @@ use crate::NamedOutput;
 use crate::balance::lower;
 use crate::coins::give_back;
 use crate::lookup::named_output;
-use crate::reading::{listed_at, out_row};
+use crate::reading::listed_at;
 use el_chain::ConnectFault;
 use el_outside::DiskFailed;
-use el_rows::{OutRow, Rows, State, Table, Txn};
+use el_row_formats::{OutRow, State, Table};
+use el_rows::{Rows, Txn};
+use el_schema::out_row;
 use el_tx::Outpoint;
 
 // If the output was unspent it leaves its script's balance.

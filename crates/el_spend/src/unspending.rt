@@ -1,20 +1,21 @@
 // An input less.
 ghost use Rattle.std.specs.Prelude.{◌≡◌, ◌≢◌, ◌⊎◌, ◌<◌, ◌≤◌, ◌+◌, ◌-◌, ◌^◌, ℕ, List, Some, length, OnOk, IfErr};
 ghost use Rattle.el_rows.specs.Transaction.{tables_in, reads_in, EditsRows};
-ghost use Rattle.el_rows.specs.declared.table.Table.{Table};
+ghost use Rattle.el_row_formats.specs.declared.table.Table.{Table};
 ghost use Rattle.el_tables.specs.ChainLists.{ListedBlock};
 ghost use Rattle.el_tables.specs.Disconnecting as back;
 ghost use Rattle.el_tables.specs.Lists as lists;
 ghost use Rattle.el_tables.specs.Tables.{HeadCounts};
-ghost use Rattle.el_buckets.specs.Rows.{Hold};
+ghost use Rattle.el_schema.specs.Rows.{Hold};
 ghost use Rattle.el_spend.specs.Outputs.{BalancesFit};
 ghost use Rattle.el_spend.specs.within.Parts.{spent_given_back};
 
 use crate::coins::give_back;
 use crate::lookup::found_output;
-use crate::reading::in_row;
 use el_chain::ConnectFault;
-use el_rows::{Rows, State, Table, Txn};
+use el_row_formats::{State, Table};
+use el_rows::{Rows, Txn};
+use el_schema::in_row;
 
 // The output of that number is unspent again, if it was spent.
 fn give_back_spent<R: Rows>(t: &mut Txn<'_, R>, k: u64) -> Result<(), ConnectFault>

@@ -16,7 +16,8 @@ use Rattle.el_chain.specs.Faults.{has_coin, missing_input}
 use Rattle.el_tables.specs.Lists.{ListedTx, ListedOut, ListedEntry, Lists, State, is_unspent, output_number, unspent_at, with_state, script_at, coin_number, if_unspent, script_number, append_entry, add_entry, spend_output, bury}
 use Rattle.el_tables.specs.Lists.State.{Spent, Buried}
 use Rattle.el_tables.specs.ChainLists.{Output, output, listed_out, spent_numbers}
-use Rattle.el_tables.specs.Connecting.{script_of_output, spend_all, fund, fund_all, prepared_output}
+use Rattle.el_prepare.specs.Prepared.{paid}
+use Rattle.el_tables.specs.Connecting.{script_of_output, spend_all, fund, fund_all}
 use Rattle.el_tables.proofs.Outputs.{coins_of}
 use Rattle.el_tables.proofs.Names.{NamesBy, Names, settle, settle_none, settle_at, names_settled, coins_settled, Found, none_coins, found, at_within, dead_at}
 use Rattle.el_tables.proofs.Scripts.{Keeps, once_keeps, once_has, number_at, touched}
@@ -250,7 +251,7 @@ bury_outputs by id index (o ∷ os) xs = bury_outputs by id (index + 1) os (map 
 
 one_output : (ts : List ListedTx) (t : ListedTx) (height index : ℕ) (o : TxOut) (xs new : List Output) (ins : List ℕ) (scripts : List Hash32) (es : List ListedEntry)
     → Names ts xs → AllHave scripts (xs ++ new)
-    → fund (length ts) index (prepared_output o) (lists_with ts t xs new ins scripts es)
+    → fund (length ts) index (paid o) (lists_with ts t xs new ins scripts es)
     ≡ lists_with ts t (map (settle (Buried (length ts)) (record { txid = t.txid; index = index })) xs) (new ++ output (length ts) [] (coin_made t.txid height index o) ∷ [])
     ins (add_script (output_script o) scripts) (append_entry (length ts) (script_number (output_script o) scripts) es)
 one_output ts t height index o xs new ins scripts es names have =
@@ -272,7 +273,7 @@ one_output ts t height index o xs new ins scripts es names have =
 
 pub fund_all_is : (os : List TxOut) (index height : ℕ) (ts : List ListedTx) (t : ListedTx) (xs new : List Output) (ins : List ℕ) (scripts : List Hash32) (es : List ListedEntry)
     → Names ts xs → AllHave scripts (xs ++ new)
-    → fund_all (length ts) index (map prepared_output os) (lists_with ts t xs new ins scripts es)
+    → fund_all (length ts) index (map paid os) (lists_with ts t xs new ins scripts es)
     ≡ lists_with ts t (bury_outputs (length ts) t.txid index os xs) (new ++ map (output (length ts) []) (coins_made t.txid height index os))
     ins (add_scripts scripts (map output_script os)) (touched (length ts) scripts (map output_script os) es)
 fund_all_is [] index height ts t xs new ins scripts es names have = ap (λ (l : List Output). lists_with ts t xs l ins scripts es) (sym (append-nil new))
@@ -288,7 +289,7 @@ fund_all_is (o ∷ os) index height ts t xs new ins scripts es names have =
     let back = have_joined more new (fresh ∷ []) (have_back more xs new all) ((once_has (output_script o) scripts).0, tt) in
     let rest = fund_all_is os (index + 1) height ts t left (new ++ fresh ∷ []) ins more fs (names_settled (Buried m) point ts xs refl names)
     (have_joined more left (new ++ fresh ∷ []) front back) in
-    ap (fund_all m (index + 1) (map prepared_output os)) (one_output ts t height index o xs new ins scripts es names have)
+    ap (fund_all m (index + 1) (map paid os)) (one_output ts t height index o xs new ins scripts es names have)
     ∙ rest
     ∙ ap (λ (l : List Output). lists_with ts t (bury_outputs m t.txid (index + 1) os left) l ins (add_scripts more (map output_script os)) (touched m more (map output_script os) fs))
     (append_assoc new (fresh ∷ []) (map (output m []) (coins_made t.txid height (index + 1) os)))

@@ -13,7 +13,8 @@ use Rattle.el_chain.proofs.GoodChains.{coins_more, first_none, second_none}
 use Rattle.el_tables.specs.Lists.{unspent_sum}
 use Rattle.el_chain.specs.History.{block_positions, Position, positions_in, positions_from, positions, first_start}
 use Rattle.el_tables.specs.ChainLists.{outputs, lists_of, lists, ListedBlock, listed_block, listed_blocks_from, listed_blocks, scripts_of}
-use Rattle.el_tables.specs.Connecting.{prepared_txs, prepared_block, block_between}
+use Rattle.el_prepare.specs.Prepared.{prepared_txs, prepared}
+use Rattle.el_tables.specs.Connecting.{block_between}
 use Rattle.el_tables.specs.Disconnecting.{times, disconnect_tx, disconnect_txs, but_last}
 use Rattle.el_tables.proofs.Outputs.{coins_of, coins_step, chain_coins}
 use Rattle.el_tables.proofs.Numbering.{length_txs}
@@ -110,7 +111,7 @@ prepared_count start (t ∷ ts) = ap suc (prepared_count (start + length (full_e
 
 pub row_more : (chain : Chain) (b : Placed)
     → listed_blocks (chain ++ b ∷ [])
-    ≡ listed_blocks chain ++ block_between (prepared_block b.block) b.place (lists chain) (lists (chain ++ b ∷ [])) ∷ []
+    ≡ listed_blocks chain ++ block_between (prepared b.block) b.place (lists chain) (lists (chain ++ b ∷ [])) ∷ []
 row_more chain b = let count = prepared_count (first_start b.block.txs) b.block.txs in blocks_more chain b ∙ rw count refl
 
 pub blocks_less : (chain : Chain) (b : Placed) → but_last (listed_blocks (chain ++ b ∷ [])) ≡ listed_blocks chain

@@ -20,7 +20,8 @@ use Rattle.el_chain.proofs.Tallies.{positions_more}
 use Rattle.el_tables.specs.Lists.{is_unspent, unspent_sum}
 use Rattle.el_chain.specs.History.{block_positions, Position, positions_in, positions, first_start}
 use Rattle.el_tables.specs.ChainLists.{Output, outputs, listed_out, scripts_of, entry_of, entries_from, lists_of, lists}
-use Rattle.el_tables.specs.Connecting.{bounds_by, prepared_txs, prepared_block, connect_txs, ok_unless}
+use Rattle.el_prepare.specs.Prepared.{prepared_txs, prepared}
+use Rattle.el_tables.specs.Connecting.{bounds_by, connect_txs, ok_unless}
 use Rattle.el_tables.proofs.Outputs.{coins_of, coins_step, chain_coins}
 use Rattle.el_tables.proofs.Numbering.{outs_of, ins_of, length_txs, length_outputs}
 use Rattle.el_tables.proofs.Connects.{IsSound, next_position, connect_faultless, connect_refused, sound_more}
@@ -186,7 +187,7 @@ good_sound chain good = good_has IsSound refl sound_more chain good
 
 -- a block's transactions lead from the lists of a good chain to those of the chain with the block, or end with the chain's fault
 pub connects : (chain : Chain) (b : Placed) → IsGood chain
-    → connect_txs (length chain) 0 (prepared_block b.block).txs (lists chain) ≡ ok_unless (fault chain b.block) (lists (chain ++ b ∷ []))
+    → connect_txs (length chain) 0 (prepared b.block).txs (lists chain) ≡ ok_unless (fault chain b.block) (lists (chain ++ b ∷ []))
 connects chain b good =
     connect_txs_is b.block.txs (length chain) 0 (first_start b.block.txs) (positions chain) (good_sound chain good)
     ∙ ap (λ (cs : List Coin). ok_unless (first_fault (positions chain) (block_positions (length chain) b.block.txs cs)) (lists_of (positions chain ++ block_positions (length chain) b.block.txs cs)))

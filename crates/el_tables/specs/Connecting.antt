@@ -1,73 +1,20 @@
--- What a block does to the numbered lists, transaction by transaction. Of a block stands here what is
--- prepared of it before it is connected: no scripts and no witnesses, and each script hashed.
-use Rattle.std.specs.Prelude.{ℕ, ◌+◌, List, [], ◌∷◌, length, map, get_or, Option, None, Some, Result, Ok, Err, ok_or}
+-- What a block does to the numbered lists, transaction by transaction, by what is prepared of it before it is
+-- connected: no scripts and no witnesses, and each script hashed.
+use Rattle.std.specs.Prelude.{ℕ, ◌+◌, List, [], ◌∷◌, length, get_or, Option, None, Some, Result, Ok, Err, ok_or}
 use Rattle.std.specs.Option.{option_or}
 use Rattle.el_base.specs.declared.hash.Hash32.{Hash32}
 use Rattle.el_outside.specs.declared.archive.Place.{Place}
 use Rattle.el_tx.specs.declared.types.Outpoint.{Outpoint}
-use Rattle.el_tx.specs.declared.types.TxIn.{TxIn}
-use Rattle.el_tx.specs.declared.types.TxOut.{TxOut}
-use Rattle.el_tx.specs.declared.types.Tx.{Tx}
-use Rattle.el_tx.specs.Hashing.{txid, full_encoding}
-use Rattle.el_tx.specs.Headers.{header_encoding}
-use Rattle.el_block.specs.declared.block.Block.{Block}
-use Rattle.el_block.specs.Blocks.{block_hash, block_encoding}
 use Rattle.el_chain.specs.Chains.{zero_hash}
 use Rattle.el_chain.specs.Faults.{money_fault, full}
-use Rattle.el_chain.specs.History.{first_start}
-use Rattle.el_chain.specs.RowCounts.{spending_inputs, output_script}
 use Rattle.el_chain.specs.declared.fault.ConnectFault.{ConnectFault}
 use Rattle.el_chain.specs.declared.fault.ConnectFault.TheVariants as refusal
+use Rattle.el_prepare.specs.declared.prepared.Prepared.{Prepared}
+use Rattle.el_prepare.specs.declared.prepared.PreparedTx.{PreparedTx}
 use Rattle.el_tables.specs.Lists.{ListedTx, Lists, script_number, coin_number, script_at, unspent_sum, spend_output, add_entry, add_tx, add_output}
 use Rattle.el_tables.specs.ChainLists.{ListedBlock}
 
--- 1. What is prepared of a block
-
--- Of a transaction: its txid, where its bytes begin in the block's and how many they are, the outpoints that
--- it spends, none of a coinbase, and its outputs, each as its value in satoshi and its script hash.
-pub record PreparedTx : Type 0 where
-  pub txid : Hash32
-  pub start : ℕ
-  pub len : ℕ
-  pub inputs : List Outpoint
-  pub outputs : List (ℕ × Hash32)
-
--- Of a block: its hash, its header's 80 bytes, how many bytes it has, and its transactions.
-pub record PreparedBlock : Type 0 where
-  pub hash : Hash32
-  pub header : List ℕ
-  pub len : ℕ
-  pub txs : List PreparedTx
-
--- the value and the script hash of an output
-abbrev pub prepared_output : TxOut → ℕ × Hash32
-prepared_output o = (o.value, output_script o)
-
--- what is prepared of a transaction, whose bytes begin there
-abbrev pub prepared_tx : ℕ → Tx → PreparedTx
-prepared_tx start t = record {
-  txid = txid t;
-  start = start;
-  len = length (full_encoding t);
-  inputs = map (λ (i : TxIn). i.from) (spending_inputs t);
-  outputs = map prepared_output t.outputs;
-}
-
--- of transactions that stand one after the other, of which the first begins there
-abbrev pub prepared_txs : ℕ → List Tx → List PreparedTx
-prepared_txs start [] = []
-prepared_txs start (t ∷ ts) = prepared_tx start t ∷ prepared_txs (start + length (full_encoding t)) ts
-
--- of a block
-abbrev pub prepared_block : Block → PreparedBlock
-prepared_block b = record {
-  hash = block_hash b.header;
-  header = header_encoding b.header;
-  len = length (block_encoding b);
-  txs = prepared_txs (first_start b.txs) b.txs;
-}
-
--- 2. A transaction
+-- 1. A transaction
 
 infixl 10 ◌>>=◌
 -- goes on with a value, and stops at an error
@@ -122,7 +69,7 @@ connect_tx height t l = do
   spent ← spend_all (length l.txs) 0 t.inputs l
   Ok (fund_all (length l.txs) 0 t.outputs (add_tx (listed_after height t l) spent))
 
--- 3. A block
+-- 2. A block
 
 -- the fault of a transaction with that index in its block, by the number of the input whose coin is not there
 abbrev pub missing_at : {A : Type 0} → ℕ → Result A ℕ → Result A ConnectFault
@@ -157,7 +104,7 @@ connect_txs height index (t ∷ ts) l = do
   connect_txs height (index + 1) ts within
 
 -- the row of a block at that place, before and after which these lists stand
-abbrev pub block_between : PreparedBlock → Place → Lists → Lists → ListedBlock
+abbrev pub block_between : Prepared → Place → Lists → Lists → ListedBlock
 block_between b place before after = record {
   header = b.header;
   place = place;

@@ -11,7 +11,8 @@ ghost use Rattle.el_chain.specs.declared.coin.Coin as coin_shape;
 ghost use Rattle.el_chain.specs.declared.placed.Placed as shape;
 ghost use Rattle.el_tables.specs.Lists.{is_unspent};
 ghost use Rattle.el_tables.specs.ChainLists.{Output, outputs, lists, listed_blocks};
-ghost use Rattle.el_tables.specs.Connecting.{prepared_block, block_between, connect_txs, ok_unless};
+ghost use Rattle.el_prepare.specs.Prepared.{prepared};
+ghost use Rattle.el_tables.specs.Connecting.{block_between, connect_txs, ok_unless};
 ghost use Rattle.el_tables.specs.Disconnecting.{disconnect_txs, but_last};
 ghost use Rattle.el_tables.specs.Example as example;
 ghost use Rattle.el_tables.specs.Queries as asked;
@@ -47,7 +48,7 @@ pub fn history_is_the_entries()
 /// with the block; or they end with the fault that the block has after the chain, exactly where it has one.
 pub fn a_block_connects()
     ensures { (chain : Chain) (b : shape.Placed) → IsGood chain
-        → connect_txs (length chain) 0 (prepared_block b.block).txs (lists chain)
+        → connect_txs (length chain) 0 (prepared b.block).txs (lists chain)
         ≡ ok_unless (fault chain b.block) (lists (chain ++ b ∷ [])) }
 {}
 
@@ -66,7 +67,7 @@ pub fn rows_are_counted()
 pub fn a_block_has_its_row()
     ensures { (chain : Chain) (b : shape.Placed) → listed_blocks (chain ++ b ∷ [])
         ≡ listed_blocks chain
-        ++ block_between (prepared_block b.block) b.place (lists chain) (lists (chain ++ b ∷ [])) ∷ [] }
+        ++ block_between (prepared b.block) b.place (lists chain) (lists (chain ++ b ∷ [])) ∷ [] }
 {}
 
 /// Where the last transactions of a good chain, as many as its last block has, are taken back from the lists

@@ -9,14 +9,14 @@ use Rattle.el_tables.specs.ChainLists.{ListedBlock, lists, listed_blocks, listed
 use Rattle.el_tables.specs.Tables.{tables_of}
 use Rattle.el_tables.proofs.UndoneBlocks.{blocks_less}
 use Rattle.el_rows.specs.Changes.{OnTable}
-use Rattle.el_rows.specs.RowBytes.{block_row_bytes, FitsBlockRow}
-use Rattle.el_rows.specs.Tables as held
-use Rattle.el_rows.specs.declared.table.Table.{Table}
-use Rattle.el_rows.specs.declared.table.Table.TheVariants as table
-use Rattle.el_buckets.specs.Rows.{bytes_of, block_fields}
-use Rattle.el_buckets.proofs.Held.{all_but_last, but_last_at}
-use Rattle.el_stands.specs.Standing.{StandFor, heads_in}
-use Rattle.el_stands.proofs.StandingLemmas.{stands}
+use Rattle.el_row_formats.specs.RowBytes.{block_row_bytes, FitsBlockRow}
+use Rattle.el_row_formats.specs.Tables as held
+use Rattle.el_row_formats.specs.declared.table.Table.{Table}
+use Rattle.el_row_formats.specs.declared.table.Table.TheVariants as table
+use Rattle.el_schema.specs.Rows.{bytes_of, block_fields}
+use Rattle.el_schema.proofs.Held.{all_but_last, but_last_at}
+use Rattle.el_schema.specs.Standing.{StandFor, heads_in}
+use Rattle.el_schema.proofs.StandingLemmas.{stands}
 use Rattle.el_undo.specs.within.Undone.{LacksTxs}
 
 pub blocks_long : (height first : ℕ) (chain : Chain) (cs : List Coin) → length (listed_blocks_from height first chain cs) ≡ length chain

@@ -5,8 +5,8 @@ use Rattle.el_tables.specs.Disconnecting.{last, is_entry_of, take_back_entry, ta
 use Rattle.el_tables.specs.Fits.{IsNumbered}
 use Rattle.el_tables.specs.Lists.{Lists}
 use Rattle.el_tables.specs.Tables.{HeadCounts}
-use Rattle.el_rows.specs.Tables as held
-use Rattle.el_buckets.specs.Rows.{Hold}
+use Rattle.el_row_formats.specs.Tables as held
+use Rattle.el_schema.specs.Rows.{Hold}
 
 -- Of so many entries at most, some were taken back: the rows hold lists of which what is left to take back
 -- completes the whole.

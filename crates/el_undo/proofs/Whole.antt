@@ -11,12 +11,12 @@ use Rattle.el_tables.specs.Lists.{ListedTx, ListedOut, Lists, unspent_sum}
 use Rattle.el_tables.specs.Tables.{HeadCounts, format_1}
 use Rattle.el_tables.proofs.TakeBack.{last_is}
 use Rattle.el_tables.proofs.UndoneBlocks.{blocks_more, disconnects, good_before}
-use Rattle.el_rows.specs.Tables as held
-use Rattle.el_rows.specs.declared.table.Table.TheVariants as table
-use Rattle.el_rows.specs.declared.tx_row.TxRow.{TxRow}
-use Rattle.el_rows.specs.RowBytes.{block_row_bytes}
-use Rattle.el_buckets.specs.Rows.{Hold, listed_tx, block_fields}
-use Rattle.el_stands.specs.Standing.{heads_in}
+use Rattle.el_row_formats.specs.Tables as held
+use Rattle.el_row_formats.specs.declared.table.Table.TheVariants as table
+use Rattle.el_row_formats.specs.declared.tx_row.TxRow.{TxRow}
+use Rattle.el_row_formats.specs.RowBytes.{block_row_bytes}
+use Rattle.el_schema.specs.Rows.{Hold, listed_tx, block_fields}
+use Rattle.el_schema.specs.Standing.{heads_in}
 use Rattle.el_undo.specs.within.Undone.{LacksTxs}
 use Rattle.el_undo.proofs.Dropped.{blocks_long}
 

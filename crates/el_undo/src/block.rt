@@ -1,17 +1,18 @@
 // The last block is taken back.
 ghost use Rattle.std.specs.Prelude.{◌≡◌, ◌≢◌, ◌↔◌, ◌⊎◌, ◌<◌, ◌≤◌, ◌+◌, ◌-◌, ◌++◌, ◌∷◌, [], ℕ, List, length, OnOk, IfErr};
 ghost use Rattle.el_rows.specs.Transaction.{tables_in, EditsRows, EditsAlone};
-ghost use Rattle.el_rows.specs.declared.table.Table.{Table};
+ghost use Rattle.el_row_formats.specs.declared.table.Table.{Table};
 ghost use Rattle.el_chain.specs.Chains.{Chain};
 ghost use Rattle.el_chain.specs.declared.placed.Placed as shape;
-ghost use Rattle.el_stands.specs.Standing.{StandFor};
+ghost use Rattle.el_schema.specs.Standing.{StandFor};
 ghost use Rattle.el_undo.specs.within.Undone.{LacksTxs};
 
 use crate::row::last_block_txs;
 use crate::transaction::disconnect_txs;
 use el_chain::ConnectFault;
 use el_model::QueryFault;
-use el_rows::{Rows, Table, Txn};
+use el_row_formats::Table;
+use el_rows::{Rows, Txn};
 
 // A fault of a step back, of which there are two, as that of a question.
 fn query_fault(fault: ConnectFault) -> QueryFault

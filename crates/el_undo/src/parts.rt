@@ -1,19 +1,20 @@
 // The parts of the last transaction are taken back: its outputs, its inputs and its entries.
 ghost use Rattle.std.specs.Prelude.{◌≡◌, ◌≢◌, ◌⊎◌, ◌<◌, ◌≤◌, ◌+◌, ℕ, List, length, OnOk, IfErr};
 ghost use Rattle.el_rows.specs.Transaction.{tables_in, EditsRows};
-ghost use Rattle.el_rows.specs.declared.table.Table.{Table};
+ghost use Rattle.el_row_formats.specs.declared.table.Table.{Table};
 ghost use Rattle.el_tables.specs.ChainLists.{ListedBlock};
 ghost use Rattle.el_tables.specs.Disconnecting as back;
 ghost use Rattle.el_tables.specs.Disconnecting.{times};
 ghost use Rattle.el_tables.specs.Fits.{IsNumbered};
 ghost use Rattle.el_tables.specs.Lists.{Lists};
 ghost use Rattle.el_tables.specs.Tables.{HeadCounts};
-ghost use Rattle.el_buckets.specs.Rows.{Hold};
+ghost use Rattle.el_schema.specs.Rows.{Hold};
 ghost use Rattle.el_undo.specs.within.Undone.{FitAfter};
 
 use crate::row::is_last_entry;
 use el_chain::ConnectFault;
-use el_rows::{Rows, Table, Txn};
+use el_row_formats::Table;
+use el_rows::{Rows, Txn};
 use el_script::take_back_entry;
 use el_spend::{take_back_out, unspend};
 

@@ -1,16 +1,18 @@
 // The last rows of tables.
 ghost use Rattle.std.specs.Prelude.{◌≡◌, ◌<◌, ◌≤◌, ◌+◌, ◌-◌, ℕ, List, length, IfOk, IsTrue, ◌↔◌, Some, None, IfSome, IfNone, IfErr, option_map, true};
 ghost use Rattle.el_rows.specs.Transaction.{tables_in, reads_in, disk_failed, ReadsRows};
-ghost use Rattle.el_rows.specs.declared.table.Table.{Table};
+ghost use Rattle.el_row_formats.specs.declared.table.Table.{Table};
 ghost use Rattle.el_tables.specs.ChainLists.{ListedBlock};
 ghost use Rattle.el_tables.specs.Disconnecting as back;
 ghost use Rattle.el_tables.specs.Lists.{Lists};
 ghost use Rattle.el_tables.specs.Tables.{HeadCounts};
-ghost use Rattle.el_buckets.specs.Rows.{Hold, listed_tx};
+ghost use Rattle.el_schema.specs.Rows.{Hold, listed_tx};
 
 use el_chain::ConnectFault;
 use el_outside::DiskFailed;
-use el_rows::{BlockRow, EntryRow, Rows, Table, TxRow, Txn};
+use el_row_formats::{Table, TxRow};
+use el_rows::{Rows, Txn};
+use el_schema::{block_row, entry_row, tx_row};
 
 /// The row of the last transaction; None exactly where there is none.
 pub(crate) fn last_tx<R: Rows>(t: &mut Txn<'_, R>) -> Result<Option<TxRow>, DiskFailed>
@@ -25,9 +27,8 @@ pub(crate) fn last_tx<R: Rows>(t: &mut Txn<'_, R>) -> Result<Option<TxRow>, Disk
     if count == 0 {
         return Ok(None);
     }
-    let mut bytes = [0; 68];
-    t.get(Table::Txs, count - 1, &mut bytes)?;
-    Ok(Some(TxRow::read(&bytes)))
+    let row = tx_row(t, count - 1)?;
+    Ok(Some(row))
 }
 
 /// Whether there are entries, and the last is of that transaction.
@@ -44,11 +45,8 @@ pub(crate) fn is_last_entry<R: Rows>(t: &mut Txn<'_, R>, tx: u64) -> Result<bool
     if count == 0 {
         return Ok(false);
     }
-    let mut bytes = [0; 12];
-    match t.get(Table::Entries, count - 1, &mut bytes) {
-        Ok(()) => Ok(EntryRow::read(&bytes).tx == tx),
-        Err(_) => Err(ConnectFault::DiskFailed),
-    }
+    let row = entry_row(t, count - 1).map_err(|_| ConnectFault::DiskFailed)?;
+    Ok(row.tx == tx)
 }
 
 /// How many transactions the last block has, which is there.
@@ -61,7 +59,6 @@ pub(crate) fn last_block_txs<R: Rows>(t: &mut Txn<'_, R>, last: u64) -> Result<u
     ensures read { ReadsRows disk_failed t.old t.new result }
     ensures rows { reads_in t.new ≤ reads_in t.old + 1 }
 {
-    let mut bytes = [0; 112];
-    t.get(Table::Blocks, last, &mut bytes)?;
-    Ok(BlockRow::read(&bytes).txs)
+    let row = block_row(t, last)?;
+    Ok(row.txs)
 }

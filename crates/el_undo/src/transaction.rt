@@ -1,19 +1,20 @@
 // The last transactions are taken back.
 ghost use Rattle.std.specs.Prelude.{◌≡◌, ◌≢◌, ◌⊎◌, ◌<◌, ◌≤◌, ◌+◌, ℕ, List, length, OnOk, IfErr};
 ghost use Rattle.el_rows.specs.Transaction.{tables_in, EditsRows};
-ghost use Rattle.el_rows.specs.declared.table.Table.{Table};
+ghost use Rattle.el_row_formats.specs.declared.table.Table.{Table};
 ghost use Rattle.el_tables.specs.ChainLists.{ListedBlock};
 ghost use Rattle.el_tables.specs.Disconnecting as back;
 ghost use Rattle.el_tables.specs.Lists.{Lists};
 ghost use Rattle.el_tables.specs.Tables.{HeadCounts};
-ghost use Rattle.el_buckets.specs.Rows.{Hold};
+ghost use Rattle.el_schema.specs.Rows.{Hold};
 ghost use Rattle.el_undo.specs.within.Undone.{CanUndo, CanUndoAll};
 
 use crate::parts::{undo_entries, undo_inputs, undo_outputs};
 use crate::row::last_tx;
 use el_chain::ConnectFault;
 use el_position::take_back_tx;
-use el_rows::{Rows, Table, TxRow, Txn};
+use el_row_formats::{Table, TxRow};
+use el_rows::{Rows, Txn};
 
 // Takes the last transaction back, which has this row and is there: its outputs, its inputs, its entries, and
 // then itself.

@@ -12,9 +12,9 @@ use Rattle.el_tables.specs.Edits.{no_out}
 use Rattle.el_tables.specs.Fits.{Fits}
 use Rattle.el_tables.specs.Lists.{Lists, coin_number, spend_output, unspent_sum, txid_at}
 use Rattle.el_tables.specs.Tables.{HeadCounts}
-use Rattle.el_rows.specs.Tables as held
-use Rattle.el_buckets.specs.Rows.{Hold}
-use Rattle.el_connect.specs.within.Parts.{Reached, as_listed, touch_coins, made_by}
+use Rattle.el_row_formats.specs.Tables as held
+use Rattle.el_schema.specs.Rows.{Hold}
+use Rattle.el_connect.specs.within.Parts.{Reached, touch_coins, made_by}
 
 -- an outpoint's coin was spent, which held that value, or there was none
 abbrev pub TakenBy : HeadCounts → List ListedBlock → Lists → held.Tables → Outpoint → ℕ → Option ℕ → Type 0
@@ -61,7 +61,7 @@ pub record IsNext (l next : Lists) (number : ℕ) (txid : Hash32) : Type 0 where
 -- are needed for it.
 pub record FineCoins (height : ℕ) (p : PreparedTx) (l : Lists) : Type 0 where
   pub lists : Lists
-  pub led : connect_tx height (as_listed p) l ≡ Ok lists
+  pub led : connect_tx height p l ≡ Ok lists
   pub money : money_fault (unspent_sum lists.outs) ≡ None
   pub txs : length lists.txs ≡ length l.txs + 1
   pub outs : length lists.outs ≡ length l.outs + length p.outputs
@@ -85,5 +85,5 @@ pub record ReadyCoins (counts : HeadCounts) (bs : List ListedBlock) (rows : held
   pub ins : now.ins ≡ l.ins ++ coins
   pub many : length coins ≡ length p.inputs
   pub low : left ≤ max_money
-  pub money : unspent_sum (made_by (listed_after height (as_listed p) l) p.outputs real).outs ≤ max_money
-  pub few : length (made_by (listed_after height (as_listed p) l) p.outputs real).scripts ≤ ROW_LIMIT
+  pub money : unspent_sum (made_by (listed_after height p l) p.outputs real).outs ≤ max_money
+  pub few : length (made_by (listed_after height p l) p.outputs real).scripts ≤ ROW_LIMIT

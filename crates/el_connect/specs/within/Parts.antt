@@ -9,14 +9,13 @@ use Rattle.el_chain.specs.declared.fault.ConnectFault.TheVariants as refusal
 use Rattle.el_chain.specs.declared.limits.TheConstants.{ROW_LIMIT}
 use Rattle.el_prepare.specs.declared.prepared.PreparedTx.{PreparedTx}
 use Rattle.el_tables.specs.ChainLists.{ListedBlock}
-use Rattle.el_tables.specs.Connecting as listed
 use Rattle.el_tables.specs.Connecting.{◌>>=◌, connect_tx, missing_at, ok_unless, bounds_by, script_of_output, fund_all}
 use Rattle.el_tables.specs.Edits.{no_out}
 use Rattle.el_tables.specs.Fits.{Fits}
 use Rattle.el_tables.specs.Lists.{Lists, ListedOut, ListedTx, add_entry, add_tx, coin_number, unspent_sum, txid_at, newest_tx}
 use Rattle.el_tables.specs.Tables.{HeadCounts}
-use Rattle.el_rows.specs.Tables as held
-use Rattle.el_buckets.specs.Rows.{Hold}
+use Rattle.el_row_formats.specs.Tables as held
+use Rattle.el_schema.specs.Rows.{Hold}
 use Rattle.el_connect.specs.declared.outputs.Maker.{Maker}
 
 -- 1. Between the steps
@@ -58,16 +57,6 @@ pub record IsBetween (l : Lists) : Type 0 where
 
 -- 2. What is prepared of a transaction
 
--- it is that of the lists
-abbrev pub as_listed : PreparedTx → listed.PreparedTx
-as_listed p = record {
-  txid = p.txid;
-  start = p.start;
-  len = p.len;
-  inputs = p.inputs;
-  outputs = p.outputs;
-}
-
 -- the values of outputs together, in satoshi
 abbrev pub values : List (ℕ × Hash32) → ℕ
 values [] = 0
@@ -95,7 +84,7 @@ pub record IsCounted (height : ℕ) (p : PreparedTx) (l : Lists) : Type 0 where
 -- its first fault
 abbrev pub connect_next : ℕ → ℕ → PreparedTx → Lists → Result Lists ConnectFault
 connect_next height index p l =
-    missing_at index (connect_tx height (as_listed p) l) >>= (λ m. ok_unless (bounds_by height m) m)
+    missing_at index (connect_tx height p l) >>= (λ m. ok_unless (bounds_by height m) m)
 
 -- those of transactions, of which the first has that index
 abbrev pub connect_all : ℕ → ℕ → List PreparedTx → Lists → Result Lists ConnectFault

@@ -14,9 +14,9 @@ use Rattle.el_chain.specs.Faults.{IsNext}
 use Rattle.el_chain.specs.Headers.{same_hash}
 use Rattle.el_chain.specs.Moves.{AreNextBlocks, shorter, target}
 use Rattle.el_chain.specs.Touches.{Touch}
-use Rattle.el_rows.specs.Tables.{Tables}
-use Rattle.el_stands.specs.Standing.{StandFor}
-use Rattle.el_touching.specs.TouchedBy.{touched_in}
+use Rattle.el_row_formats.specs.Tables.{Tables}
+use Rattle.el_schema.specs.Standing.{StandFor}
+use Rattle.el_queries.specs.TouchedBy.{touched_in}
 
 -- one of the blocks touches the script hash, each where those before it stand after the chain
 abbrev pub touched_among : Hash32 → Chain → Chain → Bool

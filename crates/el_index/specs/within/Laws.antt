@@ -8,12 +8,12 @@ use Rattle.el_chain.specs.Chains.{Chain}
 use Rattle.el_chain.specs.Coins.{coins_after_all}
 use Rattle.el_chain.specs.Faults.{IsGood}
 use Rattle.el_model.specs.Queries.{height_of, tip_of}
-use Rattle.el_rows.specs.Tables.{Tables}
-use Rattle.el_rows.specs.RowBytes.{block_row_bytes}
-use Rattle.el_rows.specs.declared.table.Table.TheVariants as table
+use Rattle.el_row_formats.specs.Tables.{Tables}
+use Rattle.el_row_formats.specs.RowBytes.{block_row_bytes}
+use Rattle.el_row_formats.specs.declared.table.Table.TheVariants as table
 use Rattle.el_tables.specs.ChainLists.{listed_blocks_from}
-use Rattle.el_buckets.specs.Rows.{block_fields}
-use Rattle.el_stands.specs.Standing.{StandFor}
+use Rattle.el_schema.specs.Rows.{block_fields}
+use Rattle.el_schema.specs.Standing.{StandFor}
 use Rattle.el_index.specs.Means.{top, IsIndexOf, Means}
 
 -- each block of a chain is listed

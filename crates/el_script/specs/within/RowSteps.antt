@@ -5,12 +5,12 @@ use Rattle.el_chain.specs.declared.fault.ConnectFault.{ConnectFault}
 use Rattle.el_chain.specs.declared.fault.ConnectFault.TheVariants as connect
 use Rattle.el_tables.specs.Tables.{bucket_in}
 use Rattle.el_buckets.specs.Faults.{NotAdded}
-use Rattle.el_rows.specs.Tables.{Tables, limit_of}
-use Rattle.el_rows.specs.RowBytes.{script_row_bytes, entry_row_bytes, link_bytes, FitsScriptRow, FitsEntryRow}
-use Rattle.el_rows.specs.declared.script_row.ScriptRow.{ScriptRow}
-use Rattle.el_rows.specs.declared.entry_row.EntryRow.{EntryRow}
-use Rattle.el_rows.specs.declared.table.Table.{Table}
-use Rattle.el_rows.specs.declared.table.Table.TheVariants as table
+use Rattle.el_row_formats.specs.Tables.{Tables, limit_of}
+use Rattle.el_row_formats.specs.RowBytes.{script_row_bytes, entry_row_bytes, link_bytes, FitsScriptRow, FitsEntryRow}
+use Rattle.el_row_formats.specs.declared.script_row.ScriptRow.{ScriptRow}
+use Rattle.el_row_formats.specs.declared.entry_row.EntryRow.{EntryRow}
+use Rattle.el_row_formats.specs.declared.table.Table.{Table}
+use Rattle.el_row_formats.specs.declared.table.Table.TheVariants as table
 
 -- 1. Rows
 

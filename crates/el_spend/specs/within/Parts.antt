@@ -5,9 +5,9 @@ use Rattle.el_tables.specs.Lists.{State, ListedOut, Lists, is_unspent, output_nu
 use Rattle.el_tables.specs.Tables.{Tables}
 use Rattle.el_tables.specs.Edits.{set_state, more_at, less_at}
 use Rattle.el_tables.specs.Disconnecting.{but_last, unbury, give_back}
-use Rattle.el_rows.specs.declared.out_row.OutRow.{OutRow}
-use Rattle.el_rows.specs.declared.script_row.ScriptRow.{ScriptRow}
-use Rattle.el_buckets.specs.Rows.{out_fields}
+use Rattle.el_row_formats.specs.declared.out_row.OutRow.{OutRow}
+use Rattle.el_row_formats.specs.declared.script_row.ScriptRow.{ScriptRow}
+use Rattle.el_schema.specs.Rows.{out_fields}
 
 -- the row is that of the output of that number
 abbrev pub IsOutRow : Tables → ℕ → OutRow → Type 0

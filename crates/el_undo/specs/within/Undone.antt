@@ -7,9 +7,9 @@ use Rattle.el_tables.specs.ChainLists.{lists, listed_blocks}
 use Rattle.el_tables.specs.Disconnecting.{last, times, take_back_output, unspend, disconnect_tx}
 use Rattle.el_tables.specs.Fits.{IsNumbered}
 use Rattle.el_tables.specs.Lists.{ListedTx, Lists}
-use Rattle.el_rows.specs.Tables as held
-use Rattle.el_buckets.specs.Rows.{Hold}
-use Rattle.el_stands.specs.Standing.{heads_in}
+use Rattle.el_row_formats.specs.Tables as held
+use Rattle.el_schema.specs.Rows.{Hold}
+use Rattle.el_schema.specs.Standing.{heads_in}
 use Rattle.el_spend.specs.Outputs.{BalancesFit}
 
 -- the balances fit 64 bits after each of so many steps

@@ -7,16 +7,16 @@ use Rattle.el_block.specs.Blocks.{EncodesBlock}
 use Rattle.el_chain.specs.declared.placed.Placed.{Placed}
 use Rattle.el_chain.specs.declared.limits.TheConstants.{ROW_LIMIT}
 use Rattle.el_chain.proofs.CoinSteps.{err_passed}
-use Rattle.el_rows.specs.Tables as held
+use Rattle.el_row_formats.specs.Tables as held
 use Rattle.el_rows.specs.Transaction.{tables_in}
-use Rattle.el_rows.specs.declared.table.Table.TheVariants as table
+use Rattle.el_row_formats.specs.declared.table.Table.TheVariants as table
 use Rattle.el_tables.specs.ChainLists.{lists, listed_blocks}
 use Rattle.el_tables.specs.Tables.{format_1}
-use Rattle.el_buckets.proofs.Held.{count_txs}
+use Rattle.el_schema.proofs.Held.{count_txs}
 use Rattle.el_prepare.specs.declared.prepared.Prepared.{Prepared}
 use Rattle.el_prepare.specs.declared.prepared.PreparedTx.{PreparedTx}
-use Rattle.el_stands.specs.Standing.{HoldChain, heads_in}
-use Rattle.el_stands.proofs.StandingLemmas.{holds}
+use Rattle.el_schema.specs.Standing.{HoldChain, heads_in}
+use Rattle.el_schema.proofs.StandingLemmas.{holds}
 use Rattle.el_connect.specs.within.Parts.{IsSmall}
 use Rattle.el_connect.proofs.ChainLemmas.{block_small, few_txs, sum_before, sum_of_good, between_of_good, height_is, begun, block_put, block_refused, block_faultless, room_for_block}
 use Rattle.el_connect.proofs.StepLemmas.{not_added}

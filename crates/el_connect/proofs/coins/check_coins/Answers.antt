@@ -4,7 +4,7 @@ use Rattle.el_tx.specs.Encoding.{max_money}
 use Rattle.el_chain.proofs.CoinSteps.{err_passed}
 use Rattle.el_chain.specs.declared.limits.TheConstants.{ROW_LIMIT}
 use Rattle.el_rows.specs.Transaction.{tables_in}
-use Rattle.el_buckets.proofs.Held.{count_txs}
+use Rattle.el_schema.proofs.Held.{count_txs}
 use Rattle.el_connect.proofs.FullLemmas.{no_ins, coins_fine, coins_wrong}
 use Rattle.el_connect.proofs.TxLemmas.{missing_refused, tx_refused}
 use Rattle.el_connect.proofs.coins.check_coins.Goals as goal

@@ -3,8 +3,8 @@ use Rattle.std.proofs.lemmas.Result.{err_from_is_err_and}
 use Rattle.el_chain.proofs.CoinSteps.{err_passed}
 use Rattle.el_rows.specs.Transaction.{tables_in}
 use Rattle.el_tables.specs.Lists.{State, Lists, coin_number, spend_output}
-use Rattle.el_buckets.specs.Rows.{Hold}
-use Rattle.el_rows.specs.Tables as held
+use Rattle.el_schema.specs.Rows.{Hold}
+use Rattle.el_row_formats.specs.Tables as held
 use Rattle.el_connect.proofs.StepLemmas.{spent_lists, value_stays}
 use Rattle.el_connect.proofs.FullLemmas.{ins_refused}
 use Rattle.el_connect.proofs.coins.take_coin.Goals as goal

@@ -1,12 +1,12 @@
 use Rattle.std.proofs.Common.{◌≡◌, ◌≤◌, ◌<◌, List, drop}
 use Rattle.el_rows.specs.Transaction.{tables_in}
 use Rattle.el_rows.proofs.TransactionLemmas.{EditedSoFar}
-use Rattle.el_rows.specs.declared.table.Table.TheVariants as table
+use Rattle.el_row_formats.specs.declared.table.Table.TheVariants as table
 use Rattle.el_tables.specs.ChainLists.{ListedBlock}
 use Rattle.el_tables.specs.Connecting.{spend_all}
 use Rattle.el_tables.specs.Lists.{Lists, unspent_sum}
 use Rattle.el_tables.specs.Tables.{HeadCounts}
-use Rattle.el_buckets.specs.Rows.{Hold}
+use Rattle.el_schema.specs.Rows.{Hold}
 use Rattle.el_connect.specs.within.Full.{TakingOn}
 use Rattle.el_connect.proofs.coins.take_coins.Given as goal
 

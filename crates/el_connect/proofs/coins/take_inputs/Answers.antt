@@ -3,10 +3,10 @@ use Rattle.std.proofs.lemmas.Result.{err_from_is_err_and}
 use Rattle.el_tx.specs.Encoding.{max_money}
 use Rattle.el_chain.proofs.CoinSteps.{err_passed}
 use Rattle.el_chain.specs.declared.limits.TheConstants.{ROW_LIMIT}
-use Rattle.el_rows.specs.Tables as held
+use Rattle.el_row_formats.specs.Tables as held
 use Rattle.el_rows.specs.Transaction.{tables_in}
-use Rattle.el_buckets.proofs.Held.{count_txs}
-use Rattle.el_buckets.specs.Rows.{Hold}
+use Rattle.el_schema.proofs.Held.{count_txs}
+use Rattle.el_schema.specs.Rows.{Hold}
 use Rattle.el_connect.specs.within.Full.{ReadyCoins}
 use Rattle.el_connect.proofs.FullLemmas.{coins_wrong, coins_ready, scripts_wrong}
 use Rattle.el_connect.proofs.TxLemmas.{missing_refused, tx_refused}

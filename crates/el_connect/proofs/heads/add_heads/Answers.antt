@@ -1,5 +1,5 @@
 use Rattle.std.proofs.Common.{◌≡◌, ℕ, replicate, None, ap, ◌∙◌, arith}
-use Rattle.el_rows.specs.RowBytes.{link_bytes}
+use Rattle.el_row_formats.specs.RowBytes.{link_bytes}
 use Rattle.el_connect.proofs.heads.add_heads.Goals as goal
 
 pub returns-clause-none : goal.returns-clause-none

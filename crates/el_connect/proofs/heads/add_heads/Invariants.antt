@@ -1,7 +1,7 @@
 use Rattle.std.proofs.Common.{◌≡◌, ◌≢◌, replicate, None}
-use Rattle.el_rows.specs.RowBytes.{link_bytes}
+use Rattle.el_row_formats.specs.RowBytes.{link_bytes}
 use Rattle.el_rows.specs.Transaction.{tables_in}
-use Rattle.el_rows.specs.declared.table.Table.{Table}
+use Rattle.el_row_formats.specs.declared.table.Table.{Table}
 use Rattle.el_connect.proofs.heads.add_heads.Given as goal
 
 -- so many rows are there

@@ -1,7 +1,7 @@
 use Rattle.std.proofs.Common.{◌≡◌, ℕ, IfOk, sym, subst}
-use Rattle.el_rows.specs.Tables as held
+use Rattle.el_row_formats.specs.Tables as held
 use Rattle.el_tables.specs.Lists.{script_at}
-use Rattle.el_buckets.specs.Rows.{Hold}
+use Rattle.el_schema.specs.Rows.{Hold}
 use Rattle.el_connect.proofs.inputs.coin_script.Goals as goal
 
 pub returns-clause-script : goal.returns-clause-script

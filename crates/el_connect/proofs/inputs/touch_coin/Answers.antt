@@ -4,12 +4,12 @@ use Rattle.el_base.specs.declared.hash.Hash32.{Hash32}
 use Rattle.el_chain.proofs.CoinSteps.{err_passed}
 use Rattle.el_chain.specs.Chains.{zero_hash}
 use Rattle.el_chain.specs.declared.fault.ConnectFault.{ConnectFault}
-use Rattle.el_rows.specs.Tables as held
+use Rattle.el_row_formats.specs.Tables as held
 use Rattle.el_rows.specs.Transaction.{tables_in}
-use Rattle.el_rows.specs.declared.table.Table.TheVariants as table
+use Rattle.el_row_formats.specs.declared.table.Table.TheVariants as table
 use Rattle.el_tables.specs.Connecting.{script_of_output}
 use Rattle.el_tables.specs.Lists.{add_entry}
-use Rattle.el_buckets.specs.Rows.{Hold}
+use Rattle.el_schema.specs.Rows.{Hold}
 use Rattle.el_script.specs.Touches.{touch_full}
 use Rattle.el_connect.specs.within.Parts.{HasRoom, Reached}
 use Rattle.el_connect.proofs.TouchLemmas.{coin_refused, entered, hash_named, hash_past, number_refused, room_touched}

@@ -1,7 +1,7 @@
 use Rattle.std.proofs.Common.{◌≡◌, ◌+◌, ◌-◌, ℕ, ◌∙◌, ap, arith, get_or, min, refl}
 use Rattle.el_rows.proofs.TransactionLemmas.{more}
-use Rattle.el_buckets.specs.Rows.{Hold}
-use Rattle.el_rows.specs.Tables as held
+use Rattle.el_schema.specs.Rows.{Hold}
+use Rattle.el_row_formats.specs.Tables as held
 use Rattle.el_connect.proofs.LoopLemmas.{any_default, no_output}
 use Rattle.el_connect.proofs.MoneyLemmas.{counting_more, counting_done}
 use Rattle.el_connect.proofs.money.sum_after.Goals as goal

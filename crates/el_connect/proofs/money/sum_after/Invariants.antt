@@ -4,7 +4,7 @@ use Rattle.el_rows.proofs.TransactionLemmas.{SoFar}
 use Rattle.el_tables.specs.ChainLists.{ListedBlock}
 use Rattle.el_tables.specs.Lists.{Lists, unspent_sum}
 use Rattle.el_tables.specs.Tables.{HeadCounts}
-use Rattle.el_buckets.specs.Rows.{Hold}
+use Rattle.el_schema.specs.Rows.{Hold}
 use Rattle.el_connect.specs.within.Parts.{OutsInTurn, values}
 use Rattle.el_connect.specs.within.Full.{IsNext}
 use Rattle.el_connect.proofs.MoneyLemmas.{Counting}

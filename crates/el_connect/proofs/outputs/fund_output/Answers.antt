@@ -2,11 +2,11 @@ use Rattle.std.proofs.Common.{◌<◌, ◌+◌, ◌^◌, ℕ, length, min, Err, 
 use Rattle.std.proofs.lemmas.Result.{err_from_is_err_and}
 use Rattle.el_chain.proofs.CoinSteps.{err_passed}
 use Rattle.el_chain.specs.declared.fault.ConnectFault.{ConnectFault}
-use Rattle.el_rows.specs.Tables as held
-use Rattle.el_rows.specs.declared.table.Table.TheVariants as table
+use Rattle.el_row_formats.specs.Tables as held
+use Rattle.el_row_formats.specs.declared.table.Table.TheVariants as table
 use Rattle.el_rows.specs.Transaction.{tables_in}
 use Rattle.el_tables.specs.Lists.{add_entry, add_output, unspent_sum}
-use Rattle.el_buckets.specs.Rows.{Hold}
+use Rattle.el_schema.specs.Rows.{Hold}
 use Rattle.el_connect.proofs.LoopLemmas.{same_maker}
 use Rattle.el_connect.proofs.TouchLemmas.{touch_refused, room_funded}
 use Rattle.el_connect.proofs.StepLemmas.{entered_number, balances_fit, funded_at_most, output_reached}

@@ -1,7 +1,7 @@
 use Rattle.std.proofs.Common.{◌≡◌, ◌≤◌, ◌<◌, ◌+◌, ◌-◌, ◌^◌, List, length, drop}
 use Rattle.el_rows.specs.Transaction.{tables_in}
 use Rattle.el_rows.proofs.TransactionLemmas.{EditedSoFar}
-use Rattle.el_rows.specs.declared.table.Table.TheVariants as table
+use Rattle.el_row_formats.specs.declared.table.Table.TheVariants as table
 use Rattle.el_tables.specs.ChainLists.{ListedBlock}
 use Rattle.el_tables.specs.Connecting.{fund_all}
 use Rattle.el_tables.specs.Lists.{Lists, unspent_sum}

@@ -4,7 +4,7 @@ use Rattle.el_chain.proofs.CoinSteps.{err_passed}
 use Rattle.el_chain.specs.RowCounts.{add_scripts}
 use Rattle.el_chain.specs.declared.limits.TheConstants.{ROW_LIMIT}
 use Rattle.el_rows.specs.Transaction.{tables_in}
-use Rattle.el_buckets.proofs.Held.{count_scripts}
+use Rattle.el_schema.proofs.Held.{count_scripts}
 use Rattle.el_connect.specs.within.Parts.{scripts_of}
 use Rattle.el_connect.proofs.ScriptLemmas.{scripts_few}
 use Rattle.el_connect.proofs.scripts.check_scripts.Goals as goal

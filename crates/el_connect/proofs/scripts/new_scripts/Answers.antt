@@ -1,7 +1,7 @@
 use Rattle.std.proofs.Common.{◌∙◌, arith, get_or, sym, subst}
 use Rattle.el_rows.proofs.TransactionLemmas.{more}
-use Rattle.el_rows.specs.Tables as held
-use Rattle.el_buckets.specs.Rows.{Hold}
+use Rattle.el_row_formats.specs.Tables as held
+use Rattle.el_schema.specs.Rows.{Hold}
 use Rattle.el_connect.proofs.LoopLemmas.{any_default, no_output}
 use Rattle.el_connect.proofs.ScriptLemmas.{counted_more, counted_all}
 use Rattle.el_connect.proofs.scripts.new_scripts.Goals as goal

@@ -6,7 +6,7 @@ use Rattle.el_tables.specs.ChainLists.{ListedBlock}
 use Rattle.el_tables.specs.Fits.{Fits}
 use Rattle.el_tables.specs.Lists.{Lists}
 use Rattle.el_tables.specs.Tables.{HeadCounts}
-use Rattle.el_buckets.specs.Rows.{Hold}
+use Rattle.el_schema.specs.Rows.{Hold}
 use Rattle.el_connect.specs.within.Parts.{scripts_of}
 use Rattle.el_connect.proofs.scripts.new_scripts.Given as goal
 

@@ -5,7 +5,7 @@ use Rattle.el_chain.specs.declared.fault.ConnectFault.TheVariants as refusal
 use Rattle.el_chain.specs.declared.limits.TheConstants.{ROW_LIMIT}
 use Rattle.el_rows.specs.Transaction.{tables_in}
 use Rattle.el_tables.specs.Lists.{Lists, add_tx}
-use Rattle.el_buckets.specs.Rows.{listed_tx}
+use Rattle.el_schema.specs.Rows.{listed_tx}
 use Rattle.el_connect.specs.within.Parts.{HasRoom, Overflows, Reached}
 use Rattle.el_connect.proofs.LoopLemmas.{fails}
 use Rattle.el_connect.proofs.StepLemmas.{tx_added_refused}

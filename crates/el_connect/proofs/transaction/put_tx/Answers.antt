@@ -2,8 +2,7 @@ use Rattle.std.proofs.Common.{length, sym, ◌∙◌}
 use Rattle.std.proofs.lemmas.Result.{err_from_is_err_and}
 use Rattle.el_chain.proofs.CoinSteps.{err_passed}
 use Rattle.el_rows.specs.Transaction.{tables_in}
-use Rattle.el_buckets.proofs.Held.{count_txs}
-use Rattle.el_connect.proofs.RowLemmas.{outs_long, ins_long}
+use Rattle.el_schema.proofs.Held.{count_txs, count_outs, count_ins}
 use Rattle.el_connect.proofs.TxLemmas.{room_ready, coins_at, few_touched, inputs_refused, fit_ready, room_touching, few_txs, few_scripts, tx_led, outputs_refused, ok_joined, err_mapped}
 use Rattle.el_connect.proofs.transaction.put_tx.Goals as goal
 
@@ -21,7 +20,7 @@ returns-in_err-touch_inputs-clause-refused g c counts bs l told reached most bet
     let by = c.count-by.ensures.count ∙ count_txs counts bs l shown reached.hold in
     let ready = c.in_ok-left.ensures.ready counts bs l c.args.height told reached most between counted in
     let room = room_ready counts bs l c.args.height c.args.index p rows c.in_ok-left.left counted between ready in
-    let coins = coins_at counts bs l c.args.height c.args.index p rows c.in_ok-left.left counted between ready c.count-first_in.result (c.count-first_in.ensures.count ∙ ins_long counts bs l shown reached.hold) in
+    let coins = coins_at counts bs l c.args.height c.args.index p rows c.in_ok-left.left counted between ready c.count-first_in.result (c.count-first_in.ensures.count ∙ count_ins counts bs l shown reached.hold) in
     let few = few_touched counts bs l c.args.height c.args.index p rows c.in_ok-left.left counted between ready c.count-by.result by in
     err_passed c.from_residual-in_err-touch_inputs.result _ e (err_from_is_err_and c.from_residual-in_err-touch_inputs.result c.from_residual-in_err-touch_inputs.ensures.1)
     (inputs_refused counts bs l c.args.height c.args.index p rows c.in_ok-left.left counted between ready c.count-by.result e by
@@ -34,8 +33,8 @@ returns-clause-connected g c counts bs l told reached most between counted =
     let rows = tables_in {G = g.R.Rows} c.take_inputs.new.t in
     let left = c.in_ok-left.left in
     let by = c.count-by.ensures.count ∙ count_txs counts bs l shown reached.hold in
-    let first = c.count-first_in.ensures.count ∙ ins_long counts bs l shown reached.hold in
-    let row = c.row_of-row.ensures.listed l (c.count.ensures.count ∙ outs_long counts bs l shown reached.hold) first in
+    let first = c.count-first_in.ensures.count ∙ count_ins counts bs l shown reached.hold in
+    let row = c.row_of-row.ensures.listed l (c.count.ensures.count ∙ count_outs counts bs l shown reached.hold) first in
     let ready = c.in_ok-left.ensures.ready counts bs l c.args.height told reached most between counted in
     let room = room_ready counts bs l c.args.height c.args.index p rows left counted between ready in
     let coins = coins_at counts bs l c.args.height c.args.index p rows left counted between ready c.count-first_in.result first in
@@ -53,8 +52,8 @@ returns-clause-refused g c counts bs l told reached most between counted =
     let rows = tables_in {G = g.R.Rows} c.take_inputs.new.t in
     let left = c.in_ok-left.left in
     let by = c.count-by.ensures.count ∙ count_txs counts bs l shown reached.hold in
-    let first = c.count-first_in.ensures.count ∙ ins_long counts bs l shown reached.hold in
-    let row = c.row_of-row.ensures.listed l (c.count.ensures.count ∙ outs_long counts bs l shown reached.hold) first in
+    let first = c.count-first_in.ensures.count ∙ count_ins counts bs l shown reached.hold in
+    let row = c.row_of-row.ensures.listed l (c.count.ensures.count ∙ count_outs counts bs l shown reached.hold) first in
     let ready = c.in_ok-left.ensures.ready counts bs l c.args.height told reached most between counted in
     let room = room_ready counts bs l c.args.height c.args.index p rows left counted between ready in
     let coins = coins_at counts bs l c.args.height c.args.index p rows left counted between ready c.count-first_in.result first in

@@ -1,10 +1,10 @@
 use Rattle.std.proofs.Common.{◌≡◌, ◌≤◌, ◌+◌, length}
 use Rattle.el_chain.specs.Chains.{Chain, tip}
 use Rattle.el_chain.specs.Headers.{AreLinked}
-use Rattle.el_rows.specs.declared.table.Table.TheVariants as table
+use Rattle.el_row_formats.specs.declared.table.Table.TheVariants as table
 use Rattle.el_rows.specs.Transaction.{tables_in}
 use Rattle.el_rows.proofs.TransactionLemmas.{EditedSoFar}
-use Rattle.el_stands.specs.Standing.{StandFor}
+use Rattle.el_schema.specs.Standing.{StandFor}
 use Rattle.el_index.proofs.Addings.{Left, IsAdding}
 use Rattle.el_index.proofs.blocks_in.add_all.Given as goal
 

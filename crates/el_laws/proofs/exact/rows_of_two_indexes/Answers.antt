@@ -1,4 +1,4 @@
-use Rattle.el_stands.proofs.StandingLemmas.{equal_rows}
+use Rattle.el_schema.proofs.StandingLemmas.{equal_rows}
 use Rattle.el_laws.proofs.exact.rows_of_two_indexes.Goals as goal
 
 pub returns : goal.returns

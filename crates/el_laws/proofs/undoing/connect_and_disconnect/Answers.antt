@@ -1,5 +1,5 @@
 use Rattle.el_rows.specs.Transaction.{tables_in}
-use Rattle.el_stands.proofs.StandingLemmas.{equal_rows}
+use Rattle.el_schema.proofs.StandingLemmas.{equal_rows}
 use Rattle.el_laws.proofs.undoing.connect_and_disconnect.Goals as goal
 
 pub returns-in-Ok-clause-same : goal.returns-in-Ok-clause-same

@@ -1,7 +1,7 @@
 use Rattle.std.proofs.Common.{◌++◌, ◌∷◌, []}
 use Rattle.el_chain.specs.declared.placed.Placed.{Placed}
 use Rattle.el_rows.specs.Transaction.{tables_in}
-use Rattle.el_stands.proofs.StandingLemmas.{equal_rows}
+use Rattle.el_schema.proofs.StandingLemmas.{equal_rows}
 use Rattle.el_laws.proofs.Results.{on_ok}
 use Rattle.el_laws.proofs.undoing.disconnect_and_connect.Goals as goal
 

@@ -1,13 +1,15 @@
 use Rattle.std.proofs.Common.{◌≡◌, ◌<◌, ◌≤◌, ◌+◌, ◌-◌, ◌∙◌, ℕ, [], sym, ap, subst, length, take, get_or, set, arith}
 use Rattle.el_rows.specs.Changes.{OnTable}
-use Rattle.el_rows.specs.RowBytes.{script_row_bytes, FitsScriptRow}
-use Rattle.el_rows.specs.Tables.{Tables}
+use Rattle.el_row_formats.specs.RowBytes.{script_row_bytes, entry_row_bytes, FitsScriptRow, FitsEntryRow}
+use Rattle.el_row_formats.specs.Tables.{Tables}
 use Rattle.el_rows.specs.Transaction.{tables_in}
-use Rattle.el_rows.specs.declared.table.Table.TheVariants as table
-use Rattle.el_rows.specs.declared.script_row.ScriptRow.{ScriptRow}
+use Rattle.el_row_formats.specs.declared.table.Table.TheVariants as table
+use Rattle.el_row_formats.specs.declared.entry_row.EntryRow.{EntryRow}
+use Rattle.el_row_formats.specs.declared.script_row.ScriptRow.{ScriptRow}
 use Rattle.el_buckets.specs.Buckets.{Popped, below}
-use Rattle.el_buckets.specs.Rows.{Hold}
+use Rattle.el_schema.specs.Rows.{Hold}
 use Rattle.el_buckets.specs.declared.bucket.Buckets.TheVariants as buckets
+use Rattle.el_schema.proofs.Answered.{of_value}
 use Rattle.el_script.specs.within.RowSteps.{left_row, ThreeStay}
 use Rattle.el_script.proofs.ScriptSteps.{entry_shrinks, script_shrinks, none_shrinks, many_entries}
 use Rattle.el_script.proofs.take_back.take_back_entry.Goals as goal
@@ -26,7 +28,8 @@ returns-clause-lists g c counts bs l told hold numbered =
     let same = c.entry_row.ensures.read.tables in
     let n = c.count-count.result - 1 in
     let e = c.in_ok-entry.entry in
-    let only = c.in_ok-entry.ensures.only told in
+    let only = of_value (λ (x : EntryRow). (s : EntryRow) → FitsEntryRow s → entry_row_bytes s ≡ get_or (shown table.Entries) n [] → s ≡ x) _ c.entry_row.result c.map_err.result c.in_ok-entry.entry
+    c.map_err.ensures.cases c.in_ok-entry.ensures.variant c.in_ok-entry.was (c.entry_row.ensures.only told) in
     let count = c.count-count.ensures.count in
     let long : length (shown table.Entries) ≡ n + 1 = omega (arith, count, c.if-count-eq0.false) in
     elim c.match-if_below.branch [

@@ -1,13 +1,21 @@
-use Rattle.std.proofs.Common.{◌∙◌, ℕ, Option, sym, ap, nat_eq}
+use Rattle.std.proofs.Common.{◌≡◌, ◌∙◌, ℕ, [], get_or, Option, sym, ap, nat_eq}
+use Rattle.el_row_formats.specs.RowBytes.{entry_row_bytes, FitsEntryRow}
+use Rattle.el_row_formats.specs.declared.entry_row.EntryRow.{EntryRow}
+use Rattle.el_row_formats.specs.declared.table.Table.TheVariants as table
 use Rattle.el_rows.specs.Transaction.{tables_in}
+use Rattle.el_schema.proofs.Answered.{of_value}
 use Rattle.el_tables.specs.Edits.{tx_of_last}
 use Rattle.el_tables.specs.Lists.{is_tx}
 use Rattle.el_script.proofs.ScriptSteps.{entry_tx}
 use Rattle.el_script.proofs.touching.is_entry_of.Goals as goal
 
-pub returns-in_ok-entry_row-in-Some-clause-is : goal.returns-in_ok-entry_row-in-Some-clause-is
-returns-in_ok-entry_row-in-Some-clause-is g c counts bs l d told hold =
-    let read = c.in_ok-entry_row-in-Some in
+pub returns-in_ok-row-in-Some-clause-is : goal.returns-in_ok-row-in-Some-clause-is
+returns-in_ok-row-in-Some-clause-is g c counts bs l d told hold =
+    let shown = tables_in {G = g.R.Rows} c.args.t.now in
+    let n = c.in-Some.n in
+    let row = c.in_ok-row-in-Some.row in
     let tx = c.args.tx in
-    let tx_is = entry_tx counts bs l (tables_in {G = g.R.Rows} c.args.t.now) hold c.in-Some.n d read.field-0 (c.requires.below c.in-Some.n c.in-Some.is) (read.ensures.only told) in
-    ap (λ (n : ℕ). nat_eq n tx) tx_is ∙ ap (λ (o : Option ℕ). is_tx tx (tx_of_last d l.entries o)) (sym c.in-Some.is)
+    let only = of_value (λ (x : EntryRow). (s : EntryRow) → FitsEntryRow s → entry_row_bytes s ≡ get_or (shown table.Entries) n [] → s ≡ x) _ c.entry_row.result c.map_err.result row
+    c.map_err.ensures.cases c.in_ok-row-in-Some.ensures.variant c.in_ok-row-in-Some.was (c.entry_row.ensures.only told) in
+    let tx_is = entry_tx counts bs l shown hold n d row (c.requires.below n c.in-Some.is) only in
+    ap (λ (k : ℕ). nat_eq k tx) tx_is ∙ ap (λ (o : Option ℕ). is_tx tx (tx_of_last d l.entries o)) (sym c.in-Some.is)

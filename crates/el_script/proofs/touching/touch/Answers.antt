@@ -2,12 +2,12 @@ use Rattle.std.proofs.Common.{rules, List, ◌≡◌, ◌∙◌, ◌+◌, ℕ, E
 use Rattle.el_base.specs.declared.hash.Hash32.{Hash32}
 use Rattle.el_chain.specs.declared.fault.ConnectFault.{ConnectFault}
 use Rattle.el_chain.specs.declared.fault.ConnectFault.TheVariants as connect
-use Rattle.el_rows.specs.Tables.{Tables}
+use Rattle.el_row_formats.specs.Tables.{Tables}
 use Rattle.el_rows.specs.Transaction.{tables_in}
-use Rattle.el_rows.specs.declared.table.Table.TheVariants as table
+use Rattle.el_row_formats.specs.declared.table.Table.TheVariants as table
 use Rattle.el_tables.specs.Lists.{add_entry}
 use Rattle.el_tables.proofs.Scripts.{number_next}
-use Rattle.el_buckets.specs.Rows.{Hold}
+use Rattle.el_schema.specs.Rows.{Hold}
 use Rattle.el_script.specs.Touches.{touch_full}
 use Rattle.el_script.specs.within.RowSteps.{ScriptMore, ThreeStay, IsScriptFault}
 use Rattle.el_script.proofs.ScriptSteps.{script_grows, many_scripts}

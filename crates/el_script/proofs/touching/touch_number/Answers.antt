@@ -1,13 +1,16 @@
-use Rattle.std.proofs.Common.{◌≡◌, ◌∙◌, ◌<◌, ◌≤◌, ℕ, None, refl, sym, ap, subst, arith, length, get_or, IfErr}
+use Rattle.std.proofs.Common.{◌≡◌, ◌∙◌, ◌<◌, ◌≤◌, ℕ, [], None, refl, sym, ap, subst, arith, length, get_or, IfErr}
 use Rattle.std.proofs.lemmas.Result.{IfOk-weaker}
 use Rattle.el_chain.specs.Chains.{zero_hash}
 use Rattle.el_chain.specs.declared.fault.ConnectFault.TheVariants as connect
-use Rattle.el_rows.specs.Tables.{Tables}
+use Rattle.el_row_formats.specs.Tables.{Tables}
 use Rattle.el_rows.specs.Transaction.{tables_in}
-use Rattle.el_rows.specs.declared.table.Table.TheVariants as table
+use Rattle.el_row_formats.specs.declared.table.Table.TheVariants as table
 use Rattle.el_tables.specs.Lists.{Lists, add_entry, is_tx, last_tx_of}
 use Rattle.el_tables.proofs.ScriptEdits.{touch_again}
-use Rattle.el_buckets.specs.Rows.{Hold}
+use Rattle.el_schema.specs.Rows.{Hold}
+use Rattle.el_row_formats.specs.RowBytes.{script_row_bytes, FitsScriptRow}
+use Rattle.el_row_formats.specs.declared.script_row.ScriptRow.{ScriptRow}
+use Rattle.el_schema.proofs.Answered.{of_value}
 use Rattle.el_script.specs.Touches.{touch_full}
 use Rattle.el_script.specs.within.RowSteps.{EntryMore, ThreeStay, IsEntryFault}
 use Rattle.el_script.proofs.ScriptSteps.{no_entry, entry_grows, last_found, many_scripts, tx_found}
@@ -21,9 +24,11 @@ returns-then-branch-clause-lists g c counts bs l told hold fits =
     let before = subst (λ (T : Tables). Hold counts bs l T) (sym same) hold in
     let n = c.args.script in
     let lt : n < length l.scripts = omega (arith, c.requires.below, many_scripts counts bs l shown hold) in
+    let only = of_value (λ (x : ScriptRow). (s : ScriptRow) → FitsScriptRow s → script_row_bytes s ≡ get_or (shown table.Scripts) n [] → s ≡ x) _ c.script_row.result c.map_err.result c.in_ok-row.row
+    c.map_err.ensures.cases c.in_ok-row.ensures.variant c.in_ok-row.was (c.script_row.ensures.only told) in
     let entries = c.count-2.ensures.count ∙ ap (λ (T : Tables). length (T table.Entries)) same in
     let told_tx = tx_found counts bs l shown hold n c.args.tx c.count-2.result c.in_ok-row.row c.if_below-last.result c.in_ok-is_entry_of.field-0 c.requires.below
-    (c.in_ok-row.ensures.only told) entries c.if_below-last.ensures (c.in_ok-is_entry_of.ensures.is counts bs l no_entry told before) in
+    only entries c.if_below-last.ensures (c.in_ok-is_entry_of.ensures.is counts bs l no_entry told before) in
     let again = ap (λ (k : ℕ). is_tx c.args.tx (last_tx_of k l.entries)) (sym (hash_number n l.scripts fits.numbered.once lt)) ∙ sym told_tx ∙ c.if-branch.true in
     subst (λ (m : Lists). Hold counts bs m (tables_in {G = g.R.Rows} c.is_entry_of.new.t)) (sym (touch_again l (get_or l.scripts n zero_hash) c.args.tx (hash_there n l.scripts lt) again))
     (subst (λ (T : Tables). Hold counts bs l T) (sym (c.is_entry_of.ensures.read.tables ∙ same)) hold)
@@ -49,7 +54,8 @@ returns-clause-lists g c counts bs l told hold fits =
     let s = get_or l.scripts n zero_hash in
     let row = c.in_ok-row.row in
     let last = c.if_below-last.result in
-    let only = c.in_ok-row.ensures.only told in
+    let only = of_value (λ (x : ScriptRow). (s : ScriptRow) → FitsScriptRow s → script_row_bytes s ≡ get_or (shown table.Scripts) n [] → s ≡ x) _ c.script_row.result c.map_err.result c.in_ok-row.row
+    c.map_err.ensures.cases c.in_ok-row.ensures.variant c.in_ok-row.was (c.script_row.ensures.only told) in
     let lt : n < length l.scripts = omega (arith, c.requires.below, many_scripts counts bs l shown hold) in
     let entries = c.count-2.ensures.count ∙ ap (λ (T : Tables). length (T table.Entries)) same in
     let link = last_found counts bs l shown hold n c.count-2.result row last c.requires.below only entries c.if_below-last.ensures in
@@ -84,9 +90,11 @@ returns-clause-full g c counts bs l told hold fits t rows is =
     let n = c.args.script in
     let tx = c.args.tx in
     let lt : n < length l.scripts = omega (arith, c.requires.below, many_scripts counts bs l shown hold) in
+    let only = of_value (λ (x : ScriptRow). (s : ScriptRow) → FitsScriptRow s → script_row_bytes s ≡ get_or (shown table.Scripts) n [] → s ≡ x) _ c.script_row.result c.map_err.result c.in_ok-row.row
+    c.map_err.ensures.cases c.in_ok-row.ensures.variant c.in_ok-row.was (c.script_row.ensures.only told) in
     let entries = c.count-2.ensures.count ∙ ap (λ (T : Tables). length (T table.Entries)) same in
     let told_tx = tx_found counts bs l shown hold n tx c.count-2.result c.in_ok-row.row c.if_below-last.result c.in_ok-is_entry_of.field-0 c.requires.below
-    (c.in_ok-row.ensures.only told) entries c.if_below-last.ensures (c.in_ok-is_entry_of.ensures.is counts bs l no_entry told before) in
+    only entries c.if_below-last.ensures (c.in_ok-is_entry_of.ensures.is counts bs l no_entry told before) in
     let few : length (shown table.Scripts) ≤ 4294967295 = omega (arith, c.count.ensures.limit, c.count.ensures.count) in
     let fault = subst (λ r. IfErr r (λ e. IsEntryFault (tables_in {G = g.R.Rows} c.is_entry_of.new.t) e)) is c.add_known.ensures.fault in
     full_known counts bs (get_or l.scripts n zero_hash) n tx l shown (connect.Full t rows) t rows hold (hash_there n l.scripts lt) (hash_number n l.scripts fits.numbered.once lt)

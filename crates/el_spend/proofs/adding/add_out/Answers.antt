@@ -1,16 +1,16 @@
 use Rattle.std.proofs.Common.{◌≡◌, Option, Some, ℕ, take, option_map, sym, subst, ◌∙◌}
-use Rattle.el_rows.specs.RowBytes.{FitsOutRow}
+use Rattle.el_row_formats.specs.RowBytes.{FitsOutRow}
 use Rattle.el_rows.specs.Transaction.{tables_in}
 use Rattle.el_tables.specs.Edits.{new_out, buried}
 use Rattle.el_tables.specs.Lists.{output_number, txid_at, replaced}
 use Rattle.el_tables.specs.Tables.{tables_of}
-use Rattle.el_buckets.specs.Rows.{Encode, Hold}
-use Rattle.el_position.proofs.Answered.{of_value}
+use Rattle.el_schema.specs.Rows.{Encode, Hold}
+use Rattle.el_schema.proofs.Answered.{of_value}
 use Rattle.el_spend.specs.Outputs.{replaced_output}
 use Rattle.el_spend.specs.declared.lookup.NamedOutput.{NamedOutput}
 use Rattle.el_spend.specs.within.Parts.{out_appended}
 use Rattle.el_spend.proofs.Found.{coin_names, coin_number_is}
-use Rattle.el_spend.proofs.Rows.{on_success}
+use Rattle.el_schema.proofs.Rows.{on_success}
 use Rattle.el_spend.proofs.Steps.{row_appended, added_fits, added_hold}
 use Rattle.el_spend.proofs.adding.add_out.Goals as goal
 

@@ -1,7 +1,7 @@
 use Rattle.std.proofs.Common.{◌++◌, ◌∷◌, [], ℕ, List, subst, arith}
 use Rattle.el_rows.specs.Changes.{OnTable}
 use Rattle.el_rows.specs.Transaction.{tables_in}
-use Rattle.el_rows.specs.declared.table.Table.TheVariants as table
+use Rattle.el_row_formats.specs.declared.table.Table.TheVariants as table
 use Rattle.el_tables.specs.Edits.{new_out}
 use Rattle.el_spend.proofs.Rows.{out_more}
 use Rattle.el_spend.proofs.adding.append_output.Goals as goal

@@ -2,7 +2,7 @@ use Rattle.std.proofs.Common.{Option, OnOk, option_map, refl, subst, sym}
 use Rattle.el_rows.specs.Transaction.{tables_in}
 use Rattle.el_tables.specs.Edits.{buried}
 use Rattle.el_tables.specs.Lists.State.{Buried}
-use Rattle.el_buckets.specs.Rows.{Encode}
+use Rattle.el_schema.specs.Rows.{Encode}
 use Rattle.el_spend.specs.declared.lookup.NamedOutput.{NamedOutput}
 use Rattle.el_spend.proofs.adding.bury.Goals as goal
 

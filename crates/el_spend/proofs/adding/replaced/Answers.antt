@@ -3,7 +3,7 @@ use Rattle.el_rows.specs.Transaction.{reads_in}
 use Rattle.el_base.specs.declared.hash.Hash32.{Hash32}
 use Rattle.el_tables.specs.Lists.{txid_at}
 use Rattle.el_tables.proofs.Found.{none_named}
-use Rattle.el_buckets.specs.Rows.{Hold}
+use Rattle.el_schema.specs.Rows.{Hold}
 use Rattle.el_spend.specs.Outputs.{rows_to_find}
 use Rattle.el_spend.proofs.Found.{coin_by}
 use Rattle.el_spend.proofs.adding.replaced.Goals as goal

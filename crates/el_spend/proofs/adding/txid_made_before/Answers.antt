@@ -2,11 +2,12 @@ use Rattle.std.proofs.Common.{◌≡◌, ◌≤◌, ℕ, Option, Some, None, is_
 use Rattle.std.proofs.lemmas.List.{get_or-map, get_or_past, length-map}
 use Rattle.el_chain.specs.Chains.{zero_hash}
 use Rattle.el_rows.specs.Transaction.{tables_in}
-use Rattle.el_rows.specs.declared.tx_row.TxRow.{TxRow}
+use Rattle.el_row_formats.specs.declared.tx_row.TxRow.{TxRow}
 use Rattle.el_tables.specs.Lists.{ListedTx}
 use Rattle.el_tables.specs.Tables.{tables_of}
-use Rattle.el_buckets.proofs.Held.{count_txs, no_tx}
-use Rattle.el_spend.proofs.OlderWalks.{listed_row, row_within, none_older}
+use Rattle.el_schema.proofs.Held.{count_txs, no_tx}
+use Rattle.el_schema.proofs.Rows.{listed_row, row_within}
+use Rattle.el_spend.proofs.OlderWalks.{none_older}
 use Rattle.el_spend.proofs.adding.txid_made_before.Goals as goal
 
 none_of : (r : Option ℕ) → is_some r ≡ false → r ≡ None

@@ -2,10 +2,10 @@ use Rattle.std.proofs.Common.{OnOk, refl, subst}
 use Rattle.el_tables.specs.Edits.{no_out}
 use Rattle.el_tables.specs.Lists.State.{Unspent}
 use Rattle.el_rows.specs.Transaction.{tables_in}
-use Rattle.el_rows.specs.declared.out_row.OutRow.{OutRow}
-use Rattle.el_buckets.specs.Rows.{Encode, out_fields}
+use Rattle.el_row_formats.specs.declared.out_row.OutRow.{OutRow}
+use Rattle.el_schema.specs.Rows.{Encode, out_fields}
 use Rattle.el_spend.specs.within.Parts.{state_changed, balance_raised}
-use Rattle.el_spend.proofs.Rows.{found_at}
+use Rattle.el_schema.proofs.Rows.{found_at}
 use Rattle.el_spend.proofs.coins.give_back.Goals as goal
 
 pub returns-clause-given : goal.returns-clause-given

@@ -1,8 +1,8 @@
 use Rattle.std.proofs.Common.{List, ℕ, set, subst}
 use Rattle.el_rows.specs.Changes.{OnTable}
 use Rattle.el_rows.specs.Transaction.{tables_in}
-use Rattle.el_rows.specs.declared.table.Table.TheVariants as table
-use Rattle.el_spend.proofs.Rows.{on_success}
+use Rattle.el_row_formats.specs.declared.table.Table.TheVariants as table
+use Rattle.el_schema.proofs.Rows.{on_success}
 use Rattle.el_spend.proofs.Steps.{state_put}
 use Rattle.el_spend.proofs.coins.put_state.Goals as goal
 

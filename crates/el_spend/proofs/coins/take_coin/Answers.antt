@@ -1,10 +1,10 @@
 use Rattle.std.proofs.Common.{OnOk, subst}
 use Rattle.el_tables.specs.Edits.{no_out}
 use Rattle.el_rows.specs.Transaction.{tables_in}
-use Rattle.el_rows.specs.declared.out_row.OutRow.{OutRow}
-use Rattle.el_buckets.specs.Rows.{Encode, out_fields}
+use Rattle.el_row_formats.specs.declared.out_row.OutRow.{OutRow}
+use Rattle.el_schema.specs.Rows.{Encode, out_fields}
 use Rattle.el_spend.specs.within.Parts.{state_changed, balance_lowered}
-use Rattle.el_spend.proofs.Rows.{found_at}
+use Rattle.el_schema.proofs.Rows.{found_at}
 use Rattle.el_spend.proofs.coins.take_coin.Goals as goal
 
 pub returns-clause-taken : goal.returns-clause-taken

@@ -1,8 +1,8 @@
 use Rattle.std.proofs.Common.{◌≡◌, Some, take, option_and_then, ap, sym, subst, ◌∙◌}
 use Rattle.el_tables.specs.Lists as lists
 use Rattle.el_tables.specs.Tables.{tables_of}
-use Rattle.el_buckets.specs.Rows.{Hold}
-use Rattle.el_position.proofs.Answered.{if_ok}
+use Rattle.el_schema.specs.Rows.{Hold}
+use Rattle.el_schema.proofs.Answered.{if_ok}
 use Rattle.el_spend.specs.Outputs.{output_at}
 use Rattle.el_spend.proofs.lookup.named_output.Goals as goal
 

@@ -1,6 +1,6 @@
 use Rattle.std.proofs.Common.{◌≡◌, ◌<◌, ◌≤◌, ◌+◌, ℕ, List, Option, Some, None, map, take, get_or, ap, ap₂, sym, ◌∙◌, refl, subst, arith}
 use Rattle.el_rows.specs.Transaction.{tables_in, reads_in}
-use Rattle.el_rows.specs.declared.tx_row.TxRow.{TxRow}
+use Rattle.el_row_formats.specs.declared.tx_row.TxRow.{TxRow}
 use Rattle.el_rows.proofs.TransactionLemmas.{begun, more}
 use Rattle.el_tables.specs.ChainLists.{ListedBlock}
 use Rattle.el_tables.specs.Lists.{Lists, ListedTx}
@@ -8,11 +8,12 @@ use Rattle.el_tables.specs.Tables.{HeadCounts, tables_of, greatest}
 use Rattle.el_tables.proofs.OlderWalks.{has_txid}
 use Rattle.el_tables.proofs.TxEdits.{newest_is}
 use Rattle.el_buckets.specs.Buckets.{bucket_size}
-use Rattle.el_buckets.specs.Rows.{Hold}
-use Rattle.el_buckets.proofs.Held.{no_tx}
-use Rattle.el_buckets.proofs.Walks.{end_of, end_below}
+use Rattle.el_schema.specs.Rows.{Hold}
+use Rattle.el_schema.proofs.Held.{no_tx}
+use Rattle.el_schema.proofs.Rows.{listed_row}
+use Rattle.el_buckets.proofs.Walks.{end_of, end_below, less_than}
 use Rattle.el_spend.specs.Outputs.{txs_with}
-use Rattle.el_spend.proofs.OlderWalks.{IsOlder, less_than, has_it, has_not, older_begins, older_found, older_ends, older_on, older_left, older_all, listed_row, older_is}
+use Rattle.el_spend.proofs.OlderWalks.{IsOlder, has_it, has_not, older_begins, older_found, older_ends, older_on, older_left, older_all, older_is}
 use Rattle.el_spend.proofs.lookup.output_number.Goals.{else-n-below-via-then-n-below+else-o-row, else-n-below-via-else-n-below}
 use Rattle.el_spend.proofs.lookup.output_number.Goals as goal
 

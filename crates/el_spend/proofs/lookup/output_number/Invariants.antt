@@ -2,13 +2,13 @@ use Rattle.std.proofs.Common.{◌≡◌, ◌<◌, ◌≤◌, ◌+◌, List, leng
 use Rattle.std.specs.Option.{ForSome}
 use Rattle.el_rows.specs.Transaction.{tables_in, reads_in}
 use Rattle.el_rows.proofs.TransactionLemmas.{SoFar}
-use Rattle.el_rows.specs.declared.table.Table.TheVariants as table
+use Rattle.el_row_formats.specs.declared.table.Table.TheVariants as table
 use Rattle.el_tables.specs.ChainLists.{ListedBlock}
 use Rattle.el_tables.specs.Lists as lists
 use Rattle.el_tables.specs.Tables.{HeadCounts}
 use Rattle.el_buckets.specs.Buckets.{bucket_size}
-use Rattle.el_buckets.specs.Rows.{Hold}
-use Rattle.el_buckets.proofs.Held.{no_tx}
+use Rattle.el_schema.specs.Rows.{Hold}
+use Rattle.el_schema.proofs.Held.{no_tx}
 use Rattle.el_buckets.proofs.Walks.{end_of}
 use Rattle.el_spend.specs.Outputs.{txs_with}
 use Rattle.el_spend.proofs.OlderWalks.{IsOlder}

@@ -4,9 +4,9 @@ use Rattle.el_chain.specs.Chains.{zero_hash}
 use Rattle.el_tables.specs.Lists.{ListedTx}
 use Rattle.el_tables.specs.Tables.{tables_of}
 use Rattle.el_rows.specs.Transaction.{tables_in}
-use Rattle.el_rows.specs.declared.tx_row.TxRow.{TxRow}
-use Rattle.el_buckets.proofs.Held.{count_txs, no_tx}
-use Rattle.el_spend.proofs.OlderWalks.{listed_row, row_within}
+use Rattle.el_row_formats.specs.declared.tx_row.TxRow.{TxRow}
+use Rattle.el_schema.proofs.Held.{count_txs, no_tx}
+use Rattle.el_schema.proofs.Rows.{listed_row, row_within}
 use Rattle.el_spend.proofs.reading.listed_at.Goals as goal
 
 past : {X Y : Type 0} (f : X → Y) (xs : List X) (n : ℕ) (d : Y) → length xs ≤ n → d ≡ get_or (map f xs) n d

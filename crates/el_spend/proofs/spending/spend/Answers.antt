@@ -1,12 +1,12 @@
 use Rattle.std.proofs.Common.{◌≡◌, Option, Some, refl, sym, subst, ◌∙◌}
-use Rattle.el_rows.specs.RowBytes.{FitsOutRow}
+use Rattle.el_row_formats.specs.RowBytes.{FitsOutRow}
 use Rattle.el_rows.specs.Transaction.{tables_in}
 use Rattle.el_tables.specs.Lists.{output_number}
 use Rattle.el_tables.specs.Lists.State.{Spent}
 use Rattle.el_tables.specs.Tables.{tables_of}
-use Rattle.el_buckets.specs.Rows.{Hold}
-use Rattle.el_buckets.proofs.Held.{count_txs}
-use Rattle.el_position.proofs.Answered.{of_value}
+use Rattle.el_schema.specs.Rows.{Hold}
+use Rattle.el_schema.proofs.Held.{count_txs}
+use Rattle.el_schema.proofs.Answered.{of_value}
 use Rattle.el_spend.specs.Outputs.{coin_among}
 use Rattle.el_spend.specs.declared.lookup.NamedOutput.{NamedOutput}
 use Rattle.el_spend.specs.within.Parts.{in_appended}

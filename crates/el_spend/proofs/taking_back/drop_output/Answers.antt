@@ -1,6 +1,6 @@
 use Rattle.std.proofs.Common.{◌≡◌, ◌+◌, length, ap, ◌∙◌}
 use Rattle.el_rows.specs.Transaction.{tables_in}
-use Rattle.el_rows.specs.declared.table.Table.TheVariants as table
+use Rattle.el_row_formats.specs.declared.table.Table.TheVariants as table
 use Rattle.el_spend.specs.within.Parts.{balance_lowered, held_by}
 use Rattle.el_spend.proofs.Rows.{out_less}
 use Rattle.el_spend.proofs.taking_back.drop_output.Goals as goal

@@ -1,8 +1,8 @@
 use Rattle.std.proofs.Common.{◌≡◌, ℕ, List, refl, ap, sym, subst, ◌∙◌}
 use Rattle.el_rows.specs.Transaction.{tables_in}
-use Rattle.el_rows.specs.declared.out_row.OutRow.{OutRow}
+use Rattle.el_row_formats.specs.declared.out_row.OutRow.{OutRow}
 use Rattle.el_tables.specs.Tables.{ScriptRow}
-use Rattle.el_buckets.specs.Rows.{Encode}
+use Rattle.el_schema.specs.Rows.{Encode}
 use Rattle.el_spend.specs.within.Parts.{balance_lowered, held_by}
 use Rattle.el_spend.proofs.Found.{unspent_no}
 use Rattle.el_spend.proofs.Steps.{less_nothing}

@@ -1,18 +1,18 @@
 use Rattle.std.proofs.Common.{◌≡◌, ◌+◌, ◌-◌, ◌≤◌, Some, ℕ, length, option_map, slice_get, get_or, ap, ap₂, sym, subst, ◌∙◌, arith}
 use Rattle.std.proofs.lemmas.List.{length-take-le}
 use Rattle.el_rows.specs.Transaction.{tables_in, reads_in}
-use Rattle.el_rows.specs.declared.out_row.OutRow.{OutRow}
-use Rattle.el_rows.specs.declared.table.Table.TheVariants as table
+use Rattle.el_row_formats.specs.declared.out_row.OutRow.{OutRow}
+use Rattle.el_row_formats.specs.declared.table.Table.TheVariants as table
 use Rattle.el_tables.specs.Disconnecting.{but_last, last, take_back_output}
 use Rattle.el_tables.specs.Edits.{no_out}
 use Rattle.el_tables.specs.Lists.{Lists, ListedOut, txid_at}
 use Rattle.el_tables.specs.Tables.{tables_of}
-use Rattle.el_buckets.specs.Rows.{Hold, out_fields}
-use Rattle.el_buckets.proofs.Held.{but_last_at, last_at}
-use Rattle.el_position.proofs.Answered.{of_value}
+use Rattle.el_schema.specs.Rows.{Hold, out_fields}
+use Rattle.el_schema.proofs.Held.{but_last_at, last_at}
+use Rattle.el_schema.proofs.Answered.{of_value}
 use Rattle.el_spend.specs.Outputs.{BalancesFit, rows_to_find}
 use Rattle.el_spend.specs.within.Parts.{unburied_lists}
-use Rattle.el_spend.proofs.Rows.{found_at, count_outs, on_success}
+use Rattle.el_schema.proofs.Rows.{found_at, count_outs, on_success}
 use Rattle.el_spend.proofs.Steps.{last_gone, taken_back}
 use Rattle.el_spend.proofs.taking_back.take_back_out.Goals as goal
 

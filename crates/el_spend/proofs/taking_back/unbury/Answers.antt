@@ -1,15 +1,15 @@
 use Rattle.std.proofs.Common.{◌≡◌, Option, Some, ap, sym, subst, ◌∙◌}
-use Rattle.el_rows.specs.RowBytes.{FitsOutRow}
+use Rattle.el_row_formats.specs.RowBytes.{FitsOutRow}
 use Rattle.el_rows.specs.Transaction.{tables_in}
-use Rattle.el_rows.specs.declared.out_row.State.TheVariants as out
+use Rattle.el_row_formats.specs.declared.out_row.State.TheVariants as out
 use Rattle.el_tables.specs.Tables.{tables_of}
-use Rattle.el_buckets.specs.Rows.{Hold}
-use Rattle.el_position.proofs.Answered.{of_value}
+use Rattle.el_schema.specs.Rows.{Hold}
+use Rattle.el_schema.proofs.Answered.{of_value}
 use Rattle.el_spend.specs.Outputs.{named_among}
 use Rattle.el_spend.specs.declared.lookup.NamedOutput.{NamedOutput}
 use Rattle.el_spend.specs.within.Parts.{named_by, outpoint_at}
 use Rattle.el_spend.proofs.Found.{named_gives, named_none, row_buried, row_not_buried, past_not_buried}
-use Rattle.el_spend.proofs.Rows.{on_success}
+use Rattle.el_schema.proofs.Rows.{on_success}
 use Rattle.el_spend.proofs.Steps.{unburied_hold, other_hold, nowhere_hold, unburied_fits}
 use Rattle.el_spend.proofs.taking_back.unbury.Goals as goal
 

@@ -1,15 +1,15 @@
 use Rattle.std.proofs.Common.{◌≡◌, Option, Some, ℕ, refl, sym, subst, ◌∙◌}
-use Rattle.el_rows.specs.RowBytes.{FitsOutRow}
+use Rattle.el_row_formats.specs.RowBytes.{FitsOutRow}
 use Rattle.el_rows.specs.Transaction.{tables_in}
 use Rattle.el_tables.specs.Disconnecting.{give_back}
 use Rattle.el_tables.specs.Tables.{tables_of}
-use Rattle.el_buckets.specs.Rows.{Hold}
-use Rattle.el_position.proofs.Answered.{of_value}
+use Rattle.el_schema.specs.Rows.{Hold}
+use Rattle.el_schema.proofs.Answered.{of_value}
 use Rattle.el_spend.specs.Outputs.{BalancesFit, output_at}
 use Rattle.el_spend.specs.declared.lookup.NamedOutput.{NamedOutput}
 use Rattle.el_spend.specs.within.Parts.{spent_given_back}
 use Rattle.el_spend.proofs.Found.{named_gives, named_none, row_spent, row_not_spent, past_not_spent}
-use Rattle.el_spend.proofs.Rows.{on_success}
+use Rattle.el_schema.proofs.Rows.{on_success}
 use Rattle.el_spend.proofs.Steps.{given_hold, kept_hold, given_fits}
 use Rattle.el_spend.proofs.unspending.give_back_spent.Goals as goal
 

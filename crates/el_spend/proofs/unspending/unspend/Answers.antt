@@ -1,16 +1,17 @@
 use Rattle.std.proofs.Common.{◌≡◌, ◌+◌, ◌-◌, Option, Some, ℕ, length, option_map, slice_get, get_or, ap, sym, subst, ◌∙◌, arith}
-use Rattle.el_rows.specs.Tables.{Tables}
+use Rattle.el_row_formats.specs.Tables.{Tables}
 use Rattle.el_rows.specs.Transaction.{tables_in}
-use Rattle.el_rows.specs.declared.in_row.InRow.{InRow}
-use Rattle.el_rows.specs.declared.table.Table.TheVariants as table
+use Rattle.el_row_formats.specs.declared.in_row.InRow.{InRow}
+use Rattle.el_row_formats.specs.declared.table.Table.TheVariants as table
 use Rattle.el_tables.specs.Disconnecting.{give_back, but_last, last}
 use Rattle.el_tables.specs.Tables.{tables_of}
-use Rattle.el_buckets.specs.Rows.{Encode, Hold, in_fields}
-use Rattle.el_buckets.proofs.Held.{last_at}
-use Rattle.el_position.proofs.Answered.{of_value}
+use Rattle.el_schema.specs.Rows.{Encode, Hold, in_fields}
+use Rattle.el_schema.proofs.Held.{last_at}
+use Rattle.el_schema.proofs.Answered.{of_value}
 use Rattle.el_spend.specs.Outputs.{BalancesFit}
 use Rattle.el_spend.specs.within.Parts.{spent_given_back}
-use Rattle.el_spend.proofs.Rows.{found_at, count_ins, in_less}
+use Rattle.el_schema.proofs.Rows.{found_at, count_ins}
+use Rattle.el_spend.proofs.Rows.{in_less}
 use Rattle.el_spend.proofs.unspending.unspend.Goals as goal
 
 pub returns-clause-lists : goal.returns-clause-lists

@@ -1,9 +1,9 @@
 use Rattle.std.proofs.Common.{◌++◌, ◌∷◌, [], ℕ, subst, sym, arith}
 use Rattle.el_rows.specs.Transaction.{tables_in}
 use Rattle.el_tables.specs.ChainLists.{lists, listed_blocks}
-use Rattle.el_buckets.specs.Rows.{Hold}
-use Rattle.el_stands.specs.Standing.{heads_in}
-use Rattle.el_stands.proofs.StandingLemmas.{holds}
+use Rattle.el_schema.specs.Rows.{Hold}
+use Rattle.el_schema.specs.Standing.{heads_in}
+use Rattle.el_schema.proofs.StandingLemmas.{holds}
 use Rattle.el_undo.specs.within.Undone.{CanUndoAll}
 use Rattle.el_undo.proofs.Undoing.{can_disconnect}
 use Rattle.el_undo.proofs.Whole.{rows_of_blocks, last_block, heads_there, lacks}

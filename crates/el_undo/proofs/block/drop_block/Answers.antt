@@ -1,6 +1,6 @@
 use Rattle.std.proofs.Common.{◌≡◌, ◌∙◌, arith, take, List, [], ◌∷◌, ℕ, refl}
 use Rattle.el_rows.specs.Transaction.{tables_in}
-use Rattle.el_rows.specs.declared.table.Table.TheVariants as table
+use Rattle.el_row_formats.specs.declared.table.Table.TheVariants as table
 use Rattle.el_undo.proofs.Dropped.{dropped_more, dropped_all}
 use Rattle.el_undo.proofs.block.drop_block.Goals as goal
 

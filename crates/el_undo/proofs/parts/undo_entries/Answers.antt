@@ -4,9 +4,9 @@ use Rattle.el_rows.specs.Transaction.{tables_in}
 use Rattle.el_tables.specs.Disconnecting.{last, is_entry_of, take_back_entries, take_back_entry}
 use Rattle.el_tables.specs.Lists.{Lists}
 use Rattle.el_tables.proofs.FitLemmas.{entry_back_numbers}
-use Rattle.el_buckets.specs.Rows.{Hold}
+use Rattle.el_schema.specs.Rows.{Hold}
+use Rattle.el_schema.proofs.Held.{count_entries}
 use Rattle.el_undo.proofs.Entries.{entry_on, entry_stop, entry_end}
-use Rattle.el_undo.proofs.LastRows.{count_entries}
 use Rattle.el_undo.proofs.parts.undo_entries.Goals as goal
 
 pub loop-done-preserved : goal.loop-done-preserved

@@ -3,7 +3,7 @@ use Rattle.el_rows.proofs.TransactionLemmas.{more_edits}
 use Rattle.el_rows.specs.Transaction.{tables_in}
 use Rattle.el_tables.specs.Disconnecting.{times, take_back_output}
 use Rattle.el_tables.specs.Lists.{Lists}
-use Rattle.el_buckets.specs.Rows.{Hold}
+use Rattle.el_schema.specs.Rows.{Hold}
 use Rattle.el_spend.specs.Outputs.{BalancesFit}
 use Rattle.el_undo.proofs.Entries.{times_on}
 use Rattle.el_undo.proofs.parts.undo_outputs.Goals as goal

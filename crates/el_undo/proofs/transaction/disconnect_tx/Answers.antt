@@ -1,6 +1,6 @@
 use Rattle.std.proofs.Common.{sym, ap, subst}
 use Rattle.el_tables.specs.Lists.{ListedTx}
-use Rattle.el_buckets.specs.Rows.{Hold}
+use Rattle.el_schema.specs.Rows.{Hold}
 use Rattle.el_undo.proofs.Whole.{row_is, none_is_not}
 use Rattle.el_undo.proofs.transaction.disconnect_tx.Goals as goal
 

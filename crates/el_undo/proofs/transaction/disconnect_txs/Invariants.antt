@@ -1,12 +1,12 @@
 use Rattle.std.proofs.Common.{◌≡◌, ◌<◌, ◌≤◌, List}
 use Rattle.el_rows.specs.Transaction.{tables_in}
 use Rattle.el_rows.proofs.TransactionLemmas.{EditedSoFar}
-use Rattle.el_rows.specs.declared.table.Table.TheVariants as table
+use Rattle.el_row_formats.specs.declared.table.Table.TheVariants as table
 use Rattle.el_tables.specs.ChainLists.{ListedBlock}
 use Rattle.el_tables.specs.Disconnecting.{times, disconnect_tx}
 use Rattle.el_tables.specs.Lists as lists
 use Rattle.el_tables.specs.Tables.{HeadCounts}
-use Rattle.el_buckets.specs.Rows.{Hold}
+use Rattle.el_schema.specs.Rows.{Hold}
 use Rattle.el_undo.specs.within.Undone.{CanUndoAll}
 use Rattle.el_undo.proofs.transaction.disconnect_txs.Given as goal
 

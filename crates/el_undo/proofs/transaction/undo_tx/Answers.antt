@@ -2,8 +2,8 @@ use Rattle.std.proofs.Common.{◌≡◌, ◌-◌, ℕ, length, subst, arith, OnO
 use Rattle.el_rows.specs.Transaction.{tables_in}
 use Rattle.el_tables.specs.Disconnecting.{times, take_back_output, unspend, take_back_entries}
 use Rattle.el_tables.specs.Lists.{Lists}
-use Rattle.el_buckets.specs.Rows.{Hold}
-use Rattle.el_buckets.proofs.Held.{count_txs}
+use Rattle.el_schema.specs.Rows.{Hold}
+use Rattle.el_schema.proofs.Held.{count_txs}
 use Rattle.el_undo.specs.within.Undone.{FitAfter}
 use Rattle.el_undo.proofs.Whole.{still_numbered, undone}
 use Rattle.el_undo.proofs.transaction.undo_tx.Goals as goal

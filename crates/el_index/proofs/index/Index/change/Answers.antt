@@ -1,12 +1,12 @@
 use Rattle.std.proofs.Common.{inl, inr, ℕ, ◌+◌, ◌-◌, length, refl, sym, ap, ◌∙◌}
-use Rattle.el_rows.specs.declared.table.Table.TheVariants as table
+use Rattle.el_row_formats.specs.declared.table.Table.TheVariants as table
 use Rattle.el_rows.proofs.UnderLemmas.{length-under}
 use Rattle.el_rows.specs.Changes.{under}
-use Rattle.el_rows.specs.Tables.{Tables}
+use Rattle.el_row_formats.specs.Tables.{Tables}
 use Rattle.el_rows.specs.Transaction.{tables_in}
 use Rattle.el_rows.proofs.ReadsLemmas.{read_joined}
 use Rattle.el_chain.specs.Moves.{target}
-use Rattle.el_stands.proofs.StandingLemmas.{same_stand}
+use Rattle.el_schema.proofs.StandingLemmas.{same_stand}
 use Rattle.el_index.proofs.Kept.{only_read, begun}
 use Rattle.el_index.proofs.Targets.{moved_rows, tip_moved}
 use Rattle.el_index.proofs.index.Index.change.Goals as goal

@@ -1,6 +1,6 @@
 use Rattle.std.proofs.Common.{sym, subst}
-use Rattle.el_rows.specs.Tables.{Tables}
-use Rattle.el_stands.specs.Standing.{StandFor}
+use Rattle.el_row_formats.specs.Tables.{Tables}
+use Rattle.el_schema.specs.Standing.{StandFor}
 use Rattle.el_index.proofs.index.Index.over.Goals as goal
 
 pub returns-in-Ok-clause-stands : goal.returns-in-Ok-clause-stands

@@ -1,6 +1,6 @@
 use Rattle.std.proofs.Common.{refl}
 use Rattle.el_rows.specs.Transaction.{tables_in}
-use Rattle.el_stands.proofs.StandingLemmas.{same_stand}
+use Rattle.el_schema.proofs.StandingLemmas.{same_stand}
 use Rattle.el_index.proofs.Kept.{quiet, rows_read}
 use Rattle.el_index.proofs.ledger_impl.IndexLedger.history.Goals as goal
 

@@ -1,0 +1,7 @@
+-- A transaction that was found.
+use Rattle.std.specs.Prelude.{ℕ}
+use Rattle.el_position.specs.declared.lookup.NumberedTx.{NumberedTx}
+
+-- its number
+abbrev pub number_of : NumberedTx → ℕ
+number_of x = x.number

@@ -1,0 +1,15 @@
+pub mod EntryWalks
+pub mod Scripts
+pub mod Counting
+pub mod ChainEntries
+pub mod TxRows
+pub mod OwnCoins
+pub mod CoinRows
+pub mod Fronts
+pub mod Heights
+pub mod Spots
+pub mod Outpoints
+pub mod Law
+pub mod Burials
+pub mod BlockTouches
+pub mod Walks

@@ -1,0 +1,36 @@
+-- What rows tell that were found.
+use Rattle.std.specs.Prelude.{ℕ, ◌-◌, Option, option_and_then, get_or}
+use Rattle.el_chain.specs.Chains.{zero_hash}
+use Rattle.el_chain.specs.declared.coin.Coin.{Coin}
+use Rattle.el_chain.specs.declared.node.Spot.{Spot}
+use Rattle.el_tx.specs.declared.types.Outpoint.{Outpoint}
+use Rattle.el_tables.specs.ChainLists.{ListedBlock}
+use Rattle.el_tables.specs.Lists.{Lists, output_number}
+use Rattle.el_tables.specs.Queries.{height_at}
+use Rattle.el_row_formats.specs.declared.out_row.OutRow.{OutRow}
+use Rattle.el_spend.specs.Outputs.{output_at}
+use Rattle.el_spend.specs.declared.lookup.NamedOutput.{NamedOutput}
+use Rattle.el_position.specs.declared.lookup.NumberedTx.{NumberedTx}
+
+-- where it stands, in a block that has this row
+abbrev pub spot_in : NumberedTx → ListedBlock → Spot
+spot_in x b = record {
+  height = x.row.height;
+  pos = x.number - b.first_tx;
+  place = b.place;
+  start = x.row.start;
+  len = x.row.len;
+}
+
+-- the output that an outpoint names, with its row
+abbrev pub output_of : Outpoint → Lists → Option NamedOutput
+output_of o l = option_and_then (output_at l.outs) (output_number o l.txs)
+
+-- the output that has this row, as the coin of the outpoint
+abbrev pub coin_in : Outpoint → Lists → OutRow → Coin
+coin_in o l row = record {
+  outpoint = o;
+  value = row.value;
+  script = get_or l.scripts row.script zero_hash;
+  height = height_at row.tx l.txs;
+}

@@ -1,0 +1,44 @@
+// The script hashes of the last entries.
+ghost use Rattle.std.specs.Prelude.{◌≡◌, ◌≤◌, ◌||◌, ◌++◌, ℕ, List, OnOk};
+ghost use Rattle.std.specs.List.{list_any};
+ghost use Rattle.el_base.specs.declared.hash.Hash32 as hash;
+ghost use Rattle.el_chain.specs.Headers.{same_hash};
+ghost use Rattle.el_rows.specs.Transaction.{tables_in, ReadsRows};
+ghost use Rattle.el_tables.specs.ChainLists.{ListedBlock};
+ghost use Rattle.el_tables.specs.Lists.{Lists, ListedEntry};
+ghost use Rattle.el_tables.specs.Tables.{HeadCounts};
+ghost use Rattle.el_schema.specs.Rows.{Hold};
+ghost use Rattle.el_queries.specs.within.LastBlock.{is_entry_of, AreLast};
+
+use crate::script::touch_script;
+use el_chain::Touched;
+use el_model::QueryFault;
+use el_row_formats::Table;
+use el_rows::{Rows, Txn};
+use el_schema::entry_row;
+
+// Adds the script hashes of the last entries, back to the first one of the transactions from that number on.
+pub(crate) fn touch_entries<R: Rows>(
+    t: &mut Txn<'_, R>,
+    first: u64,
+    touched: &mut Touched,
+) -> Result<(), QueryFault>
+    requires live { R.is_live t.old.rows.now }
+    ensures touched { (counts : HeadCounts) (bs : List ListedBlock) (l : Lists) (s : hash.Hash32)
+        (before own : List ListedEntry) → R.tells → Hold counts bs l (tables_in t.old)
+        → l.entries ≡ before ++ own → AreLast first before own
+        → OnOk result (list_any (same_hash s) touched.new
+        ≡ (list_any (same_hash s) touched.old || list_any (is_entry_of s l) own)) }
+    ensures read { ReadsRows QueryFault.DiskFailed t.old t.new result }
+{
+    let mut n = t.count(Table::Entries);
+    while n > 0 {
+        let entry = entry_row(t, n - 1)?;
+        if entry.tx < first {
+            return Ok(());
+        }
+        touch_script(t, entry.script, touched)?;
+        n -= 1;
+    }
+    Ok(())
+}

@@ -1,0 +1,59 @@
+// What the last block touches.
+ghost use Rattle.std.specs.Prelude.{◌≡◌, ◌≤◌, ◌||◌, [], ◌∷◌, ◌++◌, List, option_map, OnOk, IfOk};
+ghost use Rattle.std.specs.List.{list_any};
+ghost use Rattle.el_base.specs.declared.hash.Hash32 as hash;
+ghost use Rattle.el_chain.specs.Chains.{Chain};
+ghost use Rattle.el_chain.specs.Headers.{same_hash};
+ghost use Rattle.el_chain.specs.declared.placed.Placed as shape;
+ghost use Rattle.el_rows.specs.Transaction.{tables_in, disk_failed, ReadsRows};
+ghost use Rattle.el_tables.specs.ChainLists.{ListedBlock};
+ghost use Rattle.el_tables.specs.Disconnecting.{last};
+ghost use Rattle.el_tables.specs.Lists.{Lists};
+ghost use Rattle.el_tables.specs.Tables.{HeadCounts};
+ghost use Rattle.el_schema.specs.Rows.{Hold};
+ghost use Rattle.el_schema.specs.Standing.{StandFor};
+ghost use Rattle.el_queries.specs.TouchedBy.{touched_in};
+
+use crate::buried::touch_all_buried;
+use crate::entries::touch_entries;
+use el_chain::Touched;
+use el_model::QueryFault;
+use el_outside::DiskFailed;
+use el_row_formats::Table;
+use el_rows::{Rows, Txn};
+use el_schema::block_row;
+
+// The number of the last block's first transaction, and none where there are no blocks.
+fn first_tx<R: Rows>(t: &mut Txn<'_, R>) -> Result<Option<u64>, DiskFailed>
+    requires live { R.is_live t.old.rows.now }
+    ensures first { (counts : HeadCounts) (bs : List ListedBlock) (l : Lists) → R.tells
+        → Hold counts bs l (tables_in t.old)
+        → IfOk result (λ n. n ≡ option_map (λ (b : ListedBlock). b.first_tx) (last bs)) }
+    ensures read { ReadsRows disk_failed t.old t.new result }
+{
+    let count = t.count(Table::Blocks);
+    if count == 0 {
+        return Ok(None);
+    }
+    let row = block_row(t, count - 1)?;
+    Ok(Some(row.first_tx))
+}
+
+/// Adds the script hashes, in inner order, that the last block touches: those of which it added an entry of
+/// the history or changed a coin. After it was put in, and before it is taken back, they are the same. The
+/// rows stay; after a fault some may be added. Over rows that stand for no chain it returns too.
+pub fn touch_last<R: Rows>(t: &mut Txn<'_, R>, touched: &mut Touched) -> Result<(), QueryFault>
+    requires live { R.is_live t.old.rows.now }
+    ensures touched { (chain : Chain) (b : shape.Placed) (s : hash.Hash32) → R.tells
+        → StandFor (tables_in t.old) (chain ++ b ∷ [])
+        → OnOk result (list_any (same_hash s) touched.new
+        ≡ (list_any (same_hash s) touched.old || touched_in s chain b)) }
+    // What follows holds over any rows.
+    ensures read { ReadsRows QueryFault.DiskFailed t.old t.new result }
+{
+    let Some(first) = first_tx(t)? else {
+        return Ok(());
+    };
+    touch_entries(t, first, touched)?;
+    touch_all_buried(t, first, touched)
+}

@@ -1,0 +1,4 @@
+pub mod Answered
+pub mod Held
+pub mod Rows
+pub mod StandingLemmas

@@ -1,5 +1,0 @@
-use Rattle.el_stands.proofs.StandingLemmas.{holds, stands}
-use Rattle.el_stands.proofs.laws.rows_that_stand_hold_the_lists.Goals as goal
-
-pub returns : goal.returns
-returns c = record { hold = holds; stand = stands }

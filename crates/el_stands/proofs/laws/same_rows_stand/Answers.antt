@@ -1,5 +1,0 @@
-use Rattle.el_stands.proofs.StandingLemmas.{same_stand}
-use Rattle.el_stands.proofs.laws.same_rows_stand.Goals as goal
-
-pub returns : goal.returns
-returns c = same_stand

@@ -1,4 +1,0 @@
-pub mod Law
-pub mod Burials
-pub mod Blocks
-pub mod Walks
