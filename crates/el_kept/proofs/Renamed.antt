@@ -1,5 +1,5 @@
 -- A slot whose transaction was dropped goes by another name, or goes.
-use Rattle.std.proofs.Common.{◌≡◌, inl, inr, ℕ, suc, ◌+◌, ◌-◌, ◌<◌, true, false, Bool, cond, List, [], ◌∷◌, ◌++◌, length, take, get_or, set, Option, None, Some, Result, Ok, refl, ap, sym, ◌∙◌, arith, length-append, nat_lt, lt-ltb}
+use Rattle.std.proofs.Common.{◌≡◌, inl, inr, ℕ, suc, ◌+◌, ◌-◌, ◌<◌, ◌≤◌, true, false, Bool, cond, List, [], ◌∷◌, ◌++◌, length, take, get_or, set, Option, None, Some, Result, Ok, refl, ap, sym, ◌∙◌, arith, length-append, nat_lt, lt-ltb}
 use Rattle.std.proofs.lemmas.Bool.{cases_Bool, true≢false}
 use Rattle.std.proofs.lemmas.List.{set-append_left, length-set}
 use Rattle.std.proofs.lemmas.Map.Entries.{length-keys_of}
@@ -133,3 +133,32 @@ pub renamed_right : {S : Type 0} (old : IndexMap Hash32 (Option KeptTx) S) (mid 
 renamed_right old mid new id name right there free put cut =
     let is = moved old mid new id name there free put cut in
     rw is (put_right id name old.entries right)
+
+-- ---- each slot has its transaction
+
+-- no more stand than there are slots
+pub standing_few : (es : List Slot) → length (standing es) ≤ length es
+standing_few [] = omega arith
+standing_few ((q, None) ∷ es) = let few = standing_few es in omega (arith, few)
+standing_few ((q, Some k) ∷ es) = let few = standing_few es in omega (arith, few)
+
+-- where as many stand as there are slots, a txid that isn't kept has none
+pub all_stand : (id : Hash32) (es : List Slot) → StandRight es → length es ≡ length (standing es) → by_txid id (standing es) ≡ None → lookup (same_hash id) es ≡ None
+all_stand id [] right all none = refl
+all_stand id ((q, None) ∷ es) right all none = let few = standing_few es in absurd (omega (arith, few, all))
+all_stand id ((q, Some k) ∷ es) right all none = elim (cases_Bool (same_hash id q)) [
+  | inl h ↦ absurd (bad (sym (found h) ∙ none))
+  | inr h ↦ rw h (all_stand id es right.1 (omega (arith, all)) (sym (later h) ∙ none))
+]
+  where
+    own : same_hash id k.txid ≡ same_hash id q
+    own = ap (same_hash id) right.0
+
+    bad : Some k ≡ None → ⊥
+    bad x = cc
+
+    found : same_hash id q ≡ true → by_txid id (k ∷ standing es) ≡ Some k
+    found h = let is = own ∙ h in rw is refl
+
+    later : same_hash id q ≡ false → by_txid id (k ∷ standing es) ≡ by_txid id (standing es)
+    later h = let is = own ∙ h in rw is refl

@@ -102,11 +102,12 @@ fn rename(kept: &mut IndexMap<Hash32, Option<KeptTx>>, txid: &Hash32, name: Hash
     kept.swap_remove(txid);
 }
 
-// No slot has that txid, whose transaction isn't kept: so an entry with it comes last. A slot whose transaction
-// was dropped goes by the count of slots, which each entry that is put raises; only where a txid is as small as
-// that is the slot taken out, and all after it moved.
-fn give_way(kept: &mut IndexMap<Hash32, Option<KeptTx>>, txid: &Hash32)
+// No slot has that txid, whose transaction isn't kept: so an entry with it comes last. A slot whose
+// transaction was dropped goes by the count of slots, which each entry that is put raises; only where a txid
+// is as small as that is the slot taken out, and all after it moved. As many as `count` are kept.
+fn give_way(kept: &mut IndexMap<Hash32, Option<KeptTx>>, txid: &Hash32, count: u64)
     requires room { 1 < spare kept.old }
+    requires count { count ≡ length (standing kept.old.entries) }
     requires right { StandRight kept.old.entries }
     requires dropped { by_txid txid.now (standing kept.old.entries) ≡ None }
     ensures standing { standing kept.new.entries ≡ standing kept.old.entries }
@@ -115,6 +116,9 @@ fn give_way(kept: &mut IndexMap<Hash32, Option<KeptTx>>, txid: &Hash32)
     ensures slots { length kept.new.entries ≤ length kept.old.entries }
     ensures room { 0 < spare kept.new }
 {
+    if kept.len() as u64 == count {
+        return;
+    }
     if !kept.contains_key(txid) {
         return;
     }
@@ -140,7 +144,7 @@ fn put(table: &mut Table, entry: KeptTx, count: u64, bytes: u64)
 {
     let txid = entry.txid;
     set_takers(&mut table.spenders, entry.inputs.as_slice(), txid);
-    give_way(&mut table.kept, &txid);
+    give_way(&mut table.kept, &txid, table.count);
     set_entry(&mut table.kept, txid, entry);
     table.count = count;
     table.bytes = bytes;

@@ -1,8 +1,10 @@
 -- What a table and a ledger say of outpoints, and calls of a ledger one after the other.
-use Rattle.std.proofs.Common.{◌≡◌, ℕ, ◌+◌, ◌<◌, List, [], ◌∷◌, ◌++◌, length, drop, get_or, Option, None, Some, inl, inr, ap, sym, ◌∙◌, append_assoc}
+use Rattle.std.proofs.Common.{◌≡◌, ℕ, ◌+◌, ◌<◌, Bool, true, false, ◌||◌, refl, List, [], ◌∷◌, ◌++◌, length, drop, get_or, Option, None, Some, inl, inr, ap, sym, ◌∙◌, append_assoc}
 use Rattle.std.proofs.lemmas.Bool.{cases_Bool}
 use Rattle.std.specs.Prelude.{slice_get, option_map, option_and_then}
-use Rattle.std.specs.Option.{option_or, option_flatten}
+use Rattle.std.proofs.lemmas.List.Folds.{list_any-append}
+use Rattle.std.specs.List.{list_any}
+use Rattle.std.specs.Option.{option_or, option_flatten, is_some}
 use Rattle.indexmap.specs.IndexMap.{get}
 use Rattle.el_base.proofs.Lists.{left_at}
 use Rattle.el_tx.specs.declared.types.Outpoint.{Outpoint}
@@ -22,7 +24,7 @@ use Rattle.el_mempool.specs.Sift.{coin_held, coin_named, output_among, named, is
 use Rattle.el_mempool.specs.Refusals.{missing}
 use Rattle.el_mempool.specs.Standing.{source_at, sources}
 use Rattle.el_kept.specs.Tables.{by_txid}
-use Rattle.el_pool.specs.within.Tables.{IsOver}
+use Rattle.el_pool.specs.within.Tables.{IsOver, output_at, is_output_at}
 use Rattle.el_mempool.proofs.Sifting.{joins_of}
 use Rattle.el_mempool.proofs.Confirmed.{hash_same, unconfirmed_none}
 use Rattle.el_mempool.proofs.Dropping.{output_apart}
@@ -85,3 +87,16 @@ stops chain kept is n i found held lt item says none before =
     let left = left_at is n i lt item in
     let gone : named chain kept i.from ≡ None = sym says ∙ none in
     rw (left, gone) at before.1
+
+-- whether one of the inputs takes an output of a kept one, with one more
+pub any_more : (t : Table) (ss : List Source) (s : Source) (any b : Bool) → b ≡ is_some (output_at t s.from) → any ≡ list_any (is_output_at t) ss
+    → (any || b) ≡ list_any (is_output_at t) (ss ++ s ∷ [])
+any_more t ss s any b is so_far =
+    ap (λ a. a || b) so_far ∙ by (list_any (is_output_at t) ss) b
+    ∙ ap (λ x. list_any (is_output_at t) ss || (x || false)) is
+    ∙ sym (list_any-append (is_output_at t) ss (s ∷ []))
+  where
+    by : (a c : Bool) → (a || c) ≡ (a || (c || false))
+    by true c = refl
+    by false true = refl
+    by false false = refl

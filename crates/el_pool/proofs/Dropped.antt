@@ -21,7 +21,7 @@ use Rattle.el_mempool.specs.declared.held.KeptTx.{KeptTx}
 use Rattle.el_kept.specs.declared.table.Table.{Table}
 use Rattle.el_mempool.specs.Sift.{output_among, named, any_takes, is_confirmed, may_join, sift, other_than}
 use Rattle.el_mempool.specs.Unconfirmed.{concerns}
-use Rattle.el_mempool.specs.Refusals.{is_kept, spender_of, kept_with}
+use Rattle.el_mempool.specs.Refusals.{is_kept, spender_of}
 use Rattle.el_mempool.specs.Standing.{kept_tx, has_entry, StandsFor, AreChanged}
 use Rattle.el_kept.specs.Tables.{standing, by_txid, takes_from, IsTable}
 use Rattle.el_pool.specs.within.Tables.{IsOver}
@@ -33,7 +33,7 @@ use Rattle.el_mempool.proofs.Named.{AreNamed, AllNamed, all_named}
 use Rattle.el_mempool.proofs.Dropping.{names_gone, IsDropped}
 use Rattle.el_mempool.proofs.Picked.{KeysApart}
 use Rattle.el_mempool.proofs.Changes.{apart_from}
-use Rattle.el_kept.proofs.Entries.{found_standing, entry_found, any_sources, found_is}
+use Rattle.el_kept.proofs.Entries.{found_standing, entry_found, any_sources}
 use Rattle.el_pool.proofs.Asked.{output_is}
 use Rattle.el_pool.proofs.Refusing.{takers_are}
 use Rattle.el_mempool.proofs.Arrivals.{entry_at, fresh_from}

@@ -1,10 +1,10 @@
 -- Refusals by a table and a ledger are those of the chain and the kept ones.
-use Rattle.std.proofs.Common.{◌≡◌, ◌⊎◌, inl, inr, ℕ, zero, suc, ℤ, pos, negsuc, ◌||◌, ◌+◌, ◌-◌, ◌<◌, ◌≤◌, true, false, Bool, cond, if◌then◌else◌, List, [], ◌∷◌, ◌++◌, length, Option, None, Some, Bor, refl, ap, sym, ◌∙◌, arith}
+use Rattle.std.proofs.Common.{◌≡◌, ◌⊎◌, inl, inr, ℕ, zero, suc, ℤ, pos, negsuc, ◌||◌, ◌+◌, ◌-◌, ◌<◌, ◌≤◌, true, false, Bool, cond, if◌then◌else◌, List, [], ◌∷◌, ◌++◌, length, Option, None, Some, refl, ap, sym, ◌∙◌, arith}
 use Rattle.std.proofs.lemmas.Bool.{true≢false}
 use Rattle.std.proofs.lemmas.List.{length-map}
 use Rattle.std.proofs.lemmas.List.Sums.{sum_by-cons}
 use Rattle.std.specs.List.{AllByRecursion, list_any, find, sum_by}
-use Rattle.std.specs.Prelude.{map, option_map, option_and_then, option_to_list, option_copied, IfSome}
+use Rattle.std.specs.Prelude.{map, option_map, option_and_then, option_to_list, IfSome}
 use Rattle.std.specs.Option.{option_or, option_flatten, is_some}
 use Rattle.indexmap.specs.IndexMap.{get}
 use Rattle.el_base.proofs.Lists.{all_append, all_weaker}

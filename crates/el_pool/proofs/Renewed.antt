@@ -1,5 +1,5 @@
 -- A kept transaction over another chain: what its inputs take there, and whether it may be kept.
-use Rattle.std.proofs.Common.{◌≡◌, ℕ, ◌+◌, ◌<◌, true, false, Bool, if◌then◌else◌, not, ◌&&◌, ◌||◌, List, [], ◌∷◌, ◌++◌, length, take, drop, get_or, Option, None, Some, refl, ap, sym, ◌∙◌, append_assoc}
+use Rattle.std.proofs.Common.{◌≡◌, ℕ, ◌+◌, ◌<◌, true, false, Bool, not, ◌&&◌, List, [], ◌∷◌, ◌++◌, length, take, drop, get_or, Option, None, Some, refl, ap, sym, ◌∙◌, append_assoc}
 use Rattle.std.proofs.lemmas.Bool.{and_left, and_right, and_from, true≢false}
 use Rattle.std.specs.List.{list_any}
 use Rattle.std.specs.Prelude.{map, option_map, option_to_list, nat_lt, IfNone}
@@ -7,7 +7,6 @@ use Rattle.std.specs.Option.{is_some}
 use Rattle.indexmap.specs.IndexMap.{get}
 use Rattle.std.proofs.lemmas.List.{drop_more, take_more, map-append}
 use Rattle.el_base.proofs.Lists.{left_at}
-use Rattle.el_tx.specs.declared.types.Outpoint.{Outpoint}
 use Rattle.el_tx.specs.declared.types.TxIn.{TxIn}
 use Rattle.el_tx.specs.declared.types.Tx.{Tx}
 use Rattle.el_tx.specs.Encoding.{total_value}
@@ -20,7 +19,6 @@ use Rattle.el_mempool.specs.declared.held.Source.{Source}
 use Rattle.el_mempool.specs.declared.held.KeptTx.{KeptTx}
 use Rattle.el_kept.specs.declared.table.Table.{Table}
 use Rattle.el_mempool.specs.Sift.{named, any_takes, is_taken, each_takes, held_by, total_held, is_confirmed, may_join}
-use Rattle.el_mempool.specs.Refusals.{spender_of}
 use Rattle.el_mempool.specs.Standing.{source_at, sources}
 use Rattle.el_kept.specs.Tables.{is_source_of}
 use Rattle.el_pool.specs.within.Tables.{total_sources, IsOver}

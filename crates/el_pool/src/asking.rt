@@ -1,5 +1,6 @@
 // What a transaction's inputs take, of the chain and of the kept ones.
-ghost use Rattle.std.specs.Prelude.{◌≡◌, ◌⊎◌, None, Some, IfOk, IfErr, OnOk, List};
+ghost use Rattle.std.specs.Prelude.{◌≡◌, ◌⊎◌, None, Some, IfOk, IfErr, IfSome, OnOk, List, option_map, ◌||◌, pos, negsuc, if◌then◌else◌};
+ghost use Rattle.std.specs.Option.{is_some};
 ghost use Rattle.el_outside.specs.Counts.{HasCause, CountsOnly};
 ghost use Rattle.el_chain.specs.Chains.{Chain};
 ghost use Rattle.el_model.specs.Keeping.{Quiet};
@@ -7,7 +8,8 @@ ghost use Rattle.el_tx.specs.declared.types.Tx as shape;
 ghost use Rattle.el_mempool.specs.Sift as spec;
 ghost use Rattle.el_mempool.specs.Refusals.{missing};
 ghost use Rattle.el_mempool.specs.Standing.{sources};
-ghost use Rattle.el_pool.specs.within.Tables.{IsOver};
+ghost use Rattle.el_pool.specs.declared.asking.FoundOutput as found_shape;
+ghost use Rattle.el_pool.specs.within.Tables.{IsOver, output_at, flag_by};
 
 use el_kept::{Table, output_in};
 use el_mempool::{Held, PoolFault, Source};
@@ -16,33 +18,74 @@ use el_outside::DiskFailed;
 use el_tx::{Outpoint, TxIn};
 use std::alloc::Global;
 
+/// What an outpoint names.
+#[derive(Clone, Copy, Debug, PartialEq, Eq)]
+pub struct FoundOutput {
+    /// What it holds.
+    pub held: Held,
+    /// Whether a kept transaction makes it.
+    pub is_kept: bool,
+}
+
+/// What the inputs of a transaction take.
+#[derive(Debug, Drop)]
+pub struct Taken {
+    /// Each with its outpoint, in order.
+    pub sources: Vec<Source>,
+    /// -1 where one of them takes an output of a kept transaction, else 0.
+    pub flag: i8,
+}
+
 /// What the outpoint names: a coin of the ledger's chain, or else an output of a kept transaction.
 pub fn named<G: Ledger>(
     table: &Table,
     ledger: &mut G,
     outpoint: &Outpoint,
-) -> Result<Option<Held>, DiskFailed>
+) -> Result<Option<FoundOutput>, DiskFailed>
     requires live { G.is_live ledger.old }
     ensures named { (chain : Chain) (kept : List shape.Tx) → IsOver table.now chain kept
-        → G.stands ledger.old chain → IfOk result (λ h. h ≡ spec.named chain kept outpoint.now) }
+        → G.stands ledger.old chain → IfOk result (λ found.
+        option_map (λ (n : found_shape.FoundOutput). n.held) found ≡ spec.named chain kept outpoint.now) }
+    ensures output { IfOk result (λ found. IfSome found (λ n.
+        n.is_kept ≡ is_some (output_at table.now outpoint.now))) }
     ensures quiet { Quiet G.is_live G.height G.tip G.buckets G.stands G.tells_crash
         G.moment G.left_since ledger.old ledger.new }
     ensures cause { HasCause (G.faults ledger.old) (G.faults ledger.new) result }
 {
     // A kept transaction isn't in the chain, so its outputs are no coins there.
     if let Some(held) = output_in(table, outpoint) {
-        return Ok(Some(held));
+        return Ok(Some(FoundOutput {
+            held,
+            is_kept: true,
+        }));
     }
     match ledger.coin(outpoint)? {
-        Some(coin) => Ok(Some(Held {
-            value: coin.value,
-            script: coin.script,
+        Some(coin) => Ok(Some(FoundOutput {
+            held: Held {
+                value: coin.value,
+                script: coin.script,
+            },
+            is_kept: false,
         })),
         None => Ok(None),
     }
 }
 
-/// What the inputs take, each with its outpoint.
+/// Whether it was so, or is so of one more. Takes no memory.
+pub fn any_with(any: bool, one: bool) -> bool
+    ensures { result ≡ (any || one) }
+{
+    any || one
+}
+
+/// -1 where any input takes an output of a kept transaction, else 0. Takes no memory.
+pub fn flag_of(any: bool) -> i8
+    ensures { result ≡ (if any then negsuc 0 else pos 0) }
+{
+    if any { -1 } else { 0 }
+}
+
+/// What the inputs take.
 ///
 /// # Errors
 ///
@@ -53,10 +96,12 @@ pub fn sources_of<G: Ledger>(
     table: &Table,
     ledger: &mut G,
     inputs: &[TxIn],
-) -> Result<Vec<Source>, PoolFault>
+) -> Result<Taken, PoolFault>
     requires live { G.is_live ledger.old }
     ensures found { (chain : Chain) (kept : List shape.Tx) → IsOver table.now chain kept
-        → G.stands ledger.old chain → IfOk result (λ found. found.items ≡ sources chain kept inputs.now) }
+        → G.stands ledger.old chain
+        → IfOk result (λ taken. taken.sources.items ≡ sources chain kept inputs.now) }
+    ensures flag { IfOk result (λ taken. taken.flag ≡ flag_by table.now taken.sources.items) }
     ensures all { (chain : Chain) (kept : List shape.Tx) → IsOver table.now chain kept
         → G.stands ledger.old chain → OnOk result (missing chain kept inputs.now ≡ None) }
     ensures missing { (chain : Chain) (kept : List shape.Tx) → IsOver table.now chain kept
@@ -66,19 +111,22 @@ pub fn sources_of<G: Ledger>(
         G.moment G.left_since ledger.old ledger.new }
     ensures cause { CountsOnly (G.faults ledger.old) (G.faults ledger.new) PoolFault.DiskFailed result }
 {
-    let mut found = Vec::with_capacity(alloc, inputs.len())?;
+    let mut sources = Vec::with_capacity(alloc, inputs.len())?;
+    let mut any_kept = false;
     for input in inputs {
-        match named(table, ledger, &input.from)? {
-            Some(held) => found.push(Source {
-                from: input.from,
-                held,
-            })?,
-            None => {
-                return Err(PoolFault::Missing {
-                    outpoint: input.from,
-                });
-            }
-        }
+        let Some(found) = named(table, ledger, &input.from)? else {
+            return Err(PoolFault::Missing {
+                outpoint: input.from,
+            });
+        };
+        any_kept = any_with(any_kept, found.is_kept);
+        sources.push(Source {
+            from: input.from,
+            held: found.held,
+        })?;
     }
-    Ok(found)
+    Ok(Taken {
+        sources,
+        flag: flag_of(any_kept),
+    })
 }

@@ -109,7 +109,8 @@ fn stays_free(table: &Table, outpoint: Outpoint, later: &IndexSet<Outpoint>, fre
 
 // Whether the inputs are free, each looked up in a set of those after it.
 fn many_are_free(alloc: Global, table: &Table, inputs: &[Source]) -> Result<bool, OutOfMemory>
-    ensures { IfOk result (λ free. free ≡ renewal.are_free (get same_outpoint table.now.spenders) inputs.now) }
+    ensures { IfOk result (λ free.
+        free ≡ renewal.are_free (get same_outpoint table.now.spenders) inputs.now) }
 {
     let mut later = IndexSet::new(alloc);
     let mut free = true;
@@ -125,7 +126,8 @@ fn many_are_free(alloc: Global, table: &Table, inputs: &[Source]) -> Result<bool
 /// Whether nobody takes what the inputs take, and no two of them take the same. Fails only where memory runs
 /// out.
 pub fn are_free(alloc: Global, table: &Table, inputs: &[Source]) -> Result<bool, OutOfMemory>
-    ensures { IfOk result (λ free. free ≡ renewal.are_free (get same_outpoint table.now.spenders) inputs.now) }
+    ensures { IfOk result (λ free.
+        free ≡ renewal.are_free (get same_outpoint table.now.spenders) inputs.now) }
 {
     if inputs.len() <= FEW {
         return Ok(few_are_free(table, inputs));

@@ -11,13 +11,13 @@ ghost use Rattle.el_mempool.specs.Refusals.{known_refusal, coin_refusal, IsRefus
 ghost use Rattle.el_mempool.specs.Standing.{sources};
 ghost use Rattle.el_pool.specs.within.Tables.{IsOver, Joins, flag_by, total_sources};
 
-use crate::asking::sources_of;
+use crate::asking::{Taken, sources_of};
 use crate::conflicts::conflict_of;
 use crate::reading::{is_coinbase_form, whole_tx};
-use crate::room::{fee_of, flag_of, lack_of};
+use crate::room::{fee_of, lack_of};
 use el_base::{Bytes, Hash32, Listed, OutOfMemory, sha256};
 use el_kept::{Table, kept_under};
-use el_mempool::{Held, KeptTx, PoolFault, PoolLimits, Source};
+use el_mempool::{Held, KeptTx, PoolFault, PoolLimits};
 use el_model::Ledger;
 use el_outside::DiskFailed;
 use el_tx::{Tx, TxOut, txid};
@@ -59,11 +59,13 @@ fn take_coins<G: Ledger>(
     ledger: &mut G,
     tx: &Tx,
     id: Hash32,
-) -> Result<Vec<Source>, PoolFault>
+) -> Result<Taken, PoolFault>
     requires live { G.is_live ledger.old }
     requires id { id ≡ hashing.txid tx.now }
     ensures found { (chain : Chain) (kept : List shape.Tx) → IsOver table.now chain kept
-        → G.stands ledger.old chain → IfOk result (λ found. found.items ≡ sources chain kept tx.now.inputs) }
+        → G.stands ledger.old chain
+        → IfOk result (λ taken. taken.sources.items ≡ sources chain kept tx.now.inputs) }
+    ensures flag { IfOk result (λ taken. taken.flag ≡ flag_by table.now taken.sources.items) }
     ensures none { (chain : Chain) (kept : List shape.Tx) → IsOver table.now chain kept
         → G.stands ledger.old chain → OnOk result (coin_refusal chain kept tx.now ≡ None) }
     ensures first { (chain : Chain) (kept : List shape.Tx) → IsOver table.now chain kept
@@ -98,31 +100,29 @@ fn held_by(alloc: Global, outputs: &[TxOut]) -> Result<Vec<Held>, OutOfMemory>
 // What is kept of a transaction with that txid and encoding, whose inputs are these.
 fn kept_of(
     alloc: Global,
-    table: &Table,
     id: Hash32,
     bytes: &[u8],
-    inputs: Vec<Source>,
+    taken: Taken,
     outputs: &[TxOut],
 ) -> Result<KeptTx, OutOfMemory>
     ensures { IfOk result (λ k. k ≡ record {
       txid = id;
-      flag = flag_by table.now inputs.items;
-      fee = total_sources inputs.items - total_held (map output_held outputs.now);
+      flag = taken.flag;
+      fee = total_sources taken.sources.items - total_held (map output_held outputs.now);
       bytes = bytes.now;
-      inputs = inputs.items;
+      inputs = taken.sources.items;
       outputs = map output_held outputs.now;
     }) }
 {
     let held = held_by(alloc, outputs)?;
-    let fee = fee_of(inputs.as_slice(), held.as_slice())?;
-    let flag = flag_of(table, inputs.as_slice());
+    let fee = fee_of(taken.sources.as_slice(), held.as_slice())?;
     let bytes = Bytes::from_slice(alloc, bytes)?;
     Ok(KeptTx {
         txid: id,
-        flag,
+        flag: taken.flag,
         fee,
         bytes,
-        inputs: Listed::from_vec(inputs),
+        inputs: Listed::from_vec(taken.sources),
         outputs: Listed::from_vec(held),
     })
 }
@@ -155,10 +155,11 @@ pub fn examine<G: Ledger>(
     if let Some(refusal) = known_of(table, ledger, &tx, &id)? {
         return Err(refusal);
     }
-    let inputs = take_coins(alloc, table, ledger, &tx, id)?;
-    if let Some(refusal) = lack_of(table, limits, inputs.as_slice(), outputs, bytes.len()) {
+    let taken = take_coins(alloc, table, ledger, &tx, id)?;
+    let sources = taken.sources.as_slice();
+    if let Some(refusal) = lack_of(table, limits, sources, outputs, bytes.len()) {
         return Err(refusal);
     }
-    let kept = kept_of(alloc, table, id, bytes, inputs, outputs)?;
+    let kept = kept_of(alloc, id, bytes, taken, outputs)?;
     Ok(kept)
 }

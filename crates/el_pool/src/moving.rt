@@ -18,21 +18,21 @@ ghost use Rattle.el_mempool.specs.Moving.{differs_at};
 ghost use Rattle.el_kept.specs.declared.listing.Listing as listing_shape;
 ghost use Rattle.el_kept.specs.Listings.{txid_of, is_in, AreListed};
 ghost use Rattle.el_kept.specs.Tables.{standing, by_txid, IsTable, HasFewSlots, StandRight};
-ghost use Rattle.el_pool.specs.within.Tables.{flag_by, total_sources, IsOver};
+ghost use Rattle.el_pool.specs.within.Tables.{total_sources, IsOver};
 ghost use Rattle.el_pool.specs.within.Renewal.{with_takes, IsEntry, IsSifted, IsMovedOn};
 
+use crate::asking::Taken;
 use crate::renewing::renewed;
-use crate::room::{fee_of, flag_of};
+use crate::room::fee_of;
 use crate::touching::{have_same_scripts, scripts_of, touch_changes, touch_entry};
 use el_base::{Hash32, Listed, OutOfMemory};
 use el_chain::Touched;
-use el_kept::{Listing, Table, empty_table, list_under, put_new, unlist};
+use el_kept::{Listing, Table, empty_table, list_under, put_new, take_all, unlist};
 use el_mempool::{KeptTx, Source};
 use el_model::{Ledger, QueryFault};
 use indexmap::IndexMap;
 use std::alloc::Global;
 use std::collections::BTreeSet;
-use std::mem;
 
 // The entry with that flag and fee and these inputs. Takes no memory.
 fn taking(entry: KeptTx, flag: i8, fee: u64, inputs: Vec<Source>) -> KeptTx
@@ -77,29 +77,33 @@ fn keep(
     table: &mut Table,
     listings: &mut BTreeSet<Listing>,
     entry: KeptTx,
-    inputs: Vec<Source>,
+    taken: Taken,
     touched: &mut Touched,
 ) -> Result<(), OutOfMemory>
     requires table { IsTable table.old (standing table.old.kept.entries) }
     requires new { by_txid entry.txid (standing table.old.kept.entries) ≡ None }
     requires free { AllByRecursion (λ (s : source_shape.Source).
-        get same_outpoint table.old.spenders s.from ≡ None) inputs.items }
+        get same_outpoint table.old.spenders s.from ≡ None) taken.sources.items }
     requires listed { (l : listing_shape.Listing) → same_hash entry.txid (txid_of l) ≡ true
         → is_in listings.old l ≡ is_at_script l.script.0 entry }
     ensures joined { OnOk result (IsTable table.new (standing table.old.kept.entries
-        ++ with_takes entry (flag_by table.old inputs.items)
-        (total_sources inputs.items - total_held entry.outputs) inputs.items ∷ [])) }
+        ++ with_takes entry taken.flag
+        (total_sources taken.sources.items - total_held entry.outputs) taken.sources.items ∷ [])) }
     ensures slots { HasFewSlots table.old → HasFewSlots table.new }
     ensures listed { (l : listing_shape.Listing) → OnOk result (is_in listings.new l
         ≡ (if same_hash entry.txid (txid_of l)
-        then list_any (has_script l.script.0) entry.outputs || list_any (is_coin_at l.script.0) inputs.items
+        then list_any (has_script l.script.0) entry.outputs
+        || list_any (is_coin_at l.script.0) taken.sources.items
         else is_in listings.old l)) }
     ensures touched { (s : hash_shape.Hash32) → OnOk result (list_any (same_hash s) touched.new
         ≡ (list_any (same_hash s) touched.old || differs_at s.0 entry
-        (with_takes entry (flag_by table.old inputs.items)
-        (total_sources inputs.items - total_held entry.outputs) inputs.items))) }
+        (with_takes entry taken.flag
+        (total_sources taken.sources.items - total_held entry.outputs) taken.sources.items))) }
 {
-    let flag = flag_of(table, inputs.as_slice());
+    let Taken {
+        sources: inputs,
+        flag,
+    } = taken;
     let fee = fee_of(inputs.as_slice(), entry.outputs.as_slice())?;
     touch_changes(alloc, &entry, flag, fee, inputs.as_slice(), touched)?;
     list_again(alloc, listings, &entry, inputs.as_slice())?;
@@ -149,7 +153,7 @@ fn sift_one<G: Ledger>(
     ensures cause { CountsOnly (G.faults ledger.old) (G.faults ledger.new) QueryFault.DiskFailed result }
 {
     match renewed(alloc, table, ledger, &entry)? {
-        Some(inputs) => keep(alloc, table, listings, entry, inputs, touched)?,
+        Some(taken) => keep(alloc, table, listings, entry, taken, touched)?,
         None => leave(listings, &entry, touched)?,
     }
     Ok(())
@@ -190,6 +194,31 @@ fn sift_all<G: Ledger>(
     Ok(touched)
 }
 
+// The table's entries join it anew, where they may be kept over the ledger's chain.
+fn sift_anew<G: Ledger>(
+    alloc: Global,
+    table: &mut Table,
+    listings: &mut BTreeSet<Listing>,
+    ledger: &mut G,
+) -> Result<Touched, QueryFault>
+    requires live { G.is_live ledger.old }
+    requires table { IsTable table.old (standing table.old.kept.entries) }
+    requires listed { AreListed listings.old (standing table.old.kept.entries) }
+    ensures table { OnOk result (IsTable table.new (standing table.new.kept.entries)) }
+    ensures slots { OnOk result (HasFewSlots table.new) }
+    ensures listed { OnOk result (AreListed listings.new (standing table.new.kept.entries)) }
+    ensures sifted { (before chain : Chain) (kept : List shape.Tx)
+        → StandsFor (standing table.old.kept.entries) before kept → G.stands ledger.old chain
+        → IfOk result (λ touched. StandsFor (standing table.new.kept.entries) chain (sift chain kept)
+        × AreChanged before kept chain (sift chain kept) touched) }
+    ensures quiet { Quiet G.is_live G.height G.tip G.buckets G.stands G.tells_crash
+        G.moment G.left_since ledger.old ledger.new }
+    ensures cause { CountsOnly (G.faults ledger.old) (G.faults ledger.new) QueryFault.DiskFailed result }
+{
+    let old = take_all(alloc, table)?;
+    sift_all(alloc, table, listings, ledger, old)
+}
+
 /// Keeps what the sift keeps over the ledger's chain, and gives the script hashes that changed.
 ///
 /// # Errors
@@ -215,8 +244,7 @@ pub fn sift_table<G: Ledger>(
         G.moment G.left_since ledger.old ledger.new }
     ensures cause { CountsOnly (G.faults ledger.old) (G.faults ledger.new) QueryFault.DiskFailed result }
 {
-    let old = mem::replace(table, empty_table(alloc));
-    match sift_all(alloc, table, listings, ledger, old.kept) {
+    match sift_anew(alloc, table, listings, ledger) {
         Ok(touched) => Ok(touched),
         Err(fault) => {
             *table = empty_table(alloc);

@@ -1,12 +1,11 @@
 // Sums of a transaction, and the room for it.
 ghost use Rattle.std.specs.Prelude.{◌≡◌, ◌≢◌, ◌≤◌, ◌-◌, None, Some, IfOk};
-ghost use Rattle.std.specs.List.{list_any};
 ghost use Rattle.el_mempool.specs.Sift.{total_held};
 ghost use Rattle.el_tx.specs.Encoding.{total_value, max_money};
-ghost use Rattle.el_pool.specs.within.Tables.{room_by, total_sources, is_output_at, flag_by};
+ghost use Rattle.el_pool.specs.within.Tables.{room_by, total_sources};
 
 use el_base::OutOfMemory;
-use el_kept::{Table, output_in};
+use el_kept::Table;
 use el_mempool::{Held, PoolFault, PoolLimits, Source};
 use el_tx::TxOut;
 
@@ -52,25 +51,6 @@ pub fn fee_of(inputs: &[Source], outputs: &[Held]) -> Result<u64, OutOfMemory>
         Ok(fee) => Ok(fee),
         Err(_) => Err(OutOfMemory),
     }
-}
-
-// Whether one of the inputs takes an output of a kept transaction. Takes no memory.
-fn any_output(table: &Table, inputs: &[Source]) -> bool
-    ensures { result ≡ list_any (is_output_at table.now) inputs.now }
-{
-    for source in inputs {
-        if output_in(table, &source.from).is_some() {
-            return true;
-        }
-    }
-    false
-}
-
-/// -1 where one of the inputs takes an output of a kept transaction, else 0. Takes no memory.
-pub fn flag_of(table: &Table, inputs: &[Source]) -> i8
-    ensures { result ≡ flag_by table.now inputs.now }
-{
-    if any_output(table, inputs) { -1 } else { 0 }
 }
 
 /// The refusal of a transaction of that size, with these inputs and outputs: it holds more than it takes, or

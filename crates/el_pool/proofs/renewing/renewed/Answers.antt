@@ -19,23 +19,23 @@ returns-then-not-free-clause-goes g c = λ before chain all kept t e over stood.
 pub returns-in_default-clause-goes : goal.returns-in_default-clause-goes
 returns-in_default-clause-goes g c = λ before chain all kept t e over stood.
     when_missing c.args.table.now before chain all kept t c.args.entry.now e over c.as_slice-inputs.result.now c.as_slice-inputs.ensures
-    (if_none c.in_ok-found.field-0 (all_take chain kept c.as_slice-inputs.result.now ≡ false) c.in_default.is
-    (c.in_ok-found.ensures.missing chain kept over (c.in_ok-find_tx.ensures.quiet.stays.still_stands chain stood)))
+    (if_none c.in_ok-taken.field-0 (all_take chain kept c.as_slice-inputs.result.now ≡ false) c.in_default.is
+    (c.in_ok-taken.ensures.missing chain kept over (c.in_ok-find_tx.ensures.quiet.stays.still_stands chain stood)))
 
 pub returns-then-taken_by-held_in-clause-goes : goal.returns-then-taken_by-held_in-clause-goes
 returns-then-taken_by-held_in-clause-goes g c = λ before chain all kept t e over stood.
-    let found = rw c.in-Some.is at (c.in_ok-found.ensures.found chain kept over (c.in_ok-find_tx.ensures.quiet.stays.still_stands chain stood)) in
-    when_short c.args.table.now before chain all kept t c.args.entry.now e over c.as_slice-inputs.result.now c.in-Some.found.items c.as_slice.result.now c.as_slice-2.result.now c.taken_by.result c.held_in.result
+    let found = rw c.in-Some.is at (c.in_ok-taken.ensures.found chain kept over (c.in_ok-find_tx.ensures.quiet.stays.still_stands chain stood)) in
+    when_short c.args.table.now before chain all kept t c.args.entry.now e over c.as_slice-inputs.result.now c.in-Some.taken.sources.items c.as_slice.result.now c.as_slice-2.result.now c.taken_by.result c.held_in.result
     c.as_slice-inputs.ensures found.0 c.as_slice.ensures.value c.as_slice-2.ensures c.taken_by.ensures c.held_in.ensures (lt-ltb c.taken_by.result c.held_in.result c.if-taken_by-held_in.true)
 
 pub returns-clause-stays : goal.returns-clause-stays
 returns-clause-stays g c = λ before chain all kept t e over stood.
-    let found = rw c.in-Some.is at (c.in_ok-found.ensures.found chain kept over (c.in_ok-find_tx.ensures.quiet.stays.still_stands chain stood)) in
-    when_stays c.args.table.now before chain all kept t c.args.entry.now e over c.in_ok-find_tx.field-0 c.as_slice-inputs.result.now c.in-Some.found.items c.as_slice.result.now c.as_slice-2.result.now
+    let found = rw c.in-Some.is at (c.in_ok-taken.ensures.found chain kept over (c.in_ok-find_tx.ensures.quiet.stays.still_stands chain stood)) in
+    when_stays c.args.table.now before chain all kept t c.args.entry.now e over c.in_ok-find_tx.field-0 c.as_slice-inputs.result.now c.in-Some.taken.sources.items c.as_slice.result.now c.as_slice-2.result.now
     c.taken_by.result c.held_in.result c.in_ok-free.free (c.in_ok-find_tx.ensures.spot chain stood) (sym c.is_some.ensures ∙ c.if-is_some.false) c.as_slice-inputs.ensures c.in_ok-free.ensures
     c.if-not-free.false found.1 found.0 c.as_slice.ensures.value c.as_slice-2.ensures c.taken_by.ensures c.held_in.ensures (le-ltb c.taken_by.result c.held_in.result c.if-taken_by-held_in.false)
 
 pub returns-clause-free : goal.returns-clause-free
 returns-clause-free g c =
-    free_from (get same_outpoint c.args.table.now.spenders) c.as_slice-inputs.result.now c.in-Some.found.items
-    (rw c.in-Some.is at c.in_ok-found.ensures.from) (sym c.in_ok-free.ensures ∙ c.if-not-free.false)
+    free_from (get same_outpoint c.args.table.now.spenders) c.as_slice-inputs.result.now c.in-Some.taken.sources.items
+    (rw c.in-Some.is at c.in_ok-taken.ensures.from) (sym c.in_ok-free.ensures ∙ c.if-not-free.false)
