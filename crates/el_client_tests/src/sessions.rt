@@ -6,7 +6,7 @@ use crate::methods::{World, decoded, reply, request, says, world_of};
 use el_base::{Bytes, Hash32, sha256};
 use el_fakes::MemArchive;
 use el_gen::{BLOCK_1, GENESIS, block, block_bytes, coinbase, locking_script};
-use el_methods::SUBSCRIPTION_LIMIT;
+use el_sessions::SUBSCRIPTION_LIMIT;
 use el_tx::{block_hash, encode_header};
 use std::alloc::Global;
 use std::test::Fail;

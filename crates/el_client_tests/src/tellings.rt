@@ -5,10 +5,10 @@ use crate::views::{SCRIPT_100, SCRIPT_101, SCRIPT_EMPTY, again, hash, part, told
 use el_base::{Bytes, Hash32};
 use el_chain::Touched;
 use el_gen::{BLOCK_1, GENESIS};
-use el_methods::{Session, Subs};
 use el_model::Ledger;
 use el_plain::PlainLedger;
 use el_pool::Pool;
+use el_sessions::{Session, Subs};
 use el_subs::{notify, tell};
 use std::alloc::Global;
 use std::test::Fail;

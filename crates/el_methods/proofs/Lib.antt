@@ -1,6 +1,5 @@
 mod Heights
 mod Found
-mod Subscribing
 pub mod Places
 mod Printable
 mod ManyHeaders

@@ -12,12 +12,12 @@ use Rattle.el_methods.specs.Outcomes.{IsReplyWith, TellsNoFiles}
 use Rattle.el_methods.specs.declared.stop.Stop.{Stop}
 use Rattle.el_methods.specs.declared.stop.Stop.TheVariants as stop
 use Rattle.el_calls.specs.Versions.{is_shared}
-use Rattle.el_methods.specs.Sessions.{Subscription}
-use Rattle.el_methods.specs.declared.session.Version.{Version}
-use Rattle.el_methods.specs.declared.session.Version.TheVariants as version
+use Rattle.el_sessions.specs.Sessions.{Subscription}
+use Rattle.el_sessions.specs.declared.session.Version.{Version}
+use Rattle.el_sessions.specs.declared.session.Version.TheVariants as version
 use Rattle.el_calls.specs.declared.call.VersionParts.{VersionParts}
 use Rattle.el_calls.specs.declared.refusal.Refusal.TheVariants as refusal
-use Rattle.el_methods.specs.declared.session.Session.{Session}
+use Rattle.el_sessions.specs.declared.session.Session.{Session}
 use Rattle.el_calls.specs.declared.call.Call.{Call}
 use Rattle.el_calls.specs.declared.call.Call.TheVariants as call
 use Rattle.el_calls.specs.declared.refusal.Refusal.{Refusal}

@@ -30,9 +30,9 @@ use Rattle.el_view.specs.declared.views.Balance.{Balance}
 use Rattle.el_model.specs.Queries.{header_at, height_of, hashes_to, newest, txids_at}
 use Rattle.el_methods.specs.declared.limits.TheConstants.{ENTRY_LIMIT}
 use Rattle.el_calls.specs.Methods.{◌>>=◌}
-use Rattle.el_methods.specs.Sessions.{Subscription, is_subscribed, subscribed}
+use Rattle.el_sessions.specs.Sessions.{Subscription, is_subscribed, subscribed}
 use Rattle.el_methods.specs.declared.blocks.TheConstants.{HEADER_LIMIT}
-use Rattle.el_methods.specs.declared.session.TheConstants.{SUBSCRIPTION_LIMIT}
+use Rattle.el_sessions.specs.declared.session.TheConstants.{SUBSCRIPTION_LIMIT}
 use Rattle.el_calls.specs.declared.refusal.Refusal.{Refusal}
 use Rattle.el_calls.specs.declared.refusal.Refusal.TheVariants as refusal
 

@@ -10,6 +10,7 @@ ghost use Rattle.el_methods.specs.Archives.{HasTransactions};
 ghost use Rattle.el_methods.specs.RowBounds.{rows_of};
 ghost use Rattle.el_methods.specs.Outcomes.{IsReplyWith, IsCounted, IsDiskCounted, TellsNoFiles, IsPrintableAnswer};
 ghost use Rattle.el_methods.specs.Replied.{replied, reads_files, agreed};
+ghost use Rattle.el_sessions.specs.Sessions.{Extends};
 ghost use Rattle.el_methods.specs.declared.stop.Stop.TheVariants as stop;
 ghost use Rattle.serde_json.specs.Data.{array, item, no_items, string};
 
@@ -19,7 +20,6 @@ use crate::headers::block_header;
 use crate::holdings::Holdings;
 use crate::in_block::{get_merkle, id_from_pos};
 use crate::lists::{get_balance, get_history, get_mempool, list_unspent};
-use crate::session::{Session, Version};
 use crate::statuses::script_hash_subscribe;
 use crate::stop::Stop;
 use crate::transactions::transaction_get;
@@ -28,6 +28,7 @@ use el_calls::{Call, Refusal, VersionParts, is_shared};
 use el_json::{Answer, Answers};
 use el_model::Ledger;
 use el_outside::Archive;
+use el_sessions::{Session, Version};
 use std::alloc::Global;
 
 const BANNER: &str = "Electrum Protocol 1.4 server over block files";
@@ -52,6 +53,7 @@ fn agree(
 ) -> Result<Answer, Stop>
     ensures answer { IsReplyWith (agreed session.old session.old.version least most) session.old
         session.new result }
+    ensures same { session.new.subs ≡ session.old.subs }
     ensures printable { IsPrintableAnswer result }
     ensures counted { IsDiskCounted (λ n. n ≡ 0) result }
 {
@@ -75,6 +77,7 @@ fn no_list(alloc: Global) -> Answer
 
 /// The answer to a call (Electrum Protocol 1.4), over the ledger's chain and the unconfirmed transactions
 /// that are held.
+#[tactic(auto, using(el_sessions::proofs::Subscribing::extends_same))]
 pub fn answer<G: Ledger, A: Archive>(
     alloc: Global,
     ledger: &mut G,
@@ -100,6 +103,8 @@ pub fn answer<G: Ledger, A: Archive>(
     ensures unchanged { (chain : Chain) → G.stands ledger.old chain → A.tells
         → HasTransactions (A.bytes archive.new) chain → result ≢ Err stop.Changed }
     ensures still { (kept : List shape.Tx) → reads_files kept call ≡ true → session.new ≡ session.old }
+    // Subscriptions only grow, at the end, whatever the ledger stands for.
+    ensures extends { Extends session.old.subs session.new.subs }
     ensures printable { IsPrintableAnswer result }
     ensures rows { (chain : Chain) → G.stands ledger.old chain
         → G.reads ledger.new ≤ G.reads ledger.old + rows_of chain (G.buckets ledger.old) call }

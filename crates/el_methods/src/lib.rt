@@ -10,7 +10,6 @@ mod in_block;
 mod laws;
 mod limits;
 mod lists;
-mod session;
 mod statuses;
 mod stop;
 mod texts;
@@ -24,7 +23,6 @@ pub use laws::{
     transactions_stay,
 };
 pub use limits::ENTRY_LIMIT;
-pub use session::{SUBSCRIPTION_LIMIT, Session, Subs, SubsFault, Version};
 pub use statuses::told_of;
 pub use stop::Stop;
 pub use texts::shown_of;

@@ -4,7 +4,7 @@ use Rattle.serde_json.specs.Data.{Data}
 use Rattle.el_json.specs.declared.request.Request.{Request}
 use Rattle.el_json.specs.declared.request.Item.{Item}
 use Rattle.el_calls.specs.declared.refusal.Refusal.{Refusal}
-use Rattle.el_methods.specs.declared.session.Session.{Session}
+use Rattle.el_sessions.specs.declared.session.Session.{Session}
 use Rattle.el_replies.specs.declared.batch.Replies.{Replies}
 use Rattle.el_replies.specs.Batches.{Step, Steps, CutStep, CutSteps, Completes, CutCompletes}
 

@@ -1,3 +1,3 @@
 mod BatchLoop
 mod Losing
-mod LineEnds
+pub mod LineEnds

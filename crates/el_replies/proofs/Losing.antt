@@ -20,7 +20,7 @@ use Rattle.el_replies.specs.Requested as reply
 use Rattle.el_methods.specs.Outcomes.{IsCounted}
 use Rattle.el_calls.specs.declared.refusal.Refusal.{Refusal}
 use Rattle.el_calls.specs.declared.refusal.Refusal.TheVariants as refusal
-use Rattle.el_methods.specs.declared.session.Session.{Session}
+use Rattle.el_sessions.specs.declared.session.Session.{Session}
 use Rattle.el_replies.specs.declared.batch.Replies.{Replies}
 use Rattle.el_replies.specs.declared.batch.TheConstants.{BATCH_LIMIT}
 use Rattle.el_methods.specs.declared.stop.Stop.{Stop}

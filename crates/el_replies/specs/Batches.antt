@@ -10,7 +10,7 @@ use Rattle.el_json.specs.declared.request.Item.TheVariants.{Good, Invalid}
 use Rattle.el_replies.specs.Envelopes.{reply_value}
 use Rattle.el_calls.specs.declared.refusal.Refusal.{Refusal}
 use Rattle.el_calls.specs.declared.refusal.Refusal.TheVariants as refusal
-use Rattle.el_methods.specs.declared.session.Session.{Session}
+use Rattle.el_sessions.specs.declared.session.Session.{Session}
 use Rattle.el_replies.specs.declared.batch.Replies.{Replies}
 use Rattle.el_replies.specs.declared.batch.TheConstants.{BATCH_LIMIT}
 

@@ -15,7 +15,7 @@ use Rattle.el_replies.specs.Batches.{Steps, Cut, CutSteps, is_closing}
 use Rattle.el_replies.specs.declared.line.LineReply.{LineReply}
 use Rattle.el_calls.specs.declared.refusal.Refusal.{Refusal}
 use Rattle.el_calls.specs.declared.refusal.Refusal.TheVariants as refusal
-use Rattle.el_methods.specs.declared.session.Session.{Session}
+use Rattle.el_sessions.specs.declared.session.Session.{Session}
 use Rattle.el_replies.specs.declared.batch.Replies.{Replies}
 
 -- the message with one reply

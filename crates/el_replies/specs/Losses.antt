@@ -12,7 +12,7 @@ use Rattle.el_methods.specs.Replied.{IsGiven}
 use Rattle.el_replies.specs.Requested.{told_of}
 use Rattle.el_calls.specs.declared.call.Call.{Call}
 use Rattle.el_calls.specs.declared.refusal.Refusal.{Refusal}
-use Rattle.el_methods.specs.declared.session.Session.{Session}
+use Rattle.el_sessions.specs.declared.session.Session.{Session}
 use Rattle.el_methods.specs.declared.stop.Stop.{Stop}
 use Rattle.el_methods.specs.declared.stop.Stop.TheVariants as stop
 

@@ -10,15 +10,17 @@ ghost use Rattle.el_replies.specs.Losses.{AnswersOf, Loses};
 ghost use Rattle.el_replies.specs.Batches.{added, with_reply, is_closing, InTime, Step, Steps, Cut, CutStep, CutSteps};
 ghost use Rattle.el_json.specs.Lines.{HasPrintableId, IsPrintableId};
 ghost use Rattle.el_methods.specs.Outcomes.{IsPrintableAnswer};
+ghost use Rattle.el_sessions.specs.Sessions.{Extends};
 
 use crate::replies::reply_text;
 use crate::requested::answer_request;
 use el_base::{Bytes, OutOfMemory};
 use el_calls::Refusal;
 use el_json::{Answer, Elements, Item, Request};
-use el_methods::{Holdings, Session};
+use el_methods::Holdings;
 use el_model::Ledger;
 use el_outside::Archive;
+use el_sessions::Session;
 use std::alloc::Global;
 
 /// How many bytes the replies of a batch may have together before its later requests are refused.
@@ -104,6 +106,7 @@ fn answer_in_time<G: Ledger, A: Archive>(
         request before session.old replies.old after session.new replies.new)
         (λ _. Cut (AnswersOf (A.tells × HasTransactions files chain) chain kept holdings.now.tree)
         request before session.old after)) }
+    ensures extends { Extends session.old.subs session.new.subs }
     ensures disk_more { G.faults ledger.old ≤ G.faults ledger.new }
     ensures archive_more { A.faults archive.old ≤ A.faults archive.new }
     ensures quiet { Quiet G.is_live G.height G.tip G.buckets G.stands G.tells_crash
@@ -115,6 +118,7 @@ fn answer_in_time<G: Ledger, A: Archive>(
 }
 
 // Answers an element of a batch.
+#[tactic(auto, using(el_sessions::proofs::Subscribing::extends_same))]
 fn answer_item<G: Ledger, A: Archive>(
     alloc: Global,
     ledger: &mut G,
@@ -135,6 +139,7 @@ fn answer_item<G: Ledger, A: Archive>(
         item before session.old replies.old after session.new replies.new)
         (λ _. CutStep (AnswersOf (A.tells × HasTransactions files chain) chain kept holdings.now.tree)
         item before session.old replies.old after)) }
+    ensures extends { Extends session.old.subs session.new.subs }
     ensures disk_more { G.faults ledger.old ≤ G.faults ledger.new }
     ensures archive_more { A.faults archive.old ≤ A.faults archive.new }
     ensures quiet { Quiet G.is_live G.height G.tip G.buckets G.stands G.tells_crash
@@ -175,6 +180,7 @@ pub fn answer_items<G: Ledger, A: Archive>(
         elements.old before session.old replies.old after session.new replies.new)
         (λ _. CutSteps (AnswersOf (A.tells × HasTransactions files chain) chain kept holdings.now.tree)
         elements.old before session.old replies.old after)) }
+    ensures extends { Extends session.old.subs session.new.subs }
     ensures disk_more { G.faults ledger.old ≤ G.faults ledger.new }
     ensures archive_more { A.faults archive.old ≤ A.faults archive.new }
     ensures quiet { Quiet G.is_live G.height G.tip G.buckets G.stands G.tells_crash

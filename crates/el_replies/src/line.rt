@@ -11,6 +11,7 @@ ghost use Rattle.el_replies.specs.Losses.{AnswersOf, Loses};
 ghost use Rattle.el_replies.specs.Batches.{Cut, CutSteps};
 ghost use Rattle.el_replies.specs.LineReplies.{message, reply_to, says, batch_message, no_replies, IsReplyTo, IsLineReply};
 ghost use Rattle.el_methods.specs.Outcomes.{IsPrintableAnswer};
+ghost use Rattle.el_sessions.specs.Sessions.{Extends};
 
 use crate::batch::{Replies, answer_items, is_closing};
 use crate::replies::reply_text;
@@ -18,9 +19,10 @@ use crate::requested::answer_request;
 use el_base::{Bytes, OutOfMemory};
 use el_calls::Refusal;
 use el_json::{Answer, Elements, Envelope, LineFault, Request, read_line};
-use el_methods::{Holdings, Session};
+use el_methods::Holdings;
 use el_model::Ledger;
 use el_outside::Archive;
+use el_sessions::Session;
 use std::alloc::Global;
 
 /// What comes of a client's line.
@@ -105,6 +107,7 @@ fn one_reply<G: Ledger, A: Archive>(
         (Ok (Envelope.One request)) before session.old after session.new reply)
         (λ _. Cut (AnswersOf (A.tells × HasTransactions files chain) chain kept holdings.now.tree)
         request before session.old after)) }
+    ensures extends { Extends session.old.subs session.new.subs }
     ensures disk_more { G.faults ledger.old ≤ G.faults ledger.new }
     ensures archive_more { A.faults archive.old ≤ A.faults archive.new }
     ensures quiet { Quiet G.is_live G.height G.tip G.buckets G.stands G.tells_crash
@@ -146,6 +149,7 @@ fn batch_reply<G: Ledger, A: Archive>(
         (Ok (Envelope.Batch elements)) before session.old after session.new reply)
         (λ _. CutSteps (AnswersOf (A.tells × HasTransactions files chain) chain kept holdings.now.tree)
         elements before session.old no_replies after)) }
+    ensures extends { Extends session.old.subs session.new.subs }
     ensures disk_more { G.faults ledger.old ≤ G.faults ledger.new }
     ensures archive_more { A.faults archive.old ≤ A.faults archive.new }
     ensures quiet { Quiet G.is_live G.height G.tip G.buckets G.stands G.tells_crash
@@ -184,6 +188,7 @@ fn fault_reply(alloc: Global, id: Answer, refusal: Refusal) -> Result<LineReply,
 
 /// What comes of a line of a client, which stands without the byte 10 that ended it. What is lost meanwhile
 /// is told to the client in the replies, and is counted also where memory runs out before there is one.
+#[tactic(auto, using(el_sessions::proofs::Subscribing::extends_same))]
 pub fn reply_line<G: Ledger, A: Archive>(
     alloc: Global,
     ledger: &mut G,
@@ -201,6 +206,8 @@ pub fn reply_line<G: Ledger, A: Archive>(
         (λ before after. IsLineReply
         (AnswersOf (A.tells × HasTransactions files chain) chain kept holdings.now.tree)
         line.now before session.old after session.new result) }
+    // Subscriptions only grow, at the end, whatever the ledger stands for.
+    ensures extends { Extends session.old.subs session.new.subs }
     ensures disk_more { G.faults ledger.old ≤ G.faults ledger.new }
     ensures archive_more { A.faults archive.old ≤ A.faults archive.new }
     ensures quiet { Quiet G.is_live G.height G.tip G.buckets G.stands G.tells_crash

@@ -11,7 +11,7 @@ use Rattle.std.proofs.Math.Seq.{take-suc}
 use Rattle.indexmap.specs.Layout.{set_value_at}
 use Rattle.el_base.specs.declared.hash.Hash32.{Hash32}
 use Rattle.el_chain.specs.Headers.{same_hash}
-use Rattle.el_methods.specs.Sessions.{Subscription, is_subscribed}
+use Rattle.el_sessions.specs.Sessions.{Subscription, is_subscribed}
 use Rattle.el_subs.specs.Told.{is_news, retold, news, marked, IsTold, AllTold, OthersTold, is_touched, cost_of}
 use Rattle.el_subs.specs.within.Partly.{partly, SoFar}
 

@@ -11,8 +11,8 @@ use Rattle.el_chain.specs.Headers.{same_hash}
 use Rattle.el_model.specs.Queries.{tip_of}
 use Rattle.el_calls.specs.declared.refusal.Refusal.{Refusal}
 use Rattle.el_methods.specs.Results.{object_of, shown_hash, told, headers_subscribe}
-use Rattle.el_methods.specs.Sessions.{Subscription}
-use Rattle.el_methods.specs.declared.session.Session.{Session}
+use Rattle.el_sessions.specs.Sessions.{Subscription}
+use Rattle.el_sessions.specs.declared.session.Session.{Session}
 use Rattle.el_subs.specs.Told.{news, marked}
 
 -- a notification of this method, whose parameters are this list

@@ -8,7 +8,7 @@ use Rattle.el_tx.specs.declared.types.Tx.{Tx}
 use Rattle.el_chain.specs.Chains.{Chain}
 use Rattle.el_chain.specs.Headers.{same_hash}
 use Rattle.el_status.specs.Statuses as defined
-use Rattle.el_methods.specs.Sessions.{Subscription}
+use Rattle.el_sessions.specs.Sessions.{Subscription}
 
 -- the statuses of script hashes
 abbrev pub status : Chain → List Tx → Hash32 → Option Hash32

@@ -19,9 +19,10 @@ use crate::telling::tell;
 use el_base::{Bytes, Hash32, OutOfMemory};
 use el_chain::Touched;
 use el_json::{Answer, Answers, Members, print_answer};
-use el_methods::{Session, Stop, headers_subscribe, shown_of, told_of};
+use el_methods::{Stop, headers_subscribe, shown_of, told_of};
 use el_model::{Ledger, QueryFault};
 use el_pool::Pool;
+use el_sessions::Session;
 use std::alloc::Global;
 
 // A notification of this method, whose parameters are this list, as it is sent.
@@ -133,6 +134,8 @@ pub fn notify<G: Ledger>(
         → G.reads ledger.new ≤ G.reads ledger.old
         + (1 + cost_of (λ (x : hash_shape.Hash32). history_rows chain (G.buckets ledger.old) x.0) touched.now
         (keys_of session.old.subs)) }
+    // The script hashes stay, whatever the ledger stands for.
+    ensures keys { keys_of session.new.subs ≡ keys_of session.old.subs }
     ensures quiet { Quiet G.is_live G.height G.tip G.buckets G.stands G.tells_crash
         G.moment G.left_since ledger.old ledger.new }
     ensures cause { CountsOnly (G.faults ledger.old) (G.faults ledger.new) QueryFault.DiskFailed result }

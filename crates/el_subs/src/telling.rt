@@ -10,14 +10,14 @@ ghost use Rattle.el_chain.specs.Chains.{Chain};
 ghost use Rattle.el_model.specs.Keeping.{Quiet};
 ghost use Rattle.el_mempool.specs.Standing.{StandsFor};
 ghost use Rattle.el_view.specs.Rows.{history_rows};
-ghost use Rattle.el_methods.specs.Sessions.{Subscription};
+ghost use Rattle.el_sessions.specs.Sessions.{Subscription};
 ghost use Rattle.el_subs.specs.Told.{status, news, marked, IsTold, OthersTold, cost_of, is_touched};
 
 use el_base::Hash32;
 use el_chain::Touched;
-use el_methods::Subs;
 use el_model::{Ledger, QueryFault};
 use el_pool::Pool;
+use el_sessions::Subs;
 use el_view::view_status;
 use std::alloc::Global;
 
@@ -101,6 +101,8 @@ pub fn tell<G: Ledger>(
         → G.reads ledger.new ≤ G.reads ledger.old
         + cost_of (λ (x : hash_shape.Hash32). history_rows chain (G.buckets ledger.old) x.0) touched.now
         (keys_of subs.old) }
+    // The script hashes stay, whatever the ledger stands for.
+    ensures keys { keys_of subs.new ≡ keys_of subs.old }
     ensures quiet { Quiet G.is_live G.height G.tip G.buckets G.stands G.tells_crash
         G.moment G.left_since ledger.old ledger.new }
     ensures cause { CountsOnly (G.faults ledger.old) (G.faults ledger.new) QueryFault.DiskFailed result }

@@ -16,7 +16,7 @@ use Rattle.el_chain.specs.declared.coin.Coin.{Coin}
 use Rattle.el_chain.specs.Chains.{Chain}
 use Rattle.el_chain.specs.Coins.{without, coins, supply}
 use Rattle.el_chain.specs.CoinLaws.{coins_made}
-use Rattle.el_chain.specs.within.CoinTables.{coin_in, AreOnce}
+use Rattle.el_chain.specs.CoinLists.{coin_in, AreOnce}
 use Rattle.el_chain.proofs.CoinLists.{same_gives, same_self, in_without, once_without}
 use Rattle.el_model.specs.Queries as confirmed
 use Rattle.el_mempool.specs.declared.held.Held.{Held}

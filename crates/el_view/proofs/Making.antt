@@ -15,7 +15,7 @@ use Rattle.el_chain.specs.Chains.{Chain}
 use Rattle.el_chain.specs.Coins.{without, spend_inputs, coin_made, add_coin, add_outputs, coins_left, coins_after, coins_after_all, coins_from, coins}
 use Rattle.el_chain.specs.CoinLaws.{coins_made}
 use Rattle.el_chain.specs.Headers.{same_hash}
-use Rattle.el_chain.specs.within.CoinTables.{coin_in, AreOnce}
+use Rattle.el_chain.specs.CoinLists.{coin_in, AreOnce}
 use Rattle.el_chain.proofs.CoinLists.{same_gives, in_more, once_more, once_without, once_put}
 use Rattle.el_mempool.specs.Sift.{coin_held, coin_named, output_held, output_of, output_among, named, is_confirmed}
 use Rattle.el_mempool.specs.Unconfirmed.{made}

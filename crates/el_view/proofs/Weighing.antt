@@ -8,7 +8,7 @@ use Rattle.el_tx.specs.declared.types.Outpoint.{Outpoint}
 use Rattle.el_tx.specs.Hashing.{same_outpoint}
 use Rattle.el_chain.specs.declared.coin.Coin.{Coin}
 use Rattle.el_chain.specs.Coins.{without, supply}
-use Rattle.el_chain.specs.within.CoinTables.{coin_in, AreOnce}
+use Rattle.el_chain.specs.CoinLists.{coin_in, AreOnce}
 use Rattle.el_chain.proofs.CoinLists.{same_gives, without_none}
 use Rattle.el_mempool.specs.Unconfirmed.{put, in_order}
 

@@ -27,9 +27,9 @@ use Rattle.el_methods.specs.Outcomes.{IsReplyWith}
 use Rattle.el_methods.specs.Replied.{replied, reads_files, IsGiven, with_session, with_headers}
 use Rattle.el_methods.specs.Replied.{with_subscriptions, agreed}
 use Rattle.el_methods.specs.Results as result
-use Rattle.el_methods.specs.Sessions.{Subscription, is_to, subscribed}
-use Rattle.el_methods.specs.declared.session.Session.{Session}
-use Rattle.el_methods.specs.declared.session.Version.{Version}
+use Rattle.el_sessions.specs.Sessions.{Subscription, is_to, subscribed}
+use Rattle.el_sessions.specs.declared.session.Session.{Session}
+use Rattle.el_sessions.specs.declared.session.Version.{Version}
 use Rattle.el_methods.specs.declared.stop.Stop.{Stop}
 use Rattle.el_methods.specs.declared.stop.Stop.TheVariants as stop
 use Rattle.el_replies.specs.Batches.{InTime, Step, Steps, with_reply}

@@ -16,7 +16,7 @@ use Rattle.el_world.specs.declared.limits.TheConstants.{CLIENT_LIMIT}
 use Rattle.el_lines.specs.Lines.{LineEvent, line, too_long, added_lines}
 use Rattle.el_lines.specs.NodeAnswers.{node_limit}
 use Rattle.el_world.specs.Plans.{IsMoving}
-use Rattle.el_methods.specs.declared.session.Session as client
+use Rattle.el_sessions.specs.declared.session.Session as client
 use Rattle.el_methods.specs.Archives.{HasTransactions}
 use Rattle.el_replies.specs.Losses.{AnswersOf}
 use Rattle.el_replies.specs.LineReplies.{IsLineReply}

@@ -6,7 +6,7 @@ ghost use Rattle.el_chain.specs.Chains.{Chain};
 ghost use Rattle.el_chain.specs.Headers.{AreLinked};
 ghost use Rattle.el_chain.specs.declared.moves.Plan as moving;
 ghost use Rattle.el_chain.specs.declared.node.Node as found;
-ghost use Rattle.el_methods.specs.declared.session.Session as client;
+ghost use Rattle.el_sessions.specs.declared.session.Session as client;
 ghost use Rattle.el_replies.specs.declared.line.LineReply as line;
 ghost use Rattle.el_subs.specs.Told.{status, AllTold};
 ghost use Rattle.el_world.specs.Plans.{IsMoving, plan, plans_of, plan_of, left_of, rest_of, common};

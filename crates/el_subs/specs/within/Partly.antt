@@ -1,7 +1,7 @@
 -- Subscriptions of which the first are told.
 use Rattle.std.specs.Prelude.{◌≡◌, ℕ, zero, suc, List, [], ◌∷◌, ◌++◌, drop, Option}
 use Rattle.el_base.specs.declared.hash.Hash32.{Hash32}
-use Rattle.el_methods.specs.Sessions.{Subscription}
+use Rattle.el_sessions.specs.Sessions.{Subscription}
 use Rattle.el_subs.specs.Told.{news, retold}
 
 module _ (status : Hash32 → Option Hash32) where

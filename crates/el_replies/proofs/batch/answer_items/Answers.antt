@@ -2,6 +2,7 @@ use Rattle.std.proofs.Common.{◌≡◌, [], refl, arith}
 use Rattle.el_outside.proofs.Traces.{all_grow_none, all_grow_more}
 use Rattle.el_model.proofs.Quiets.{quiet_none, quiet_on}
 use Rattle.el_methods.specs.Archives.{HasTransactions}
+use Rattle.el_sessions.proofs.Subscribing.{extends_same, extends_more}
 use Rattle.el_replies.specs.Losses.{AnswersOf}
 use Rattle.el_replies.proofs.BatchLoop.{begins, cut_begins, goes_on, cut_goes_on, ends, cut_here}
 use Rattle.el_replies.proofs.Losing.{so, none_lost, both, failed}
@@ -14,6 +15,7 @@ loop-item-init g c =
       quiet = quiet_none l.is_live l.height l.tip l.buckets l.stands l.tells_crash l.moment l.left_since
           c.args.ledger.now;
       grows = λ tells. all_grow_none _;
+      extends = extends_same c.args.session.now.subs;
       disk_more = omega arith;
       archive_more = omega arith;
       so_far = λ chain kept files stands over grew.
@@ -33,6 +35,7 @@ loop-item-preserved g c =
           c.loop-item.invariant.quiet c.answer_item.ensures.quiet;
       grows = λ tells. all_grow_more _ _ _ (c.loop-item.invariant.grows tells)
           (c.answer_item.ensures.grows tells);
+      extends = extends_more _ _ _ c.loop-item.invariant.extends c.answer_item.ensures.extends;
       disk_more = omega (arith, c.loop-item.invariant.disk_more, c.answer_item.ensures.disk_more);
       archive_more = omega (arith, c.loop-item.invariant.archive_more, c.answer_item.ensures.archive_more);
       so_far = λ chain kept files stands over grew.
@@ -80,3 +83,6 @@ returns-in_err-answer_item-clause-quiet g c =
     let l = g.G.Ledger in
     quiet_on l.is_live l.height l.tip l.buckets l.stands l.tells_crash l.moment l.left_since _ _ _
     c.loop-item.invariant.quiet c.in_err-answer_item.ensures.quiet
+
+pub returns-in_err-answer_item-clause-extends : goal.returns-in_err-answer_item-clause-extends
+returns-in_err-answer_item-clause-extends g c = extends_more _ _ _ c.loop-item.invariant.extends c.in_err-answer_item.ensures.extends

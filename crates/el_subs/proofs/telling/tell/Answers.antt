@@ -54,3 +54,6 @@ returns-clause-marked g c = λ chain kept stood stands others.
     (told_all (status chain kept) c.args.subs.now c.loop-number.number c.loop-number.found.items c.loop-number.subs
     (let h = c.held-number-end.ensures in let a = c.loop-number-test.false in let b = c.loop-number.auto.number-end in omega arith)
     (c.loop-number.invariant.so_far chain kept stood stands others)).1
+
+pub returns-in_err-tell_one-clause-keys : goal.returns-in_err-tell_one-clause-keys
+returns-in_err-tell_one-clause-keys g c = c.in_err-tell_one.ensures.keys ∙ c.loop-number.invariant.keys

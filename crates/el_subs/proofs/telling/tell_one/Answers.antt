@@ -4,7 +4,7 @@ use Rattle.std.specs.Option.{option_eq}
 use Rattle.el_base.specs.declared.hash.Hash32.{Hash32}
 use Rattle.el_chain.specs.Headers.{same_hash}
 use Rattle.el_view.specs.Rows.{history_rows}
-use Rattle.el_methods.specs.Sessions.{Subscription}
+use Rattle.el_sessions.specs.Sessions.{Subscription}
 use Rattle.el_subs.specs.Told.{status, is_touched, IsTold}
 use Rattle.el_subs.proofs.News.{nothing_told, same_told, not_false, one_some, key_at}
 use Rattle.el_subs.proofs.telling.tell_one.Goals as goal

@@ -1,8 +1,8 @@
 // What is kept of a client for its requests.
 ghost use Rattle.std.specs.Prelude.{◌≡◌, ◌<◌, ◌≤◌, ℕ, List, [], length, slice_get, OnOk, OnErr, IfErr, false};
 ghost use Rattle.indexmap.specs.Layout.{set_value_at};
-ghost use Rattle.el_methods.specs.Sessions.{is_subscribed, subscribed};
-ghost use Rattle.el_methods.specs.declared.session.SubsFault.TheVariants as fault;
+ghost use Rattle.el_sessions.specs.Sessions.{is_subscribed, subscribed};
+ghost use Rattle.el_sessions.specs.declared.session.SubsFault.TheVariants as fault;
 
 use el_base::{Hash32, OutOfMemory};
 use indexmap::IndexMap;

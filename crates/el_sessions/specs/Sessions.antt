@@ -1,6 +1,7 @@
 -- What the server keeps of a client for its requests (Electrum Protocol 1.4).
-use Rattle.std.specs.Prelude.{Bool, if◌then◌else◌, List, [], ◌∷◌, Option}
+use Rattle.std.specs.Prelude.{◌≡◌, Bool, if◌then◌else◌, List, [], ◌∷◌, ◌++◌, Option}
 use Rattle.std.specs.List.{list_any}
+use Rattle.std.specs.Map.{keys_of}
 use Rattle.std.specs.Str.{bytes_eq}
 use Rattle.el_base.specs.declared.hash.Hash32.{Hash32}
 
@@ -21,3 +22,8 @@ is_subscribed s subs = list_any (is_to s) subs
 abbrev pub subscribed : Hash32 → Option Hash32 → List Subscription → List Subscription
 subscribed s told [] = (s, told) ∷ []
 subscribed s told (sub ∷ subs) = if is_to s sub then (sub.0, told) ∷ subs else sub ∷ subscribed s told subs
+
+-- The script hashes are those that there were, in their order, and then others.
+pub record Extends (was now : List Subscription) : Type 0 where
+  pub more : List Hash32
+  pub keys : keys_of now ≡ keys_of was ++ more
