@@ -5,13 +5,21 @@ use Rattle.el_lines.specs.Lines.{LineEvent, line, too_long, cut}
 use Rattle.el_lines.specs.declared.line_buffer.LineEvent as given
 use Rattle.el_lines.specs.declared.line_buffer.LineEvent.TheVariants as event
 
--- Contracts see a line buffer as this: how many bytes a line may have without its byte 10; the bytes that
--- were fed and belong to no event that was given; and whether the line that is fed now was given as too long,
--- so that its rest is skipped.
+-- What a line buffer is at: how many bytes a line may have without its byte 10; the bytes that were fed and
+-- belong to no event that was given; and whether the line that is fed now was given as too long, so that its
+-- rest is skipped.
 pub record LineState : Type 0 where
   pub limit : ℕ
   pub rest : List ℕ
   pub skips : Bool
+
+-- Contracts see a line buffer as this: what it is at; how many bytes it keeps; how many of those that are held
+-- are not known to be no byte 10; and how often a byte that was fed was looked at.
+pub record BufferState : Type 0 where
+  pub state : LineState
+  pub kept : ℕ
+  pub unsearched : ℕ
+  pub looks : ℕ
 
 -- none of the bytes is this one
 abbrev pub HasNone : ℕ → List ℕ → Type 0

@@ -1,14 +1,29 @@
 // Parts of bytes.
-ghost use Rattle.std.specs.Prelude.{◌≡◌, ◌≤◌, length, drop, take, MatchOption};
+ghost use Rattle.std.specs.Prelude.{◌≡◌, ◌≤◌, ◌+◌, length, drop, take, MatchOption};
 ghost use Rattle.el_lines.specs.LineStates.{HasNone};
 ghost use Rattle.el_lines.specs.within.Places.{IsSearched, StandsFirst};
 
-// Where the byte stands first, which is none of the first `seen` bytes.
-pub(crate) fn byte_at(bytes: &[u8], byte: u8, seen: usize) -> Option<usize>
-    requires { IsSearched byte bytes.now seen }
+use crate::look_count::LookCount;
+
+// Where the byte stands first.
+pub(crate) fn byte_at(bytes: &[u8], byte: u8) -> Option<usize>
     ensures { MatchOption result (HasNone byte bytes.now) (λ place. StandsFirst byte bytes.now place) }
 {
+    byte_from(bytes, byte, 0, &mut LookCount::new())
+}
+
+// Where the byte stands first, which is none of the first `seen` bytes. Each byte after these is looked at
+// once, up to the one that is found.
+pub(crate) fn byte_from(bytes: &[u8], byte: u8, seen: usize, looks: &mut LookCount) -> Option<usize>
+    requires { IsSearched byte bytes.now seen }
+    ensures found { MatchOption result
+        (HasNone byte bytes.now) (λ place. StandsFirst byte bytes.now place) }
+    ensures looks { MatchOption result
+        (looks.new + seen ≡ looks.old + length bytes.now)
+        (λ place. (seen ≤ place) × (looks.new + seen ≡ looks.old + (place + 1))) }
+{
     for place in seen..bytes.len() {
+        looks.tick();
         if bytes[place] == byte {
             return Some(place);
         }

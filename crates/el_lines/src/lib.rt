@@ -2,17 +2,20 @@
 //! the answers to the node are printed.
 #![tactic(auto)]
 
+mod answer_room;
 mod bytes;
 mod chain_end;
 mod laws;
 mod limits;
 mod line_buffer;
+mod look_count;
 mod node_answer;
 mod node_line;
 mod number;
 mod pool_answer;
 
-pub use chain_end::{AT_SIZE, at_answer, at_answer_in, room_for_at};
+pub use answer_room::{ANSWER_SIZE, AnswerRoom};
+pub use chain_end::at_answer;
 pub use laws::{cuts_do_not_matter, node_line_says_one_thing, pieces_do_not_matter};
 pub use limits::{LINE_LIMIT, NODE_LINE_LIMIT};
 pub use line_buffer::{LineBuffer, LineEvent};

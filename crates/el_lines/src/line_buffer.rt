@@ -1,10 +1,11 @@
 // Bytes that come in pieces, cut into lines.
-ghost use Rattle.std.specs.Prelude.{◌≡◌, ℕ, List, [], ◌∷◌, ◌++◌, ◌+◌, ◌<◌, ◌≤◌, length, slice_get, IfOk, IfSome, IfNone, OnOk, OnErr, MatchOption, Ok, Some, None, true, false, take, drop};
+ghost use Rattle.std.specs.Prelude.{◌≡◌, ℕ, List, [], ◌∷◌, ◌++◌, ◌+◌, ◌-◌, ◌*◌, ◌<◌, ◌≤◌, length, slice_get, IfOk, IfSome, IfNone, OnOk, OnErr, MatchOption, Ok, Some, None, true, false, take, drop};
 ghost use Rattle.el_lines.specs.Lines.{lines, too_long};
 ghost use Rattle.el_lines.specs.LineStates.{IsAt, held, as_listed, HasNoNewline};
 ghost use Rattle.el_lines.specs.within.Places.{StandsFirst};
 
-use crate::bytes::{byte_at, bytes_before, bytes_from, leave_out};
+use crate::bytes::{byte_from, bytes_before, bytes_from, leave_out};
+use crate::look_count::LookCount;
 use el_base::{Bytes, OutOfMemory};
 use std::alloc::Global;
 use std::marker::Model;
@@ -26,9 +27,9 @@ pub enum LineEvent {
 /// rest of it is skipped and never kept. At any time it keeps at most twice as many bytes as it holds, that
 /// is, as were fed and belong to no event that was given. So where each piece is followed by calls of
 /// `next_line` up to None, a peer that sends no byte 10 takes the memory of no more than `limit` bytes and
-/// the piece fed last. Each byte is searched once for byte 10, however the bytes are cut, and moved twice
-/// at most on average.
-#[derive(Debug, Drop)]
+/// the piece fed last. Each byte is looked at once, however the bytes are cut, and moved twice at most on
+/// average.
+#[derive(Drop)]
 pub struct LineBuffer {
     limit: usize,
     // Bytes that were fed. Those before `start` were given.
@@ -37,16 +38,22 @@ pub struct LineBuffer {
     // How many bytes from `start` on are known not to be byte 10.
     seen: usize,
     skips: bool,
+    looks: LookCount,
 }
 
 impl Model for LineBuffer {
-    ghost use Rattle.std.specs.Prelude.{◌≡◌, ◌≤◌, ◌*◌, [], length, drop, true};
-    ghost use Rattle.el_lines.specs.LineStates.{LineState};
+    ghost use Rattle.std.specs.Prelude.{◌≡◌, ◌≤◌, ◌+◌, ◌-◌, ◌*◌, [], length, drop, true};
+    ghost use Rattle.el_lines.specs.LineStates.{BufferState};
     ghost use Rattle.el_lines.specs.within.Places.{IsSearched};
 
-    ghost Value = { LineState };
+    ghost Value = { BufferState };
 
-    ghost view = { λ b. record { limit = b.limit; rest = drop b.start b.bytes.items; skips = b.skips } };
+    ghost view = { λ b. record {
+      state = record { limit = b.limit; rest = drop b.start b.bytes.items; skips = b.skips };
+      kept = length b.bytes.items;
+      unsearched = length b.bytes.items - (b.start + b.seen);
+      looks = b.looks;
+    } };
 
     // Of the bytes that were given no more are kept than of those that are held.
     ghost invariant = { λ b. (2 * b.start ≤ length b.bytes.items)
@@ -58,9 +65,10 @@ impl LineBuffer {
     /// A buffer that was fed nothing, for lines of at most `limit` bytes without their byte 10. Takes no
     /// memory.
     pub fn new(alloc: Global, limit: usize) -> LineBuffer
-        ensures limit { result.limit ≡ limit }
-        ensures at { IsAt result [] 0 }
-        ensures held { held result ≡ 0 }
+        ensures limit { result.state.limit ≡ limit }
+        ensures at { IsAt result.state [] 0 }
+        ensures kept { result.kept ≡ 0 }
+        ensures looks { result.looks + result.unsearched ≡ 0 }
     {
         LineBuffer {
             limit,
@@ -68,26 +76,32 @@ impl LineBuffer {
             start: 0,
             seen: 0,
             skips: false,
+            looks: LookCount::new(),
         }
     }
 
     /// Takes the next piece of the peer's bytes, also where lines of earlier ones wait. It fails only where
     /// memory runs out.
     pub fn feed(&mut self, bytes: &[u8]) -> Result<(), OutOfMemory>
-        ensures at { (fed : List ℕ) (given : ℕ) → IsAt self.old fed given
-            → OnOk result (IsAt self.new (fed ++ bytes.now) given) }
-        ensures refused { OnErr result (self.new ≡ self.old) }
-        ensures limit { self.new.limit ≡ self.old.limit }
-        ensures held { held self.new ≤ held self.old + length bytes.now }
+        ensures at { (fed : List ℕ) (given : ℕ) → IsAt self.old.state fed given
+            → OnOk result (IsAt self.new.state (fed ++ bytes.now) given) }
+        ensures refused { OnErr result (self.new.state ≡ self.old.state) }
+        ensures limit { self.new.state.limit ≡ self.old.state.limit }
+        ensures held { held self.new.state ≤ held self.old.state + length bytes.now }
+        // Bytes that were given are let go.
+        ensures kept { self.new.kept ≤ 2 * held self.old.state + length bytes.now }
+        // However bytes are cut, no more are looked at than were fed.
+        ensures looks { self.new.looks + self.new.unsearched
+            ≤ self.old.looks + self.old.unsearched + length bytes.now }
         // What is skipped takes no memory.
-        ensures skipped { self.old.skips ≡ true → HasNoNewline bytes.now
-            → (result ≡ Ok tt) × (self.new ≡ self.old) }
+        ensures skipped { self.old.state.skips ≡ true → HasNoNewline bytes.now
+            → (result ≡ Ok tt) × (self.new.state ≡ self.old.state) × (self.new.kept ≡ self.old.kept) }
     {
         if !self.skips {
             self.add(bytes)?;
             return Ok(());
         }
-        match byte_at(bytes, b'\n', 0) {
+        match byte_from(bytes, b'\n', 0, &mut self.looks) {
             Some(end) => {
                 self.add(bytes_from(bytes, end + 1))?;
                 Ok(())
@@ -99,23 +113,32 @@ impl LineBuffer {
     /// The next line, or None where no line has ended and none is too long. It fails only where the memory
     /// for a line's bytes runs out, and may then be called again.
     pub fn next_line(&mut self) -> Result<Option<LineEvent>, OutOfMemory>
-        ensures next { (fed : List ℕ) (given : ℕ) → IsAt self.old fed given
+        ensures next { (fed : List ℕ) (given : ℕ) → IsAt self.old.state fed given
             → IfOk result (λ found. MatchOption found
-            ((given ≡ length (lines self.old.limit fed)) × IsAt self.new fed given)
-            (λ e. (slice_get (lines self.old.limit fed) given ≡ Some (as_listed e))
-            × IsAt self.new fed (given + 1))) }
+            ((given ≡ length (lines self.old.state.limit fed)) × IsAt self.new.state fed given)
+            (λ e. (slice_get (lines self.old.state.limit fed) given ≡ Some (as_listed e))
+            × IsAt self.new.state fed (given + 1))) }
         // Where no event is left, or the next is no line, no memory is taken.
-        ensures none { (fed : List ℕ) (given : ℕ) → IsAt self.old fed given
-            → given ≡ length (lines self.old.limit fed) → result ≡ Ok None }
-        ensures too_long { (fed : List ℕ) (given : ℕ) → IsAt self.old fed given
-            → slice_get (lines self.old.limit fed) given ≡ Some too_long
-            → result ≡ Ok (Some (LineEvent.TooLong self.old.limit)) }
-        ensures refused { OnErr result (self.new ≡ self.old) }
-        ensures limit { self.new.limit ≡ self.old.limit }
-        ensures consumed { IfOk result (λ found. IfSome found (λ e. held self.new < held self.old)) }
+        ensures none { (fed : List ℕ) (given : ℕ) → IsAt self.old.state fed given
+            → given ≡ length (lines self.old.state.limit fed) → result ≡ Ok None }
+        ensures too_long { (fed : List ℕ) (given : ℕ) → IsAt self.old.state fed given
+            → slice_get (lines self.old.state.limit fed) given ≡ Some too_long
+            → result ≡ Ok (Some (LineEvent.TooLong self.old.state.limit)) }
+        ensures refused { OnErr result (self.new.state ≡ self.old.state) }
+        ensures limit { self.new.state.limit ≡ self.old.state.limit }
+        ensures consumed { IfOk result (λ found.
+            IfSome found (λ e. held self.new.state < held self.old.state)) }
         // What then waits is the start of one line.
-        ensures waits { IfOk result (λ found.
-            IfNone found ((self.new ≡ self.old) × (held self.new ≤ self.old.limit))) }
+        ensures waits { IfOk result (λ found. IfNone found
+            ((self.new.state ≡ self.old.state) × (held self.new.state ≤ self.old.state.limit))) }
+        // Bytes that were given are let go: all of them where no event is left.
+        ensures kept { self.new.kept ≤ 2 * held self.new.state }
+        ensures kept_none { IfOk result (λ found. IfNone found (self.new.kept ≡ held self.new.state)) }
+        ensures looks { OnOk result
+            (self.new.looks + self.new.unsearched ≤ self.old.looks + self.old.unsearched) }
+        // Where no memory is found, the byte 10 that was found is looked at once more.
+        ensures looks_refused { OnErr result
+            (self.new.looks + self.new.unsearched ≤ self.old.looks + self.old.unsearched + 1) }
     {
         let limit = self.limit;
         match self.find_newline() {
@@ -141,7 +164,7 @@ impl LineBuffer {
 
     // How many bytes are held.
     fn len(&self) -> usize
-        ensures { result ≡ held self.now }
+        ensures { result ≡ held self.now.state }
     {
         self.bytes.len() - self.start
     }
@@ -149,14 +172,22 @@ impl LineBuffer {
     // Looks for the first byte 10 of those that are held.
     fn find_newline(&mut self) -> Option<usize>
         ensures found { MatchOption result
-            (HasNoNewline self.old.rest)
-            (λ end. StandsFirst 10 self.old.rest end) }
-        ensures same { self.new ≡ self.old }
+            (HasNoNewline self.old.state.rest)
+            (λ end. StandsFirst 10 self.old.state.rest end) }
+        ensures same { self.new.state ≡ self.old.state }
+        ensures kept { self.new.kept ≡ self.old.kept }
+        ensures looks { MatchOption result
+            (self.new.looks + self.new.unsearched ≤ self.old.looks + self.old.unsearched)
+            (λ end. self.new.looks + (held self.old.state - (end + 1))
+            ≤ self.old.looks + self.old.unsearched) }
+        ensures unsearched { MatchOption result
+            (self.new.unsearched ≡ 0) (λ end. self.new.unsearched ≡ held self.old.state - end) }
     {
-        let found = byte_at(
+        let found = byte_from(
             bytes_from(self.bytes.as_slice(), self.start),
             b'\n',
             self.seen,
+            &mut self.looks,
         );
         self.seen = match found {
             Some(end) => end,
@@ -167,8 +198,8 @@ impl LineBuffer {
 
     // The line that ends there.
     fn copy_line(&self, end: usize) -> Result<Bytes, OutOfMemory>
-        requires { end ≤ held self.now }
-        ensures { IfOk result (λ line. line ≡ take end self.now.rest) }
+        requires { end ≤ held self.now.state }
+        ensures { IfOk result (λ line. line ≡ take end self.now.state.rest) }
     {
         let held = bytes_from(self.bytes.as_slice(), self.start);
         Bytes::from_slice(*self.bytes.allocator(), bytes_before(held, end))
@@ -176,8 +207,12 @@ impl LineBuffer {
 
     // Goes on after the line that ends there.
     fn pass(&mut self, end: usize)
-        requires { end < held self.old }
-        ensures { self.new ≡ record self.old { rest = drop (end + 1) self.old.rest } }
+        requires { end < held self.old.state }
+        ensures passed { self.new.state
+            ≡ record self.old.state { rest = drop (end + 1) self.old.state.rest } }
+        ensures kept { self.new.kept ≤ 2 * held self.new.state }
+        ensures unsearched { self.new.unsearched ≡ held self.old.state - (end + 1) }
+        ensures looks { self.new.looks ≡ self.old.looks }
     {
         let start = self.start + end + 1;
         self.seen = 0;
@@ -191,7 +226,11 @@ impl LineBuffer {
 
     // Forgets the bytes, and skips the rest of their line.
     fn skip(&mut self)
-        ensures { self.new ≡ record { limit = self.old.limit; rest = []; skips = true } }
+        ensures skipped { self.new.state
+            ≡ record { limit = self.old.state.limit; rest = []; skips = true } }
+        ensures kept { self.new.kept ≡ 0 }
+        ensures unsearched { self.new.unsearched ≡ 0 }
+        ensures looks { self.new.looks ≡ self.old.looks }
     {
         self.bytes.clear();
         self.start = 0;
@@ -201,9 +240,16 @@ impl LineBuffer {
 
     // Keeps the bytes after those that are held, and skips nothing.
     fn add(&mut self, bytes: &[u8]) -> Result<(), OutOfMemory>
-        ensures added { OnOk result (self.new
-            ≡ record { limit = self.old.limit; rest = self.old.rest ++ bytes.now; skips = false }) }
+        ensures added { OnOk result (self.new.state ≡ record {
+          limit = self.old.state.limit;
+          rest = self.old.state.rest ++ bytes.now;
+          skips = false;
+        }) }
         ensures refused { OnErr result (self.new ≡ self.old) }
+        ensures kept { OnOk result (self.new.kept ≤ 2 * held self.old.state + length bytes.now) }
+        ensures unsearched { OnOk result
+            (self.new.unsearched ≡ self.old.unsearched + length bytes.now) }
+        ensures looks { self.new.looks ≡ self.old.looks }
     {
         self.bytes.extend_from_slice(bytes)?;
         self.skips = false;
@@ -212,7 +258,10 @@ impl LineBuffer {
 
     // Lets the bytes go that were given.
     fn leave_out_given(&mut self)
-        ensures { self.new ≡ self.old }
+        ensures same { self.new.state ≡ self.old.state }
+        ensures kept { self.new.kept ≡ held self.old.state }
+        ensures unsearched { self.new.unsearched ≡ self.old.unsearched }
+        ensures looks { self.new.looks ≡ self.old.looks }
     {
         if self.start == 0 {
             return;

@@ -59,7 +59,7 @@ fn place_of(text: &[u8]) -> Option<(u32, u64)>
         ((file place : ℕ) → ShowsPlace text.now file place → ⊥)
         (λ p. ShowsPlace text.now p.0 p.1) }
 {
-    let Some(blank) = byte_at(text, b' ', 0) else {
+    let Some(blank) = byte_at(text, b' ') else {
         return None;
     };
     let Some(file) = number_of(bytes_before(text, blank), 10, 4_294_967_296) else {

@@ -3,3 +3,4 @@ pub mod Compared
 pub mod Led
 pub mod Pooled
 pub mod Tried
+pub mod RowsRead

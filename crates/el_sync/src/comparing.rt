@@ -11,7 +11,7 @@ ghost use Rattle.el_chain.specs.Headers.{IsPath};
 ghost use Rattle.el_chain.specs.Records.{IsNode};
 ghost use Rattle.el_headers.specs.Adding.{IsEndOf};
 ghost use Rattle.el_model.specs.LedgerCalls.{Asked};
-ghost use Rattle.el_world.specs.Plans.{common, back_of, rest_of, IsMoving};
+ghost use Rattle.el_world.specs.Plans.{common, back_of, IsMoving};
 ghost use Rattle.el_model.specs.Queries.{blocks_in};
 ghost use Rattle.el_sync.specs.within.Below.{IsBelow};
 
@@ -24,11 +24,11 @@ use el_model::Ledger;
 use el_tx::block_hash;
 use std::alloc::Global;
 
-/// How many blocks are to be taken back for a path, and which are to be put in.
-#[derive(Debug, Drop)]
+/// How many blocks are to be taken back for a path, and how many are common and stay.
+#[derive(Clone, Copy, Debug)]
 pub struct Way {
     pub back: usize,
-    pub rest: Ahead,
+    pub same: u64,
 }
 
 // How many blocks the ledger has.
@@ -117,8 +117,8 @@ fn common_of<G: Ledger>(ledger: &mut G, tree: &HeaderTree, end: &PathEnd) -> Res
     common_below(ledger, tree, last, both)
 }
 
-// The nodes of the path to a hash from that height on.
-fn rest_from(
+/// The nodes of the path to a hash from that height on. No node below is taken.
+pub fn rest_from(
     alloc: Global,
     tree: &HeaderTree,
     hash: Hash32,
@@ -144,10 +144,8 @@ pub fn is_there(back: usize, rest: &Ahead) -> bool
     back == 0 && rest.is_empty()
 }
 
-/// Compares the chain with the path that ends there, and makes the part of the path above what they have in
-/// common.
+/// Compares the chain with the path that ends there. Takes no memory.
 pub fn compare<G: Ledger>(
-    alloc: Global,
     ledger: &mut G,
     tree: &HeaderTree,
     end: &PathEnd,
@@ -155,12 +153,7 @@ pub fn compare<G: Ledger>(
     requires live { G.is_live ledger.old }
     ensures way { (path : List shape.Node) (chain : Chain) → IsPath tree.now end.now.node.hash path
         → IsEndOf path end.now.node end.now.height → G.stands ledger.old chain
-        → IfOk result (λ w. (w.back ≡ back_of chain path) × (w.rest ≡ rest_of chain path)) }
-    // The rest is an end of the path, also where the chain isn't told.
-    ensures end { (path : List shape.Node) → IsPath tree.now end.now.node.hash path
-        → IfOk result (λ w. (n : ℕ) × (w.rest ≡ drop n path)) }
-    ensures nodes { IfOk result (λ w. AllByRecursion IsNode w.rest) }
-    ensures short { IfOk result (λ w. length w.rest ≤ length tree.now) }
+        → IfOk result (λ w. (w.back ≡ back_of chain path) × (w.same ≡ common chain path)) }
     // One header row is read for each block that is to be taken back, and one more.
     ensures rows { (path : List shape.Node) (chain : Chain) → IsPath tree.now end.now.node.hash path
         → IsEndOf path end.now.node end.now.height → G.stands ledger.old chain
@@ -170,9 +163,8 @@ pub fn compare<G: Ledger>(
 {
     let same = common_of(ledger, tree, end)?;
     let count = count_of(ledger);
-    let rest = rest_from(alloc, tree, end.node.hash, same)?;
     Ok(Way {
         back: count.saturating_sub(same) as usize,
-        rest,
+        same,
     })
 }

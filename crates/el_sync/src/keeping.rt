@@ -13,7 +13,7 @@ ghost use Rattle.el_sync.specs.within.Parts.{NamesItself, StandsAfter};
 use crate::fault::StepFault;
 use el_base::{Bytes, Hash32};
 use el_chain::Touched;
-use el_lines::{absent_refused, gone_answer, pool_refused, tx_answer};
+use el_lines::{AnswerRoom, absent_refused, gone_answer, pool_refused, tx_answer};
 use el_mempool::PoolFault;
 use el_model::Ledger;
 use el_pool::Pool;
@@ -57,7 +57,12 @@ fn told_txid(alloc: Global, bytes: &[u8], fault: PoolFault) -> Result<Hash32, St
 }
 
 // What the node is answered where the transaction that the bytes encode, or the bytes, are refused.
-fn refuse_tx(alloc: Global, bytes: &[u8], fault: PoolFault) -> Result<PoolAnswer, StepFault>
+fn refuse_tx(
+    alloc: Global,
+    room: AnswerRoom,
+    bytes: &[u8],
+    fault: PoolFault,
+) -> Result<PoolAnswer, StepFault>
     ensures told { (t : tx_shape.Tx) → Encodes bytes.now t
         → IfOk result (λ r. say.pool_refused (hashing.txid t) fault ≡ Some r.text) }
     ensures form { fault ≡ PoolFault.Bad → IfOk result (λ r. r.text ≡ say.form_refused) }
@@ -71,7 +76,7 @@ fn refuse_tx(alloc: Global, bytes: &[u8], fault: PoolFault) -> Result<PoolAnswer
         return Err(StepFault::DiskFailed);
     }
     let id = told_txid(alloc, bytes, fault)?;
-    match pool_refused(alloc, id, fault)? {
+    match pool_refused(room, id, fault) {
         Some(text) => Ok(PoolAnswer {
             text,
             changed: Touched::new(alloc),
@@ -101,12 +106,13 @@ pub fn order_tx<G: Ledger>(
     ensures asked { Asked ⟦<G as Ledger>⟧ ledger.old ledger.new }
     ensures disk_rose { CountsOnly (G.faults ledger.old) (G.faults ledger.new) StepFault.DiskFailed result }
 {
+    let room = AnswerRoom::new(alloc)?;
     match pool.add(ledger, bytes) {
-        Ok((id, changed)) => {
-            let text = tx_answer(alloc, id)?;
-            Ok(PoolAnswer { text, changed })
-        }
-        Err(fault) => refuse_tx(alloc, bytes, fault),
+        Ok((id, changed)) => Ok(PoolAnswer {
+            text: tx_answer(room, id),
+            changed,
+        }),
+        Err(fault) => refuse_tx(alloc, room, bytes, fault),
     }
 }
 
@@ -118,13 +124,15 @@ pub fn order_drop(alloc: Global, pool: &mut Pool, id: Hash32) -> Result<PoolAnsw
     ensures limits { pool.new.limits ≡ pool.old.limits }
     ensures memory { IfErr result (λ e. e ≡ StepFault.Memory) }
 {
+    let room = AnswerRoom::new(alloc)?;
     let Some(changed) = pool.drop_tx(&id)? else {
-        let text = absent_refused(alloc, id)?;
         return Ok(PoolAnswer {
-            text,
+            text: absent_refused(room, id),
             changed: Touched::new(alloc),
         });
     };
-    let text = gone_answer(alloc, id)?;
-    Ok(PoolAnswer { text, changed })
+    Ok(PoolAnswer {
+        text: gone_answer(room, id),
+        changed,
+    })
 }

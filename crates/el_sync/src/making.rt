@@ -1,5 +1,5 @@
 // A move, before the unconfirmed set is sifted.
-ghost use Rattle.std.specs.Prelude.{◌≡◌, ◌≢◌, ◌≤◌, false, IfOk, IfErr, IsErrOf, length};
+ghost use Rattle.std.specs.Prelude.{◌≡◌, ◌≢◌, ◌≤◌, false, None, IfOk, IfErr, IsErrOf, length};
 ghost use Rattle.std.specs.List.{AllByRecursion};
 ghost use Rattle.el_base.specs.declared.hash.Hash32 as hash_shape;
 ghost use Rattle.el_outside.specs.Files.{AllGrow};
@@ -8,6 +8,7 @@ ghost use Rattle.el_chain.specs.Chains.{Chain, tip};
 ghost use Rattle.el_chain.specs.Headers.{AreLinked};
 ghost use Rattle.el_chain.specs.Moves.{shorter, max_back};
 ghost use Rattle.el_chain.specs.Records.{IsNode};
+ghost use Rattle.el_lines.specs.NodeAnswers as say;
 ghost use Rattle.el_world.specs.Plans.{plan_of};
 ghost use Rattle.el_world.specs.Side.{Side};
 ghost use Rattle.el_sync.specs.Steps.{StopsAt};
@@ -17,7 +18,7 @@ use crate::ahead::Ahead;
 use crate::fault::StepFault;
 use el_base::Bytes;
 use el_chain::{MoveFault, Plan, Touched};
-use el_lines::{archive_refused, at_answer_in, move_refused, room_for_at};
+use el_lines::{AnswerRoom, archive_refused, at_answer, move_refused};
 use el_model::Ledger;
 use el_outside::Archive;
 use std::alloc::Global;
@@ -36,18 +37,17 @@ pub struct Made {
 }
 
 // What the node is answered where a move is refused.
-fn refusal(alloc: Global, fault: MoveFault) -> Result<Bytes, StepFault>
+fn refusal(room: AnswerRoom, fault: MoveFault) -> Result<Bytes, StepFault>
     ensures told { IfOk result (λ text. SaysRefusal fault text) }
     ensures failed { IsErrOf result StepFault.DiskFailed → fault ≡ MoveFault.DiskFailed }
-    ensures memory { IsErrOf result StepFault.Memory → fault ≢ MoveFault.DiskFailed }
+    // Where there is something to tell, it is told.
+    ensures memory { IsErrOf result StepFault.Memory → (fault ≢ MoveFault.DiskFailed)
+        × ((fault ≢ MoveFault.ArchiveFailed) × (say.move_refused fault ≡ None)) }
 {
     match fault {
         MoveFault::DiskFailed => Err(StepFault::DiskFailed),
-        MoveFault::ArchiveFailed => {
-            let text = archive_refused(alloc)?;
-            Ok(text)
-        }
-        fault => match move_refused(alloc, fault)? {
+        MoveFault::ArchiveFailed => Ok(archive_refused(room)),
+        fault => match move_refused(room, fault) {
             Some(text) => Ok(text),
             None => Err(StepFault::Memory),
         },
@@ -86,25 +86,26 @@ pub fn make_move<G: Ledger, A: Archive>(
     ensures failed { IfErr result (MoveFailed ⟦<G as Ledger>⟧ ⟦<A as Archive>⟧ ledger.old ledger.new
         archive.old archive.new) }
 {
-    // A move that is made is told without memory.
-    let room = room_for_at(alloc)?;
+    // A move that is made or refused is told without memory.
+    let room = AnswerRoom::new(alloc)?;
     let forward = rest.next_blocks(alloc)?;
     let plan = Plan { back, forward };
     match ledger.go(alloc, &plan, archive) {
         Ok(moved) => Ok(Made {
-            text: at_answer_in(room, moved.tip, moved.height),
+            text: at_answer(room, moved.tip, moved.height),
             left: rest.passed(),
             moved: true,
             touched: moved.touched,
         }),
         Err(fault) => {
-            let text = refusal(alloc, fault)?;
+            let text = refusal(room, fault)?;
             let left = Ahead::none(alloc);
+            let touched = Touched::new(alloc);
             Ok(Made {
                 text,
                 left,
                 moved: false,
-                touched: Touched::new(alloc),
+                touched,
             })
         }
     }

@@ -8,16 +8,18 @@ ghost use Rattle.el_chain.specs.Headers.{IsPath, added};
 ghost use Rattle.el_chain.specs.Records.{IsNode};
 ghost use Rattle.el_headers.specs.Adding.{IsEndOf};
 ghost use Rattle.el_world.specs.Flights.{IsFirstMove};
+ghost use Rattle.el_world.specs.Plans.{back_of};
 ghost use Rattle.el_lines.specs.Lines.{line};
 ghost use Rattle.el_lines.specs.NodeAnswers as say;
 ghost use Rattle.el_world.specs.Side.{Side, GoesAlong, OrdersLine, Tips, found_answer};
 ghost use Rattle.el_lines.specs.LineStates.{as_listed};
 ghost use Rattle.el_world.specs.NodeSteps.{IsAt, Leads};
+ghost use Rattle.el_sync.specs.RowBounds.{AsksNoMove, ReadsLine, ReadsTip};
 ghost use Rattle.el_sync.specs.Steps.{IsFrom, NodeStep, StopsAt};
 ghost use Rattle.el_sync.specs.within.Parts.{IsTipMove, IsPathMove, Looked};
 
 use crate::ahead::Ahead;
-use crate::comparing::{Way, compare, is_there};
+use crate::comparing::{Way, compare, is_there, rest_from};
 use crate::fault::StepFault;
 use crate::keeping::{PoolAnswer, order_drop, order_tx};
 use crate::moving::{Step, move_once};
@@ -26,8 +28,8 @@ use el_chain::{MAX_BACK, Node, Touched};
 use el_files::record_at;
 use el_headers::{Added, HeaderTree, PathEnd, PathFault};
 use el_lines::{
-    LineEvent, NodeLine, NodeLineFault, archive_refused, at_answer, block_answer, deep_refused,
-    genesis_refused, line_refused, long_refused, place_refused, read_node_line,
+    AnswerRoom, LineEvent, NodeLine, NodeLineFault, archive_refused, at_answer, block_answer,
+    deep_refused, genesis_refused, line_refused, long_refused, place_refused, read_node_line,
     unconnected_refused, unknown_refused,
 };
 use el_methods::Holdings;
@@ -51,36 +53,32 @@ fn order_block<A: Archive>(
     ensures more { OnOk result (length holdings.new.tree ≤ length holdings.old.tree + 1) }
     ensures keeps { A.tells → AllGrow (A.bytes archive.old) (A.bytes archive.new) }
     ensures archive_more { A.faults archive.old ≤ A.faults archive.new }
-    ensures archive_rose { OnErr result (RoseBy (A.faults archive.old) (A.faults archive.new) 0
-        ⊎ RoseBy (A.faults archive.old) (A.faults archive.new) 1) }
+    // Where the block files fail, that is told.
+    ensures archive_rose { OnErr result (RoseBy (A.faults archive.old) (A.faults archive.new) 0) }
     ensures memory { IfErr result (λ e. e ≡ StepFault.Memory) }
 {
+    // What comes of the place is told without memory.
+    let room = AnswerRoom::new(alloc)?;
     match record_at(archive, holdings.magic, file, at) {
-        Err(_) => {
-            let text = archive_refused(alloc)?;
-            Ok(text)
-        }
-        Ok(None) => {
-            let text = place_refused(alloc)?;
-            Ok(text)
-        }
+        Err(_) => Ok(archive_refused(room)),
+        Ok(None) => Ok(place_refused(room)),
         Ok(Some(node)) => {
-            let text = add_node(alloc, &mut holdings.tree, node)?;
+            let text = add_node(room, &mut holdings.tree, node)?;
             Ok(text)
         }
     }
 }
 
 // Adds the node that stands at a place.
-fn add_node(alloc: Global, tree: &mut HeaderTree, node: Node) -> Result<Bytes, OutOfMemory>
+fn add_node(room: AnswerRoom, tree: &mut HeaderTree, node: Node) -> Result<Bytes, OutOfMemory>
     requires node { IsNode node }
     ensures joined { OnOk result (tree.new ≡ added tree.old node) }
     ensures answer { IfOk result (λ text. text ≡ found_answer tree.old (Some node)) }
 {
     let hash = node.hash;
     match tree.add(node)? {
-        Added::SecondGenesis => genesis_refused(alloc, hash),
-        _ => block_answer(alloc, hash),
+        Added::SecondGenesis => Ok(genesis_refused(room, hash)),
+        _ => Ok(block_answer(room, hash)),
     }
 }
 
@@ -135,18 +133,22 @@ fn move_along<G: Ledger, A: Archive>(
         → IsPath tree.now end.now.node.hash path → G.stands ledger.old chain → IfErr result (
         StopsAt ⟦<G as Ledger>⟧ ⟦<A as Archive>⟧ ledger.old ledger.new archive.old archive.new chain
         false (IsPathMove chain path)) }
+    ensures rows { (path : List node_shape.Node) (chain : Chain)
+        → IsPath tree.now end.now.node.hash path → G.stands ledger.old chain → AsksNoMove chain path
+        → G.reads ledger.new ≤ G.reads ledger.old + (back_of chain path + 1) }
     ensures limits { pool.new.limits ≡ pool.old.limits }
     ensures fewer { IfOk result (λ s. length s.left ≤ length tree.now) }
     ensures step { NodeStep ⟦<G as Ledger>⟧ ⟦<A as Archive>⟧ ledger.old ledger.new archive.old archive.new
         false result }
 {
-    let Way { back, rest } = compare(alloc, ledger, tree, end)?;
+    let room = AnswerRoom::new(alloc)?;
+    let Way { back, same } = compare(ledger, tree, end)?;
     if back > MAX_BACK as usize {
-        let text = deep_refused(alloc, back)?;
-        return Ok(only_text(alloc, text));
+        return Ok(only_text(alloc, deep_refused(room, back)));
     }
+    let rest = rest_from(alloc, tree, end.node.hash, same)?;
     if is_there(back, &rest) {
-        let text = at_answer(alloc, ledger.tip(), ledger.height())?;
+        let text = at_answer(room, ledger.tip(), ledger.height());
         return Ok(only_text(alloc, text));
     }
     move_once(alloc, ledger, pool, back as u32, rest, archive, false)
@@ -173,6 +175,8 @@ fn order_tip<G: Ledger, A: Archive>(
         → side.found ≡ tree.now → IfErr result (
         StopsAt ⟦<G as Ledger>⟧ ⟦<A as Archive>⟧ ledger.old ledger.new archive.old archive.new
         side.chain false (IsTipMove side h)) }
+    ensures rows { (side : Side) → G.stands ledger.old side.chain → side.found ≡ tree.now
+        → ReadsTip side h (G.reads ledger.old) (G.reads ledger.new) }
     ensures limits { pool.new.limits ≡ pool.old.limits }
     ensures fewer { IfOk result (λ s. length s.left ≤ length tree.now) }
     ensures step { NodeStep ⟦<G as Ledger>⟧ ⟦<A as Archive>⟧ ledger.old ledger.new archive.old archive.new
@@ -181,12 +185,12 @@ fn order_tip<G: Ledger, A: Archive>(
     match tree.path_end(&h) {
         Ok(end) => move_along(alloc, ledger, tree, pool, archive, &end),
         Err(PathFault::Unknown) => {
-            let text = unknown_refused(alloc, h)?;
-            Ok(only_text(alloc, text))
+            let room = AnswerRoom::new(alloc)?;
+            Ok(only_text(alloc, unknown_refused(room, h)))
         }
         Err(PathFault::Unconnected) => {
-            let text = unconnected_refused(alloc, h)?;
-            Ok(only_text(alloc, text))
+            let room = AnswerRoom::new(alloc)?;
+            Ok(only_text(alloc, unconnected_refused(room, h)))
         }
         Err(PathFault::Memory) => Err(StepFault::Memory),
     }
@@ -198,8 +202,8 @@ fn refuse_line(alloc: Global) -> Result<Step, StepFault>
     ensures left { IfOk result (λ s. s.left ≡ []) }
     ensures memory { IfErr result (λ e. e ≡ StepFault.Memory) }
 {
-    let text = line_refused(alloc)?;
-    Ok(only_text(alloc, text))
+    let room = AnswerRoom::new(alloc)?;
+    Ok(only_text(alloc, line_refused(room)))
 }
 
 // A whole line of the node.
@@ -222,6 +226,10 @@ fn order_line<G: Ledger, A: Archive>(
         → IsFrom holdings.old side → IfErr result (
         StopsAt ⟦<G as Ledger>⟧ ⟦<A as Archive>⟧ ledger.old ledger.new archive.old archive.new
         side.chain false (IsFirstMove side (line text.now))) }
+    ensures rows { (side : Side) (start : Chain)
+        → IsAt ⟦<G as Ledger>⟧ ⟦<A as Archive>⟧ ledger.old holdings.old.pool archive.old side start
+        → IsFrom holdings.old side → IfOk result (λ s.
+        ReadsLine side (line text.now) (G.reads ledger.old) (G.reads ledger.new)) }
     ensures magic { holdings.new.magic ≡ holdings.old.magic }
     ensures limits { holdings.new.pool.limits ≡ holdings.old.pool.limits }
     ensures fewer { IfOk result (λ s. length s.left ≤ length holdings.old.tree) }
@@ -282,6 +290,11 @@ pub fn order<G: Ledger, A: Archive>(
         → IsFrom holdings.old side → IfErr result (
         StopsAt ⟦<G as Ledger>⟧ ⟦<A as Archive>⟧ ledger.old ledger.new archive.old archive.new
         side.chain false (IsFirstMove side (as_listed met))) }
+    // How many rows are read, where no move is made and no transaction told.
+    ensures rows { (side : Side) (start : Chain)
+        → IsAt ⟦<G as Ledger>⟧ ⟦<A as Archive>⟧ ledger.old holdings.old.pool archive.old side start
+        → IsFrom holdings.old side → IfOk result (λ s.
+        ReadsLine side (as_listed met) (G.reads ledger.old) (G.reads ledger.new)) }
     ensures magic { holdings.new.magic ≡ holdings.old.magic }
     ensures limits { holdings.new.pool.limits ≡ holdings.old.pool.limits }
     ensures fewer { IfOk result (λ s. length s.left ≤ length holdings.old.tree) }
@@ -291,8 +304,8 @@ pub fn order<G: Ledger, A: Archive>(
 {
     match met {
         LineEvent::TooLong { limit: _ } => {
-            let text = long_refused(alloc)?;
-            Ok(only_text(alloc, text))
+            let room = AnswerRoom::new(alloc)?;
+            Ok(only_text(alloc, long_refused(room)))
         }
         LineEvent::Line(text) => order_line(alloc, ledger, holdings, archive, text.as_slice()),
     }

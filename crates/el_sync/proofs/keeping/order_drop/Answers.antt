@@ -1,14 +1,14 @@
-use Rattle.std.proofs.Common.{Ok, ap}
+use Rattle.std.proofs.Common.{Ok, ap, rules}
 use Rattle.el_sync.proofs.Pooled.{absent_side, drops_side}
 use Rattle.el_sync.proofs.keeping.order_drop.Goals as goal
 
 pub returns-in_default-clause-drops : goal.returns-in_default-clause-drops
 returns-in_default-clause-drops c = λ side stood.
     let e = c.in_ok-changed.ensures in
-    absent_side c.args.pool.now c.drop_tx.new.self side c.args.id c.in_ok-text.text _ c.new.ensures stood (rw c.in_default.is at e.kept) (e.absent (ap Ok c.in_default.is)) c.in_ok-text.ensures
+    absent_side c.args.pool.now c.drop_tx.new.self side c.args.id c.absent_refused.result _ (search rules) stood (rw c.in_default.is at e.kept) (e.absent (ap Ok c.in_default.is)) c.absent_refused.ensures
 
 pub returns-clause-drops : goal.returns-clause-drops
 returns-clause-drops c = λ side stood.
     let e = c.in_ok-changed.ensures in
     let after = rw c.in-Some.is at (e.stands side.chain side.kept stood) in
-    drops_side c.args.pool.now c.drop_tx.new.self side c.args.id c.in_ok-text-2.text _ stood (rw c.in-Some.is at e.kept) after c.in_ok-text-2.ensures
+    drops_side c.args.pool.now c.drop_tx.new.self side c.args.id c.gone_answer.result _ stood (rw c.in-Some.is at e.kept) after c.gone_answer.ensures

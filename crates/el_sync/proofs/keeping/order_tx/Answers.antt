@@ -8,6 +8,6 @@ returns-in-Err-clause-adds g c = λ side stands stood limits.
     refused_told c.refuse_tx.result c.args.pool.now c.add.new.self side c.args.bytes.now c.in-Err.fault stood e.same (rw limits at (e.refused side.chain side.kept stood stands))
     r.no_disk r.no_memory r.told r.form r.none
 
-pub returns-in_ok-text-in-Ok-clause-adds : goal.returns-in_ok-text-in-Ok-clause-adds
-returns-in_ok-text-in-Ok-clause-adds g c = λ side stands stood limits.
-    joins_side c.add.new.self side c.args.bytes.now c.in_ok-text-in-Ok.text c.in-Ok.id _ (rw limits at (c.in-Ok.ensures.joined side.chain side.kept stood stands)) c.in_ok-text-in-Ok.ensures
+pub returns-in-Ok-clause-adds : goal.returns-in-Ok-clause-adds
+returns-in-Ok-clause-adds g c = λ side stands stood limits.
+    joins_side c.add.new.self side c.args.bytes.now c.tx_answer.result c.in-Ok.id _ (rw limits at (c.in-Ok.ensures.joined side.chain side.kept stood stands)) c.tx_answer.ensures

@@ -17,7 +17,7 @@ returns-in-Ok-clause-tried g c = λ side stood told.
     made_tries g.G.Ledger g.A.Archive c.args.ledger.now c.go.new.self c.args.archive.now c.go.new.archive side c.args.back c.args.rest
     c.in_ok-forward.forward c.in-Ok.moved.tip c.in-Ok.moved.height _ told c.in-Ok.ensures.reads.keeps (c.in-Ok.ensures.moved side.chain stood) c.in_ok-forward.ensures
     (λ d s. c.in-Ok.ensures.answer.0 ∙ g.met.G.Ledger.tip_is c.go.new.self d s) (λ d s. c.in-Ok.ensures.answer.1 ∙ g.met.G.Ledger.height_is c.go.new.self d s)
-    refl c.at_answer_in.ensures c.in-Ok.ensures.reads.uncounted c.in-Ok.ensures.cause.uncounted
+    refl c.at_answer.ensures c.in-Ok.ensures.reads.uncounted c.in-Ok.ensures.cause.uncounted
 
 pub returns-in-Ok-clause-keeps : goal.returns-in-Ok-clause-keeps
 returns-in-Ok-clause-keeps g c =
@@ -41,7 +41,7 @@ returns-in_ok-text-in-Err-clause-tried g c = λ side stood told.
     c.in-Err.fault _ told e.reads.keeps
     (asked_moved g.G.Ledger c.args.ledger.now c.go.new.self side.chain (λ a d f h i j k. g.met.G.Ledger.leaves_own a d f h i j k) c.requires.live quiet stood)
     (e.refused side.chain stood) c.in_ok-forward.ensures (λ is. e.reads.counted (ap Err is)) (λ is. e.reads.others_uncounted is) (e.cause.others_uncounted other)
-    refl c.in_ok-text-in-Err.ensures.told c.new.ensures
+    refl c.in_ok-text-in-Err.ensures.told c.new-touched.ensures
 
 pub returns-in_err-text-in-Err-clause-stopped : goal.returns-in_err-text-in-Err-clause-stopped
 returns-in_err-text-in-Err-clause-stopped g c = λ chain stands.
@@ -51,14 +51,14 @@ returns-in_err-text-in-Err-clause-stopped g c = λ chain stands.
     c.in_ok-forward.forward c.in_err-text-in-Err.field-0.0 (p.1 ∙ ap Err p.2) c.in_ok-forward.ensures
     (λ failed. e.crash_failed chain stands (ap Err (c.in_err-text-in-Err.ensures.failed (ap Err failed))))
     (λ memory. asked_moved g.G.Ledger c.args.ledger.now c.go.new.self chain (λ a d f h i j k. g.met.G.Ledger.leaves_own a d f h i j k) c.requires.live
-    (e.unchanged (c.in_err-text-in-Err.ensures.memory (ap Err memory))) stands)
+    (e.unchanged ((c.in_err-text-in-Err.ensures.memory (ap Err memory)).0)) stands)
     (record {
-      still_live = λ memory. (e.unchanged (c.in_err-text-in-Err.ensures.memory (ap Err memory))).stays.still_live c.requires.live;
+      still_live = λ memory. (e.unchanged ((c.in_err-text-in-Err.ensures.memory (ap Err memory)).0)).stays.still_live c.requires.live;
       keeps = e.reads.keeps;
       archive_rose = files_rose c.in-Err.fault c.in_err-text-in-Err.field-0.0 _ _ (λ is. e.reads.counted (ap Err is)) (λ other. e.reads.others_uncounted other)
           (λ failed. c.in_err-text-in-Err.ensures.failed (ap Err failed));
       disk_rose = λ failed. e.cause.counted (ap Err (c.in_err-text-in-Err.ensures.failed (ap Err failed)));
-      disk_same = λ other. e.cause.others_uncounted (c.in_err-text-in-Err.ensures.memory (ap Err (not_failed c.in_err-text-in-Err.field-0.0 other)));
+      disk_same = λ other. e.cause.others_uncounted (c.in_err-text-in-Err.ensures.memory (ap Err (not_failed c.in_err-text-in-Err.field-0.0 other))).0;
     })
 
 pub returns-in_err-text-in-Err-clause-failed : goal.returns-in_err-text-in-Err-clause-failed
@@ -67,12 +67,12 @@ returns-in_err-text-in-Err-clause-failed g c =
     let p = err_from_is_err_and c.from_residual-in_err-text-in-Err.result c.from_residual-in_err-text-in-Err.ensures.1 in
     move_failed g.G.Ledger g.A.Archive c.from_residual-in_err-text-in-Err.result c.in_err-text-in-Err.field-0.0 c.args.ledger.now c.go.new.self c.args.archive.now c.go.new.archive (p.1 ∙ ap Err p.2)
     (record {
-      still_live = λ memory. (e.unchanged (c.in_err-text-in-Err.ensures.memory (ap Err memory))).stays.still_live c.requires.live;
+      still_live = λ memory. (e.unchanged ((c.in_err-text-in-Err.ensures.memory (ap Err memory)).0)).stays.still_live c.requires.live;
       keeps = e.reads.keeps;
       archive_rose = files_rose c.in-Err.fault c.in_err-text-in-Err.field-0.0 _ _ (λ is. e.reads.counted (ap Err is)) (λ other. e.reads.others_uncounted other)
           (λ failed. c.in_err-text-in-Err.ensures.failed (ap Err failed));
       disk_rose = λ failed. e.cause.counted (ap Err (c.in_err-text-in-Err.ensures.failed (ap Err failed)));
-      disk_same = λ other. e.cause.others_uncounted (c.in_err-text-in-Err.ensures.memory (ap Err (not_failed c.in_err-text-in-Err.field-0.0 other)));
+      disk_same = λ other. e.cause.others_uncounted (c.in_err-text-in-Err.ensures.memory (ap Err (not_failed c.in_err-text-in-Err.field-0.0 other))).0;
     })
 
 pub returns-in_err-room-clause-stopped : goal.returns-in_err-room-clause-stopped

@@ -1,9 +1,10 @@
-use Rattle.std.proofs.Common.{Err, false, refl, sym, ap, ◌∙◌}
+use Rattle.std.proofs.Common.{Err, false, drop, refl, sym, ap, ◌∙◌, arith}
 use Rattle.std.proofs.lemmas.Result.{err_from_is_err_and}
 use Rattle.el_lines.specs.NodeAnswers.{deep_refused}
+use Rattle.el_world.specs.Plans.{plan_of}
 use Rattle.el_world.specs.Side.{deep, there}
 use Rattle.el_sync.proofs.Led.{all_grow_self, along_moves, answered, asked_stops, if_ok_map, if_err_map, leads_as, leads_on, memory_of, path_move, starved_still, step_asked, stops_as, stops_on}
-use Rattle.el_model.proofs.LedgerMoves.{asked_moved}
+use Rattle.el_model.proofs.LedgerMoves.{asked_moved, asked_none}
 use Rattle.el_sync.proofs.Compared.{drop_linked, path_linked, rest_fits, at_is}
 use Rattle.el_sync.proofs.orders.move_along.Goals as goal
 
@@ -12,18 +13,19 @@ returns-then-back-clause-along g c = λ path side start is at still.
     let w = c.in_ok-back.ensures.way path side.chain is (c.requires.end path is) at.stood in
     let asked = c.in_ok-back.ensures.asked in
     answered g.G.Ledger g.A.Archive c.args.ledger.now c.compare.new.ledger c.args.archive.now c.args.archive.now side start c.args.pool.now _ _ _ _ _ _ at still
-    (deep (rw w.0 at c.if-back.true) (c.only_text.ensures.text ∙ c.in_ok-text.ensures ∙ ap deep_refused w.0) refl refl) refl c.only_text.ensures.left (λ t. all_grow_self _)
+    (deep (rw w.0 at c.if-back.true) (c.only_text.ensures.text ∙ c.deep_refused.ensures ∙ ap deep_refused w.0) refl refl) refl c.only_text.ensures.left (λ t. all_grow_self _)
     (asked_moved g.G.Ledger c.args.ledger.now c.compare.new.ledger side.chain (λ a d f h i j k. g.met.G.Ledger.leaves_own a d f h i j k) c.requires.live asked at.stood)
     refl c.in_ok-back.ensures.disk_rose.uncounted
 
 pub returns-then-is_there-clause-along : goal.returns-then-is_there-clause-along
 returns-then-is_there-clause-along g c = λ path side start is at still.
     let w = c.in_ok-back.ensures.way path side.chain is (c.requires.end path is) at.stood in
+    let rest_is = c.in_ok-rest.ensures.rest path is ∙ ap (λ k. drop k path) w.1 in
     let asked = c.in_ok-back.ensures.asked in
     let here = asked.stays.still_stands side.chain at.stood in
     let none = c.is_there.ensures.there c.if-is_there.true in
     answered g.G.Ledger g.A.Archive c.args.ledger.now c.compare.new.ledger c.args.archive.now c.args.archive.now side start c.args.pool.now _ _ _ _ _ _ at still
-    (there (sym w.0 ∙ none.0) (sym w.1 ∙ none.1) (c.only_text-then-is_there.ensures.text ∙ c.in_ok-text-2.ensures
+    (there (sym w.0 ∙ none.0) (sym rest_is ∙ none.1) (c.only_text-then-is_there.ensures.text ∙ c.at_answer-text.ensures
     ∙ at_is _ _ _ _ (c.tip.ensures ∙ g.met.G.Ledger.tip_is c.compare.new.ledger side.chain here) (c.height.ensures ∙ g.met.G.Ledger.height_is c.compare.new.ledger side.chain here)) refl refl)
     refl c.only_text-then-is_there.ensures.left (λ t. all_grow_self _)
     (asked_moved g.G.Ledger c.args.ledger.now c.compare.new.ledger side.chain (λ a d f h i j k. g.met.G.Ledger.leaves_own a d f h i j k) c.requires.live asked at.stood)
@@ -32,22 +34,24 @@ returns-then-is_there-clause-along g c = λ path side start is at still.
 pub move_once-requires-clause-linked : goal.move_once-requires-clause-linked
 move_once-requires-clause-linked g c =
     let path = c.requires.path.0 in
-    drop_linked path c.in_ok-back.field-0.rest (path_linked c.args.tree.now path c.args.end.now.node.hash c.requires.path.1) (c.in_ok-back.ensures.end path c.requires.path.1)
+    drop_linked path c.in_ok-rest.rest (path_linked c.args.tree.now path c.args.end.now.node.hash c.requires.path.1) (c.in_ok-back.field-0.same, c.in_ok-rest.ensures.rest path c.requires.path.1)
 
 pub move_once-requires-clause-fits : goal.move_once-requires-clause-fits
 move_once-requires-clause-fits g c = λ chain stands.
     let path = c.requires.path.0 in
     let is = c.requires.path.1 in
     let w = c.in_ok-back.ensures.way path chain is (c.requires.end path is) (c.in_ok-back.ensures.asked.stays.stood chain stands) in
-    rest_fits chain path c.in_ok-back.field-0.rest c.in_ok-back.field-0.back w.0 w.1 (path_linked c.args.tree.now path c.args.end.now.node.hash is)
+    let rest_is = c.in_ok-rest.ensures.rest path is ∙ ap (λ k. drop k path) w.1 in
+    rest_fits chain path c.in_ok-rest.rest c.in_ok-back.field-0.back w.0 rest_is (path_linked c.args.tree.now path c.args.end.now.node.hash is)
 
 pub returns-clause-along : goal.returns-clause-along
 returns-clause-along g c = λ path side start is at still.
     let w = c.in_ok-back.ensures.way path side.chain is (c.requires.end path is) at.stood in
+    let rest_is = c.in_ok-rest.ensures.rest path is ∙ ap (λ k. drop k path) w.1 in
     let asked = c.in_ok-back.ensures.asked in
     if_ok_map c.move_once.result _ _ (λ s leads.
     leads_as g.G.Ledger g.A.Archive c.args.ledger.now c.move_once.new.ledger c.args.archive.now c.move_once.new.archive side start _ _ s.text side.found s.left s.moved s.changed c.move_once.new.pool
-    (λ losses next. along_moves g.G.Ledger g.A.Archive _ side next path c.in_ok-back.field-0.rest c.in_ok-back.field-0.back s.text losses c.if-back.false w.0 w.1
+    (λ losses next. along_moves g.G.Ledger g.A.Archive _ side next path c.in_ok-rest.rest c.in_ok-back.field-0.back s.text losses c.if-back.false w.0 rest_is
     (c.is_there.ensures.moves c.if-is_there.false))
     (leads_on g.G.Ledger g.A.Archive c.args.ledger.now c.compare.new.ledger c.move_once.new.ledger c.args.archive.now c.move_once.new.archive side start _ s.text side.found s.left s.moved s.changed c.move_once.new.pool
     (λ a d f h i j k. g.met.G.Ledger.leaves_own a d f h i j k) c.requires.live asked c.in_ok-back.ensures.disk_rose.uncounted at.stood leads))
@@ -56,34 +60,35 @@ returns-clause-along g c = λ path side start is at still.
 pub returns-clause-stopped : goal.returns-clause-stopped
 returns-clause-stopped g c = λ path chain is stands.
     let w = c.in_ok-back.ensures.way path chain is (c.requires.end path is) stands in
+    let rest_is = c.in_ok-rest.ensures.rest path is ∙ ap (λ k. drop k path) w.1 in
     let asked = c.in_ok-back.ensures.asked in
     if_err_map c.move_once.result _ _ (λ e f.
     stops_as g.G.Ledger g.A.Archive c.args.ledger.now c.move_once.new.ledger c.args.archive.now c.move_once.new.archive chain false _ _ e
-    (λ p. path_move chain path c.in_ok-back.field-0.rest c.in_ok-back.field-0.back p c.if-back.false w.0 w.1 (c.is_there.ensures.moves c.if-is_there.false))
+    (λ p. path_move chain path c.in_ok-rest.rest c.in_ok-back.field-0.back p c.if-back.false w.0 rest_is (c.is_there.ensures.moves c.if-is_there.false))
     (stops_on g.G.Ledger g.A.Archive c.args.ledger.now c.compare.new.ledger c.move_once.new.ledger c.args.archive.now c.move_once.new.archive chain false _ e (λ a d f h i j k. g.met.G.Ledger.leaves_own a d f h i j k) c.requires.live asked c.in_ok-back.ensures.disk_rose.uncounted stands f))
     (c.move_once.ensures.stopped chain (asked.stays.still_stands chain stands))
 
 pub returns-in_err-back-clause-stopped : goal.returns-in_err-back-clause-stopped
 returns-in_err-back-clause-stopped g c = λ path chain is stands.
-    let p = err_from_is_err_and c.from_residual.result c.from_residual.ensures.1 in
+    let p = err_from_is_err_and c.from_residual-in_err-back.result c.from_residual-in_err-back.ensures.1 in
     let e = c.in_err-back.ensures in
-    asked_stops g.G.Ledger g.A.Archive c.from_residual.result c.in_err-back.field-0.0 c.args.ledger.now c.compare.new.ledger c.args.archive.now chain _ (p.1 ∙ ap Err p.2)
+    asked_stops g.G.Ledger g.A.Archive c.from_residual-in_err-back.result c.in_err-back.field-0.0 c.args.ledger.now c.compare.new.ledger c.args.archive.now chain _ (p.1 ∙ ap Err p.2)
     (asked_moved g.G.Ledger c.args.ledger.now c.compare.new.ledger chain (λ a d f h i j k. g.met.G.Ledger.leaves_own a d f h i j k) c.requires.live e.asked stands)
     (λ is. e.disk_rose.counted (ap Err is)) (λ other. e.disk_rose.others_uncounted other)
 
-pub returns-in_err-text-clause-stopped : goal.returns-in_err-text-clause-stopped
-returns-in_err-text-clause-stopped g c = λ path chain is stands.
-    let p = err_from_is_err_and c.from_residual-in_err-text.result c.from_residual-in_err-text.ensures.1 in
-    starved_still g.G.Ledger g.A.Archive c.from_residual-in_err-text.result c.args.ledger.now c.compare.new.ledger c.args.archive.now chain _
+pub returns-in_err-rest-clause-stopped : goal.returns-in_err-rest-clause-stopped
+returns-in_err-rest-clause-stopped g c = λ path chain is stands.
+    let p = err_from_is_err_and c.from_residual-in_err-rest.result c.from_residual-in_err-rest.ensures.1 in
+    starved_still g.G.Ledger g.A.Archive c.from_residual-in_err-rest.result c.args.ledger.now c.compare.new.ledger c.args.archive.now chain _
     (asked_moved g.G.Ledger c.args.ledger.now c.compare.new.ledger chain (λ a d f h i j k. g.met.G.Ledger.leaves_own a d f h i j k) c.requires.live c.in_ok-back.ensures.asked stands)
-    (memory_of c.from_residual-in_err-text.result p.0 p.1 p.2) c.in_ok-back.ensures.disk_rose.uncounted
+    (memory_of c.from_residual-in_err-rest.result p.0 p.1 (p.2 ∙ c.in_err-rest.ensures.memory)) c.in_ok-back.ensures.disk_rose.uncounted
 
-pub returns-in_err-text-2-clause-stopped : goal.returns-in_err-text-2-clause-stopped
-returns-in_err-text-2-clause-stopped g c = λ path chain is stands.
-    let p = err_from_is_err_and c.from_residual-in_err-text-2.result c.from_residual-in_err-text-2.ensures.1 in
-    starved_still g.G.Ledger g.A.Archive c.from_residual-in_err-text-2.result c.args.ledger.now c.compare.new.ledger c.args.archive.now chain _
-    (asked_moved g.G.Ledger c.args.ledger.now c.compare.new.ledger chain (λ a d f h i j k. g.met.G.Ledger.leaves_own a d f h i j k) c.requires.live c.in_ok-back.ensures.asked stands)
-    (memory_of c.from_residual-in_err-text-2.result p.0 p.1 p.2) c.in_ok-back.ensures.disk_rose.uncounted
+pub returns-in_err-room-clause-stopped : goal.returns-in_err-room-clause-stopped
+returns-in_err-room-clause-stopped g c = λ path chain is stands.
+    let p = err_from_is_err_and c.from_residual.result c.from_residual.ensures.1 in
+    starved_still g.G.Ledger g.A.Archive c.from_residual.result c.args.ledger.now c.args.ledger.now c.args.archive.now chain _
+    (asked_moved g.G.Ledger c.args.ledger.now c.args.ledger.now chain (λ a d f h i j k. g.met.G.Ledger.leaves_own a d f h i j k) c.requires.live (asked_none g.G.Ledger c.args.ledger.now) stands)
+    (memory_of c.from_residual.result p.0 p.1 p.2) refl
 
 pub returns-then-back-clause-step : goal.returns-then-back-clause-step
 returns-then-back-clause-step g c =
@@ -95,3 +100,26 @@ returns-then-is_there-clause-step g c =
     let e = c.in_ok-back.ensures in
     step_asked g.G.Ledger g.A.Archive c.only_text-then-is_there.result c.args.ledger.now c.compare.new.ledger c.args.archive.now c.requires.live e.asked c.only_text-then-is_there.ensures.left
     e.disk_rose.uncounted
+
+pub returns-in_err-back-clause-rows : goal.returns-in_err-back-clause-rows
+returns-in_err-back-clause-rows g c = λ path chain is stands none. c.compare.ensures.rows path chain is (c.requires.end path is) stands
+
+pub returns-in_err-room-clause-rows : goal.returns-in_err-room-clause-rows
+returns-in_err-room-clause-rows g c = λ path chain is stands none. omega arith
+
+pub returns-then-back-clause-rows : goal.returns-then-back-clause-rows
+returns-then-back-clause-rows g c = λ path chain is stands none. c.compare.ensures.rows path chain is (c.requires.end path is) stands
+
+pub returns-in_err-rest-clause-rows : goal.returns-in_err-rest-clause-rows
+returns-in_err-rest-clause-rows g c = λ path chain is stands none. c.compare.ensures.rows path chain is (c.requires.end path is) stands
+
+pub returns-then-is_there-clause-rows : goal.returns-then-is_there-clause-rows
+returns-then-is_there-clause-rows g c = λ path chain is stands none. c.compare.ensures.rows path chain is (c.requires.end path is) stands
+
+pub returns-clause-rows : goal.returns-clause-rows
+returns-clause-rows g c = λ path chain is stands none.
+    let w = c.in_ok-back.ensures.way path chain is (c.requires.end path is) stands in
+    let rest_is = c.in_ok-rest.ensures.rest path is ∙ ap (λ k. drop k path) w.1 in
+    let m = path_move chain path c.in_ok-rest.rest c.in_ok-back.field-0.back (plan_of c.in_ok-back.field-0.back c.in_ok-rest.rest) c.if-back.false w.0 rest_is
+    (c.is_there.ensures.moves c.if-is_there.false) refl in
+    absurd (none m.few m.moving)

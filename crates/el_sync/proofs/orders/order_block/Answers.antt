@@ -2,12 +2,12 @@ use Rattle.std.proofs.Common.{None, Some, refl}
 use Rattle.el_sync.proofs.Led.{place_looked, place_failed}
 use Rattle.el_sync.proofs.orders.order_block.Goals as goal
 
-pub returns-in_ok-text-in-Ok-None-clause-looked : goal.returns-in_ok-text-in-Ok-None-clause-looked
-returns-in_ok-text-in-Ok-None-clause-looked g c = λ side from told.
+pub returns-in-Ok-None-clause-looked : goal.returns-in-Ok-None-clause-looked
+returns-in-Ok-None-clause-looked g c = λ side from told.
     let e = c.in-Ok-None.ensures in
     let is = rw c.in-Ok-None.field-0-is at e.record in
     place_looked g.A.Archive c.args.archive.now c.record_at.new.archive c.args.holdings.now side c.args.file c.args.at None _ _ from told e.only_reads.keeps
-    (record { node = tt; grows = e.only_reads.keeps; record_is = λ t. ((is t).0, (is t).1, (rw from.magic (is t).2)) }) refl c.in_ok-text-in-Ok-None.ensures e.only_reads.uncounted
+    (record { node = tt; grows = e.only_reads.keeps; record_is = λ t. ((is t).0, (is t).1, (rw from.magic (is t).2)) }) refl c.place_refused.ensures e.only_reads.uncounted
 
 pub returns-in_ok-text-in-Ok-Some-clause-looked : goal.returns-in_ok-text-in-Ok-Some-clause-looked
 returns-in_ok-text-in-Ok-Some-clause-looked g c = λ side from told.
@@ -18,7 +18,7 @@ returns-in_ok-text-in-Ok-Some-clause-looked g c = λ side from told.
     (record { node = here.found.found.node; grows = e.only_reads.keeps; record_is = λ t. ((is t).0, (is t).1, (rw from.magic (is t).2)) })
     c.in_ok-text-in-Ok-Some.ensures.joined c.in_ok-text-in-Ok-Some.ensures.answer e.only_reads.uncounted
 
-pub returns-in_ok-text-in-Err-clause-looked : goal.returns-in_ok-text-in-Err-clause-looked
-returns-in_ok-text-in-Err-clause-looked g c = λ side from told.
+pub returns-in-Err-clause-looked : goal.returns-in-Err-clause-looked
+returns-in-Err-clause-looked g c = λ side from told.
     place_failed g.A.Archive c.args.archive.now c.record_at.new.archive c.args.holdings.now side c.args.file c.args.at _ _ from told c.in-Err.ensures.only_reads.keeps refl
-    c.in_ok-text-in-Err.ensures (c.in-Err.ensures.only_reads.counted refl)
+    c.archive_refused.ensures (c.in-Err.ensures.only_reads.counted refl)

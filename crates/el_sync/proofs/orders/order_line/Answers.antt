@@ -1,4 +1,4 @@
-use Rattle.std.proofs.Common.{None, Some, Err, false, refl, sym, ap, ◌∙◌}
+use Rattle.std.proofs.Common.{inl, None, Some, Err, false, refl, sym, ap, ◌∙◌, arith}
 use Rattle.std.proofs.lemmas.Result.{err_from_is_err_and}
 use Rattle.el_lines.specs.Lines.{line}
 use Rattle.el_lines.specs.NodeLines as said
@@ -69,7 +69,7 @@ returns-in_err-text-in-Ok-Block-clause-stopped g c = λ side start at from.
     let p = err_from_is_err_and c.from_residual.result c.from_residual.ensures.1 in
     starved g.G.Ledger g.A.Archive c.from_residual.result c.args.ledger.now c.args.ledger.now c.args.archive.now c.order_block.new.archive side.chain _
     (asked_moved g.G.Ledger c.args.ledger.now c.args.ledger.now side.chain (λ a d f h i j k. g.met.G.Ledger.leaves_own a d f h i j k) c.requires.live (asked_none g.G.Ledger c.args.ledger.now) at.stood)
-    (memory_of c.from_residual.result p.0 p.1 (p.2 ∙ c.in_err-text-in-Ok-Block.ensures.memory)) c.in_err-text-in-Ok-Block.ensures.archive_rose refl
+    (memory_of c.from_residual.result p.0 p.1 (p.2 ∙ c.in_err-text-in-Ok-Block.ensures.memory)) (inl c.in_err-text-in-Ok-Block.ensures.archive_rose) refl
 
 pub returns-in_err-answer-in-Ok-Tx-clause-stopped : goal.returns-in_err-answer-in-Ok-Tx-clause-stopped
 returns-in_err-answer-in-Ok-Tx-clause-stopped g c = λ side start at from.
@@ -106,3 +106,24 @@ pub returns-in_ok-answer-in-Ok-Drop-clause-step : goal.returns-in_ok-answer-in-O
 returns-in_ok-answer-in-Ok-Drop-clause-step g c =
     step_asked g.G.Ledger g.A.Archive c.pool_step-in-Ok-Drop.result c.args.ledger.now c.args.ledger.now c.args.archive.now c.requires.live (asked_none g.G.Ledger c.args.ledger.now)
     c.pool_step-in-Ok-Drop.ensures.left refl
+
+pub returns-in_ok-text-in-Ok-Block-clause-rows : goal.returns-in_ok-text-in-Ok-Block-clause-rows
+returns-in_ok-text-in-Ok-Block-clause-rows g c = λ side start at from.
+    (Some (said.block c.in-Ok-Block.file c.in-Ok-Block.at), rw c.in-Ok-Block.field-0-is at c.in-Ok-Block.ensures.read, omega arith)
+
+pub returns-in-Ok-Tip-clause-rows : goal.returns-in-Ok-Tip-clause-rows
+returns-in-Ok-Tip-clause-rows g c = λ side start at from.
+    if_ok_map c.order_tip.result _ _ (λ s leads. (Some (said.tip c.in-Ok-Tip.h.0), rw c.in-Ok-Tip.field-0-is at c.in-Ok-Tip.ensures.read, c.order_tip.ensures.rows side at.stood from.found))
+    (c.order_tip.ensures.tip side start at from.found from.still)
+
+pub returns-in_ok-answer-in-Ok-Tx-clause-rows : goal.returns-in_ok-answer-in-Ok-Tx-clause-rows
+returns-in_ok-answer-in-Ok-Tx-clause-rows g c = λ side start at from.
+    (Some (said.tx c.in-Ok-Tx.bytes), rw c.in-Ok-Tx.field-0-is at c.in-Ok-Tx.ensures.read, tt)
+
+pub returns-in_ok-answer-in-Ok-Drop-clause-rows : goal.returns-in_ok-answer-in-Ok-Drop-clause-rows
+returns-in_ok-answer-in-Ok-Drop-clause-rows g c = λ side start at from.
+    (Some (said.dropped c.in-Ok-Drop.id.0), rw c.in-Ok-Drop.field-0-is at c.in-Ok-Drop.ensures.read, omega arith)
+
+pub returns-in-Err-Line-clause-rows : goal.returns-in-Err-Line-clause-rows
+returns-in-Err-Line-clause-rows g c = λ side start at from.
+    if_ok_map c.refuse_line.result _ _ (λ s is. (None, rw c.in-Err-Line.field-0-is at c.in-Err-Line.ensures.refused, omega arith)) c.refuse_line.ensures.text

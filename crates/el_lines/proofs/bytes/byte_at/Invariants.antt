@@ -1,6 +1,0 @@
-use Rattle.std.proofs.Common.{take}
-use Rattle.el_lines.specs.LineStates.{HasNone}
-use Rattle.el_lines.proofs.bytes.byte_at.Given as goal
-
-abbrev pub invariant-loop-place : goal.invariant-loop-place
-invariant-loop-place l = HasNone l.byte (take l.place l.bytes)
