@@ -11,6 +11,7 @@ pub mod Arriving
 pub mod Places
 pub mod Replacing
 pub mod Covered
+pub mod Counted
 pub mod Losing
 pub mod Replying
 pub mod Measured

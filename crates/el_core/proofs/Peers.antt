@@ -12,7 +12,7 @@ use Rattle.el_model.specs.LedgerCalls.{Moved}
 use Rattle.el_lines.proofs.Cuts.{either}
 use Rattle.el_lines.specs.Lines.{LineEvent, line, too_long, lines}
 use Rattle.el_lines.specs.NodeAnswers.{node_limit}
-use Rattle.el_methods.specs.declared.session.Session as known
+use Rattle.el_sessions.specs.declared.session.Session as known
 use Rattle.el_replies.specs.declared.line.LineReply.{LineReply}
 use Rattle.el_subs.specs.Told as status_told
 use Rattle.el_subs.specs.Told.{status}

@@ -50,6 +50,20 @@ module _ (says : ClientState → Option ClientState → Type 0) (i : ℕ) (items
     said = rw goes_so at said;
   }
 
+  -- it would stay, and is taken away
+  pub turn_late : (late : Outs) (next : List ClientState) → i < length items → client ≡ get_or items i client → says client None → next ≡ replaced i None (slice_set items i new)
+      → TurnsAt says i items (Some late) false next
+  turn_late late next lt is said gone = record {
+    client = client;
+    left = None;
+    at = slice_get_read items (length items) i client refl lt is;
+    next_is = gone ∙ set_then_gone items i new;
+    stays_is = refl;
+    same = tt;
+    less = omega arith;
+    said = said;
+  }
+
   pub tell_stays : (stays : Bool) → i < length items → client ≡ get_or items i client → stays ≡ true → (stays ≡ true → new.waits ≡ false) → (new.buffer ≡ client.buffer) × (new.peer ≡ client.peer) → says client (left_if stays new)
       → TellsAt says i items (slice_set items i new)
   tell_stays stays lt is stays_so told same said = record {

@@ -6,7 +6,7 @@ use Rattle.std.proofs.lemmas.List.{drop_all}
 use Rattle.std.proofs.lemmas.Option.{slice_get_within, get_or_from_slice_get}
 use Rattle.el_base.proofs.Lists.{left_at}
 use Rattle.el_chain.specs.Chains.{Chain}
-use Rattle.el_methods.specs.declared.session.Session as known
+use Rattle.el_sessions.specs.declared.session.Session as known
 use Rattle.el_lines.specs.Lines.{LineEvent, lines}
 use Rattle.el_world.specs.World.{World, Session, Event, says, is_peer, without_client, line_limit}
 use Rattle.el_lines.proofs.Cuts.{either}

@@ -1,6 +1,5 @@
 -- Steps of the node after which no memory was found for what they touched.
-use Rattle.std.proofs.Common.{◌≡◌, ◌⊎◌, inl, inr, ℕ, zero, suc, ◌+◌, ◌≤◌, Bool, true, false, List, [], ◌∷◌, ◌++◌, length, map, take, drop, Option, Some, None, refl, sym, ap, ◌∙◌, subst, arith}
-use Rattle.std.proofs.lemmas.List.{take-append-le}
+use Rattle.std.proofs.Common.{◌≡◌, inl, inr, ℕ, Bool, true, false, List, [], ◌∷◌, Option, Some, None, refl, ap, subst}
 use Rattle.el_base.specs.declared.hash.Hash32.{Hash32}
 use Rattle.el_outside.specs.declared.archive.Archive as archives
 use Rattle.el_outside.specs.Devices.{Device, archive, Rose}
@@ -8,10 +7,10 @@ use Rattle.el_outside.specs.Files.{AllGrow}
 use Rattle.el_chain.specs.declared.node.Node.{Node}
 use Rattle.el_chain.specs.declared.moves.Plan.{Plan}
 use Rattle.el_chain.specs.Chains.{Chain}
-use Rattle.el_chain.specs.Moves.{AreOf, Moves, InFlight, body_of, target}
-use Rattle.el_chain.specs.Records.{IsBlockOf}
+use Rattle.el_chain.specs.Moves.{Moves, target}
 use Rattle.el_model.specs.declared.ledger.Ledger as ledger
 use Rattle.el_model.specs.LedgerCalls.{Moved, failed_calls}
+use Rattle.el_model.proofs.ReadBodies.{moves_grow}
 use Rattle.el_lines.specs.Lines.{LineEvent, line, too_long}
 use Rattle.el_lines.specs.NodeLines.{NodeLine, block, tip, tx, dropped, ReadsNodeLine}
 use Rattle.el_mempool.specs.Refusals.{is_kept}
@@ -24,42 +23,6 @@ use Rattle.el_world.specs.Side as side_of
 use Rattle.el_world.specs.Side.{Side, GoesAlong, IsSaid, Looks, Moving, Orders, OrdersLine, Tips, Adds, Drops}
 use Rattle.el_sync.specs.Steps.{FailsBy, by_memory, untold, StopsAt}
 use Rattle.el_sync.specs.declared.fault.StepFault.TheVariants as fault
-
--- ---- what was read stays as the files grow
-
-le_of_full : (n : ℕ) (xs : List ℕ) → length (take n xs) ≡ n → n ≤ length xs
-le_of_full zero xs h = omega arith
-le_of_full (suc n) [] h = absurd (let e : 0 ≡ suc n = h in omega arith)
-le_of_full (suc n) (x ∷ xs) h = let r = le_of_full n xs (omega arith) in omega arith
-
-stays_full : (k n : ℕ) (xs more : List ℕ) → length (take n (drop k xs)) ≡ n → take n (drop k (xs ++ more)) ≡ take n (drop k xs)
-stays_full zero n xs more h = take-append-le n xs more (le_of_full n xs h)
-stays_full (suc k) zero [] more h = refl
-stays_full (suc k) (suc n) [] more h = absurd (let e : 0 ≡ suc n = h in omega arith)
-stays_full (suc k) n (x ∷ xs) more h = stays_full k n xs more h
-
-body_grows : (old new : ℕ → List ℕ) (n : Node) (t : List ℕ) → AllGrow old new → IsBlockOf n t → t ≡ body_of old n → t ≡ body_of new n
-body_grows old new n t grows of is =
-    let g = grows n.place.file in
-    let size : length (body_of old n) ≡ n.place.len = ap length (sym is) ∙ of.size in
-    is ∙ sym (ap (λ (l : List ℕ). take n.place.len (drop (n.place.offset + 8) l)) g.1 ∙ stays_full (n.place.offset + 8) n.place.len (old n.place.file) g.0 size)
-
-texts_grow : (old new : ℕ → List ℕ) (ns : List Node) (ts : List (List ℕ)) → AllGrow old new → AreOf ns ts → ts ≡ map (body_of old) ns → ts ≡ map (body_of new) ns
-texts_grow old new [] ts grows of is = is
-texts_grow old new (n ∷ ns) [] grows of is = absurd of
-texts_grow old new (n ∷ ns) (t ∷ ts) grows of is =
-    let here : t ≡ body_of old n = cc in
-    let there : ts ≡ map (body_of old) ns = cc in
-    rw (← body_grows old new n t grows of.0 here, ← texts_grow old new ns ts grows of.1 there) refl
-
-moves_grow : (told : Type 0) (old new : ℕ → List ℕ) (chain : Chain) (p : Plan) (blocks : Chain) → (told → AllGrow old new) → Moves told old chain p blocks → Moves told new chain p blocks
-moves_grow told old new chain p blocks grows m = record {
-  texts = m.texts;
-  read = record { of = m.read.of; told = λ t. texts_grow old new p.forward m.texts (grows t) m.read.of (m.read.told t) };
-  blocks_are = m.blocks_are;
-}
-
--- ---- what a step comes to where no memory is found after it
 
 -- the chain is as it was, or the target of the move
 data Ends (told : Type 0) (files : ℕ → List ℕ) (chain : Chain) (is_move : Plan → Type 0) (losses : List Device) (next : Chain) : Type 0 where

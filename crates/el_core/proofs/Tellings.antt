@@ -4,8 +4,8 @@ use Rattle.std.specs.List.{AllByRecursion, AllZip, list_any}
 use Rattle.std.proofs.lemmas.Slice.Eq.{bytes_eq-Decides}
 use Rattle.el_base.specs.declared.hash.Hash32.{Hash32}
 use Rattle.el_chain.specs.Chains.{Chain}
-use Rattle.el_methods.specs.declared.session.Session as known
-use Rattle.el_methods.specs.Sessions.{Subscription, is_subscribed, is_to}
+use Rattle.el_sessions.specs.declared.session.Session as known
+use Rattle.el_sessions.specs.Sessions.{Subscription, is_subscribed, is_to}
 use Rattle.el_subs.specs.Told as status_told
 use Rattle.el_subs.specs.Told.{status, is_touched, IsTold, OthersTold, marked}
 use Rattle.el_touched.specs.Untouched.{LooksSame, is_among}

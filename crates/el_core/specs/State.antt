@@ -7,8 +7,8 @@ use Rattle.el_chain.specs.Chains.{Chain}
 use Rattle.el_lines.specs.Lines.{lines}
 use Rattle.el_lines.specs.NodeAnswers.{node_limit}
 use Rattle.el_mempool.specs.Standing.{PoolState}
-use Rattle.el_methods.specs.declared.session.Session as client
-use Rattle.el_methods.specs.Sessions.{Subscription}
+use Rattle.el_sessions.specs.declared.session.Session as client
+use Rattle.el_sessions.specs.Sessions.{Subscription}
 use Rattle.el_subs.specs.Told as status_told
 use Rattle.el_subs.specs.Told.{status, is_touched, IsTold}
 use Rattle.el_touched.specs.Untouched.{LooksSame}

@@ -1,5 +1,6 @@
 // A client and its bytes.
 ghost use Rattle.std.specs.Prelude.{◌≡◌, ◌<◌, ◌≤◌, [], ◌∷◌, true, false, not, None, Some, OnOk, OnErr, OnSome, IfOk, IfSome, IfNone, length, vec_capacity};
+ghost use Rattle.std.specs.Map.{keys_of};
 ghost use Rattle.el_outside.specs.Counts.{CountsOnly};
 ghost use Rattle.el_outside.specs.Files.{AllGrow};
 ghost use Rattle.el_model.specs.LedgerCalls.{Asked};
@@ -8,7 +9,7 @@ ghost use Rattle.el_subs.specs.Told.{status};
 ghost use Rattle.el_world.specs.Side.{Side};
 ghost use Rattle.el_world.specs.World.{line_limit, new_client, outs_of_reply, reply_to};
 ghost use Rattle.el_lines.specs.LineStates.{as_listed, held};
-ghost use Rattle.el_methods.specs.Sessions.{is_subscribed};
+ghost use Rattle.el_sessions.specs.Sessions.{Extends};
 ghost use Rattle.el_core.specs.State.{HasGivenAll, HasNoWork, IsHeardOut, work_of_client};
 ghost use Rattle.el_core.specs.Turn.{messages_of, outs_of};
 ghost use Rattle.el_core.specs.within.Answering.{IsSettled, Lost};
@@ -18,10 +19,11 @@ use crate::out::Outs;
 use el_base::{Bytes, Hash32, Listed, OutOfMemory};
 use el_chain::Touched;
 use el_lines::{LINE_LIMIT, LineBuffer, LineEvent};
-use el_methods::{Holdings, Session, Subs};
+use el_methods::Holdings;
 use el_model::{Ledger, QueryFault};
 use el_outside::{Archive, Peer, Why};
 use el_replies::{LineReply, reply_line};
+use el_sessions::{Session, Subs};
 use el_subs::notify;
 use std::alloc::Global;
 use std::marker::Model;
@@ -43,7 +45,7 @@ impl Model for Client {
 
     ghost view = { λ c. record {
       peer = c.peer;
-      buffer = c.buffer;
+      buffer = c.buffer.state;
       lost = c.lost;
       session = c.session;
       waits = c.waits;
@@ -103,11 +105,11 @@ impl Client {
         self.waits = true;
     }
 
-    /// Whether the client subscribes to the script hash.
-    pub fn holds(&self, script_hash: &Hash32) -> bool
-        ensures { result ≡ is_subscribed script_hash.now self.now.session.subs }
+    /// What the client subscribes to.
+    pub fn subs(&self) -> &Subs
+        ensures { result.now ≡ self.now.session.subs }
     {
-        self.session.subs.holds(script_hash)
+        &self.session.subs
     }
 
     /// The lines that the client is told of the node's last line. It then waits no more, and what it was told
@@ -135,6 +137,7 @@ impl Client {
         ensures done { OnOk result (self.new.waits ≡ false) }
         ensures bytes { self.new.buffer ≡ self.old.buffer }
         ensures peer { self.new.peer ≡ self.old.peer }
+        ensures keys { keys_of self.new.session.subs ≡ keys_of self.old.session.subs }
         ensures quiet { Asked ⟦<G as Ledger>⟧ ledger.old ledger.new }
         ensures cause { CountsOnly (G.faults ledger.old) (G.faults ledger.new) QueryFault.DiskFailed result }
     {
@@ -241,6 +244,7 @@ fn replying(alloc: Global, room: Vec<(Peer, Bytes)>, p: Peer, reply: LineReply) 
 
 // What a client gets for a line, and whether it stays. The room for the message is taken before the line is
 // looked at: where there is none, nothing was asked.
+#[tactic(auto, using(el_sessions::proofs::Subscribing::extends_same))]
 fn answer_line<G: Ledger, A: Archive>(
     alloc: Global,
     ledger: &mut G,
@@ -260,6 +264,7 @@ fn answer_line<G: Ledger, A: Archive>(
     ensures disk_more { G.faults ledger.old ≤ G.faults ledger.new }
     ensures archive_more { A.faults archive.old ≤ A.faults archive.new }
     ensures same { client.new ≡ record client.old { session = client.new.session } }
+    ensures extends { Extends client.old.session.subs client.new.session.subs }
 {
     let peer = client.peer();
     let Ok(room) = room_for_one(alloc) else {
@@ -276,6 +281,7 @@ fn answer_line<G: Ledger, A: Archive>(
 
 // What a client gets for what was met in its bytes: the reply to a line, or its closing; and whether it
 // stays.
+#[tactic(auto, using(el_sessions::proofs::Subscribing::extends_same))]
 fn answer<G: Ledger, A: Archive>(
     alloc: Global,
     ledger: &mut G,
@@ -295,6 +301,7 @@ fn answer<G: Ledger, A: Archive>(
     ensures disk_more { G.faults ledger.old ≤ G.faults ledger.new }
     ensures archive_more { A.faults archive.old ≤ A.faults archive.new }
     ensures same { client.new ≡ record client.old { session = client.new.session } }
+    ensures extends { Extends client.old.session.subs client.new.session.subs }
 {
     match met {
         LineEvent::TooLong { limit: _ } => {
@@ -309,6 +316,7 @@ fn answer<G: Ledger, A: Archive>(
 
 /// One turn of a client: the reply to its next line, its closing, or nothing where no whole line is left; and
 /// whether the client stays.
+#[tactic(auto, using(el_sessions::proofs::Subscribing::extends_same))]
 pub fn client_turn<G: Ledger, A: Archive>(
     alloc: Global,
     ledger: &mut G,
@@ -332,6 +340,8 @@ pub fn client_turn<G: Ledger, A: Archive>(
         < work_of_client (Some client.old)) }
     ensures done { IfNone result.0 (HasNoWork (left_if result.1 client.new)) }
     ensures same { (client.new.peer ≡ client.old.peer) × (client.new.waits ≡ client.old.waits) }
+    ensures extends { Extends client.old.session.subs client.new.session.subs }
+    ensures idle { IfNone result.0 ((client.new ≡ client.old) × (result.1 ≡ true)) }
 {
     let peer = client.peer();
     if client.is_lost() {

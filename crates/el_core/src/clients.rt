@@ -1,5 +1,5 @@
 // The clients, by rising number.
-ghost use Rattle.std.specs.Prelude.{◌≡◌, ◌<◌, ◌≤◌, [], ◌∷◌, ◌++◌, None, OnOk, OnErr, IfSome, IfNone, length};
+ghost use Rattle.std.specs.Prelude.{◌≡◌, ◌<◌, ◌≤◌, [], ◌∷◌, ◌++◌, None, OnOk, OnErr, IfSome, IfNone, length, true, false};
 ghost use Rattle.el_outside.specs.Counts.{RoseBy};
 ghost use Rattle.el_outside.specs.Files.{AllGrow};
 ghost use Rattle.el_model.specs.LedgerCalls.{Asked};
@@ -9,31 +9,82 @@ ghost use Rattle.el_core.specs.within.Answering.{IsSettled, Lost};
 ghost use Rattle.el_core.specs.Turn.{outs_of};
 ghost use Rattle.el_core.specs.within.Clients.{IsPlace, IsFirstWaiting, HearsAt, ClientTurn, TurnsAt, IsToTell, TellTurn, TellsAt, all_wait, replaced};
 ghost use Rattle.el_core.specs.within.Touching.{is_held};
+ghost use Rattle.el_core.specs.within.Watching.{Counts, CountsFew};
 
-use crate::client::{Client, client_turn};
+use crate::client::{Client, client_turn, closing};
 use crate::out::Outs;
 use crate::telling::tell_turn;
+use crate::watching::{count_from, is_counted, uncount};
 use el_base::{Hash32, OutOfMemory};
 use el_chain::Touched;
 use el_methods::Holdings;
 use el_model::Ledger;
-use el_outside::{Archive, Peer};
+use el_outside::{Archive, Peer, Why};
+use indexmap::IndexMap;
 use std::alloc::Global;
 use std::marker::Model;
 
-/// Connected clients, in the order in which they came. Contracts see the list of these.
+/// Connected clients, in the order in which they came. Contracts see the list of these. Beside it stands of
+/// each script hash how many of them subscribe to it: one look-up tells whether someone does.
 #[derive(Drop)]
 pub struct Clients {
     list: Vec<Client>,
+    watched: IndexMap<Hash32, usize>,
 }
 
 impl Model for Clients {
     ghost use Rattle.std.specs.Prelude.{List};
     ghost use Rattle.el_core.specs.State.{ClientState};
+    ghost use Rattle.el_core.specs.within.Watching.{Counts};
 
     ghost Value = { List ClientState };
 
     ghost view = { λ c. c.list.items };
+
+    ghost invariant = { λ c. Counts c.watched.entries c.list.items };
+}
+
+// All are to be told of a line of the node.
+fn await_all(list: &mut Vec<Client>)
+    ensures { list.new.items ≡ all_wait list.old.items }
+{
+    for client in list.iter_mut() {
+        client.await_telling();
+    }
+}
+
+// Takes away the client at that place, of whose subscriptions so many are counted, the first ones.
+fn take_out(list: &mut Vec<Client>, watched: &mut IndexMap<Hash32, usize>, i: usize, few: usize)
+    requires inside { i < length list.old.items }
+    requires few { CountsFew i few watched.old.entries list.old.items }
+    ensures gone { list.new.items ≡ replaced i None list.old.items }
+    ensures counts { Counts watched.new.entries list.new.items }
+{
+    uncount(watched, list[i].subs(), few);
+    list.remove(i);
+}
+
+// Counts the subscriptions of the client at that place from `known` on. Where there is no memory for one, the
+// client is taken away. Whether it stays.
+fn count_new(
+    list: &mut Vec<Client>,
+    watched: &mut IndexMap<Hash32, usize>,
+    i: usize,
+    known: usize,
+) -> bool
+    requires inside { i < length list.old.items }
+    requires few { CountsFew i known watched.old.entries list.old.items }
+    ensures stays { result ≡ true → list.new.items ≡ list.old.items }
+    ensures gone { result ≡ false → list.new.items ≡ replaced i None list.old.items }
+    ensures counts { Counts watched.new.entries list.new.items }
+{
+    match count_from(watched, list[i].subs(), known) {
+        Ok(()) => true,
+        Err(few) => {
+            take_out(list, watched, i, few);
+            false
+        }
+    }
 }
 
 impl Clients {
@@ -43,6 +94,7 @@ impl Clients {
     {
         Clients {
             list: Vec::new(alloc),
+            watched: IndexMap::new(alloc),
         }
     }
 
@@ -53,8 +105,9 @@ impl Clients {
         self.list.len()
     }
 
-    /// Adds a client at the end. Fails only where memory runs out.
+    /// Adds a client at the end, which subscribes to nothing yet. Fails only where memory runs out.
     pub fn push(&mut self, client: Client) -> Result<(), OutOfMemory>
+        requires { client.session.subs ≡ [] }
         ensures ok { OnOk result (self.new ≡ self.old ++ client ∷ []) }
         ensures err { OnErr result (self.new ≡ self.old) }
     {
@@ -88,20 +141,18 @@ impl Clients {
         None
     }
 
-    /// Whether some client subscribes to the script hash.
+    /// Whether some client subscribes to the script hash, by one look-up.
     pub fn hold(&self, script_hash: &Hash32) -> bool
         ensures { result ≡ is_held self.now script_hash.now }
     {
-        self.list.iter().any(|client| client.holds(script_hash))
+        is_counted(&self.watched, script_hash)
     }
 
     /// All are to be told of a line of the node.
     pub fn await_telling(&mut self)
         ensures { self.new ≡ all_wait self.old }
     {
-        for client in self.list.iter_mut() {
-            client.await_telling();
-        }
+        await_all(&mut self.list);
     }
 
     // Takes away the client at that place.
@@ -109,14 +160,17 @@ impl Clients {
         requires { i < length self.old }
         ensures { self.new ≡ replaced i None self.old }
     {
-        self.list.remove(i);
+        let few = self.list[i].subs().held();
+        take_out(&mut self.list, &mut self.watched, i, few);
     }
 
     /// Takes away the client with that number, if there is one.
     pub fn forget(&mut self, p: Peer)
         ensures { self.new ≡ kept_clients p self.old }
     {
-        self.list.retain(|client| client.peer() != p);
+        while let Some(i) = self.place_of(p) {
+            self.take_away(i);
+        }
     }
 
     /// The client at that place keeps its bytes, or that there was no memory for them.
@@ -127,7 +181,8 @@ impl Clients {
         self.list[i].hear(bytes);
     }
 
-    /// A turn of the client at that place, which is gone where it was closed.
+    /// A turn of the client at that place, which is gone where it was closed. It is closed as out of memory
+    /// where there is none to count what it has then subscribed to.
     pub fn turn<G: Ledger, A: Archive>(
         &mut self,
         alloc: Global,
@@ -150,12 +205,20 @@ impl Clients {
         ensures disk_more { G.faults ledger.old ≤ G.faults ledger.new }
         ensures archive_more { A.faults archive.old ≤ A.faults archive.new }
     {
+        let peer = self.list[i].peer();
+        let known = self.list[i].subs().held();
         let (outs, stays) = client_turn(alloc, ledger, archive, holdings, &mut self.list[i]);
-        if stays {
-            return (outs, true);
+        let Some(outs) = outs else {
+            return (None, true);
+        };
+        if !stays {
+            take_out(&mut self.list, &mut self.watched, i, known);
+            return (Some(outs), false);
         }
-        self.take_away(i);
-        (outs, false)
+        if count_new(&mut self.list, &mut self.watched, i, known) {
+            return (Some(outs), true);
+        }
+        (Some(closing(alloc, peer, Why::Memory)), false)
     }
 
     /// The telling of the client at that place, which is gone where it was closed for it.

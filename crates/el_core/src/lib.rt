@@ -10,6 +10,7 @@ mod out;
 mod server;
 mod telling;
 mod touching;
+mod watching;
 
 pub use out::Outs;
 pub use server::Server;

@@ -74,7 +74,7 @@ impl<G: Ledger> Model for Server<G> {
       magic = s.holdings.magic;
       found = s.holdings.tree;
       pool = s.holdings.pool;
-      node = s.node;
+      node = s.node.state;
       ahead = s.ahead;
       clients = s.clients;
       speaker = s.speaker;
@@ -84,7 +84,7 @@ impl<G: Ledger> Model for Server<G> {
     } };
 
     ghost invariant = { λ s. AllByRecursion IsNode s.ahead × AreLinked (named (G.tip s.ledger)) s.ahead
-        × (s.node.limit ≡ node_limit) };
+        × (s.node.state.limit ≡ node_limit) };
 }
 
 impl<G: Ledger> Server<G> {

@@ -1,5 +1,6 @@
 // What a client is told after a line of the node.
 ghost use Rattle.std.specs.Prelude.{◌≡◌, ◌≤◌, ◌++◌, List, ℕ, IfOk, OnOk, map, drop, true, false};
+ghost use Rattle.std.specs.Map.{keys_of};
 ghost use Rattle.el_outside.specs.Counts.{RoseBy, CountsOnly};
 ghost use Rattle.el_model.specs.LedgerCalls.{Asked};
 ghost use Rattle.el_world.specs.Side.{Side};
@@ -50,6 +51,7 @@ fn tell_all<G: Ledger>(
     ensures done { OnOk result (client.new.waits ≡ false) }
     ensures bytes { client.new.buffer ≡ client.old.buffer }
     ensures peer { client.new.peer ≡ client.old.peer }
+    ensures keys { keys_of client.new.session.subs ≡ keys_of client.old.session.subs }
     ensures quiet { Asked ⟦<G as Ledger>⟧ ledger.old ledger.new }
     ensures cause { CountsOnly (G.faults ledger.old) (G.faults ledger.new) QueryFault.DiskFailed result }
 {
@@ -79,6 +81,7 @@ pub fn tell_turn<G: Ledger>(
     ensures disk_more { G.faults ledger.old ≤ G.faults ledger.new }
     ensures told { result.1 ≡ true → client.new.waits ≡ false }
     ensures same { (client.new.buffer ≡ client.old.buffer) × (client.new.peer ≡ client.old.peer) }
+    ensures keys { keys_of client.new.session.subs ≡ keys_of client.old.session.subs }
 {
     let peer = client.peer();
     match tell_all(alloc, ledger, holdings, touched, before, client) {

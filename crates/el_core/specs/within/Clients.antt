@@ -8,7 +8,7 @@ use Rattle.el_chain.specs.Chains.{Chain}
 use Rattle.el_mempool.specs.Standing.{PoolState, StandsFor}
 use Rattle.el_outside.specs.Devices.{Device}
 use Rattle.el_lines.specs.Lines.{LineEvent, line, lines}
-use Rattle.el_methods.specs.declared.session.Session as known
+use Rattle.el_sessions.specs.declared.session.Session as known
 use Rattle.el_replies.specs.declared.line.LineReply.{LineReply}
 use Rattle.el_subs.specs.Told.{status, OthersTold}
 use Rattle.el_subs.specs.Notices.{notices, notified}

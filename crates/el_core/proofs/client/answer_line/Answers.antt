@@ -25,3 +25,6 @@ returns-clause-answered g c = rw (← c.client.view_is) (λ side at'.
           (line_starved _ side _ c.client.inside.peer _ _ _ r.lost c.reply_line.result _ _ w.in-Err.field-0 w.in-Err.is comes
           (w.closing-in-Err.ensures ∙ ap closes_memory peer_is) refl lost)
     ])
+
+pub returns-clause-extends : goal.returns-clause-extends
+returns-clause-extends g c = rw (← c.client.view_is) c.reply_line.ensures.extends

@@ -11,7 +11,7 @@ returns-in_ok-open-in-Opened-clause-taken g c = λ world stood.
 pub returns-in_ok-feed-in-Bytes-clause-taken : goal.returns-in_ok-feed-in-Bytes-clause-taken
 returns-in_ok-feed-in-Bytes-clause-taken g c = λ world stood. rw c.in-Bytes.is
     (node_taken g.G.Ledger.stands c.args.self.now _ world c.in-Bytes.p c.args.bytes.now c.if-p-eq0.true c.requires.idle stood
-    (ap (λ (s : State g.row.G.Denot). record s { node = c.feed.new.self }) c.self.view_is)
+    (ap (λ (s : State g.row.G.Denot). record s { node = c.feed.new.self.state }) c.self.view_is)
     (c.feed.ensures.limit ∙ ap (λ (s : State g.row.G.Denot). s.node.limit) c.self.view_is)
     (rw (← c.self.view_is) c.in_ok-feed-in-Bytes.ensures.at))
 

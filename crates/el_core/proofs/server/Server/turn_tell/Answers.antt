@@ -15,7 +15,7 @@ returns-clause-step g c =
 
 pub returns-clause-less : goal.returns-clause-less
 returns-clause-less g c =
-    rw (← c.self.view_is) (told_less _ (work_of_node (held c.self.inside.node) (length c.self.inside.holdings.tree) (length c.self.inside.ahead)) c.args.i (work_of_surplus c.self.inside.surplus) c.self.inside.clients c.tell.new.self c.self.inside.speaker
+    rw (← c.self.view_is) (told_less _ (work_of_node (held c.self.inside.node.state) (length c.self.inside.holdings.tree) (length c.self.inside.ahead)) c.args.i (work_of_surplus c.self.inside.surplus) c.self.inside.clients c.tell.new.self c.self.inside.speaker
     c.tell.ensures.turn (rw (← c.self.view_is) at c.requires.first))
 
 pub returns-clause-numbers : goal.returns-clause-numbers
