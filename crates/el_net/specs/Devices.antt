@@ -17,11 +17,6 @@ pub record BlocksOf (D : Type 0) : Type 0 where
 abbrev pub read_with : Option Mask → List ℕ → List ℕ
 read_with mask bytes = unmasked (option_map_or (λ (m : Mask). m.bytes) mask []) 0 bytes
 
--- the files of a folder: the folder, and how often a call has failed
-pub record FolderFiles : Type 0 where
-  pub folder : List ℕ
-  pub faults : ℕ
-
 -- a link: the last client that came, or 0, how often `next` was called, and how often a call has failed
 pub record LinkCounts : Type 0 where
   pub last : ℕ

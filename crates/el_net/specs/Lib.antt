@@ -1,4 +1,3 @@
 pub mod Devices
-pub mod Folders
 pub mod Masks
 pub mod Paths

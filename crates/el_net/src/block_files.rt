@@ -3,7 +3,7 @@ ghost use Rattle.std.specs.Prelude.{◌≡◌, ◌≤◌, ◌-◌, ℕ, [], Some
 ghost use Rattle.el_outside.specs.Counts.{RoseBy};
 ghost use Rattle.el_outside.specs.Files.{AllGrow};
 ghost use Rattle.el_net.specs.Devices.{BlocksOf, read_with};
-ghost use Rattle.el_net.specs.Folders.{IsFront};
+ghost use Rattle.el_open_files.specs.Calls.{IsFront};
 ghost use Rattle.el_net.specs.Masks.{unmasked};
 
 use crate::block_folder::BlockFolder;

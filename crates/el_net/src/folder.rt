@@ -1,7 +1,7 @@
 // The block files of a folder, as the system's calls give them.
 ghost use Rattle.std.specs.Prelude.{◌≡◌, ◌⊎◌, ◌≤◌, ◌-◌, ℕ, [], length, IfOk, IfSome, IfNone};
 ghost use Rattle.el_outside.specs.Files.{AllGrow};
-ghost use Rattle.el_net.specs.Folders.{IsFront};
+ghost use Rattle.el_open_files.specs.Calls.{IsFront};
 
 use el_outside::MOST_FILES;
 use std::io;

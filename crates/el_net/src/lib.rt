@@ -6,22 +6,21 @@
 mod archive_folder;
 mod block_files;
 mod block_folder;
-mod file_disk;
 mod file_names;
 mod folder;
+mod index_folder;
 mod masks;
 mod nobody;
 mod paths;
 mod reading;
 mod standard_link;
 mod tcp_link;
-mod writing;
 
 pub use archive_folder::ArchiveFolder;
 pub use block_files::BlockFiles;
 pub use block_folder::BlockFolder;
-pub use file_disk::FileDisk;
 pub use folder::Folder;
+pub use index_folder::{IndexFolder, index_files};
 pub use masks::{Mask, NO_MASK, mask_of, unmask};
 pub use nobody::{NoDisk, NoFiles, NoLink};
 pub use standard_link::StandardLink;

@@ -2,7 +2,7 @@
 ghost use Rattle.std.specs.Prelude.{◌≡◌, ◌≢◌, ◌≤◌, ◌-◌, ℕ, length, min, IfOk, IfErr, IsErr, None, Ok, Some};
 ghost use Rattle.std.specs.IoError.{error_kind};
 ghost use Rattle.el_outside.specs.Files.{AllGrow};
-ghost use Rattle.el_net.specs.Folders.{IsFront};
+ghost use Rattle.el_open_files.specs.Calls.{IsFront};
 
 use crate::folder::Folder;
 use std::fs::File;

@@ -2,7 +2,7 @@
 
 use el_base::Hash32;
 use el_outside::Place;
-use el_rows::{BlockRow, EntryRow, HeadRow, InRow, OutRow, ScriptRow, State, TxRow};
+use el_row_formats::{BlockRow, EntryRow, HeadRow, InRow, OutRow, ScriptRow, State, TxRow};
 use std::process::Abort;
 use std::test::Fail;
 

@@ -1,7 +1,8 @@
 // That calls succeed where memory is ample, bytes written by hand, and bodies that spell no commit, one by
 // each check.
 use el_redo::{Mainnet, NetworkMagic, RedoFault, Regtest, Testnet3, apply, redo_body};
-use el_rows::{Rows, Sealed, Table, Txn, VecRows};
+use el_row_formats::Table;
+use el_rows::{Rows, Sealed, Txn, VecRows};
 use std::alloc::Global;
 use std::process::Abort;
 use std::test::Fail;
@@ -49,11 +50,11 @@ fn second(alloc: Global, rows: &mut VecRows) -> Result<Sealed, Fail> {
 fn bodies_are_applied(rt: HostRuntime) -> Result<(), Fail> {
     let alloc = rt.alloc();
     let mut rows = VecRows::new(alloc);
-    assert_eq!(rt; apply(alloc, &mut rows, MAGIC, BODY), Ok(()));
+    assert_eq!(rt; apply(&mut rows, MAGIC, BODY), Ok(()));
     let again = second(alloc, &mut rows)?;
     let body = redo_body(alloc, MAGIC, &again)?;
     assert_eq!(rt; body.as_slice().len(), 76 + 2 * 13);
-    assert_eq!(rt; apply(alloc, &mut rows, MAGIC, body.as_slice()), Ok(()));
+    assert_eq!(rt; apply(&mut rows, MAGIC, body.as_slice()), Ok(()));
     assert_eq!(rt;
         (rows.count(Table::TxHeads), rows.count(Table::Ins)),
         (1, 1)
@@ -64,7 +65,7 @@ fn bodies_are_applied(rt: HostRuntime) -> Result<(), Fail> {
 // Applied to no rows.
 fn applied(alloc: Global, body: &[u8]) -> Result<(), RedoFault> {
     let mut rows = VecRows::new(alloc);
-    apply(alloc, &mut rows, MAGIC, body)
+    apply(&mut rows, MAGIC, body)
 }
 
 // Bytes of BODY that are changed: the place, and what it then has. A letter, the format, the magic; counts

@@ -4,10 +4,11 @@ ghost use Rattle.std.specs.Prelude.{◌≡◌, ◌<◌, [], get_or, slice_set, O
 ghost use Rattle.el_outside.specs.Counts.{CountsOnly};
 ghost use Rattle.el_rows.specs.Changes.{OnTable};
 ghost use Rattle.el_rows.specs.Reads.{OnlyRead};
-ghost use Rattle.el_rows.specs.declared.table.Table.{Table};
+ghost use Rattle.el_row_formats.specs.declared.table.Table.{Table};
 
 use crate::log_tests::come_back;
-use el_rows::{CommitFault, Rows, TABLES, Table, Txn, VecRows, VersionedRows};
+use el_row_formats::{TABLES, Table};
+use el_rows::{CommitFault, Rows, Txn, VecRows, VersionedRows};
 use std::alloc::Global;
 use std::process::Abort;
 use std::test::Fail;

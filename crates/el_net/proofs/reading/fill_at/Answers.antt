@@ -1,7 +1,7 @@
 use Rattle.std.proofs.Common.{◌≡◌, length, arith, ◌∙◌, ◌-◌, ◌+◌, ap, sym}
 use Rattle.std.proofs.lemmas.Bool.{eqb-true}
 use borrow.Rule.Slice.PartMut.{same_len_mid}
-use Rattle.el_net.proofs.Fronts.{front_kept, front_more, length_rest, counted_all, counted_end}
+use Rattle.el_open_files.proofs.Fronts.{front_kept, front_more, length_rest, counted_all, counted_end}
 use Rattle.el_outside.proofs.Traces.{all_grow_more}
 use Rattle.el_net.proofs.reading.fill_at.Goals.{in-Ok-2, then-n-eq0, else-n-eq0, in-Err}
 use Rattle.el_net.proofs.reading.fill_at.Goals as goal

@@ -1,6 +1,6 @@
 use Rattle.std.proofs.Common.{◌≡◌, ◌≤◌, ℕ, length}
 use Rattle.el_outside.specs.Files.{AllGrow}
-use Rattle.el_net.specs.Folders.{IsFront}
+use Rattle.el_open_files.specs.Calls.{IsFront}
 use Rattle.el_net.proofs.reading.fill_at.Given as goal
 
 pub record Loop (g : goal.Over) (l : goal.Live-loop g) : Type 0 where

@@ -1,5 +1,5 @@
 use Rattle.std.proofs.Common.{length}
-use Rattle.el_net.proofs.Fronts.{front_of, none_more}
+use Rattle.el_open_files.proofs.Fronts.{front_of, none_more}
 use Rattle.el_net.proofs.archive_folder.ArchiveFolderFolder.read_at.Goals as goal
 
 pub returns-in-Ok-clause-front : goal.returns-in-Ok-clause-front

@@ -1,5 +1,5 @@
 use Rattle.std.proofs.Common.{append_assoc}
-use Rattle.el_net.proofs.file_disk.put_path.Goals as goal
+use Rattle.el_net.proofs.index_folder.put_path.Goals as goal
 
 pub returns-clause-path : goal.returns-clause-path
 returns-clause-path c =

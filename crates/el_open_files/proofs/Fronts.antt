@@ -1,10 +1,10 @@
 -- The first bytes of a buffer, read in parts.
-use Rattle.std.proofs.Common.{◌≡◌, ◌⊎◌, inl, inr, min, ◌∙◌, ◌≤◌, ◌+◌, ◌-◌, ℕ, zero, suc, List, ◌++◌, length, take, drop, refl, ap, sym, arith, length-append}
+use Rattle.std.proofs.Common.{[], append-nil, ◌≡◌, ◌⊎◌, inl, inr, min, ◌∙◌, ◌≤◌, ◌+◌, ◌-◌, ℕ, zero, suc, List, ◌++◌, length, take, drop, refl, ap, sym, arith, length-append}
 use Rattle.std.proofs.lemmas.List.{take-append-le, drop-append-le, length-drop, length-take-le, drop-drop}
 use Rattle.std.proofs.lemmas.List.{take_all}
 use Rattle.std.proofs.Math.Seq.{take-add, take-append-add}
 use Rattle.el_outside.specs.Files.{Grows}
-use Rattle.el_net.specs.Folders.{IsFront}
+use Rattle.el_open_files.specs.Calls.{IsFront}
 
 pub front_none : (place : ℕ) (buf file : List ℕ) → IsFront place 0 buf file
 front_none place buf file = record { there = omega arith; bytes = refl }
@@ -65,3 +65,7 @@ none_more n (suc len) size at is none = inr (omega (arith, is, none))
 pub front_of : (place n len : ℕ) (buf file : List ℕ) → n ≡ min len (length file - place) → take n buf ≡ take n (drop place file)
     → IsFront place n buf file
 front_of place n len buf file count is = record { there = omega (arith, count); bytes = is }
+
+-- a file that didn't change
+pub same_grows : (old new : List ℕ) → new ≡ old → Grows old new
+same_grows old new is = ([], is ∙ sym (append-nil old))

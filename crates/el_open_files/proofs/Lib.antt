@@ -1,0 +1,4 @@
+pub mod Fronts
+mod Held
+mod Runs
+mod Writes

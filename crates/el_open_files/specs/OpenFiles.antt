@@ -1,0 +1,30 @@
+-- What contracts see of a disk over open files.
+use Rattle.std.specs.Prelude.{◌≡◌, ℕ, List, [], Option, None, IfSome, slice_index_or}
+use Rattle.el_outside.specs.Disk.{Image, OnDisk}
+use Rattle.el_outside.specs.Moments.{LeftNow}
+
+-- the files, and how often a call has failed
+pub record FilesOf (D : Type 0) : Type 0 where
+  pub files : D
+  pub faults : ℕ
+
+-- the file that is open at its number
+abbrev pub opened : {I : Type 0} → List (Option I) → ℕ → Option I
+opened places f = slice_index_or places f None
+
+-- What is open is the file of that number, and its name is on the disk.
+pub record IsOpen (tells : Type 0) {D I : Type 0} (is_file : I → ℕ → Type 0) (is_named : D → ℕ → Type 0)
+    (files : D) (f : ℕ) (it : I) : Type 0 where
+  pub file : is_file it f
+  pub named : tells → is_named files f
+
+-- so is each that is open
+abbrev pub Held : (tells : Type 0) {D I : Type 0} → (I → ℕ → Type 0) → (D → ℕ → Type 0) → D → List (Option I) → Type 0
+Held tells is_file is_named files places =
+    (f : ℕ) → IfSome (opened places f) (λ it. IsOpen tells is_file is_named files f it)
+
+-- the file has no bytes, and a crash leaves none of it
+pub record IsUnmade {D : Type 0} (seen : D → Image) (moment : D → ℕ) (left_since : D → ℕ → Image → Type 0)
+    (file : ℕ) (files : D) : Type 0 where
+  pub empty : seen files file ≡ []
+  pub on_disk : OnDisk file (seen files) (LeftNow moment left_since files)

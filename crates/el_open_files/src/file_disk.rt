@@ -1,0 +1,129 @@
+// The files of an index as a disk.
+ghost use Rattle.std.specs.Prelude.{◌≡◌, ℕ, None, IfOk};
+ghost use Rattle.el_outside.specs.Counts.{RoseBy};
+ghost use Rattle.el_open_files.specs.OpenFiles.{opened};
+
+use crate::calls::{cut_to, make_durable, read_from, size_of, write_to};
+use crate::open_files::OpenFiles;
+use el_base::OutOfMemory;
+use el_outside::{Disk, DiskFailed, SIZE_LIMIT};
+use std::alloc::Global;
+use std::marker::Model;
+
+/// How many files an index has at most: their names have two digits.
+const FILES: usize = 100;
+
+/// The files of a folder as a disk, at most 100. A file is opened once and kept open, and made by the first
+/// write to it; one that isn't there has no bytes. It tells what the folder tells.
+#[derive(Drop)]
+pub struct FileDisk<F: OpenFiles> {
+    files: F,
+    // The files that are open, by number.
+    places: Vec<Option<F::File>>,
+    faults: u64,
+}
+
+impl<F: OpenFiles> Model for FileDisk<F> {
+    ghost use Rattle.el_open_files.specs.OpenFiles.{FilesOf, Held};
+
+    ghost Value = { FilesOf F };
+
+    ghost view = { λ disk. record { files = disk.files; faults = disk.faults } };
+
+    ghost invariant = { λ disk. Held F.tells F.is_file F.is_named disk.files disk.places.items };
+}
+
+// As many empty places as an index has files.
+fn no_files<I: Drop>(alloc: Global) -> Result<Vec<Option<I>>, OutOfMemory>
+    ensures { IfOk result (λ places. (f : ℕ) → opened places.items f ≡ None) }
+{
+    let mut places = Vec::new(alloc);
+    for _file in 0..FILES {
+        places.push(None)?;
+    }
+    Ok(places)
+}
+
+// A failure, which is counted.
+fn fault(faults: &mut u64) -> DiskFailed
+    ensures { RoseBy faults.old faults.new 1 }
+{
+    *faults = faults.saturating_add(1);
+    DiskFailed
+}
+
+impl<F: OpenFiles + Drop> FileDisk<F> {
+    /// The files of the folder, none of them open. No call takes memory of its own, where none of the folder
+    /// does.
+    pub fn over(files: F, alloc: Global) -> Result<FileDisk<F>, OutOfMemory>
+        ensures { IfOk result (λ disk. disk ≡ record { files = files; faults = 0 }) }
+    {
+        let places = no_files(alloc)?;
+        Ok(FileDisk {
+            files,
+            places,
+            faults: 0,
+        })
+    }
+}
+
+impl<F: OpenFiles + Drop> Disk for FileDisk<F> {
+    ghost tells = { F.tells };
+
+    ghost seen = { λ disk. F.seen disk.files };
+
+    ghost moment = { λ disk. F.moment disk.files };
+
+    ghost left_since = { λ disk. F.left_since disk.files };
+
+    ghost faults = { λ disk. disk.faults };
+
+    ghost earlier = { λ disk. F.earlier disk.files };
+
+    ghost reads_an_image = { λ disk. F.reads_an_image disk.files };
+
+    ghost small = { λ disk. F.small disk.files };
+
+    fn size(&mut self, file: u32) -> Result<u64, DiskFailed> {
+        self.files.begin();
+        match size_of(&mut self.files, self.places.as_mut_slice(), file) {
+            Ok(n) if n < SIZE_LIMIT => Ok(n),
+            _ => Err(fault(&mut self.faults)),
+        }
+    }
+
+    fn read(&mut self, file: u32, at: u64, buf: &mut [u8]) -> Result<usize, DiskFailed> {
+        self.files.begin();
+        match read_from(&mut self.files, self.places.as_mut_slice(), file, at, buf) {
+            Ok(n) => Ok(n),
+            Err(_) => Err(fault(&mut self.faults)),
+        }
+    }
+
+    fn write_at(&mut self, file: u32, at: u64, bytes: &[u8]) -> Result<(), DiskFailed> {
+        self.files.begin();
+        if at.saturating_add(bytes.len() as u64) >= SIZE_LIMIT {
+            return Err(fault(&mut self.faults));
+        }
+        match write_to(&mut self.files, self.places.as_mut_slice(), file, at, bytes) {
+            Ok(()) => Ok(()),
+            Err(_) => Err(fault(&mut self.faults)),
+        }
+    }
+
+    fn cut(&mut self, file: u32, len: u64) -> Result<(), DiskFailed> {
+        self.files.begin();
+        match cut_to(&mut self.files, self.places.as_mut_slice(), file, len) {
+            Ok(()) => Ok(()),
+            Err(_) => Err(fault(&mut self.faults)),
+        }
+    }
+
+    fn sync(&mut self, file: u32) -> Result<(), DiskFailed> {
+        self.files.begin();
+        match make_durable(&mut self.files, self.places.as_mut_slice(), file) {
+            Ok(()) => Ok(()),
+            Err(_) => Err(fault(&mut self.faults)),
+        }
+    }
+}
