@@ -24,6 +24,11 @@ use Rattle.el_chain.proofs.GoodChains.{next_more}
 use Rattle.el_files.specs.Scanning.{IsRecordIn}
 use Rattle.el_files.proofs.Heading.{header_in_front}
 use Rattle.el_files.proofs.Standing.{records_stand, stands_within, block_stays}
+use Rattle.el_base.specs.declared.hash.Hash32.{Hash32}
+use Rattle.el_chain.specs.declared.read_fault.ReadFault.{ReadFault}
+use Rattle.el_chain.specs.declared.read_fault.ReadFault.TheVariants as reading
+use Rattle.electrum_serve.specs.declared.file.FileFault.TheVariants as fault
+use Rattle.electrum_serve.specs.within.Unread.{read_fault}
 use Rattle.electrum_serve.specs.File.{GivesNoChain}
 
 -- what a node has of its file and header
@@ -265,3 +270,9 @@ round_refused tells magic old before now next low high nodes i d chain told r lt
       refused tells magic file nodes i d chain told are (r.taken file (λ t. are) (λ t. is_file.grows)) lt
           (λ b block encoded follows. none b (rw same block) (rw same encoded) follows),
     )
+
+-- a record is read as bad where its bytes have changed
+pub was_changed : (f : ReadFault) → read_fault f ≡ fault.Bad → (wanted : Hash32) × (found : Option Hash32) × (f ≡ reading.Changed wanted found)
+was_changed reading.ArchiveFailed is = absurd (let bad = is in cc)
+was_changed (reading.Changed wanted found) is = (wanted, found, refl)
+was_changed reading.Memory is = absurd (let bad = is in cc)

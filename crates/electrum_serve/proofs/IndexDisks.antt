@@ -3,9 +3,9 @@ use Rattle.std.proofs.Common.{◌≡◌, ◌≢◌, ◌⊎◌, inl, inr, refl, �
 use Rattle.el_outside.specs.declared.disk.Disk as disk
 use Rattle.el_outside.specs.Disk.{Image}
 use Rattle.el_chain.specs.Chains.{Chain}
-use Rattle.el_rows.specs.Tables.{Tables}
+use Rattle.el_row_formats.specs.Tables.{Tables}
 use Rattle.el_rows.specs.Reads.{Same}
-use Rattle.el_stands.proofs.StandingLemmas.{same_stand}
+use Rattle.el_schema.proofs.StandingLemmas.{same_stand}
 use Rattle.el_journal.specs.Entries.{SameJournal}
 use Rattle.el_journal.specs.Journals.{OnlyJournal}
 use Rattle.el_logstore.specs.Images.{Shows}

@@ -13,13 +13,13 @@ use Rattle.el_outside.specs.Devices.{Device}
 use Rattle.el_world.specs.Run.{Stop}
 use Rattle.el_world.specs.Flights.{acked}
 use Rattle.el_logstore.specs.Images.{no_rows}
-use Rattle.el_rows.specs.declared.table.Table.{Table}
-use Rattle.el_rows.specs.declared.table.Table.TheVariants as table
+use Rattle.el_row_formats.specs.declared.table.Table.{Table}
+use Rattle.el_row_formats.specs.declared.table.Table.TheVariants as table
 use Rattle.el_tables.specs.ChainLists.{lists, listed_blocks}
 use Rattle.el_tables.specs.Tables.{tables_of}
-use Rattle.el_buckets.specs.Rows.{bytes_of}
-use Rattle.el_stands.specs.Standing.{StandFor, heads_in}
-use Rattle.el_stands.proofs.StandingLemmas.{stands}
+use Rattle.el_schema.specs.Rows.{bytes_of}
+use Rattle.el_schema.specs.Standing.{StandFor, heads_in}
+use Rattle.el_schema.proofs.StandingLemmas.{stands}
 use Rattle.el_words.specs.Commands.{IsServe}
 use Rattle.electrum_serve.specs.IndexDisks.{ImageMeans, LeavesOneOf, IsIndexDisk, IsCall}
 use Rattle.electrum_serve.specs.Calls.{Call, CallEnds}

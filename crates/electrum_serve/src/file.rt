@@ -1,5 +1,5 @@
 // The chain of file 0.
-ghost use Rattle.std.specs.Prelude.{◌≡◌, ◌≢◌, ◌↔◌, ◌++◌, ◌∷◌, [], List, ℕ, IfOk, IsErrOf, IsTrue, OnOk};
+ghost use Rattle.std.specs.Prelude.{◌≡◌, ◌≢◌, ◌↔◌, ◌++◌, ◌∷◌, [], List, ℕ, Err, IfOk, IsErrOf, IsTrue, OnOk};
 ghost use Rattle.std.specs.List.{AllByRecursion};
 ghost use Rattle.el_outside.specs.Counts.{OnlyReads};
 ghost use Rattle.el_outside.specs.Files.{IsFile};
@@ -9,12 +9,14 @@ ghost use Rattle.el_chain.specs.Faults.{IsGood, IsNext};
 ghost use Rattle.el_chain.specs.Records.{GivesChain, IsNode, IsBlockOf, block_at, records};
 ghost use Rattle.el_block.specs.declared.block.Block as shape;
 ghost use Rattle.electrum_serve.specs.File.{GivesNoChain};
+ghost use Rattle.electrum_serve.specs.within.Unread.{read_fault};
 
 use el_base::Hash32;
 use el_block::{Block, BlockFault, decode_block};
-use el_chain::{ConnectFault, Node, PlainChain};
+use el_chain::{ConnectFault, Node};
 use el_files::{ReadFault, ScanFault, read_block, scan_file};
 use el_outside::{Archive, Place};
+use el_plain::PlainChain;
 use std::alloc::Global;
 
 /// Why file 0 gives no chain.
@@ -26,6 +28,17 @@ pub enum FileFault {
     Failed,
     /// The records of the file, in order, are no good chain.
     Bad,
+}
+
+// The fault of reading a record as one of the file.
+fn read_fault_of(fault: ReadFault) -> FileFault
+    ensures { result ≡ read_fault fault }
+{
+    match fault {
+        ReadFault::ArchiveFailed => FileFault::Failed,
+        ReadFault::Changed { .. } => FileFault::Bad,
+        ReadFault::Memory => FileFault::Memory,
+    }
 }
 
 /// The fault of a scan as one of the file.
@@ -121,9 +134,7 @@ fn read_record<A: Archive>(alloc: Global, archive: &mut A, node: &Node) -> Resul
 {
     match read_block(alloc, archive, node) {
         Ok(bytes) => block_of(alloc, bytes.as_slice()),
-        Err(ReadFault::ArchiveFailed) => Err(FileFault::Failed),
-        Err(ReadFault::Changed { .. }) => Err(FileFault::Bad),
-        Err(ReadFault::Memory) => Err(FileFault::Memory),
+        Err(fault) => Err(read_fault_of(fault)),
     }
 }
 
@@ -143,6 +154,8 @@ fn add_block(ledger: &mut PlainChain, block: Block, place: Place) -> Result<(), 
     ensures added { OnOk result (ledger.new ≡ ledger.old ++ record { block = block; place = place } ∷ []) }
     ensures next { OnOk result (IsNext ledger.old block) }
     ensures bad { IsErrOf result FileFault.Bad → IsNext ledger.old block → ⊥ }
+    // It is told without memory that the block names another one.
+    ensures named { block.header.previous ≢ tip ledger.old → result ≡ Err FileFault.Bad }
     ensures not_failed { IsErrOf result FileFault.Failed → ⊥ }
 {
     if !names_tip(ledger, &block) {

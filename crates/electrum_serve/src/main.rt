@@ -13,7 +13,8 @@ mod starting;
 mod status;
 
 pub use el_mempool::PoolLimits;
-pub use el_net::{BlockFiles, FileDisk, NoDisk, NoFiles, NoLink, StandardLink, TcpLink};
+pub use el_net::{BlockFiles, IndexFolder, NoDisk, NoFiles, NoLink, StandardLink, TcpLink};
+pub use el_open_files::FileDisk;
 pub use el_words::{
     Command, Network, ServeWords, greatest_limits, once_of, read_words, serve_of,
     words_are_of_one_command,

@@ -108,11 +108,16 @@ fn tree_of_chain(
         × (other.is_other_chain index.items found.items ≡ false)) }
     ensures other { IsErrOf result StartFault.OtherChain
         → other.is_other_chain index.items found.items ≡ true }
+    // It is told before memory is taken for a tree.
+    ensures told { other.is_other_chain index.items found.items ≡ true
+        → result ≡ Err StartFault.OtherChain }
     ensures no_disk { result ≢ Err StartFault.DiskFailed }
     ensures no_archive { result ≢ Err StartFault.ArchiveFailed }
 {
+    if is_other_chain(index.as_slice(), found.as_slice()) {
+        return Err(StartFault::OtherChain);
+    }
     match tree_of(alloc, index.as_slice(), found.as_slice()) {
-        Ok(_) if is_other_chain(index.as_slice(), found.as_slice()) => Err(StartFault::OtherChain),
         Ok(tree) => Ok(tree),
         Err(_) => Err(StartFault::Memory),
     }

@@ -3,13 +3,17 @@ ghost use Rattle.std.specs.Prelude.{◌≡◌, drop, IfOk};
 ghost use Rattle.std.specs.Process.{exit_status};
 ghost use Rattle.el_words.specs.Words.{texts};
 ghost use Rattle.el_words.specs.Commands.{IsNoCommand};
-ghost use Rattle.electrum_serve.specs.within.Devices.{folder_of};
+ghost use Rattle.electrum_serve.specs.within.Devices.{folder_of, index_of};
 ghost use Rattle.electrum_serve.specs.Statuses.{code_of};
 
 use crate::serving::serve;
 use crate::status::Status;
 use el_base::OutOfMemory;
-use el_net::{BlockFiles, BlockFolder, FileDisk, NoDisk, NoFiles, NoLink, StandardLink, TcpLink};
+use el_net::{
+    BlockFiles, BlockFolder, IndexFolder, NoDisk, NoFiles, NoLink, StandardLink, TcpLink,
+    index_files,
+};
+use el_open_files::FileDisk;
 use el_outside::{Disk, Link};
 use el_words::{Command, read_words};
 use std::alloc::Global;
@@ -52,6 +56,21 @@ fn files_of(
         Command::Once { blocks, .. } => blocks,
     };
     BlockFiles::new(rt, alloc, folder.as_str())
+}
+
+// The index that the command asks for: the files of its folder. `once` asks for none.
+fn disk_of(
+    rt: HostRuntime,
+    alloc: Global,
+    command: &Command,
+) -> Result<FileDisk<IndexFolder<HostRuntime>>, OutOfMemory>
+    ensures { IfOk result (λ disk. (disk.files ≡ index_of command.now) × (disk.faults ≡ 0)) }
+{
+    let folder = match command {
+        Command::Serve { index, .. } => index.as_str(),
+        Command::Once { .. } => "",
+    };
+    index_files(rt, alloc, folder)
 }
 
 // Serves the words over a disk, the block files of their command and a link.
@@ -104,12 +123,11 @@ fn serve_command(
 {
     match command {
         Command::Serve {
-            index,
             client_port,
             node_port,
             ..
         } => {
-            let disk = FileDisk::new(rt.clone()?, rt.alloc(), index.as_str())?;
+            let disk = disk_of(rt.clone()?, rt.alloc(), command)?;
             let mut link = TcpLink::new(rt, rt.alloc(), *client_port, *node_port)?;
             tell_start(rt, command, &link);
             serve_over(rt, words, command, disk, &mut link)

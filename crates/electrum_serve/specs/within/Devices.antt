@@ -1,5 +1,5 @@
 -- The devices that a command asks for.
-use Rattle.std.specs.Prelude.{ℕ, List}
+use Rattle.std.specs.Prelude.{ℕ, List, []}
 use Rattle.el_words.specs.declared.words.Command.{Command}
 use Rattle.el_words.specs.declared.words.Command.TheVariants as command
 
@@ -7,3 +7,8 @@ use Rattle.el_words.specs.declared.words.Command.TheVariants as command
 abbrev pub folder_of : Command → List ℕ
 folder_of (command.Serve blocks index network client_port node_port limits) = blocks
 folder_of (command.Once blocks network) = blocks
+
+-- the folder of the index that a command asks for; `once` asks for none
+abbrev pub index_of : Command → List ℕ
+index_of (command.Serve blocks index network client_port node_port limits) = index
+index_of (command.Once blocks network) = []

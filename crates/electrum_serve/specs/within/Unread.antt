@@ -5,10 +5,18 @@ use Rattle.electrum_serve.specs.declared.opening.StartFault.{StartFault}
 use Rattle.electrum_serve.specs.declared.opening.StartFault.TheVariants as start
 use Rattle.electrum_serve.specs.declared.status.Status.{Status}
 use Rattle.electrum_serve.specs.declared.status.Status.TheVariants as status
+use Rattle.el_chain.specs.declared.read_fault.ReadFault.{ReadFault}
+use Rattle.el_chain.specs.declared.read_fault.ReadFault.TheVariants as reading
 use Rattle.el_redo.specs.declared.faults.OpenFault.{OpenFault}
 use Rattle.el_redo.specs.declared.faults.OpenFault.TheVariants as opening
 use Rattle.el_model.specs.declared.fault.QueryFault.{QueryFault}
 use Rattle.el_model.specs.declared.fault.QueryFault.TheVariants as query
+
+-- the fault of reading a record of file 0 as one of the file
+abbrev pub read_fault : ReadFault → FileFault
+read_fault reading.ArchiveFailed = fault.Failed
+read_fault (reading.Changed wanted found) = fault.Bad
+read_fault reading.Memory = fault.Memory
 
 -- of file 0
 abbrev pub unread_status : FileFault → Status

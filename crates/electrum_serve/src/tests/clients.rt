@@ -2,7 +2,7 @@
 use crate::status::Status;
 use crate::tests::block_files::{Files, files_of};
 use crate::tests::bringing::Step::{Leaves, Opens, Says};
-use crate::tests::bringing::{Step, coming};
+use crate::tests::bringing::{Step, coming, say};
 use crate::tests::calls::{Failing, NONE_FAILS, SERVE, call_failing, call_steady};
 use crate::tests::names::named;
 use el_fakes::Coming;
@@ -71,6 +71,63 @@ fn one_client_more_than_may_be(rt: HostRuntime) -> Result<(), Fail> {
     let files = files_of(alloc, Files::Branch(1))?;
     let (status, text) = call_steady(alloc, SERVE, files, steps)?;
     assert_eq!(rt; text.as_str(), "closed 257 Clients\n");
+    assert_eq!(rt; status, Status::Ended);
+    Ok(())
+}
+
+// A subscription that asks for no reply, up to the last five digits of its script hash.
+const SUBSCRIBES: &str = "{\"method\":\"blockchain.scripthash.subscribe\",\"params\":[\"\
+                          00000000000000000000000000000000000000000000000000000000000";
+
+// A batch of these, to the script hashes from one number of five digits up to another one.
+fn batch(alloc: Global, from: u32, to: u32) -> Result<String, Fail> {
+    let mut text = String::new(alloc);
+    text.push_str("[")?;
+    for n in from..to {
+        if n > from {
+            text.push_str(",")?;
+        }
+        text.push_str(SUBSCRIBES)?;
+        text.push_str(format!(in alloc; "{n}\"]}}")?.as_str())?;
+    }
+    text.push_str("]\n")?;
+    Ok(text)
+}
+
+// What a client with 49,999 subscriptions and the node say, and what is sent: one more is held, and told, and
+// another one isn't; one that is held is answered again.
+const LAST: &[Step<'static>] = &[
+    Says(
+        1,
+        "{subscribes}{script1}{asked}\n{subscribes}{script0}{asked}\n{subscribes}{script1}{asked}\n",
+    ),
+    Says(0, "tip {a1}\n"),
+    Says(
+        1,
+        "{subscribes}{script1}{asked}\n{subscribes}{script0}{asked}\n",
+    ),
+];
+
+const LAST_SENT: &str =
+    "1 {null}\n1 {too-many}\n1 {null}\n0 at {a1} 1\n1 {tells}{script1}{now}{status1}{told}\n\
+     1 {gives}{status1}{given}\n1 {too-many}\n";
+
+#[test]
+fn one_subscription_more_than_may_be(rt: HostRuntime) -> Result<(), Fail> {
+    let alloc = rt.alloc();
+    let mut steps = Vec::new(alloc);
+    steps.push(Coming::Opened(1))?;
+    for group in 0..10u32 {
+        let from = 10_000 + 5_000 * group;
+        let text = batch(alloc, from, (from + 5_000).min(59_999))?;
+        say(alloc, &mut steps, 1, text.as_bytes(), 65_000)?;
+    }
+    for step in coming(alloc, LAST, 1_000)? {
+        steps.push(step)?;
+    }
+    let files = files_of(alloc, Files::Branch(2))?;
+    let (status, text) = call_steady(alloc, SERVE, files, steps)?;
+    assert_eq!(rt; text.as_str(), named(alloc, LAST_SENT)?.as_str());
     assert_eq!(rt; status, Status::Ended);
     Ok(())
 }

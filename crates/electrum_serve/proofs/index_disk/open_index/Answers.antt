@@ -1,5 +1,5 @@
 use Rattle.std.proofs.Common.{arith}
-use Rattle.el_stands.proofs.StandingLemmas.{same_stand}
+use Rattle.el_schema.proofs.StandingLemmas.{same_stand}
 use Rattle.electrum_serve.proofs.IndexDisks.{keeps_as, unread_leaves, not_bad, told_bad}
 use Rattle.electrum_serve.proofs.index_disk.open_index.Goals as goal
 
