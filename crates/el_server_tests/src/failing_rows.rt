@@ -1,10 +1,11 @@
 // A store in memory whose device fails at chosen calls. It tells no rows.
 ghost use Rattle.std.specs.Prelude.{◌≡◌, [], length};
 ghost use Rattle.el_outside.specs.Counts.{HasCause};
-ghost use Rattle.el_rows.specs.Tables.{tables_of};
+ghost use Rattle.el_row_formats.specs.Tables.{tables_of};
 
 use el_outside::DiskFailed;
-use el_rows::{CommitFault, ReadCount, Rows, Sealed, Table, VecRows};
+use el_row_formats::Table;
+use el_rows::{CommitFault, ReadCount, Rows, Sealed, VecRows};
 use std::alloc::Global;
 
 /// Rows in memory. Reads of a row and commits are calls of the device, counted together from 1 on; those whose

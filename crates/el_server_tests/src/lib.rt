@@ -13,6 +13,10 @@ mod lines;
 #[cfg(test)]
 mod names;
 #[cfg(test)]
+mod places;
+#[cfg(test)]
 mod server;
+#[cfg(test)]
+mod starting;
 #[cfg(test)]
 mod tellings;

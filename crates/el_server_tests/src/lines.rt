@@ -1,15 +1,15 @@
 // Lines that come and go: pieces of lines, lines of a node, requests, replies, and answers to a node.
 ghost use Rattle.std.specs.Prelude.{◌≤◌};
 
-use el_base::{Bytes, CompactFault, Hash32, OutOfMemory};
+use el_base::{Bytes, CompactFault, Hash32};
 use el_block::BlockFault;
 use el_chain::{ConnectFault, MoveFault};
 use el_lines::{
-    LINE_LIMIT, LineBuffer, LineEvent, NODE_LINE_LIMIT, NodeLine, NodeLineFault, absent_refused,
-    archive_refused, at_answer, block_answer, cuts_do_not_matter, deep_refused, genesis_refused,
-    gone_answer, line_refused, long_refused, move_refused, node_line_says_one_thing,
-    pieces_do_not_matter, place_refused, pool_refused, read_node_line, tx_answer,
-    unconnected_refused, unknown_refused,
+    AnswerRoom, LINE_LIMIT, LineBuffer, LineEvent, NODE_LINE_LIMIT, NodeLine, NodeLineFault,
+    absent_refused, archive_refused, at_answer, block_answer, cuts_do_not_matter, deep_refused,
+    genesis_refused, gone_answer, line_refused, long_refused, move_refused,
+    node_line_says_one_thing, pieces_do_not_matter, place_refused, pool_refused, read_node_line,
+    tx_answer, unconnected_refused, unknown_refused,
 };
 use el_mempool::PoolFault;
 use el_tx::{Outpoint, TxFault};
@@ -283,7 +283,7 @@ fn prints_faults(rt: HostRuntime) -> Result<(), Fail> {
 }
 
 // Whether the text is this one, where the letter H stands for the shown hash.
-fn is_text(alloc: Global, text: Result<Bytes, OutOfMemory>, wanted: &str) -> Result<bool, Fail> {
+fn is_text(alloc: Global, text: Bytes, wanted: &str) -> Result<bool, Fail> {
     let mut whole = String::new(alloc);
     for letter in wanted.chars() {
         match letter {
@@ -291,33 +291,95 @@ fn is_text(alloc: Global, text: Result<Bytes, OutOfMemory>, wanted: &str) -> Res
             other => whole.push(other)?,
         }
     }
-    Ok(text?.as_slice() == whole.as_bytes())
+    Ok(text.as_slice() == whole.as_bytes())
+}
+
+// Whether this is the text that is printed in a room of its own.
+fn is_said<F: FnOnce(AnswerRoom) -> Bytes>(
+    alloc: Global,
+    say: F,
+    wanted: &str,
+) -> Result<bool, Fail> {
+    let room = AnswerRoom::new(alloc)?;
+    is_text(alloc, say(room), wanted)
 }
 
 #[test]
 fn answers_to_a_node(rt: HostRuntime) -> Result<(), Fail> {
     let alloc = rt.alloc();
     let hash = Hash32(HASH);
-    for (text, wanted) in [
-        (block_answer(alloc, hash), "block H\n"),
-        (at_answer(alloc, Some(hash), Some(0)), "at H 0\n"),
-        (at_answer(alloc, Some(hash), Some(840_000)), "at H 840000\n"),
-        (at_answer(alloc, None, None), ""),
-        (line_refused(alloc), "refused line\n"),
-        (long_refused(alloc), "refused long 8000100\n"),
-        (place_refused(alloc), "refused place\n"),
-        (genesis_refused(alloc, hash), "refused genesis H\n"),
-        (unknown_refused(alloc, hash), "refused unknown H\n"),
-        (unconnected_refused(alloc, hash), "refused unconnected H\n"),
-        (deep_refused(alloc, 1), "refused deep 1\n"),
-        (deep_refused(alloc, 101), "refused deep 101\n"),
-        (archive_refused(alloc), "refused archive\n"),
-        (tx_answer(alloc, hash), "tx H\n"),
-        (gone_answer(alloc, hash), "gone H\n"),
-        (absent_refused(alloc, hash), "refused absent H\n"),
-    ] {
-        assert!(rt; is_text(alloc, text, wanted)?, "{wanted}");
-    }
+    assert!(rt; is_said(alloc, |room| block_answer(room, hash), "block H\n")?);
+    assert!(rt;
+        is_said(
+            alloc,
+            |room| at_answer(room, Some(hash), Some(0)),
+            "at H 0\n"
+        )?
+    );
+    assert!(rt;
+        is_said(
+            alloc,
+            |room| at_answer(room, Some(hash), Some(840_000)),
+            "at H 840000\n"
+        )?
+    );
+    assert!(rt; is_said(alloc, |room| at_answer(room, None, None), "")?);
+    Ok(())
+}
+
+#[test]
+fn refused_lines(rt: HostRuntime) -> Result<(), Fail> {
+    let alloc = rt.alloc();
+    assert!(rt; is_said(alloc, |room| line_refused(room), "refused line\n")?);
+    assert!(rt; is_said(alloc, |room| long_refused(room), "refused long 8000100\n")?);
+    assert!(rt; is_said(alloc, |room| place_refused(room), "refused place\n")?);
+    assert!(rt; is_said(alloc, |room| archive_refused(room), "refused archive\n")?);
+    Ok(())
+}
+
+#[test]
+fn refused_tips(rt: HostRuntime) -> Result<(), Fail> {
+    let alloc = rt.alloc();
+    let hash = Hash32(HASH);
+    assert!(rt;
+        is_said(
+            alloc,
+            |room| genesis_refused(room, hash),
+            "refused genesis H\n"
+        )?
+    );
+    assert!(rt;
+        is_said(
+            alloc,
+            |room| unknown_refused(room, hash),
+            "refused unknown H\n"
+        )?
+    );
+    assert!(rt;
+        is_said(
+            alloc,
+            |room| unconnected_refused(room, hash),
+            "refused unconnected H\n"
+        )?
+    );
+    assert!(rt; is_said(alloc, |room| deep_refused(room, 1), "refused deep 1\n")?);
+    assert!(rt; is_said(alloc, |room| deep_refused(room, 101), "refused deep 101\n")?);
+    Ok(())
+}
+
+#[test]
+fn answers_on_transactions(rt: HostRuntime) -> Result<(), Fail> {
+    let alloc = rt.alloc();
+    let hash = Hash32(HASH);
+    assert!(rt; is_said(alloc, |room| tx_answer(room, hash), "tx H\n")?);
+    assert!(rt; is_said(alloc, |room| gone_answer(room, hash), "gone H\n")?);
+    assert!(rt;
+        is_said(
+            alloc,
+            |room| absent_refused(room, hash),
+            "refused absent H\n"
+        )?
+    );
     Ok(())
 }
 
@@ -364,8 +426,9 @@ const REFUSED: [(PoolFault, &str); 8] = [
 
 // Whether that is answered for the refusal of a transaction.
 fn says_refused(alloc: Global, fault: PoolFault, wanted: &str) -> Result<bool, Fail> {
-    match pool_refused(alloc, Hash32(HASH), fault)? {
-        Some(text) => is_text(alloc, Ok(text), wanted),
+    let room = AnswerRoom::new(alloc)?;
+    match pool_refused(room, Hash32(HASH), fault) {
+        Some(text) => is_text(alloc, text, wanted),
         None => Ok(false),
     }
 }
@@ -377,7 +440,8 @@ fn refused_transactions(rt: HostRuntime) -> Result<(), Fail> {
         assert!(rt; says_refused(alloc, fault, wanted)?, "{wanted}");
     }
     for fault in [PoolFault::DiskFailed, PoolFault::Memory] {
-        assert!(rt; pool_refused(alloc, Hash32(HASH), fault)? == None);
+        let room = AnswerRoom::new(alloc)?;
+        assert!(rt; pool_refused(room, Hash32(HASH), fault) == None);
     }
     Ok(())
 }
@@ -439,7 +503,8 @@ const MISFITS: [(ConnectFault, &str); 3] = [
 // Whether the node is told of the refused move that the block is bad, by this word.
 fn says_bad(alloc: Global, fault: MoveFault, word: &str) -> Result<bool, Fail> {
     let wanted = joined(alloc, &["refused bad ", SHOWN[0], " ", word, "\n"])?;
-    match move_refused(alloc, fault)? {
+    let room = AnswerRoom::new(alloc)?;
+    match move_refused(room, fault) {
         Some(text) => Ok(text.as_slice() == wanted.as_slice()),
         None => Ok(false),
     }
@@ -468,13 +533,15 @@ fn other_refused_moves(rt: HostRuntime) -> Result<(), Fail> {
         found: None,
     };
     let text = joined(alloc, &["refused changed ", SHOWN[0], "\n"])?;
-    assert!(rt; move_refused(alloc, fault)? == Some(Bytes::from_vec(text)));
+    let room = AnswerRoom::new(alloc)?;
+    assert!(rt; move_refused(room, fault) == Some(Bytes::from_vec(text)));
     for fault in [
         MoveFault::DiskFailed,
         MoveFault::ArchiveFailed,
         MoveFault::Memory,
     ] {
-        assert!(rt; move_refused(alloc, fault)? == None);
+        let room = AnswerRoom::new(alloc)?;
+        assert!(rt; move_refused(room, fault) == None);
     }
     Ok(())
 }

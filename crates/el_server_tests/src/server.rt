@@ -372,7 +372,7 @@ pub(crate) fn add_record(text: &[u8], file: &mut Vec<u8>) -> Result<(), Fail> {
 
 // Bitcoin's first two blocks as a node may have stored them, with other bytes between and after them, and the
 // first bytes of the second block once more.
-fn first_file(alloc: Global) -> Result<Vec<u8>, Fail> {
+pub(crate) fn first_file(alloc: Global) -> Result<Vec<u8>, Fail> {
     let first = hex::decode(alloc, GENESIS)?;
     let second = hex::decode(alloc, BLOCK_1)?;
     let mut file = Vec::new(alloc);
@@ -797,7 +797,44 @@ const NO_JSON: &str =
 const TOLD: Step<'static> = Step::Says(0, "block 0 0\ntip G\n");
 
 // What a client says, and what is answered.
-const CLIENT_LINES: [(&[Step<'static>], &str); 8] = [
+const CLIENT_LINES: [(&[Step<'static>], &str); 11] = [
+    // no blocks
+    (
+        &[
+            Step::Opens(1),
+            Step::Says(1, "{asks}blockchain.headers.subscribe{with}]}\n"),
+        ],
+        "{\"error\":{\"code\":1,\"message\":\"no blocks yet\"},\"id\":1,\"jsonrpc\":\"2.0\"}\n",
+    ),
+    // a script that no transaction has
+    (
+        &[
+            TOLD,
+            Step::Forget,
+            Step::Opens(1),
+            Step::Says(
+                1,
+                "{asks-history}E{asked}\n{asks-coins}E{asked}\n{asks-balance}E{asked}\n\
+                 {asks}blockchain.scripthash.get_mempool{with}\"E{asked}\n{subscribes}E{asked}\n",
+            ),
+        ],
+        "{result}[]}\n{result}[]}\n{result}{balance}0{of-it}0}}\n{result}[]}\n{result}null}\n",
+    ),
+    // a block of one transaction, and no other block
+    (
+        &[
+            TOLD,
+            Step::Forget,
+            Step::Opens(1),
+            Step::Says(
+                1,
+                "{asks}blockchain.transaction.get_merkle{with}\"X\",0]}\n\
+                 {asks}blockchain.transaction.get_merkle{with}\"X\",1]}\n",
+            ),
+        ],
+        "{result}{\"block_height\":0,\"merkle\":[],\"pos\":0}}\n\
+         {\"error\":{\"code\":1,\"message\":\"no such height\"},\"id\":1,\"jsonrpc\":\"2.0\"}\n",
+    ),
     (&[Step::Opens(1), Step::Says(1, ASKS_EMPTY)], NONE),
     (&[Step::Opens(1), Step::Says(1, ASKS_COINS)], NO_COINS),
     (
@@ -838,7 +875,7 @@ const CLIENT_LINES: [(&[Step<'static>], &str); 8] = [
     ),
 ];
 
-const BOTH_TOLD: Step<'static> = Step::Says(0, "block 0 0\nblock 0 296\ntip B\n");
+pub(crate) const BOTH_TOLD: Step<'static> = Step::Says(0, "block 0 0\nblock 0 296\ntip B\n");
 
 // What a client asks over Bitcoin's first two blocks, or over none, and what it is answered.
 const REQUESTS: [(&str, &str); 9] = [
@@ -853,12 +890,15 @@ const REQUESTS: [(&str, &str); 9] = [
          {\"error\":{\"code\":1,\"message\":\"no such height\"},\"id\":2,\"jsonrpc\":\"2.0\"}\n",
     ),
     (
-        "{\"id\":1,\"method\":\"blockchain.block.header\",\"params\":[0,1]}\n",
-        "{\"id\":1,\"jsonrpc\":\"2.0\",\"result\":{\"branch\":[\"B\"],\"header\":\"H\",\"root\":\"R\"}}\n",
+        "{asks}blockchain.block.header{with}0]}\n{asks}blockchain.block.header{with}0,1]}\n\
+         {asks}blockchain.block.header{with}0,2]}\n",
+        "{result}\"H\"}\n{result}{\"branch\":[\"B\"],\"header\":\"H\",\"root\":\"R\"}}\n\
+         {\"error\":{\"code\":1,\"message\":\"bad checkpoint\"},\"id\":1,\"jsonrpc\":\"2.0\"}\n",
     ),
     (
-        "{\"id\":1,\"method\":\"blockchain.block.headers\",\"params\":[0,2016]}\n",
-        "{\"id\":1,\"jsonrpc\":\"2.0\",\"result\":{\"count\":2,\"hex\":\"HJ\",\"max\":2016}}\n",
+        "{asks}blockchain.block.headers{with}0,2016]}\n{asks}blockchain.block.headers{with}2,5]}\n",
+        "{result}{\"count\":2,\"hex\":\"HJ\",\"max\":2016}}\n\
+         {result}{\"count\":0,\"hex\":\"\",\"max\":2016}}\n",
     ),
     (
         "{\"id\":1,\"method\":\"blockchain.headers.subscribe\"}\n",
