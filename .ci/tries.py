@@ -13,6 +13,7 @@ import hashlib
 import itertools
 import json
 import os
+import shutil
 import signal
 import socket
 import struct
@@ -65,6 +66,9 @@ HEADERS_ROOT = hashlib.sha256(hashlib.sha256(
     bytes.fromhex(GENESIS_HASH)[::-1] + bytes.fromhex(BLOCK1_HASH)[::-1]).digest()).digest()[::-1].hex()
 
 INVALID = b'{"error":{"code":-32600,"message":"invalid request"},"id":null,"jsonrpc":"2.0"}\n'
+
+# A user who may do little.
+NOBODY = 65534
 
 # How the program ends: its exit status, and its words on standard error.
 ENDED = (0, "ended")
@@ -690,6 +694,21 @@ def index_that_cannot_be_written(program):
     return ask_served(program, "a", ONE), (b"", DISK_FAILED)
 
 
+def index_that_may_not_be_read(program):
+    # root may read every file: a program of root's runs here as another user, from a copy that this one may run
+    put("a/blk00000.dat", GOOD)
+    put("index/10.idx", index_of([GENESIS]))
+    os.chmod("index/10.idx", 0)
+    who = {}
+    if os.geteuid() == 0:
+        os.chmod(".", 0o755)
+        program = shutil.copy(program, os.path.abspath("program"))
+        who = {"user": NOBODY, "group": NOBODY, "extra_groups": []}
+    words = serve("a", "main", *(str(port) for port in free_ports()))
+    started = start(program, words, stdin=subprocess.DEVNULL, stdout=subprocess.PIPE, **who)
+    return ends(started, None), (b"", DISK_FAILED)
+
+
 def index_that_is_cut(program):
     # an open gate, and two of the eight bytes of a length
     put("a/blk00000.dat", GOOD)
@@ -1180,6 +1199,34 @@ def node_tells_of_a_confirmed_transaction(program):
     return it.ends(told, node), (at_line(A1, 1) + b"refused confirmed %s\n" % txid(MOVED).encode(), ENDED)
 
 
+def node_leads_to_blocks_that_are_refused(program):
+    # none of them moves the chain: a second first block, one whose parent nobody has, one under another root, one whose
+    # bytes have changed since it was found, and one that can't be read
+    os.mkdir("index")
+    other, wrong = block(None, 0, 1, [BASE]), A1[:36] + bytes(32) + A1[68:]
+    records = [record(it, REGTEST) for it in (ZERO, other, B2, wrong, A1)]
+    put("a/blk00000.dat", b"".join(records))
+    it = Served(program, network="regtest")
+    node = it.node()
+    told = node.asks(
+        tip_line(ZERO) + b"block 0 %d\n" % len(records[0]) + b"".join(map(tip_line, (other, B2, wrong))))
+    with open("a/blk00000.dat", "r+b") as blocks:
+        blocks.seek(sum(map(len, records[:4])) + 8)
+        blocks.write(bytes(80))
+    told += node.asks(tip_line(A1))
+    os.remove("a/blk00000.dat")
+    for number in range(100):
+        put("a/blk00000.dat/a-file-with-a-long-name-%d" % number, b"")
+    told += node.asks(tip_line(A1) + b"block 0 0\n" + tip_line(ZERO))
+    names = [block_id(it).encode() for it in (other, B2, wrong, A1)]
+    wanted = (
+        at_line(ZERO, 0)
+        + b"refused genesis %s\nrefused unknown %s\nrefused unconnected %s\nrefused bad %s merkle\n"
+        % (names[0], *names[:3])
+        + b"refused changed %s\nrefused archive\nrefused archive\n" % names[3] + at_line(ZERO, 0))
+    return it.ends(told, node), (wanted, ENDED)
+
+
 def node_says_other_lines(program):
     os.mkdir("index")
     put("a/blk00000.dat", GOOD)
@@ -1302,6 +1349,34 @@ def as_many_clients_as_may_be(program):
         {tip_news([GENESIS, BLOCK1])},
     )
     return it.ends((told, answers, news), node), (wanted, ENDED)
+
+
+def as_many_subscriptions_as_may_be(program):
+    # one more is refused and told of nothing; those that are held are answered and told on
+    os.mkdir("index")
+    put("a/blk00000.dat", GOOD)
+    it = Served(program)
+    node, client = it.node(), it.client()
+    told = node.asks(tip_line(GENESIS))
+    method = "blockchain.scripthash.subscribe"
+    scripts = [BLOCK1_SCRIPT, *("%064x" % number for number in range(49_999))]
+    calls = [{"id": number, "method": method, "params": [script]} for number, script in enumerate(scripts)]
+    batches = [calls[at:at + 5_000] for at in range(0, 50_000, 5_000)]
+    answers = [client.asks(json.dumps(batch).encode() + b"\n") for batch in batches]
+    one_more = requests([(method, GENESIS_SCRIPT), (method, BLOCK1_SCRIPT)])
+    held = answered(client.asks(one_more))
+    told += node.asks(tip_line(BLOCK1)) + client.hears()
+    held += answered(client.asks(one_more))
+    status = status_of([BLOCK1_TXID + ":1:"])
+    none = [b",".join(b'{"id":%d,"jsonrpc":"2.0","result":null}' % call["id"] for call in batch) for batch in batches]
+    too_many = (1, "too many subscriptions")
+    wanted = (
+        at_line(GENESIS, 0) + at_line(BLOCK1, 1)
+        + b'{"jsonrpc":"2.0","method":"%s","params":["%s","%s"]}\n'
+        % (method.encode(), BLOCK1_SCRIPT.encode(), status.encode()),
+        [b"[%s]\n" % batch for batch in none], [too_many, None, too_many, status],
+    )
+    return it.ends((told, answers, held), node), (wanted, ENDED)
 
 
 def client_that_breaks_off(program):
@@ -1555,11 +1630,13 @@ CASES = [
     node_tells_of_unconfirmed_transactions,
     node_tells_of_refused_transactions,
     node_tells_of_a_confirmed_transaction,
+    node_leads_to_blocks_that_are_refused,
     node_says_other_lines,
     node_that_sends_no_more,
     node_that_leaves_in_a_line,
     second_node,
     as_many_clients_as_may_be,
+    as_many_subscriptions_as_may_be,
     three_clients_of_whom_one_leaves,
     two_wallets_are_told_of_blocks,
     clients_are_told_of_unconfirmed_transactions,
@@ -1583,6 +1660,7 @@ CASES = [
     index_without_a_folder,
     index_that_is_no_folder,
     index_that_cannot_be_written,
+    index_that_may_not_be_read,
     index_that_is_cut,
     index_that_is_none,
     words_that_are_no_text,
