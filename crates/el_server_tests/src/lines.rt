@@ -294,46 +294,66 @@ fn is_text(alloc: Global, text: Bytes, wanted: &str) -> Result<bool, Fail> {
     Ok(text.as_slice() == whole.as_bytes())
 }
 
-// Whether this is the text that is printed in a room of its own.
-fn is_said<F: FnOnce(AnswerRoom) -> Bytes>(
-    alloc: Global,
-    say: F,
-    wanted: &str,
-) -> Result<bool, Fail> {
-    let room = AnswerRoom::new(alloc)?;
-    is_text(alloc, say(room), wanted)
-}
-
 #[test]
 fn answers_to_a_node(rt: HostRuntime) -> Result<(), Fail> {
     let alloc = rt.alloc();
     let hash = Hash32(HASH);
-    assert!(rt; is_said(alloc, |room| block_answer(room, hash), "block H\n")?);
     assert!(rt;
-        is_said(
+        is_text(
             alloc,
-            |room| at_answer(room, Some(hash), Some(0)),
+            block_answer(AnswerRoom::new(alloc)?, hash),
+            "block H\n"
+        )?
+    );
+    assert!(rt;
+        is_text(
+            alloc,
+            at_answer(AnswerRoom::new(alloc)?, Some(hash), Some(0)),
             "at H 0\n"
         )?
     );
     assert!(rt;
-        is_said(
+        is_text(
             alloc,
-            |room| at_answer(room, Some(hash), Some(840_000)),
+            at_answer(AnswerRoom::new(alloc)?, Some(hash), Some(840_000)),
             "at H 840000\n"
         )?
     );
-    assert!(rt; is_said(alloc, |room| at_answer(room, None, None), "")?);
+    assert!(rt; is_text(alloc, at_answer(AnswerRoom::new(alloc)?, None, None), "")?);
     Ok(())
 }
 
 #[test]
 fn refused_lines(rt: HostRuntime) -> Result<(), Fail> {
     let alloc = rt.alloc();
-    assert!(rt; is_said(alloc, |room| line_refused(room), "refused line\n")?);
-    assert!(rt; is_said(alloc, |room| long_refused(room), "refused long 8000100\n")?);
-    assert!(rt; is_said(alloc, |room| place_refused(room), "refused place\n")?);
-    assert!(rt; is_said(alloc, |room| archive_refused(room), "refused archive\n")?);
+    assert!(rt;
+        is_text(
+            alloc,
+            line_refused(AnswerRoom::new(alloc)?),
+            "refused line\n"
+        )?
+    );
+    assert!(rt;
+        is_text(
+            alloc,
+            long_refused(AnswerRoom::new(alloc)?),
+            "refused long 8000100\n"
+        )?
+    );
+    assert!(rt;
+        is_text(
+            alloc,
+            place_refused(AnswerRoom::new(alloc)?),
+            "refused place\n"
+        )?
+    );
+    assert!(rt;
+        is_text(
+            alloc,
+            archive_refused(AnswerRoom::new(alloc)?),
+            "refused archive\n"
+        )?
+    );
     Ok(())
 }
 
@@ -342,28 +362,40 @@ fn refused_tips(rt: HostRuntime) -> Result<(), Fail> {
     let alloc = rt.alloc();
     let hash = Hash32(HASH);
     assert!(rt;
-        is_said(
+        is_text(
             alloc,
-            |room| genesis_refused(room, hash),
+            genesis_refused(AnswerRoom::new(alloc)?, hash),
             "refused genesis H\n"
         )?
     );
     assert!(rt;
-        is_said(
+        is_text(
             alloc,
-            |room| unknown_refused(room, hash),
+            unknown_refused(AnswerRoom::new(alloc)?, hash),
             "refused unknown H\n"
         )?
     );
     assert!(rt;
-        is_said(
+        is_text(
             alloc,
-            |room| unconnected_refused(room, hash),
+            unconnected_refused(AnswerRoom::new(alloc)?, hash),
             "refused unconnected H\n"
         )?
     );
-    assert!(rt; is_said(alloc, |room| deep_refused(room, 1), "refused deep 1\n")?);
-    assert!(rt; is_said(alloc, |room| deep_refused(room, 101), "refused deep 101\n")?);
+    assert!(rt;
+        is_text(
+            alloc,
+            deep_refused(AnswerRoom::new(alloc)?, 1),
+            "refused deep 1\n"
+        )?
+    );
+    assert!(rt;
+        is_text(
+            alloc,
+            deep_refused(AnswerRoom::new(alloc)?, 101),
+            "refused deep 101\n"
+        )?
+    );
     Ok(())
 }
 
@@ -371,12 +403,18 @@ fn refused_tips(rt: HostRuntime) -> Result<(), Fail> {
 fn answers_on_transactions(rt: HostRuntime) -> Result<(), Fail> {
     let alloc = rt.alloc();
     let hash = Hash32(HASH);
-    assert!(rt; is_said(alloc, |room| tx_answer(room, hash), "tx H\n")?);
-    assert!(rt; is_said(alloc, |room| gone_answer(room, hash), "gone H\n")?);
+    assert!(rt; is_text(alloc, tx_answer(AnswerRoom::new(alloc)?, hash), "tx H\n")?);
     assert!(rt;
-        is_said(
+        is_text(
             alloc,
-            |room| absent_refused(room, hash),
+            gone_answer(AnswerRoom::new(alloc)?, hash),
+            "gone H\n"
+        )?
+    );
+    assert!(rt;
+        is_text(
+            alloc,
+            absent_refused(AnswerRoom::new(alloc)?, hash),
             "refused absent H\n"
         )?
     );
