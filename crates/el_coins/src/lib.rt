@@ -1,5 +1,5 @@
-//! The coins after a chain of whole blocks in a table, how many rows they need, and which script hashes a move
-//! touches, each by a walk over the blocks.
+//! The coins after a chain of whole blocks in a table, how many rows they need, and which script hashes a
+//! move touches, each by a walk over the blocks.
 #![tactic(auto)]
 
 mod anew;

@@ -9,9 +9,10 @@ pub record IsFront (place n : ℕ) (buf file : List ℕ) : Type 0 where
   pub bytes : take n buf ≡ take n (drop place file)
 
 -- Time goes on, and no name that is on the disk is lost.
-pub record Lasts {D : Type 0} (moment : D → ℕ) (left_since : D → ℕ → Image → Type 0) (is_named : D → ℕ → Type 0)
-    (old new : D) : Type 0 where
-  pub time : Elapses (moment old) (moment new) (left_since old) (left_since new) (LeftNow moment left_since new)
+pub record Lasts {D : Type 0} (moment : D → ℕ) (left_since : D → ℕ → Image → Type 0)
+    (is_named : D → ℕ → Type 0) (old new : D) : Type 0 where
+  pub time : Elapses (moment old) (moment new) (left_since old) (left_since new)
+      (LeftNow moment left_since new)
   pub names : (f : ℕ) → is_named old f → is_named new f
 
 -- no file changes, and a crash leaves nothing that it mightn't have left before

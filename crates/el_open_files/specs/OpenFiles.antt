@@ -19,7 +19,8 @@ pub record IsOpen (tells : Type 0) {D I : Type 0} (is_file : I → ℕ → Type 
   pub named : tells → is_named files f
 
 -- so is each that is open
-abbrev pub Held : (tells : Type 0) {D I : Type 0} → (I → ℕ → Type 0) → (D → ℕ → Type 0) → D → List (Option I) → Type 0
+abbrev pub Held : (tells : Type 0) {D I : Type 0} → (I → ℕ → Type 0) → (D → ℕ → Type 0) → D → List (Option I)
+    → Type 0
 Held tells is_file is_named files places =
     (f : ℕ) → IfSome (opened places f) (λ it. IsOpen tells is_file is_named files f it)
 

@@ -1,7 +1,7 @@
 //! What the rows of an index answer: the history, the coins and the balance of a script hash; blocks,
-//! transactions and outputs by height, txid and outpoint; and which script hashes the last block touches. Each
-//! call changes nothing. Over rows that stand for no chain each call returns too: a number that isn't below its
-//! table's count names nothing.
+//! transactions and outputs by height, txid and outpoint; and which script hashes the last block touches.
+//! Each call changes nothing. Over rows that stand for no chain each call returns too: a number that isn't
+//! below its table's count names nothing.
 #![tactic(auto)]
 
 mod balances;

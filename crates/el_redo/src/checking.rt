@@ -31,7 +31,8 @@ fn stay(rows: &VecRows, counts: &[u64; TABLES], t: Table) -> u64
 
 // How many rows of each table stay.
 fn all_stay(rows: &VecRows, counts: &[u64; TABLES]) -> [u64; TABLES]
-    ensures { (t : Table) → count_at result t ≡ length (take (count_at counts.now t) (tables_of rows.now.rows t)) }
+    ensures { (t : Table)
+        → count_at result t ≡ length (take (count_at counts.now t) (tables_of rows.now.rows t)) }
 {
     [
         stay(rows, counts, Table::Blocks),
@@ -49,7 +50,8 @@ fn all_stay(rows: &VecRows, counts: &[u64; TABLES]) -> [u64; TABLES]
 fn reaches(reach: &mut [u64; TABLES], key: RowKey) -> bool
     requires small { key.row < limit_of key.table }
     ensures near { IsTrue result ↔ (key.row ≤ count_at reach.old key.table) }
-    ensures here { IsTrue result → count_at reach.new key.table ≡ max (count_at reach.old key.table) (key.row + 1) }
+    ensures here { IsTrue result
+        → count_at reach.new key.table ≡ max (count_at reach.old key.table) (key.row + 1) }
     ensures others { (t : Table) → t ≢ key.table → count_at reach.new t ≡ count_at reach.old t }
 {
     let place = key.table.index();
@@ -79,7 +81,8 @@ pub(crate) fn are_made(rows: &VecRows, counts: &[u64; TABLES], bytes: &[u8]) -> 
     requires limited { (t : Table) → count_at counts.now t ≤ limit_of t }
     ensures made { IsTrue result → (changes : Changes) × (bytes.now ≡ changes_bytes changes)
         × IsMadeFrom (λ t. length (tables_of rows.now.rows t)) counts.now changes }
-    ensures all { (changes : Changes) → IsMadeFrom (λ t. length (tables_of rows.now.rows t)) counts.now changes
+    ensures all { (changes : Changes)
+        → IsMadeFrom (λ t. length (tables_of rows.now.rows t)) counts.now changes
         → bytes.now ≡ changes_bytes changes → IsTrue result }
 {
     let mut reach = all_stay(rows, counts);

@@ -8,8 +8,8 @@ use el_row_formats::Table;
 use el_rows::{CommitFault, ReadCount, Rows, Sealed, VecRows};
 use std::alloc::Global;
 
-/// Rows in memory. Reads of a row and commits are calls of the device, counted together from 1 on; those whose
-/// numbers are listed fail, and change nothing.
+/// Rows in memory. Reads of a row and commits are calls of the device, counted together from 1 on; those
+/// whose numbers are listed fail, and change nothing.
 #[derive(Drop)]
 pub(crate) struct FailingRows {
     rows: VecRows,

@@ -133,8 +133,8 @@ fn answers(alloc: Global, failed: &str, times: u64, reply: &str) -> Result<Strin
     spelled(alloc, text.as_str())
 }
 
-// The numbers of the calls that fail where a question that makes so many calls is asked over and over: after so
-// many calls its first one, then its second one, and so on.
+// The numbers of the calls that fail where a question that makes so many calls is asked over and over: after
+// so many calls its first one, then its second one, and so on.
 fn each_in_turn(alloc: Global, before: u64, calls: u64) -> Result<Vec<u64>, Fail> {
     let mut failing = Vec::new(alloc);
     let mut last = before;

@@ -83,4 +83,5 @@ listed_changes changes keys = map (λ k. (k, unwrap_or (changed_at changes k.tab
 pub record AreShown (counts : List ℕ) (changes : Changes) (keys : List RowKey) : Type 0 where
   pub rising : IsStrictlySortedBy row_cmp keys
   pub each : (t : Table) (i : ℕ)
-      → list_any (is_at (row_cmp (key t i))) keys ≡ (nat_lt i (count_at counts t) && is_some (changed_at changes t i))
+      → list_any (is_at (row_cmp (key t i))) keys
+      ≡ (nat_lt i (count_at counts t) && is_some (changed_at changes t i))

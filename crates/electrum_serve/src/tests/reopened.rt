@@ -65,7 +65,8 @@ const LIVES: [Lives; 4] = [
         sent: "0 refused unknown {a0}\n1 {invalid}\n",
         kept: "",
     },
-    // what the coins of a script hold together, and its history, from the index; a transaction's bytes are gone
+    // what the coins of a script hold together, and its history, from the index; a transaction's bytes are
+    // gone
     Lives {
         files: Files::Forks,
         first: "tip {z-d1}\n",
