@@ -1,1 +1,2 @@
 pub mod HexFaults
+pub mod Ticks

@@ -1,7 +1,7 @@
 // Block files: Bitcoin's first two blocks in a file, and calls that fail where the archive does.
 ghost use Rattle.std.specs.Prelude.{[], refl};
 
-use el_base::{Bytes, Hash32, OutOfMemory};
+use el_base::{Bytes, GhostCount, Hash32, OutOfMemory};
 use el_chain::{Node, Spot};
 use el_fakes::{Later, MemArchive};
 use el_files::{ReadFault, ScanFault, read_block, read_tx, record_at, scan, scan_file};
@@ -37,6 +37,7 @@ const ZEROS: &str = "\
 struct ShortFile {
     bytes: Vec<u8>,
     short_from: u64,
+    made: GhostCount,
 }
 
 impl Archive for ShortFile {
@@ -50,17 +51,22 @@ impl Archive for ShortFile {
 
     ghost gave = { λ file at bytes. Unit {0} };
 
+    ghost calls = { λ files. files.made };
+
     ghost faults = { λ files. 0 };
 
     fn files(&mut self) -> Result<u32, ArchiveFailed> {
+        self.made.tick();
         Ok(1)
     }
 
     fn size(&mut self, _file: u32) -> Result<u64, ArchiveFailed> {
+        self.made.tick();
         Ok((self.bytes.len() as u64).min(1_000_000))
     }
 
     fn read(&mut self, _file: u32, at: u64, buf: &mut [u8]) -> Result<usize, ArchiveFailed> {
+        self.made.tick();
         if at >= self.bytes.len() as u64 {
             return Ok(0);
         }
@@ -213,7 +219,11 @@ fn count_in_short(alloc: Global, zeros: usize, short_from: u64) -> Result<usize,
     let mut bytes = far(alloc, zeros)?;
     let more = vec![in alloc; 0u8; 70_000]?;
     bytes.extend_from_slice(more.as_slice())?;
-    let mut file = ShortFile { bytes, short_from };
+    let mut file = ShortFile {
+        bytes,
+        short_from,
+        made: GhostCount::new(),
+    };
     Ok(scanned_in(alloc, &mut file)?.len())
 }
 

@@ -1,5 +1,5 @@
 // Block files in memory some of whose calls fail.
-ghost use Rattle.std.specs.Prelude.{◌≡◌, ℕ, ◌-◌, ◌==◌, ◌<◌, ◌≤◌, ◌||◌, nat_lt, nat_le, [], length, take, drop, min, is_err, IfOk};
+ghost use Rattle.std.specs.Prelude.{◌≡◌, ℕ, ◌+◌, ◌-◌, ◌==◌, ◌<◌, ◌≤◌, ◌||◌, nat_lt, nat_le, [], length, take, drop, min, is_err, IfOk};
 ghost use Rattle.std.specs.List.{list_any};
 ghost use Rattle.el_outside.specs.Counts.{HasCause, risen};
 ghost use Rattle.el_outside.specs.Files.{AllGrow};
@@ -7,7 +7,7 @@ ghost use Rattle.el_fakes.specs.Archives.{bytes_now};
 
 use crate::fronts::{bytes_of, fill, is_listed};
 use crate::growth::{Later, size_now};
-use el_base::Bytes;
+use el_base::{Bytes, GhostCount};
 use el_outside::{Archive, ArchiveFailed, MOST_FILES, SIZE_LIMIT};
 use std::marker::Model;
 
@@ -21,6 +21,7 @@ pub struct MemArchive {
     later: Vec<Later>,
     failing: Vec<u64>,
     calls: u64,
+    made: GhostCount,
     faults: u64,
 }
 
@@ -34,6 +35,7 @@ impl Model for MemArchive {
       later = a.later.items;
       failing = a.failing.items;
       calls = a.calls;
+      made = a.made;
       faults = a.faults;
     } };
 }
@@ -47,6 +49,7 @@ impl MemArchive {
           later = [];
           failing = failing.items;
           calls = 0;
+          made = 0;
           faults = 0;
         } }
     {
@@ -62,6 +65,7 @@ impl MemArchive {
           later = later.items;
           failing = failing.items;
           calls = 0;
+          made = 0;
           faults = 0;
         } }
     {
@@ -70,6 +74,7 @@ impl MemArchive {
             later,
             failing,
             calls: 0,
+            made: GhostCount::new(),
             faults: 0,
         }
     }
@@ -90,9 +95,13 @@ impl MemArchive {
 
     // Counts a call, and says whether it fails.
     fn is_failing(&mut self) -> bool
-        ensures counted { self.new ≡ record self.old { calls = risen self.old.calls 1 } }
+        ensures counted { self.new ≡ record self.old {
+          calls = risen self.old.calls 1;
+          made = self.old.made + 1;
+        } }
         ensures listed { result ≡ list_any (λ n. self.new.calls == n) self.old.failing }
     {
+        self.made.tick();
         self.calls = self.calls.saturating_add(1);
         is_listed(self.failing.as_slice(), self.calls)
     }
@@ -128,15 +137,19 @@ impl Archive for MemArchive {
 
     ghost gave = { λ file at bytes. Unit {0} };
 
+    ghost calls = { λ archive. archive.made };
+
     ghost faults = { λ archive. archive.faults };
 
     fn files(&mut self) -> Result<u32, ArchiveFailed>
         ensures few { IfOk result (λ n. n ≤ MOST_FILES) }
         ensures number { IfOk result (λ n. n ≡ length self.new.files) }
         ensures keeps { AllGrow (bytes_now self.old) (bytes_now self.new) }
+        ensures called { self.new.made ≡ self.old.made + 1 }
         ensures cause { HasCause self.old.faults self.new.faults result }
         ensures same { self.new ≡ record self.old {
           calls = risen self.old.calls 1;
+          made = self.old.made + 1;
           faults = self.new.faults;
         } }
         ensures fails { is_err result
@@ -153,9 +166,11 @@ impl Archive for MemArchive {
         ensures small { IfOk result (λ n. n < SIZE_LIMIT) }
         ensures size { IfOk result (λ n. n ≡ length (bytes_now self.new file)) }
         ensures keeps { AllGrow (bytes_now self.old) (bytes_now self.new) }
+        ensures called { self.new.made ≡ self.old.made + 1 }
         ensures cause { HasCause self.old.faults self.new.faults result }
         ensures same { self.new ≡ record self.old {
           calls = risen self.old.calls 1;
+          made = self.old.made + 1;
           faults = self.new.faults;
         } }
         ensures fails { is_err result ≡ (list_any (λ n. self.new.calls == n) self.old.failing
@@ -174,9 +189,11 @@ impl Archive for MemArchive {
         ensures count { IfOk result (λ n. n ≡ min (length buf.old) (length (bytes_now self.new file) - at)) }
         ensures filled { IfOk result (λ n. take n buf.new ≡ take n (drop at (bytes_now self.new file))) }
         ensures keeps { AllGrow (bytes_now self.old) (bytes_now self.new) }
+        ensures called { self.new.made ≡ self.old.made + 1 }
         ensures cause { HasCause self.old.faults self.new.faults result }
         ensures same { self.new ≡ record self.old {
           calls = risen self.old.calls 1;
+          made = self.old.made + 1;
           faults = self.new.faults;
         } }
         ensures fails { is_err result ≡ list_any (λ n. self.new.calls == n) self.old.failing }

@@ -1,4 +1,5 @@
 pub mod DiskFileLists
 pub mod DiskSound
 pub mod DiskCalls
+pub mod FolderCalls
 pub mod Choices

@@ -175,6 +175,8 @@ impl Disk for MemDisk {
 
     ghost left_since = { left_on };
 
+    ghost calls = { moment_of };
+
     ghost faults = { λ disk. disk.faults };
 
     ghost earlier = { λ disk t u c told le left. left_earlier disk t u c le left };
@@ -189,6 +191,7 @@ impl Disk for MemDisk {
         ensures seen { seen_on self.new ≡ seen_on self.old }
         ensures crash { NothingNew (LeftNow moment_of left_on self.old) (LeftNow moment_of left_on self.new) }
         ensures time { Passes moment_of left_on self.old self.new }
+        ensures called { moment_of self.new ≡ moment_of self.old + 1 }
         ensures cause { HasCause (state_of self.old).faults (state_of self.new).faults result }
         ensures done { OnOk result (state_of self.new ≡ ticked (state_of self.old)) }
         ensures not_done { OnErr result (state_of self.new ≡ failed (ticked (state_of self.old))) }
@@ -207,6 +210,7 @@ impl Disk for MemDisk {
         ensures seen { seen_on self.new ≡ seen_on self.old }
         ensures crash { NothingNew (LeftNow moment_of left_on self.old) (LeftNow moment_of left_on self.new) }
         ensures time { Passes moment_of left_on self.old self.new }
+        ensures called { moment_of self.new ≡ moment_of self.old + 1 }
         ensures cause { HasCause (state_of self.old).faults (state_of self.new).faults result }
         ensures done { OnOk result (state_of self.new ≡ ticked (state_of self.old)) }
         ensures not_done { OnErr result (state_of self.new ≡ failed (ticked (state_of self.old))) }
@@ -230,6 +234,7 @@ impl Disk for MemDisk {
         ensures too_long_crash { SIZE_LIMIT ≤ at + length bytes.now
             → NothingNew (LeftNow moment_of left_on self.old) (LeftNow moment_of left_on self.new) }
         ensures time { Passes moment_of left_on self.old self.new }
+        ensures called { moment_of self.new ≡ moment_of self.old + 1 }
         ensures cause { HasCause (state_of self.old).faults (state_of self.new).faults result }
         ensures done { OnOk result (state_of self.new ≡ with_file (ticked (state_of self.old)) file
             (file_written at (length bytes.now) bytes.now ((state_of self.old).files file))) }
@@ -262,6 +267,7 @@ impl Disk for MemDisk {
         ensures crash { Follows (OnFile file (Cut len))
             (LeftNow moment_of left_on self.old) (LeftNow moment_of left_on self.new) }
         ensures time { Passes moment_of left_on self.old self.new }
+        ensures called { moment_of self.new ≡ moment_of self.old + 1 }
         ensures cause { HasCause (state_of self.old).faults (state_of self.new).faults result }
         ensures done { OnOk result (state_of self.new ≡ with_file (ticked (state_of self.old)) file
             (file_cut len true ((state_of self.old).files file))) }
@@ -286,6 +292,7 @@ impl Disk for MemDisk {
         ensures others { (f : ℕ) → f ≢ file → seen_on self.new f ≡ seen_on self.old f }
         ensures crash { NothingNew (LeftNow moment_of left_on self.old) (LeftNow moment_of left_on self.new) }
         ensures time { Passes moment_of left_on self.old self.new }
+        ensures called { moment_of self.new ≡ moment_of self.old + 1 }
         ensures cause { HasCause (state_of self.old).faults (state_of self.new).faults result }
         ensures done { OnOk result (state_of self.new ≡ with_file (ticked (state_of self.old)) file
             (file_synced ((state_of self.old).files file))) }

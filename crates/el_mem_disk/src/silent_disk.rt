@@ -35,6 +35,7 @@ impl SilentDisk {
 
 impl Disk for SilentDisk {
     ghost use Rattle.std.specs.Prelude.{[]};
+    ghost use Rattle.el_mem_disk.specs.Disks.{moment_of};
 
     ghost tells = { ⊥ };
 
@@ -43,6 +44,8 @@ impl Disk for SilentDisk {
     ghost moment = { λ disk. 0 };
 
     ghost left_since = { λ disk t c. ⊥ };
+
+    ghost calls = { λ disk. moment_of disk.disk };
 
     ghost faults = { λ disk. disk.disk.faults };
 

@@ -7,10 +7,12 @@ use Rattle.std.specs.Option.{option_map_or}
 use Rattle.el_net.specs.declared.masks.Mask.{Mask}
 use Rattle.el_net.specs.Masks.{unmasked}
 
--- the block files of a folder: the folder, its mask where that could be had, how often a call has failed
+-- the block files of a folder: the folder, its mask where that could be had, how many calls were made, and
+-- how often one has failed
 pub record BlocksOf (D : Type 0) : Type 0 where
   pub folder : D
   pub mask : Option Mask
+  pub made : ℕ
   pub faults : ℕ
 
 -- the bytes of a block file without its folder's mask

@@ -1,5 +1,5 @@
 // The node's block files as an archive.
-ghost use Rattle.std.specs.Prelude.{◌≡◌, ◌≤◌, ◌-◌, ℕ, [], Some, length, take, drop, min, IfOk, IfSome, IfNone};
+ghost use Rattle.std.specs.Prelude.{◌≡◌, ◌≤◌, ◌+◌, ◌-◌, ℕ, [], Some, length, take, drop, min, IfOk, IfSome, IfNone};
 ghost use Rattle.el_outside.specs.Counts.{RoseBy};
 ghost use Rattle.el_outside.specs.Files.{AllGrow};
 ghost use Rattle.el_net.specs.Devices.{BlocksOf, read_with};
@@ -10,7 +10,7 @@ use crate::block_folder::BlockFolder;
 use crate::folder::Folder;
 use crate::masks::{Mask, unmask};
 use crate::reading::fill_at;
-use el_base::OutOfMemory;
+use el_base::{GhostCount, OutOfMemory};
 use el_outside::{Archive, ArchiveFailed, MOST_FILES, SIZE_LIMIT};
 use std::alloc::{AllocGlobal, Global};
 use std::fs::File;
@@ -25,6 +25,7 @@ use std::rt::Files;
 pub struct BlockFiles<F: Folder> {
     folder: F,
     mask: Option<Mask>,
+    made: GhostCount,
     faults: u64,
 }
 
@@ -33,7 +34,12 @@ impl<F: Folder> Model for BlockFiles<F> {
 
     ghost Value = { BlocksOf F };
 
-    ghost view = { λ files. record { folder = files.folder; mask = files.mask; faults = files.faults } };
+    ghost view = { λ files. record {
+      folder = files.folder;
+      mask = files.mask;
+      made = files.made;
+      faults = files.faults;
+    } };
 }
 
 // The file, if it is there; a failure where the folder isn't.
@@ -109,13 +115,21 @@ impl<R: Files<File = File> + AllocGlobal + Clone + Drop> BlockFiles<BlockFolder<
 impl<F: Folder + Drop> BlockFiles<F> {
     /// The block files of the folder, which have that mask; none where it can't be had.
     pub fn over(folder: F, mask: Option<Mask>) -> BlockFiles<F>
-        ensures { result ≡ record { folder = folder; mask = mask; faults = 0 } }
+        ensures { result ≡ record { folder = folder; mask = mask; made = 0; faults = 0 } }
     {
         BlockFiles {
             folder,
             mask,
+            made: GhostCount::new(),
             faults: 0,
         }
+    }
+
+    // One call more.
+    fn count_call(&mut self)
+        ensures { self.new ≡ record self.old { made = self.old.made + 1 } }
+    {
+        self.made.tick();
     }
 
     // A failure, which is counted.
@@ -123,6 +137,7 @@ impl<F: Folder + Drop> BlockFiles<F> {
         ensures counted { RoseBy self.old.faults self.new.faults 1 }
         ensures folder { self.new.folder ≡ self.old.folder }
         ensures mask { self.new.mask ≡ self.old.mask }
+        ensures made { self.new.made ≡ self.old.made }
     {
         self.faults = self.faults.saturating_add(1);
         ArchiveFailed
@@ -144,6 +159,7 @@ impl<F: Folder + Drop> BlockFiles<F> {
         ensures number { F.tells → IfOk result (λ n. n ≡ F.file_count self.new.folder) }
         ensures grows { F.tells → AllGrow (F.bytes self.old.folder) (F.bytes self.new.folder) }
         ensures mask { self.new.mask ≡ self.old.mask }
+        ensures made { self.new.made ≡ self.old.made }
         ensures faults { self.new.faults ≡ self.old.faults }
     {
         let _mask = self.mask()?;
@@ -155,6 +171,7 @@ impl<F: Folder + Drop> BlockFiles<F> {
         ensures size { F.tells → IfOk result (λ n. n ≡ length (F.bytes self.new.folder file)) }
         ensures grows { F.tells → AllGrow (F.bytes self.old.folder) (F.bytes self.new.folder) }
         ensures mask { self.new.mask ≡ self.old.mask }
+        ensures made { self.new.made ≡ self.old.made }
         ensures faults { self.new.faults ≡ self.old.faults }
     {
         let _mask = self.mask()?;
@@ -170,6 +187,7 @@ impl<F: Folder + Drop> BlockFiles<F> {
             n ≡ min (length buf.old) (length (F.bytes self.new.folder file) - at)) }
         ensures grows { F.tells → AllGrow (F.bytes self.old.folder) (F.bytes self.new.folder) }
         ensures mask { self.new.mask ≡ self.old.mask }
+        ensures made { self.new.made ≡ self.old.made }
         ensures faults { self.new.faults ≡ self.old.faults }
     {
         let mask = self.mask()?;
@@ -192,9 +210,12 @@ impl<F: Folder + Drop> Archive for BlockFiles<F> {
 
     ghost gave = { λ file at bytes. Unit {0} };
 
+    ghost calls = { λ files. files.made };
+
     ghost faults = { λ files. files.faults };
 
     fn files(&mut self) -> Result<u32, ArchiveFailed> {
+        self.count_call();
         match self.count() {
             Ok(n) => Ok(n),
             Err(_) => Err(self.fault()),
@@ -202,6 +223,7 @@ impl<F: Folder + Drop> Archive for BlockFiles<F> {
     }
 
     fn size(&mut self, file: u32) -> Result<u64, ArchiveFailed> {
+        self.count_call();
         match self.size_of(file) {
             Ok(n) if n < SIZE_LIMIT => Ok(n),
             _ => Err(self.fault()),
@@ -209,6 +231,7 @@ impl<F: Folder + Drop> Archive for BlockFiles<F> {
     }
 
     fn read(&mut self, file: u32, at: u64, buf: &mut [u8]) -> Result<usize, ArchiveFailed> {
+        self.count_call();
         match self.read_from(file, at, buf) {
             Ok(n) => Ok(n),
             Err(_) => Err(self.fault()),

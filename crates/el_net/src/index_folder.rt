@@ -63,7 +63,7 @@ pub fn index_files<R: Files<File = File> + Drop>(
     alloc: Global,
     folder: &str,
 ) -> Result<FileDisk<IndexFolder<R>>, OutOfMemory>
-    ensures { IfOk result (λ disk. disk ≡ record { files = folder.now; faults = 0 }) }
+    ensures { IfOk result (λ disk. disk ≡ record { files = folder.now; made = 0; faults = 0 }) }
 {
     let files = IndexFolder::new(rt, alloc, folder)?;
     FileDisk::over(files, alloc)

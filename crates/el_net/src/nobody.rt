@@ -1,13 +1,25 @@
 // Devices that have nothing, for words that ask for none.
-ghost use Rattle.std.specs.Prelude.{[], refl};
+ghost use Rattle.std.specs.Prelude.{◌≡◌, [], refl};
 
+use el_base::GhostCount;
 use el_outside::{
     Archive, ArchiveFailed, Arrival, Disk, DiskFailed, Link, LinkFailed, Peer, SendFault, Why,
 };
 
 /// Block files of which there are none.
-#[derive(Clone, Copy, Debug)]
-pub struct NoFiles;
+#[derive(Drop)]
+pub struct NoFiles {
+    made: GhostCount,
+}
+
+impl NoFiles {
+    /// No call was made yet.
+    pub fn new() -> NoFiles {
+        NoFiles {
+            made: GhostCount::new(),
+        }
+    }
+}
 
 impl Archive for NoFiles {
     ghost tells = { Unit {0} };
@@ -20,17 +32,22 @@ impl Archive for NoFiles {
 
     ghost gave = { λ file at bytes. Unit {0} };
 
+    ghost calls = { λ files. files.made };
+
     ghost faults = { λ files. 0 };
 
     fn files(&mut self) -> Result<u32, ArchiveFailed> {
+        self.made.tick();
         Ok(0)
     }
 
     fn size(&mut self, _file: u32) -> Result<u64, ArchiveFailed> {
+        self.made.tick();
         Ok(0)
     }
 
     fn read(&mut self, _file: u32, _at: u64, _buf: &mut [u8]) -> Result<usize, ArchiveFailed> {
+        self.made.tick();
         Ok(0)
     }
 }
@@ -68,10 +85,23 @@ impl Link for NoLink {
 }
 
 /// A disk without files, to which nothing can be written.
-#[derive(Clone, Copy, Debug, Default)]
+#[derive(Drop)]
 pub struct NoDisk {
     /// How often a write failed, up to 2^64 - 1.
     pub faults: u64,
+    made: GhostCount,
+}
+
+impl NoDisk {
+    /// No call was made yet.
+    pub fn new() -> NoDisk
+        ensures { result.faults ≡ 0 }
+    {
+        NoDisk {
+            faults: 0,
+            made: GhostCount::new(),
+        }
+    }
 }
 
 impl Disk for NoDisk {
@@ -83,6 +113,8 @@ impl Disk for NoDisk {
 
     ghost left_since = { λ disk t c. ⊥ };
 
+    ghost calls = { λ disk. disk.made };
+
     ghost faults = { λ disk. disk.faults };
 
     ghost earlier = { λ disk t u c told le left. absurd told };
@@ -92,23 +124,28 @@ impl Disk for NoDisk {
     ghost small = { λ disk f told. absurd told };
 
     fn size(&mut self, _file: u32) -> Result<u64, DiskFailed> {
+        self.made.tick();
         Ok(0)
     }
 
     fn read(&mut self, _file: u32, _at: u64, _buf: &mut [u8]) -> Result<usize, DiskFailed> {
+        self.made.tick();
         Ok(0)
     }
 
     fn write_at(&mut self, _file: u32, _at: u64, _bytes: &[u8]) -> Result<(), DiskFailed> {
+        self.made.tick();
         self.faults = self.faults.saturating_add(1);
         Err(DiskFailed)
     }
 
     fn cut(&mut self, _file: u32, _len: u64) -> Result<(), DiskFailed> {
+        self.made.tick();
         Ok(())
     }
 
     fn sync(&mut self, _file: u32) -> Result<(), DiskFailed> {
+        self.made.tick();
         Ok(())
     }
 }

@@ -3,9 +3,10 @@ use Rattle.std.specs.Prelude.{◌≡◌, ℕ, List, [], Option, None, IfSome, sl
 use Rattle.el_outside.specs.Disk.{Image, OnDisk}
 use Rattle.el_outside.specs.Moments.{LeftNow}
 
--- the files, and how often a call has failed
+-- the files, how many calls were made, and how often one has failed
 pub record FilesOf (D : Type 0) : Type 0 where
   pub files : D
+  pub made : ℕ
   pub faults : ℕ
 
 -- the file that is open at its number

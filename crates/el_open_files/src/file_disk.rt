@@ -5,7 +5,7 @@ ghost use Rattle.el_open_files.specs.OpenFiles.{opened};
 
 use crate::calls::{cut_to, make_durable, read_from, size_of, write_to};
 use crate::open_files::OpenFiles;
-use el_base::OutOfMemory;
+use el_base::{GhostCount, OutOfMemory};
 use el_outside::{Disk, DiskFailed, SIZE_LIMIT};
 use std::alloc::Global;
 use std::marker::Model;
@@ -20,6 +20,7 @@ pub struct FileDisk<F: OpenFiles> {
     files: F,
     // The files that are open, by number.
     places: Vec<Option<F::File>>,
+    made: GhostCount,
     faults: u64,
 }
 
@@ -28,7 +29,7 @@ impl<F: OpenFiles> Model for FileDisk<F> {
 
     ghost Value = { FilesOf F };
 
-    ghost view = { λ disk. record { files = disk.files; faults = disk.faults } };
+    ghost view = { λ disk. record { files = disk.files; made = disk.made; faults = disk.faults } };
 
     ghost invariant = { λ disk. Held F.tells F.is_file F.is_named disk.files disk.places.items };
 }
@@ -56,12 +57,13 @@ impl<F: OpenFiles + Drop> FileDisk<F> {
     /// The files of the folder, none of them open. No call takes memory of its own, where none of the folder
     /// does.
     pub fn over(files: F, alloc: Global) -> Result<FileDisk<F>, OutOfMemory>
-        ensures { IfOk result (λ disk. disk ≡ record { files = files; faults = 0 }) }
+        ensures { IfOk result (λ disk. disk ≡ record { files = files; made = 0; faults = 0 }) }
     {
         let places = no_files(alloc)?;
         Ok(FileDisk {
             files,
             places,
+            made: GhostCount::new(),
             faults: 0,
         })
     }
@@ -76,6 +78,8 @@ impl<F: OpenFiles + Drop> Disk for FileDisk<F> {
 
     ghost left_since = { λ disk. F.left_since disk.files };
 
+    ghost calls = { λ disk. disk.made };
+
     ghost faults = { λ disk. disk.faults };
 
     ghost earlier = { λ disk. F.earlier disk.files };
@@ -85,6 +89,7 @@ impl<F: OpenFiles + Drop> Disk for FileDisk<F> {
     ghost small = { λ disk. F.small disk.files };
 
     fn size(&mut self, file: u32) -> Result<u64, DiskFailed> {
+        self.made.tick();
         self.files.begin();
         match size_of(&mut self.files, self.places.as_mut_slice(), file) {
             Ok(n) if n < SIZE_LIMIT => Ok(n),
@@ -93,6 +98,7 @@ impl<F: OpenFiles + Drop> Disk for FileDisk<F> {
     }
 
     fn read(&mut self, file: u32, at: u64, buf: &mut [u8]) -> Result<usize, DiskFailed> {
+        self.made.tick();
         self.files.begin();
         match read_from(&mut self.files, self.places.as_mut_slice(), file, at, buf) {
             Ok(n) => Ok(n),
@@ -101,6 +107,7 @@ impl<F: OpenFiles + Drop> Disk for FileDisk<F> {
     }
 
     fn write_at(&mut self, file: u32, at: u64, bytes: &[u8]) -> Result<(), DiskFailed> {
+        self.made.tick();
         self.files.begin();
         if at.saturating_add(bytes.len() as u64) >= SIZE_LIMIT {
             return Err(fault(&mut self.faults));
@@ -112,6 +119,7 @@ impl<F: OpenFiles + Drop> Disk for FileDisk<F> {
     }
 
     fn cut(&mut self, file: u32, len: u64) -> Result<(), DiskFailed> {
+        self.made.tick();
         self.files.begin();
         match cut_to(&mut self.files, self.places.as_mut_slice(), file, len) {
             Ok(()) => Ok(()),
@@ -120,6 +128,7 @@ impl<F: OpenFiles + Drop> Disk for FileDisk<F> {
     }
 
     fn sync(&mut self, file: u32) -> Result<(), DiskFailed> {
+        self.made.tick();
         self.files.begin();
         match make_durable(&mut self.files, self.places.as_mut_slice(), file) {
             Ok(()) => Ok(()),

@@ -3,8 +3,9 @@ use Rattle.std.specs.Prelude.{◌≡◌, ◌⊎◌, ◌≤◌, ◌<◌, ◌+◌,
 use Rattle.std.specs.List.{list_any}
 use Rattle.el_outside.specs.Disk.{Image}
 
--- What is known of a file: its bytes at the last sync that succeeded; the ranges that were written since,
--- each with its end, by writes that failed too; the least and the greatest size that it had since.
+-- What is known of a file: its bytes at the last sync that succeeded; the ranges that were written since, by
+-- writes that failed too, each as its first place and the place after its last; the least and the greatest
+-- size that it had since.
 pub record Kept : Type 0 where
   pub bytes : List ℕ
   pub ranges : List (ℕ × ℕ)
@@ -38,7 +39,7 @@ written at n kept = record kept {
 abbrev pub shortened : ℕ → Kept → Kept
 shortened n kept = record kept { least = min kept.least n }
 
--- what is there by number, with one thing in the place of another
+-- what stands by file number, with another thing for this file
 abbrev pub at_file : {T : Type 0} → (ℕ → T) → ℕ → T → ℕ → T
 at_file all file here f = if f == file then here else all f
 

@@ -1,5 +1,5 @@
 // The node's block files.
-ghost use Rattle.std.specs.Prelude.{◌≡◌, ℕ, ◌-◌, ◌<◌, ◌≤◌, List, [], length, take, drop, min, IfOk};
+ghost use Rattle.std.specs.Prelude.{◌≡◌, ℕ, ◌-◌, ◌+◌, ◌<◌, ◌≤◌, List, [], length, take, drop, min, IfOk};
 ghost use Rattle.el_outside.specs.Counts.{HasCause};
 ghost use Rattle.el_outside.specs.Files.{AllGrow};
 
@@ -44,6 +44,9 @@ pub trait Archive {
     /// archive knows it from `read` alone.
     ghost gave: { (file at : ℕ) → List ℕ → Type 0 };
 
+    /// How many calls were made, with no bound. It stands in contracts alone.
+    ghost calls: { Self → ℕ };
+
     /// How often a call has failed; it stands still at 2^64 - 1.
     ghost faults: { Self → ℕ };
 
@@ -52,6 +55,7 @@ pub trait Archive {
         ensures few { IfOk result (λ n. n ≤ MOST_FILES) }
         ensures number { tells → IfOk result (λ n. n ≡ file_count self.new) }
         ensures keeps { tells → AllGrow (bytes self.old) (bytes self.new) }
+        ensures called { calls self.new ≡ calls self.old + 1 }
         ensures cause { HasCause (faults self.old) (faults self.new) result };
 
     /// The size of a file in bytes.
@@ -59,6 +63,7 @@ pub trait Archive {
         ensures small { IfOk result (λ n. n < SIZE_LIMIT) }
         ensures size { tells → IfOk result (λ n. n ≡ length (bytes self.new file)) }
         ensures keeps { tells → AllGrow (bytes self.old) (bytes self.new) }
+        ensures called { calls self.new ≡ calls self.old + 1 }
         ensures cause { HasCause (faults self.old) (faults self.new) result };
 
     /// Fills the front of the buffer with what the file has from the place on, and answers how many bytes
@@ -70,5 +75,6 @@ pub trait Archive {
             n ≡ min (length buf.old) (length (bytes self.new file) - at)) }
         ensures filled { tells → IfOk result (λ n. take n buf.new ≡ take n (drop at (bytes self.new file))) }
         ensures keeps { tells → AllGrow (bytes self.old) (bytes self.new) }
+        ensures called { calls self.new ≡ calls self.old + 1 }
         ensures cause { HasCause (faults self.old) (faults self.new) result };
 }

@@ -34,6 +34,9 @@ pub trait Disk {
     /// What a crash at some moment from that one on might have left, during a call or between two.
     ghost left_since: { Self → ℕ → Image → Type 0 };
 
+    /// How many calls were made, with no bound. It stands in contracts alone.
+    ghost calls: { Self → ℕ };
+
     /// How often a call has failed; it stands still at 2^64 - 1.
     ghost faults: { Self → ℕ };
 
@@ -45,6 +48,7 @@ pub trait Disk {
         ensures crash { tells → NothingNew
             (LeftNow moment left_since self.old) (LeftNow moment left_since self.new) }
         ensures time { tells → Passes moment left_since self.old self.new }
+        ensures called { calls self.new ≡ calls self.old + 1 }
         ensures cause { HasCause (faults self.old) (faults self.new) result };
 
     /// Fills the front of the buffer with what the file has from the place on, and answers how many bytes
@@ -58,6 +62,7 @@ pub trait Disk {
         ensures crash { tells → NothingNew
             (LeftNow moment left_since self.old) (LeftNow moment left_since self.new) }
         ensures time { tells → Passes moment left_since self.old self.new }
+        ensures called { calls self.new ≡ calls self.old + 1 }
         ensures cause { HasCause (faults self.old) (faults self.new) result };
 
     /// Writes the bytes over what is there from the place on, and past the end. Until a sync a crash may
@@ -74,6 +79,7 @@ pub trait Disk {
         ensures too_long_crash { tells → SIZE_LIMIT ≤ at + length bytes.now
             → NothingNew (LeftNow moment left_since self.old) (LeftNow moment left_since self.new) }
         ensures time { tells → Passes moment left_since self.old self.new }
+        ensures called { calls self.new ≡ calls self.old + 1 }
         ensures cause { HasCause (faults self.old) (faults self.new) result };
 
     /// Cuts the file to a size. Until a sync a crash may leave any size from the new one to the old one, also
@@ -85,6 +91,7 @@ pub trait Disk {
         ensures crash { tells → Follows (OnFile file (Cut len))
             (LeftNow moment left_since self.old) (LeftNow moment left_since self.new) }
         ensures time { tells → Passes moment left_since self.old self.new }
+        ensures called { calls self.new ≡ calls self.old + 1 }
         ensures cause { HasCause (faults self.old) (faults self.new) result };
 
     /// After it, a crash leaves of the file what a read gives. A sync that fails may have reached the disk in
@@ -97,6 +104,7 @@ pub trait Disk {
         ensures crash { tells → NothingNew
             (LeftNow moment left_since self.old) (LeftNow moment left_since self.new) }
         ensures time { tells → Passes moment left_since self.old self.new }
+        ensures called { calls self.new ≡ calls self.old + 1 }
         ensures cause { HasCause (faults self.old) (faults self.new) result };
 
     /// What a crash from a moment on might have left, one from an earlier moment on might have left too.

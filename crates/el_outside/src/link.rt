@@ -37,7 +37,7 @@ pub enum Why {
     Gone,
     /// A fault of the index device while the client was told of changes.
     Disk,
-    /// Out of memory, for its bytes or its reply.
+    /// Out of memory, for its bytes, its reply, what it was to be told, or the sending of it.
     Memory,
 }
 

@@ -21,12 +21,12 @@ const NODE: Peer = 0;
 const PEER_PLACES: usize = 258;
 
 /// The places of the two ports.
-const NODE_LISTENER: usize = 258;
+const NODE_LISTENER: usize = PEER_PLACES;
 
-const CLIENT_LISTENER: usize = 259;
+const CLIENT_LISTENER: usize = PEER_PLACES + 1;
 
 /// All places.
-const PLACES: usize = 260;
+const PLACES: usize = PEER_PLACES + 2;
 
 /// How long a pass waits for a socket to be ready, in milliseconds.
 const WAIT: u64 = 1_000;

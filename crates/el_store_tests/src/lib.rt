@@ -10,6 +10,8 @@ mod disk_tests;
 #[cfg(test)]
 mod disks;
 #[cfg(test)]
+mod folder_tests;
+#[cfg(test)]
 mod journal_tests;
 #[cfg(test)]
 mod link_tests;

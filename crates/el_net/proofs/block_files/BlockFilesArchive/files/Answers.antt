@@ -1,13 +1,17 @@
-use Rattle.std.proofs.Common.{ap, refl}
+use Rattle.std.proofs.Common.{◌∙◌, ap, subst, refl}
+use Rattle.el_outside.specs.Files.{AllGrow}
+use Rattle.el_net.specs.Devices.{BlocksOf}
 use Rattle.el_net.proofs.Unmasking.{reads_grow}
 use Rattle.el_net.proofs.block_files.BlockFilesArchive.files.Goals as goal
 
 pub returns-in-Ok-clause-keeps : goal.returns-in-Ok-clause-keeps
 returns-in-Ok-clause-keeps g c = λ told. reads_grow c.args.self.now.mask c.count.new.self.mask c.count.new.self.mask
     (g.F.Folder.bytes c.args.self.now.folder) (g.F.Folder.bytes c.count.new.self.folder) (g.F.Folder.bytes c.count.new.self.folder)
-    c.count.ensures.mask refl refl (c.count.ensures.grows told)
+    (c.count.ensures.mask ∙ ap (λ (b : BlocksOf _). b.mask) c.count_call.ensures) refl refl
+    (subst (λ (b : BlocksOf _). AllGrow (g.F.Folder.bytes b.folder) (g.F.Folder.bytes c.count.new.self.folder)) c.count_call.ensures (c.count.ensures.grows told))
 
 pub returns-in-Err-clause-keeps : goal.returns-in-Err-clause-keeps
 returns-in-Err-clause-keeps g c = λ told. reads_grow c.args.self.now.mask c.count.new.self.mask c.fault.new.self.mask
     (g.F.Folder.bytes c.args.self.now.folder) (g.F.Folder.bytes c.count.new.self.folder) (g.F.Folder.bytes c.fault.new.self.folder)
-    c.count.ensures.mask c.fault.ensures.mask (ap g.F.Folder.bytes c.fault.ensures.folder) (c.count.ensures.grows told)
+    (c.count.ensures.mask ∙ ap (λ (b : BlocksOf _). b.mask) c.count_call.ensures) c.fault.ensures.mask (ap g.F.Folder.bytes c.fault.ensures.folder)
+    (subst (λ (b : BlocksOf _). AllGrow (g.F.Folder.bytes b.folder) (g.F.Folder.bytes c.count.new.self.folder)) c.count_call.ensures (c.count.ensures.grows told))

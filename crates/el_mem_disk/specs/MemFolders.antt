@@ -1,0 +1,29 @@
+-- A folder in memory.
+use Rattle.std.specs.Prelude.{◌≡◌, ◌==◌, ℕ, Bool, true}
+use Rattle.std.specs.List.{list_any}
+use Rattle.el_outside.specs.Disk.{Image}
+use Rattle.el_mem_disk.specs.Disks.{seen_on, moment_of, left_on}
+use Rattle.el_mem_disk.specs.declared.disk.MemDisk.{MemDisk}
+use Rattle.el_mem_disk.specs.declared.mem_folder.MemFolder.{MemFolder}
+
+-- the disk below it
+abbrev pub below : MemFolder → MemDisk
+below folder = folder.disk
+
+-- what its files hold, the moment, and what a crash may leave, are the disk's
+abbrev pub folder_seen : MemFolder → Image
+folder_seen folder = seen_on folder.disk
+
+abbrev pub folder_moment : MemFolder → ℕ
+folder_moment folder = moment_of folder.disk
+
+abbrev pub folder_left : MemFolder → ℕ → Image → Type 0
+folder_left folder = left_on folder.disk
+
+-- the file is there
+abbrev pub folder_has : MemFolder → ℕ → Bool
+folder_has folder f = list_any (λ n. f == n) folder.made.items
+
+-- its name is on the disk
+abbrev pub folder_names : MemFolder → ℕ → Type 0
+folder_names folder f = list_any (λ n. f == n) folder.named.items ≡ true
