@@ -18,7 +18,7 @@ use Rattle.el_tx.specs.declared.types.Tx.{Tx}
 use Rattle.el_tx.specs.declared.fault.TxFault.{TxFault}
 use Rattle.el_tx.specs.declared.fault.TxFault.TheVariants as tx_fault
 use Rattle.el_tx.specs.Encoding.{stripped_encoding, has_witness, HasEncoding}
-use Rattle.el_tx.specs.Hashing.{full_encoding, txid, is_coinbase, capped}
+use Rattle.el_tx.specs.Hashing.{full_encoding, txid, is_coinbase}
 use Rattle.el_tx.specs.FirstFault.{FirstFault}
 use Rattle.el_block.specs.declared.block.Block.{Block}
 use Rattle.el_block.specs.declared.fault.BlockFault.{BlockFault}
@@ -219,25 +219,6 @@ text_at text txs i tx lt is =
     let b = length-append (text tx) (flat_map text rest) in
     let c = ap length whole in
     omega arith
-
--- a size that isn't capped
-uncapped : (n m : ℕ) → n < 2 ^ 64 → m ≡ capped n → m ≡ n
-uncapped n m small is = omega arith
-
--- the sizes of a transaction
-pub record AreSizes (tx : Tx) (stripped full : ℕ) : Type 0 where
-  pub stripped_is : stripped ≡ length (stripped_encoding tx)
-  pub full_is : full ≡ length (full_encoding tx)
-  pub less : stripped ≤ full
-  pub small : full < 2 ^ 64
-
-pub are_sizes : (tx : Tx) (stripped full : ℕ) → length (full_encoding tx) < 2 ^ 64 → stripped ≡ capped (length (stripped_encoding tx))
-    → full ≡ capped (length (full_encoding tx)) → AreSizes tx stripped full
-are_sizes tx stripped full small s f =
-    let one = not_longer tx in
-    let s_is = uncapped (length (stripped_encoding tx)) stripped (omega arith) s in
-    let f_is = uncapped (length (full_encoding tx)) full small f in
-    record { stripped_is = s_is; full_is = f_is; less = omega arith; small = omega arith }
 
 pub small_at : (txs : List Tx) (i : ℕ) (tx : Tx) → i < length txs → tx ≡ get_or txs i tx → length (flat_map full_encoding txs) < 2 ^ 64
     → length (full_encoding tx) < 2 ^ 64

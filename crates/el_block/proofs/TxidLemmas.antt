@@ -7,7 +7,7 @@ use Rattle.el_base.specs.Hashing.{sha256d}
 use Rattle.el_base.specs.declared.hash.Hash32.{Hash32}
 use Rattle.el_tx.specs.declared.types.Tx.{Tx}
 use Rattle.el_tx.specs.Encoding.{version_encoding, body_encoding, stack_encoding, stripped_encoding, witness_encoding, has_witness}
-use Rattle.el_tx.specs.Hashing.{full_encoding, capped, txid}
+use Rattle.el_tx.specs.Hashing.{full_encoding, txid}
 
 -- the four bytes in front, the body after marker and flag, and the last four
 pub record Cut (bytes version body lock : List ℕ) (n : ℕ) : Type 0 where
@@ -47,35 +47,20 @@ stripped_size t =
     let l : length (to_le_bytes w32 t.lock) ≡ 4 = refl in
     omega arith
 
--- ... and with them
-witness_size : (t : Tx) → length (stripped_encoding t) + 2 ≤ length (witness_encoding t)
-witness_size t =
-    let size = stripped_size t in
-    let stacks = flat_map stack_encoding t.inputs in
-    let lock = to_le_bytes w32 t.lock in
-    let a = length-append (version_encoding t) (0 ∷ 1 ∷ (body_encoding t ++ (stacks ++ lock))) in
-    let b = length-append (body_encoding t) (stacks ++ lock) in
-    let c = length-append stacks lock in
-    let v : length (version_encoding t) ≡ 4 = refl in
-    let l : length lock ≡ 4 = refl in
-    omega arith
-
--- where the two sizes differ, the transaction has a witness, and the bytes are cut so
-pub cut_tx : (t : Tx) (bytes : List ℕ) (s f : ℕ) → length bytes < 2 ^ 64 → bytes ≡ full_encoding t → s ≡ capped (length (stripped_encoding t))
-    → f ≡ capped (length (full_encoding t)) → s ≢ f → Cut bytes (version_encoding t) (body_encoding t) (to_le_bytes w32 t.lock) s
-cut_tx t bytes s f small whole s_is f_is other = by (has_witness t) refl
+-- where that size is not the whole one, the transaction has a witness, and the bytes are cut so
+pub cut_tx : (t : Tx) (bytes : List ℕ) (n : ℕ) → bytes ≡ full_encoding t → n ≡ length (stripped_encoding t) → n ≢ length bytes
+    → Cut bytes (version_encoding t) (body_encoding t) (to_le_bytes w32 t.lock) n
+cut_tx t bytes n whole size other = by (has_witness t) refl
   where
-    by : (w : Bool) → has_witness t ≡ w → Cut bytes (version_encoding t) (body_encoding t) (to_le_bytes w32 t.lock) s
+    by : (w : Bool) → has_witness t ≡ w → Cut bytes (version_encoding t) (body_encoding t) (to_le_bytes w32 t.lock) n
     by false e =
-        let full : full_encoding t ≡ stripped_encoding t = rw e refl in
-        absurd (other (s_is ∙ ap (λ (x : List ℕ). capped (length x)) (sym full) ∙ sym f_is))
+        let full : bytes ≡ stripped_encoding t = rw e at whole in
+        absurd (other (size ∙ ap length (sym full)))
     by true e =
         let full : bytes ≡ witness_encoding t = rw e at whole in
-        let size = ap length full in
-        let more = witness_size t in
         let body = stripped_size t in
-        subst (λ (x : List ℕ). Cut x (version_encoding t) (body_encoding t) (to_le_bytes w32 t.lock) s) (sym full)
-        (cut (version_encoding t) (body_encoding t) (flat_map stack_encoding t.inputs) (to_le_bytes w32 t.lock) s refl refl (omega arith))
+        subst (λ (x : List ℕ). Cut x (version_encoding t) (body_encoding t) (to_le_bytes w32 t.lock) n) (sym full)
+        (cut (version_encoding t) (body_encoding t) (flat_map stack_encoding t.inputs) (to_le_bytes w32 t.lock) n refl refl (omega arith))
 
 -- the cut pieces are the form without marker, flag and witnesses
 pub pieces_hashed : (t : Tx) (bytes version body lock rest : List ℕ) (n : ℕ) (h : Hash32) → Cut bytes (version_encoding t) (body_encoding t) (to_le_bytes w32 t.lock) n

@@ -15,11 +15,12 @@ ghost use Rattle.el_block.specs.declared.block.Block as shape;
 ghost use Rattle.el_block.specs.declared.fault.BlockFault.{BlockFault};
 
 use crate::block::Block;
+use crate::block_view::{BlockView, own_block};
 use crate::fault::BlockFault;
 use crate::hashing::txid_of;
 use crate::rules::keep_rules;
 use el_base::{Cursor, Hash32, Listed, read_compact};
-use el_tx::{Header, Tx, TxFault, decode_header, decode_tx};
+use el_tx::{Header, TxFault, TxView, decode_header, view_tx};
 use std::alloc::Global;
 
 // The header in front of the bytes.
@@ -65,14 +66,18 @@ fn in_block(index: usize, fault: TxFault) -> BlockFault
 }
 
 // The transaction in front, which has this index in its block, its txid, and what stands after it.
-fn next_tx(alloc: Global, index: usize, bytes: &[u8]) -> Result<(Tx, Hash32, &[u8]), BlockFault>
+fn next_tx(
+    alloc: Global,
+    index: usize,
+    bytes: &[u8],
+) -> Result<(TxView<'_>, Hash32, &[u8]), BlockFault>
     ensures encoded { IfOk result (λ r. HasEncoding r.0) }
     ensures hashed { IfOk result (λ r. r.1 ≡ hashing.txid r.0) }
     ensures read { IfOk result (λ r. bytes.now ≡ full_encoding r.0 ++ r.2.now) }
     ensures fault { IfErr result (λ e. (e ≡ BlockFault.Memory)
         ⊎ ((found : TxFault) × FirstFault bytes.now found × (e ≡ BlockFault.Tx index found))) }
 {
-    match decode_tx(alloc, bytes) {
+    match view_tx(alloc, bytes) {
         Ok((tx, size)) => {
             let (front, rest) = bytes.split_at(size);
             let id = txid_of(&tx, front);
@@ -82,18 +87,26 @@ fn next_tx(alloc: Global, index: usize, bytes: &[u8]) -> Result<(Tx, Hash32, &[u
     }
 }
 
+// How many transactions to have room for, of so many that are announced: no more than the bytes can hold, of
+// which each has 60 at least.
+fn room(n: u64, bytes: usize) -> usize {
+    let most = bytes / 60;
+    if n < most as u64 { n as usize } else { most }
+}
+
 // So many transactions, their txids, and what stands after them.
 fn read_txs(
     alloc: Global,
     n: u64,
     bytes: &[u8],
-) -> Result<(Listed<Tx>, Listed<Hash32>, &[u8]), BlockFault>
+) -> Result<(Listed<TxView<'_>>, Listed<Hash32>, &[u8]), BlockFault>
     ensures read { IfOk result (λ r. AreTxs bytes.now n r.0 r.2.now) }
     ensures hashed { IfOk result (λ r. r.1 ≡ txids r.0) }
     ensures fault { IfErr result (λ e. (e ≡ BlockFault.Memory) ⊎ FaultInTxs n bytes.now e) }
 {
-    let mut txs = Listed::new(alloc);
-    let mut hashes = Listed::new(alloc);
+    let room = room(n, bytes.len());
+    let mut txs = Listed::from_vec(Vec::with_capacity(alloc, room)?);
+    let mut hashes = Listed::from_vec(Vec::with_capacity(alloc, room)?);
     let mut rest = bytes;
     for _ in 0..n {
         let (tx, id, after) = next_tx(alloc, txs.len(), rest)?;
@@ -105,7 +118,7 @@ fn read_txs(
 }
 
 // The block that all the bytes are, whatever it means, and its txids.
-fn whole_block(alloc: Global, bytes: &[u8]) -> Result<(Block, Listed<Hash32>), BlockFault>
+fn whole_block(alloc: Global, bytes: &[u8]) -> Result<(BlockView<'_>, Listed<Hash32>), BlockFault>
     ensures some { IfOk result (λ r. 1 ≤ length r.0.txs) }
     ensures read { IfOk result (λ r. IsBlockEncoding bytes.now r.0) }
     ensures hashed { IfOk result (λ r. r.1 ≡ txids r.0.txs) }
@@ -120,7 +133,34 @@ fn whole_block(alloc: Global, bytes: &[u8]) -> Result<(Block, Listed<Hash32>), B
             place: bytes.len() - rest.len(),
         });
     }
-    Ok((Block { header, txs }, hashes))
+    Ok((BlockView::new(header, txs), hashes))
+}
+
+/// Reads a block as `decode_with_txids` does, but leaves its scripts and witnesses where they stand in the
+/// bytes.
+///
+/// # Errors
+///
+/// Those of `decode_block`.
+pub fn view_with_txids(
+    alloc: Global,
+    bytes: &[u8],
+) -> Result<(BlockView<'_>, Listed<Hash32>), BlockFault>
+    // What is read is encoded so.
+    ensures read { IfOk result (λ r. EncodesBlock bytes.now r.0) }
+    ensures hashed { IfOk result (λ r. r.1 ≡ txids r.0.txs) }
+    // What is encoded so is read.
+    ensures only { result ≢ Err BlockFault.Memory → (block : shape.Block) → EncodesBlock bytes.now block
+        → result ≡ Ok (block, txids block.txs) }
+    // A fault is the first one.
+    ensures fault { IfErr result (λ e. (e ≡ BlockFault.Memory) ⊎ FirstBlockFault bytes.now e) }
+    // The first fault is found.
+    ensures first_fault { result ≢ Err BlockFault.Memory → (e : BlockFault) → FirstBlockFault bytes.now e
+        → result ≡ Err e }
+{
+    let (block, hashes) = whole_block(alloc, bytes)?;
+    keep_rules(alloc, &block, hashes.as_slice())?;
+    Ok((block, hashes))
 }
 
 /// Reads a block as `decode_block` does, and answers with it the txids of its transactions in their order, in
@@ -143,8 +183,8 @@ pub fn decode_with_txids(alloc: Global, bytes: &[u8]) -> Result<(Block, Listed<H
     ensures first_fault { result ≢ Err BlockFault.Memory → (e : BlockFault) → FirstBlockFault bytes.now e
         → result ≡ Err e }
 {
-    let (block, hashes) = whole_block(alloc, bytes)?;
-    keep_rules(alloc, &block, hashes.as_slice())?;
+    let (view, hashes) = view_with_txids(alloc, bytes)?;
+    let block = own_block(alloc, &view)?;
     Ok((block, hashes))
 }
 

@@ -3,6 +3,7 @@
 #![tactic(auto)]
 
 mod block;
+mod block_view;
 mod decode;
 mod encode;
 mod fault;
@@ -13,7 +14,8 @@ mod rules;
 mod weight;
 
 pub use block::Block;
-pub use decode::{decode_block, decode_with_txids};
+pub use block_view::BlockView;
+pub use decode::{decode_block, decode_with_txids, view_with_txids};
 pub use encode::encode_block;
 pub use fault::BlockFault;
 pub use laws::{

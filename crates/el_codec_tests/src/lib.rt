@@ -22,3 +22,5 @@ mod printed;
 mod refused;
 #[cfg(test)]
 mod transactions;
+#[cfg(test)]
+mod views;

@@ -124,7 +124,7 @@ fn refuses_the_rest(rt: HostRuntime) -> Result<(), Fail> {
 }
 
 // Whether that many bytes of a block are refused: below 80 as too short for a header, and at 80 for want of
-// the number of transactions; never for want of memory.
+// the number of transactions; never as out of memory.
 fn is_front(alloc: Global, front: &[u8]) -> bool {
     let found = decode_block(alloc, front).err();
     let number = CompactFault::Short { place: 80 };

@@ -14,50 +14,55 @@ ghost use Rattle.el_prepare.specs.Prepared.{prepared, prepared_txs};
 
 use crate::prepared::{Prepared, PreparedTx};
 use el_base::{Hash32, Listed, OutOfMemory, compact_len, sha256};
-use el_block::{Block, BlockFault, decode_with_txids};
-use el_tx::{Outpoint, Tx, TxIn, TxOut, block_hash, is_coinbase, sizes_of};
+use el_block::{BlockFault, BlockView, view_with_txids};
+use el_tx::{Outpoint, TxInView, TxOutView, TxView, block_hash};
 use std::alloc::{AllocError, Global};
 
 // The inputs that take a coin.
-fn spending_inputs(tx: &Tx) -> &[TxIn]
+fn spending_inputs<'b, 'a>(tx: &'b TxView<'a>) -> &'b [TxInView<'a>]
     ensures { result.now ≡ spec.spending_inputs tx.now }
 {
-    if is_coinbase(tx) {
+    if tx.is_coinbase() {
         return &[];
     }
-    tx.inputs.as_slice()
+    tx.inputs()
 }
 
 // The outpoints of inputs.
-fn outpoints(alloc: Global, inputs: &[TxIn]) -> Result<Vec<Outpoint>, AllocError>
+fn outpoints(alloc: Global, inputs: &[TxInView<'_>]) -> Result<Vec<Outpoint>, AllocError>
     ensures { IfOk result (λ v. v.items ≡ map (λ (i : input.TxIn). i.from) inputs.now) }
 {
-    inputs.iter().map(|i| i.from).collect(alloc)
+    inputs.iter().map(|i| i.from()).collect(alloc)
 }
 
 // An output's value, and its script hash.
-fn paid(output: &TxOut) -> (u64, Hash32)
+fn paid(output: &TxOutView<'_>) -> (u64, Hash32)
     ensures { result ≡ spec.paid output.now }
 {
-    (output.value, sha256(output.script.as_slice()))
+    (output.value(), sha256(output.script()))
 }
 
 // The values and the script hashes of outputs.
-fn paid_all(alloc: Global, outputs: &[TxOut]) -> Result<Vec<(u64, Hash32)>, AllocError>
+fn paid_all(alloc: Global, outputs: &[TxOutView<'_>]) -> Result<Vec<(u64, Hash32)>, AllocError>
     ensures { IfOk result (λ v. v.items ≡ map spec.paid outputs.now) }
 {
     outputs.iter().map(|o| paid(o)).collect(alloc)
 }
 
 // A transaction whose bytes begin there, with that txid.
-fn prepare_tx(alloc: Global, start: u32, txid: Hash32, tx: &Tx) -> Result<PreparedTx, OutOfMemory>
+fn prepare_tx(
+    alloc: Global,
+    start: u32,
+    txid: Hash32,
+    tx: &TxView<'_>,
+) -> Result<PreparedTx, OutOfMemory>
     requires hashed { txid ≡ hashing.txid tx.now }
     requires small { length (full_encoding tx.now) < 2 ^ 32 }
     ensures { IfOk result (λ p. p ≡ spec.prepared_tx start tx.now) }
 {
-    let len = sizes_of(tx).full as u32;
+    let len = tx.full_len() as u32;
     let inputs = outpoints(alloc, spending_inputs(tx))?;
-    let outputs = paid_all(alloc, tx.outputs.as_slice())?;
+    let outputs = paid_all(alloc, tx.outputs())?;
     Ok(PreparedTx {
         txid,
         start,
@@ -71,7 +76,7 @@ fn prepare_tx(alloc: Global, start: u32, txid: Hash32, tx: &Tx) -> Result<Prepar
 fn prepare_txs(
     alloc: Global,
     first: u32,
-    txs: &[Tx],
+    txs: &[TxView<'_>],
     txids: &[Hash32],
 ) -> Result<Listed<PreparedTx>, OutOfMemory>
     requires hashed { txids.now ≡ blocks.txids txs.now }
@@ -92,7 +97,7 @@ fn prepare_txs(
 fn prepare_block(
     alloc: Global,
     bytes: &[u8],
-    block: &Block,
+    block: &BlockView<'_>,
     txids: &[Hash32],
 ) -> Result<Prepared, OutOfMemory>
     requires encoded { EncodesBlock bytes.now block.now }
@@ -102,8 +107,9 @@ fn prepare_block(
     let (front, _) = bytes.split_at(80);
     let mut header = [0u8; 80];
     header.copy_from_slice(front);
-    let first = 80 + compact_len(block.txs.len() as u64) as u32;
-    let txs = prepare_txs(alloc, first, block.txs.as_slice(), txids)?;
+    let list = block.txs();
+    let first = 80 + compact_len(list.len() as u64) as u32;
+    let txs = prepare_txs(alloc, first, list, txids)?;
     Ok(Prepared {
         hash: block_hash(&header),
         header,
@@ -133,7 +139,7 @@ pub fn prepare_one(alloc: Global, bytes: &[u8]) -> Result<Prepared, BlockFault>
     ensures first_fault { result ≢ Err BlockFault.Memory → (e : BlockFault) → FirstBlockFault bytes.now e
         → result ≡ Err e }
 {
-    let (block, txids) = decode_with_txids(alloc, bytes)?;
+    let (block, txids) = view_with_txids(alloc, bytes)?;
     let prepared = prepare_block(alloc, bytes, &block, txids.as_slice())?;
     Ok(prepared)
 }

@@ -213,6 +213,14 @@ is_full_encoding bytes t (with_witness is some e) = rw some e
 pub full_encoded : (t : Tx) → HasEncoding t → Encodes (full_encoding t) t
 full_encoded t has = subst (λ (b : List ℕ). Encodes b t) (is_full_encoding has.0 t has.1) has.1
 
+-- as many bytes are passed as encode the transaction
+pub size_read : (bytes : List ℕ) (t : Tx) (left : Left) → AreBytes bytes → tx_at (start bytes) ≡ Ok (t, left) → left.place ≡ length (full_encoding t)
+size_read bytes t left fits is =
+    let s = at_ok (tx_at (start bytes)) (t, left) (tx_sound bytes fits) is in
+    let place = s.1.place in
+    let same = ap length (is_full_encoding s.0 t s.2) in
+    omega arith
+
 pub one_fault : (bytes : List ℕ) (e f : TxFault) → FirstFault bytes e → FirstFault bytes f → e ≡ f
 one_fault bytes e f s r =
     let one = tx_refuses bytes e s in

@@ -10,7 +10,7 @@ use el_base::{Hash32, OutOfMemory, sha256d};
 use std::alloc::Global;
 
 // The outpoint of a coinbase's input; it names no output.
-const NO_OUTPUT: Outpoint = Outpoint {
+pub(crate) const NO_OUTPUT: Outpoint = Outpoint {
     txid: Hash32([0; 32]),
     index: u32::MAX,
 };

@@ -8,8 +8,9 @@ ghost use Rattle.el_tx.specs.within.Reading.{Gives, bytes_at, number_at, count_a
 
 use crate::fault::TxFault;
 use crate::types::Outpoint;
-use el_base::{Bytes, CompactFault, Cursor, Hash32, OutOfMemory, Short, read_compact};
-use std::alloc::Global;
+use crate::views::BytesView;
+use el_base::{CompactFault, Cursor, Hash32, OutOfMemory, Short, read_compact};
+use std::alloc::AllocError;
 
 /// Why nothing was read.
 #[derive(Clone, Copy, Debug)]
@@ -24,6 +25,14 @@ impl From<OutOfMemory> for ReadError {
     ghost from_gives = { λ _ e. e ≡ Memory };
 
     fn from(_: OutOfMemory) -> Self {
+        ReadError::Memory
+    }
+}
+
+impl From<AllocError> for ReadError {
+    ghost from_gives = { λ _ e. e ≡ Memory };
+
+    fn from(_: AllocError) -> Self {
         ReadError::Memory
     }
 }
@@ -103,12 +112,12 @@ pub fn count_of(c: &mut Cursor<'_>) -> Result<u64, ReadError>
 
 /// Bytes after their number.
 #[tactic(auto, unfolding(crate::specs::within::Reading::sized_at))]
-pub fn sized_of(alloc: Global, c: &mut Cursor<'_>) -> Result<Bytes, ReadError>
+pub fn sized_of<'a>(c: &mut Cursor<'a>) -> Result<BytesView<'a>, ReadError>
     ensures { Gives (λ x. x) result c.new (sized_at c.old) }
 {
     let n = count_of(c)?;
     let front = bytes_of(c, n)?;
-    Ok(Bytes::from_slice(alloc, front)?)
+    Ok(BytesView::new(front))
 }
 
 /// The outpoint that an input spends.

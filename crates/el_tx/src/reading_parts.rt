@@ -3,33 +3,42 @@ ghost use Rattle.std.specs.Prelude.{◌≡◌, ◌+◌, ◌≤◌, [], length, I
 ghost use Rattle.el_tx.specs.Encoding.{max_money};
 ghost use Rattle.el_tx.specs.within.Reading.{Gives, input_at, inputs_at, value_at, output_at, outputs_at, items_at, stack_at, stacks_at, witnesses_at, some_inputs_at, some_outputs_at, body_at};
 
-use crate::encode::some_witness;
 use crate::fault::TxFault;
 use crate::reading::{ReadError, count_of, outpoint_of, sized_of, u32_of, u64_of};
-use crate::types::{MAX_MONEY, TxIn, TxOut};
-use el_base::{Bytes, Cursor, Listed};
+use crate::types::MAX_MONEY;
+use crate::view_size::some_witness;
+use crate::views::{BytesView, TxInView, TxOutView};
+use el_base::{Cursor, Listed};
 use std::alloc::Global;
+
+// How many to have room for, of so many that are announced: no more than the bytes that are left can hold.
+fn room(count: u64, most: usize) -> usize {
+    if count < most as u64 {
+        count as usize
+    } else {
+        most
+    }
+}
 
 // An input, as yet without its witness.
 #[tactic(auto, unfolding(crate::specs::within::Reading::input_at))]
-fn input_of(alloc: Global, c: &mut Cursor<'_>) -> Result<TxIn, ReadError>
+fn input_of<'a>(alloc: Global, c: &mut Cursor<'a>) -> Result<TxInView<'a>, ReadError>
     ensures { Gives (λ x. x) result c.new (input_at c.old) }
 {
     let from = outpoint_of(c)?;
-    let script = sized_of(alloc, c)?;
+    let script = sized_of(c)?;
     let sequence = u32_of(c)?;
-    Ok(TxIn {
-        from,
-        script,
-        sequence,
-        witness: Listed::new(alloc),
-    })
+    Ok(TxInView::new(alloc, from, script, sequence))
 }
 
-fn inputs_of(alloc: Global, c: &mut Cursor<'_>, count: u64) -> Result<Listed<TxIn>, ReadError>
+fn inputs_of<'a>(
+    alloc: Global,
+    c: &mut Cursor<'a>,
+    count: u64,
+) -> Result<Listed<TxInView<'a>>, ReadError>
     ensures { Gives (λ x. x) result c.new (inputs_at count c.old) }
 {
-    let mut inputs = Listed::new(alloc);
+    let mut inputs = Listed::from_vec(Vec::with_capacity(alloc, room(count, c.left() / 41))?);
     for _ in 0..count {
         let input = input_of(alloc, c)?;
         inputs.push(input)?;
@@ -38,7 +47,7 @@ fn inputs_of(alloc: Global, c: &mut Cursor<'_>, count: u64) -> Result<Listed<TxI
 }
 
 #[tactic(auto, unfolding(crate::specs::within::Reading::some_inputs_at))]
-fn some_inputs_of(alloc: Global, c: &mut Cursor<'_>) -> Result<Listed<TxIn>, ReadError>
+fn some_inputs_of<'a>(alloc: Global, c: &mut Cursor<'a>) -> Result<Listed<TxInView<'a>>, ReadError>
     ensures { Gives (λ x. x) result c.new (some_inputs_at c.old) }
 {
     let count = count_of(c)?;
@@ -63,31 +72,38 @@ fn value_of(c: &mut Cursor<'_>, index: usize, sum: u64) -> Result<u64, ReadError
 }
 
 #[tactic(auto, unfolding(crate::specs::within::Reading::output_at))]
-fn output_of(alloc: Global, c: &mut Cursor<'_>, index: usize, sum: u64) -> Result<TxOut, ReadError>
+fn output_of<'a>(c: &mut Cursor<'a>, index: usize, sum: u64) -> Result<TxOutView<'a>, ReadError>
     requires { sum ≤ max_money }
     ensures output { Gives (λ x. x) result c.new (output_at index sum c.old) }
     ensures bound { IfOk result (λ output. sum + output.value ≤ max_money) }
 {
     let value = value_of(c, index, sum)?;
-    let script = sized_of(alloc, c)?;
-    Ok(TxOut { value, script })
+    let script = sized_of(c)?;
+    Ok(TxOutView::new(value, script))
 }
 
-fn outputs_of(alloc: Global, c: &mut Cursor<'_>, count: u64) -> Result<Listed<TxOut>, ReadError>
+fn outputs_of<'a>(
+    alloc: Global,
+    c: &mut Cursor<'a>,
+    count: u64,
+) -> Result<Listed<TxOutView<'a>>, ReadError>
     ensures { Gives (λ x. x) result c.new (outputs_at count c.old) }
 {
-    let mut outputs = Listed::new(alloc);
+    let mut outputs = Listed::from_vec(Vec::with_capacity(alloc, room(count, c.left() / 9))?);
     let mut sum = 0;
     for _ in 0..count {
-        let output = output_of(alloc, c, outputs.len(), sum)?;
-        sum += output.value;
+        let output = output_of(c, outputs.len(), sum)?;
+        sum += output.value();
         outputs.push(output)?;
     }
     Ok(outputs)
 }
 
 #[tactic(auto, unfolding(crate::specs::within::Reading::some_outputs_at))]
-fn some_outputs_of(alloc: Global, c: &mut Cursor<'_>) -> Result<Listed<TxOut>, ReadError>
+fn some_outputs_of<'a>(
+    alloc: Global,
+    c: &mut Cursor<'a>,
+) -> Result<Listed<TxOutView<'a>>, ReadError>
     ensures { Gives (λ x. x) result c.new (some_outputs_at c.old) }
 {
     let count = count_of(c)?;
@@ -99,10 +115,10 @@ fn some_outputs_of(alloc: Global, c: &mut Cursor<'_>) -> Result<Listed<TxOut>, R
 
 /// The inputs, as yet without their witnesses, and the outputs.
 #[tactic(auto, unfolding(crate::specs::within::Reading::body_at))]
-pub fn body_of(
+pub fn body_of<'a>(
     alloc: Global,
-    c: &mut Cursor<'_>,
-) -> Result<(Listed<TxIn>, Listed<TxOut>), ReadError>
+    c: &mut Cursor<'a>,
+) -> Result<(Listed<TxInView<'a>>, Listed<TxOutView<'a>>), ReadError>
     ensures { Gives (λ x. x) result c.new (body_at c.old) }
 {
     let inputs = some_inputs_of(alloc, c)?;
@@ -110,12 +126,16 @@ pub fn body_of(
     Ok((inputs, outputs))
 }
 
-fn items_of(alloc: Global, c: &mut Cursor<'_>, count: u64) -> Result<Listed<Bytes>, ReadError>
+fn items_of<'a>(
+    alloc: Global,
+    c: &mut Cursor<'a>,
+    count: u64,
+) -> Result<Listed<BytesView<'a>>, ReadError>
     ensures { Gives (λ x. x) result c.new (items_at count c.old) }
 {
     let mut items = Listed::new(alloc);
     for _ in 0..count {
-        let item = sized_of(alloc, c)?;
+        let item = sized_of(c)?;
         items.push(item)?;
     }
     Ok(items)
@@ -123,7 +143,7 @@ fn items_of(alloc: Global, c: &mut Cursor<'_>, count: u64) -> Result<Listed<Byte
 
 // The witness of one input.
 #[tactic(auto, unfolding(crate::specs::within::Reading::stack_at))]
-fn stack_of(alloc: Global, c: &mut Cursor<'_>) -> Result<Listed<Bytes>, ReadError>
+fn stack_of<'a>(alloc: Global, c: &mut Cursor<'a>) -> Result<Listed<BytesView<'a>>, ReadError>
     ensures { Gives (λ x. x) result c.new (stack_at c.old) }
 {
     let count = count_of(c)?;
@@ -131,40 +151,30 @@ fn stack_of(alloc: Global, c: &mut Cursor<'_>) -> Result<Listed<Bytes>, ReadErro
 }
 
 // The inputs with their witnesses.
-fn stacks_of(
+fn stacks_of<'a>(
     alloc: Global,
-    c: &mut Cursor<'_>,
-    inputs: Listed<TxIn>,
-) -> Result<Listed<TxIn>, ReadError>
-    ensures { Gives (λ x. x) result c.new (stacks_at [] inputs c.old) }
+    c: &mut Cursor<'a>,
+    inputs: Listed<TxInView<'a>>,
+) -> Result<Listed<TxInView<'a>>, ReadError>
+    ensures { Gives (λ x. x) result c.new (stacks_at [] inputs.entry c.old) }
 {
-    let mut full = Listed::new(alloc);
-    for input in inputs.into_vec() {
-        let TxIn {
-            from,
-            script,
-            sequence,
-            witness: _,
-        } = input;
+    let list = inputs.into_vec();
+    let mut full = Listed::from_vec(Vec::with_capacity(alloc, list.len())?);
+    for input in list {
         let witness = stack_of(alloc, c)?;
-        full.push(TxIn {
-            from,
-            script,
-            sequence,
-            witness,
-        })?;
+        full.push(input.with_witness(witness))?;
     }
     Ok(full)
 }
 
 /// The inputs with their witnesses, of which some is not empty.
 #[tactic(auto, unfolding(crate::specs::within::Reading::witnesses_at))]
-pub fn witnesses_of(
+pub fn witnesses_of<'a>(
     alloc: Global,
-    c: &mut Cursor<'_>,
-    inputs: Listed<TxIn>,
-) -> Result<Listed<TxIn>, ReadError>
-    ensures { Gives (λ x. x) result c.new (witnesses_at inputs c.old) }
+    c: &mut Cursor<'a>,
+    inputs: Listed<TxInView<'a>>,
+) -> Result<Listed<TxInView<'a>>, ReadError>
+    ensures { Gives (λ x. x) result c.new (witnesses_at inputs.entry c.old) }
 {
     let full = stacks_of(alloc, c, inputs)?;
     if !some_witness(full.as_slice()) {

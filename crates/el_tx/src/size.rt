@@ -20,7 +20,7 @@ pub struct Sizes {
 }
 
 // A CompactSize.
-fn compact_size(n: usize) -> u128
+pub(crate) fn compact_size(n: usize) -> u128
     ensures size { result ≡ length (compact n) }
     ensures most { result < 10 }
 {
@@ -28,7 +28,7 @@ fn compact_size(n: usize) -> u128
 }
 
 // Bytes after their number.
-fn sized_size(bytes: &[u8]) -> u128
+pub(crate) fn sized_size(bytes: &[u8]) -> u128
     ensures size { result ≡ length (sized bytes.now) }
     ensures most { result < 2 ^ 65 }
 {

@@ -5,7 +5,7 @@ use Rattle.el_tx.proofs.reading_parts.inputs_of.Goals as goal
 
 pub returns-in_err-input : goal.returns-in_err-input
 returns-in_err-input c =
-    let p = err_from_is_err_and c.from_residual.result c.from_residual.ensures.1 in
+    let p = err_from_is_err_and c.from_residual-in_err-input.result c.from_residual-in_err-input.ensures.1 in
     rw (p.1, p.2) (ends (λ _. input_at) c.in_err-input.field-0.0 c.loop.inputs c.args.count c.loop.counter c.loop.c (inputs_at c.args.count c.args.c.now) c.loop-test.true c.in_err-input.ensures c.loop.invariant)
 
 pub loop-preserved : goal.loop-preserved
