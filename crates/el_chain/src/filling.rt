@@ -1,5 +1,5 @@
 // Buffers, and filling them from the block files.
-ghost use Rattle.std.specs.Prelude.{◌≡◌, ◌-◌, nat_le, length, take, drop, IfOk, IsTrue};
+ghost use Rattle.std.specs.Prelude.{◌≡◌, ◌+◌, ◌-◌, nat_le, length, take, drop, IfOk, IsTrue};
 ghost use Rattle.el_outside.specs.Counts.{OnlyReads};
 
 use el_base::OutOfMemory;
@@ -26,6 +26,7 @@ pub fn fill<A: Archive>(
         (λ full. full ≡ nat_le (length buffer.old) (length (A.bytes archive.new file) - at)) }
     ensures filled { A.tells → IfOk result
         (λ full. IsTrue full → buffer.new ≡ take (length buffer.old) (drop at (A.bytes archive.new file))) }
+    ensures called { A.calls archive.new ≡ A.calls archive.old + 1 }
     ensures only_reads { OnlyReads A.tells (A.bytes archive.old) (A.bytes archive.new)
         (A.faults archive.old) (A.faults archive.new) (record {}) result }
 {

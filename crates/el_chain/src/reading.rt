@@ -59,6 +59,7 @@ pub fn read_part<A: Archive>(
     ensures part { A.tells → IfOk result
         (λ v. v.items ≡ take len (drop (place.offset + skipped) (A.bytes archive.new place.file))) }
     ensures within { IfOk result (λ v. length v.items ≤ len) }
+    ensures calls { A.calls archive.new ≤ A.calls archive.old + 1 }
     ensures only_reads { OnlyReads A.tells (A.bytes archive.old) (A.bytes archive.new)
         (A.faults archive.old) (A.faults archive.new) ScanFault.ArchiveFailed result }
 {
@@ -118,6 +119,7 @@ pub fn read_block<A: Archive>(
     ensures stays { A.tells → (magic file : List ℕ) → IsRecordIn magic node.now.place.file file node.now
         → Grows file (A.bytes archive.old node.now.place.file)
         → IfOk result (λ v. v.items ≡ block_at node.now.place file) × IfChanged result (λ wanted found. ⊥) }
+    ensures calls { A.calls archive.new ≤ A.calls archive.old + 1 }
     ensures only_reads { OnlyReads A.tells (A.bytes archive.old) (A.bytes archive.new)
         (A.faults archive.old) (A.faults archive.new) ReadFault.ArchiveFailed result }
 {

@@ -1,5 +1,5 @@
 -- What a scan of the block files finds.
-use Rattle.std.specs.Prelude.{◌≡◌, ℕ, ◌+◌, ◌<◌, ◌≤◌, List, [], length, drop, Some}
+use Rattle.std.specs.Prelude.{◌≡◌, ℕ, zero, suc, ◌+◌, ◌-◌, ◌/◌, ◌<◌, ◌≤◌, List, [], length, drop, Some}
 use Rattle.el_outside.specs.Files.{AllGrow, IsFile}
 use Rattle.el_outside.specs.declared.archive.TheConstants.{SIZE_LIMIT}
 pub use Rattle.el_chain.specs.Records.{IsRecordIn}
@@ -7,7 +7,7 @@ use Rattle.el_chain.specs.Records.{IsNode, node_at}
 use Rattle.el_block.specs.declared.limits.TheConstants.{MAX_BLOCK_WEIGHT}
 use Rattle.el_chain.specs.declared.limits.TheConstants.{MIN_BLOCK_SIZE}
 use Rattle.el_chain.specs.declared.node.Node.{Node}
-use Rattle.el_files.specs.declared.limits.TheConstants.{HEAD_SIZE}
+use Rattle.el_files.specs.declared.limits.TheConstants.{HEAD_SIZE, PIECE_SIZE}
 use Rattle.el_chain.specs.declared.limits.TheConstants.{PREFIX_SIZE}
 
 -- A block that was found in the block files. Its record ends where a file can.
@@ -59,3 +59,19 @@ pub record AllFiles {A : Type 0} (bytes : A → ℕ → List ℕ) (file_count : 
   pub files : ℕ → List ℕ
   pub each : (file : ℕ) → IsFile (bytes told file) (files file) (bytes now file)
   pub none_after : (file : ℕ) → file_count told ≤ file → files file ≡ []
+
+-- The most calls of a scan of a file of this size: its size is asked, and it is read in pieces, each of which
+-- but the last goes on by all its bytes but those that are too few for a head.
+abbrev pub calls_for : ℕ → ℕ
+calls_for size = 2 + size / (PIECE_SIZE - HEAD_SIZE + 1)
+
+-- those of a scan of the first n files, whose number is asked
+abbrev pub calls_for_files : ℕ → (ℕ → List ℕ) → ℕ
+calls_for_files zero files = 1
+calls_for_files (suc n) files = calls_for_files n files + calls_for (length (files n))
+
+-- A scan of all files of an archive that tells made these calls at most. `before` and `now` are the archive
+-- before the scan and after.
+abbrev pub ScansOnce : {A : Type 0} → Type 0 → (A → ℕ → List ℕ) → (A → ℕ) → (A → ℕ) → A → A → Type 0
+ScansOnce tells bytes file_count calls before now = tells → (all : AllFiles bytes file_count before now)
+    × (calls now ≤ calls before + calls_for_files (file_count all.told) (bytes now))

@@ -1,5 +1,5 @@
 // A record of a block file, by its place.
-ghost use Rattle.std.specs.Prelude.{◌≡◌, ℕ, List, length, drop, IfOk, IfSome};
+ghost use Rattle.std.specs.Prelude.{◌≡◌, ◌≤◌, ◌+◌, ℕ, List, length, drop, IfOk, IfSome};
 ghost use Rattle.el_outside.specs.Counts.{OnlyReads};
 ghost use Rattle.el_outside.specs.Files.{IsFile};
 ghost use Rattle.el_chain.specs.Records.{node_at};
@@ -26,6 +26,8 @@ pub fn record_at<A: Archive>(
         × (found ≡ node_at magic file at (drop at bytes) (length (drop at bytes)))) }
     // Whatever the file is, what is found is a node at that place, whose head was read.
     ensures node { IfOk result (λ found. IfSome found (IsFoundAt A.gave magic file at)) }
+    // The size is asked once, and the head is read once.
+    ensures calls { A.calls archive.new ≤ A.calls archive.old + 2 }
     ensures only_reads { OnlyReads A.tells (A.bytes archive.old) (A.bytes archive.new)
         (A.faults archive.old) (A.faults archive.new) (record {}) result }
 {

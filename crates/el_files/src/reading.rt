@@ -1,5 +1,5 @@
 // Transactions of the block files, by their places.
-ghost use Rattle.std.specs.Prelude.{◌≡◌, ◌≢◌, ℕ, List, Some, length, IfOk, IfErr, IfSome, OnOk};
+ghost use Rattle.std.specs.Prelude.{◌≡◌, ◌≢◌, ◌≤◌, ◌+◌, ℕ, List, Some, length, IfOk, IfErr, IfSome, OnOk};
 ghost use Rattle.el_outside.specs.Counts.{OnlyReads};
 ghost use Rattle.el_chain.specs.Reading.{IfChanged};
 ghost use Rattle.el_files.specs.Reading.{IsTxOf, IsOtherTx, text_at};
@@ -84,6 +84,7 @@ pub fn read_tx<A: Archive>(
     // It has changed where the bytes that stand there are not those of such a transaction.
     ensures changed { A.tells → IfChanged result (λ id found.
         IsOtherTx spot.now.len wanted (text_at spot.now (A.bytes archive.new spot.now.place.file)) found) }
+    ensures calls { A.calls archive.new ≤ A.calls archive.old + 1 }
     ensures only_reads { OnlyReads A.tells (A.bytes archive.old) (A.bytes archive.new)
         (A.faults archive.old) (A.faults archive.new) ReadFault.ArchiveFailed result }
 {

@@ -5,10 +5,10 @@ ghost use Rattle.el_outside.specs.Files.{Grows, IsFile};
 ghost use Rattle.el_chain.specs.Records.{records, records_of_files};
 ghost use Rattle.el_outside.specs.declared.archive.TheConstants.{MOST_FILES, SIZE_LIMIT};
 ghost use Rattle.el_files.specs.Appending.{AppendsOnly, AppendsFront};
-ghost use Rattle.el_files.specs.Scanning.{IsFoundIn, IsFoundBelow, AllFiles};
+ghost use Rattle.el_files.specs.Scanning.{IsFoundIn, IsFoundBelow, AllFiles, calls_for, ScansOnce};
 ghost use Rattle.el_files.specs.within.Walking.{Walked};
 
-use crate::limits::{MIN_RECORD_SIZE, PIECE_SIZE};
+use crate::limits::{HEAD_SIZE, MIN_RECORD_SIZE, PIECE_SIZE};
 use crate::walk::walk;
 use el_chain::{Node, ScanFault, fill, zeros};
 use el_outside::Archive;
@@ -35,6 +35,8 @@ fn scan_piece<A: Archive>(
         × IfOk result (λ next. next ≡ at + passed) }
     ensures nodes { AppendsOnly (IsFoundIn A.gave magic file) found.old.items found.new.items }
     ensures goes { IfOk result (λ next. (at < next) × (next ≤ size)) }
+    ensures far { IfOk result (λ next. next + MIN_RECORD_SIZE ≤ size → at + PIECE_SIZE < next + HEAD_SIZE) }
+    ensures called { A.calls archive.new ≡ A.calls archive.old + 1 }
     ensures only_reads { OnlyReads A.tells (A.bytes archive.old) (A.bytes archive.new)
         (A.faults archive.old) (A.faults archive.new) ScanFault.ArchiveFailed result }
 {
@@ -63,6 +65,8 @@ fn scan_through<A: Archive>(
         × IsFile (A.bytes archive.old file) bytes (A.bytes archive.new file)
         × AppendsFront (records magic file bytes) found.old.items found.new.items) }
     ensures nodes { AppendsOnly (IsFoundIn A.gave magic file) found.old.items found.new.items }
+    ensures calls { A.tells
+        → A.calls archive.new ≤ A.calls archive.old + calls_for (length (A.bytes archive.new file)) }
     ensures only_reads { OnlyReads A.tells (A.bytes archive.old) (A.bytes archive.new)
         (A.faults archive.old) (A.faults archive.new) ScanFault.ArchiveFailed result }
 {
@@ -101,6 +105,9 @@ pub fn scan_file<A: Archive>(
         × AppendsFront (records magic file bytes) found.old.items found.new.items) }
     // Whatever the file is, what was appended are nodes of it, whose heads were read.
     ensures nodes { AppendsOnly (IsFoundIn A.gave magic file) found.old.items found.new.items }
+    // Its size is asked once, and each piece is read once.
+    ensures calls { A.tells
+        → A.calls archive.new ≤ A.calls archive.old + calls_for (length (A.bytes archive.new file)) }
     ensures only_reads { OnlyReads A.tells (A.bytes archive.old) (A.bytes archive.new)
         (A.faults archive.old) (A.faults archive.new) ScanFault.ArchiveFailed result }
 {
@@ -131,6 +138,8 @@ pub fn scan<A: Archive>(
         found.old.items found.new.items)) }
     // Whatever the files are, what was appended are nodes of files that there can be, whose heads were read.
     ensures nodes { AppendsOnly (IsFoundBelow A.gave magic MOST_FILES) found.old.items found.new.items }
+    // The number of files is asked once, and each is scanned once.
+    ensures calls { OnOk result (ScansOnce A.tells A.bytes A.file_count A.calls archive.old archive.new) }
     ensures only_reads { OnlyReads A.tells (A.bytes archive.old) (A.bytes archive.new)
         (A.faults archive.old) (A.faults archive.new) ScanFault.ArchiveFailed result }
 {

@@ -20,6 +20,7 @@ pub(crate) fn write_synced<D: Disk>(disk: &mut D, at: u64, bytes: &[u8]) -> Resu
     ensures durable { D.tells → OnOk result
         (OnDisk JOURNAL (D.seen disk.new) (LeftNow D.moment D.left_since disk.new)) }
     ensures crash { D.tells → OnlyJournal ⟦<D as Disk>⟧ (Torn at (length bytes.now)) disk.old disk.new }
+    ensures calls { D.calls disk.new ≤ D.calls disk.old + 2 }
     ensures cause { HasCause (D.faults disk.old) (D.faults disk.new) result }
 {
     disk.write_at(JOURNAL, at, bytes)?;
@@ -34,6 +35,7 @@ fn write_two<D: Disk>(disk: &mut D, at: u64, first: &[u8], second: &[u8]) -> Res
     ensures short { OnOk result (at + (length first.now + length second.now) < SIZE_LIMIT) }
     ensures crash { D.tells → OnlyJournal ⟦<D as Disk>⟧
         (Torn at (length first.now + length second.now)) disk.old disk.new }
+    ensures calls { D.calls disk.new ≤ D.calls disk.old + 2 }
     ensures cause { HasCause (D.faults disk.old) (D.faults disk.new) result }
 {
     disk.write_at(JOURNAL, at, first)?;
@@ -55,6 +57,7 @@ fn write_body<D: Disk>(disk: &mut D, at: u64, bytes: &[u8]) -> Result<(), DiskFa
     ensures short { OnOk result (at + (9 + length bytes.now) < SIZE_LIMIT) }
     ensures crash { D.tells
         → OnlyJournal ⟦<D as Disk>⟧ (Torn at (9 + length bytes.now)) disk.old disk.new }
+    ensures calls { D.calls disk.new ≤ D.calls disk.old + 3 }
     ensures cause { HasCause (D.faults disk.old) (D.faults disk.new) result }
 {
     let length = number_bytes(bytes.len() as u64);
@@ -62,7 +65,7 @@ fn write_body<D: Disk>(disk: &mut D, at: u64, bytes: &[u8]) -> Result<(), DiskFa
     disk.write_at(JOURNAL, at + 8 + bytes.len() as u64, &[0])
 }
 
-// The same, synced.
+// Writes an entry's length, its bytes and a closed gate, and syncs them.
 fn stage<D: Disk>(disk: &mut D, at: u64, bytes: &[u8]) -> Result<(), DiskFailed>
     requires { D.tells → at ≤ length (D.seen disk.old JOURNAL) }
     ensures written { D.tells → OnOk result
@@ -72,6 +75,7 @@ fn stage<D: Disk>(disk: &mut D, at: u64, bytes: &[u8]) -> Result<(), DiskFailed>
     ensures short { OnOk result (at + (9 + length bytes.now) < SIZE_LIMIT) }
     ensures crash { D.tells
         → OnlyJournal ⟦<D as Disk>⟧ (Torn at (9 + length bytes.now)) disk.old disk.new }
+    ensures calls { D.calls disk.new ≤ D.calls disk.old + 4 }
     ensures cause { HasCause (D.faults disk.old) (D.faults disk.new) result }
 {
     write_body(disk, at, bytes)?;
@@ -88,6 +92,7 @@ pub(crate) fn append_at<D: Disk>(disk: &mut D, end: u64, bytes: &[u8]) -> Result
         → OnlyJournal ⟦<D as Disk>⟧ (λ old new. HasEither entries bytes.now new) disk.old disk.new }
     ensures end { IfOk result (λ e. e ≡ end + (9 + length bytes.now)) }
     ensures small { IfOk result (λ e. e < SIZE_LIMIT) }
+    ensures calls { D.calls disk.new ≤ D.calls disk.old + 6 }
     ensures cause { HasCause (D.faults disk.old) (D.faults disk.new) result }
 {
     stage(disk, end + 1, bytes)?;

@@ -1,5 +1,5 @@
 // A journal over a disk.
-ghost use Rattle.std.specs.Prelude.{◌≡◌, ◌≢◌, ◌⊎◌, ◌<◌, ◌≤◌, ◌+◌, ◌↔◌, ℕ, List, [], ◌∷◌, ◌++◌, get_or, length, OnOk, IfOk, IfErr, IsTrue, MatchResult};
+ghost use Rattle.std.specs.Prelude.{◌≡◌, ◌≢◌, ◌⊎◌, ◌<◌, ◌≤◌, ◌+◌, ◌-◌, ◌↔◌, ℕ, List, [], ◌∷◌, ◌++◌, get_or, length, OnOk, IfOk, IfErr, IsTrue, MatchResult};
 ghost use Rattle.el_outside.specs.Counts.{HasCause, CountsOnly};
 ghost use Rattle.el_journal.specs.Entries.{HasEntries, IsBad, SameJournal};
 ghost use Rattle.el_journal.specs.Journals.{Holds, OnlyJournal, IsOnlyRead, HasEither, disk_in, opened};
@@ -62,6 +62,9 @@ pub fn open_journal<D: Disk>(alloc: Global, mut disk: D) -> Result<Journal<D>, (
     // Each image that a crash since the start may leave is one that it might have left before, with the same
     // journal.
     ensures crash { D.tells → OnlyJournal ⟦<D as Disk>⟧ SameJournal disk (disk_in result) }
+    // The gate of each entry is read once, besides the sync, the size, the gate after the last, and where the
+    // file is begun a write and a sync.
+    ensures calls { IfOk result (λ journal. D.calls journal.disk ≤ D.calls disk + (journal.count + 4)) }
     ensures cause { CountsOnly (D.faults disk) (D.faults (disk_in result)) fault.DiskFailed (opened result) }
 {
     match open(&mut disk) {
@@ -110,6 +113,11 @@ impl<D: Disk> Journal<D> {
         ensures next { OnOk result (self.new.mark.number ≡ i + 1) }
         ensures count { self.new.count ≡ self.old.count }
         ensures read { D.tells → IsOnlyRead ⟦<D as Disk>⟧ self.old.disk self.new.disk }
+        // Its length and its bytes are read, and the lengths of those from the mark, or the front, up to it.
+        ensures calls { self.old.mark.number ≤ i → D.calls self.new.disk
+            ≤ D.calls self.old.disk + (i - self.old.mark.number + 2) }
+        ensures calls_from_front { i < self.old.mark.number → D.calls self.new.disk
+            ≤ D.calls self.old.disk + (i + 2) }
         ensures cause { CountsOnly (D.faults self.old.disk) (D.faults self.new.disk)
             entry_fault.DiskFailed result }
     {
@@ -136,6 +144,8 @@ impl<D: Disk> Journal<D> {
             self.old.disk self.new.disk }
         ensures count { OnOk result (self.new.count ≡ self.old.count + 1) }
         ensures mark { self.new.mark ≡ self.old.mark }
+        // Three writes and a sync, and then the gate's.
+        ensures calls { D.calls self.new.disk ≤ D.calls self.old.disk + 6 }
         ensures cause { HasCause (D.faults self.old.disk) (D.faults self.new.disk) result }
     {
         self.end = append_at(&mut self.disk, self.end, bytes)?;

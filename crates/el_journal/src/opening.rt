@@ -24,6 +24,7 @@ fn gate_at<D: Disk>(disk: &mut D, place: u64, size: u64) -> Result<Gate, DiskFai
         → IfOk result (λ found. Begins found (drop place (D.seen disk.old JOURNAL))) }
     ensures within { IfOk result (λ found. (n : ℕ) → found ≡ gate.Open n → 9 + n < size - place) }
     ensures read { D.tells → IsOnlyRead ⟦<D as Disk>⟧ disk.old disk.new }
+    ensures called { D.calls disk.new ≡ D.calls disk.old + 1 }
     ensures cause { HasCause (D.faults disk.old) (D.faults disk.new) result }
 {
     let mut front = [0; 9];
@@ -44,6 +45,7 @@ fn walk<D: Disk>(disk: &mut D, size: u64) -> Result<Mark, JournalFault>
     ensures room { IfOk result (λ end. 9 * end.number ≤ end.place) }
     ensures within { IfOk result (λ end. end.place < size) }
     ensures read { D.tells → IsOnlyRead ⟦<D as Disk>⟧ disk.old disk.new }
+    ensures calls { IfOk result (λ end. D.calls disk.new ≡ D.calls disk.old + (end.number + 1)) }
     ensures cause { CountsOnly (D.faults disk.old) (D.faults disk.new) fault.DiskFailed result }
 {
     let mut mark = FIRST;
@@ -70,6 +72,7 @@ pub(crate) fn open<D: Disk>(disk: &mut D) -> Result<Mark, JournalFault>
     ensures seen { D.tells → 2 ≤ length (D.seen disk.old JOURNAL)
         → OnOk result (D.seen disk.new ≡ D.seen disk.old) }
     ensures crash { D.tells → OnlyJournal ⟦<D as Disk>⟧ SameJournal disk.old disk.new }
+    ensures calls { IfOk result (λ end. D.calls disk.new ≤ D.calls disk.old + (end.number + 4)) }
     ensures cause { CountsOnly (D.faults disk.old) (D.faults disk.new) fault.DiskFailed result }
 {
     disk.sync(JOURNAL)?;

@@ -1,5 +1,5 @@
 // Reading entries.
-ghost use Rattle.std.specs.Prelude.{◌≡◌, ◌≢◌, ◌<◌, ◌≤◌, ◌+◌, ◌^◌, ◌++◌, ℕ, List, [], length, drop, get_or, None, Some, IfOk, IfErr};
+ghost use Rattle.std.specs.Prelude.{◌≡◌, ◌≢◌, ◌<◌, ◌≤◌, ◌+◌, ◌-◌, ◌^◌, ◌++◌, ℕ, List, [], length, drop, get_or, None, Some, IfOk, IfErr};
 ghost use Rattle.std.specs.Int.{w64, from_le_bytes};
 ghost use Rattle.el_outside.specs.Counts.{CountsOnly};
 ghost use Rattle.el_journal.specs.declared.fault.EntryFault.TheVariants as fault;
@@ -32,6 +32,7 @@ fn length_at<D: Disk>(disk: &mut D, place: u64) -> Result<u64, EntryFault>
         → drop place (D.seen disk.old JOURNAL) ≡ entry_bytes entry ++ rest
         → IfErr result (λ e. (cut : ℕ) → e ≢ fault.BadJournal cut) }
     ensures read { D.tells → IsOnlyRead ⟦<D as Disk>⟧ disk.old disk.new }
+    ensures called { D.calls disk.new ≡ D.calls disk.old + 1 }
     ensures cause { CountsOnly (D.faults disk.old) (D.faults disk.new) fault.DiskFailed result }
 {
     let mut front = [0; 8];
@@ -52,6 +53,7 @@ fn next<D: Disk>(disk: &mut D, mark: Mark) -> Result<Mark, EntryFault>
         → IfErr result (λ e. (cut : ℕ) → e ≢ fault.BadJournal cut) }
     ensures number { IfOk result (λ m. m.number ≡ mark.number + 1) }
     ensures read { D.tells → IsOnlyRead ⟦<D as Disk>⟧ disk.old disk.new }
+    ensures called { D.calls disk.new ≡ D.calls disk.old + 1 }
     ensures cause { CountsOnly (D.faults disk.old) (D.faults disk.new) fault.DiskFailed result }
 {
     let length = length_at(disk, mark.place)?;
@@ -68,6 +70,7 @@ pub(crate) fn find<D: Disk>(disk: &mut D, from: Mark, i: u64) -> Result<Mark, En
         → IfErr result (λ e. (cut : ℕ) → e ≢ fault.BadJournal cut) }
     ensures number { IfOk result (λ m. m.number ≡ i) }
     ensures read { D.tells → IsOnlyRead ⟦<D as Disk>⟧ disk.old disk.new }
+    ensures calls { D.calls disk.new ≤ D.calls disk.old + (i - from.number) }
     ensures cause { CountsOnly (D.faults disk.old) (D.faults disk.new) fault.DiskFailed result }
 {
     let mut mark = from;
@@ -92,6 +95,7 @@ pub(crate) fn read_entry<D: Disk>(
         → end ≡ length (journal_bytes entries) → IsMark mark entries → mark.number < length entries
         → IfErr result (λ e. (cut : ℕ) → e ≢ fault.BadJournal cut) }
     ensures read { D.tells → IsOnlyRead ⟦<D as Disk>⟧ disk.old disk.new }
+    ensures calls { D.calls disk.new ≤ D.calls disk.old + 2 }
     ensures cause { CountsOnly (D.faults disk.old) (D.faults disk.new) fault.DiskFailed result }
 {
     let start = mark.place.saturating_add(9);

@@ -22,6 +22,10 @@ lists_in store = tables_of store.rows.rows
 abbrev pub disk_below : {D N : Type 0} → LogStore D N → D
 disk_below store = store.journal.disk
 
+-- how many commits its journal keeps
+abbrev pub commits_of : {D N : Type 0} → LogStore D N → ℕ
+commits_of store = store.journal.count
+
 -- the journal has entries that make the store's rows, for the network with this magic
 pub record IsKept {D N : Type 0} (G : disk.Ghosts D) (magic : List ℕ) (store : LogStore D N) : Type 0 where
   pub entries : List (List ℕ)

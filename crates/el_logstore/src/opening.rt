@@ -1,5 +1,5 @@
 // Opening a store.
-ghost use Rattle.std.specs.Prelude.{◌≡◌, ◌≢◌, ◌⊎◌, ◌<◌, ℕ, List, [], length, get_or, OnOk, IfOk, IfErr, MatchResult};
+ghost use Rattle.std.specs.Prelude.{◌≡◌, ◌≢◌, ◌⊎◌, ◌<◌, ◌≤◌, ◌+◌, ◌*◌, ℕ, List, [], length, get_or, OnOk, IfOk, IfErr, IsErrOf, MatchResult};
 ghost use Rattle.el_outside.specs.Counts.{CountsOnly};
 ghost use Rattle.el_outside.specs.Disk.{Image};
 ghost use Rattle.el_outside.specs.Moments.{LeftNow};
@@ -7,11 +7,11 @@ ghost use Rattle.el_row_formats.specs.Tables.{Tables, tables_of};
 ghost use Rattle.el_rows.specs.Reads.{Same};
 ghost use Rattle.el_rows.specs.Changes.{Update, under};
 ghost use Rattle.el_journal.specs.declared.mark.TheConstants.{JOURNAL};
-ghost use Rattle.el_journal.specs.Entries.{SameJournal};
+ghost use Rattle.el_journal.specs.Entries.{IsBad, SameJournal};
 ghost use Rattle.el_journal.specs.Journals.{Holds, IsOnlyRead, OnlyJournal};
 ghost use Rattle.el_redo.specs.declared.faults.OpenFault.TheVariants as fault;
 ghost use Rattle.el_logstore.specs.Images.{Shows, Makes, Commits, no_rows, HasNoCommitAt, IsBadIndex};
-ghost use Rattle.el_logstore.specs.Stores.{IsLive, lists_in, disk_below, disk_in, opened, fault_of};
+ghost use Rattle.el_logstore.specs.Stores.{IsLive, lists_in, disk_below, commits_of, disk_in, opened, fault_of};
 
 use crate::LogStore;
 use el_journal::{EntryFault, JOURNAL, Journal, JournalFault, open_journal};
@@ -32,6 +32,9 @@ fn body_of<D: Disk>(journal: &mut Journal<D>, i: u64) -> Result<Vec<u8>, OpenFau
         → Holds ⟦<D as Disk>⟧ journal.new entries }
     ensures count { journal.new.count ≡ journal.old.count }
     ensures read { D.tells → IsOnlyRead ⟦<D as Disk>⟧ journal.old.disk journal.new.disk }
+    ensures next { OnOk result (journal.new.mark.number ≡ i + 1) }
+    ensures calls { (i ≡ 0) ⊎ (journal.old.mark.number ≡ i)
+        → D.calls journal.new.disk ≤ D.calls journal.old.disk + 2 }
     ensures cause { CountsOnly (D.faults journal.old.disk) (D.faults journal.new.disk)
         fault.DiskFailed result }
 {
@@ -55,6 +58,9 @@ fn redo(rows: &mut VecRows, magic: [u8; 4], body: &[u8], i: u64) -> Result<(), O
         → (file ≡ JOURNAL) × (wanted ≡ 1) × (found ≡ i)
         × ((update : Update) → Commits magic (tables_of rows.old.rows) body.now update → ⊥)) }
     ensures no_disk { IfErr result (λ e. e ≢ fault.DiskFailed) }
+    // That it spells none is told without memory.
+    ensures memory { IsErrOf result fault.Memory
+        → (update : Update) × Commits magic (tables_of rows.old.rows) body.now update }
 {
     match apply(rows, magic, body) {
         Ok(()) => Ok(()),
@@ -82,6 +88,8 @@ fn replay<D: Disk>(
     ensures stays { (entries : List (List ℕ)) → Holds ⟦<D as Disk>⟧ journal.old entries
         → Holds ⟦<D as Disk>⟧ journal.new entries }
     ensures read { D.tells → IsOnlyRead ⟦<D as Disk>⟧ journal.old.disk journal.new.disk }
+    ensures count { journal.new.count ≡ journal.old.count }
+    ensures calls { D.calls journal.new.disk ≤ D.calls journal.old.disk + 2 * journal.old.count }
     ensures cause { CountsOnly (D.faults journal.old.disk) (D.faults journal.new.disk)
         fault.DiskFailed result }
 {
@@ -133,10 +141,17 @@ pub fn open_log<D: Disk, N: NetworkMagic>(
     ensures is_bad { D.tells → (wanted found : ℕ) → IsBadIndex N.magic (D.seen disk) wanted found
         → MatchResult result (λ _. ⊥) (λ e. (e.0 ≡ fault.DiskFailed) ⊎ ((e.0 ≡ fault.Memory)
         ⊎ (e.0 ≡ fault.BadIndex JOURNAL wanted found))) }
+    // That the journal is cut is told without memory.
+    ensures is_cut { D.tells → (place : ℕ) → IsBad place (D.seen disk JOURNAL)
+        → MatchResult result (λ _. ⊥) (λ e. (e.0 ≡ fault.DiskFailed)
+        ⊎ (e.0 ≡ fault.BadIndex JOURNAL 0 place)) }
     // No file but the journal's is written, and each image that a crash since the start may leave is one that
     // it might have left before, with the same entries in its journal, or cut at the same place: whatever it
     // stood for, for this network or another, it stands for.
     ensures crash { D.tells → OnlyJournal ⟦<D as Disk>⟧ SameJournal disk (disk_in result) }
+    // Each entry's gate, its length and its bytes are read once, besides what an empty journal asks for.
+    ensures calls { IfOk result (λ store.
+        D.calls (disk_below store) ≤ D.calls disk + (3 * commits_of store + 4)) }
     ensures cause { CountsOnly (D.faults disk) (D.faults (disk_in result)) fault.DiskFailed (opened result) }
 {
     let mut journal = match open_journal(alloc, disk) {

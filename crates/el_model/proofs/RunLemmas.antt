@@ -8,7 +8,7 @@ use Rattle.el_base.specs.declared.hash.Hash32.{Hash32}
 use Rattle.el_base.proofs.Lists.{left_at}
 use Rattle.el_chain.specs.Chains.{tip, zero_hash}
 use Rattle.el_chain.specs.Headers.{AreLinked}
-use Rattle.el_chain.specs.Moves.{IsPlan, FitsChain, InFlight, shorter, last_hash}
+use Rattle.el_chain.specs.Moves.{IsPlan, FitsChain, InFlight, IsRefused, shorter, last_hash}
 use Rattle.el_chain.specs.declared.node.Node.{Node}
 use Rattle.el_model.specs.Going.{FollowOn, AreMovesOf}
 use Rattle.std.proofs.Common.{◌-◌}
@@ -35,8 +35,8 @@ module _ (tells : Type 0) (start : Chain) (plans : List Plan) (n : ℕ) (sent : 
   told_at next top height more moves is_top is_height is_more =
       rw (is_more, is_top, is_height) (subst (λ (l : List Plan). Told tells start l (sent ++ mark.At (tip_of next) (height_of next) ∷ []) next) one_more (at (take n plans) sent acked p next told moves))
 
-  pub told_refused : (e : MoveFault) (more : List Mark) → more ≡ sent ++ mark.Refused e ∷ [] → Told tells start (take (n + 1) plans) more acked
-  told_refused e more is_more = rw is_more (subst (λ (l : List Plan). Told tells start l (sent ++ mark.Refused e ∷ []) acked) one_more (refused (take n plans) sent acked p e told))
+  pub told_refused : (e : MoveFault) (files : ℕ → List ℕ) (more : List Mark) → IsRefused tells files acked p e → more ≡ sent ++ mark.Refused e ∷ [] → Told tells start (take (n + 1) plans) more acked
+  told_refused e files more why is_more = rw is_more (subst (λ (l : List Plan). Told tells start l (sent ++ mark.Refused e ∷ []) acked) one_more (refused (take n plans) sent acked p e files told why))
 
   -- where nothing was sent of the move
   pub safe_in_flight : {C : Type 0} (tells_crash : Type 0) (means : C → Chain → Type 0) (left : C → Type 0) (next : Chain) (same : List Mark) → length sent ≡ n → same ≡ sent → ((next ≡ acked) ⊎ Leads tells p acked next)

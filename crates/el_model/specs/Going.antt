@@ -5,7 +5,7 @@ use Rattle.el_chain.specs.declared.moves.Plan.{Plan}
 use Rattle.el_chain.specs.declared.moves.MoveFault.{MoveFault}
 use Rattle.el_chain.specs.Chains.{Chain, zero_hash}
 use Rattle.el_chain.specs.Headers.{AreLinked}
-use Rattle.el_chain.specs.Moves.{IsPlan, FitsChain, Moves, target, last_hash}
+use Rattle.el_chain.specs.Moves.{IsPlan, FitsChain, IsRefused, Moves, target, last_hash}
 use Rattle.el_model.specs.Queries.{height_of, tip_of}
 use Rattle.el_model.specs.Keeping.{Either}
 use Rattle.el_model.specs.declared.going.Mark.{Mark}
@@ -31,6 +31,10 @@ Leads tells p chain next =
     (files : ℕ → List ℕ) × (blocks : Chain) × Moves tells files chain p blocks
     × (next ≡ target p chain blocks)
 
+-- the last that was told is a refusal
+abbrev pub EndsRefused : List Mark → Type 0
+EndsRefused sent = (before : List Mark) × (e : MoveFault) × (sent ≡ before ++ mark.Refused e ∷ [])
+
 -- Moves whose outcome was told, what was told of them, and the chain that is then acknowledged, from the
 -- first chain on.
 pub data Told (tells : Type 0) (start : Chain) : List Plan → List Mark → Chain → Type 0 where
@@ -39,7 +43,7 @@ pub data Told (tells : Type 0) (start : Chain) : List Plan → List Mark → Cha
       → Told tells start plans sent chain → Leads tells p chain next
       → Told tells start (plans ++ p ∷ []) (sent ++ mark.At (tip_of next) (height_of next) ∷ []) next
   refused : (plans : List Plan) (sent : List Mark) (chain : Chain) (p : Plan) (e : MoveFault)
-      → Told tells start plans sent chain
+      (files : ℕ → List ℕ) → Told tells start plans sent chain → IsRefused tells files chain p e
       → Told tells start (plans ++ p ∷ []) (sent ++ mark.Refused e ∷ []) chain
 
 -- What is in flight: the acknowledged chain, or the target of the next move, of which nothing was told.

@@ -1,7 +1,8 @@
 // Moves, one after the other, as a server makes them.
-ghost use Rattle.std.specs.Prelude.{◌≡◌, ℕ, List, [], length, OnOk};
+ghost use Rattle.std.specs.Prelude.{◌≡◌, ℕ, List, [], length, OnOk, IsErrOf};
 ghost use Rattle.el_chain.specs.Chains.{Chain};
-ghost use Rattle.el_model.specs.Going.{AreMovesOf, IsSafe, WasSafe};
+ghost use Rattle.el_model.specs.Going.{AreMovesOf, EndsRefused, IsSafe, WasSafe};
+ghost use Rattle.el_outside.specs.Counts.{CountsOnly};
 ghost use Rattle.el_outside.specs.Moments.{LeavesOnly};
 ghost use Rattle.el_model.specs.declared.going.Stop.TheVariants as stop;
 
@@ -66,6 +67,9 @@ pub fn go_on<G: Ledger, A: Archive>(
         → LeavesOnly G.moment G.left_since ledger.old ledger.new
         (WasSafe A.tells G.means plans.now chain sent.new) }
     ensures all { OnOk result (length sent.new ≡ length plans.now) }
+    // It ends early for the cause that it answers: a move that is told as refused, or a device that failed.
+    ensures refused { IsErrOf result Stop.Refused → EndsRefused sent.new }
+    ensures cause { CountsOnly (G.faults ledger.old) (G.faults ledger.new) Stop.DiskFailed result }
 {
     for plan in plans {
         match ledger.go(alloc, plan, archive) {

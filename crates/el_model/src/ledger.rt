@@ -27,7 +27,7 @@ pub trait Ledger {
     /// The ledger stands for the chain.
     ghost stands: { Self → Chain → Type 0 };
 
-    /// No call on its device has failed since it was opened.
+    /// It may be called: no commit on its device has failed since it was opened.
     ghost is_live: { Self → Type 0 };
 
     /// The height of the last block.
@@ -192,8 +192,8 @@ pub trait Ledger {
     /// # Errors
     ///
     /// In this order: `ArchiveFailed`; `Changed` for the first block whose bytes don't begin with its header;
-    /// `BadBlock` or `Refused` for the first block in chain order that has a fault. After `DiskFailed` the
-    /// ledger isn't live; every other refusal changes nothing.
+    /// `BadBlock` or `Refused` for the first block in chain order that has a fault. After `DiskFailed`
+    /// nothing says that the ledger is live; every other refusal changes nothing.
     fn go<A: Archive>(
         &mut self,
         alloc: Global,
@@ -228,6 +228,8 @@ pub trait Ledger {
             → (next : Chain) × InFlight A.tells (A.bytes archive.new) chain plan.now next
             × (tells_crash → LeavesOnly moment left_since self.old self.new (Either means chain next)) }
         ensures cause { CountsOnly (faults self.old) (faults self.new) MoveFault.DiskFailed result }
+        // Each block is read once at most.
+        ensures calls { A.calls archive.new ≤ A.calls archive.old + length plan.now.forward }
         ensures reads { OnlyReads A.tells (A.bytes archive.old) (A.bytes archive.new) (A.faults archive.old)
             (A.faults archive.new)
             MoveFault.ArchiveFailed result };

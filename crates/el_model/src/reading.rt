@@ -1,15 +1,26 @@
 // The bytes of all blocks of a move.
-ghost use Rattle.std.specs.Prelude.{◌≡◌, IfOk, IfErr};
+ghost use Rattle.std.specs.Prelude.{◌≡◌, ◌≤◌, ◌+◌, length, IfOk, IfErr};
 ghost use Rattle.std.specs.List.{AllByRecursion};
 ghost use Rattle.el_outside.specs.Counts.{OnlyReads};
 ghost use Rattle.el_chain.specs.Moves.{AreRead, body_of};
 ghost use Rattle.el_chain.specs.Records.{IsNode, IsBlockOf};
-ghost use Rattle.el_model.specs.within.Reading.{IsUnreadOne, IsUnread};
+ghost use Rattle.el_model.specs.within.Reading.{IsUnreadOne, IsUnread, unread_as};
 
 use el_base::Bytes;
 use el_chain::{MoveFault, Node, ReadFault, read_block};
 use el_outside::Archive;
 use std::alloc::Global;
+
+// Why the bytes of one block aren't read, as a fault of a move.
+fn unread(fault: ReadFault) -> MoveFault
+    ensures { result ≡ unread_as fault }
+{
+    match fault {
+        ReadFault::ArchiveFailed => MoveFault::ArchiveFailed,
+        ReadFault::Changed { wanted, found } => MoveFault::Changed { wanted, found },
+        ReadFault::Memory => MoveFault::Memory,
+    }
+}
 
 // The bytes of one block.
 fn read_one<A: Archive>(alloc: Global, archive: &mut A, node: &Node) -> Result<Bytes, MoveFault>
@@ -17,14 +28,13 @@ fn read_one<A: Archive>(alloc: Global, archive: &mut A, node: &Node) -> Result<B
     ensures read { IfOk result (λ text. IsBlockOf node.now text) }
     ensures told { A.tells → IfOk result (λ text. text ≡ body_of (A.bytes archive.new) node.now) }
     ensures unread { IfErr result (IsUnreadOne A.tells (A.bytes archive.new) node.now) }
+    ensures calls { A.calls archive.new ≤ A.calls archive.old + 1 }
     ensures only_reads { OnlyReads A.tells (A.bytes archive.old) (A.bytes archive.new)
         (A.faults archive.old) (A.faults archive.new) MoveFault.ArchiveFailed result }
 {
     match read_block(alloc, archive, node) {
         Ok(bytes) => Ok(Bytes::from_vec(bytes)),
-        Err(ReadFault::ArchiveFailed) => Err(MoveFault::ArchiveFailed),
-        Err(ReadFault::Changed { wanted, found }) => Err(MoveFault::Changed { wanted, found }),
-        Err(ReadFault::Memory) => Err(MoveFault::Memory),
+        Err(fault) => Err(unread(fault)),
     }
 }
 
@@ -37,6 +47,8 @@ pub fn read_all<A: Archive>(
     requires { AllByRecursion IsNode nodes.now }
     ensures read { IfOk result (λ texts. AreRead A.tells (A.bytes archive.new) nodes.now texts.items) }
     ensures unread { IfErr result (IsUnread A.tells (A.bytes archive.new) nodes.now) }
+    // Each is read once.
+    ensures calls { A.calls archive.new ≤ A.calls archive.old + length nodes.now }
     ensures only_reads { OnlyReads A.tells (A.bytes archive.old) (A.bytes archive.new)
         (A.faults archive.old) (A.faults archive.new) MoveFault.ArchiveFailed result }
 {

@@ -1,5 +1,5 @@
 // The plain ledger.
-ghost use Rattle.std.specs.Prelude.{◌≡◌, ◌≢◌, ◌⊎◌, ◌+◌, ◌-◌, ◌++◌, ◌∷◌, [], ◌<◌, ◌^◌, length, None, Some, IfOk, IfErr, OnOk, OnErr};
+ghost use Rattle.std.specs.Prelude.{◌≡◌, ◌≢◌, ◌⊎◌, ◌+◌, ◌-◌, ◌++◌, ◌∷◌, [], ◌<◌, ◌≤◌, ◌^◌, length, None, Some, IfOk, IfErr, OnOk, OnErr};
 ghost use Rattle.el_outside.specs.Counts.{OnlyReads};
 ghost use Rattle.el_block.specs.Blocks.{HasBlockEncoding};
 ghost use Rattle.el_chain.specs.Chains.{Chain, tip, zero_hash};
@@ -123,6 +123,7 @@ impl PlainLedger {
         // There is no device of an index that could fail.
         ensures no_disk { IfErr result (λ e. e ≢ MoveFault.DiskFailed) }
         ensures unchanged { OnErr result (self.new ≡ self.old) }
+        ensures calls { A.calls archive.new ≤ A.calls archive.old + length plan.now.forward }
         ensures reads { OnlyReads A.tells (A.bytes archive.old) (A.bytes archive.new) (A.faults archive.old)
             (A.faults archive.new) MoveFault.ArchiveFailed result }
     {

@@ -221,6 +221,19 @@ four_are (a ∷ b ∷ c ∷ []) is = absurd (omega (arith, is))
 four_are (a ∷ b ∷ c ∷ d ∷ []) is = refl
 four_are (a ∷ b ∷ c ∷ d ∷ e ∷ xs) is = absurd (omega (arith, is))
 
+pub eight_are : (xs : List ℕ) → length xs ≡ 8
+    → get_or xs 0 0 ∷ get_or xs 1 0 ∷ get_or xs 2 0 ∷ get_or xs 3 0 ∷ get_or xs 4 0 ∷ get_or xs 5 0 ∷ get_or xs 6 0 ∷ get_or xs 7 0 ∷ [] ≡ xs
+eight_are [] is = absurd (omega (arith, is))
+eight_are (a ∷ []) is = absurd (omega (arith, is))
+eight_are (a ∷ b ∷ []) is = absurd (omega (arith, is))
+eight_are (a ∷ b ∷ c ∷ []) is = absurd (omega (arith, is))
+eight_are (a ∷ b ∷ c ∷ d ∷ []) is = absurd (omega (arith, is))
+eight_are (a ∷ b ∷ c ∷ d ∷ e ∷ []) is = absurd (omega (arith, is))
+eight_are (a ∷ b ∷ c ∷ d ∷ e ∷ f ∷ []) is = absurd (omega (arith, is))
+eight_are (a ∷ b ∷ c ∷ d ∷ e ∷ f ∷ g ∷ []) is = absurd (omega (arith, is))
+eight_are (a ∷ b ∷ c ∷ d ∷ e ∷ f ∷ g ∷ h ∷ []) is = refl
+eight_are (a ∷ b ∷ c ∷ d ∷ e ∷ f ∷ g ∷ h ∷ i ∷ xs) is = absurd (omega (arith, is))
+
 -- the counts that were read are those of all tables
 pub counts_of : (ns : List ℕ) → length ns ≡ 8 → map (count_at ns) all_tables ≡ ns
 counts_of [] is = absurd (omega (arith, is))
@@ -276,10 +289,10 @@ number_put start old new bytes ns i lt is put was =
     ∙ ap (λ (l : List ℕ). start ++ (numbers_bytes (take i ns) ++ l)) is
     ∙ ap (λ (l : List ℕ). start ++ l) (sym (numbers_more (take i ns) (get_or ns i 0)) ∙ ap numbers_bytes (sym (take_more ns i 0 lt)))
 
-pub change_put : (k : RowKey) (row start one two three number : List ℕ) → one ≡ start ++ number_of k.table ∷ [] → number ≡ to_le_bytes w64 k.row → two ≡ one ++ number → three ≡ two ++ row
+pub change_put : (k : RowKey) (row start two three number : List ℕ) → number ≡ to_le_bytes w64 k.row → two ≡ start ++ number_of k.table ∷ number → three ≡ two ++ row
     → three ≡ start ++ change_bytes (k, row)
-change_put k row start one two three number first is second third =
-    third ∙ ap (λ (l : List ℕ). l ++ row) (second ∙ ap (λ (l : List ℕ). one ++ l) is ∙ ap (λ (l : List ℕ). l ++ to_le_bytes w64 k.row) first ∙ append_assoc start (number_of k.table ∷ []) (to_le_bytes w64 k.row))
+change_put k row start two three number is second third =
+    third ∙ ap (λ (l : List ℕ). l ++ row) (second ∙ ap (λ (l : List ℕ). start ++ number_of k.table ∷ l) is)
     ∙ append_assoc start (number_of k.table ∷ to_le_bytes w64 k.row) row ∙ ap (λ (l : List ℕ). start ++ l) (change_is k row)
 
 pub changes_put : (old new meta : List ℕ) (changes : Changes) (i : ℕ) (e : RowKey × List ℕ) → slice_get changes i ≡ Some e → new ≡ old ++ change_bytes e → old ≡ meta ++ changes_bytes (take i changes)

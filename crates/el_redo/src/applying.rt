@@ -1,5 +1,5 @@
 // Making the tables those after a commit.
-ghost use Rattle.std.specs.Prelude.{◌≡◌, length, Err, OnOk, OnErr};
+ghost use Rattle.std.specs.Prelude.{◌≡◌, length, Err, OnOk, OnErr, IsErrOf};
 ghost use Rattle.el_row_formats.specs.Tables.{tables_of};
 ghost use Rattle.el_rows.specs.Reads.{Same};
 ghost use Rattle.el_rows.specs.Changes.{Update, under};
@@ -24,6 +24,9 @@ pub fn apply(rows: &mut VecRows, magic: [u8; 4], body: &[u8]) -> Result<(), Redo
         × Same (under (tables_of rows.old.rows) update.counts update.changes) (tables_of rows.new.rows)) }
     ensures no_commit { result ≡ Err RedoFault.NoCommit → (update : Update)
         → IsCommit magic (λ t. length (tables_of rows.old.rows t)) body.now update → ⊥ }
+    // A body that spells none is told without memory.
+    ensures memory { IsErrOf result RedoFault.Memory → (update : Update)
+        × IsCommit magic (λ t. length (tables_of rows.old.rows t)) body.now update }
     ensures err { OnErr result (tables_of rows.new.rows ≡ tables_of rows.old.rows) }
 {
     let Some(meta) = read_meta(magic, body) else {

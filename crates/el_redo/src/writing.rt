@@ -39,25 +39,15 @@ fn meta(alloc: Global, magic: [u8; 4], sealed: &Sealed) -> Result<Bytes, OutOfMe
     Ok(body)
 }
 
-// How many bytes the changed rows take, as far as a number can tell.
-fn room(sealed: &Sealed) -> usize {
-    let mut room: usize = 0;
-    let mut k = 0;
-    while k < sealed.changes() {
-        let run = sealed.run(k);
-        let each = run.table.size() + 9;
-        room = room.saturating_add(each.saturating_mul(run.rows));
-        k += run.rows;
-    }
-    room
-}
+// How many bytes a changed row takes in a body, about: memory for so many is taken at once.
+const ABOUT: usize = 32;
 
 // Adds a changed row.
 fn put_change(body: &mut Vec<u8>, t: Table, i: u64, row: &[u8]) -> Result<(), OutOfMemory>
     ensures { OnOk result (body.new.items ≡ body.old.items ++ change_bytes (key t i, row.now)) }
 {
-    body.push(t.number())?;
-    body.extend_from_slice(&i.to_le_bytes())?;
+    let [a, b, c, d, e, f, g, h] = i.to_le_bytes();
+    body.extend_from_slice(&[t.number(), a, b, c, d, e, f, g, h])?;
     body.extend_from_slice(row)?;
     Ok(())
 }
@@ -107,7 +97,7 @@ pub fn redo_body(alloc: Global, magic: [u8; 4], sealed: &Sealed) -> Result<Bytes
     ensures { IfOk result (λ b. b ≡ redo_body magic sealed.now) }
 {
     let mut body = meta(alloc, magic, sealed)?.into_vec();
-    body.reserve_exact(room(sealed))?;
+    body.reserve(sealed.changes().saturating_mul(ABOUT))?;
     put_changes(&mut body, sealed)?;
     Ok(Bytes::from_vec(body))
 }

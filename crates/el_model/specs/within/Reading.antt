@@ -3,8 +3,16 @@ use Rattle.std.specs.Prelude.{◌≡◌, ℕ, List, ⊤}
 use Rattle.el_chain.specs.declared.node.Node.{Node}
 use Rattle.el_chain.specs.declared.moves.MoveFault.{MoveFault}
 use Rattle.el_chain.specs.declared.moves.MoveFault.TheVariants as stop
+use Rattle.el_chain.specs.declared.read_fault.ReadFault.{ReadFault}
+use Rattle.el_chain.specs.declared.read_fault.ReadFault.TheVariants as read
 use Rattle.el_chain.specs.Records.{IsOtherBlock}
 use Rattle.el_chain.specs.Moves.{HasChanged, body_of}
+
+-- a fault of reading a block, as one of a move
+abbrev pub unread_as : ReadFault → MoveFault
+unread_as read.ArchiveFailed = stop.ArchiveFailed
+unread_as (read.Changed wanted found) = stop.Changed wanted found
+unread_as read.Memory = stop.Memory
 
 -- why those of one block are not
 abbrev pub IsUnreadOne : Type 0 → (ℕ → List ℕ) → Node → MoveFault → Type 0

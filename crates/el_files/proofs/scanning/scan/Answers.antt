@@ -8,6 +8,7 @@ use Rattle.el_files.specs.Scanning.{IsFoundIn, IsFoundBelow}
 use Rattle.el_files.specs.declared.limits.TheConstants.{PIECE_SIZE}
 use Rattle.el_files.proofs.Appends.{only_none, only_joined, only_weaker, on_err}
 use Rattle.el_files.proofs.ManyFiles.{scanned_to_none, scanned_to_more, scanned_front, found_below}
+use Rattle.el_files.proofs.Counted.{one_file, up_to}
 use Rattle.el_files.proofs.Scans.{buffer_kept}
 use Rattle.el_files.proofs.scanning.scan.Goals as goal
 
@@ -18,6 +19,7 @@ loop-file-init g c = record {
       (c.in_ok-count.ensures.number t) (λ file more. g.A.Archive.none_after _ file t more);
   nodes = only_none _ _;
   reads = record { keeps = c.in_ok-count.ensures.keeps; same = c.in_ok-count.ensures.cause.uncounted };
+  calls = λ t. omega (arith, c.files.ensures.called);
   long = c.in_ok-buffer.ensures;
 }
 
@@ -53,6 +55,8 @@ loop-file-preserved g c =
           (only_weaker (IsFoundIn g.A.Archive.gave c.args.magic c.loop-file.file) (IsFoundBelow g.A.Archive.gave c.args.magic MOST_FILES) c.loop-file.found.items c.scan_through.new.found.items
           (λ (n : Node) h. found_below g.A.Archive.gave c.args.magic c.loop-file.file c.in_ok-count.count n c.loop-file-test.true few h) c.in_ok-scan_through.ensures.nodes);
       reads = has_more c.loop-file.invariant.reads c.in_ok-scan_through.ensures.only_reads;
+      calls = λ t. one_file c.loop-file.file (g.A.Archive.bytes c.loop-file.archive) (g.A.Archive.bytes c.scan_through.new.archive) (g.A.Archive.calls c.args.archive.now) (g.A.Archive.calls c.loop-file.archive) (g.A.Archive.calls c.scan_through.new.archive)
+          (c.loop-file.invariant.calls t) (c.scan_through.ensures.calls t) (c.in_ok-scan_through.ensures.only_reads.keeps t);
       long = buffer_kept c.loop-file.buffer.len PIECE_SIZE c.scan_through.new.buffer c.loop-file.buffer.items (search rules) c.loop-file.invariant.long (search rules);
     }
 
@@ -61,3 +65,9 @@ returns-clause-records g c = λ t.
     let s = c.loop-file.invariant.scanned t in
     let last : c.loop-file.file ≡ g.A.Archive.file_count s.all.told = let k = s.counted in omega (arith, k) in
     (s.all, s.appended ∙ ap (λ (n : ℕ). c.args.found.now.items ++ records_of_files c.args.magic n s.all.files) last)
+
+pub returns-clause-calls : goal.returns-clause-calls
+returns-clause-calls g c = λ t.
+    let s = c.loop-file.invariant.scanned t in
+    let last : c.loop-file.file ≡ g.A.Archive.file_count s.all.told = let k = s.counted in omega (arith, k) in
+    (s.all, up_to _ _ _ (g.A.Archive.calls c.args.archive.now) (g.A.Archive.calls c.loop-file.archive) last (c.loop-file.invariant.calls t))

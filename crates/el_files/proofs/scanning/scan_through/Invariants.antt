@@ -1,4 +1,4 @@
-use Rattle.std.proofs.Common.{◌-◌, ◌≤◌}
+use Rattle.std.proofs.Common.{◌+◌, ◌-◌, ◌*◌, ◌≤◌}
 use Rattle.el_outside.proofs.Calls.{HasRead}
 use Rattle.el_files.specs.Appending.{AppendsOnly}
 use Rattle.el_files.specs.Scanning.{IsFoundIn}
@@ -12,6 +12,8 @@ invariant-loop-at g l = record {
   nodes : AppendsOnly (IsFoundIn g.A.Archive.gave l.magic l.file) l.initial.found.items l.found.items;
   reads : HasRead g.A.Archive.tells (g.A.Archive.bytes l.initial.archive) (g.A.Archive.bytes l.archive) (g.A.Archive.faults l.initial.archive) (g.A.Archive.faults l.archive);
   within : l.at ≤ l.size;
+  going : l.at + 89 ≤ l.size → 65449 * g.A.Archive.calls l.archive ≤ 65449 * g.A.Archive.calls l.initial.archive + l.at;
+  calls : 65449 * g.A.Archive.calls l.archive ≤ 65449 * g.A.Archive.calls l.initial.archive + (l.size + 65449);
 }
 
 abbrev pub decreases-loop-at : goal.decreases-loop-at

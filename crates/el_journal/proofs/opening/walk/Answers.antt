@@ -19,6 +19,7 @@ loop-length-init g c = record {
   room = omega arith;
   walked = λ told. none_read (g.D.Disk.seen c.args.disk.now JOURNAL) (record { number = 0; place = 0 }) refl refl;
   read = λ told. read_none g.D.Disk c.args.disk.now;
+  calls = omega arith;
   faults = refl;
 }
 
@@ -73,6 +74,7 @@ loop-length-preserved g c =
           more_read file mark c.after-mark.result n (was.walked told) (there file mid mark.place c.in_ok-gate_at.field-0 (gate.Open n) same c.in-Open.is begins)
           c.after-mark.ensures.number next;
       read = λ told. read_more g.D.Disk (λ d t u i le left. g.met.D.Disk.earlier d t u i told le left) c.args.disk.now c.loop-length.disk c.gate_at.new.disk (was.read told) (c.gate_at.ensures.read told);
+      calls = omega (arith, was.calls, c.gate_at.ensures.called, c.after-mark.ensures.number);
       faults = c.in_ok-gate_at.ensures.cause.uncounted ∙ was.faults;
     }
 

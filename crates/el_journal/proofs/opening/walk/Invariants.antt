@@ -1,4 +1,4 @@
-use Rattle.std.proofs.Common.{◌≡◌, ◌<◌, ◌≤◌, ◌*◌, ◌-◌, ℕ, List, length}
+use Rattle.std.proofs.Common.{◌≡◌, ◌<◌, ◌≤◌, ◌+◌, ◌*◌, ◌-◌, ℕ, List, length}
 use Rattle.el_journal.specs.declared.mark.TheConstants.{JOURNAL}
 use Rattle.el_journal.specs.Journals.{IsOnlyRead}
 use Rattle.el_journal.proofs.Readings.{HasRead}
@@ -10,6 +10,7 @@ invariant-loop-length g l = record {
   room : 9 * l.mark.number ≤ l.mark.place;
   walked : g.D.Disk.tells → HasRead (g.D.Disk.seen l.fn.disk JOURNAL) l.mark;
   read : g.D.Disk.tells → IsOnlyRead g.D.Disk l.fn.disk l.disk;
+  calls : g.D.Disk.calls l.disk ≡ g.D.Disk.calls l.fn.disk + l.mark.number;
   faults : g.D.Disk.faults l.disk ≡ g.D.Disk.faults l.fn.disk;
 }
 

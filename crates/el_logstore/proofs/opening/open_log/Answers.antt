@@ -20,6 +20,18 @@ returns-in-Err-clause-is_bad g c told wanted found bad = ⊎_elim
     (λ none. inl (c.of_journal.ensures ∙ ap fault_of (c.in-Err.ensures.has told none.1.0 none.1.1)))
     bad
 
+pub returns-in-Err-clause-is_cut : goal.returns-in-Err-clause-is_cut
+returns-in-Err-clause-is_cut g c told place cut = ⊎_elim
+    (λ failed. inl (c.of_journal.ensures ∙ ap fault_of failed))
+    (λ is. inr (c.of_journal.ensures ∙ ap fault_of is))
+    (c.in-Err.ensures.is_bad told place cut)
+
+pub returns-in-Ok-replay-clause-is_cut : goal.returns-in-Ok-replay-clause-is_cut
+returns-in-Ok-replay-clause-is_cut g c told place cut = c.in-Ok.ensures.is_bad told place cut
+
+pub returns-in-Err-replay-clause-is_cut : goal.returns-in-Err-replay-clause-is_cut
+returns-in-Err-replay-clause-is_cut g c told place cut = absurd (c.in-Ok.ensures.is_bad told place cut)
+
 pub returns-in-Ok-replay-clause-leaves : goal.returns-in-Ok-replay-clause-leaves
 returns-in-Ok-replay-clause-leaves g c told image left =
     let found = c.in-Ok.ensures.found told in

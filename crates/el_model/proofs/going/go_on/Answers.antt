@@ -10,6 +10,7 @@ loop-plan-init g c = record {
   live = c.requires.live;
   one_each = rw c.requires.none refl;
   follow = c.requires.follow;
+  same = refl;
   told = λ chain stands. (chain, none_told g.A.Archive.tells chain c.args.sent.now c.requires.none, stands);
   ever = λ chain stands tells. ever_begins g.A.Archive.tells g.G.Ledger.means _ _ c.args.plans.now c.args.ledger.now chain c.args.sent.now c.requires.none (λ i left. g.met.G.Ledger.leaves_own c.args.ledger.now chain i tells c.requires.live stands left);
 }
@@ -68,6 +69,8 @@ returns-in_err-push-in_default g c = record {
       l.means l.moment l.left_since c.args.ledger.now c.loop-plan.ledger c.go.new.self c.push-in_default.new.self [] was.0 c.loop-plan.invariant.one_each (c.in_err-push-in_default.ensures.err ∙ sym (append-nil _)) (inl refl) (c.loop-plan.invariant.ever start stands tells)
       (refused_either l.means l.moment l.left_since c.loop-plan.ledger c.go.new.self was.0 (quiet_leaves l.is_live l.height l.tip l.buckets l.stands l.tells_crash l.moment l.left_since l.means c.loop-plan.ledger c.go.new.self c.loop-plan.invariant.live g.met.G.Ledger.leaves_own quiet tells was.0 was.2));
   all = search rules;
+  refused = λ is. search rules;
+  cause = search rules;
 }
 
 -- the refusal is told
@@ -77,7 +80,7 @@ returns-in_default g c = record {
       let l = g.G.Ledger in
       let was = c.loop-plan.invariant.told start stands in
       let quiet = c.in-Err.ensures.unchanged c.in_default.not-DiskFailed in
-      let told = told_refused g.A.Archive.tells start c.args.plans.now c.loop-plan.plan-index c.loop-plan.sent was.0 c.plan-item.result _ c.loop-plan-test.true c.plan-item.is was.1 _ c.push-in_default.new.self c.in_ok-push-in_default.ensures.ok in
+      let told = told_refused g.A.Archive.tells start c.args.plans.now c.loop-plan.plan-index c.loop-plan.sent was.0 c.plan-item.result _ c.loop-plan-test.true c.plan-item.is was.1 _ _ c.push-in_default.new.self (c.in-Err.ensures.refused was.0 was.2) c.in_ok-push-in_default.ensures.ok in
       safe_at_rest g.A.Archive.tells l.tells_crash l.means _ c.args.plans.now start (c.loop-plan.plan-index + 1) c.push-in_default.new.self c.push-in_default.new.self was.0
       (one_each_more c.loop-plan.sent c.push-in_default.new.self _ c.loop-plan.plan-index c.loop-plan.invariant.one_each c.in_ok-push-in_default.ensures.ok) refl told
       (λ tells i left. g.met.G.Ledger.leaves_own c.go.new.self was.0 i tells (quiet.stays.still_live c.loop-plan.invariant.live) (quiet.stays.still_stands was.0 was.2) left);
@@ -89,12 +92,19 @@ returns-in_default g c = record {
       l.means l.moment l.left_since c.args.ledger.now c.loop-plan.ledger c.go.new.self c.push-in_default.new.self _ was.0 c.loop-plan.invariant.one_each c.in_ok-push-in_default.ensures.ok (inl refl) (c.loop-plan.invariant.ever start stands tells)
       (refused_either l.means l.moment l.left_since c.loop-plan.ledger c.go.new.self was.0 (quiet_leaves l.is_live l.height l.tip l.buckets l.stands l.tells_crash l.moment l.left_since l.means c.loop-plan.ledger c.go.new.self c.loop-plan.invariant.live g.met.G.Ledger.leaves_own quiet tells was.0 was.2));
   all = tt;
+  refused = λ is. (c.loop-plan.sent, _, c.in_ok-push-in_default.ensures.ok);
+  cause = record {
+    counted = λ is. absurd cc;
+    uncounted = tt;
+    others_uncounted = λ other. c.in-Err.ensures.cause.others_uncounted c.in_default.not-DiskFailed ∙ c.loop-plan.invariant.same;
+  };
 }
 
 pub loop-plan-preserved : goal.loop-plan-preserved
 loop-plan-preserved g c = record {
   live = c.in-Ok.ensures.live;
   one_each = one_each_more c.loop-plan.sent c.push.new.self _ c.loop-plan.plan-index c.loop-plan.invariant.one_each c.in_ok-push-in-Ok.ensures.ok;
+  same = c.in-Ok.ensures.cause.uncounted ∙ c.loop-plan.invariant.same;
   follow =
       let next = follows _ c.args.plans.now c.loop-plan.plan-index c.plan-item.result _ c.loop-plan.invariant.follow c.loop-plan-test.true c.plan-item.is in
       move_on (g.G.Ledger.stands c.loop-plan.ledger) (g.G.Ledger.stands c.go.new.self) (g.G.Ledger.tip c.go.new.self) c.args.plans.now c.loop-plan.plan-index c.plan-item.result next c.in-Ok.ensures.last

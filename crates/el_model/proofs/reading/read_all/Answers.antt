@@ -1,4 +1,4 @@
-use Rattle.std.proofs.Common.{◌∙◌, refl, ap, Err}
+use Rattle.std.proofs.Common.{◌∙◌, refl, ap, Err, arith}
 use Rattle.std.proofs.lemmas.Result.{err_from_is_err_and}
 use Rattle.el_chain.proofs.CoinSteps.{err_passed}
 use Rattle.el_outside.proofs.Calls.{has_more, reads_failed, reads_other}
@@ -31,5 +31,6 @@ loop-node-preserved g c =
       reading = reading_more a.tells (a.bytes c.loop-node.archive) (a.bytes c.read_one.new.archive) c.args.nodes.now c.loop-node.node-index c.loop-node.texts.items _ _
           c.in_ok-text.text c.push.new.self.items c.loop-node.invariant.reading c.loop-node-test.true refl c.in_ok-text.ensures.only_reads.keeps c.in_ok-text.ensures.read c.in_ok-text.ensures.told
           c.in_ok-push.ensures.items;
+      calls = omega (arith, c.loop-node.invariant.calls, c.read_one.ensures.calls);
       reads = has_more c.loop-node.invariant.reads c.in_ok-text.ensures.only_reads;
     }

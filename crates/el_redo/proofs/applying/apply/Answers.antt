@@ -40,3 +40,11 @@ returns-clause-ok c =
       laid_under (tables_of c.args.rows.now.rows) (tables_of c.resize.new.self.rows) c.in-Some.meta.0 made.0 laid.0 (tables_of c.lay_all.new.rows.rows) made.2 c.in_ok-resize.ensures.ok laid.2
           (sym laid.1 ∙ made.1),
     )
+
+pub returns-in_err-resize-clause-memory : goal.returns-in_err-resize-clause-memory
+returns-in_err-resize-clause-memory c told =
+    let made = c.are_made.ensures.made c.if-not-are_made.false in
+    let update : Update = record { counts = c.in-Some.meta.0; changes = made.0 } in (
+      update,
+      record { spelled = c.in-Some.ensures.some ∙ ap (λ (l : List ℕ). meta_row c.args.magic c.in-Some.meta.0 ++ l) made.1; made = made.2 },
+    )
