@@ -1,6 +1,6 @@
 -- Blocks are put in, one after the other.
-use Rattle.std.proofs.Common.{◌≡◌, ◌⊎◌, inl, inr, ℕ, zero, suc, ◌+◌, ◌-◌, ◌<◌, ◌≤◌, List, [], ◌∷◌, ◌++◌, length, take, drop, get_or, None, Some, refl, sym, ap, ◌∙◌, append_assoc, append-nil, arith}
-use Rattle.std.specs.List.{AllByRecursion}
+use Rattle.std.proofs.Common.{◌≡◌, ◌⊎◌, inl, inr, ℕ, zero, suc, ◌+◌, ◌-◌, ◌<◌, ◌≤◌, ◌||◌, List, [], ◌∷◌, ◌++◌, length, take, drop, get_or, None, Some, refl, sym, subst, ap, ◌∙◌, append_assoc, append-nil, arith}
+use Rattle.std.specs.List.{AllByRecursion, list_any}
 use Rattle.std.proofs.lemmas.List.{take_all, get_or_default}
 use Rattle.el_base.specs.declared.hash.Hash32.{Hash32}
 use Rattle.el_tx.specs.declared.types.Header.{Header}
@@ -15,17 +15,19 @@ use Rattle.el_chain.specs.declared.moves.MoveFault.{MoveFault}
 use Rattle.el_chain.specs.declared.moves.MoveFault.TheVariants as stop
 use Rattle.el_chain.specs.declared.moves.Plan.{Plan}
 use Rattle.el_chain.specs.Chains.{Chain, tip, zero_hash}
+use Rattle.el_chain.specs.Coins.{coins}
 use Rattle.el_chain.specs.Faults.{IsGood, fault}
-use Rattle.el_chain.specs.Headers.{AreLinked}
+use Rattle.el_chain.specs.Headers.{AreLinked, same_hash}
 use Rattle.el_chain.specs.Moves.{AreOf, AreBlocks, FaultInAt, IsStop, shorter}
 use Rattle.el_chain.specs.Records.{IsNode, IsBlockOf}
+use Rattle.el_chain.specs.Touches.{touches_any}
 use Rattle.el_chain.proofs.Chains.{tip_last}
 use Rattle.el_chain.proofs.DraftSteps.{header_same}
 use Rattle.el_chain.proofs.GoodChains.{next_more}
 use Rattle.el_row_formats.specs.Tables.{Tables}
 use Rattle.el_schema.specs.Standing.{StandFor}
 use Rattle.el_index.specs.within.Adding.{AreAdded, IsAfter, AreAfter, AreMoved, IsOwn}
-use Rattle.el_index.proofs.Touchings.{Law, added_none, added_more, moved_touches, whole}
+use Rattle.el_index.proofs.Touchings.{Law, moved_touches, whole}
 
 -- why a block isn't connected
 pub stopped : (chain : Chain) (hash : Hash32) (t : List ℕ) (b : Block) (f : ConnectFault) (e : MoveFault) → EncodesBlock t b
@@ -37,19 +39,18 @@ stopped chain hash t b f e s (inr (inr is)) (inl own) device memory = inl own
 stopped chain hash t b f e s (inr (inr is)) (inr e_is) device memory = inr (rw e_is (refl, (b, s, is)))
 
 -- the block that was put in
-pub is_after : (chain : Chain) (n : Node) (t : List ℕ) (old new : List Hash32) (connected rows : Tables) (b : Block) → IsNode n → IsBlockOf n t → EncodesBlock t b → b.header.previous ≡ tip chain
-    → (fault chain b ≡ None) × StandFor connected (chain ++ record { block = b; place = n.place } ∷ []) → rows ≡ connected → AreAdded chain (record { block = b; place = n.place } ∷ []) old new
-    → (x : Placed) × IsAfter chain n t old new rows x
-is_after chain n t old new connected rows b node of s names done same touched =
+pub is_after : (chain : Chain) (n : Node) (t : List ℕ) (rows : Tables) (b : Block) → IsNode n → IsBlockOf n t → EncodesBlock t b → b.header.previous ≡ tip chain
+    → (fault chain b ≡ None) × StandFor rows (chain ++ record { block = b; place = n.place } ∷ [])
+    → (x : Placed) × IsAfter chain n t rows x
+is_after chain n t rows b node of s names done =
     let x : Placed = record { block = b; place = n.place } in (
       x,
       record {
         place = refl;
         encodes = s;
         next = record { encoded = (t, s); names = names; faultless = done.0 };
-        stand = rw same done.1;
+        stand = done.1;
         hash = tip_last zero_hash chain x ∙ ap block_hash (header_same n t b node of s) ∙ sym node.hash;
-        touched = touched;
       },
     )
 
@@ -116,33 +117,32 @@ next_is nodes texts i n d t l lt is' is_text =
     }
 
 -- The blocks of the first nodes stand after the chain, and the nodes that are left go on.
-pub record IsAdding (chain : Chain) (nodes : List Node) (texts : List (List ℕ)) (i : ℕ) (old new : List Hash32) (rows : Tables) (blocks : Chain) : Type 0 where
-  pub after : AreAfter chain (take i nodes) (take i texts) old new rows blocks
+pub record IsAdding (chain : Chain) (nodes : List Node) (texts : List (List ℕ)) (i : ℕ) (rows : Tables) (blocks : Chain) : Type 0 where
+  pub after : AreAfter chain (take i nodes) (take i texts) rows blocks
   pub linked : AreLinked (tip (chain ++ blocks)) (drop i nodes)
 
-pub adding_begins : (chain : Chain) (nodes : List Node) (texts : List (List ℕ)) (scripts : List Hash32) (rows : Tables) → StandFor rows chain → AreLinked (tip chain) nodes
-    → (blocks : Chain) × IsAdding chain nodes texts 0 scripts scripts rows blocks
-adding_begins chain nodes texts scripts rows stand linked = (
+pub adding_begins : (chain : Chain) (nodes : List Node) (texts : List (List ℕ)) (rows : Tables) → StandFor rows chain → AreLinked (tip chain) nodes
+    → (blocks : Chain) × IsAdding chain nodes texts 0 rows blocks
+adding_begins chain nodes texts rows stand linked = (
   [],
   record {
     after = record {
       next = record { are = tt; next = tt };
       stand = rw (append-nil chain) stand;
-      touched = added_none chain scripts;
     };
     linked = rw (append-nil chain) linked;
   },
 )
 
 -- the next node names the last block
-pub adding_names : (chain : Chain) (nodes : List Node) (texts : List (List ℕ)) (i : ℕ) (old new : List Hash32) (rows : Tables) (blocks : Chain) (n : Node) (t : List ℕ)
-    → IsAdding chain nodes texts i old new rows blocks → NextIs nodes texts i n t → n.header.previous ≡ tip (chain ++ blocks)
-adding_names chain nodes texts i old new rows blocks n t a is = let l = rw is.left at a.linked in l.0
+pub adding_names : (chain : Chain) (nodes : List Node) (texts : List (List ℕ)) (i : ℕ) (rows : Tables) (blocks : Chain) (n : Node) (t : List ℕ)
+    → IsAdding chain nodes texts i rows blocks → NextIs nodes texts i n t → n.header.previous ≡ tip (chain ++ blocks)
+adding_names chain nodes texts i rows blocks n t a is = let l = rw is.left at a.linked in l.0
 
-pub adding_more : (chain : Chain) (nodes : List Node) (texts : List (List ℕ)) (i : ℕ) (old mid new : List Hash32) (rows rows' : Tables) (blocks : Chain) (n : Node) (t : List ℕ) (b : Placed)
-    → IsAdding chain nodes texts i old mid rows blocks → NextIs nodes texts i n t → IsAfter (chain ++ blocks) n t mid new rows' b
-    → IsAdding chain nodes texts (i + 1) old new rows' (blocks ++ b ∷ [])
-adding_more chain nodes texts i old mid new rows rows' blocks n t b a is after =
+pub adding_more : (chain : Chain) (nodes : List Node) (texts : List (List ℕ)) (i : ℕ) (rows rows' : Tables) (blocks : Chain) (n : Node) (t : List ℕ) (b : Placed)
+    → IsAdding chain nodes texts i rows blocks → NextIs nodes texts i n t → IsAfter (chain ++ blocks) n t rows' b
+    → IsAdding chain nodes texts (i + 1) rows' (blocks ++ b ∷ [])
+adding_more chain nodes texts i rows rows' blocks n t b a is after =
     let l = rw is.left at a.linked in
     let joined : (chain ++ blocks) ++ b ∷ [] ≡ chain ++ (blocks ++ b ∷ []) = append_assoc chain blocks (b ∷ []) in
     record {
@@ -152,20 +152,19 @@ adding_more chain nodes texts i old mid new rows rows' blocks n t b a is after =
           next = next_more chain blocks b a.after.next.next after.next;
         };
         stand = rw (← joined) after.stand;
-        touched = added_more chain blocks b old mid new a.after.touched after.touched;
       };
       linked = rw (← joined, after.hash) l.1;
     }
 
-pub adding_ends : (chain : Chain) (nodes : List Node) (texts : List (List ℕ)) (i : ℕ) (old new : List Hash32) (rows : Tables) (blocks : Chain)
-    → IsAdding chain nodes texts i old new rows blocks → length nodes ≤ i → length nodes ≡ length texts → AreAfter chain nodes texts old new rows blocks
-adding_ends chain nodes texts i old new rows blocks a past same = rw (take_all i nodes past, take_all i texts (omega arith)) at a.after
+pub adding_ends : (chain : Chain) (nodes : List Node) (texts : List (List ℕ)) (i : ℕ) (rows : Tables) (blocks : Chain)
+    → IsAdding chain nodes texts i rows blocks → length nodes ≤ i → length nodes ≡ length texts → AreAfter chain nodes texts rows blocks
+adding_ends chain nodes texts i rows blocks a past same = rw (take_all i nodes past, take_all i texts (omega arith)) at a.after
 
 -- the block that stops the move
-pub adding_stops : (chain : Chain) (nodes : List Node) (texts : List (List ℕ)) (i : ℕ) (old new : List Hash32) (rows : Tables) (blocks : Chain) (n : Node) (t : List ℕ) (e : MoveFault)
-    → IsAdding chain nodes texts i old new rows blocks → NextIs nodes texts i n t → IsOwn e ⊎ IsStop (chain ++ blocks) n.hash t e → IsOwn e ⊎ FaultInAt chain nodes texts e
-adding_stops chain nodes texts i old new rows blocks n t e a is (inl own) = inl own
-adding_stops chain nodes texts i old new rows blocks n t e a is (inr stop) = inr (record {
+pub adding_stops : (chain : Chain) (nodes : List Node) (texts : List (List ℕ)) (i : ℕ) (rows : Tables) (blocks : Chain) (n : Node) (t : List ℕ) (e : MoveFault)
+    → IsAdding chain nodes texts i rows blocks → NextIs nodes texts i n t → IsOwn e ⊎ IsStop (chain ++ blocks) n.hash t e → IsOwn e ⊎ FaultInAt chain nodes texts e
+adding_stops chain nodes texts i rows blocks n t e a is (inl own) = inl own
+adding_stops chain nodes texts i rows blocks n t e a is (inr stop) = inr (record {
   front = take i nodes;
   node = n;
   after = drop (i + 1) nodes;
@@ -181,9 +180,14 @@ adding_stops chain nodes texts i old new rows blocks n t e a is (inr stop) = inr
 
 -- all edits of a move
 pub are_moved : Law → (p : Plan) (chain : Chain) (texts : List (List ℕ)) (old mid new : List Hash32) (rows : Tables) (blocks : Chain) → IsGood chain → old ≡ []
-    → AreAdded (shorter p.back chain) (drop (length chain - p.back) chain) old mid → AreAfter (shorter p.back chain) p.forward texts mid new rows blocks → AreMoved p chain texts new rows blocks
-are_moved law p chain texts old mid new rows blocks good none gone after = record {
+    → AreAdded (shorter p.back chain) (drop (length chain - p.back) chain) old mid → AreAfter (shorter p.back chain) p.forward texts rows blocks
+    → ((s : Hash32) → list_any (same_hash s) new ≡ (list_any (same_hash s) mid || touches_any s.0 (coins (shorter p.back chain)) blocks)) → AreMoved p chain texts new rows blocks
+are_moved law p chain texts old mid new rows blocks good none gone after touched = record {
   next = after.next;
   stand = after.stand;
-  touched = moved_touches law chain (shorter p.back chain) (drop (length chain - p.back) chain) blocks old mid new (whole p.back chain good) after.stand.stand.good none gone after.touched;
+  touched = moved_touches law (shorter p.back chain) (drop (length chain - p.back) chain) blocks old mid new (whole p.back chain good) none gone touched;
 }
+
+-- the same rows
+pub moved_same : (p : Plan) (chain : Chain) (texts : List (List ℕ)) (new : List Hash32) (a b : Tables) (blocks : Chain) → a ≡ b → AreMoved p chain texts new a blocks → AreMoved p chain texts new b blocks
+moved_same p chain texts new a b blocks same moved = subst (λ (T : Tables). AreMoved p chain texts new T blocks) same moved

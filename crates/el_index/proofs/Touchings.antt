@@ -20,37 +20,15 @@ or_none : (b : Bool) → b ≡ (b || false)
 or_none true = refl
 or_none false = refl
 
-or_grows : (a b c : Bool) → ((a || b) || (c || false)) ≡ (a || (b || c))
-or_grows true b c = refl
-or_grows false true c = refl
-or_grows false false c = sym (or_none c)
-
 or_precedes : (a b c : Bool) → ((a || b) || (c || false)) ≡ (a || (c || b))
 or_precedes true b c = refl
 or_precedes false true true = refl
 or_precedes false true false = refl
 or_precedes false false c = sym (or_none c) ∙ or_none c
 
-or_assoc : (a b c : Bool) → (a || (b || c)) ≡ ((a || b) || c)
-or_assoc true b c = refl
-or_assoc false b c = refl
-
 -- no blocks touch nothing
 pub added_none : (chain : Chain) (scripts : List Hash32) → AreAdded chain [] scripts scripts
 added_none chain scripts s = or_none (list_any (same_hash s) scripts)
-
-among_more : (s : Hash32) (chain bs : Chain) (b : Placed) → touched_among s chain (bs ++ b ∷ []) ≡ (touched_among s chain bs || touched_in s (chain ++ bs) b)
-among_more s chain [] b = rw (append-nil chain) (sym (or_none (touched_in s chain b)))
-among_more s chain (x ∷ bs) b =
-    ap (λ t. touched_in s chain x || t) (among_more s (chain ++ x ∷ []) bs b ∙ ap (λ c. touched_among s (chain ++ x ∷ []) bs || touched_in s c b) (append_assoc chain (x ∷ []) bs))
-    ∙ or_assoc (touched_in s chain x) (touched_among s (chain ++ x ∷ []) bs) (touched_in s (chain ++ x ∷ bs) b)
-
--- one block more at the end
-pub added_more : (chain bs : Chain) (b : Placed) (old mid new : List Hash32) → AreAdded chain bs old mid → AreAdded (chain ++ bs) (b ∷ []) mid new → AreAdded chain (bs ++ b ∷ []) old new
-added_more chain bs b old mid new first second s =
-    second s ∙ ap (λ t. t || (touched_in s (chain ++ bs) b || false)) (first s)
-    ∙ or_grows (list_any (same_hash s) old) (touched_among s chain bs) (touched_in s (chain ++ bs) b)
-    ∙ ap (λ t. list_any (same_hash s) old || t) (sym (among_more s chain bs b))
 
 -- one block more at the front, which is taken back after the others
 pub added_before : (chain bs : Chain) (b : Placed) (old mid new : List Hash32) → AreAdded (chain ++ b ∷ []) bs old mid → AreAdded chain (b ∷ []) mid new → AreAdded chain (b ∷ bs) old new
@@ -77,13 +55,11 @@ Law = (base bs : Chain) (s : Hash32) → IsGood (base ++ bs)
     → touches_any s.0 (coins base) bs ≡ list_any (λ (p : Position). touches s.0 p.before p.tx) (positions_from (length base) bs (coins base))
 
 -- what was taken back and what was put in is what the move touches
-pub moved_touches : Law → (chain base gone bs : Chain) (old mid new : List Hash32) → IsGood (base ++ gone) → IsGood (base ++ bs) → old ≡ [] → AreAdded base gone old mid → AreAdded base bs mid new
-    → Touch new (coins base) (gone ++ bs)
-moved_touches law chain base gone bs old mid new good_gone good none first second s =
+pub moved_touches : Law → (base gone bs : Chain) (old mid new : List Hash32) → IsGood (base ++ gone) → old ≡ [] → AreAdded base gone old mid
+    → ((s : Hash32) → list_any (same_hash s) new ≡ (list_any (same_hash s) mid || touches_any s.0 (coins base) bs)) → Touch new (coins base) (gone ++ bs)
+moved_touches law base gone bs old mid new good_gone none first second s =
     second s
-    ∙ ap (λ t. t || touched_among s base bs) (first s ∙ ap (λ l. list_any (same_hash s) l || touched_among s base gone) none)
-    ∙ ap (λ t. t || touched_among s base bs) (among_positions s base gone ∙ sym (law base gone s good_gone))
-    ∙ ap (λ t. touches_any s.0 (coins base) gone || t) (among_positions s base bs ∙ sym (law base bs s good))
+    ∙ ap (λ t. t || touches_any s.0 (coins base) bs) (first s ∙ ap (λ l. list_any (same_hash s) l || touched_among s base gone) none ∙ among_positions s base gone ∙ sym (law base gone s good_gone))
     ∙ sym (list_any-append (λ (b : Placed). list_any (touches s.0 (coins base)) b.block.txs) gone bs)
 
 -- the last block that is left

@@ -15,10 +15,9 @@ ghost use Rattle.el_row_formats.specs.declared.table.Table.{Table};
 ghost use Rattle.el_schema.specs.Standing.{StandFor};
 ghost use Rattle.el_index.specs.within.Adding.{IsAfter, AreAfter, IsOwn};
 
-use crate::step_faults::touch;
 use el_base::{Bytes, Hash32};
 use el_block::BlockFault;
-use el_chain::{ConnectFault, MoveFault, Node, Touched};
+use el_chain::{ConnectFault, MoveFault, Node};
 use el_connect::connect;
 use el_outside::Place;
 use el_prepare::{Prepared, prepare_one};
@@ -96,21 +95,19 @@ fn connect_for<R: Rows>(
     }
 }
 
-// Puts the block of the node, which the bytes encode, after the last, and adds the script hashes that it
-// touches.
+// Puts the block of the node, which the bytes encode, after the last.
 fn add_one<R: Rows>(
     alloc: Global,
     t: &mut Txn<'_, R>,
     node: &Node,
     text: &[u8],
-    touched: &mut Touched,
 ) -> Result<(), MoveFault>
     requires live { R.is_live t.old.rows.now }
     requires node { IsNode node.now }
     requires of { IsBlockOf node.now text.now }
     ensures added { (chain : Chain) → R.tells → StandFor (tables_in t.old) chain
         → node.now.header.previous ≡ tip chain → OnOk result ((b : placed_shape.Placed)
-        × IsAfter chain node.now text.now touched.old touched.new (tables_in t.new) b) }
+        × IsAfter chain node.now text.now (tables_in t.new) b) }
     ensures more { OnOk result (length (tables_in t.new Table.Blocks)
         ≡ length (tables_in t.old Table.Blocks) + 1) }
     ensures first_fault { (chain : Chain) → R.tells → StandFor (tables_in t.old) chain
@@ -121,7 +118,6 @@ fn add_one<R: Rows>(
 {
     let prepared = prepare_for(alloc, node.hash, text)?;
     connect_for(t, node.hash, node.place, &prepared)?;
-    touch(t, touched)?;
     Ok(())
 }
 
@@ -131,14 +127,13 @@ pub(crate) fn add_all<R: Rows>(
     t: &mut Txn<'_, R>,
     nodes: &[Node],
     texts: &[Bytes],
-    touched: &mut Touched,
 ) -> Result<(), MoveFault>
     requires live { R.is_live t.old.rows.now }
     requires nodes { AllByRecursion IsNode nodes.now }
     requires of { AreOf nodes.now texts.now }
     ensures added { (chain : Chain) → R.tells → StandFor (tables_in t.old) chain
         → AreLinked (tip chain) nodes.now → OnOk result ((blocks : Chain)
-        × AreAfter chain nodes.now texts.now touched.old touched.new (tables_in t.new) blocks) }
+        × AreAfter chain nodes.now texts.now (tables_in t.new) blocks) }
     ensures more { OnOk result (length (tables_in t.new Table.Blocks)
         ≡ length (tables_in t.old Table.Blocks) + length nodes.now) }
     ensures first_fault { (chain : Chain) → R.tells → StandFor (tables_in t.old) chain
@@ -148,7 +143,7 @@ pub(crate) fn add_all<R: Rows>(
     ensures no_archive { IfErr result (λ e. e ≢ MoveFault.ArchiveFailed) }
 {
     for (index, node) in nodes.iter().enumerate() {
-        add_one(alloc, t, node, texts[index].as_slice(), touched)?;
+        add_one(alloc, t, node, texts[index].as_slice())?;
     }
     Ok(())
 }

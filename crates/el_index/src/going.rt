@@ -18,10 +18,12 @@ use crate::blocks_back::take_back;
 use crate::blocks_in::add_all;
 use crate::index::Index;
 use crate::last_block::last_hash;
+use crate::step_faults::touch_all;
 use el_base::{Bytes, Hash32};
 use el_chain::{MoveFault, Node, Plan, Touched};
 use el_outside::DiskFailed;
 use el_queries::each_block_touches_what_the_move_touches;
+use el_row_formats::Table;
 use el_rows::{CommitFault, Rows, Txn};
 use std::alloc::Global;
 
@@ -50,8 +52,11 @@ fn edit<R: Rows>(
     ensures no_archive { IfErr result (λ e. e ≢ MoveFault.ArchiveFailed) }
 {
     take_back(t, plan.back, touched)?;
-    add_all(alloc, t, plan.forward.as_slice(), texts, touched)?;
-    // What the blocks touch one by one is what the move touches.
+    let txs = t.count(Table::Txs);
+    let entries = t.count(Table::Entries);
+    add_all(alloc, t, plan.forward.as_slice(), texts)?;
+    touch_all(t, txs, entries, touched)?;
+    // What the blocks that were taken back touch one by one is what the move touches.
     each_block_touches_what_the_move_touches();
     Ok(())
 }

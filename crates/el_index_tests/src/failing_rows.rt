@@ -3,9 +3,10 @@ ghost use Rattle.std.specs.Prelude.{◌≡◌, [], get_or, min};
 ghost use Rattle.el_row_formats.specs.Tables.{index_of, limit_of};
 
 use crate::fixtures::block_row;
+use el_base::GhostCount;
 use el_outside::DiskFailed;
 use el_row_formats::{TABLES, Table};
-use el_rows::{CommitFault, ReadCount, Rows, Sealed};
+use el_rows::{CommitFault, Rows, Sealed};
 
 // The most rows that a table may have.
 const LIMIT: u64 = 4_294_967_295;
@@ -24,7 +25,7 @@ pub struct FailingRows {
     /// How often it has failed.
     pub faults: u64,
     /// How many rows were read.
-    pub reads: ReadCount,
+    pub reads: GhostCount,
 }
 
 impl FailingRows {
@@ -36,7 +37,7 @@ impl FailingRows {
             sum: 0,
             left,
             faults: 0,
-            reads: ReadCount::new(),
+            reads: GhostCount::new(),
         }
     }
 

@@ -1,5 +1,6 @@
 -- What a block touches, by the last entries and the last transactions of the lists.
-use Rattle.std.proofs.Common.{◌≡◌, inl, inr, ℕ, ◌+◌, ◌-◌, ◌<◌, ◌≤◌, Bool, true, false, ◌||◌, List, [], ◌∷◌, ◌++◌, length, map, Some, None, option_map, refl, ap, ap₂, sym, subst, ◌∙◌, arith, append_assoc, length-append}
+use Rattle.std.proofs.Common.{◌≡◌, inl, inr, ℕ, ◌+◌, ◌-◌, ◌<◌, ◌≤◌, Bool, true, false, ◌||◌, List, [], ◌∷◌, ◌++◌, length, map, Some, None, option_map, refl, ap, ap₂, sym, subst, ◌∙◌, arith, append_assoc, append-nil, length-append}
+use Rattle.std.proofs.lemmas.List.{length-map}
 use Rattle.std.proofs.lemmas.Bool.{cases_Bool}
 use Rattle.std.specs.List.{list_any, AllByRecursion, flat_map}
 use Rattle.el_base.specs.declared.hash.Hash32.{Hash32}
@@ -8,11 +9,12 @@ use Rattle.el_tx.specs.Hashing.{full_encoding, txid}
 use Rattle.el_chain.specs.declared.coin.Coin.{Coin}
 use Rattle.el_chain.specs.declared.placed.Placed.{Placed}
 use Rattle.el_chain.specs.Chains.{Chain}
-use Rattle.el_chain.specs.Coins.{coins, coins_after}
+use Rattle.el_chain.specs.Coins.{coins, coins_after, coins_after_all}
 use Rattle.el_chain.specs.CoinLaws.{coins_made}
-use Rattle.el_chain.specs.History.{Position, positions, positions_in, block_positions, first_start, funds, spends}
+use Rattle.el_chain.specs.History.{Position, positions, positions_in, positions_from, block_positions, first_start, funds, spends}
 use Rattle.el_chain.specs.RowCounts.{has_script, concerned_scripts, add_scripts}
-use Rattle.el_chain.specs.Touches.{touches, replaces}
+use Rattle.el_chain.specs.Touches.{touches, touches_any, replaces}
+use Rattle.el_chain.proofs.GoodChains.{coins_more}
 use Rattle.el_chain.proofs.Tallies.{positions_more}
 use Rattle.el_tables.specs.ChainLists.{ListedBlock, scripts_of, outputs, entry_of, entries_from, lists, lists_of, listed_blocks}
 use Rattle.el_prepare.specs.Prepared.{prepared}
@@ -30,7 +32,7 @@ use Rattle.el_tables.proofs.UndoneBlocks.{row_more}
 use Rattle.el_schema.specs.Standing.{heads_in}
 use Rattle.el_queries.specs.TouchedBy.{touched_in}
 use Rattle.el_queries.specs.within.LastBlock.{is_entry_of, buries, AreLast}
-use Rattle.el_queries.proofs.Law.{true_false, any_joined, Follow}
+use Rattle.el_queries.proofs.Law.{true_false, any_joined, Follow, follow_chain, law}
 use Rattle.el_queries.proofs.Burials.{at_number, own_kept, all_buried, replaced_kept}
 
 -- 1. Entries
@@ -140,7 +142,91 @@ entries_joined scripts n m (p ∷ ps) qs at =
     let rest = entries_joined scripts (n + 1) m ps qs (omega arith) in
     rw rest (sym (append_assoc (map (entry_of scripts n) (add_scripts [] (concerned_scripts p))) (entries_from scripts (n + 1) ps) (entries_from scripts m qs)))
 
--- 5. The last block
+tells_of : (s : Hash32) (all front back : List Position) (m : ℕ) → all ≡ front ++ back → m ≡ length front
+    → ((lists_of all).entries ≡ entries_from (scripts_of all) 0 front ++ entries_from (scripts_of all) m back) × (length (lists_of all).txs - m ≡ length back)
+tells_of s all front back m split at = (
+  ap (entries_from (scripts_of all) 0) split ∙ entries_joined (scripts_of all) 0 m front back (omega arith),
+  (let long = length_txs 0 0 all in let both = ap length split ∙ length-append front back in omega arith),
+)
+
+-- there are heads
+sixteen : 0 < format_1.txs
+unfolding format_1
+sixteen = omega arith
+
+-- 5. Blocks after a base
+
+positions_joined : (base bs : Chain) → positions (base ++ bs) ≡ positions base ++ positions_from (length base) bs (coins base)
+positions_joined base [] = ap positions (append-nil base) ∙ sym (append-nil (positions base))
+positions_joined base (b ∷ bs) =
+    let one = positions_more base b in
+    let size : length (base ++ b ∷ []) ≡ length base + 1 = length-append base (b ∷ []) in
+    let more : coins (base ++ b ∷ []) ≡ coins_after_all (length base) b.block.txs (coins base) =
+    coins_more 0 base b [] ∙ ap (λ n. coins_after_all n b.block.txs (coins base)) (let none : 0 + length base ≡ length base = omega arith in none) in
+    ap positions (sym (append_assoc base (b ∷ []) bs))
+    ∙ positions_joined (base ++ b ∷ []) bs
+    ∙ ap₂ (λ (n : ℕ) (cs : List Coin). positions (base ++ b ∷ []) ++ positions_from n bs cs) size more
+    ∙ ap (λ (ps : List Position). ps ++ positions_from (length base + 1) bs (coins_after_all (length base) b.block.txs (coins base))) one
+    ∙ append_assoc (positions base) (block_positions (length base) b.block.txs (coins base)) (positions_from (length base + 1) bs (coins_after_all (length base) b.block.txs (coins base)))
+
+entries_long : (scripts others : List Hash32) (n : ℕ) (ps : List Position) → length (entries_from scripts n ps) ≡ length (entries_from others n ps)
+entries_long scripts others n [] = refl
+entries_long scripts others n (p ∷ ps) =
+    let own = add_scripts [] (concerned_scripts p) in
+    let a = length-append (map (entry_of scripts n) own) (entries_from scripts (n + 1) ps) in
+    let b = length-append (map (entry_of others n) own) (entries_from others (n + 1) ps) in
+    let rest = entries_long scripts others (n + 1) ps in
+    let ma = length-map own (entry_of scripts n) in
+    let mb = length-map own (entry_of others n) in
+    omega (arith, a, b, rest, ma, mb)
+
+-- the lists of the base with the blocks: where their entries and their transactions begin, and what they tell
+pub record TellsFrom (s : Hash32) (base bs : Chain) (first : ℕ) : Type 0 where
+  pub before : List ListedEntry
+  pub own : List ListedEntry
+  pub split : (lists (base ++ bs)).entries ≡ before ++ own
+  pub last : AreLast first before own
+  pub long : length before ≡ length (lists base).entries
+  pub is : touches_any s.0 (coins base) bs
+      ≡ (list_any (is_entry_of s (lists (base ++ bs))) own
+      || list_any (buries s (lists (base ++ bs))) (numbers_from first (length (lists (base ++ bs)).txs - first)))
+
+pub told_from : (s : Hash32) (base bs : Chain) → TellsFrom s base bs (length (positions base))
+told_from s base bs =
+    let front = positions base in
+    let back = positions_from (length base) bs (coins base) in
+    let all = positions (base ++ bs) in
+    let m = length front in
+    let split = positions_joined base bs in
+    let tells = tells_of s all front back m split refl in
+    let follow = subst (λ (cs : List Coin). Follow cs back) (chain_coins base) (follow_chain (length base) bs (coins base)) in
+    record {
+      before = entries_from (scripts_of all) 0 front;
+      own = entries_from (scripts_of all) m back;
+      split = tells.0;
+      last = record { below = entries_below m (scripts_of all) 0 front (omega arith); from = entries_at m (scripts_of all) m back (omega arith) };
+      long = entries_long (scripts_of all) (scripts_of front) 0 front;
+      is = law s.0 (coins base) (length base) bs ∙ all_touch s all front back m split refl follow
+          ∙ ap (λ (n : ℕ). list_any (is_entry_of s (lists_of all)) (entries_from (scripts_of all) m back) || list_any (buries s (lists_of all)) (numbers_from m n)) (sym tells.1);
+    }
+
+-- where there are as few transactions as before, the blocks touch nothing
+pub none_touched : (s : Hash32) (base bs : Chain) → length (positions (base ++ bs)) ≤ length (positions base) → touches_any s.0 (coins base) bs ≡ false
+none_touched s base bs le =
+    let back = positions_from (length base) bs (coins base) in
+    let sum = ap length (positions_joined base bs) ∙ length-append (positions base) back in
+    law s.0 (coins base) (length base) bs ∙ none back (omega (arith, sum, le))
+  where
+    none : (ps : List Position) → length ps ≡ 0 → list_any (λ (p : Position). touches s.0 p.before p.tx) ps ≡ false
+    none [] h = refl
+    none (p ∷ ps) h = absurd (omega arith)
+
+-- where there are transactions there are heads
+pub heads_of_txs : (chain : Chain) → 0 < length (positions chain) → 0 < (heads_in chain).txs
+heads_of_txs [] some = absurd (omega arith)
+heads_of_txs (b ∷ bs) some = sixteen
+
+-- 6. The last block
 
 follow_in : (height pos start : ℕ) (ts : List Tx) (cs : List Coin) → Follow cs (positions_in height pos start ts cs)
 follow_in height pos start [] cs = tt
@@ -155,13 +241,6 @@ pub record TellsLast (s : Hash32) (chain : Chain) (b : Placed) (first : ℕ) : T
   pub is : touched_in s chain b
       ≡ (list_any (is_entry_of s (lists (chain ++ b ∷ []))) own
       || list_any (buries s (lists (chain ++ b ∷ []))) (numbers_from first (length (lists (chain ++ b ∷ [])).txs - first)))
-
-tells_of : (s : Hash32) (all front back : List Position) (m : ℕ) → all ≡ front ++ back → m ≡ length front
-    → ((lists_of all).entries ≡ entries_from (scripts_of all) 0 front ++ entries_from (scripts_of all) m back) × (length (lists_of all).txs - m ≡ length back)
-tells_of s all front back m split at = (
-  ap (entries_from (scripts_of all) 0) split ∙ entries_joined (scripts_of all) 0 m front back (omega arith),
-  (let long = length_txs 0 0 all in let both = ap length split ∙ length-append front back in omega arith),
-)
 
 pub last_told : (s : Hash32) (chain : Chain) (b : Placed) → TellsLast s chain b (length (positions chain))
 last_told s chain b =
@@ -187,11 +266,6 @@ last_first chain b =
     ap (λ (bs : List ListedBlock). option_map (λ (x : ListedBlock). x.first_tx) (last bs)) (row_more chain b)
     ∙ ap (option_map (λ (x : ListedBlock). x.first_tx)) (last_is (listed_blocks chain) (block_between (prepared b.block) b.place (lists chain) (lists (chain ++ b ∷ []))))
     ∙ ap Some (length_txs 0 0 (positions chain))
-
--- there are heads
-sixteen : 0 < format_1.txs
-unfolding format_1
-sixteen = omega arith
 
 pub some_heads : (chain : Chain) (b : Placed) → 0 < (heads_in (chain ++ b ∷ [])).txs
 some_heads chain b = rw (row_more chain b) (by (listed_blocks chain) (block_between (prepared b.block) b.place (lists chain) (lists (chain ++ b ∷ []))))

@@ -13,3 +13,4 @@ pub mod Law
 pub mod Burials
 pub mod BlockTouches
 pub mod Walks
+pub mod EntrySkips

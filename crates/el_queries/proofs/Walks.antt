@@ -103,9 +103,14 @@ pub or_assoc : (a b c : Bool) → ((a || b) || c) ≡ (a || (b || c))
 or_assoc true b c = refl
 or_assoc false b c = refl
 
-or_none : (a : Bool) → (a || false) ≡ a
+pub or_none : (a : Bool) → (a || false) ≡ a
 or_none true = refl
 or_none false = refl
+
+pub or_absorbs : (a b c : Bool) → (b ≡ true → c ≡ true) → (a || c) ≡ ((a || b) || c)
+or_absorbs true b c there = refl
+or_absorbs false true c there = there refl
+or_absorbs false false c there = refl
 
 or_turned : (a b : Bool) → (a || b) ≡ (b || a)
 or_turned true true = refl
@@ -176,7 +181,7 @@ entries_begin f es before own n now split many = record {
     whole [] = refl
     whole (x ∷ xs) = ap (λ (l : List ListedEntry). x ∷ l) (whole xs)
 
-entry_here : (f : ListedEntry → Bool) (first : ℕ) (es before own : List ListedEntry) (n left : ℕ) (e : ListedEntry) (now all : Bool) → es ≡ before ++ own → AreLast first before own
+pub entry_here : (f : ListedEntry → Bool) (first : ℕ) (es before own : List ListedEntry) (n left : ℕ) (e : ListedEntry) (now all : Bool) → es ≡ before ++ own → AreLast first before own
     → n + 1 ≡ length before + left → Some e ≡ slice_get es n → (now || list_any f (take left own)) ≡ all
     → ((e.tx < first) × (now ≡ all)) ⊎ ((k : ℕ) × (left ≡ suc k) × (first ≤ e.tx) × (((now || f e) || list_any f (take k own)) ≡ all))
 entry_here f first es before own n zero e now all split last at is h =

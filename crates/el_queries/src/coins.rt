@@ -125,7 +125,7 @@ fn newest_first<R: Rows>(
 ///
 /// # Errors
 ///
-/// `DiskFailed` exactly where the device failed, and `Memory` for want of memory.
+/// `DiskFailed` exactly where the device failed, and `Memory` where it runs out.
 pub fn unspent<R: Rows>(
     alloc: Global,
     t: &mut Txn<'_, R>,

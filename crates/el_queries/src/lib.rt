@@ -1,5 +1,5 @@
 //! What the rows of an index answer: the history, the coins and the balance of a script hash; blocks,
-//! transactions and outputs by height, txid and outpoint; and which script hashes the last block touches.
+//! transactions and outputs by height, txid and outpoint; and which script hashes the last blocks touch.
 //! Each call changes nothing. Over rows that stand for no chain each call returns too: a number that isn't
 //! below its table's count names nothing.
 #![tactic(auto)]
@@ -25,5 +25,5 @@ pub use laws::{
     scripts_of_lists_are_those_of_outputs,
 };
 pub use outputs::{coin, spender};
-pub use touching::touch_last;
+pub use touching::{touch_blocks, touch_last};
 pub use transactions::find_tx;

@@ -1,5 +1,5 @@
 -- Tables in memory.
-use Rattle.std.proofs.Common.{◌≡◌, ◌≢◌, ◌<◌, ◌≤◌, ◌+◌, ℕ, suc, List, [], ◌∷◌, Option, Some, None, length, get_or, take, drop, unwrap_or, ap, sym, ◌∙◌, refl, arith, subst, ⊎_elim, drop-cons}
+use Rattle.std.proofs.Common.{◌≡◌, ◌≢◌, ◌<◌, ◌≤◌, ◌+◌, ℕ, zero, suc, List, [], ◌∷◌, Option, Some, None, length, get_or, take, drop, unwrap_or, ap, sym, ◌∙◌, refl, arith, subst, ⊎_elim, drop-cons}
 use Rattle.std.specs.Prelude.{slice_get, Result, Ok, Err, OnErr}
 use Rattle.std.proofs.Math.Path.{fun_ext}
 use Rattle.std.proofs.Math.ListN.{set, length-set}
@@ -14,10 +14,10 @@ use Rattle.std.specs.Map.{keys_of}
 use Rattle.el_row_formats.specs.declared.table.Table.{Table}
 use Rattle.el_row_formats.specs.declared.table.Table.TheVariants as table
 use Rattle.el_row_formats.specs.declared.table.RowKey.{RowKey}
-use Rattle.el_row_formats.specs.Tables.{Tables, tables_of, listed, index_of, row_cmp, key}
+use Rattle.el_row_formats.specs.Tables.{Tables, tables_of, listed, index_of, size_of, row_at, row_cmp, key}
 use Rattle.el_rows.specs.Changes.{Changes, IsMadeFrom, changed_at, count_at, under}
 use Rattle.el_rows.specs.within.SizedRows.{SizedRows}
-use Rattle.el_rows.specs.within.InMemory.{HasGrown, no_list, list_of, kept_of, shown_rows, AreSized, HasRoom, AreKept, AllGrown, AreWritten}
+use Rattle.el_rows.specs.within.InMemory.{HasGrown, no_list, list_of, kept_of, shown_rows, AreSized, HasRoom, AreKept, AllGrown, AreWriting, AreWritten}
 use Rattle.el_row_formats.proofs.Keys.{keys_total, same_table, same_index, other_key}
 use Rattle.el_rows.proofs.EditedLemmas.{if_false}
 use Rattle.el_rows.proofs.UnderLemmas.{is_under}
@@ -110,13 +110,6 @@ shown_grown old new counts grown room = fun_ext (λ t.
     ext_get_or [] (take n (kept_of new t)) (take n (kept_of old t)) (long ∙ sym (length-take-le n (kept_of old t) (room t)))
     (λ i lt. let below : i < n = omega (arith, lt, long) in
     get_or-take n (kept_of new t) i [] below ∙ (grown.rows t).before i (omega (arith, below, room t)) ∙ sym (get_or-take n (kept_of old t) i [] below)))
-
--- the changed rows of some of the changes are written, the others are still to be written
-pub record AreWriting (old new : List SizedRows) (changes : Changes) (k : ℕ) : Type 0 where
-  pub tables : length new ≡ length old
-  pub sizes : (t : Table) → (list_of new t).size ≡ (list_of old t).size
-  pub long : (t : Table) → length (kept_of new t) ≡ length (kept_of old t)
-  pub each : (t : Table) (i : ℕ) → i < length (kept_of old t) → changed_at (drop k changes) t i ≡ None → get_or (kept_of new t) i [] ≡ unwrap_or (changed_at changes t i) (get_or (kept_of old t) i [])
 
 -- the change of that number is what is changed at its row
 pub change_at : (base : Table → ℕ) (counts : List ℕ) (changes : Changes) (k : ℕ) (t : Table) (i : ℕ) (row : List ℕ) → IsMadeFrom base counts changes → slice_get changes k ≡ Some (key t i, row) → changed_at changes t i ≡ Some row
@@ -255,3 +248,19 @@ committed self old grown new counts told more changes is were grew room wrote ma
 pub on_err : {T E P : Type 0} (r : Result T E) → P → OnErr r P
 on_err (Ok x) p = tt
 on_err (Err e) p = p
+
+-- rows of a run are rows of their table
+pub run_in : (base : Table → ℕ) (counts : List ℕ) (changes : Changes) (old mid : List SizedRows) (k : ℕ) (t : Table) (first rows : ℕ) (bytes : List ℕ) → IsMadeFrom base counts changes → HasRoom old counts → AreWriting old mid changes k
+    → 0 < rows → ((j : ℕ) → j < rows → slice_get changes (k + j) ≡ Some (key t (first + j), row_at (size_of t) bytes j)) → first + rows ≤ length (kept_of mid t)
+run_in base counts changes old mid k t first zero bytes made room so_far some each = absurd (omega (arith, some))
+run_in base counts changes old mid k t first (suc n) bytes made room so_far some each =
+    let found = change_at base counts changes (k + n) t (first + n) (row_at (size_of t) bytes n) made (each n (omega arith)) in
+    let few : first + n < count_at counts t = made.within t (first + n) (rw found refl) in
+    omega (arith, few, room t, so_far.long t)
+
+-- a row that was written over leaves its list as long, and of its size
+pub set_long : (mid new : List SizedRows) (t : Table) (i : ℕ) (row : List ℕ) → new ≡ set mid (index_of t) (set_row mid t i row) → index_of t < length mid
+    → ((list_of new t).size ≡ (list_of mid t).size) × (length (kept_of new t) ≡ length (kept_of mid t))
+set_long mid new t i row is within =
+    let here : list_of new t ≡ set_row mid t i row = ap (λ (kept : List SizedRows). list_of kept t) is ∙ set_at mid t (set_row mid t i row) within in
+    (ap (λ (l : SizedRows). l.size) here, ap (λ (l : SizedRows). length l.rows) here ∙ length-set (kept_of mid t) i row)

@@ -165,10 +165,10 @@ module _ (self : SizedRows) (size : ℕ) (bytes : List ℕ) (count : ℕ) (is : 
       (ap (λ (b : List ℕ). cut_rows size b one_more) by ∙ ap (λ (n : ℕ). cut_rows size (bytes ++ row) n) more ∙ push_row size bytes count row whole (sized ∙ sym size_is)
       ∙ ap (λ (rows : List (List ℕ)). rows ++ row ∷ []) rows_are)
 
-  pub grown : (new more : List ℕ) (n total : ℕ) → length bytes ≡ count * size → new ≡ take total bytes ++ more → length more ≡ total - length bytes → total ≡ n * size → count ≤ n
+  pub grown : (new more : List ℕ) (n total : ℕ) → length bytes ≡ count * size → new ≡ bytes ++ more → length more ≡ total - length bytes → total ≡ n * size → count ≤ n
       → HasGrown self.size self.rows (cut_rows size new n)
   grown new more n total whole by long is le = let few : length bytes ≤ total = omega (arith, whole, is, mul-le count size n size le (omega arith)) in
-      rw (by, take_all total bytes few, ← rows_are, ← size_is) (grow_rows size bytes count more n whole (omega (arith, length-append bytes more, long, few, is)) le)
+      rw (by, ← rows_are, ← size_is) (grow_rows size bytes count more n whole (omega (arith, length-append bytes more, long, few, is)) le)
 
 length-put_mid : (at size : ℕ) (bytes row : List ℕ) → length row ≡ size → at + size ≤ length bytes → length (put_mid at size bytes row) ≡ length bytes
 length-put_mid at size bytes row sized le = search (rules, places)

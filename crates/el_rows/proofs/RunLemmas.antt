@@ -142,11 +142,10 @@ module _ (counts : List ℕ) (changes : Changes) (keys : List RowKey) (shown : A
   following_within bytes each zero some le = absurd (omega (arith, some))
   following_within bytes each (suc j) some le = omega (arith, slice_get_within (listed_changes changes keys) (n + j) _ (following_changes bytes each j (omega (arith, le))))
 
--- the key of a place
-pub key_at : (update : Update) (counts : List ℕ) (changes : Changes) (keys : List RowKey) → record { counts = counts; changes = listed_changes changes keys } ≡ update → (n : ℕ) → n < length update.changes
-    → (k : RowKey) → k ≡ get_or keys n k → slice_get keys n ≡ Some k
-key_at update counts changes keys is n lt k read = slice_get_read keys (length keys) n k refl
-    (omega (arith, lt, ap (λ (u : Update). length u.changes) is, length-map {B = RowKey × List ℕ} keys (λ x. (x, unwrap_or (changed_at changes x.table x.row) [])))) read
+-- a place of the changes is one of the keys
+pub within_keys : (update : Update) (counts : List ℕ) (changes : Changes) (keys : List RowKey) → record { counts = counts; changes = listed_changes changes keys } ≡ update → (n : ℕ) → n < length update.changes
+    → n < length keys
+within_keys update counts changes keys is n lt = omega (arith, lt, ap (λ (u : Update). length u.changes) is, length-map {B = RowKey × List ℕ} keys (λ x. (x, unwrap_or (changed_at changes x.table x.row) [])))
 
 -- a row that was found where there is one
 pub one_found : {B : Type 0} (now : B → List ℕ) (o : Option B) (none x : B) (found : Option (List ℕ)) (size : ℕ) → option_map now o ≡ found → x ≡ unwrap_or o none → is_some found ≡ true → IfSome o (λ b. length (now b) ≡ size)

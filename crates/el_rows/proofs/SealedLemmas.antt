@@ -1,6 +1,6 @@
 -- Edits as a store takes them.
-use Rattle.std.proofs.Common.{◌≡◌, ◌≢◌, ◌<◌, ◌≤◌, ◌+◌, ◌-◌, ℕ, zero, suc, List, [], ◌∷◌, ◌++◌, Bool, true, false, cond, ◌&&◌, ◌||◌, Some, None, Option, map, refl, ap, sym, ◌∙◌, arith, subst, ⊎_elim, length, get_or, unwrap_or}
-use Rattle.std.specs.Prelude.{IsSome, is_some, nat_lt, nat_eq, slice_get}
+use Rattle.std.proofs.Common.{◌≡◌, ◌≢◌, ◌<◌, ◌≤◌, ◌+◌, ◌-◌, ℕ, zero, suc, List, [], ◌∷◌, ◌++◌, Bool, true, false, cond, ◌&&◌, ◌||◌, Some, None, Option, map, refl, ap, sym, ◌∙◌, arith, subst, ⊎_elim, length, get_or, unwrap_or, append_assoc, append-nil, drop}
+use Rattle.std.specs.Prelude.{⊤, IsSome, is_some, nat_lt, nat_eq, slice_get}
 use Rattle.std.specs.List.{list_any, AllByRecursion}
 use Rattle.std.specs.List.Sorted.{IsStrictlySortedBy, IsStrictlyIncreasing}
 use Rattle.std.specs.Map.{lookup, keys_of}
@@ -16,7 +16,7 @@ use Rattle.el_row_formats.specs.declared.table.Table.TheVariants as table
 use Rattle.el_row_formats.specs.declared.table.RowKey.{RowKey}
 use Rattle.el_row_formats.specs.Tables.{row_cmp, index_of, key}
 use Rattle.el_rows.specs.Changes.{Changes, IsMadeFrom, changed_at, count_at, shown_at}
-use Rattle.el_rows.specs.within.EditedTables.{EditedTable, edited_at, edits_of, all_changes, listed_changes, AreEdited}
+use Rattle.el_rows.specs.within.EditedTables.{EditedTable, edited_at, edits_of, all_changes, listed_changes, rows_at, all_tables, keys_over, AreEdited, AreShown}
 use Rattle.el_row_formats.proofs.Keys.{same_key, other_key, same_index, same_table}
 use Rattle.el_rows.proofs.EditedLemmas.{same_row, at_changes, if_true, if_false}
 
@@ -213,3 +213,58 @@ listed_more counts changes n keys more t rows so_far is more_is rising each = su
 -- keys of all tables
 pub all_listed : (counts : List ℕ) (changes : Changes) (keys : List RowKey) → AreListed counts changes 8 keys → (t : Table) (i : ℕ) → has_key t i keys ≡ (nat_lt i (count_at counts t) && is_some (changed_at changes t i))
 all_listed counts changes keys listed t i = let b : nat_lt (index_of t) 8 ≡ true = grind arith in listed.each t i ∙ ap (λ c. c && (nat_lt i (count_at counts t) && is_some (changed_at changes t i))) b
+
+-- ---- the keys of the rows of all tables
+-- tables that follow one another from that one on
+abbrev pub InTurn : ℕ → List Table → Type 0
+InTurn n [] = ⊤
+InTurn n (t ∷ ts) = (index_of t ≡ n) × InTurn (n + 1) ts
+
+-- a table more, and those after it
+listed_over : (counts : List ℕ) (changes : Changes) (rows : List (List ℕ)) → ((t : Table) → IsStrictlyIncreasing (rows_at rows t))
+    → ((t : Table) (i : ℕ) → list_any (nat_eq i) (rows_at rows t) ≡ (nat_lt i (count_at counts t) && is_some (changed_at changes t i)))
+    → (ts : List Table) (n : ℕ) (front : List RowKey) → InTurn n ts → AreListed counts changes n front → AreListed counts changes (n + length ts) (front ++ keys_over rows ts)
+listed_over counts changes rows rising each [] n front turn so_far =
+    subst (λ (k : ℕ). AreListed counts changes k (front ++ [])) (let z : n ≡ n + 0 = omega arith in z) (subst (λ (ks : List RowKey). AreListed counts changes n ks) (sym (append-nil front)) so_far)
+listed_over counts changes rows rising each (t ∷ ts) n front turn so_far =
+    let here = map (key t) (rows_at rows t) in
+    let next = listed_more counts changes n front (front ++ here) t (rows_at rows t) so_far turn.0 refl (rising t) (each t) in
+    subst (λ (ks : List RowKey). AreListed counts changes (n + length (t ∷ ts)) ks) (append_assoc front here (keys_over rows ts))
+    (subst (λ (k : ℕ). AreListed counts changes k ((front ++ here) ++ keys_over rows ts)) (let z : n + 1 + length ts ≡ n + suc (length ts) = omega arith in z)
+    (listed_over counts changes rows rising each ts (n + 1) (front ++ here) turn.1 next))
+
+-- they are those of the shown changes
+pub are_shown : (counts : List ℕ) (changes : Changes) (rows : List (List ℕ)) → ((t : Table) → IsStrictlyIncreasing (rows_at rows t))
+    → ((t : Table) (i : ℕ) → list_any (nat_eq i) (rows_at rows t) ≡ (nat_lt i (count_at counts t) && is_some (changed_at changes t i)))
+    → AreShown counts changes (keys_over rows all_tables)
+are_shown counts changes rows rising each =
+    let listed = listed_over counts changes rows rising each all_tables 0 [] (refl, (refl, (refl, (refl, (refl, (refl, (refl, (refl, tt)))))))) (none_listed counts changes) in
+    record { rising = listed.rising; each = all_listed counts changes (keys_over rows all_tables) listed }
+
+-- the tables from one on
+pub tables_from : (n : ℕ) → n < 8 → drop n all_tables ≡ nth_table n ∷ drop (n + 1) all_tables
+tables_from zero lt = refl
+tables_from (suc zero) lt = refl
+tables_from (suc (suc zero)) lt = refl
+tables_from (suc (suc (suc zero))) lt = refl
+tables_from (suc (suc (suc (suc zero)))) lt = refl
+tables_from (suc (suc (suc (suc (suc zero))))) lt = refl
+tables_from (suc (suc (suc (suc (suc (suc zero)))))) lt = refl
+tables_from (suc (suc (suc (suc (suc (suc (suc zero))))))) lt = refl
+tables_from (suc (suc (suc (suc (suc (suc (suc (suc n)))))))) lt = absurd (omega (arith, lt))
+
+-- a key of the first table
+pub front_at : (t : Table) (rows : List ℕ) (rest : List RowKey) (i row : ℕ) → slice_get rows i ≡ Some row → slice_get (map (key t) rows ++ rest) i ≡ Some (key t row)
+front_at t [] rest i row is = cc
+front_at t (x ∷ rows) rest zero row is = let same : x ≡ row = cc in ap (λ (r : ℕ). Some (key t r)) same
+front_at t (x ∷ rows) rest (suc i) row is = front_at t rows rest i row is
+
+-- and one behind it
+pub back_at : (t : Table) (rows : List ℕ) (rest : List RowKey) (i j : ℕ) → i ≡ length rows + j → slice_get (map (key t) rows ++ rest) i ≡ slice_get rest j
+back_at t [] rest i j is = ap (λ (k : ℕ). slice_get rest k) (let e : i ≡ j = omega (arith, is) in e)
+back_at t (x ∷ rows) rest zero j is = absurd (omega (arith, is))
+back_at t (x ∷ rows) rest (suc i) j is = back_at t rows rest i j (omega (arith, is))
+
+pub keys_long : (t : Table) (rows : List ℕ) (rest : List RowKey) → length (map (key t) rows ++ rest) ≡ length rows + length rest
+keys_long t [] rest = omega arith
+keys_long t (x ∷ rows) rest = let more = keys_long t rows rest in omega (arith, more)

@@ -1,7 +1,7 @@
 -- The rows of one table's edits that are shown, rising.
-use Rattle.std.proofs.Common.{◌≡◌, ◌≢◌, ◌<◌, ◌≤◌, ◌+◌, ◌-◌, ℕ, List, [], ◌∷◌, ◌++◌, Bool, true, false, cond, ◌&&◌, ◌||◌, None, Option, refl, ap, sym, ◌∙◌, arith, subst, ⊎_elim, length, get_or, eqb, length-append}
+use Rattle.std.proofs.Common.{◌≡◌, ◌≢◌, ◌<◌, ◌≤◌, ◌+◌, ◌-◌, ℕ, zero, suc, List, [], ◌∷◌, ◌++◌, Bool, true, false, cond, ◌&&◌, ◌||◌, None, Some, Option, refl, ap, sym, ◌∙◌, arith, subst, ⊎_elim, length, get_or, eqb, length-append, append_assoc, append-nil}
 use Rattle.std.specs.Prelude.{is_some, nat_lt, nat_eq, slice_get}
-use Rattle.std.specs.List.{list_any, filter, AllByRecursion, IsDistinct}
+use Rattle.std.specs.List.{list_any, filter, range_with_len, AllByRecursion, IsDistinct}
 use Rattle.std.specs.List.Sorted.{IsStrictlyIncreasing, IsSorted, IsPermutation}
 use Rattle.std.specs.Ordering.{nat_cmp}
 use Rattle.std.specs.Map.{lookup, keys_of}
@@ -9,6 +9,7 @@ use Rattle.std.proofs.lemmas.Option.{slice_get-get_or}
 use Rattle.std.proofs.lemmas.Bool.{cases_eq, cases_lt, eqb-true}
 use Rattle.std.proofs.lemmas.List.{get_or_append_left, get_or-append_right}
 use Rattle.std.proofs.lemmas.List.Folds.{list_any-append, list_any_at}
+use Rattle.std.proofs.lemmas.List.FromFn.{length-range_with_len, get_or-range_with_len}
 use Rattle.std.proofs.lemmas.List.Sorted.{list_any-IsPermutation, IsNonDecreasingBy-from_sort}
 use Rattle.std.proofs.lemmas.Map.Keys.{IsDistinct-head, IsDistinct-tail, IsDistinct-cons, IsDistinct-IsPermutation, IsStrictlyIncreasing-from_distinct}
 use Rattle.std.proofs.lemmas.Map.Views.{any-filter_same}
@@ -127,9 +128,40 @@ module _ (base count : ℕ) (e : EditedTable) (below : (i : ℕ) → base ≤ i 
           ∙ ap (λ b. nat_lt j count && (b && is_some (edited_at base e j))) (let s : nat_lt j k ≡ nat_lt j (k + 1) = grind (arith, ne) in s))
           (cases_eq j k)
 
+-- all rows from the base on, so many
+pub range_to : (base count : ℕ) (e : EditedTable) (below : (i : ℕ) → base ≤ i → lookup (nat_eq i) e.changed ≡ None) (rows : List ℕ) → AreShownTo base count e base rows → count ≤ base + length e.added.rows
+    → (n : ℕ) → n ≤ count - base → AreShownTo base count e (base + n) (rows ++ range_with_len base n)
+range_to base count e below rows so_far room zero le = subst (λ (rs : List ℕ). AreShownTo base count e (base + 0) rs) (sym (append-nil rows)) (subst (λ (k : ℕ). AreShownTo base count e k rows) (let z : base ≡ base + 0 = omega arith in z) so_far)
+range_to base count e below rows so_far room (suc n) le =
+    let before = range_to base count e below rows so_far room n (omega arith) in
+    let next = added_to base count e below (base + n) (rows ++ range_with_len base n) before (omega arith) (omega arith) room in
+    subst (λ (rs : List ℕ). AreShownTo base count e (base + suc n) rs) (append_assoc rows (range_with_len base n) ((base + n) ∷ []) ∙ ap (λ (rs : List ℕ). rows ++ rs) (sym (range_more base n)))
+    (subst (λ (k : ℕ). AreShownTo base count e k ((rows ++ range_with_len base n) ++ (base + n) ∷ [])) (let z : base + n + 1 ≡ base + suc n = omega arith in z) next)
+  where
+    range_more : (a n : ℕ) → range_with_len a (suc n) ≡ range_with_len a n ++ (a + n) ∷ []
+    range_more a zero = ap (λ (k : ℕ). k ∷ []) (let z : a ≡ a + 0 = omega arith in z)
+    range_more a (suc n) = ap (λ (rs : List ℕ). a ∷ rs) (range_more (a + 1) n ∙ ap (λ (k : ℕ). range_with_len (a + 1) n ++ k ∷ []) (let z : a + 1 + n ≡ a + suc n = omega arith in z))
+
 -- all of them
 pub shown_all : (base count : ℕ) (e : EditedTable) (k : ℕ) (rows : List ℕ) → AreShownTo base count e k rows → count ≤ k → (j : ℕ) → list_any (nat_eq j) rows ≡ (nat_lt j count && is_some (edited_at base e j))
 shown_all base count e k rows shown past j = shown.each j ∙ ⊎_elim
     (λ (lt : j < count). ap (λ b. nat_lt j count && (b && is_some (edited_at base e j))) (let s : nat_lt j k ≡ true = grind (arith, lt, past) in s))
     (λ (ge : count ≤ j). let s : nat_lt j count ≡ false = grind (arith, ge) in ap (λ b. b && (nat_lt j k && is_some (edited_at base e j))) s ∙ sym (ap (λ b. b && is_some (edited_at base e j)) s))
     (cases_lt j count)
+
+-- ---- a row among them
+pub row_first : (xs ys : List ℕ) (i d : ℕ) → i < length xs → slice_get (xs ++ ys) i ≡ Some (get_or xs i d)
+row_first [] ys i d lt = absurd (omega (arith, lt))
+row_first (x ∷ xs) ys zero d lt = refl
+row_first (x ∷ xs) ys (suc i) d lt = row_first xs ys i d (omega (arith, lt))
+
+pub row_added : (xs : List ℕ) (a n i j : ℕ) → i ≡ length xs + j → j < n → slice_get (xs ++ range_with_len a n) i ≡ Some (a + j)
+row_added [] a n i j is lt =
+    ap (λ (k : ℕ). slice_get (range_with_len a n) k) (let e : i ≡ j = omega (arith, is) in e)
+    ∙ slice_get-get_or (range_with_len a n) j 0 (let e : j < length (range_with_len a n) = omega (arith, lt, length-range_with_len a n) in e)
+    ∙ ap Some (get_or-range_with_len a n j 0 lt)
+row_added (x ∷ xs) a n zero j is lt = absurd (omega (arith, is))
+row_added (x ∷ xs) a n (suc i) j is lt = row_added xs a n i j (omega (arith, is)) lt
+
+pub rows_long : (xs : List ℕ) (a n : ℕ) → length (xs ++ range_with_len a n) ≡ length xs + n
+rows_long xs a n = length-append xs (range_with_len a n) ∙ ap (λ (k : ℕ). length xs + k) (length-range_with_len a n)

@@ -1,16 +1,16 @@
 // Edits of tables, apart from the rows below them.
 ghost use Rattle.std.specs.Prelude.{◌≡◌, ◌≢◌, ◌<◌, ◌≤◌, ◌+◌, ◌-◌, ◌*◌, ◌++◌, ◌&&◌, ℕ, List, [], None, Some, map, length, OnOk, OnErr, IfOk, Err, IsOkUnless, option_map, is_some, nat_eq, nat_lt, IfSome, get_or};
 ghost use Rattle.std.specs.List.{list_any};
-ghost use Rattle.std.specs.List.Sorted.{IsStrictlyIncreasing, IsStrictlySortedBy};
-ghost use Rattle.std.specs.BTreeMap.{is_at};
-ghost use Rattle.el_row_formats.specs.Tables.{number_of, size_of, limit_of, row_at, row_cmp, key};
+ghost use Rattle.std.specs.List.Sorted.{IsStrictlyIncreasing};
+ghost use Rattle.el_row_formats.specs.Tables.{number_of, size_of, limit_of, row_at};
 ghost use Rattle.el_rows.specs.Changes.{count_at, changed_at, Sets, Counts, shown_at, IsMadeFrom};
-ghost use Rattle.el_rows.specs.within.EditedTables.{edits_of, Writes};
+ghost use Rattle.el_rows.specs.within.EditedTables.{edits_of, rows_at, Writes};
 
+use crate::shown_rows::ShownRows;
 use crate::table_edits::TableEdits;
 use crate::{AppendFault, Sealed};
 use el_base::OutOfMemory;
-use el_row_formats::{RowKey, TABLES, Table};
+use el_row_formats::{TABLES, Table};
 use std::alloc::Global;
 use std::marker::Model;
 
@@ -160,27 +160,31 @@ impl Edits {
     }
 
     // The numbers of a table's changed rows that are shown, rising.
-    fn shown(&self, t: Table) -> Result<Vec<u64>, OutOfMemory>
-        ensures rising { IfOk result (λ v. IsStrictlyIncreasing v.items) }
-        ensures shown { IfOk result (λ v. (i : ℕ) → list_any (nat_eq i) v.items
+    fn shown(&self, t: Table) -> Result<ShownRows, OutOfMemory>
+        ensures rising { IfOk result IsStrictlyIncreasing }
+        ensures shown { IfOk result (λ v. (i : ℕ) → list_any (nat_eq i) v
             ≡ (nat_lt i (count_at self.now.counts t) && is_some (changed_at self.now.changes t i))) }
     {
         let place = t.index();
         self.tables[place].shown(self.alloc, self.base[place], self.counts[place])
     }
 
-    // The keys of the changed rows that are shown, by rising table and row.
-    fn order(&self) -> Result<Vec<RowKey>, OutOfMemory>
-        ensures rising { IfOk result (λ v. IsStrictlySortedBy row_cmp v.items) }
-        ensures shown { IfOk result (λ v. (t : Table) (i : ℕ) → list_any (is_at (row_cmp (key t i))) v.items
+    // Those of each table.
+    fn all_shown(&self) -> Result<[ShownRows; TABLES], OutOfMemory>
+        ensures rising { IfOk result (λ rows. (t : Table) → IsStrictlyIncreasing (rows_at rows t)) }
+        ensures shown { IfOk result (λ rows. (t : Table) (i : ℕ) → list_any (nat_eq i) (rows_at rows t)
             ≡ (nat_lt i (count_at self.now.counts t) && is_some (changed_at self.now.changes t i))) }
     {
-        let mut order = Vec::new(self.alloc);
-        for t in Table::ALL {
-            let rows = self.shown(t)?;
-            add_keys(t, &rows, &mut order)?;
-        }
-        Ok(order)
+        Ok([
+            self.shown(Table::Blocks)?,
+            self.shown(Table::Txs)?,
+            self.shown(Table::TxHeads)?,
+            self.shown(Table::Outs)?,
+            self.shown(Table::Ins)?,
+            self.shown(Table::Scripts)?,
+            self.shown(Table::ScriptHeads)?,
+            self.shown(Table::Entries)?,
+        ])
     }
 
     /// The changed rows that are shown, by rising table and row.
@@ -190,8 +194,8 @@ impl Edits {
             → changed_at s.changes t i ≡ shown_at self.counts self.changes t i) }
         ensures made { IfOk result (λ s. IsMadeFrom (count_at self.base) s.counts s.changes) }
     {
-        let order = self.order()?;
-        Ok(Sealed::new(self, order))
+        let rows = self.all_shown()?;
+        Sealed::new(self, rows)
     }
 }
 
@@ -212,17 +216,4 @@ fn write(
 {
     let place = t.index();
     tables[place].write(base[place], i, row)
-}
-
-// Adds the keys of these rows of a table.
-fn add_keys(t: Table, rows: &[u64], order: &mut Vec<RowKey>) -> Result<(), OutOfMemory>
-    ensures { OnOk result (order.new.items ≡ order.old.items ++ map (key t) rows.now) }
-{
-    for row in rows {
-        order.push(RowKey {
-            table: t,
-            row: *row,
-        })?;
-    }
-    Ok(())
 }

@@ -4,10 +4,10 @@
 mod edits;
 mod faults;
 mod open;
-mod read_count;
 mod row_list;
 mod rows;
 mod sealed;
+mod shown_rows;
 mod table_edits;
 mod vec_rows;
 mod versioned_rows;
@@ -18,7 +18,6 @@ pub use el_row_formats::{
 };
 pub use faults::{AppendFault, CommitFault};
 pub use open::{Open, Txn};
-pub use read_count::ReadCount;
 pub use rows::Rows;
 pub use sealed::{Run, Sealed};
 pub use vec_rows::VecRows;

@@ -1,11 +1,46 @@
 // The rows of one table, in memory.
-ghost use Rattle.std.specs.Prelude.{◌≡◌, ◌<◌, ◌≤◌, ◌+◌, ◌-◌, ◌*◌, ℕ, [], ◌∷◌, ◌++◌, length, get_or, slice_set, OnOk, OnErr, IfOk};
+ghost use Rattle.std.specs.Prelude.{◌≡◌, ◌<◌, ◌≤◌, ◌+◌, ◌-◌, ◌*◌, ℕ, List, [], ◌∷◌, ◌++◌, length, get_or, slice_set, OnOk, OnErr, IfOk};
 ghost use Rattle.el_row_formats.specs.Tables.{row_at};
 ghost use Rattle.el_rows.specs.within.InMemory.{HasGrown};
 
 use el_base::OutOfMemory;
 use std::alloc::Global;
 use std::marker::Model;
+
+// How many zeros are copied at once.
+const ZEROS: usize = 4096;
+
+// Adds so many zeros. Where memory runs out, some.
+fn fill(bytes: &mut Vec<u8>, n: usize) -> Result<(), OutOfMemory>
+    ensures more { (more : List ℕ) × (bytes.new.items ≡ bytes.old.items ++ more) }
+    ensures long { OnOk result (length bytes.new.items ≡ length bytes.old.items + n) }
+{
+    let zeros = [0u8; ZEROS];
+    let mut left = n;
+    while left > 0 {
+        let some = left.min(ZEROS);
+        bytes.extend_from_slice(&zeros[..some])?;
+        left -= some;
+    }
+    Ok(())
+}
+
+// Adds so many zeros, for which memory is taken once. Where it runs out, nothing changes.
+fn add_zeros(bytes: &mut Vec<u8>, n: usize) -> Result<(), OutOfMemory>
+    ensures ok { OnOk result ((more : List ℕ) × (bytes.new.items ≡ bytes.old.items ++ more)
+        × (length more ≡ n)) }
+    ensures err { OnErr result (bytes.new.items ≡ bytes.old.items) }
+{
+    let len = bytes.len();
+    bytes.reserve(n)?;
+    match fill(bytes, n) {
+        Ok(()) => Ok(()),
+        Err(fault) => {
+            bytes.truncate(len);
+            Err(fault)
+        }
+    }
+}
 
 /// Rows of one size, in order, one after another in one piece of memory.
 #[derive(Drop)]
@@ -103,7 +138,8 @@ impl RowList {
         let Some(total) = n.checked_mul(self.size) else {
             return Err(OutOfMemory);
         };
-        self.bytes.resize(total, 0)?;
+        let more = total.saturating_sub(self.bytes.len());
+        add_zeros(&mut self.bytes, more)?;
         self.count = n;
         Ok(())
     }

@@ -63,8 +63,8 @@ pub trait Rows {
         ensures tick { reads self.new ≡ reads self.old + 1 }
         ensures cause { HasCause (faults self.old) (faults self.new) result };
 
-    /// Makes the lists the sealed ones. After want of memory nothing has changed, and a crash leaves no more
-    /// than before; after a disk fault the store is no longer live. It counts as no row read.
+    /// Makes the lists the sealed ones. Out of memory, nothing has changed, and a crash leaves no more than
+    /// before; after a disk fault nothing says that the store is live. It counts as no row read.
     fn commit(&mut self, sealed: &Sealed) -> Result<(), CommitFault>
         requires live { is_live self.old }
         requires made { IsMadeFrom (counts self.old) sealed.now.counts sealed.now.changes }

@@ -1,10 +1,12 @@
 // Edits that a store takes.
-ghost use Rattle.std.specs.Prelude.{◌≡◌, ◌<◌, ◌≤◌, ◌+◌, ◌*◌, ℕ, length, slice_get, Some};
+ghost use Rattle.std.specs.Prelude.{◌≡◌, ◌<◌, ◌≤◌, ◌+◌, ◌*◌, ℕ, length, slice_get, Some, IfSome, IfOk};
 ghost use Rattle.el_rows.specs.Changes.{count_at};
 ghost use Rattle.el_row_formats.specs.Tables.{key, size_of, limit_of, row_at};
-ghost use Rattle.el_rows.specs.within.EditedTables.{listed_changes, AreShown};
+ghost use Rattle.el_rows.specs.within.EditedTables.{listed_changes, keys_over, all_tables, AreShown};
 
 use crate::Edits;
+use crate::shown_rows::ShownRows;
+use el_base::OutOfMemory;
 use el_row_formats::{RowKey, TABLES, Table};
 use std::marker::Model;
 
@@ -13,7 +15,8 @@ use std::marker::Model;
 #[derive(Drop)]
 pub struct Sealed {
     edits: Edits,
-    order: Vec<RowKey>,
+    rows: [ShownRows; TABLES],
+    changes: usize,
 }
 
 /// Changed rows of one table that follow one another.
@@ -30,29 +33,68 @@ pub struct Run<'a> {
 }
 
 impl Model for Sealed {
+    ghost use Rattle.std.specs.Prelude.{◌≡◌, length};
     ghost use Rattle.el_rows.specs.Changes.{Update};
-    ghost use Rattle.el_rows.specs.within.EditedTables.{listed_changes, AreShown};
+    ghost use Rattle.el_rows.specs.within.EditedTables.{listed_changes, keys_over, all_tables, AreShown};
 
     ghost Value = { Update };
 
     ghost view = { λ s. record {
       counts = s.edits.counts;
-      changes = listed_changes s.edits.changes s.order.items;
+      changes = listed_changes s.edits.changes (keys_over s.rows all_tables);
     } };
 
-    ghost invariant = { λ s. AreShown s.edits.counts s.edits.changes s.order.items };
+    ghost invariant = { λ s. AreShown s.edits.counts s.edits.changes (keys_over s.rows all_tables)
+        × (s.changes ≡ length (keys_over s.rows all_tables)) };
+}
+
+// How many rows these are in all.
+fn total(rows: &[ShownRows; TABLES]) -> Option<usize>
+    ensures { IfSome result (λ n. n ≡ length (keys_over rows.now all_tables)) }
+{
+    let mut total: usize = 0;
+    for t in Table::ALL {
+        total = total.checked_add(rows[t.index()].len())?;
+    }
+    Some(total)
+}
+
+// The key of that place among them.
+fn place(rows: &[ShownRows; TABLES], i: usize) -> RowKey
+    requires { i < length (keys_over rows.now all_tables) }
+    ensures { slice_get (keys_over rows.now all_tables) i ≡ Some result }
+{
+    let mut left = i;
+    for table in Table::ALL {
+        let here = &rows[table.index()];
+        if left < here.len() {
+            return RowKey {
+                table,
+                row: here.row(left),
+            };
+        }
+        left -= here.len();
+    }
+    unreachable!()
 }
 
 impl Sealed {
-    /// These edits, listed by these keys.
-    pub(crate) fn new(edits: Edits, order: Vec<RowKey>) -> Sealed
-        requires { AreShown edits.counts edits.changes order.items }
-        ensures { result ≡ record {
+    /// These edits, of which these rows are shown.
+    pub(crate) fn new(edits: Edits, rows: [ShownRows; TABLES]) -> Result<Sealed, OutOfMemory>
+        requires { AreShown edits.counts edits.changes (keys_over rows all_tables) }
+        ensures { IfOk result (λ s. s ≡ record {
           counts = edits.counts;
-          changes = listed_changes edits.changes order.items;
-        } }
+          changes = listed_changes edits.changes (keys_over rows all_tables);
+        }) }
     {
-        Sealed { edits, order }
+        let Some(changes) = total(&rows) else {
+            return Err(OutOfMemory);
+        };
+        Ok(Sealed {
+            edits,
+            rows,
+            changes,
+        })
     }
 
     /// How many rows each table is to have, by its index.
@@ -73,7 +115,7 @@ impl Sealed {
     pub fn changes(&self) -> usize
         ensures { result ≡ length self.now.changes }
     {
-        self.order.len()
+        self.changes
     }
 
     /// One of them: its table, its number and its bytes.
@@ -81,7 +123,7 @@ impl Sealed {
         requires { i < length self.now.changes }
         ensures { slice_get self.now.changes i ≡ Some (key result.0 result.1, result.2.now) }
     {
-        let RowKey { table, row } = self.order[i];
+        let RowKey { table, row } = place(&self.rows, i);
         let bytes = self.edits.get(table, row).unwrap_or(&[]);
         (table, row, bytes)
     }
@@ -97,7 +139,7 @@ impl Sealed {
         ensures each { (j : ℕ) → j < result.rows → slice_get self.now.changes (i + j)
             ≡ Some (key result.table (result.first + j), row_at (size_of result.table) result.bytes.now j) }
     {
-        let RowKey { table, row } = self.order[i];
+        let RowKey { table, row } = place(&self.rows, i);
         let count = self.edits.count(table);
         if row < self.edits.base(table) {
             let bytes = self.edits.get(table, row).unwrap_or(&[]);

@@ -7,6 +7,7 @@ ghost use Rattle.el_row_formats.specs.Tables.{row_at};
 ghost use Rattle.el_rows.specs.within.EditedTables.{edited_at, IsWritten, Writes};
 
 use crate::row_list::RowList;
+use crate::shown_rows::ShownRows;
 use el_base::OutOfMemory;
 use indexmap::IndexSet;
 use std::alloc::Global;
@@ -52,6 +53,10 @@ impl TableEdits {
         ensures { option_map (λ b. b.now) result ≡ edited_at base self.now i }
     {
         if i < base {
+            // where nothing was changed, no number is hashed
+            if self.numbers.is_empty() {
+                return None;
+            }
             return match self.numbers.get_index_of(&i) {
                 Some(place) => Some(self.changed.row(place)),
                 None => None,
@@ -128,18 +133,15 @@ impl TableEdits {
         alloc: Global,
         base: u64,
         count: u64,
-    ) -> Result<Vec<u64>, OutOfMemory>
+    ) -> Result<ShownRows, OutOfMemory>
         requires room { count ≤ base + length self.now.added.rows }
         requires below { (i : ℕ) → base ≤ i → lookup (nat_eq i) self.now.changed ≡ None }
-        ensures rising { IfOk result (λ v. IsStrictlyIncreasing v.items) }
-        ensures shown { IfOk result (λ v. (i : ℕ) → list_any (nat_eq i) v.items
+        ensures rising { IfOk result IsStrictlyIncreasing }
+        ensures shown { IfOk result (λ v. (i : ℕ) → list_any (nat_eq i) v
             ≡ (nat_lt i count && is_some (edited_at base self.now i))) }
     {
-        let mut rows = self.changed_below(alloc, count)?;
-        for i in base..count {
-            rows.push(i)?;
-        }
-        Ok(rows)
+        let rows = self.changed_below(alloc, count)?;
+        ShownRows::new(rows, base, count)
     }
 }
 

@@ -13,7 +13,7 @@ use el_chain::ConnectFault;
 use el_row_formats::{EntryRow, ScriptRow, Table};
 use el_rows::{Rows, Txn};
 
-// Writes over the row of a script. It fails only for want of memory, and then nothing has changed.
+// Writes over the row of a script. It fails only out of memory, and then nothing has changed.
 pub(crate) fn put_script<R: Rows>(
     t: &mut Txn<'_, R>,
     n: u64,

@@ -80,7 +80,7 @@ fn drop_script<R: Rows>(t: &mut Txn<'_, R>) -> Result<(), ConnectFault>
 }
 
 /// Takes the last entry away, and with the first entry of a script this, which is the last; where there is no
-/// entry nothing changes. It reads two rows at most. It fails only for want of memory or a disk fault, and
+/// entry nothing changes. It reads two rows at most. It fails only out of memory or by a disk fault, and
 /// then nothing has changed.
 pub fn take_back_entry<R: Rows>(t: &mut Txn<'_, R>) -> Result<(), ConnectFault>
     requires live { R.is_live t.old.rows.now }

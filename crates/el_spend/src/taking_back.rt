@@ -123,7 +123,7 @@ fn unbury<R: Rows>(t: &mut Txn<'_, R>, tx: u64, number: u64) -> Result<(), Conne
 }
 
 /// Takes the last output away: the one that it buried is unspent again. Where there is no output nothing
-/// changes. It fails only for want of memory or a disk fault, and then the transaction of rows may hold a
+/// changes. It fails only out of memory or by a disk fault, and then the transaction of rows may hold a
 /// part.
 pub fn take_back_out<R: Rows>(t: &mut Txn<'_, R>) -> Result<(), ConnectFault>
     requires live { R.is_live t.old.rows.now }

@@ -42,7 +42,7 @@ fn give_back_spent<R: Rows>(t: &mut Txn<'_, R>, k: u64) -> Result<(), ConnectFau
 }
 
 /// Takes the last input away: the output that it spent is unspent again. Where there is no input nothing
-/// changes. It reads three rows at most. It fails only for want of memory or a disk fault, and then the
+/// changes. It reads three rows at most. It fails only out of memory or by a disk fault, and then the
 /// transaction of rows may hold a part.
 pub fn unspend<R: Rows>(t: &mut Txn<'_, R>) -> Result<(), ConnectFault>
     requires live { R.is_live t.old.rows.now }

@@ -29,22 +29,19 @@ AreAdded chain blocks old new = (s : Hash32)
     → list_any (same_hash s) new ≡ (list_any (same_hash s) old || touched_among s chain blocks)
 
 -- The block of a node, which these bytes encode, stands after the chain: the rows are those of the longer
--- chain, and to the script hashes those were added that it touches.
-pub record IsAfter (chain : Chain) (node : Node) (text : List ℕ) (old new : List Hash32) (rows : Tables)
-    (b : Placed) : Type 0 where
+-- chain.
+pub record IsAfter (chain : Chain) (node : Node) (text : List ℕ) (rows : Tables) (b : Placed) : Type 0 where
   pub place : b.place ≡ node.place
   pub encodes : EncodesBlock text b.block
   pub next : IsNext chain b.block
   pub stand : StandFor rows (chain ++ b ∷ [])
   pub hash : tip (chain ++ b ∷ []) ≡ node.hash
-  pub touched : AreAdded chain (b ∷ []) old new
 
 -- The blocks of some nodes do, one after the other.
-pub record AreAfter (chain : Chain) (nodes : List Node) (texts : List (List ℕ)) (old new : List Hash32)
-    (rows : Tables) (blocks : Chain) : Type 0 where
+pub record AreAfter (chain : Chain) (nodes : List Node) (texts : List (List ℕ)) (rows : Tables)
+    (blocks : Chain) : Type 0 where
   pub next : AreNextBlocks chain nodes texts blocks
   pub stand : StandFor rows (chain ++ blocks)
-  pub touched : AreAdded chain blocks old new
 
 -- The rows are those of the chain that the move leads to, with these blocks, and these are the script hashes
 -- that it touches.
@@ -54,7 +51,7 @@ pub record AreMoved (p : Plan) (chain : Chain) (texts : List (List ℕ)) (script
   pub stand : StandFor rows (target p chain blocks)
   pub touched : Touch scripts (coins (shorter p.back chain)) (drop (length chain - p.back) chain ++ blocks)
 
--- no fault of a block, but the device's or want of memory
+-- no fault of a block, but the device's, or out of memory
 abbrev pub IsOwn : MoveFault → Type 0
 IsOwn e = (e ≡ stop.DiskFailed) ⊎ (e ≡ stop.Memory)
 

@@ -1,6 +1,6 @@
 -- What the numbered lists tell of the last transactions: the script hashes of their entries, and of the
 -- outputs that they buried.
-use Rattle.std.specs.Prelude.{◌<◌, ◌≤◌, ℕ, Bool, false, ◌&&◌, List, take, slice_get, option_and_then}
+use Rattle.std.specs.Prelude.{◌<◌, ◌≤◌, ℕ, Bool, true, false, ◌&&◌, nat_lt, List, take, slice_get, Option, None, Some, option_and_then}
 use Rattle.std.specs.List.{list_any, AllByRecursion}
 use Rattle.std.specs.Option.{option_map_or}
 use Rattle.el_base.specs.declared.hash.Hash32.{Hash32}
@@ -18,6 +18,11 @@ is_at s scripts n = option_map_or (same_hash s) (slice_get scripts n) false
 -- the entry is of the script hash
 abbrev pub is_entry_of : Hash32 → Lists → ListedEntry → Bool
 is_entry_of s l e = is_at s l.scripts e.script
+
+-- the link names no entry from that number on
+abbrev pub is_below : ℕ → Option ℕ → Bool
+is_below n None = true
+is_below n (Some m) = nat_lt m n
 
 -- Of entries, these are the ones of transactions from that number on, and those before them are of
 -- transactions below it.

@@ -75,6 +75,20 @@ pub record AreEdited (base counts : List ℕ) (tables : List EditedTable) : Type
   pub reach : (t : Table) → count_at counts t ≤ count_at base t + length (edits_of tables t).added.rows
   pub limited : (t : Table) → count_at counts t ≤ limit_of t
 
+-- the rows of a table among those of all tables
+abbrev pub rows_at : List (List ℕ) → Table → List ℕ
+rows_at rows t = get_or rows (index_of t) []
+
+-- the tables in order
+abbrev pub all_tables : List Table
+all_tables = table.Blocks ∷ table.Txs ∷ table.TxHeads ∷ table.Outs
+    ∷ table.Ins ∷ table.Scripts ∷ table.ScriptHeads ∷ table.Entries ∷ []
+
+-- the keys of the rows of these tables, table by table
+abbrev pub keys_over : List (List ℕ) → List Table → List RowKey
+keys_over rows [] = []
+keys_over rows (t ∷ ts) = map (key t) (rows_at rows t) ++ keys_over rows ts
+
 -- the changed rows of these keys
 abbrev pub listed_changes : Changes → List RowKey → Changes
 listed_changes changes keys = map (λ k. (k, unwrap_or (changed_at changes k.table k.row) [])) keys

@@ -1,5 +1,5 @@
 -- The eight tables in memory.
-use Rattle.std.specs.Prelude.{◌≡◌, ◌<◌, ◌≤◌, ℕ, List, [], length, get_or, take, unwrap_or}
+use Rattle.std.specs.Prelude.{◌≡◌, ◌<◌, ◌≤◌, ℕ, List, [], length, get_or, take, drop, None, unwrap_or}
 use Rattle.el_row_formats.specs.declared.table.Table.{Table}
 use Rattle.el_row_formats.specs.Tables.{Tables, index_of, size_of, limit_of}
 use Rattle.el_rows.specs.Changes.{Changes, changed_at, count_at}
@@ -49,4 +49,12 @@ pub record AreWritten (old new : List SizedRows) (changes : Changes) : Type 0 wh
   pub sizes : (t : Table) → (list_of new t).size ≡ (list_of old t).size
   pub long : (t : Table) → length (kept_of new t) ≡ length (kept_of old t)
   pub each : (t : Table) (i : ℕ) → i < length (kept_of old t)
+      → get_or (kept_of new t) i [] ≡ unwrap_or (changed_at changes t i) (get_or (kept_of old t) i [])
+
+-- the first k of the changed rows are written over, the others still stand as they were
+pub record AreWriting (old new : List SizedRows) (changes : Changes) (k : ℕ) : Type 0 where
+  pub tables : length new ≡ length old
+  pub sizes : (t : Table) → (list_of new t).size ≡ (list_of old t).size
+  pub long : (t : Table) → length (kept_of new t) ≡ length (kept_of old t)
+  pub each : (t : Table) (i : ℕ) → i < length (kept_of old t) → changed_at (drop k changes) t i ≡ None
       → get_or (kept_of new t) i [] ≡ unwrap_or (changed_at changes t i) (get_or (kept_of old t) i [])

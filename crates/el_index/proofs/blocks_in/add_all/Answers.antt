@@ -14,7 +14,7 @@ loop-index-init g c = record {
   edits = as_edited (nothing c.args.t.now c.requires.live);
   more = omega arith;
   left = record { nodes_left = c.requires.nodes; of = c.requires.of };
-  adding = λ chain told stand linked. adding_begins chain c.args.nodes.now c.args.texts.now c.args.touched.now (tables_in {G = g.R.Rows} c.args.t.now) stand linked;
+  adding = λ chain told stand linked. adding_begins chain c.args.nodes.now c.args.texts.now (tables_in {G = g.R.Rows} c.args.t.now) stand linked;
 }
 
 pub bounds-texts-index : goal.bounds-texts-index
@@ -33,8 +33,8 @@ returns-in_err-add_one-clause-first_fault g c chain told stand linked =
     let was = c.loop-index.invariant.adding chain told stand linked in
     err_passed c.from_residual.result (λ e. IsOwn e ⊎ FaultInAt chain c.args.nodes.now c.args.texts.now e) c.in_err-add_one.field-0.0
     (err_from_is_err_and c.from_residual.result c.from_residual.ensures.1)
-    (adding_stops chain c.args.nodes.now c.args.texts.now c.loop-index.index _ _ _ was.0 _ _ _ was.1 n
-    (rw c.as_slice.ensures at c.in_err-add_one.ensures.first_fault (chain ++ was.0) told was.1.after.stand (adding_names _ _ _ _ _ _ _ _ _ _ was.1 n)))
+    (adding_stops chain c.args.nodes.now c.args.texts.now c.loop-index.index _ was.0 _ _ _ was.1 n
+    (rw c.as_slice.ensures at c.in_err-add_one.ensures.first_fault (chain ++ was.0) told was.1.after.stand (adding_names _ _ _ _ _ _ _ _ was.1 n)))
 
 pub loop-index-preserved : goal.loop-index-preserved
 loop-index-preserved g c =
@@ -45,9 +45,9 @@ loop-index-preserved g c =
       left = n.rest;
       adding = λ chain told stand linked.
           let was = c.loop-index.invariant.adding chain told stand linked in
-          let done = rw c.as_slice.ensures at c.in_ok-add_one.ensures.added (chain ++ was.0) told was.1.after.stand (adding_names _ _ _ _ _ _ _ _ _ _ was.1 n) in (
+          let done = rw c.as_slice.ensures at c.in_ok-add_one.ensures.added (chain ++ was.0) told was.1.after.stand (adding_names _ _ _ _ _ _ _ _ was.1 n) in (
             was.0 ++ done.0 ∷ [],
-            adding_more chain c.args.nodes.now c.args.texts.now c.loop-index.index _ _ _ _ _ was.0 _ _ done.0 was.1 n done.1,
+            adding_more chain c.args.nodes.now c.args.texts.now c.loop-index.index _ _ was.0 _ _ done.0 was.1 n done.1,
           );
     }
 
@@ -55,5 +55,5 @@ pub returns-clause-added : goal.returns-clause-added
 returns-clause-added g c chain told stand linked =
     let was = c.loop-index.invariant.adding chain told stand linked in (
       was.0,
-      adding_ends chain c.args.nodes.now c.args.texts.now c.loop-index.index _ _ _ was.0 was.1 (let t = c.loop-index-test.false in omega arith) (same_length c.args.nodes.now c.args.texts.now c.requires.of),
+      adding_ends chain c.args.nodes.now c.args.texts.now c.loop-index.index _ was.0 was.1 (let t = c.loop-index-test.false in omega arith) (same_length c.args.nodes.now c.args.texts.now c.requires.of),
     )

@@ -14,5 +14,5 @@ invariant-loop-index g l = record {
   more : length (tables_in {G = g.R.Rows} l.t table.Blocks) ≡ length (tables_in {G = g.R.Rows} l.fn.t table.Blocks) + l.index;
   left : Left l.nodes l.texts l.index;
   adding : (chain : Chain) → g.R.Rows.tells → StandFor (tables_in {G = g.R.Rows} l.fn.t) chain → AreLinked (tip chain) l.nodes
-      → (blocks : Chain) × IsAdding chain l.nodes l.texts l.index l.fn.touched l.touched (tables_in {G = g.R.Rows} l.t) blocks;
+      → (blocks : Chain) × IsAdding chain l.nodes l.texts l.index (tables_in {G = g.R.Rows} l.t) blocks;
 }

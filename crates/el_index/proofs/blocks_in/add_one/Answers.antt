@@ -23,15 +23,9 @@ returns-in_err-connect_for-clause-first_fault g c chain told stand names =
     (err_from_is_err_and c.from_residual-in_err-connect_for.result c.from_residual-in_err-connect_for.ensures.1)
     (c.in_err-connect_for.ensures.first_fault chain r.0 c.args.text.now told stand r.1 r.2 named)
 
-pub returns-in_err-touch-clause-first_fault : goal.returns-in_err-touch-clause-first_fault
-returns-in_err-touch-clause-first_fault g c chain told stand names =
-    err_passed c.from_residual-in_err-touch.result (λ e. IsOwn e ⊎ IsStop chain c.args.node.now.hash c.args.text.now e) c.in_err-touch.field-0.0
-    (err_from_is_err_and c.from_residual-in_err-touch.result c.from_residual-in_err-touch.ensures.1) (inl c.in_err-touch.ensures.own)
-
 pub returns-clause-added : goal.returns-clause-added
 returns-clause-added g c chain told stand names =
     let r = c.in_ok-prepared.ensures.read in
     let named = names_tip c.args.node.now c.args.text.now r.0 _ c.requires.node c.requires.of r.1 names in
     let done = c.in_ok-connect_for.ensures.connected chain r.0 told stand (c.args.text.now, r.1) r.2 named in
-    is_after chain c.args.node.now c.args.text.now c.args.touched.now c.touch.new.touched (tables_in {G = g.R.Rows} c.connect_for.new.t) _ r.0 c.requires.node c.requires.of r.1 named done c.touch.ensures.read.tables
-    (c.in_ok-touch.ensures.touched chain _ told done.1)
+    is_after chain c.args.node.now c.args.text.now (tables_in {G = g.R.Rows} c.connect_for.new.t) r.0 c.requires.node c.requires.of r.1 named done

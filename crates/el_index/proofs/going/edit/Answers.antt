@@ -1,9 +1,12 @@
-use Rattle.std.proofs.Common.{◌⊎◌, inl, ℕ, ◌+◌, length, ap, ap₂, ◌∙◌}
+use Rattle.std.proofs.Common.{◌⊎◌, inl, ℕ, ◌+◌, length, ap, ap₂, sym, ◌∙◌}
 use Rattle.std.proofs.lemmas.Result.{err_from_is_err_and}
 use Rattle.el_chain.specs.Moves.{FaultInAt, shorter}
 use Rattle.el_chain.proofs.CoinSteps.{err_passed}
 use Rattle.el_index.specs.within.Adding.{IsOwn}
-use Rattle.el_index.proofs.Addings.{are_moved}
+use Rattle.el_row_formats.specs.Tables.{Tables}
+use Rattle.el_row_formats.specs.declared.table.Table.TheVariants as table
+use Rattle.el_rows.specs.Transaction.{tables_in}
+use Rattle.el_index.proofs.Addings.{are_moved, moved_same}
 use Rattle.el_index.proofs.going.edit.Goals as goal
 
 pub returns-in_err-take_back-clause-first_fault : goal.returns-in_err-take_back-clause-first_fault
@@ -18,14 +21,25 @@ returns-in_err-add_all-clause-first_fault g c chain told stand fits =
     (err_from_is_err_and c.from_residual-in_err-add_all.result c.from_residual-in_err-add_all.ensures.1)
     (rw c.as_slice.ensures at c.in_err-add_all.ensures.first_fault base told (c.in_ok-take_back.ensures.back chain told stand fits.within) fits.linked)
 
+pub returns-in_err-touch_all-clause-first_fault : goal.returns-in_err-touch_all-clause-first_fault
+returns-in_err-touch_all-clause-first_fault g c chain told stand fits =
+    err_passed c.from_residual-in_err-touch_all.result (λ e. IsOwn e ⊎ FaultInAt (shorter c.args.plan.now.back chain) c.args.plan.now.forward c.args.texts.now e) c.in_err-touch_all.field-0.0
+    (err_from_is_err_and c.from_residual-in_err-touch_all.result c.from_residual-in_err-touch_all.ensures.1) (inl c.in_err-touch_all.ensures.own)
+
 pub returns-clause-moved : goal.returns-clause-moved
 returns-clause-moved g c chain told stand fits =
     let base = shorter c.args.plan.now.back chain in
-    let after = rw c.as_slice.ensures at c.in_ok-add_all.ensures.added base told (c.in_ok-take_back.ensures.back chain told stand fits.within) fits.linked in (
+    let before = tables_in {G = g.R.Rows} c.take_back.new.t in
+    let back = c.in_ok-take_back.ensures.back chain told stand fits.within in
+    let after = rw c.as_slice.ensures at c.in_ok-add_all.ensures.added base told back fits.linked in (
       after.0,
-      are_moved c.each_block_touches_what_the_move_touches.ensures c.args.plan.now chain c.args.texts.now c.args.touched.now c.take_back.new.touched c.add_all.new.touched _ after.0 stand.stand.good c.requires.none
-          (c.in_ok-take_back.ensures.touched chain told stand fits.within) after.1,
+      moved_same c.args.plan.now chain c.args.texts.now _ _ _ after.0 (sym c.touch_all.ensures.read.tables)
+          (are_moved c.each_block_touches_what_the_move_touches.ensures c.args.plan.now chain c.args.texts.now c.args.touched.now c.take_back.new.touched c.touch_all.new.touched _ after.0 stand.stand.good c.requires.none
+          (c.in_ok-take_back.ensures.touched chain told stand fits.within) after.1
+          (λ s. c.in_ok-touch_all.ensures.touched base after.0 before s told after.1.stand back c.count-txs.ensures.count c.count-entries.ensures.count)),
     )
 
 pub returns-clause-top : goal.returns-clause-top
-returns-clause-top g c = c.in_ok-add_all.ensures.more ∙ ap₂ (λ (a b : ℕ). a + b) c.in_ok-take_back.ensures.fewer (ap length c.as_slice.ensures)
+returns-clause-top g c =
+    ap (λ (T : Tables). length (T table.Blocks)) c.touch_all.ensures.read.tables
+    ∙ c.in_ok-add_all.ensures.more ∙ ap₂ (λ (a b : ℕ). a + b) c.in_ok-take_back.ensures.fewer (ap length c.as_slice.ensures)

@@ -20,7 +20,7 @@ invariant-loop-n g l =
       read : SoFar {G = g.R.Rows} l.fn.t l.t;
       within : l.n ≤ length (shown table.Entries);
       walk : (counts : HeadCounts) (bs : List ListedBlock) (ls : Lists) (s : hash.Hash32) (before own : List ListedEntry) → g.R.Rows.tells → Hold counts bs ls shown
-          → ls.entries ≡ before ++ own → AreLast l.first before own
+          → ls.entries ≡ before ++ own → AreLast l.first before own → length before ≤ l.since
           → EntriesLeft (is_entry_of s ls) before own l.n (list_any (same_hash s) l.touched) (list_any (same_hash s) l.fn.touched || list_any (is_entry_of s ls) own);
     }
 

@@ -1,18 +1,16 @@
-use Rattle.std.proofs.Common.{◌≡◌, ◌-◌, ◌||◌, ◌++◌, ◌∷◌, [], Bool, Some, length, ap, sym, subst, ◌∙◌}
+use Rattle.std.proofs.Common.{◌≡◌, ◌<◌, ◌+◌, ◌||◌, ◌++◌, ◌∷◌, [], Bool, Some, length, ap, sym, subst, ◌∙◌, arith, length-append}
 use Rattle.std.specs.List.{list_any}
 use Rattle.el_chain.specs.Headers.{same_hash}
 use Rattle.el_chain.specs.History.{positions}
 use Rattle.el_rows.specs.Transaction.{tables_in}
 use Rattle.el_tables.specs.ChainLists.{lists, listed_blocks}
-use Rattle.el_tables.specs.Tables.{numbers_from}
 use Rattle.el_schema.specs.Rows.{Hold}
 use Rattle.el_schema.specs.Standing.{heads_in}
+use Rattle.el_schema.proofs.Held.{count_entries}
 use Rattle.el_schema.proofs.StandingLemmas.{holds}
 use Rattle.el_schema.proofs.Rows.{on_success}
 use Rattle.el_queries.specs.TouchedBy.{touched_in}
-use Rattle.el_queries.specs.within.LastBlock.{is_entry_of, buries}
 use Rattle.el_queries.proofs.BlockTouches.{last_told, last_first, some_heads, TellsLast, none_first, all_told}
-use Rattle.el_queries.proofs.Walks.{or_assoc}
 use Rattle.el_queries.proofs.touching.touch_last.Goals as goal
 
 pub returns-in_default-clause-touched : goal.returns-in_default-clause-touched
@@ -24,18 +22,15 @@ returns-in_default-clause-touched g c chain b s told stand =
 pub returns-clause-touched : goal.returns-clause-touched
 returns-clause-touched g c chain b s told stand =
     let all = chain ++ b ∷ [] in
+    let shown = tables_in {G = g.R.Rows} c.first_tx.new.t in
     let hold = (holds (tables_in {G = g.R.Rows} c.args.t.now) all stand).1 in
     let first : Some c.in-Some.first ≡ Some (length (positions chain)) =
     sym c.in-Some.is ∙ c.in_ok-first.ensures.first (heads_in all) (listed_blocks all) (lists all) told hold ∙ last_first chain b in
     let tells = subst (TellsLast s chain b) (all_told first) (last_told s chain b) in
     let hold_2 = subst (λ T. Hold (heads_in all) (listed_blocks all) (lists all) T) (sym c.first_tx.ensures.read.tables) hold in
-    let hold_3 = subst (λ T. Hold (heads_in all) (listed_blocks all) (lists all) T) (sym c.touch_entries.ensures.read.tables) hold_2 in
+    let many = count_entries (heads_in all) (listed_blocks all) (lists all) shown hold_2 in
+    let sum = ap length tells.split ∙ length-append tells.before tells.own in
     let old = list_any (same_hash s) c.args.touched.now in
-    let mid = list_any (same_hash s) c.touch_entries.new.touched in
-    let now = list_any (same_hash s) c.touch_all_buried.new.touched in
-    let own = list_any (is_entry_of s (lists all)) tells.own in
-    let buried = list_any (buries s (lists all)) (numbers_from c.in-Some.first (length (lists all).txs - c.in-Some.first)) in
-    let entries = c.in_ok-touch_entries.ensures.touched (heads_in all) (listed_blocks all) (lists all) s tells.before tells.own told hold_2 tells.split tells.last in
-    on_success (now ≡ (mid || buried)) (now ≡ (old || touched_in s chain b)) c.touch_all_buried.result
-    (c.touch_all_buried.ensures.touched (heads_in all) (listed_blocks all) (lists all) s told hold_3 (some_heads chain b))
-    (λ h. h ∙ ap (λ (x : Bool). x || buried) entries ∙ or_assoc old own buried ∙ ap (λ (x : Bool). old || x) (sym tells.is))
+    on_success _ _ c.touch_from.result
+    (c.touch_from.ensures.touched (heads_in all) (listed_blocks all) (lists all) s tells.before tells.own told hold_2 (some_heads chain b) tells.split tells.last (omega (arith, many, sum, c.count-entries.ensures.count)))
+    (λ h. h ∙ ap (λ (x : Bool). old || x) (sym tells.is))

@@ -1,10 +1,19 @@
-use Rattle.std.proofs.Common.{◌+◌, arith, List, ℕ, subst, sym}
-use Rattle.el_rows.proofs.ShownLemmas.{AreShownTo, changed_to, added_to}
+use Rattle.std.proofs.Common.{◌≡◌, ◌+◌, ◌++◌, ◌-◌, ℕ, List, arith, subst, sym}
+use Rattle.std.specs.List.{range_with_len}
+use Rattle.std.specs.List.Sorted.{IsStrictlyIncreasing}
+use Rattle.std.proofs.lemmas.Result.{IfOk-weaker}
+use Rattle.el_rows.proofs.ShownLemmas.{AreShownTo, changed_to, range_to, shown_all}
 use Rattle.el_rows.proofs.table_edits.TableEdits.shown.Goals as goal
+use Rattle.el_rows.proofs.table_edits.TableEdits.shown.Goals.{After-new}
 
-pub loop-i-init : goal.loop-i-init
-loop-i-init c = changed_to c.args.base c.args.count c.args.self.now c.requires.below c.in_ok-rows.rows.items c.in_ok-rows.ensures.rising c.in_ok-rows.ensures.shown
+shown_to : (c : After-new) (v : List ℕ) → v ≡ c.in_ok-rows.rows.items ++ range_with_len c.args.base (c.args.count - c.args.base) → AreShownTo c.args.base c.args.count c.args.self.now (c.args.base + (c.args.count - c.args.base)) v
+shown_to c v is = subst (λ (rows : List ℕ). AreShownTo c.args.base c.args.count c.args.self.now (c.args.base + (c.args.count - c.args.base)) rows) (sym is)
+    (range_to c.args.base c.args.count c.args.self.now c.requires.below c.in_ok-rows.rows.items
+    (changed_to c.args.base c.args.count c.args.self.now c.requires.below c.in_ok-rows.rows.items c.in_ok-rows.ensures.rising c.in_ok-rows.ensures.shown) c.requires.room
+    (c.args.count - c.args.base) (omega arith))
 
-pub loop-i-preserved : goal.loop-i-preserved
-loop-i-preserved c = subst (λ (rows : List ℕ). AreShownTo c.args.base c.args.count c.args.self.now (c.loop-i.i + 1) rows) (sym c.in_ok-push.ensures.items)
-    (added_to c.args.base c.args.count c.args.self.now c.requires.below c.loop-i.i c.loop-i.rows.items c.loop-i.invariant (omega (arith, c.loop-i.auto.i)) (omega (arith, c.loop-i-test.true)) c.requires.room)
+pub returns-clause-rising : goal.returns-clause-rising
+returns-clause-rising c = IfOk-weaker c.new.result _ _ (λ v is. (shown_to (goal.at.returns-clause-rising c).After-new v is).rising) c.new.ensures
+
+pub returns-clause-shown : goal.returns-clause-shown
+returns-clause-shown c = IfOk-weaker c.new.result _ _ (λ v is. shown_all c.args.base c.args.count c.args.self.now (c.args.base + (c.args.count - c.args.base)) v (shown_to (goal.at.returns-clause-shown c).After-new v is) (omega arith)) c.new.ensures
