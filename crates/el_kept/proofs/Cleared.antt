@@ -53,7 +53,7 @@ none_without id (k ∷ ks) none = by (same_hash id k.txid) refl none (none_witho
 
 -- ---- slots
 
-none_with : (id k : Hash32) (es : List Slot) → id ≡ k → StandRight es → AllByRecursion (λ q. same_hash k q ≡ false) (keys_of es) → AllByRecursion (λ (e : KeptTx). same_hash e.txid id ≡ false) (standing es)
+pub none_with : (id k : Hash32) (es : List Slot) → id ≡ k → StandRight es → AllByRecursion (λ q. same_hash k q ≡ false) (keys_of es) → AllByRecursion (λ (e : KeptTx). same_hash e.txid id ≡ false) (standing es)
 none_with id k [] is right apart = tt
 none_with id k ((q, None) ∷ es) is right apart = none_with id k es is right.1 apart.1
 none_with id k ((q, Some e) ∷ es) is right apart =
@@ -92,10 +92,10 @@ cleared_right id ((k, v) ∷ es) right = elim (cases_Bool (same_hash id k)) [
 abbrev pub Sizes : List KeptTx → List KeptTx → KeptTx → Type 0
 Sizes old new e = (length old ≡ length new + 1) × (sum_by (λ (k : KeptTx). length k.bytes) old ≡ sum_by (λ (k : KeptTx). length k.bytes) new + length e.bytes)
 
-some_same : (d e : KeptTx) → Some d ≡ Some e → d ≡ e
+pub some_same : (d e : KeptTx) → Some d ≡ Some e → d ≡ e
 some_same d e h = cc
 
-none_some : (e : KeptTx) → None ≡ Some e → ⊥
+pub none_some : (e : KeptTx) → None ≡ Some e → ⊥
 none_some e h = cc
 
 cleared_sizes : (id : Hash32) (es : List Slot) (e : KeptTx) → option_flatten (lookup (same_hash id) es) ≡ Some e → Sizes (standing es) (standing (insert_entry same_hash es id None)) e
@@ -121,7 +121,7 @@ cleared_sizes id ((k, Some d) ∷ es) e is = elim (cases_Bool (same_hash id k)) 
       rw h (omega (arith, a), omega (arith, b, first, second))
 ]
 
-only_one : (id : Hash32) (es : List Slot) (e : KeptTx) → StandRight es → IsDistinct same_hash (keys_of es) → option_flatten (lookup (same_hash id) es) ≡ Some e
+pub only_one : (id : Hash32) (es : List Slot) (e : KeptTx) → StandRight es → IsDistinct same_hash (keys_of es) → option_flatten (lookup (same_hash id) es) ≡ Some e
     → AllByRecursion (λ (k : KeptTx). same_hash k.txid id ≡ true → k ≡ e) (standing es)
 unfolding IsDistinct
 only_one id [] e right once is = tt

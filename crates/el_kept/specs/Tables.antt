@@ -1,5 +1,5 @@
 -- The tables of a set: its transactions by their txids, in order of arrival, and who takes an outpoint.
-use Rattle.std.specs.Prelude.{◌≡◌, ℕ, ◌+◌, ◌*◌, ◌<◌, ◌≤◌, Bool, true, false, not, List, [], ◌∷◌, ◌++◌, length, find, filter, Option, None, Some, option_map, option_and_then, option_to_list, slice_get, sum_by, IfSome}
+use Rattle.std.specs.Prelude.{◌≡◌, ℕ, ℤ, ◌+◌, ◌*◌, ◌<◌, ◌≤◌, Bool, true, false, not, ◌&&◌, if◌then◌else◌, List, [], ◌∷◌, ◌++◌, length, find, filter, Option, None, Some, option_map, option_and_then, option_to_list, slice_get, sum_by, IfSome}
 use Rattle.std.specs.List.{AllByRecursion, list_any}
 use Rattle.std.specs.Option.{option_flatten}
 use Rattle.indexmap.specs.IndexMap.{get, IsUnique, spare}
@@ -12,6 +12,7 @@ use Rattle.el_mempool.specs.declared.held.Source.{Source}
 use Rattle.el_mempool.specs.declared.held.KeptTx.{KeptTx}
 use Rattle.el_mempool.specs.Standing.{is_at_script}
 use Rattle.el_kept.specs.declared.table.Table.{Table}
+use Rattle.el_kept.specs.declared.retaking.Takes.{Takes}
 
 -- the transactions that stand in the table; None stands where one was dropped
 abbrev pub standing : List (Hash32 × Option KeptTx) → List KeptTx
@@ -84,3 +85,25 @@ pub record AreSame (t u : Table) : Type 0 where
 pub record HasRoom (t : Table) (inputs : ℕ) : Type 0 where
   pub kept : 1 < spare t.kept
   pub spenders : inputs ≤ spare t.spenders
+
+-- the entry with that flag and fee and these inputs
+abbrev pub with_takes : KeptTx → ℤ → ℕ → List Source → KeptTx
+with_takes k flag fee inputs =
+    record { txid = k.txid; flag = flag; fee = fee; bytes = k.bytes; inputs = inputs; outputs = k.outputs }
+
+-- both take the same outpoints in the same order
+abbrev pub same_froms : List Source → List Source → Bool
+same_froms [] [] = true
+same_froms [] (b ∷ bs) = false
+same_froms (a ∷ xs) [] = false
+same_froms (a ∷ xs) (b ∷ bs) = same_outpoint a.from b.from && same_froms xs bs
+
+-- it is told of this entry's outpoints
+abbrev pub is_of : Takes → Option KeptTx → Bool
+is_of c None = false
+is_of c (Some k) = same_froms k.inputs c.inputs
+
+-- the entry takes what is told of it, if this is of its txid and its outpoints
+abbrev pub retaken : Takes → KeptTx → KeptTx
+retaken c k =
+    if same_hash c.txid k.txid && same_froms k.inputs c.inputs then with_takes k c.flag c.fee c.inputs else k

@@ -4,12 +4,14 @@
 
 mod listing;
 mod putting;
+mod retaking;
 mod table;
 mod taking;
 mod telling;
 
 pub use listing::{Listing, list_under, unlist};
-pub use putting::{join, put_new};
+pub use putting::join;
+pub use retaking::{Takes, is_as_was, is_of_kept, retake};
 pub use table::{Table, empty_table, kept_under, output_in, taker_in};
-pub use taking::{take_all, take_out_all, tidy};
+pub use taking::{take_out_all, tidy};
 pub use telling::{entries_at, outs_at};

@@ -160,9 +160,9 @@ fn sum_of(a: u64, b: u64) -> Result<u64, OutOfMemory>
     }
 }
 
-/// Puts the entry, whose txid is new and which takes what nobody takes, after the others. Fails only where
-/// memory runs out, and then changes nothing that can be seen.
-pub fn put_new(table: &mut Table, entry: KeptTx) -> Result<(), OutOfMemory>
+// Puts the entry, whose txid is new and which takes what nobody takes, after the others. Fails only where
+// memory runs out, and then changes nothing that can be seen.
+fn put_new(table: &mut Table, entry: KeptTx) -> Result<(), OutOfMemory>
     requires table { IsTable table.old (standing table.old.kept.entries) }
     requires new { by_txid entry.txid (standing table.old.kept.entries) ≡ None }
     requires free { AllByRecursion (λ (s : source_shape.Source).

@@ -1,8 +1,8 @@
 // Kept transactions are taken out of the tables.
-ghost use Rattle.std.specs.Prelude.{◌≡◌, ◌≤◌, ◌<◌, ◌+◌, true, Option, filter, length, [], ◌∷◌, None, IfOk, OnOk, if◌then◌else◌};
+ghost use Rattle.std.specs.Prelude.{◌≡◌, true, Option, filter, [], ◌∷◌, None, if◌then◌else◌};
 ghost use Rattle.std.specs.List.{list_any};
 ghost use Rattle.std.specs.Option.{is_some, option_flatten};
-ghost use Rattle.indexmap.specs.IndexMap.{get, spare, insert_entry, IsUnique};
+ghost use Rattle.indexmap.specs.IndexMap.{get, insert_entry, IsUnique};
 ghost use Rattle.el_base.specs.declared.hash.Hash32 as shape;
 ghost use Rattle.el_chain.specs.Headers.{same_hash};
 ghost use Rattle.el_tx.specs.Hashing.{same_outpoint};
@@ -12,14 +12,12 @@ ghost use Rattle.el_kept.specs.Tables.{standing, is_source_of, without, IsTable,
 ghost use Rattle.el_kept.specs.Listings.{AreListed};
 
 use crate::listing::{Listing, unlist};
-use crate::table::{Table, empty_table, kept_under};
-use el_base::{Hash32, OutOfMemory};
+use crate::table::{Table, kept_under};
+use el_base::Hash32;
 use el_mempool::{KeptTx, Source};
 use el_tx::Outpoint;
 use indexmap::IndexMap;
-use std::alloc::Global;
 use std::collections::BTreeSet;
-use std::mem;
 
 // Nobody takes the outpoint.
 fn free_taker(spenders: &mut IndexMap<Outpoint, Hash32>, outpoint: &Outpoint)
@@ -40,7 +38,7 @@ fn free_takers(spenders: &mut IndexMap<Outpoint, Hash32>, inputs: &[Source])
 }
 
 // Takes the entry out of its slot, which stays.
-fn clear_slot(kept: &mut IndexMap<Hash32, Option<KeptTx>>, id: &Hash32) -> Option<KeptTx>
+pub(crate) fn clear_slot(kept: &mut IndexMap<Hash32, Option<KeptTx>>, id: &Hash32) -> Option<KeptTx>
     requires { is_some (option_flatten (get same_hash kept.old id.now)) ≡ true }
     ensures was { result ≡ option_flatten (get same_hash kept.old id.now) }
     ensures entries { kept.new.entries ≡ insert_entry same_hash kept.old.entries id.now None }
@@ -113,38 +111,4 @@ pub fn tidy(table: &mut Table)
     if (table.kept.len() as u64) / 2 > table.count {
         remove_empty(&mut table.kept);
     }
-}
-
-// How many transactions are kept, and one more.
-fn one_more(table: &Table) -> usize
-    requires { IsTable table.now (standing table.now.kept.entries) }
-    ensures { result ≡ table.now.count + 1 }
-{
-    // There are no more than there are slots, and these are counted by a number of 63 bits.
-    let _slots = table.kept.len();
-    table.count as usize + 1
-}
-
-/// Takes all slots out of the table, in their order, and leaves a table of nothing that has room for one
-/// transaction more than were kept and for as many taken outpoints as there were. Fails only where memory
-/// runs out, and then leaves a table of nothing too.
-pub fn take_all(
-    alloc: Global,
-    table: &mut Table,
-) -> Result<IndexMap<Hash32, Option<KeptTx>>, OutOfMemory>
-    requires { IsTable table.old (standing table.old.kept.entries) }
-    ensures slots { IfOk result (λ slots. slots ≡ table.old.kept) }
-    ensures table { IsTable table.new [] }
-    ensures few { HasFewSlots table.new }
-    ensures room { OnOk result ((table.old.count < spare table.new.kept)
-        × (length table.old.spenders.entries ≤ spare table.new.spenders)) }
-{
-    let count = one_more(table);
-    let taken = table.spenders.len();
-    let Table { kept, spenders, .. } = mem::replace(table, empty_table(alloc));
-    // Who takes an outpoint is found anew, so this memory is given back before more is asked for.
-    drop(spenders);
-    table.kept.reserve(count)?;
-    table.spenders.reserve(taken)?;
-    Ok(kept)
 }

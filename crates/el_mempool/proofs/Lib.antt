@@ -14,3 +14,5 @@ pub mod Moved
 pub mod Sifted
 pub mod Worth
 pub mod ShownOrder
+pub mod Walks
+pub mod Whole

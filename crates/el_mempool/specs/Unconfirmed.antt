@@ -21,7 +21,7 @@ use Rattle.el_mempool.specs.declared.held.Held.{Held}
 use Rattle.el_mempool.specs.declared.entry.PoolEntry.{PoolEntry}
 use Rattle.el_mempool.specs.Sift.{output_among, is_taken, held_by, total_held}
 
--- -1 where an input is an output of a kept one, else 0
+-- the `height` of the protocol: -1 where an input is an output of a kept one, else 0
 abbrev pub flag : List Tx → Tx → ℤ
 flag kept t =
     if list_any (λ (i : TxIn). is_some (output_among i.from kept)) t.inputs then negsuc 0 else pos 0

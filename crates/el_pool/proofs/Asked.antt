@@ -44,7 +44,7 @@ pub named_coin : (chain : Chain) (kept : List Tx) (o : Outpoint) (c : Coin) (fou
 named_coin chain kept o c found is some = ap (λ x. option_or (option_map coin_held x) (output_among o kept)) (sym some ∙ is)
 
 -- an output of a kept one is no coin of the chain
-kept_unspent : (chain : Chain) (o : Outpoint) (v : Held) (ts : List Tx) → AreFresh chain ts → output_among o ts ≡ Some v → coin_named chain o ≡ None
+pub kept_unspent : (chain : Chain) (o : Outpoint) (v : Held) (ts : List Tx) → AreFresh chain ts → output_among o ts ≡ Some v → coin_named chain o ≡ None
 kept_unspent chain o v [] fresh h = absurd (cc)
 kept_unspent chain o v (t ∷ ts) fresh h = elim (cases_Bool (same_hash (txid t) o.txid)) [
   | inl e ↦ unconfirmed_none chain o (ap (is_confirmed chain) (sym (hash_same (txid t) o.txid e)) ∙ fresh.0)

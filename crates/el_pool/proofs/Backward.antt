@@ -1,8 +1,8 @@
--- A transaction's inputs, from the last to the first: their conflicts, and whether they are free.
-use Rattle.std.proofs.Common.{◌≡◌, ℕ, ◌+◌, ◌-◌, ◌<◌, ◌≤◌, true, false, Bool, cond, ◌||◌, ◌&&◌, not, List, [], length, drop, get_or, Option, None, Some, refl, ap, sym, subst, ◌∙◌, arith}
+-- The conflicts of a transaction's inputs, from the last to the first.
+use Rattle.std.proofs.Common.{◌≡◌, ℕ, ◌+◌, ◌-◌, ◌<◌, ◌≤◌, true, false, Bool, cond, ◌||◌, List, [], length, drop, get_or, Option, None, Some, refl, ap, sym, subst, ◌∙◌, arith}
 use Rattle.std.proofs.lemmas.List.{drop_all, drop_more}
 use Rattle.std.specs.List.{list_any}
-use Rattle.std.specs.Option.{option_or, is_some}
+use Rattle.std.specs.Option.{option_or}
 use Rattle.std.specs.Prelude.{option_map, ◌≢◌}
 use Rattle.el_base.specs.declared.hash.Hash32.{Hash32}
 use Rattle.el_tx.specs.declared.types.Outpoint.{Outpoint}
@@ -12,10 +12,7 @@ use Rattle.el_mempool.specs.declared.fault.PoolFault.{PoolFault}
 use Rattle.el_mempool.specs.declared.fault.PoolFault.TheVariants as refusal
 use Rattle.el_mempool.specs.Refusals.{where_so}
 use Rattle.el_mempool.specs.Sift.{any_takes}
-use Rattle.el_mempool.specs.declared.held.Source.{Source}
-use Rattle.el_kept.specs.Tables.{is_source_of}
 use Rattle.el_pool.specs.within.Tables.{conflict_by, first_conflict}
-use Rattle.el_pool.specs.within.Renewal.{are_free}
 
 -- what is known of the inputs from a place on: their first conflict, and what they take
 pub record AreKnown (taker : Outpoint → Option Hash32) (id : Hash32) (is : List TxIn) (first : Option PoolFault)
@@ -65,41 +62,3 @@ one_back taker id is n d o first now here later more lt item says joined added h
 pub neither : (a b c : Option PoolFault) (e : PoolFault) → c ≡ option_or a b → a ≢ Some e → b ≢ Some e → c ≢ Some e
 neither None b c e is one two same = two (sym is ∙ same)
 neither (Some x) b c e is one two same = one (sym is ∙ same)
-
--- what is known of the inputs from a place on: whether they are free, and what they take
-pub record AreFree (taker : Outpoint → Option Hash32) (ss : List Source) (free : Bool)
-    (later : List Outpoint) : Type 0 where
-  pub is : free ≡ are_free taker ss
-  pub takes : (o : Outpoint) → list_any (same_outpoint o) later ≡ list_any (is_source_of o) ss
-
-pub none_free : (taker : Outpoint → Option Hash32) (ss : List Source) (n : ℕ) → length ss ≤ n → AreFree taker (drop n ss) true []
-none_free taker ss n le = let none = drop_all n ss le in rw none (record { is = refl; takes = λ o. refl })
-
--- one more before them
-one_free : (taker : Outpoint → Option Hash32) (ss : List Source) (i : ℕ) (d : Source) (free now : Bool)
-    (later more : List Outpoint) → i < length ss
-    → now ≡ (not (is_some (taker (get_or ss i d).from)) && (not (list_any (same_outpoint (get_or ss i d).from) later) && free))
-    → ((o : Outpoint) → list_any (same_outpoint o) more ≡ cond (same_outpoint o (get_or ss i d).from) true (list_any (same_outpoint o) later))
-    → AreFree taker (drop (i + 1) ss) free later → AreFree taker (drop i ss) now more
-one_free taker ss i d free now later more lt says added h =
-    let left = drop_more ss i d lt in
-    rw left (record {
-      is = says
-          ∙ ap (λ b. not (is_some (taker (get_or ss i d).from)) && (not b && free)) (h.takes (get_or ss i d).from)
-          ∙ ap (λ b. not (is_some (taker (get_or ss i d).from)) && (not (list_any (is_source_of (get_or ss i d).from) (drop (i + 1) ss)) && b)) h.is;
-      takes = λ o. added o ∙ by (same_outpoint o (get_or ss i d).from) (h.takes o);
-    })
-  where
-    by : {a c : Bool} (b : Bool) → a ≡ c → cond b true a ≡ (b || c)
-    by true e = refl
-    by false e = e
-
-pub one_free_back : (taker : Outpoint → Option Hash32) (ss : List Source) (n : ℕ) (d : Source) (o : Outpoint) (free now : Bool)
-    (later more : List Outpoint) → n < length ss → o ≡ (get_or ss (length ss - 1 - n) d).from
-    → now ≡ (not (is_some (taker o)) && (not (list_any (same_outpoint o) later) && free))
-    → ((p : Outpoint) → list_any (same_outpoint p) more ≡ cond (same_outpoint p o) true (list_any (same_outpoint p) later))
-    → AreFree taker (drop (length ss - n) ss) free later → AreFree taker (drop (length ss - (n + 1)) ss) now more
-one_free_back taker ss n d o free now later more lt item says added h =
-    subst (λ k. AreFree taker (drop k ss) now more) (omega (arith, lt))
-    (one_free taker ss (length ss - 1 - n) d free now later more (omega (arith, lt)) (rw item at says) (rw item at added)
-    (subst (λ k. AreFree taker (drop k ss) free later) (omega (arith, lt)) h))

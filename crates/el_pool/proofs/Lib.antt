@@ -1,6 +1,5 @@
 pub mod Walks
 pub mod Exchanged
-pub mod Whole
 pub mod Asked
 pub mod Refusing
 pub mod Added

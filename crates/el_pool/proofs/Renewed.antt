@@ -1,31 +1,36 @@
 -- A kept transaction over another chain: what its inputs take there, and whether it may be kept.
-use Rattle.std.proofs.Common.{◌≡◌, ℕ, ◌+◌, ◌<◌, true, false, Bool, not, ◌&&◌, List, [], ◌∷◌, ◌++◌, length, take, drop, get_or, Option, None, Some, refl, ap, sym, ◌∙◌, append_assoc}
-use Rattle.std.proofs.lemmas.Bool.{and_left, and_right, and_from, true≢false}
-use Rattle.std.specs.List.{list_any}
-use Rattle.std.specs.Prelude.{map, option_map, option_to_list, nat_lt, IfNone}
-use Rattle.std.specs.Option.{is_some}
-use Rattle.indexmap.specs.IndexMap.{get}
-use Rattle.std.proofs.lemmas.List.{drop_more, take_more, map-append}
-use Rattle.el_base.proofs.Lists.{left_at}
+use Rattle.std.proofs.Common.{◌≡◌, ℕ, ℤ, pos, negsuc, ◌+◌, ◌<◌, true, false, Bool, cond, if◌then◌else◌, not, ◌&&◌, ◌||◌, List, [], ◌∷◌, ◌++◌, length, drop, get_or, Option, None, Some, refl, ap, sym, subst, ◌∙◌, append_assoc}
+use Rattle.std.proofs.lemmas.Bool.{and_left, and_from, or_parts, true≢false}
+use Rattle.std.proofs.lemmas.List.Folds.{list_any-append}
+use Rattle.std.specs.List.{AllByRecursion, list_any}
+use Rattle.std.specs.Prelude.{option_map, option_to_list, nat_lt, IfNone}
+use Rattle.std.specs.Option.{option_or, is_some}
+use Rattle.std.proofs.lemmas.List.{drop_more}
+use Rattle.el_base.specs.declared.hash.Hash32.{Hash32}
+use Rattle.el_tx.specs.declared.types.Outpoint.{Outpoint}
 use Rattle.el_tx.specs.declared.types.TxIn.{TxIn}
 use Rattle.el_tx.specs.declared.types.Tx.{Tx}
 use Rattle.el_tx.specs.Encoding.{total_value}
-use Rattle.el_tx.specs.Hashing.{txid, same_outpoint}
+use Rattle.el_tx.specs.Hashing.{txid}
 use Rattle.el_chain.specs.declared.node.Spot.{Spot}
 use Rattle.el_chain.specs.Chains.{Chain}
 use Rattle.el_model.specs.Queries.{find_tx}
 use Rattle.el_mempool.specs.declared.held.Held.{Held}
 use Rattle.el_mempool.specs.declared.held.Source.{Source}
 use Rattle.el_mempool.specs.declared.held.KeptTx.{KeptTx}
-use Rattle.el_kept.specs.declared.table.Table.{Table}
-use Rattle.el_mempool.specs.Sift.{named, any_takes, is_taken, each_takes, held_by, total_held, is_confirmed, may_join}
+use Rattle.el_mempool.specs.Sift.{coin_named, output_among, named, any_takes, is_taken, each_takes, held_by, total_held, is_confirmed, may_join}
 use Rattle.el_mempool.specs.Standing.{source_at, sources}
-use Rattle.el_kept.specs.Tables.{is_source_of}
-use Rattle.el_pool.specs.within.Tables.{total_sources, IsOver}
-use Rattle.el_pool.specs.within.Renewal.{source_with, renewed, all_take, are_free, IsEntry}
+use Rattle.el_mempool.specs.Unconfirmed.{flag}
 use Rattle.el_mempool.proofs.Named.{AreNamed}
-use Rattle.el_kept.proofs.Entries.{any_sources, spender_taken}
-use Rattle.el_pool.proofs.Refusing.{takers_are, sources_sum, outputs_sum, confirmed_is}
+use Rattle.el_mempool.proofs.Sifted.{joins_named}
+use Rattle.el_kept.specs.declared.table.Table.{Table}
+use Rattle.el_kept.specs.Tables.{has}
+use Rattle.el_pool.specs.declared.asking.FoundOutput.{FoundOutput}
+use Rattle.el_pool.specs.within.Tables.{total_sources, output_at, IsOver}
+use Rattle.el_pool.specs.within.Renewal.{source_with, renewed, all_take, flag_of, each_free, output_left, found_by, AreSeen, AreUnspent, IsLeft, IsNext}
+use Rattle.el_pool.proofs.Added.{none_of}
+use Rattle.el_pool.proofs.Asked.{output_is}
+use Rattle.el_pool.proofs.Refusing.{any_from, sources_sum, outputs_sum, confirmed_is}
 
 -- ---- inputs one after the other
 
@@ -43,21 +48,60 @@ one_more chain kept ss n d v found held lt says some before =
     let second = rw (left, there) at before.1 in
     (append_assoc found (source_with (get_or ss n d) v ∷ []) (renewed chain kept (drop (n + 1) ss)) ∙ first, second)
 
-pub stops : (chain : Chain) (kept : List Tx) (ss : List Source) (n : ℕ) (s : Source) (found : List Source) (held : Option Held) → n < length ss → s ≡ get_or ss n s
-    → held ≡ named chain kept s.from → held ≡ None → SoFar chain kept ss n found → all_take chain kept ss ≡ false
-stops chain kept ss n s found held lt item says none before =
-    let left = left_at ss n s lt item in
-    let gone : named chain kept s.from ≡ None = sym says ∙ none in
+pub stops : (chain : Chain) (kept : List Tx) (ss : List Source) (n : ℕ) (d : Source) (found : List Source) (held : Option Held) → n < length ss
+    → held ≡ named chain kept (get_or ss n d).from → held ≡ None → SoFar chain kept ss n found → all_take chain kept ss ≡ false
+stops chain kept ss n d found held lt says none before =
+    let left = drop_more ss n d lt in
+    let gone : named chain kept (get_or ss n d).from ≡ None = sym says ∙ none in
     rw (left, gone) at before.1
 
-pub from_more : (ss : List Source) (n : ℕ) (d : Source) (v : Held) (found : List Source) → n < length ss
-    → map (λ (s : Source). s.from) found ≡ map (λ (s : Source). s.from) (take n ss)
-    → map (λ (s : Source). s.from) (found ++ source_with (get_or ss n d) v ∷ []) ≡ map (λ (s : Source). s.from) (take (n + 1) ss)
-from_more ss n d v found lt same =
-    map-append (λ (s : Source). s.from) found (source_with (get_or ss n d) v ∷ [])
-    ∙ ap (λ l. l ++ (get_or ss n d).from ∷ []) same
-    ∙ sym (map-append (λ (s : Source). s.from) (take n ss) (get_or ss n d ∷ []))
-    ∙ ap (map (λ (s : Source). s.from)) (sym (take_more ss n d lt))
+-- one input more, by the flag
+pub any_more : (kept : List Tx) (found : List Source) (s : Source) (any b : Bool) → b ≡ is_some (output_among s.from kept)
+    → any ≡ list_any (λ (x : Source). is_some (output_among x.from kept)) found → (any || b) ≡ list_any (λ (x : Source). is_some (output_among x.from kept)) (found ++ s ∷ [])
+any_more kept found s any b is so_far =
+    ap (λ a. a || b) so_far ∙ by (list_any (λ (x : Source). is_some (output_among x.from kept)) found) b
+    ∙ ap (λ x. list_any (λ (y : Source). is_some (output_among y.from kept)) found || (x || false)) is
+    ∙ sym (list_any-append (λ (x : Source). is_some (output_among x.from kept)) found (s ∷ []))
+  where
+    by : (a c : Bool) → (a || c) ≡ (a || (c || false))
+    by true c = refl
+    by false true = refl
+    by false false = refl
+
+-- ---- what a look-up finds
+
+-- a coin of the chain stands before an output of a kept one, and none is both
+pub held_found : (left : Option Held) (chain : Chain) (kept : List Tx) (o : Outpoint) (found : Option FoundOutput) → left ≡ output_among o kept
+    → (is_some (output_among o kept) ≡ true → coin_named chain o ≡ None) → found ≡ found_by left (coin_named chain o) → option_map (λ (n : FoundOutput). n.held) found ≡ named chain kept o
+held_found left chain kept o found same unspent is =
+    ap (option_map (λ (n : FoundOutput). n.held)) (is ∙ ap (λ x. found_by x (coin_named chain o)) same) ∙ by (output_among o kept) (coin_named chain o) unspent
+  where
+    by : (x c : Option Held) → (is_some x ≡ true → c ≡ None) → option_map (λ (n : FoundOutput). n.held) (found_by x c) ≡ option_or c x
+    by (Some h) None f = refl
+    by (Some h) (Some c) f = absurd (cc_none c (f refl))
+      where
+        cc_none : (v : Held) → Some v ≡ None → ⊥
+        cc_none v e = cc
+    by None (Some c) f = refl
+    by None None f = refl
+
+pub kept_found : (left : Option Held) (chain : Chain) (kept : List Tx) (o : Outpoint) (found : Option FoundOutput) (n : FoundOutput) → left ≡ output_among o kept
+    → found ≡ found_by left (coin_named chain o) → found ≡ Some n → n.is_kept ≡ is_some (output_among o kept)
+kept_found left chain kept o found n same is some = by (output_among o kept) (coin_named chain o) (sym some ∙ is ∙ ap (λ x. found_by x (coin_named chain o)) same)
+  where
+    by : (x c : Option Held) → Some n ≡ found_by x c → n.is_kept ≡ is_some x
+    by (Some h) c e = ap (λ (m : FoundOutput). m.is_kept) (same_found n (record { held = h; is_kept = true }) e)
+      where
+        same_found : (a b : FoundOutput) → ◌≡◌ {A = Option FoundOutput} (Some a) (Some b) → a ≡ b
+        same_found a b e = cc
+    by None (Some h) e = ap (λ (m : FoundOutput). m.is_kept) (same_found n (record { held = h; is_kept = false }) e)
+      where
+        same_found : (a b : FoundOutput) → ◌≡◌ {A = Option FoundOutput} (Some a) (Some b) → a ≡ b
+        same_found a b e = cc
+    by None None e = absurd (none_found n e)
+      where
+        none_found : (a : FoundOutput) → Some a ≡ None → ⊥
+        none_found a e = cc
 
 -- ---- an entry's inputs and the transaction's
 
@@ -83,23 +127,6 @@ take_is before chain all kept (i ∷ is) h = by (named before all i.from) h.0 (t
         → all_take chain kept (option_to_list (option_map (source_at i) x) ++ sources before all is) ≡ each_named chain kept (i ∷ is)
     by None none more = absurd (true≢false (sym none))
     by (Some v) some more = ap (λ b. is_some (named chain kept i.from) && b) more
-
--- nobody took what the inputs take, and no two take the same
-abbrev pub each_free : List Tx → List TxIn → Bool
-each_free kept [] = true
-each_free kept (i ∷ is) = not (is_taken i.from kept) && (not (any_takes i.from is) && each_free kept is)
-
-free_is : (table : Table) (before chain : Chain) (all kept : List Tx) (is : List TxIn) → IsOver table chain kept → AreNamed before all is
-    → are_free (get same_outpoint table.spenders) (sources before all is) ≡ each_free kept is
-free_is table before chain all kept [] over h = refl
-free_is table before chain all kept (i ∷ is) over h =
-    by (named before all i.from) h.0 (ap is_some (takers_are table chain kept i.from over) ∙ spender_taken i.from kept) (any_sources i.from before all is h.1) (free_is table before chain all kept is over h.1)
-  where
-    by : (x : Option Held) → is_some x ≡ true → is_some (get same_outpoint table.spenders i.from) ≡ is_taken i.from kept → list_any (is_source_of i.from) (sources before all is) ≡ any_takes i.from is
-        → are_free (get same_outpoint table.spenders) (sources before all is) ≡ each_free kept is
-        → are_free (get same_outpoint table.spenders) (option_to_list (option_map (source_at i) x) ++ sources before all is) ≡ each_free kept (i ∷ is)
-    by None none one two more = absurd (true≢false (sym none))
-    by (Some v) some one two more = rw (one, two, more) refl
 
 takes_is : (chain : Chain) (kept : List Tx) (is : List TxIn) → each_takes chain kept is ≡ (each_named chain kept is && each_free kept is)
 takes_is chain kept [] = refl
@@ -143,30 +170,73 @@ if_none (Some x) P is h = absurd (some_none x is)
     some_none : {Y : Type 0} (y : Y) → Some y ≡ None → ⊥
     some_none y e = cc
 
-module _ (table : Table) (before chain : Chain) (all kept : List Tx) (t : Tx) (k : KeptTx) (e : IsEntry before all t k) (over : IsOver table chain kept) where
+-- what the outpoint names of those that aren't gone
+left_one : (table : Table) (before : Chain) (all kept : List Tx) (gone : List Hash32) (any : Bool) (o : Outpoint) → IsOver table before all → IsLeft all kept gone o
+    → (any ≡ false → output_among o all ≡ None) → output_left table gone any o ≡ output_among o kept
+left_one table before all kept gone false o over h none = sym (h.none (none refl))
+left_one table before all kept gone true o over h none = by (has gone o.txid) refl
+  where
+    by : (b : Bool) → has gone o.txid ≡ b → cond (not b) (output_at table o) None ≡ output_among o kept
+    by true e = sym (h.goes e)
+    by false e = output_is table before all o over ∙ h.stays e
+
+-- where no flag stands, no input takes an output of a kept one
+none_flagged : (all : List Tx) (is : List TxIn) → list_any (λ (i : TxIn). is_some (output_among i.from all)) is ≡ false → AllByRecursion (λ (i : TxIn). output_among i.from all ≡ None) is
+none_flagged all [] h = tt
+none_flagged all (i ∷ is) h = let parts = or_parts (is_some (output_among i.from all)) (list_any (λ (j : TxIn). is_some (output_among j.from all)) is) h in (none_of (output_among i.from all) parts.0, none_flagged all is parts.1)
+
+flag_none : (all : List Tx) (t : Tx) → flag all t ≡ pos 0 → list_any (λ (i : TxIn). is_some (output_among i.from all)) t.inputs ≡ false
+flag_none all t h = by (list_any (λ (i : TxIn). is_some (output_among i.from all)) t.inputs) h
+  where
+    by : (b : Bool) → (if b then negsuc 0 else pos 0) ≡ pos 0 → b ≡ false
+    by true e = absurd (cc)
+    by false e = refl
+
+lefts : (table : Table) (before : Chain) (all kept : List Tx) (gone : List Hash32) (any : Bool) (is : List TxIn) → IsOver table before all → AllByRecursion (λ (i : TxIn). IsLeft all kept gone i.from) is
+    → (any ≡ false → AllByRecursion (λ (i : TxIn). output_among i.from all ≡ None) is) → AllByRecursion (λ (i : TxIn). output_left table gone any i.from ≡ output_among i.from kept) is
+lefts table before all kept gone any [] over h none = tt
+lefts table before all kept gone any (i ∷ is) over h none = (
+  left_one table before all kept gone any i.from over h.0 (λ e. (none e).0),
+  lefts table before all kept gone any is over h.1 (λ e. (none e).1),
+)
+
+seen_all : (left : Outpoint → Option Held) (before chain : Chain) (all kept : List Tx) (is : List TxIn) → AreNamed before all is → AreUnspent chain kept
+    → AllByRecursion (λ (i : TxIn). left i.from ≡ output_among i.from kept) is → AreSeen left chain kept (sources before all is)
+seen_all left before chain all kept [] names unspent h = tt
+seen_all left before chain all kept (i ∷ is) names unspent h = by (named before all i.from) names.0 (seen_all left before chain all kept is names.1 unspent h.1)
+  where
+    by : (x : Option Held) → is_some x ≡ true → AreSeen left chain kept (sources before all is) → AreSeen left chain kept (option_to_list (option_map (source_at i) x) ++ sources before all is)
+    by None none more = absurd (true≢false (sym none))
+    by (Some v) some more = ((h.0, unspent i.from), more)
+
+module _ (before chain : Chain) (all kept : List Tx) (gone : List Hash32) (t : Tx) (k : KeptTx) (e : IsNext before all kept gone t k) where
   id_is : k.txid ≡ txid t
   id_is = ap (λ (x : KeptTx). x.txid) e.is
 
   inputs_are : k.inputs ≡ sources before all t.inputs
   inputs_are = ap (λ (x : KeptTx). x.inputs) e.is
 
+  pub when_seen : (table : Table) (any : Bool) (ss : List Source) → IsOver table before all → AreUnspent chain kept → (any ≡ false → k.flag ≡ pos 0) → ss ≡ k.inputs
+      → AreSeen (output_left table gone any) chain kept ss
+  when_seen table any ss over unspent plain same =
+      subst (AreSeen (output_left table gone any) chain kept) (sym (same ∙ inputs_are))
+      (seen_all (output_left table gone any) before chain all kept t.inputs e.named unspent
+      (lefts table before all kept gone any t.inputs over e.left (λ none. none_flagged all t.inputs (flag_none all t (sym (ap (λ (x : KeptTx). x.flag) e.is) ∙ plain none)))))
+
   pub when_confirmed : (found : Option Spot) → found ≡ find_tx chain k.txid → is_some found ≡ true → may_join chain kept t ≡ false
   when_confirmed found is some = gone_confirmed chain kept t (ap (is_confirmed chain) (sym id_is) ∙ sym (confirmed_is chain k.txid) ∙ ap is_some (sym is) ∙ some)
 
-  all_free : (ss : List Source) (r : Bool) → ss ≡ k.inputs → r ≡ are_free (get same_outpoint table.spenders) ss → each_free kept t.inputs ≡ r
-  all_free ss r same is = sym (is ∙ ap (are_free (get same_outpoint table.spenders)) (same ∙ inputs_are) ∙ free_is table before chain all kept t.inputs over e.named)
-
   all_named : (ss : List Source) (b : Bool) → ss ≡ k.inputs → all_take chain kept ss ≡ b → each_named chain kept t.inputs ≡ b
   all_named ss b same is = sym (take_is before chain all kept t.inputs e.named) ∙ ap (all_take chain kept) (sym (same ∙ inputs_are)) ∙ is
-
-  pub when_taken : (ss : List Source) (r : Bool) → ss ≡ k.inputs → r ≡ are_free (get same_outpoint table.spenders) ss → r ≡ false → may_join chain kept t ≡ false
-  when_taken ss r same is no_one = gone_taken chain kept t (takes_is chain kept t.inputs ∙ and_right (each_named chain kept t.inputs) (each_free kept t.inputs) (all_free ss r same is ∙ no_one))
 
   pub when_missing : (ss : List Source) → ss ≡ k.inputs → all_take chain kept ss ≡ false → may_join chain kept t ≡ false
   when_missing ss same is = gone_taken chain kept t (takes_is chain kept t.inputs ∙ and_left (each_named chain kept t.inputs) (each_free kept t.inputs) (all_named ss false same is))
 
   pub found_are : (ss found : List Source) → ss ≡ k.inputs → found ≡ renewed chain kept ss → found ≡ sources chain kept t.inputs
   found_are ss found same is = is ∙ ap (renewed chain kept) (same ∙ inputs_are) ∙ renewed_is before chain all kept t.inputs e.named
+
+  flag_now : (found : List Source) → found ≡ sources chain kept t.inputs → may_join chain kept t ≡ true → flag_of kept found ≡ flag kept t
+  flag_now found are may = ap (flag_of kept) are ∙ ap (λ b. if b then negsuc 0 else pos 0) (any_from (λ o. is_some (output_among o kept)) chain kept t.inputs (joins_named chain kept t may))
 
   sums_are : (ss found slice : List Source) (outs : List Held) (taken given : ℕ) → ss ≡ k.inputs → found ≡ renewed chain kept ss → slice ≡ found → outs ≡ k.outputs → taken ≡ total_sources slice → given ≡ total_held outs
       → nat_lt (total_held (held_by chain kept t.inputs)) (total_value t.outputs) ≡ nat_lt taken given
@@ -179,11 +249,12 @@ module _ (table : Table) (before chain : Chain) (all kept : List Tx) (t : Tx) (k
       → nat_lt taken given ≡ true → may_join chain kept t ≡ false
   when_short ss found slice outs taken given same is cut outs_are one two less = gone_short chain kept t (sums_are ss found slice outs taken given same is cut outs_are one two ∙ less)
 
-  pub when_stays : (spot : Option Spot) (ss found slice : List Source) (outs : List Held) (taken given : ℕ) (r : Bool) → spot ≡ find_tx chain k.txid → is_some spot ≡ false → ss ≡ k.inputs
-      → r ≡ are_free (get same_outpoint table.spenders) ss → r ≡ true → all_take chain kept ss ≡ true → found ≡ renewed chain kept ss → slice ≡ found → outs ≡ k.outputs → taken ≡ total_sources slice
-      → given ≡ total_held outs → nat_lt taken given ≡ false → (may_join chain kept t ≡ true) × (found ≡ sources chain kept t.inputs)
-  when_stays spot ss found slice outs taken given r spot_is none same free holds take is cut outs_are one two enough =
+  pub when_stays : (spot : Option Spot) (ss found slice : List Source) (outs : List Held) (taken given : ℕ) (f : ℤ) → spot ≡ find_tx chain k.txid → is_some spot ≡ false → ss ≡ k.inputs
+      → all_take chain kept ss ≡ true → found ≡ renewed chain kept ss → f ≡ flag_of kept found → slice ≡ found → outs ≡ k.outputs → taken ≡ total_sources slice
+      → given ≡ total_held outs → nat_lt taken given ≡ false → (may_join chain kept t ≡ true) × (found ≡ sources chain kept t.inputs) × (f ≡ flag kept t)
+  when_stays spot ss found slice outs taken given f spot_is none same take is flags cut outs_are one two enough =
       let a : is_confirmed chain (txid t) ≡ false = ap (is_confirmed chain) (sym id_is) ∙ sym (confirmed_is chain k.txid) ∙ ap is_some (sym spot_is) ∙ none in
-      let b : each_takes chain kept t.inputs ≡ true = takes_is chain kept t.inputs ∙ and_from (each_named chain kept t.inputs) (each_free kept t.inputs) (all_named ss true same take) (all_free ss r same free ∙ holds) in
+      let b : each_takes chain kept t.inputs ≡ true = takes_is chain kept t.inputs ∙ and_from (each_named chain kept t.inputs) (each_free kept t.inputs) (all_named ss true same take) e.free in
       let c = sums_are ss found slice outs taken given same is cut outs_are one two ∙ enough in
-      (rw (a, b, c) refl, found_are ss found same is)
+      let may : may_join chain kept t ≡ true = rw (a, b, c) refl in
+      (may, found_are ss found same is, flags ∙ flag_now found (found_are ss found same is) may)

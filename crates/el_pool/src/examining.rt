@@ -13,11 +13,10 @@ ghost use Rattle.el_pool.specs.within.Tables.{IsOver, Joins, flag_by, total_sour
 
 use crate::asking::{Taken, sources_of};
 use crate::conflicts::conflict_of;
-use crate::reading::{is_coinbase_form, whole_tx};
 use crate::room::{fee_of, lack_of};
 use el_base::{Bytes, Hash32, Listed, OutOfMemory, sha256};
 use el_kept::{Table, kept_under};
-use el_mempool::{Held, KeptTx, PoolFault, PoolLimits};
+use el_mempool::{Held, KeptTx, PoolFault, PoolLimits, is_coinbase_form, whole_tx};
 use el_model::Ledger;
 use el_outside::DiskFailed;
 use el_tx::{Tx, TxOut, txid};

@@ -8,7 +8,6 @@ mod conflicts;
 mod examining;
 mod moving;
 mod pool;
-mod reading;
 mod removing;
 mod renewing;
 mod room;

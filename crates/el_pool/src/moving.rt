@@ -1,51 +1,46 @@
 // Kept transactions over another chain.
-ghost use Rattle.std.specs.Prelude.{◌≡◌, ◌||◌, ◌-◌, ◌++◌, ◌∷◌, [], true, None, List, OnOk, IfOk, false, if◌then◌else◌};
-ghost use Rattle.std.specs.List.{AllByRecursion, list_any};
-ghost use Rattle.indexmap.specs.IndexMap.{get, IsUnique};
+ghost use Rattle.std.specs.Prelude.{◌≡◌, ◌-◌, ◌||◌, true, List, map, OnOk, IfOk, if◌then◌else◌};
+ghost use Rattle.std.specs.List.{list_any};
 ghost use Rattle.el_outside.specs.Counts.{CountsOnly};
 ghost use Rattle.el_base.specs.declared.hash.Hash32 as hash_shape;
 ghost use Rattle.el_chain.specs.Chains.{Chain};
 ghost use Rattle.el_chain.specs.Headers.{same_hash};
 ghost use Rattle.el_model.specs.Keeping.{Quiet};
 ghost use Rattle.el_tx.specs.declared.types.Tx as shape;
-ghost use Rattle.el_tx.specs.Hashing.{txid, same_outpoint};
-ghost use Rattle.el_mempool.specs.declared.held.Source as source_shape;
 ghost use Rattle.el_mempool.specs.Sift.{total_held, sift};
-ghost use Rattle.el_mempool.specs.Refusals.{is_kept};
 ghost use Rattle.el_mempool.specs.Standing.{StandsFor, AreChanged, is_at_script, is_coin_at};
 ghost use Rattle.el_mempool.specs.Unconfirmed.{has_script};
 ghost use Rattle.el_mempool.specs.Moving.{differs_at};
 ghost use Rattle.el_kept.specs.declared.listing.Listing as listing_shape;
 ghost use Rattle.el_kept.specs.Listings.{txid_of, is_in, AreListed};
-ghost use Rattle.el_kept.specs.Tables.{standing, by_txid, IsTable, HasFewSlots, StandRight};
+ghost use Rattle.el_kept.specs.Tables.{standing, slot, has, with_takes, without, is_of, retaken, IsTable, HasFewSlots};
 ghost use Rattle.el_pool.specs.within.Tables.{total_sources, IsOver};
-ghost use Rattle.el_pool.specs.within.Renewal.{with_takes, IsEntry, IsSifted, IsMovedOn};
+ghost use Rattle.el_pool.specs.within.Renewal.{settled, IsNext, IsKeptOn, AreUnspent, IsSifted};
 
 use crate::asking::Taken;
 use crate::renewing::renewed;
 use crate::room::fee_of;
 use crate::touching::{have_same_scripts, scripts_of, touch_changes, touch_entry};
-use el_base::{Hash32, Listed, OutOfMemory};
+use el_base::{Listed, OutOfMemory};
 use el_chain::Touched;
-use el_kept::{Listing, Table, empty_table, list_under, put_new, take_all, unlist};
+use el_kept::{
+    Listing, Table, Takes, empty_table, is_as_was, is_of_kept, kept_under, list_under, retake,
+    take_out_all, tidy, unlist,
+};
 use el_mempool::{KeptTx, Source};
 use el_model::{Ledger, QueryFault};
-use indexmap::IndexMap;
 use std::alloc::Global;
 use std::collections::BTreeSet;
 
-// The entry with that flag and fee and these inputs. Takes no memory.
-fn taking(entry: KeptTx, flag: i8, fee: u64, inputs: Vec<Source>) -> KeptTx
-    ensures { result ≡ with_takes entry flag fee inputs.items }
-{
-    KeptTx {
-        txid: entry.txid,
-        flag,
-        fee,
-        bytes: entry.bytes,
-        inputs: Listed::from_vec(inputs),
-        outputs: entry.outputs,
-    }
+// What a sift over another chain found.
+#[derive(Debug, Drop)]
+struct Sifted {
+    // The txids of the transactions that go.
+    gone: Touched,
+    // What others take now, where it is another thing than before.
+    changed: Listed<Takes>,
+    // The script hashes at which clients see another thing.
+    touched: Touched,
 }
 
 // Lists the transaction under what it concerns with these inputs.
@@ -70,132 +65,168 @@ fn list_again(
     list_under(listings, &entry.txid, scripts.list())
 }
 
-// The entry, whose txid is new and which takes what nobody takes, joins the table with these inputs, and the
-// script hashes are added at which clients then see another thing of it.
+// The entry stays and takes these, and the script hashes are added at which clients then see another thing
+// of it.
 fn keep(
     alloc: Global,
-    table: &mut Table,
-    listings: &mut BTreeSet<Listing>,
-    entry: KeptTx,
+    entry: &KeptTx,
     taken: Taken,
+    changed: &mut Listed<Takes>,
     touched: &mut Touched,
 ) -> Result<(), OutOfMemory>
-    requires table { IsTable table.old (standing table.old.kept.entries) }
-    requires new { by_txid entry.txid (standing table.old.kept.entries) ≡ None }
-    requires free { AllByRecursion (λ (s : source_shape.Source).
-        get same_outpoint table.old.spenders s.from ≡ None) taken.sources.items }
-    requires listed { (l : listing_shape.Listing) → same_hash entry.txid (txid_of l) ≡ true
-        → is_in listings.old l ≡ is_at_script l.script.0 entry }
-    ensures joined { OnOk result (IsTable table.new (standing table.old.kept.entries
-        ++ with_takes entry taken.flag
-        (total_sources taken.sources.items - total_held entry.outputs) taken.sources.items ∷ [])) }
-    ensures slots { HasFewSlots table.old → HasFewSlots table.new }
-    ensures listed { (l : listing_shape.Listing) → OnOk result (is_in listings.new l
-        ≡ (if same_hash entry.txid (txid_of l)
-        then list_any (has_script l.script.0) entry.outputs
-        || list_any (is_coin_at l.script.0) taken.sources.items
-        else is_in listings.old l)) }
+    ensures changed { OnOk result (IsKeptOn entry.now (with_takes entry.now taken.flag
+        (total_sources taken.sources.items - total_held entry.now.outputs) taken.sources.items)
+        changed.old changed.new) }
     ensures touched { (s : hash_shape.Hash32) → OnOk result (list_any (same_hash s) touched.new
-        ≡ (list_any (same_hash s) touched.old || differs_at s.0 entry
-        (with_takes entry taken.flag
-        (total_sources taken.sources.items - total_held entry.outputs) taken.sources.items))) }
+        ≡ (list_any (same_hash s) touched.old || differs_at s.0 entry.now
+        (with_takes entry.now taken.flag
+        (total_sources taken.sources.items - total_held entry.now.outputs) taken.sources.items))) }
 {
     let Taken {
         sources: inputs,
         flag,
     } = taken;
     let fee = fee_of(inputs.as_slice(), entry.outputs.as_slice())?;
-    touch_changes(alloc, &entry, flag, fee, inputs.as_slice(), touched)?;
-    list_again(alloc, listings, &entry, inputs.as_slice())?;
-    put_new(table, taking(entry, flag, fee, inputs))?;
+    touch_changes(alloc, entry, flag, fee, inputs.as_slice(), touched)?;
+    if is_as_was(entry, flag, fee, inputs.as_slice()) {
+        return Ok(());
+    }
+    changed.push(Takes {
+        txid: entry.txid,
+        flag,
+        fee,
+        inputs: Listed::from_vec(inputs),
+    })?;
     Ok(())
 }
 
-// The entry is gone: it is listed no more, and its script hashes are added.
-fn leave(
-    listings: &mut BTreeSet<Listing>,
-    entry: &KeptTx,
-    touched: &mut Touched,
-) -> Result<(), OutOfMemory>
-    requires { (l : listing_shape.Listing) → same_hash entry.now.txid (txid_of l) ≡ true
-        → is_in listings.old l ≡ is_at_script l.script.0 entry.now }
-    ensures listed { (l : listing_shape.Listing) → is_in listings.new l
-        ≡ (if same_hash entry.now.txid (txid_of l) then false else is_in listings.old l) }
+// The entry goes, and its script hashes are added.
+fn leave(entry: &KeptTx, gone: &mut Touched, touched: &mut Touched) -> Result<(), OutOfMemory>
+    ensures gone { (id : hash_shape.Hash32) → OnOk result (has gone.new id
+        ≡ (has gone.old id || same_hash id entry.now.txid)) }
     ensures touched { (s : hash_shape.Hash32) → OnOk result (list_any (same_hash s) touched.new
         ≡ (list_any (same_hash s) touched.old || is_at_script s.0 entry.now)) }
 {
-    unlist(listings, entry);
-    touch_entry(entry, touched)
+    gone.add(entry.txid)?;
+    touch_entry(entry, touched)?;
+    Ok(())
 }
 
-// The entry, whose txid is new, joins the table where it may be kept over the ledger's chain.
+// The sift comes to the entry after those before it that aren't gone.
 fn sift_one<G: Ledger>(
     alloc: Global,
-    table: &mut Table,
-    listings: &mut BTreeSet<Listing>,
+    table: &Table,
     ledger: &mut G,
-    entry: KeptTx,
-    touched: &mut Touched,
+    entry: &KeptTx,
+    found: &mut Sifted,
 ) -> Result<(), QueryFault>
     requires live { G.is_live ledger.old }
-    requires table { IsTable table.old (standing table.old.kept.entries) }
-    requires new { by_txid entry.txid (standing table.old.kept.entries) ≡ None }
-    requires listed { (l : listing_shape.Listing) → same_hash entry.txid (txid_of l) ≡ true
-        → is_in listings.old l ≡ is_at_script l.script.0 entry }
-    ensures moved { OnOk result (IsMovedOn entry table.old table.new listings.old listings.new) }
-    ensures slots { HasFewSlots table.old → HasFewSlots table.new }
     ensures sifted { (before chain : Chain) (all kept : List shape.Tx) (t : shape.Tx)
-        → IsEntry before all t entry → IsOver table.old chain kept → is_kept (txid t) kept ≡ false
-        → G.stands ledger.old chain
-        → OnOk result (IsSifted before chain all kept t table.new touched.old touched.new) }
+        → IsNext before all kept found.old.gone t entry.now → IsOver table.now before all
+        → AreUnspent chain kept → G.stands ledger.old chain
+        → OnOk result (IsSifted before chain all kept t found.old.gone found.new.gone
+        found.old.changed found.new.changed found.old.touched found.new.touched) }
     ensures quiet { Quiet G.is_live G.height G.tip G.buckets G.stands G.tells_crash
         G.moment G.left_since ledger.old ledger.new }
     ensures cause { CountsOnly (G.faults ledger.old) (G.faults ledger.new) QueryFault.DiskFailed result }
 {
-    match renewed(alloc, table, ledger, &entry)? {
-        Some(taken) => keep(alloc, table, listings, entry, taken, touched)?,
-        None => leave(listings, &entry, touched)?,
+    match renewed(alloc, table, &found.gone, ledger, entry)? {
+        Some(taken) => keep(alloc, entry, taken, &mut found.changed, &mut found.touched)?,
+        None => leave(entry, &mut found.gone, &mut found.touched)?,
     }
     Ok(())
 }
 
-// The entries join the table, one after the other, where they may be kept over the ledger's chain.
-fn sift_all<G: Ledger>(
-    alloc: Global,
-    table: &mut Table,
-    listings: &mut BTreeSet<Listing>,
-    ledger: &mut G,
-    old: IndexMap<Hash32, Option<KeptTx>>,
-) -> Result<Touched, QueryFault>
+// What the sift over the ledger's chain finds of the table's entries, one after the other.
+fn sift_all<G: Ledger>(alloc: Global, table: &Table, ledger: &mut G) -> Result<Sifted, QueryFault>
     requires live { G.is_live ledger.old }
-    requires table { IsTable table.old [] }
-    requires right { StandRight old.entries }
-    requires once { IsUnique same_hash old }
-    requires listed { AreListed listings.old (standing old.entries) }
-    ensures table { OnOk result (IsTable table.new (standing table.new.kept.entries)) }
-    ensures slots { HasFewSlots table.old → HasFewSlots table.new }
-    ensures listed { OnOk result (AreListed listings.new (standing table.new.kept.entries)) }
-    ensures sifted { (before chain : Chain) (kept : List shape.Tx)
-        → StandsFor (standing old.entries) before kept → G.stands ledger.old chain → IfOk result (λ touched.
-        StandsFor (standing table.new.kept.entries) chain (sift chain kept)
-        × AreChanged before kept chain (sift chain kept) touched) }
+    ensures sifted { (before chain : Chain) (all : List shape.Tx) → IsOver table.now before all
+        → G.stands ledger.old chain
+        → IfOk result (λ found. StandsFor (map (settled found.changed)
+        (without found.gone (standing table.now.kept.entries))) chain (sift chain all)
+        × AreChanged before all chain (sift chain all) found.touched) }
     ensures quiet { Quiet G.is_live G.height G.tip G.buckets G.stands G.tells_crash
         G.moment G.left_since ledger.old ledger.new }
     ensures cause { CountsOnly (G.faults ledger.old) (G.faults ledger.new) QueryFault.DiskFailed result }
 {
-    let mut touched = Touched::new(alloc);
-    for (_, slot) in old {
+    let mut found = Sifted {
+        gone: Touched::new(alloc),
+        changed: Listed::new(alloc),
+        touched: Touched::new(alloc),
+    };
+    for (_, slot) in table.kept.iter() {
         if let Some(entry) = slot {
-            sift_one(alloc, table, listings, ledger, entry, &mut touched)?;
+            sift_one(alloc, table, ledger, entry, &mut found)?;
         }
     }
     // The list says that each is there once.
-    let _list = touched.list();
-    Ok(touched)
+    let _list = found.touched.list();
+    Ok(found)
 }
 
-// The table's entries join it anew, where they may be kept over the ledger's chain.
-fn sift_anew<G: Ledger>(
+// The kept transaction is listed under what it concerns where it takes this.
+fn relist(
+    alloc: Global,
+    table: &Table,
+    listings: &mut BTreeSet<Listing>,
+    takes: &Takes,
+) -> Result<(), OutOfMemory>
+    requires table { IsTable table.now (standing table.now.kept.entries) }
+    requires listed { AreListed listings.old (standing table.now.kept.entries) }
+    requires of { is_of takes.now (slot table.now takes.now.txid) ≡ true }
+    ensures { OnOk result (AreListed listings.new
+        (map (retaken takes.now) (standing table.now.kept.entries))) }
+{
+    match kept_under(table, &takes.txid) {
+        Some(entry) => list_again(alloc, listings, entry, takes.inputs.as_slice()),
+        None => Ok(()),
+    }
+}
+
+// The kept transaction takes this from now on, and is listed under what it then concerns.
+fn settle_one(
+    alloc: Global,
+    table: &mut Table,
+    listings: &mut BTreeSet<Listing>,
+    takes: Takes,
+) -> Result<(), OutOfMemory>
+    requires table { IsTable table.old (standing table.old.kept.entries) }
+    requires listed { AreListed listings.old (standing table.old.kept.entries) }
+    ensures table { OnOk result (IsTable table.new
+        (map (retaken takes) (standing table.old.kept.entries))) }
+    ensures listed { OnOk result (AreListed listings.new
+        (map (retaken takes) (standing table.old.kept.entries))) }
+{
+    if !is_of_kept(table, &takes) {
+        return Ok(());
+    }
+    relist(alloc, table, listings, &takes)?;
+    retake(table, takes);
+    Ok(())
+}
+
+// Each of the kept transactions takes what is told of it.
+fn settle_all(
+    alloc: Global,
+    table: &mut Table,
+    listings: &mut BTreeSet<Listing>,
+    changed: Listed<Takes>,
+) -> Result<(), OutOfMemory>
+    requires table { IsTable table.old (standing table.old.kept.entries) }
+    requires listed { AreListed listings.old (standing table.old.kept.entries) }
+    ensures table { OnOk result (IsTable table.new
+        (map (settled changed) (standing table.old.kept.entries))) }
+    ensures listed { OnOk result (AreListed listings.new
+        (map (settled changed) (standing table.old.kept.entries))) }
+{
+    for takes in changed.into_vec() {
+        settle_one(alloc, table, listings, takes)?;
+    }
+    Ok(())
+}
+
+// Keeps what the sift keeps over the ledger's chain.
+fn sift_in_place<G: Ledger>(
     alloc: Global,
     table: &mut Table,
     listings: &mut BTreeSet<Listing>,
@@ -215,8 +246,15 @@ fn sift_anew<G: Ledger>(
         G.moment G.left_since ledger.old ledger.new }
     ensures cause { CountsOnly (G.faults ledger.old) (G.faults ledger.new) QueryFault.DiskFailed result }
 {
-    let old = take_all(alloc, table)?;
-    sift_all(alloc, table, listings, ledger, old)
+    let Sifted {
+        gone,
+        changed,
+        touched,
+    } = sift_all(alloc, table, ledger)?;
+    take_out_all(table, listings, gone.list());
+    settle_all(alloc, table, listings, changed)?;
+    tidy(table);
+    Ok(touched)
 }
 
 /// Keeps what the sift keeps over the ledger's chain, and gives the script hashes that changed.
@@ -244,7 +282,7 @@ pub fn sift_table<G: Ledger>(
         G.moment G.left_since ledger.old ledger.new }
     ensures cause { CountsOnly (G.faults ledger.old) (G.faults ledger.new) QueryFault.DiskFailed result }
 {
-    match sift_anew(alloc, table, listings, ledger) {
+    match sift_in_place(alloc, table, listings, ledger) {
         Ok(touched) => Ok(touched),
         Err(fault) => {
             *table = empty_table(alloc);

@@ -8,7 +8,7 @@ ghost use Rattle.el_mempool.specs.declared.held.Source as source_shape;
 ghost use Rattle.el_mempool.specs.Unconfirmed.{has_script};
 ghost use Rattle.el_mempool.specs.Standing.{is_coin_at, is_at_script};
 ghost use Rattle.el_mempool.specs.Moving.{just_one, differs_at};
-ghost use Rattle.el_pool.specs.within.Renewal.{with_takes};
+ghost use Rattle.el_kept.specs.Tables.{with_takes};
 
 use el_base::OutOfMemory;
 use el_chain::Touched;

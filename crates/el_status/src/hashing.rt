@@ -11,8 +11,8 @@ use el_mempool::PoolEntry;
 use itoa::{Buffer, Integer};
 use sha2::{Digest, Sha256};
 
-/// The hash of the text of a status, of which one part after the other comes. It takes no memory, however long
-/// the text is.
+/// The hash of the text of a status, of which one part after the other comes. It takes no memory, however
+/// long the text is.
 #[derive(Drop)]
 pub struct StatusHash {
     hasher: Sha256,

@@ -1,9 +1,12 @@
-use Rattle.std.proofs.Common.{[], refl, subst, ◌∙◌, List}
+use Rattle.std.proofs.Common.{refl, sym, subst, ◌∙◌, List}
+use Rattle.std.proofs.lemmas.Result.{err_from_is_err_and}
+use Rattle.el_mempool.specs.declared.held.KeptTx.{KeptTx}
+use Rattle.el_mempool.specs.Standing.{StandsFor}
+use Rattle.el_model.specs.declared.fault.QueryFault.TheVariants as stop
 use Rattle.el_kept.specs.Tables.{standing}
 use Rattle.el_model.proofs.Quiets.{quiet_on, quiet_none}
-use Rattle.el_kept.proofs.Slots.{Slot, own_table}
-use Rattle.el_pool.proofs.Relisted.{AreBoth, own_of, moves_on, both_start, both_some, both_none, all_moved, none_before, table_moved}
-use Rattle.el_pool.proofs.Sifts.{AreLeft, left_start, left_some, left_none, none_left}
+use Rattle.el_kept.proofs.Slots.{Slot}
+use Rattle.el_pool.proofs.Sifts.{AreLeft, left_start, left_some, left_none, none_left, counts_moved}
 use Rattle.el_pool.proofs.moving.sift_all.Goals as goal
 
 pub loop-slot-init : goal.loop-slot-init
@@ -12,16 +15,11 @@ loop-slot-init g c =
     record {
       can_next = tt;
       is_finite = tt;
-      table = own_table c.args.table.now [] c.requires.table;
-      few = λ h. h;
-      both = both_start c.args.table.now c.args.listings.now c.args.old.entries c.into_iter-slot-iterator.result
-          c.requires.table c.requires.right c.requires.once c.requires.listed
-          c.into_iter-slot-iterator.ensures.into_iter_gives.0;
       quiet = quiet_none d.is_live d.height d.tip d.buckets d.stands d.tells_crash d.moment d.left_since c.args.ledger.now;
       still = refl;
-      left = λ before chain all h stood.
-          left_start before chain all c.args.table.now c.new-touched.result c.args.old.entries c.into_iter-slot-iterator.result c.new-touched.ensures
-          c.into_iter-slot-iterator.ensures.into_iter_gives.0 h c.requires.table;
+      left = λ before chain all over stood.
+          left_start before chain all c.new.result c.new-2.result c.new-3.result c.args.table.now.kept.entries c.into_iter-slot-iterator.result c.new.ensures c.new-2.ensures c.new-3.ensures
+          (c.into_iter-slot-iterator.ensures.into_iter_gives ∙ c.iter-slot-items.ensures.rest) (subst (λ (l : List KeptTx). StandsFor l before all) (sym over.table.are) over.stands);
     }
 
 pub loop-slot-preserved-in-Continue-1 : goal.loop-slot-preserved-in-Continue-1
@@ -30,63 +28,36 @@ loop-slot-preserved-in-Continue-1 g c =
     record {
       can_next = tt;
       is_finite = tt;
-      table = table_moved c.in-Some-slot.entry c.loop-slot.table c.sift_one.new.table
-          c.loop-slot.listings c.sift_one.new.listings c.in_ok-sift_one.ensures.moved;
-      few = λ h. c.sift_one.ensures.slots (c.loop-slot.invariant.few h);
-      both = moves_on c.loop-slot.table c.sift_one.new.table c.loop-slot.listings c.sift_one.new.listings
-          c.in-Some-slot.entry (standing c.next.new.self)
-          (both_some c.loop-slot.table c.loop-slot.listings c.loop-slot.slot-iterator c.next.new.self _ c.in-Some.slot
-          c.in-Some-slot.entry c.in-Some.ensures.steps c.in-Some-slot.is c.loop-slot.invariant.both)
-          c.in_ok-sift_one.ensures.moved;
       quiet = quiet_on d.is_live d.height d.tip d.buckets d.stands d.tells_crash d.moment d.left_since
           c.args.ledger.now c.loop-slot.ledger c.sift_one.new.ledger c.loop-slot.invariant.quiet c.in_ok-sift_one.ensures.quiet;
       still = c.in_ok-sift_one.ensures.cause.uncounted ∙ c.loop-slot.invariant.still;
-      left = λ before chain all h stood.
-          left_some before chain all c.loop-slot.table c.sift_one.new.table c.loop-slot.touched c.sift_one.new.touched c.loop-slot.slot-iterator c.next.new.self _ c.in-Some.slot c.in-Some-slot.entry
-          c.in-Some.ensures.steps c.in-Some-slot.is (c.loop-slot.invariant.left before chain all h stood)
-          (λ kept t e over fresh. c.in_ok-sift_one.ensures.sifted before chain all kept t e over fresh (c.loop-slot.invariant.quiet.stays.still_stands chain stood));
+      left = λ before chain all over stood.
+          left_some before chain all c.loop-slot.found.gone c.sift_one.new.found.gone c.loop-slot.found.changed c.sift_one.new.found.changed c.loop-slot.found.touched c.sift_one.new.found.touched
+          c.loop-slot.slot-iterator c.next.new.self _ c.in-Some.slot.now c.in-Some-slot.entry c.in-Some.ensures.steps c.in-Some-slot.is (c.loop-slot.invariant.left before chain all over stood)
+          (λ kept t e unspent. c.in_ok-sift_one.ensures.sifted before chain all kept t e over unspent (c.loop-slot.invariant.quiet.stays.still_stands chain stood));
     }
 
 pub loop-slot-preserved : goal.loop-slot-preserved
 loop-slot-preserved g c = record {
   can_next = tt;
   is_finite = tt;
-  table = c.loop-slot.invariant.table;
-  few = c.loop-slot.invariant.few;
-  both = both_none c.loop-slot.table c.loop-slot.listings c.loop-slot.slot-iterator c.next.new.self _ c.in-Some.slot
-      c.in-Some.ensures.steps c.in_default.is c.loop-slot.invariant.both;
   quiet = c.loop-slot.invariant.quiet;
   still = c.loop-slot.invariant.still;
-  left = λ before chain all h stood.
-      left_none before chain all c.loop-slot.table c.loop-slot.touched c.loop-slot.slot-iterator c.next.new.self _ c.in-Some.slot c.in-Some.ensures.steps c.in_default.is
-      (c.loop-slot.invariant.left before chain all h stood);
+  left = λ before chain all over stood.
+      left_none before chain all c.loop-slot.found.gone c.loop-slot.found.changed c.loop-slot.found.touched c.loop-slot.slot-iterator c.next.new.self _ c.in-Some.slot.now c.in-Some.ensures.steps
+      c.in_default.is (c.loop-slot.invariant.left before chain all over stood);
 }
 
 pub returns-clause-sifted : goal.returns-clause-sifted
-returns-clause-sifted g c = λ before chain kept h stood.
-    none_left before chain kept (standing c.args.old.entries) c.loop-slot.table c.loop-slot.touched h c.list-list.ensures.once
-    (subst (λ (l : List Slot). AreLeft before chain kept c.loop-slot.table c.loop-slot.touched (standing l)) c.in-None.ensures.steps.0 (c.loop-slot.invariant.left before chain kept h stood))
+returns-clause-sifted g c = λ before chain all over stood.
+    none_left before chain all (standing c.args.table.now.kept.entries) c.loop-slot.found.gone c.loop-slot.found.changed c.loop-slot.found.touched
+    (subst (λ (l : List KeptTx). StandsFor l before all) (sym over.table.are) over.stands) c.list-list.ensures.once
+    (subst (λ (l : List Slot). AreLeft before chain all c.loop-slot.found.gone c.loop-slot.found.changed c.loop-slot.found.touched (standing l)) c.in-None.ensures.steps.0
+    (c.loop-slot.invariant.left before chain all over stood))
 
-pub returns-in_err-sift_one-clause-quiet : goal.returns-in_err-sift_one-clause-quiet
-returns-in_err-sift_one-clause-quiet g c =
+pub returns-in_err-sift_one-clause-cause : goal.returns-in_err-sift_one-clause-cause
+returns-in_err-sift_one-clause-cause g c =
     let d = g.G.Ledger in
-    quiet_on d.is_live d.height d.tip d.buckets d.stands d.tells_crash d.moment d.left_since
-    c.args.ledger.now c.loop-slot.ledger c.sift_one.new.ledger c.loop-slot.invariant.quiet c.in_err-sift_one.ensures.quiet
-
-pub sift_one-requires-clause-new : goal.sift_one-requires-clause-new
-sift_one-requires-clause-new g c =
-    none_before (standing c.loop-slot.table.kept.entries) (standing c.next.new.self) c.in-Some-slot.entry
-    (both_some c.loop-slot.table c.loop-slot.listings c.loop-slot.slot-iterator c.next.new.self _ c.in-Some.slot
-    c.in-Some-slot.entry c.in-Some.ensures.steps c.in-Some-slot.is c.loop-slot.invariant.both).apart
-
-pub sift_one-requires-clause-listed : goal.sift_one-requires-clause-listed
-sift_one-requires-clause-listed g c = λ l same.
-    own_of c.loop-slot.table c.loop-slot.listings c.in-Some-slot.entry (standing c.next.new.self)
-    (both_some c.loop-slot.table c.loop-slot.listings c.loop-slot.slot-iterator c.next.new.self _ c.in-Some.slot
-    c.in-Some-slot.entry c.in-Some.ensures.steps c.in-Some-slot.is c.loop-slot.invariant.both) l same
-
-pub returns-clause-listed : goal.returns-clause-listed
-returns-clause-listed g c =
-    all_moved c.loop-slot.table c.loop-slot.listings
-    (subst (λ (l : List Slot). AreBoth c.loop-slot.table c.loop-slot.listings (standing l)) c.in-None.ensures.steps.0
-    c.loop-slot.invariant.both)
+    let p = err_from_is_err_and c.from_residual.result c.from_residual.ensures.1 in
+    counts_moved c.from_residual.result c.in_err-sift_one.field-0.0 p.0 (d.faults c.args.ledger.now) (d.faults c.loop-slot.ledger) (d.faults c.sift_one.new.ledger) stop.DiskFailed
+    c.loop-slot.invariant.still p.1 p.2 c.in_err-sift_one.ensures.cause

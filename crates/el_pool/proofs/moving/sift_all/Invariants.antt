@@ -2,9 +2,8 @@ use Rattle.std.proofs.Common.{◌≡◌, List}
 use Rattle.el_chain.specs.Chains.{Chain}
 use Rattle.el_tx.specs.declared.types.Tx.{Tx}
 use Rattle.el_model.specs.Keeping.{Quiet}
-use Rattle.el_mempool.specs.Standing.{StandsFor}
-use Rattle.el_kept.specs.Tables.{standing, IsTable, HasFewSlots}
-use Rattle.el_pool.proofs.Relisted.{AreBoth}
+use Rattle.el_kept.specs.Tables.{standing}
+use Rattle.el_pool.specs.within.Tables.{IsOver}
 use Rattle.el_pool.proofs.Sifts.{AreLeft}
 use Rattle.el_pool.proofs.moving.sift_all.Given as goal
 
@@ -15,12 +14,9 @@ invariant-loop-slot g l =
     record {
       can_next : (goal.iterator-loop-slot g).can_next l.slot-iterator;
       is_finite : (goal.iterator-loop-slot g).is_finite l.slot-iterator;
-      table : IsTable l.table (standing l.table.kept.entries);
-      few : HasFewSlots l.initial.table → HasFewSlots l.table;
-      both : AreBoth l.table l.listings (standing l.slot-iterator);
       quiet : Quiet d.is_live d.height d.tip d.buckets d.stands d.tells_crash d.moment d.left_since
           l.initial.ledger l.ledger;
       still : d.faults l.ledger ≡ d.faults l.initial.ledger;
-      left : (before chain : Chain) (all : List Tx) → StandsFor (standing l.fn.old.entries) before all → d.stands l.initial.ledger chain
-          → AreLeft before chain all l.table l.touched (standing l.slot-iterator);
+      left : (before chain : Chain) (all : List Tx) → IsOver l.table before all → d.stands l.initial.ledger chain
+          → AreLeft before chain all l.found.gone l.found.changed l.found.touched (standing l.slot-iterator);
     }

@@ -1,11 +1,12 @@
-use Rattle.std.proofs.Common.{◌≡◌, List, take}
-use Rattle.std.specs.Prelude.{map}
-use Rattle.el_mempool.specs.declared.held.Source.{Source}
+use Rattle.std.proofs.Common.{◌≡◌, List}
 use Rattle.std.specs.List.{list_any}
+use Rattle.std.specs.Option.{is_some}
 use Rattle.el_chain.specs.Chains.{Chain}
 use Rattle.el_tx.specs.declared.types.Tx.{Tx}
+use Rattle.el_mempool.specs.declared.held.Source.{Source}
+use Rattle.el_mempool.specs.Sift.{output_among}
 use Rattle.el_model.specs.Keeping.{Quiet}
-use Rattle.el_pool.specs.within.Tables.{IsOver, is_output_at}
+use Rattle.el_pool.specs.within.Renewal.{output_left, AreSeen}
 use Rattle.el_pool.proofs.Renewed.{SoFar}
 use Rattle.el_pool.proofs.renewing.taken_again.Given as goal
 
@@ -17,8 +18,8 @@ invariant-loop-input g l =
       quiet : Quiet d.is_live d.height d.tip d.buckets d.stands d.tells_crash d.moment d.left_since
           l.initial.ledger l.ledger;
       still : d.faults l.ledger ≡ d.faults l.initial.ledger;
-      from : map (λ (s : Source). s.from) l.sources.items ≡ map (λ (s : Source). s.from) (take l.input-index l.inputs);
-      any : l.any_kept ≡ list_any (is_output_at l.table) l.sources.items;
-      so_far : (chain : Chain) (kept : List Tx) → IsOver l.table chain kept → d.stands l.initial.ledger chain
+      any : (chain : Chain) (kept : List Tx) → AreSeen (output_left l.table l.gone l.any) chain kept l.inputs → d.stands l.initial.ledger chain
+          → l.any_kept ≡ list_any (λ (s : Source). is_some (output_among s.from kept)) l.sources.items;
+      so_far : (chain : Chain) (kept : List Tx) → AreSeen (output_left l.table l.gone l.any) chain kept l.inputs → d.stands l.initial.ledger chain
           → SoFar chain kept l.inputs l.input-index l.sources.items;
     }

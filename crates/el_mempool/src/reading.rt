@@ -4,8 +4,8 @@ ghost use Rattle.el_tx.specs.Encoding.{Encodes};
 ghost use Rattle.el_tx.specs.declared.types.Tx as shape;
 ghost use Rattle.el_mempool.specs.Refusals.{has_coinbase_form};
 
+use crate::PoolFault;
 use el_base::Hash32;
-use el_mempool::PoolFault;
 use el_tx::{Outpoint, Tx, TxFault, decode_tx};
 use std::alloc::Global;
 
