@@ -377,7 +377,8 @@ pub struct World {
     pub session: Session,
 }
 
-fn names_tip(block: &Block, ledger: &PlainLedger) -> bool
+// Whether a block names the ledger's last one, or zeros where there is none.
+pub fn names_tip(block: &Block, ledger: &PlainLedger) -> bool
     ensures { IsTrue result → block.now.header.previous ≡ tip ledger.now }
 {
     match ledger.tip() {
@@ -538,7 +539,18 @@ pub fn tells(alloc: Global, world: &mut World, row: Row) -> bool {
     says(alloc, world, line.as_bytes(), wanted.as_bytes(), false)
 }
 
-// How many of the rows, in order, are told so.
+// How many of the rows, in order, are told so in the world.
+pub fn told_in(alloc: Global, world: &mut World, rows: &[Row]) -> usize {
+    let mut told = 0usize;
+    for row in rows {
+        if tells(alloc, world, *row) {
+            told = told.saturating_add(1);
+        }
+    }
+    told
+}
+
+// How many of the rows, in order, are told so over the blocks.
 fn told_rows(alloc: Global, blocks: &[&str], rows: &[Row]) -> usize {
     let Some(blocks) = decoded(alloc, blocks) else {
         return 0;
@@ -546,13 +558,7 @@ fn told_rows(alloc: Global, blocks: &[&str], rows: &[Row]) -> usize {
     let Some(mut world) = world_of(alloc, blocks.as_slice(), 0) else {
         return 0;
     };
-    let mut told = 0usize;
-    for row in rows {
-        if tells(alloc, &mut world, *row) {
-            told = told.saturating_add(1);
-        }
-    }
-    told
+    told_in(alloc, &mut world, rows)
 }
 
 #[test]

@@ -1,12 +1,13 @@
 // What no contract says of the set: that its calls succeed where memory is ample, over a chain of one block
 // or two and with a few transactions. Hashes are as users see them; another program computed them from the
 // rules.
-ghost use Rattle.std.specs.Prelude.{◌≡◌, ◌≤◌, IfSome, IsTrue};
-ghost use Rattle.el_chain.specs.Chains.{tip};
+ghost use Rattle.std.specs.Prelude.{◌≤◌, IfSome};
 ghost use Rattle.el_tx.specs.Encoding.{HasEncoding};
 
+use crate::methods::names_tip;
+use crate::views::hash;
 use el_base::{Bytes, Hash32, OutOfMemory};
-use el_block::{Block, decode_block};
+use el_block::decode_block;
 use el_chain::Touched;
 use el_gen::{block, block_bytes, coinbase, spend};
 use el_mempool::{Held, PoolFault, PoolLimits, Source};
@@ -54,13 +55,6 @@ const PLACE: Place = Place {
 struct World {
     ledger: PlainLedger,
     pool: Pool,
-}
-
-fn hash(shown: &str) -> Hash32 {
-    match Hash32::from_shown(shown) {
-        Ok(hash) => hash,
-        Err(_) => Hash32([0; 32]),
-    }
 }
 
 fn output(txid: &str) -> Outpoint {
@@ -157,15 +151,6 @@ fn tip_hash(ledger: &PlainLedger) -> Hash32 {
     match ledger.tip() {
         Some(hash) => hash,
         None => Hash32([0; 32]),
-    }
-}
-
-fn names_tip(block: &Block, ledger: &PlainLedger) -> bool
-    ensures { IsTrue result → block.now.header.previous ≡ tip ledger.now }
-{
-    match ledger.tip() {
-        Some(hash) => block.header.previous == hash,
-        None => block.header.previous == Hash32([0; 32]),
     }
 }
 

@@ -1,5 +1,5 @@
-// Random tables: transactions come, are dropped, and blocks come and go, and after each step what the set tells
-// is what a plain list tells that is sifted anew and walked from its start for each question.
+// Random tables: transactions come, are dropped, and blocks come and go, and after each step what the set
+// tells is what a plain list tells that is sifted anew and walked from its start for each question.
 ghost use Rattle.std.specs.Prelude.{◌≤◌, IfSome};
 ghost use Rattle.el_tx.specs.Encoding.{HasEncoding};
 

@@ -17,7 +17,8 @@ type Row = (&'static [u8], &'static [u8], bool);
 // What one client after the other says over no blocks.
 const LINES: [Row; 9] = [
     (
-        b"[{\"id\":1,\"method\":\"server.ping\"},{\"method\":\"server.ping\"},{\"id\":2,\"method\":\"nope\"},5]",
+        b"[{\"id\":1,\"method\":\"server.ping\"},{\"method\":\"server.ping\"},\
+          {\"id\":2,\"method\":\"nope\"},5]",
         b"[{\"id\":1,\"jsonrpc\":\"2.0\",\"result\":null},\
           {\"error\":{\"code\":-32601,\"message\":\"unknown method\"},\"id\":2,\"jsonrpc\":\"2.0\"},\
           {\"error\":{\"code\":-32600,\"message\":\"invalid request\"},\"id\":null,\"jsonrpc\":\"2.0\"}]\n",
@@ -50,7 +51,8 @@ const LINES: [Row; 9] = [
         true,
     ),
     (
-        b"[{\"id\":1,\"method\":\"server.version\",\"params\":[\"c\",\"1.5\"]},{\"id\":2,\"method\":\"server.ping\"}]",
+        b"[{\"id\":1,\"method\":\"server.version\",\"params\":[\"c\",\"1.5\"]},\
+          {\"id\":2,\"method\":\"server.ping\"}]",
         b"[{\"error\":{\"code\":1,\"message\":\"version not shared\"},\"id\":1,\"jsonrpc\":\"2.0\"},\
           {\"id\":2,\"jsonrpc\":\"2.0\",\"result\":null}]\n",
         true,

@@ -1,7 +1,7 @@
 // The methods over Bitcoin's first two blocks and two unconfirmed transactions: one takes the coin of the
 // second block, and its child gives a part back to the same script. Hashes and statuses were computed by
 // another program from the rules.
-use crate::methods::{Row, Told, World, decoded, says, tells, world_of};
+use crate::methods::{Row, Told, World, decoded, says, tells, told_in, world_of};
 use el_gen::{BLOCK_1, GENESIS};
 use std::alloc::Global;
 use std::test::Fail;
@@ -122,13 +122,7 @@ fn told_rows(alloc: Global, rows: &[Row]) -> usize {
     let Some(mut world) = with_both(alloc, 0) else {
         return 0;
     };
-    let mut told = 0usize;
-    for row in rows {
-        if tells(alloc, &mut world, *row) {
-            told = told.saturating_add(1);
-        }
-    }
-    told
+    told_in(alloc, &mut world, rows)
 }
 
 #[test]

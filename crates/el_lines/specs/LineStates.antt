@@ -13,11 +13,13 @@ pub record LineState : Type 0 where
   pub rest : List ℕ
   pub skips : Bool
 
--- Contracts see a line buffer as this: what it is at; how many bytes it keeps; how many of those that are held
--- are not known to be no byte 10; and how often a byte that was fed was looked at.
+-- Contracts see a line buffer as this: what it is at; how many bytes it keeps, and for how many it has room;
+-- how many of those that are held are not known to be no byte 10; and how often a byte that was fed was
+-- looked at.
 pub record BufferState : Type 0 where
   pub state : LineState
   pub kept : ℕ
+  pub room : ℕ
   pub unsearched : ℕ
   pub looks : ℕ
 

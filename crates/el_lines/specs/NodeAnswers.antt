@@ -90,7 +90,7 @@ connect_word (connect.Full table rows) = Some (codes "full")
 connect_word connect.DiskFailed = None
 connect_word connect.Memory = None
 
--- what is said of a move that is refused for a block; a device that failed, and want of memory, are no faults
+-- what is said of a move that is refused for a block; a device that failed, and no memory, are no faults
 -- of a block
 abbrev pub move_refused : MoveFault → Option (List ℕ)
 move_refused (stop.Changed wanted found) = Some (changed_refused wanted)
@@ -145,7 +145,7 @@ overspends_refused taken given =
 unfoldable pub full_refused : ℕ → ℕ → List ℕ
 full_refused count bytes = codes "refused full " ++ decimal count ++ codes " " ++ decimal bytes ++ codes "\n"
 
--- what is said of a transaction with that txid that isn't kept; a device that failed, and want of memory, are
+-- what is said of a transaction with that txid that isn't kept; a device that failed, and no memory, are
 -- no refusals of it
 abbrev pub pool_refused : Hash32 → PoolFault → Option (List ℕ)
 pool_refused id refusal.Bad = Some form_refused

@@ -1,5 +1,5 @@
-//! What comes over a link: the bytes of a peer are cut into lines, a line of a node is read by its grammar, and
-//! the answers to the node are printed.
+//! What comes over a link: the bytes of a peer are cut into lines, a line of a node is read by its grammar,
+//! and the answers to the node are printed.
 #![tactic(auto)]
 
 mod answer_room;
@@ -8,7 +8,6 @@ mod chain_end;
 mod laws;
 mod limits;
 mod line_buffer;
-mod look_count;
 mod node_answer;
 mod node_line;
 mod number;
@@ -17,7 +16,7 @@ mod pool_answer;
 pub use answer_room::{ANSWER_SIZE, AnswerRoom};
 pub use chain_end::at_answer;
 pub use laws::{cuts_do_not_matter, node_line_says_one_thing, pieces_do_not_matter};
-pub use limits::{LINE_LIMIT, NODE_LINE_LIMIT};
+pub use limits::{IDLE_ROOM, LINE_LIMIT, NODE_LINE_LIMIT};
 pub use line_buffer::{LineBuffer, LineEvent};
 pub use node_answer::{
     archive_refused, block_answer, deep_refused, genesis_refused, line_refused, long_refused,

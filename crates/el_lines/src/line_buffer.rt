@@ -4,9 +4,9 @@ ghost use Rattle.el_lines.specs.Lines.{lines, too_long};
 ghost use Rattle.el_lines.specs.LineStates.{IsAt, held, as_listed, HasNoNewline};
 ghost use Rattle.el_lines.specs.within.Places.{StandsFirst};
 
-use crate::bytes::{byte_from, bytes_before, bytes_from, leave_out};
-use crate::look_count::LookCount;
-use el_base::{Bytes, OutOfMemory};
+use crate::bytes::{byte_from, bytes_before, bytes_from, give_back, leave_out};
+use crate::limits::IDLE_ROOM;
+use el_base::{Bytes, GhostCount, OutOfMemory};
 use std::alloc::Global;
 use std::marker::Model;
 
@@ -27,8 +27,9 @@ pub enum LineEvent {
 /// rest of it is skipped and never kept. At any time it keeps at most twice as many bytes as it holds, that
 /// is, as were fed and belong to no event that was given. So where each piece is followed by calls of
 /// `next_line` up to None, a peer that sends no byte 10 takes the memory of no more than `limit` bytes and
-/// the piece fed last. Each byte is looked at once, however the bytes are cut, and moved twice at most on
-/// average.
+/// the piece fed last. Only `feed` takes room, which may be for more bytes than are kept; after that None it
+/// is for at most `IDLE_ROOM` bytes where none is held. Each byte is looked at once, however the bytes are
+/// cut, and moved twice at most on average.
 #[derive(Drop)]
 pub struct LineBuffer {
     limit: usize,
@@ -38,11 +39,11 @@ pub struct LineBuffer {
     // How many bytes from `start` on are known not to be byte 10.
     seen: usize,
     skips: bool,
-    looks: LookCount,
+    looks: GhostCount,
 }
 
 impl Model for LineBuffer {
-    ghost use Rattle.std.specs.Prelude.{◌≡◌, ◌≤◌, ◌+◌, ◌-◌, ◌*◌, [], length, drop, true};
+    ghost use Rattle.std.specs.Prelude.{◌≡◌, ◌≤◌, ◌+◌, ◌-◌, ◌*◌, [], length, drop, vec_capacity, true};
     ghost use Rattle.el_lines.specs.LineStates.{BufferState};
     ghost use Rattle.el_lines.specs.within.Places.{IsSearched};
 
@@ -51,6 +52,7 @@ impl Model for LineBuffer {
     ghost view = { λ b. record {
       state = record { limit = b.limit; rest = drop b.start b.bytes.items; skips = b.skips };
       kept = length b.bytes.items;
+      room = vec_capacity b.bytes;
       unsearched = length b.bytes.items - (b.start + b.seen);
       looks = b.looks;
     } };
@@ -68,6 +70,7 @@ impl LineBuffer {
         ensures limit { result.state.limit ≡ limit }
         ensures at { IsAt result.state [] 0 }
         ensures kept { result.kept ≡ 0 }
+        ensures room { result.room ≡ 0 }
         ensures looks { result.looks + result.unsearched ≡ 0 }
     {
         LineBuffer {
@@ -76,7 +79,7 @@ impl LineBuffer {
             start: 0,
             seen: 0,
             skips: false,
-            looks: LookCount::new(),
+            looks: GhostCount::new(),
         }
     }
 
@@ -95,7 +98,8 @@ impl LineBuffer {
             ≤ self.old.looks + self.old.unsearched + length bytes.now }
         // What is skipped takes no memory.
         ensures skipped { self.old.state.skips ≡ true → HasNoNewline bytes.now
-            → (result ≡ Ok tt) × (self.new.state ≡ self.old.state) × (self.new.kept ≡ self.old.kept) }
+            → (result ≡ Ok tt) × (self.new.state ≡ self.old.state) × (self.new.kept ≡ self.old.kept)
+            × (self.new.room ≡ self.old.room) }
     {
         if !self.skips {
             self.add(bytes)?;
@@ -134,6 +138,10 @@ impl LineBuffer {
         // Bytes that were given are let go: all of them where no event is left.
         ensures kept { self.new.kept ≤ 2 * held self.new.state }
         ensures kept_none { IfOk result (λ found. IfNone found (self.new.kept ≡ held self.new.state)) }
+        // Room isn't taken here, and is given back where nothing is held.
+        ensures room { self.new.room ≤ self.old.room }
+        ensures room_none { IfOk result (λ found. IfNone found
+            (held self.new.state ≡ 0 → self.new.room ≤ IDLE_ROOM)) }
         ensures looks { OnOk result
             (self.new.looks + self.new.unsearched ≤ self.old.looks + self.old.unsearched) }
         // Where no memory is found, the byte 10 that was found is looked at once more.
@@ -176,6 +184,7 @@ impl LineBuffer {
             (λ end. StandsFirst 10 self.old.state.rest end) }
         ensures same { self.new.state ≡ self.old.state }
         ensures kept { self.new.kept ≡ self.old.kept }
+        ensures room { self.new.room ≡ self.old.room }
         ensures looks { MatchOption result
             (self.new.looks + self.new.unsearched ≤ self.old.looks + self.old.unsearched)
             (λ end. self.new.looks + (held self.old.state - (end + 1))
@@ -211,6 +220,7 @@ impl LineBuffer {
         ensures passed { self.new.state
             ≡ record self.old.state { rest = drop (end + 1) self.old.state.rest } }
         ensures kept { self.new.kept ≤ 2 * held self.new.state }
+        ensures room { self.new.room ≡ self.old.room }
         ensures unsearched { self.new.unsearched ≡ held self.old.state - (end + 1) }
         ensures looks { self.new.looks ≡ self.old.looks }
     {
@@ -229,6 +239,7 @@ impl LineBuffer {
         ensures skipped { self.new.state
             ≡ record { limit = self.old.state.limit; rest = []; skips = true } }
         ensures kept { self.new.kept ≡ 0 }
+        ensures room { self.new.room ≡ self.old.room }
         ensures unsearched { self.new.unsearched ≡ 0 }
         ensures looks { self.new.looks ≡ self.old.looks }
     {
@@ -245,7 +256,7 @@ impl LineBuffer {
           rest = self.old.state.rest ++ bytes.now;
           skips = false;
         }) }
-        ensures refused { OnErr result (self.new ≡ self.old) }
+        ensures refused { OnErr result (self.new ≡ record self.old { room = self.new.room }) }
         ensures kept { OnOk result (self.new.kept ≤ 2 * held self.old.state + length bytes.now) }
         ensures unsearched { OnOk result
             (self.new.unsearched ≡ self.old.unsearched + length bytes.now) }
@@ -256,17 +267,17 @@ impl LineBuffer {
         Ok(())
     }
 
-    // Lets the bytes go that were given.
+    // Lets the bytes go that were given, and the room for them where no others are held.
     fn leave_out_given(&mut self)
         ensures same { self.new.state ≡ self.old.state }
         ensures kept { self.new.kept ≡ held self.old.state }
+        ensures room { self.new.room ≤ self.old.room }
+        ensures empty { held self.old.state ≡ 0 → self.new.room ≤ IDLE_ROOM }
         ensures unsearched { self.new.unsearched ≡ self.old.unsearched }
         ensures looks { self.new.looks ≡ self.old.looks }
     {
-        if self.start == 0 {
-            return;
-        }
         leave_out(&mut self.bytes, self.start);
         self.start = 0;
+        give_back(&mut self.bytes, IDLE_ROOM);
     }
 }

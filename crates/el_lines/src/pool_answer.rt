@@ -129,8 +129,8 @@ fn full_refused(room: AnswerRoom, count: u64, bytes: u64) -> Bytes
     )
 }
 
-/// What is answered for the first refusal of a transaction with this txid, in inner order. None where a device
-/// failed, or memory ran out: that is no refusal of it.
+/// What is answered for the first refusal of a transaction with this txid, in inner order. None where a
+/// device failed, or memory ran out: that is no refusal of it.
 pub fn pool_refused(room: AnswerRoom, txid: Hash32, fault: PoolFault) -> Option<Bytes>
     ensures { result ≡ answer.pool_refused txid fault }
 {

@@ -1,5 +1,5 @@
-//! What is kept of a client for its requests: the version that was agreed, and what it has subscribed to (Electrum
-//! Protocol 1.4).
+//! What is kept of a client for its requests: the version that was agreed, and what it has subscribed to
+//! (Electrum Protocol 1.4).
 #![tactic(auto)]
 
 mod session;

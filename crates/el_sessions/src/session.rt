@@ -1,5 +1,6 @@
 // What is kept of a client for its requests.
-ghost use Rattle.std.specs.Prelude.{◌≡◌, ◌<◌, ◌≤◌, ℕ, List, [], length, slice_get, OnOk, OnErr, IfErr, false};
+ghost use Rattle.std.specs.Prelude.{◌≡◌, ◌↔◌, ◌<◌, ◌≤◌, ℕ, List, [], length, slice_get, OnOk, OnErr, IfErr, Some, false};
+ghost use Rattle.std.specs.Map.{keys_of};
 ghost use Rattle.indexmap.specs.Layout.{set_value_at};
 ghost use Rattle.el_sessions.specs.Sessions.{is_subscribed, subscribed};
 ghost use Rattle.el_sessions.specs.declared.session.SubsFault.TheVariants as fault;
@@ -48,6 +49,14 @@ fn is_held(map: &IndexMap<Hash32, Option<Hash32>>, s: &Hash32) -> bool
     ensures { result ≡ is_subscribed s.now map.now.entries }
 {
     map.contains_key(s)
+}
+
+// The place of the script hash among the keys.
+fn place_of(map: &IndexMap<Hash32, Option<Hash32>>, s: &Hash32) -> Option<usize>
+    ensures { (place : ℕ) → (result ≡ Some place)
+        ↔ (slice_get (keys_of map.now.entries) place ≡ Some s.now) }
+{
+    map.get_index_of(s)
 }
 
 // Keeps what was told, in the place of the script hash or as the last.
@@ -119,6 +128,15 @@ impl Subs {
             Some((s, told)) => Some((*s, *told)),
             None => None,
         }
+    }
+
+    /// The number of the subscription to the script hash, from 0 on, in order; None exactly where there is
+    /// none. No other subscription is to it. Takes no memory.
+    pub fn number_of(&self, s: &Hash32) -> Option<usize>
+        ensures { (number : ℕ) → (result ≡ Some number)
+            ↔ (slice_get (keys_of self.now) number ≡ Some s.now) }
+    {
+        place_of(&self.map, s)
     }
 
     /// Notes what is told of the subscription of that number. Takes no memory.

@@ -1,24 +1,20 @@
 -- Laws of what is told of subscriptions.
-use Rattle.std.proofs.Common.{◌≡◌, inl, inr, ℕ, zero, suc, ◌+◌, ◌≤◌, ◌<◌, Bool, true, false, ◌||◌, not, List, [], ◌∷◌, ◌++◌, length, drop, take, get_or, slice_get, Option, Some, None, refl, sym, ap, ◌∙◌, subst, arith, append-nil, append_assoc, true≢false}
-use Rattle.std.specs.List.{AllByRecursion, list_any}
+use Rattle.std.proofs.Common.{◌≡◌, inl, inr, ℕ, zero, suc, ◌+◌, ◌-◌, ◌≤◌, ◌<◌, Bool, true, false, not, List, [], ◌∷◌, ◌++◌, length, drop, slice_get, Option, Some, None, refl, sym, ap, ◌∙◌, subst, arith, append-nil, append_assoc, true≢false}
 use Rattle.std.specs.Map.{keys_of}
 use Rattle.std.specs.Option.{option_eq}
-use Rattle.std.proofs.lemmas.List.Folds.{list_any-append}
 use Rattle.std.proofs.lemmas.Slice.Eq.{bytes_eq-Decides}
 use Rattle.std.proofs.lemmas.Option.{slice_get_cases}
-use Rattle.std.proofs.lemmas.List.{take_all}
-use Rattle.std.proofs.Math.Seq.{take-suc}
 use Rattle.indexmap.specs.Layout.{set_value_at}
 use Rattle.el_base.specs.declared.hash.Hash32.{Hash32}
 use Rattle.el_chain.specs.Headers.{same_hash}
-use Rattle.el_sessions.specs.Sessions.{Subscription, is_subscribed}
+use Rattle.el_sessions.specs.Sessions.{Subscription}
 use Rattle.el_subs.specs.Told.{is_news, retold, news, marked, IsTold, AllTold, OthersTold, is_touched, cost_of}
-use Rattle.el_subs.specs.within.Partly.{partly, SoFar}
+use Rattle.el_subs.specs.within.Partly.{partly, touched_at, SoFar}
 
-same_bytes : (a : Hash32) → same_hash a a ≡ true
+pub same_bytes : (a : Hash32) → same_hash a a ≡ true
 same_bytes a = (bytes_eq-Decides a.0 a.0).1 refl
 
-the_hash : (a b : Hash32) → same_hash a b ≡ true → a ≡ b
+pub the_hash : (a b : Hash32) → same_hash a b ≡ true → a ≡ b
 the_hash a b e = ap (λ (l : List ℕ). of l) ((bytes_eq-Decides a.0 b.0).0 e)
   where
     of : List ℕ → Hash32
@@ -33,33 +29,6 @@ same_told None None e = refl
 same_told None (Some b) e = absurd (true≢false (sym e))
 same_told (Some a) None e = absurd (true≢false (sym e))
 same_told (Some a) (Some b) e = ap Some (the_hash a b e)
-
-no_hash : (a b : Hash32) → same_hash a b ≡ false → same_hash b a ≡ false
-no_hash a b e = by (same_hash b a) refl
-  where
-    by : (x : Bool) → same_hash b a ≡ x → x ≡ false
-    by false is = refl
-    by true is = absurd (true≢false (sym ((bytes_eq-Decides a.0 b.0).1 (sym ((bytes_eq-Decides b.0 a.0).0 is))) ∙ e))
-
-no_either : (a b : Bool) → (a || b) ≡ false → (a ≡ false) × (b ≡ false)
-no_either false b e = (refl, e)
-no_either true b e = absurd (true≢false e)
-
-one_more : (ts : List Hash32) (t h : Hash32) → list_any (same_hash h) ts ≡ false → same_hash t h ≡ false → list_any (same_hash h) (ts ++ t ∷ []) ≡ false
-one_more ts t h none other =
-    list_any-append (same_hash h) ts (t ∷ []) ∙ ap (λ (b : Bool). b || (same_hash h t || false)) none ∙ ap (λ (b : Bool). b || false) (no_hash t h other)
-
--- no subscription is to one hash more, which isn't held
-pub none_touched : (ts : List Hash32) (t : Hash32) (subs : List Subscription) → AllByRecursion (λ sub. is_touched ts sub ≡ false) subs
-    → is_subscribed t subs ≡ false → AllByRecursion (λ sub. is_touched (ts ++ t ∷ []) sub ≡ false) subs
-none_touched ts t [] all none = tt
-none_touched ts t (x ∷ xs) all none =
-    let e = no_either (same_hash t x.0) (is_subscribed t xs) none in
-    (one_more ts t x.0 all.0 e.0, none_touched ts t xs all.1 e.1)
-
-pub none_yet : (subs : List Subscription) → AllByRecursion (λ sub. is_touched [] sub ≡ false) subs
-none_yet [] = tt
-none_yet (x ∷ xs) = (refl, none_yet xs)
 
 pub element : {A : Type 0} (xs : List A) (i : ℕ) → i < length xs → (x : A) × (slice_get xs i ≡ Some x)
 element xs i lt = elim ((slice_get_cases xs i).1) [
@@ -86,23 +55,6 @@ module _ (status : Hash32 → Option Hash32) where
       → (found ≡ found ++ news status (sub ∷ [])) × (subs ≡ set_value_at subs i (status sub.0))
   nothing_told found subs i sub at told =
       (sym (append-nil found) ∙ ap (λ (l : List Subscription). found ++ l) (sym (no_news sub told)), set_same subs i sub at told)
-
-  -- what is told of nothing
-  pub all_told_news : (subs : List Subscription) → AllTold status subs → news status subs ≡ []
-  all_told_news [] all = refl
-  all_told_news (x ∷ xs) all =
-      let e : is_news status x ≡ false = ap (λ (s : Option Hash32). not (option_eq same_hash (status x.0) s)) all.0 ∙ ap not (status_is_same (status x.0)) in
-      rw e (all_told_news xs all.1)
-
-  pub all_told_marked : (subs : List Subscription) → AllTold status subs → subs ≡ marked status subs
-  all_told_marked [] all = refl
-  all_told_marked (x ∷ xs) all =
-      ap (λ (s : Option Hash32). (x.0, s) ∷ xs) all.0 ∙ ap (λ (l : List Subscription). retold status x ∷ l) (all_told_marked xs all.1)
-
-  -- all are told where none is touched
-  pub all_told : (touched : List Hash32) (subs : List Subscription) → AllByRecursion (λ sub. is_touched touched sub ≡ false) subs → OthersTold status touched subs → AllTold status subs
-  all_told touched [] none others = tt
-  all_told touched (x ∷ xs) none others = (others.0 none.0, all_told touched xs none.1 others.1)
 
   -- once all are told, each is
   pub marked_are_told : (subs : List Subscription) → AllTold status (marked status subs)
@@ -135,17 +87,24 @@ module _ (status : Hash32 → Option Hash32) where
       subst (λ (z : Subscription). is_touched touched z ≡ false → IsTold status z) e others.0
   other_at touched (y ∷ ys) (suc i) x others at = other_at touched ys i x others.1 at
 
+  touched_here : (touched : List Hash32) (subs : List Subscription) (i : ℕ) (x : Subscription) → slice_get subs i ≡ Some x
+      → touched_at touched subs i ≡ is_touched touched x
+  touched_here touched [] i x at = absurd cc
+  touched_here touched (y ∷ ys) zero x at =
+      let e : y ≡ x = cc in
+      ap (λ (z : Subscription). is_touched touched z) e
+  touched_here touched (y ∷ ys) (suc i) x at = touched_here touched ys i x at
+
   pub told_first : (old : List Subscription) → SoFar status old 0 [] old
   told_first old = record { whole = refl; subs_are = refl }
 
   -- one subscription more
-  pub told_more : (old : List Subscription) (i : ℕ) (touched : List Hash32) (found subs found' subs' : List Subscription) (x : Subscription)
-      → SoFar status old i found subs → OthersTold status touched old → slice_get subs i ≡ Some x
-      → ((is_touched touched x ≡ false → IsTold status x) → (found' ≡ found ++ news status (x ∷ [])) × (subs' ≡ set_value_at subs i (status x.0)))
+  pub told_more : (old : List Subscription) (i : ℕ) (found subs found' subs' : List Subscription) (x : Subscription)
+      → SoFar status old i found subs → slice_get subs i ≡ Some x
+      → (found' ≡ found ++ news status (x ∷ [])) × (subs' ≡ set_value_at subs i (status x.0))
       → SoFar status old (i + 1) found' subs'
-  told_more old i touched found subs found' subs' x so others at step =
+  told_more old i found subs found' subs' x so at s =
       let p = partly_at old i x (rw so.subs_are at at) in
-      let s = step (other_at touched old i x others p.0) in
       let more : suc i ≡ i + 1 = omega arith in
       subst (λ (n : ℕ). SoFar status old n found' subs') more (record {
         whole = rw s.0 (append_assoc found (news status (x ∷ [])) (news status (drop (suc i) old))
@@ -153,6 +112,41 @@ module _ (status : Hash32 → Option Hash32) where
             ∙ ap (λ (l : List Subscription). found ++ news status l) (sym p.2) ∙ so.whole);
         subs_are = s.1 ∙ ap (λ (l : List Subscription). set_value_at l i (status x.0)) so.subs_are ∙ p.1;
       })
+
+  partly_here : (old : List Subscription) (i : ℕ) (x : Subscription) → slice_get old i ≡ Some x → slice_get (partly status i old) i ≡ Some x
+  partly_here [] i x at = absurd cc
+  partly_here (y ∷ ys) zero x at = at
+  partly_here (y ∷ ys) (suc i) x at = partly_here ys i x at
+
+  -- one that isn't touched is told
+  passed_one : (touched : List Hash32) (old : List Subscription) (i : ℕ) (found subs : List Subscription) → OthersTold status touched old
+      → i < length old → touched_at touched old i ≡ false → SoFar status old i found subs → SoFar status old (i + 1) found subs
+  passed_one touched old i found subs others lt none so =
+      let x = element old i lt in
+      let at : slice_get subs i ≡ Some x.0 = rw so.subs_are (partly_here old i x.0 x.1) in
+      let told = other_at touched old i x.0 others x.1 (sym (touched_here touched old i x.0 x.1) ∙ none) in
+      told_more old i found subs found subs x.0 so at (nothing_told found subs i x.0 at told)
+
+  passed_some : (touched : List Hash32) (old : List Subscription) (a n : ℕ) (found subs : List Subscription) → OthersTold status touched old
+      → a + n ≤ length old → ((k : ℕ) → a ≤ k → k < a + n → touched_at touched old k ≡ false) → SoFar status old a found subs
+      → SoFar status old (a + n) found subs
+  passed_some touched old a zero found subs others le none so =
+      let same : a ≡ a + 0 = omega arith in
+      subst (λ (i : ℕ). SoFar status old i found subs) same so
+  passed_some touched old a (suc n) found subs others le none so =
+      let more : (a + n) + 1 ≡ a + suc n = omega arith in
+      let before = passed_some touched old a n found subs others (omega (arith, le)) (λ k above below. none k above (omega (arith, below))) so in
+      subst (λ (i : ℕ). SoFar status old i found subs) more
+      (passed_one touched old (a + n) found subs others (omega (arith, le)) (none (a + n) (omega arith) (omega arith)) before)
+
+  -- nor are those that stand before the next touched one
+  pub passed : (touched : List Hash32) (old : List Subscription) (a b : ℕ) (found subs : List Subscription) → OthersTold status touched old
+      → a ≤ b → b ≤ length old → ((k : ℕ) → a ≤ k → k < b → touched_at touched old k ≡ false) → SoFar status old a found subs
+      → SoFar status old b found subs
+  passed touched old a b found subs others le inner none so =
+      let there : a + (b - a) ≡ b = omega (arith, le) in
+      subst (λ (i : ℕ). SoFar status old i found subs) there
+      (passed_some touched old a (b - a) found subs others (omega (arith, le, inner)) (λ k above below. none k above (omega (arith, le, below))) so)
 
   partly_all : (old : List Subscription) → partly status (length old) old ≡ marked status old
   partly_all [] = refl
@@ -180,14 +174,38 @@ module _ (cost : Hash32 → ℕ) (touched : List Hash32) where
       rw is (omega arith)
   cost_at (y ∷ ys) (suc i) s e = cost_at ys i s e
 
-  pub rows_more : (keys : List Hash32) (i a b total : ℕ) → i < length keys → ((s : Hash32) → slice_get keys i ≡ Some s → b ≤ a + cost_of cost touched (s ∷ []))
-      → a + cost_of cost touched (drop i keys) ≤ total → b + cost_of cost touched (drop (i + 1) keys) ≤ total
-  rows_more keys i a b total lt step before =
-      let x = element keys i lt in
-      let le = step x.0 x.1 in
-      let e = cost_at keys i x.0 x.1 in
-      let more : suc i ≡ i + 1 = omega arith in
-      subst (λ (n : ℕ). b + cost_of cost touched (drop n keys) ≤ total) more (omega arith)
+  fewer : (keys : List Hash32) (n : ℕ) → cost_of cost touched (drop n keys) ≤ cost_of cost touched keys
+  fewer [] zero = omega arith
+  fewer [] (suc n) = omega arith
+  fewer (x ∷ xs) zero = omega arith
+  fewer (x ∷ xs) (suc n) = omega (arith, fewer xs n)
+
+  falls : (keys : List Hash32) (a b : ℕ) → a ≤ b → cost_of cost touched (drop b keys) ≤ cost_of cost touched (drop a keys)
+  falls keys zero b le = fewer keys b
+  falls keys (suc a) zero le = absurd (omega (arith, le))
+  falls [] (suc a) (suc b) le = omega arith
+  falls (x ∷ xs) (suc a) (suc b) le = falls xs a b (omega (arith, le))
+
+  pub rows_first : (keys : List Hash32) (a n : ℕ) → a + cost_of cost touched (drop n keys) ≤ a + cost_of cost touched keys
+  rows_first keys a n = omega (arith, fewer keys n)
+
+  -- a touched one costs what it costs, and those before the next nothing
+  cost_there : (subs : List Subscription) (i : ℕ) → touched_at touched subs i ≡ true
+      → (s : Hash32) × (slice_get (keys_of subs) i ≡ Some s) × (cost_of cost touched (s ∷ []) ≡ cost s)
+  cost_there [] i is = absurd (true≢false (sym is))
+  cost_there (x ∷ xs) zero is = (x.0, refl, rw is (omega arith))
+  cost_there (x ∷ xs) (suc i) is = cost_there xs i is
+
+  pub rows_next : (subs : List Subscription) (i next a b total : ℕ) → touched_at touched subs i ≡ true → i + 1 ≤ next
+      → ((s : Hash32) → slice_get (keys_of subs) i ≡ Some s → b ≤ a + cost s)
+      → a + cost_of cost touched (drop i (keys_of subs)) ≤ total → b + cost_of cost touched (drop next (keys_of subs)) ≤ total
+  rows_next subs i next a b total is le step before =
+      let s = cost_there subs i is in
+      let e = cost_at (keys_of subs) i s.0 s.1 in
+      let paid = step s.0 s.1 in
+      let same = s.2 in
+      let rest = falls (keys_of subs) (suc i) next (omega (arith, le)) in
+      omega (arith, e, paid, same, rest, before)
 
 pub keys_noted : (subs : List Subscription) (i : ℕ) (told : Option Hash32) → keys_of (set_value_at subs i told) ≡ keys_of subs
 keys_noted [] i told = refl
@@ -206,18 +224,6 @@ pub keys_length : (subs : List Subscription) → length (keys_of subs) ≡ lengt
 keys_length [] = refl
 keys_length (x ∷ xs) = ap suc (keys_length xs)
 
-pub concerned_more : (items : List Hash32) (i : ℕ) (d : Hash32) (subs : List Subscription) → i < length items → AllByRecursion (λ sub. is_touched (take i items) sub ≡ false) subs
-    → false ≡ is_subscribed (get_or items i d) subs → AllByRecursion (λ sub. is_touched (take (i + 1) items) sub ≡ false) subs
-concerned_more items i d subs lt all none =
-    let more : suc i ≡ i + 1 = omega arith in
-    let t = take-suc items i d lt in
-    let u : take (i + 1) items ≡ take i items ++ get_or items i d ∷ [] = subst (λ (n : ℕ). take n items ≡ take i items ++ get_or items i d ∷ []) more t in
-    rw u (none_touched (take i items) (get_or items i d) subs all (sym none))
-
-pub concerned_all : (items touched : List Hash32) (i : ℕ) (subs : List Subscription) → length items ≤ i → items ≡ touched → AllByRecursion (λ sub. is_touched (take i items) sub ≡ false) subs
-    → AllByRecursion (λ sub. is_touched touched sub ≡ false) subs
-concerned_all items touched i subs le same all = rw (← same) (subst (λ (l : List Hash32). AllByRecursion (λ sub. is_touched l sub ≡ false) subs) (take_all i items le) all)
-
 pub not_false : (b : Bool) → not b ≡ false → b ≡ true
 not_false true e = refl
 not_false false e = absurd (true≢false e)
@@ -225,20 +231,9 @@ not_false false e = absurd (true≢false e)
 pub one_some : (x y : Subscription) → ◌≡◌ {A = Option Subscription} (Some x) (Some y) → x ≡ y
 one_some x y e = cc
 
-pub within_keys : (old : List Subscription) (i n : ℕ) → n ≡ length old → i < n → i < length (keys_of old)
-within_keys old i n is lt =
-    let k = keys_length old in
-    omega arith
-
 pub within_subs : (old subs : List Subscription) (i n : ℕ) → keys_of subs ≡ keys_of old → n ≡ length old → i < n → i < length subs
 within_subs old subs i n keys is lt =
     let k = keys_length old in
     let l = keys_length subs in
     let m : length (keys_of subs) ≡ length (keys_of old) = ap (λ (ks : List Hash32). length ks) keys in
-    omega arith
-
-pub rows_stop : (cost : Hash32 → ℕ) (touched keys : List Hash32) (i a b total : ℕ) → i < length keys → ((s : Hash32) → slice_get keys i ≡ Some s → b ≤ a + cost_of cost touched (s ∷ []))
-    → a + cost_of cost touched (drop i keys) ≤ total → b ≤ total
-rows_stop cost touched keys i a b total lt step before =
-    let r = rows_more cost touched keys i a b total lt step before in
     omega arith

@@ -107,8 +107,8 @@ fn add_tip_line<G: Ledger>(
 /// All lines that a client is told after a line of the node, in order, each with byte 10 at its end
 /// (Electrum Protocol 1.4, `blockchain.headers.subscribe` and `blockchain.scripthash.subscribe`): the tip,
 /// where it subscribes to headers and the ledger's tip isn't the one before, in inner order; and then of each
-/// of its subscriptions the status, where it isn't the one told last. Those are then marked as told. It holds
-/// where each subscription to a script hash that isn't touched was told its status; no other is looked at.
+/// of its subscriptions the status, where it isn't the one told last. Those are then marked as told. This is
+/// so where each subscription to a script hash that isn't touched was told its status; no other is looked at.
 ///
 /// # Errors
 ///

@@ -1,6 +1,7 @@
 // What a client is told.
-ghost use Rattle.std.specs.Prelude.{◌≡◌, ◌≤◌, ◌<◌, ◌+◌, List, [], ◌∷◌, ◌++◌, length, false, slice_get, Some, IfOk, OnOk};
-ghost use Rattle.std.specs.List.{AllByRecursion};
+ghost use Rattle.std.specs.Prelude.{◌≡◌, ◌≤◌, ◌<◌, ◌+◌, ℕ, nat_eq, List, [], ◌∷◌, ◌++◌, length, slice_get, Some, IfOk, OnOk};
+ghost use Rattle.std.specs.List.{list_any};
+ghost use Rattle.std.specs.List.Sorted.{IsStrictlyIncreasing};
 ghost use Rattle.std.specs.Map.{keys_of};
 ghost use Rattle.indexmap.specs.Layout.{set_value_at};
 ghost use Rattle.el_base.specs.declared.hash.Hash32 as hash_shape;
@@ -11,9 +12,10 @@ ghost use Rattle.el_model.specs.Keeping.{Quiet};
 ghost use Rattle.el_mempool.specs.Standing.{StandsFor};
 ghost use Rattle.el_view.specs.Rows.{history_rows};
 ghost use Rattle.el_sessions.specs.Sessions.{Subscription};
-ghost use Rattle.el_subs.specs.Told.{status, news, marked, IsTold, OthersTold, cost_of, is_touched};
+ghost use Rattle.el_subs.specs.Told.{status, news, marked, OthersTold, cost_of};
+ghost use Rattle.el_subs.specs.within.Partly.{touched_at};
 
-use el_base::Hash32;
+use el_base::{Hash32, OutOfMemory};
 use el_chain::Touched;
 use el_model::{Ledger, QueryFault};
 use el_pool::Pool;
@@ -21,20 +23,24 @@ use el_sessions::Subs;
 use el_view::view_status;
 use std::alloc::Global;
 
-// Whether the client subscribes to one of the script hashes. Takes no memory.
-fn is_concerned(subs: &Subs, touched: &Touched) -> bool
-    ensures { result ≡ false → AllByRecursion (λ sub. is_touched touched.now sub ≡ false) subs.now }
+// The numbers of the subscriptions whose script hashes are touched, rising. Takes no memory where there are
+// none.
+fn touched_numbers(alloc: Global, subs: &Subs, touched: &Touched) -> Result<Vec<usize>, OutOfMemory>
+    ensures rising { IfOk result (λ numbers. IsStrictlyIncreasing numbers.items) }
+    ensures exact { IfOk result (λ numbers. (number : ℕ) → list_any (nat_eq number) numbers.items
+        ≡ touched_at touched.now subs.now number) }
 {
+    let mut numbers = Vec::new(alloc);
     for s in touched.list() {
-        if subs.holds(s) {
-            return true;
+        if let Some(number) = subs.number_of(s) {
+            numbers.push(number)?;
         }
     }
-    false
+    numbers.sort_unstable();
+    Ok(numbers)
 }
 
-// Tells the subscription of that number, where its script hash was touched and its status isn't the one told
-// last.
+// Tells the subscription of that number, where its status isn't the one told last.
 #[tactic(auto, using(crate::proofs::News::keys_noted))]
 fn tell_one<G: Ledger>(
     alloc: Global,
@@ -42,7 +48,6 @@ fn tell_one<G: Ledger>(
     number: usize,
     ledger: &mut G,
     pool: &Pool,
-    touched: &Touched,
     found: &mut Vec<(Hash32, Option<Hash32>)>,
 ) -> Result<(), QueryFault>
     requires inside { number < length subs.old }
@@ -50,14 +55,11 @@ fn tell_one<G: Ledger>(
     ensures told { (chain : Chain) (kept : List shape.Tx) → G.stands ledger.old chain
         → StandsFor pool.now.entries chain kept
         → (sub : Subscription) → slice_get subs.old number ≡ Some sub
-        → (is_touched touched.now sub ≡ false → IsTold (status chain kept) sub)
         → OnOk result ((found.new.items ≡ found.old.items ++ news (status chain kept) (sub ∷ []))
         × (subs.new ≡ set_value_at subs.old number (status chain kept sub.0))) }
     ensures rows { (chain : Chain) → G.stands ledger.old chain
         → (s : hash_shape.Hash32) → slice_get (keys_of subs.old) number ≡ Some s
-        → G.reads ledger.new ≤ G.reads ledger.old
-        + cost_of (λ (x : hash_shape.Hash32). history_rows chain (G.buckets ledger.old) x.0) touched.now
-        (s ∷ []) }
+        → G.reads ledger.new ≤ G.reads ledger.old + history_rows chain (G.buckets ledger.old) s.0 }
     ensures keys { keys_of subs.new ≡ keys_of subs.old }
     ensures quiet { Quiet G.is_live G.height G.tip G.buckets G.stands G.tells_crash
         G.moment G.left_since ledger.old ledger.new }
@@ -66,19 +68,18 @@ fn tell_one<G: Ledger>(
     let Some((s, told)) = subs.at(number) else {
         return Ok(());
     };
-    if touched.has(&s) {
-        let now = view_status(alloc, ledger, pool, &s)?;
-        if now != told {
-            found.push((s, now))?;
-            subs.note(number, now);
-        }
+    let now = view_status(alloc, ledger, pool, &s)?;
+    if now != told {
+        found.push((s, now))?;
+        subs.note(number, now);
     }
     Ok(())
 }
 
 /// What a client is told of its subscriptions, in their order: the script hash and the status, both in inner
 /// order, of each whose status isn't the one told last. They are then marked as told. It holds where each
-/// subscription to a script hash that isn't touched was told its status; no other is looked at.
+/// subscription to a script hash that isn't touched was told its status. Each touched script hash is looked
+/// up once, and no other subscription is looked at, so it takes no more time where there are many.
 ///
 /// # Errors
 ///
@@ -107,12 +108,10 @@ pub fn tell<G: Ledger>(
         G.moment G.left_since ledger.old ledger.new }
     ensures cause { CountsOnly (G.faults ledger.old) (G.faults ledger.new) QueryFault.DiskFailed result }
 {
+    let numbers = touched_numbers(alloc, subs, touched)?;
     let mut found = Vec::new(alloc);
-    if !is_concerned(subs, touched) {
-        return Ok(found);
-    }
-    for number in 0..subs.held() {
-        tell_one(alloc, subs, number, ledger, pool, touched, &mut found)?;
+    for number in numbers.iter() {
+        tell_one(alloc, subs, *number, ledger, pool, &mut found)?;
     }
     Ok(found)
 }

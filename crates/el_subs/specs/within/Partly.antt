@@ -1,8 +1,14 @@
--- Subscriptions of which the first are told.
-use Rattle.std.specs.Prelude.{◌≡◌, ℕ, zero, suc, List, [], ◌∷◌, ◌++◌, drop, Option}
+-- Subscriptions of which the first are told, and which of them are touched.
+use Rattle.std.specs.Prelude.{◌≡◌, ℕ, zero, suc, Bool, false, List, [], ◌∷◌, ◌++◌, drop, Option}
 use Rattle.el_base.specs.declared.hash.Hash32.{Hash32}
 use Rattle.el_sessions.specs.Sessions.{Subscription}
-use Rattle.el_subs.specs.Told.{news, retold}
+use Rattle.el_subs.specs.Told.{news, retold, is_touched}
+
+-- there is a subscription of that number, and its script hash is among these
+abbrev pub touched_at : List Hash32 → List Subscription → ℕ → Bool
+touched_at touched [] number = false
+touched_at touched (sub ∷ subs) zero = is_touched touched sub
+touched_at touched (sub ∷ subs) (suc number) = touched_at touched subs number
 
 module _ (status : Hash32 → Option Hash32) where
   -- so many of the first are told

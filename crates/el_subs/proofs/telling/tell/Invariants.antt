@@ -1,4 +1,4 @@
-use Rattle.std.proofs.Common.{◌≡◌, ◌≤◌, ◌+◌, List, drop}
+use Rattle.std.proofs.Common.{◌≡◌, ◌≤◌, ◌+◌, List, drop, get_or, length}
 use Rattle.std.specs.Map.{keys_of}
 use Rattle.el_base.specs.declared.hash.Hash32.{Hash32}
 use Rattle.el_tx.specs.declared.types.Tx.{Tx}
@@ -18,9 +18,9 @@ invariant-loop-number g l =
       live : d.is_live l.ledger;
       quiet : Quiet d.is_live d.height d.tip d.buckets d.stands d.tells_crash d.moment d.left_since l.fn.ledger l.ledger;
       so_far : (chain : Chain) (kept : List Tx) → d.stands l.fn.ledger chain → StandsFor l.pool.entries chain kept → OthersTold (status chain kept) l.touched l.fn.subs
-          → SoFar (status chain kept) l.fn.subs l.number l.found.items l.subs;
+          → SoFar (status chain kept) l.fn.subs (get_or l.number-items l.number-index (length l.fn.subs)) l.found.items l.subs;
       rows : (chain : Chain) → d.stands l.fn.ledger chain
-          → d.reads l.ledger + cost_of (λ (x : Hash32). history_rows chain (d.buckets l.fn.ledger) x.0) l.touched (drop l.number (keys_of l.fn.subs))
+          → d.reads l.ledger + cost_of (λ (x : Hash32). history_rows chain (d.buckets l.fn.ledger) x.0) l.touched (drop (get_or l.number-items l.number-index (length l.fn.subs)) (keys_of l.fn.subs))
           ≤ d.reads l.fn.ledger + cost_of (λ (x : Hash32). history_rows chain (d.buckets l.fn.ledger) x.0) l.touched (keys_of l.fn.subs);
       still : d.faults l.ledger ≡ d.faults l.fn.ledger;
     }

@@ -1,4 +1,4 @@
-use Rattle.std.proofs.Common.{◌≡◌, List, ℕ, drop, ap, sym, subst, rules}
+use Rattle.std.proofs.Common.{drop, ap, sym, subst, rules}
 use Rattle.el_lines.specs.LineStates.{LineState, BufferState, IsAt}
 use Rattle.el_lines.proofs.Standing.{fed_more, fed_skipped, fed_ended}
 use Rattle.el_lines.proofs.line_buffer.LineBuffer.feed.Goals as goal
