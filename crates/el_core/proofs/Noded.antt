@@ -270,9 +270,9 @@ module _ {G A : Type 0} (l : ledger.Ghosts G) (f : archive.Ghosts A) where
     kept = λ k. absurd k;
     live = live;
   }
-  failed_so old new before after world left again e nodes busy r (untold is lost same) live = record {
+  failed_so old new before after world left again e nodes busy r (untold is_later is lost same) live = record {
     losses = r.losses;
-    stops = run.untold (ap stop_of is) nodes refl refl lost;
+    stops = run.untold (ap stop_of is) (busy is_later) refl refl lost;
     within = tt;
     rose = r.rose;
     later = again;

@@ -63,7 +63,7 @@ abbrev pub IsAbove : ℕ → Arrival → Type 0
 IsAbove last (arrival.Opened p) = last < p
 IsAbove last other = Unit {0}
 
--- who comes has none above this one
+-- who comes has a number not above this one
 abbrev pub IsUpTo : ℕ → Arrival → Type 0
 IsUpTo now (arrival.Opened p) = p ≤ now
 IsUpTo now other = Unit {0}

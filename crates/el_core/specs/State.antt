@@ -54,6 +54,7 @@ pub record IsHeardOut (c : ClientState) : Type 0 where
   pub given_all : HasGivenAll c.buffer
   pub kept : c.lost ≡ false
 
+-- nor of one that isn't there
 abbrev pub HasNoWork : Option ClientState → Type 0
 HasNoWork None = Unit {0}
 HasNoWork (Some c) = IsHeardOut c
@@ -92,6 +93,7 @@ abbrev pub work_of_speaker : Option ℕ → List ClientState → ℕ
 work_of_speaker None clients = 0
 work_of_speaker (Some p) clients = work_of_clients clients
 
+-- one too many has its closing
 abbrev pub work_of_surplus : Option ℕ → ℕ
 work_of_surplus None = 0
 work_of_surplus (Some p) = 1

@@ -98,7 +98,7 @@ abbrev pub IsWithin : {tells : Type 0} {world : World} {left : List Event} {stop
 IsWithin (disk_failed by nodes silent closed lost) = Unit {0}
 IsWithin (sift_failed by busy silent closed lost) = Unit {0}
 IsWithin (no_memory by nodes silent closed lost) = Unit {0}
-IsWithin (untold by nodes silent closed lost) = Unit {0}
+IsWithin (untold by busy silent closed lost) = Unit {0}
 IsWithin (unsent done rest outs failed after front back m lost last next whole turn cut node delivers by z) =
     ⊥
 
@@ -109,7 +109,7 @@ abbrev pub KeepsChain : {tells : Type 0} {world : World} {left : List Event} {st
 KeepsChain (disk_failed by nodes silent closed lost) = ⊥
 KeepsChain (sift_failed by busy silent closed lost) = Unit {0}
 KeepsChain (no_memory by nodes silent closed lost) = ⊥
-KeepsChain (untold by nodes silent closed lost) = Unit {0}
+KeepsChain (untold by busy silent closed lost) = Unit {0}
 KeepsChain (unsent done rest outs failed after front back m lost last next whole turn cut node goes by z) =
     ⊥
 

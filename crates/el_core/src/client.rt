@@ -18,7 +18,7 @@ ghost use Rattle.el_core.specs.within.Clients.{IsFresh, Keeps, Gives, NextIsLine
 use crate::out::Outs;
 use el_base::{Bytes, Hash32, Listed, OutOfMemory};
 use el_chain::Touched;
-use el_lines::{LINE_LIMIT, LineBuffer, LineEvent};
+use el_lines::{AnswerRoom, LINE_LIMIT, LineBuffer, LineEvent};
 use el_methods::Holdings;
 use el_model::{Ledger, QueryFault};
 use el_outside::{Archive, Peer, Why};
@@ -179,14 +179,24 @@ impl Client {
     }
 }
 
-/// Room for one message.
-pub fn room_for_one(alloc: Global) -> Result<Vec<(Peer, Bytes)>, OutOfMemory>
+// Room for one message.
+fn room_for_one(alloc: Global) -> Result<Vec<(Peer, Bytes)>, OutOfMemory>
     ensures empty { IfOk result (λ room. room.items ≡ []) }
     ensures room { IfOk result (λ room. length room.items < vec_capacity room) }
 {
     let mut room = Vec::new(alloc);
     room.try_reserve(1)?;
     Ok(room)
+}
+
+/// Room for what the node is answered, and for one message.
+pub fn rooms_for_one(alloc: Global) -> Result<(AnswerRoom, Vec<(Peer, Bytes)>), OutOfMemory>
+    ensures empty { IfOk result (λ rooms. rooms.1.items ≡ []) }
+    ensures room { IfOk result (λ rooms. length rooms.1.items < vec_capacity rooms.1) }
+{
+    let room = AnswerRoom::new(alloc)?;
+    let message = room_for_one(alloc)?;
+    Ok((room, message))
 }
 
 // A message, for which there is room. Takes no memory.

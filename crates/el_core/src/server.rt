@@ -20,7 +20,7 @@ ghost use Rattle.el_core.specs.Turn.{TookTurn, TurnFailed, IsDone, HasLost, Meet
 ghost use Rattle.el_core.specs.within.Answering.{Answered, IsSettled, Lost, NodeKeeps, holdings_of};
 ghost use Rattle.el_core.specs.within.Clients.{Hears, Opens, Gives, NextIsLine, IsFirstWaiting, SpeakerSteps, PeersTurn, IsToTell, TellTurn, TellsAt, all_wait, begun_at};
 
-use crate::client::{Client, closing, room_for_one, sending_in};
+use crate::client::{Client, closing, rooms_for_one, sending_in};
 use crate::clients::Clients;
 use crate::out::Outs;
 use crate::touching::touch;
@@ -38,8 +38,8 @@ use std::mem;
 
 /// The server's state: the ledger that it answers from, the headers that were found and the unconfirmed set,
 /// the node's bytes and what its last tip line is still to do, its clients, which of them speaks, a client
-/// too many that isn't closed yet, and for the telling of clients the tip before the node's last line and what
-/// this line touched. Contracts see it as a `State`, which stands for a `World`.
+/// too many that isn't closed yet, and for the telling of clients the tip before the node's last line and
+/// what this line touched. Contracts see it as a `State`, which stands for a `World`.
 ///
 /// An arrival is taken by `take`; then `turn` is called until it answers None, and only then the next arrival
 /// is taken. What a turn gives is sent and closed before the next turn, and a client to whom a message can't
@@ -240,7 +240,7 @@ impl<G: Ledger> Server<G> {
         ensures step { NodeKeeps ⟦<G as Ledger>⟧ ⟦<A as Archive>⟧ self.old.ledger self.new.ledger
             archive.old archive.new result }
     {
-        let Ok(room) = room_for_one(self.alloc) else {
+        let Ok((room, message)) = rooms_for_one(self.alloc) else {
             return Err(StepFault::Memory);
         };
         let rest = mem::replace(&mut self.ahead, Ahead::none(self.alloc));
@@ -250,6 +250,7 @@ impl<G: Ledger> Server<G> {
             &mut self.holdings,
             rest,
             archive,
+            room,
         ) {
             Ok(step) => {
                 let Ok(()) = touch(&self.clients, &mut self.touched, &step.moved, &step.changed)
@@ -257,7 +258,7 @@ impl<G: Ledger> Server<G> {
                     return Err(StepFault::Memory);
                 };
                 self.ahead = step.left;
-                Ok(sending_in(room, 0, step.text))
+                Ok(sending_in(message, 0, step.text))
             }
             Err(fault) => Err(fault),
         }
@@ -308,7 +309,7 @@ impl<G: Ledger> Server<G> {
         ensures step { NodeKeeps ⟦<G as Ledger>⟧ ⟦<A as Archive>⟧ self.old.ledger self.new.ledger
             archive.old archive.new result }
     {
-        let Ok(room) = room_for_one(self.alloc) else {
+        let Ok((room, message)) = rooms_for_one(self.alloc) else {
             return Err(StepFault::Memory);
         };
         self.begin();
@@ -317,6 +318,7 @@ impl<G: Ledger> Server<G> {
             &mut self.ledger,
             &mut self.holdings,
             archive,
+            room,
             met,
         ) {
             Ok(step) => {
@@ -325,7 +327,7 @@ impl<G: Ledger> Server<G> {
                     return Err(StepFault::Memory);
                 };
                 self.ahead = step.left;
-                Ok(sending_in(room, 0, step.text))
+                Ok(sending_in(message, 0, step.text))
             }
             Err(fault) => Err(fault),
         }
@@ -474,8 +476,8 @@ impl<G: Ledger> Server<G> {
     }
 
     /// Does the next piece of work: the next move of the node's last tip line, the telling of a client after
-    /// it, the node's next line, or what is left of the client that speaks. None exactly where none is left to
-    /// do, and everyone was told; the start of a line, which is kept until its end comes, is no work.
+    /// it, the node's next line, or what is left of the client that speaks. None exactly where none is left
+    /// to do, and everyone was told; the start of a line, which is kept until its end comes, is no work.
     ///
     /// # Errors
     ///

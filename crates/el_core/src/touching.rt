@@ -1,5 +1,5 @@
 // Which script hashes a line of the node touched, of those to which clients subscribe.
-ghost use Rattle.std.specs.Prelude.{◌≡◌, [], ◌∷◌, OnOk};
+ghost use Rattle.std.specs.Prelude.{◌≡◌, ◌≢◌, [], ◌∷◌, OnOk, OnErr};
 ghost use Rattle.el_core.specs.within.Touching.{Covers, CoversAll};
 
 use crate::clients::Clients;
@@ -22,7 +22,8 @@ fn add_one(
 
 // Adds those of the script hashes to which some client subscribes.
 fn add_held(clients: &Clients, touched: &mut Touched, scripts: &Touched) -> Result<(), OutOfMemory>
-    ensures { OnOk result (Covers clients.now touched.old scripts.now touched.new) }
+    ensures covers { OnOk result (Covers clients.now touched.old scripts.now touched.new) }
+    ensures some { OnErr result (scripts.now ≢ []) }
 {
     for script_hash in scripts.list() {
         add_one(clients, touched, script_hash)?;
@@ -39,7 +40,9 @@ pub fn touch(
     moved: &Touched,
     changed: &Touched,
 ) -> Result<(), OutOfMemory>
-    ensures { OnOk result (CoversAll clients.now touched.old moved.now changed.now touched.new) }
+    ensures covers { OnOk result (CoversAll clients.now touched.old moved.now changed.now touched.new) }
+    // Where a step touched nothing, it takes none.
+    ensures some { OnErr result ((moved.now ≡ []) × (changed.now ≡ []) → ⊥) }
 {
     add_held(clients, touched, moved)?;
     add_held(clients, touched, changed)

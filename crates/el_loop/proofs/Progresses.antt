@@ -90,7 +90,7 @@ within_files : {tells : Type 0} {world : World} {left : List Event} {stop : Stop
 within_files (disk_failed by nodes silent closed lost) within = refl
 within_files (sift_failed by busy silent closed lost) within = refl
 within_files (no_memory by nodes silent closed lost) within = refl
-within_files (untold by nodes silent closed lost) within = refl
+within_files (untold by busy silent closed lost) within = refl
 within_files (unsent done rest outs failed after front back m lost last next whole turn cut node delivers by
     all')
     within = absurd within
@@ -106,7 +106,7 @@ within_flies (disk_failed by nodes silent closed lost) within now next grows way
 within_flies (sift_failed by busy silent closed lost) within now next grows way kept = kept tt
 within_flies (no_memory by nodes silent closed lost) within now next grows way kept =
     (now, λ told. (grows told, all_grow_none now), way)
-within_flies (untold by nodes silent closed lost) within now next grows way kept = kept tt
+within_flies (untold by busy silent closed lost) within now next grows way kept = kept tt
 within_flies (unsent done rest outs failed after front back m lost last next' whole turn cut node delivers
     by all')
     within now next grows way kept = absurd within

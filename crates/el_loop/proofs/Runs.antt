@@ -20,7 +20,7 @@ use Rattle.el_lines.proofs.Cuts.{either}
 use Rattle.el_core.specs.State.{State, Stands}
 use Rattle.el_core.specs.Arrivals.{IsAfterArrival}
 use Rattle.el_loop.specs.Counts.{Counts, counts}
-use Rattle.el_loop.specs.Runs.{Traffic, taken, StatusesAreTold, IsHalted, NoneEnds, is_end, RunEnds, next_failed}
+use Rattle.el_loop.specs.Runs.{taken, StatusesAreTold, IsHalted, NoneEnds, is_end, RunEnds, next_failed}
 use Rattle.el_loop.specs.declared.end.End.{End}
 use Rattle.el_loop.specs.declared.end.End.TheVariants as end
 use Rattle.el_loop.specs.declared.halt.Halt.{Halt}
@@ -214,7 +214,7 @@ module _ {G A K : Type 0} (of_ledger : ledger.Ghosts G) (of_files : archive.Ghos
       → RoseBy (of_link.calls mid.link) (of_link.calls now.link) 1 → count < turns
       → StoppedIn of_ledger of_files of_link leaves g.world (taken_one node a) stop
       (snapshot mid.server mid.files k) now
-      → (traffic : Traffic) × (of_link.tells → GoesOn (of_link.trace before.link) (of_link.trace now.link)
+      → (traffic : Trace) × (of_link.tells → GoesOn (of_link.trace before.link) (of_link.trace now.link)
       traffic.arrivals traffic.messages traffic.closings)
       × IsHalted of_files.tells first node leaves (of_files.bytes now.files) (run_counts turns before now)
       traffic
@@ -336,7 +336,7 @@ module _ {G A K : Type 0} (of_ledger : ledger.Ghosts G) (of_files : archive.Ghos
   -- what a run tells in the end
   abbrev pub Told : World → Bool → (Chain → Chain → Type 0) → ℕ → Snapshot G A K → Snapshot G A K → End → Type
       0
-  Told first node leaves turns before now e = (traffic : Traffic)
+  Told first node leaves turns before now e = (traffic : Trace)
       × (of_link.tells → GoesOn (of_link.trace before.link) (of_link.trace now.link)
       traffic.arrivals traffic.messages traffic.closings)
       × RunEnds of_files.tells first node leaves (of_files.bytes now.files) (run_counts turns before now)
@@ -435,7 +435,7 @@ module _ {G A K : Type 0} (of_ledger : ledger.Ghosts G) (of_files : archive.Ghos
   -- how the run then ends
   pub told_halt : (first : World) (node : Bool) (leaves : Chain → Chain → Type 0) (turns : ℕ)
       (before now : Snapshot G A K) (halt : Halt)
-      → ((traffic : Traffic) × (of_link.tells → GoesOn (of_link.trace before.link) (of_link.trace now.link)
+      → ((traffic : Trace) × (of_link.tells → GoesOn (of_link.trace before.link) (of_link.trace now.link)
       traffic.arrivals traffic.messages traffic.closings)
       × IsHalted of_files.tells first node leaves (of_files.bytes now.files) (run_counts turns before now)
       traffic

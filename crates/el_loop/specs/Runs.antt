@@ -3,7 +3,8 @@ use Rattle.std.specs.Prelude.{◌≡◌, ◌⊎◌, ℕ, ◌+◌, ◌≤◌, Lis
 use Rattle.std.specs.List.{AllByRecursion}
 use Rattle.el_outside.specs.Counts.{RoseBy}
 use Rattle.el_outside.specs.Files.{AllGrow}
-use Rattle.el_outside.specs.Trace.{ArrivalWithBytes, opened, brought, closed, quiet, ended, Message, Closing}
+use Rattle.el_outside.specs.declared.link.Link as links
+use Rattle.el_outside.specs.Trace.{Trace, GoesOn, ArrivalWithBytes, opened, brought, closed, quiet, ended}
 use Rattle.el_chain.specs.Chains.{Chain}
 use Rattle.el_subs.specs.Told.{AllTold, status}
 use Rattle.el_world.specs.World.{World, Session, without_node}
@@ -42,23 +43,22 @@ pub record NoneEndsBefore (arrivals : List ArrivalWithBytes) : Type 0 where
   pub whole : arrivals ≡ front ++ last ∷ []
   pub before : NoneEnds front
 
--- What went over the link in a call: what was taken, sent and closed.
-pub record Traffic : Type 0 where
-  pub arrivals : List ArrivalWithBytes
-  pub messages : List Message
-  pub closings : List Closing
+-- what went over a link between the one moment and the other, where it tells
+abbrev pub WentBy : {K : Type 0} → links.Ghosts K → K → K → Trace → Type 0
+WentBy of_link before after t = of_link.tells
+    → GoesOn (of_link.trace before) (of_link.trace after) t.arrivals t.messages t.closings
 
 -- nothing was taken, sent or closed
-abbrev pub no_traffic : Traffic
+abbrev pub no_traffic : Trace
 no_traffic = record { arrivals = []; messages = []; closings = [] }
 
--- the last call of `next` failed, or none did
+-- the last call of `next` failed
 abbrev pub next_failed : List Device
 next_failed = link ∷ []
 
 -- Each call of `next` brought an arrival, or failed. Each failed call of a device is one of those, or one
 -- that something was answered or closed for.
-pub record IsCounted (c : Counts) (t : Traffic) (losses failed : List Device) : Type 0 where
+pub record IsCounted (c : Counts) (t : Trace) (losses failed : List Device) : Type 0 where
   pub calls : RoseBy c.calls_before c.calls_after (length t.arrivals + length failed)
   pub turns : length t.arrivals + length failed ≤ c.turns
   pub rose : Rose c.faults_before c.faults_after (losses ++ failed)
@@ -71,14 +71,15 @@ taken false arrivals = map without_node arrivals
 -- what each client was told last of a script hash that it subscribes to is that one's status
 abbrev pub StatusesAreTold : World → Type 0
 StatusesAreTold world = AllByRecursion
-    (λ (session : Session). AllTold (status world.side.chain world.side.kept) session.client.subs) world.sessions
+    (λ (session : Session). AllTold (status world.side.chain world.side.kept) session.client.subs)
+    world.sessions
 
 -- The traffic is that of a run from the first world, all turns of which were made. `tells` is whether the
 -- block files tell their bytes, and `files` are those as they are in the end. `leaves` says of two chains
 -- that all that a crash may leave in the end stands for the one, which is acknowledged, or for the other,
 -- which is in flight.
 pub record IsRun (tells : Type 0) (first : World) (node : Bool) (leaves : Chain → Chain → Type 0)
-    (files : ℕ → List ℕ) (c : Counts) (t : Traffic) (failed : List Device) : Type 0 where
+    (files : ℕ → List ℕ) (c : Counts) (t : Trace) (failed : List Device) : Type 0 where
   pub losses : List Device
   pub world : World
   pub run : Run tells first (taken node t.arrivals) t.messages t.closings losses world
@@ -90,7 +91,7 @@ pub record IsRun (tells : Type 0) (first : World) (node : Bool) (leaves : Chain 
 -- The traffic is that of a run that stopped so in its last arrival. `files` are the block files as they are
 -- in the end: they have all that each turn had of them.
 pub record IsHalted (tells : Type 0) (first : World) (node : Bool) (leaves : Chain → Chain → Type 0)
-    (files : ℕ → List ℕ) (c : Counts) (t : Traffic) (stop : Stop) : Type 0 where
+    (files : ℕ → List ℕ) (c : Counts) (t : Trace) (stop : Stop) : Type 0 where
   pub losses : List Device
   pub halts : Halts tells first stop (taken node t.arrivals) t.messages t.closings losses
   pub grown : tells → AllGrow (files_left halts.stops) files
@@ -101,7 +102,7 @@ pub record IsHalted (tells : Type 0) (first : World) (node : Bool) (leaves : Cha
   pub crash : leaves (acked halts.stops) flight
 
 -- How a run ends.
-abbrev pub RunEnds : Type 0 → World → Bool → (Chain → Chain → Type 0) → (ℕ → List ℕ) → Counts → Traffic
+abbrev pub RunEnds : Type 0 → World → Bool → (Chain → Chain → Type 0) → (ℕ → List ℕ) → Counts → Trace
     → End → Type 0
 -- nothing comes any more, or peer 0 left
 RunEnds tells first node leaves files c t end.Ended =

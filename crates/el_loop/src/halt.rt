@@ -7,19 +7,19 @@ use crate::end::End;
 use el_outside::{SendFault, Why};
 use el_sync::StepFault;
 
-// Why a run stops among the turns of an arrival.
+/// Why a run stops among the turns of an arrival.
 #[derive(Clone, Copy, Debug, PartialEq, Eq)]
 pub enum Halt {
-    // A call of the index's device failed.
+    /// A call of the index's device failed.
     Disk,
-    // An answer to the node couldn't be sent.
+    /// An answer to the node couldn't be sent.
     Link,
-    // No memory was found.
+    /// No memory was found.
     Memory,
 }
 
 impl Halt {
-    // How the run then ends.
+    /// How the run then ends.
     pub fn end(self) -> End
         ensures { result ≡ end_of self }
     {
@@ -31,7 +31,7 @@ impl Halt {
     }
 }
 
-// Why the run stops for the fault of a turn.
+/// Why the run stops for the fault of a turn.
 pub fn halt_of(fault: StepFault) -> Halt
     ensures { stop_of result ≡ turn.stop_of fault }
 {
@@ -41,7 +41,7 @@ pub fn halt_of(fault: StepFault) -> Halt
     }
 }
 
-// What it means that a message wasn't sent: for a client why it is closed, for the node why the run stops.
+/// What it means that a message wasn't sent: for a client why it is closed, for the node why the run stops.
 pub fn loss_of(fault: SendFault) -> (Why, Halt)
     ensures loss { LossOf fault result.0 result.1 }
     ensures no_disk { result.1 ≢ Halt.Disk }

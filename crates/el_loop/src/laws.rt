@@ -1,10 +1,11 @@
 // What holds of runs.
 ghost use Rattle.std.specs.Prelude.{◌≡◌, ℕ, List, [], Bool};
+ghost use Rattle.el_outside.specs.Trace.{Trace};
 ghost use Rattle.el_model.specs.Keeping.{LeavesEither};
 ghost use Rattle.el_world.specs.World.{World};
 ghost use Rattle.el_world.specs.Run.{Stop, files_left};
 ghost use Rattle.el_loop.specs.Counts.{Counts};
-ghost use Rattle.el_loop.specs.Runs.{Traffic, IsHalted};
+ghost use Rattle.el_loop.specs.Runs.{IsHalted};
 
 use el_model::Ledger;
 use el_outside::Archive;
@@ -13,7 +14,7 @@ use el_outside::Archive;
 /// bytes of it.
 pub fn no_block_is_invented<G: Ledger, A: Archive>()
     ensures none_had { (first : World) (node : Bool) (ledger : G) (files : ℕ → List ℕ) (c : Counts)
-        (t : Traffic) (stop : Stop)
+        (t : Trace) (stop : Stop)
         (h : IsHalted A.tells first node
         (LeavesEither G.tells_crash G.means G.moment G.left_since ledger) files c t stop)
         → A.tells → (file : ℕ) → files file ≡ [] → files_left h.halts.stops file ≡ [] }

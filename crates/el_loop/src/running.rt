@@ -1,13 +1,13 @@
 // The run over the arrivals.
 ghost use Rattle.std.specs.Prelude.{◌≡◌, ◌≤◌, ℕ, List, [], length, OnOk, IfErr};
 ghost use Rattle.el_outside.specs.Files.{AllGrow};
-ghost use Rattle.el_outside.specs.Trace.{GoesOn, with_bytes};
+ghost use Rattle.el_outside.specs.Trace.{Trace, with_bytes};
 ghost use Rattle.el_world.specs.World.{World, Event, AllTold, events, after_hearing};
 ghost use Rattle.el_model.specs.Keeping.{LeavesEither};
 ghost use Rattle.el_core.specs.State.{State, Stands, AreUpTo, IsIdle};
 ghost use Rattle.el_core.specs.Arrivals.{with_all_bytes, IsAfterArrival, IsAbove, IsUpTo};
 ghost use Rattle.el_loop.specs.Counts.{counts_of, devices, IsCaused, failed_device};
-ghost use Rattle.el_loop.specs.Runs.{Traffic, RunEnds, is_end};
+ghost use Rattle.el_loop.specs.Runs.{WentBy, RunEnds, is_end};
 ghost use Rattle.el_loop.specs.within.Sending.{RisesFor, stop_of};
 ghost use Rattle.el_loop.specs.within.Progress.{ClientsAreOpen, IsReady, Finished, Stopped, StoppedIn, snapshot, taken_one};
 
@@ -155,9 +155,8 @@ pub fn run<G: Ledger, A: Archive, K: Link>(
     requires nobody { server.old.clients ≡ [] }
     ensures ends { (first : World) → Stands G.stands server.old first [] → first.sessions ≡ []
         → first.side.files ≡ A.bytes archive.old
-        → (traffic : Traffic)
-        × (K.tells → GoesOn (K.trace link.old) (K.trace link.new)
-        traffic.arrivals traffic.messages traffic.closings)
+        → (traffic : Trace)
+        × WentBy ⟦<K as Link>⟧ link.old link.new traffic
         × RunEnds A.tells first options.node
         (LeavesEither G.tells_crash G.means G.moment G.left_since server.new.ledger)
         (A.bytes archive.new) (counts_of G.faults ⟦<A as Archive>⟧ ⟦<K as Link>⟧ options.turns

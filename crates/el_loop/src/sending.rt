@@ -114,7 +114,7 @@ fn close<K: Link>(link: &mut K, close: Option<(Peer, Why)>, lost: Option<Peer>)
     }
 }
 
-// Sends and closes what a turn gave.
+/// Sends and closes what a turn gave.
 pub fn deliver<G: Ledger, K: Link>(
     server: &mut Server<G>,
     link: &mut K,

@@ -1,12 +1,12 @@
 // A run from a ledger.
 ghost use Rattle.std.specs.Prelude.{◌≡◌};
 ghost use Rattle.el_outside.specs.Files.{AllGrow};
-ghost use Rattle.el_outside.specs.Trace.{GoesOn};
+ghost use Rattle.el_outside.specs.Trace.{Trace};
 ghost use Rattle.el_chain.specs.Chains.{Chain};
 ghost use Rattle.el_model.specs.Keeping.{LeavesEither};
 ghost use Rattle.el_world.specs.World.{initial_world};
 ghost use Rattle.el_loop.specs.Counts.{counts_of, devices, IsCaused, failed_device};
-ghost use Rattle.el_loop.specs.Runs.{Traffic, RunEnds};
+ghost use Rattle.el_loop.specs.Runs.{WentBy, RunEnds};
 
 use crate::end::End;
 use crate::options::RunOptions;
@@ -31,15 +31,14 @@ pub fn serve_from<G: Ledger, A: Archive, K: Link>(
 ) -> (End, G)
     requires live { G.is_live ledger }
     // What was sent and closed is a run from the chain that the ledger stands for, and so it ends.
-    ensures ends { (chain : Chain) → G.stands ledger chain → (traffic : Traffic)
-        × (K.tells → GoesOn (K.trace link.old) (K.trace link.new)
-        traffic.arrivals traffic.messages traffic.closings)
+    ensures ends { (chain : Chain) → G.stands ledger chain → (traffic : Trace)
+        × WentBy ⟦<K as Link>⟧ link.old link.new traffic
         × RunEnds A.tells (initial_world chain options.magic options.limits tree
         (A.bytes archive.old)) options.node
         (LeavesEither G.tells_crash G.means G.moment G.left_since result.1)
         (A.bytes archive.new) (counts_of G.faults ⟦<A as Archive>⟧ ⟦<K as Link>⟧ options.turns
         (devices ledger archive.old link.old) (devices result.1 archive.new link.new)) traffic result.0 }
-    // Whatever the devices tell, each failure that is told was counted.
+    // Whatever the devices tell, a failure that ends the run was counted.
     ensures causes { IsCaused (counts_of G.faults ⟦<A as Archive>⟧ ⟦<K as Link>⟧ options.turns
         (devices ledger archive.old link.old) (devices result.1 archive.new link.new))
         (failed_device result.0) (result.0 ≡ End.TurnsSpent) }

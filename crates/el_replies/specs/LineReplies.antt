@@ -22,19 +22,19 @@ use Rattle.el_replies.specs.declared.batch.Replies.{Replies}
 abbrev pub message : Data → Result Data Refusal → List ℕ
 message id answered = compact_text (reply_value id answered) ++ 10 ∷ []
 
--- that with the reply to a request, if it isn't a notification
+-- the message with the reply to a request, if it isn't a notification
 abbrev pub message_to : Option Data → Result Data Refusal → Option (List ℕ)
 message_to None answered = None
 message_to (Some id) answered = Some (message id answered)
 
--- that, and whether the client is then closed
+-- the message with the reply to a request, if it has one, and whether the client is then closed
 abbrev pub reply_to : Option Data → Result Data Refusal → LineReply
 reply_to id answered = record { text = message_to id answered; closes = is_closing answered }
 
 abbrev pub no_replies : Replies
 no_replies = record { text = []; size = 0; any = false; closes = false }
 
--- that with the replies of a batch, if there is one (91 is '[', 93 is ']')
+-- the message with the replies of a batch, if there is one (91 is '[', 93 is ']')
 abbrev pub batch_message : Replies → Option (List ℕ)
 batch_message b = if b.any then Some (91 ∷ (b.text ++ 93 ∷ 10 ∷ [])) else None
 

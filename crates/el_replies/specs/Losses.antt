@@ -39,7 +39,7 @@ pub data IsTold (has : Type 0) (chain : Chain) (kept : List Tx) (found : List No
       → IsGiven has chain kept found c s t given → lost ≡ losses_of given
       → IsTold has chain kept found r s told t lost
 
--- The same where this was lost before, and that with it.
+-- As `IsTold`, where `before` was lost already, and `after` is that with what this request lost.
 abbrev pub AnswersOf : Type 0 → Chain → List Tx → List Node → List Device → Request → Session
     → Result Data Refusal → List Device → Session → Type 0
 AnswersOf has chain kept found before r s told after t =

@@ -3,9 +3,10 @@ ghost use Rattle.std.specs.Prelude.{◌≡◌, [], length};
 ghost use Rattle.el_outside.specs.Counts.{HasCause};
 ghost use Rattle.el_row_formats.specs.Tables.{tables_of};
 
+use el_base::GhostCount;
 use el_outside::DiskFailed;
 use el_row_formats::Table;
-use el_rows::{CommitFault, ReadCount, Rows, Sealed, VecRows};
+use el_rows::{CommitFault, Rows, Sealed, VecRows};
 use std::alloc::Global;
 
 /// Rows in memory. Reads of a row and commits are calls of the device, counted together from 1 on; those
@@ -13,7 +14,7 @@ use std::alloc::Global;
 #[derive(Drop)]
 pub(crate) struct FailingRows {
     rows: VecRows,
-    reads: ReadCount,
+    reads: GhostCount,
     failing: Vec<u64>,
     calls: u64,
     faults: u64,
@@ -24,7 +25,7 @@ impl FailingRows {
     pub(crate) fn new(alloc: Global) -> FailingRows {
         FailingRows {
             rows: VecRows::new(alloc),
-            reads: ReadCount::new(),
+            reads: GhostCount::new(),
             failing: Vec::new(alloc),
             calls: 0,
             faults: 0,

@@ -1,4 +1,5 @@
 -- What steps leave of a ledger and of block files, of which only the traits are known.
+use Rattle.std.specs.Prelude.{OnErr}
 use Rattle.std.proofs.Common.{◌≡◌, ◌≢◌, ◌⊎◌, inl, inr, Bool, false, ℕ, ◌≤◌, arith, List, [], ◌∷◌, ◌++◌, Option, Some, Result, Ok, Err, refl, sym, ap, ◌∙◌, append-nil, append_assoc}
 use Rattle.std.specs.Result.{IfOk, IfErr}
 use Rattle.el_base.specs.declared.hash.Hash32.{Hash32}
@@ -31,7 +32,7 @@ use Rattle.el_touched.proofs.Sides.{looks_self}
 use Rattle.el_touched.proofs.Stays.{status_stays}
 use Rattle.el_status.specs.Statuses.{status}
 use Rattle.el_world.specs.NodeSteps.{IsAt, Leads, SetStands, Touches}
-use Rattle.el_sync.specs.Steps.{IsFrom, NodeStep, RoseWith, StopsAt, by_disk, by_memory, untold}
+use Rattle.el_sync.specs.Steps.{IsFrom, NodeStep, RoseWith, StopsAt, by_disk, by_memory}
 use Rattle.el_sync.specs.within.Parts.{IsPathMove, Looked, SaysRefusal, StandsAfter}
 use Rattle.el_sync.specs.declared.fault.StepFault.{StepFault}
 use Rattle.el_sync.specs.declared.fault.StepFault.TheVariants as fault
@@ -192,11 +193,10 @@ module _ {G A : Type 0} (of_ledger : ledgers.Ghosts G) (of_files : archives.Ghos
 
   -- one that has moved nothing
   pub still_there : {T : Type 0} (r : Result T StepFault) (old new : G) (a b : A) (chain : Chain) (is_move : Plan → Type 0) → Moved of_ledger old new chain chain
-      → IfErr r (λ e. RoseWith false e (λ n. RoseBy (of_files.faults a) (of_files.faults b) n)) → CountsOnly (of_ledger.faults old) (of_ledger.faults new) fault.DiskFailed r
+      → RoseBy (of_files.faults a) (of_files.faults b) 0 → CountsOnly (of_ledger.faults old) (of_ledger.faults new) fault.DiskFailed r
       → IfErr r (StopsAt of_ledger of_files old new a b chain false is_move)
   still_there (Ok x) old new a b chain is_move moved files counts = tt
-  still_there (Err fault.DiskFailed) old new a b chain is_move moved (inr one) counts = absurd (let bad = one.0 in cc)
-  still_there (Err fault.DiskFailed) old new a b chain is_move moved (inl none) counts = record {
+  still_there (Err fault.DiskFailed) old new a b chain is_move moved none counts = record {
     next = chain;
     flight = before refl;
     crash = moved.crash;
@@ -205,7 +205,7 @@ module _ {G A : Type 0} (of_ledger : ledgers.Ghosts G) (of_files : archives.Ghos
     fails = by_disk refl refl;
     rose = λ of_link. rose_of of_link _ _ _ _ (device.disk ∷ []) refl none (counts.counted refl);
   }
-  still_there (Err fault.Memory) old new a b chain is_move moved (inl none) counts = record {
+  still_there (Err fault.Memory) old new a b chain is_move moved none counts = record {
     next = chain;
     flight = before refl;
     crash = moved.crash;
@@ -214,19 +214,10 @@ module _ {G A : Type 0} (of_ledger : ledgers.Ghosts G) (of_files : archives.Ghos
     fails = by_memory refl refl;
     rose = λ of_link. rose_of of_link _ _ _ _ [] refl none (rose_still _ _ (counts.others_uncounted (λ e. let bad = e in cc)));
   }
-  still_there (Err fault.Memory) old new a b chain is_move moved (inr one) counts = record {
-    next = chain;
-    flight = before refl;
-    crash = moved.crash;
-    stood = λ m. moved;
-    losses = archive ∷ [];
-    fails = untold refl refl refl;
-    rose = λ of_link. rose_of of_link _ _ _ _ (archive ∷ []) refl one (rose_still _ _ (counts.others_uncounted (λ e. let bad = e in cc)));
-  }
 
   -- no memory was found, and no device of the ledger failed
   pub starved : {T : Type 0} (r : Result T StepFault) (old new : G) (a b : A) (chain : Chain) (is_move : Plan → Type 0) → Moved of_ledger old new chain chain → IfErr r (λ e. e ≡ fault.Memory)
-      → RoseBy (of_files.faults a) (of_files.faults b) 0 ⊎ RoseBy (of_files.faults a) (of_files.faults b) 1 → of_ledger.faults new ≡ of_ledger.faults old
+      → RoseBy (of_files.faults a) (of_files.faults b) 0 → of_ledger.faults new ≡ of_ledger.faults old
       → IfErr r (StopsAt of_ledger of_files old new a b chain false is_move)
   starved (Ok x) old new a b chain is_move moved memory rose same = tt
   starved (Err fault.DiskFailed) old new a b chain is_move moved memory rose same = absurd (let bad = memory in cc)
@@ -236,21 +227,17 @@ module _ {G A : Type 0} (of_ledger : ledgers.Ghosts G) (of_files : archives.Ghos
   -- the same where the block files weren't used
   pub starved_still : {T : Type 0} (r : Result T StepFault) (old new : G) (a : A) (chain : Chain) (is_move : Plan → Type 0) → Moved of_ledger old new chain chain → IfErr r (λ e. e ≡ fault.Memory)
       → of_ledger.faults new ≡ of_ledger.faults old → IfErr r (StopsAt of_ledger of_files old new a a chain false is_move)
-  starved_still r old new a chain is_move moved memory same = starved r old new a a chain is_move moved memory (inl (rose_still _ _ refl)) same
+  starved_still r old new a chain is_move moved memory same = starved r old new a a chain is_move moved memory (rose_still _ _ refl) same
 
   -- a call of the ledger failed, and the block files weren't used
   pub asked_stops : {T : Type 0} (r : Result T StepFault) (e : StepFault) (old new : G) (a : A) (chain : Chain) (is_move : Plan → Type 0) → r ≡ Err e → Moved of_ledger old new chain chain
       → (e ≡ fault.DiskFailed → RoseBy (of_ledger.faults old) (of_ledger.faults new) 1) → (e ≢ fault.DiskFailed → of_ledger.faults new ≡ of_ledger.faults old)
       → IfErr r (StopsAt of_ledger of_files old new a a chain false is_move)
   asked_stops {T} r e old new a chain is_move is moved counted others =
-      rw is (still_there {T = T} (Err e) old new a a chain is_move moved (by e) (record { counted = λ bad. counted (same_fault e fault.DiskFailed bad); uncounted = tt; others_uncounted = others }))
+      rw is (still_there {T = T} (Err e) old new a a chain is_move moved (rose_still _ _ refl) (record { counted = λ bad. counted (same_fault e fault.DiskFailed bad); uncounted = tt; others_uncounted = others }))
     where
       same_fault : (x y : StepFault) → ◌≡◌ {A = Result T StepFault} (Err x) (Err y) → x ≡ y
       same_fault x y m = cc
-
-      by : (e : StepFault) → RoseWith false e (λ n. RoseBy (of_files.faults a) (of_files.faults a) n)
-      by fault.DiskFailed = inl (rose_still _ _ refl)
-      by fault.Memory = inl (rose_still _ _ refl)
 
   -- the move is one of more
   pub stops_as : (old new : G) (a b : A) (chain : Chain) (later : Bool) (P Q : Plan → Type 0) (e : StepFault) → ((p : Plan) → P p → Q p)
@@ -289,23 +276,30 @@ path_move chain path rest back p few is rest_is moving plan =
 
 -- ---- a place that is looked at
 
+pub on_err_all : {T E : Type 0} (r : Result T E) (P : Type 0) → P → OnErr r P
+on_err_all (Ok x) P h = tt
+on_err_all (Err e) P h = h
+
 module _ {A : Type 0} (of_files : archives.Ghosts A) where
+  pub place_there : (a b : A) (side : Side) (file at : ℕ) (node : Option Node) → (of_files.tells → AllGrow side.files (of_files.bytes a)) → (of_files.tells → AllGrow (of_files.bytes a) (of_files.bytes b))
+      → side_of.LooksUp of_files.tells (record side { files = of_files.bytes a }) file at node (of_files.bytes b) → side_of.LooksUp of_files.tells side file at node (of_files.bytes b)
+  place_there a b side file at node told grows up = record {
+    node = up.node;
+    grows = λ t. grows_on side.files (of_files.bytes a) (of_files.bytes b) (told t) (grows t);
+    record_is = λ t. (
+      (up.record_is t).0,
+      file_grew side.files (of_files.bytes a) file (up.record_is t).0 (of_files.bytes b file) (told t) (up.record_is t).1,
+      (up.record_is t).2,
+    );
+  }
+
   pub place_looked : (a b : A) (holdings : Holdings) (side : Side) (file at : ℕ) (node : Option Node) (text : List ℕ) (tree : List Node) → IsFrom holdings side
       → (of_files.tells → AllGrow side.files (of_files.bytes a)) → (of_files.tells → AllGrow (of_files.bytes a) (of_files.bytes b))
       → side_of.LooksUp of_files.tells (record side { files = of_files.bytes a }) file at node (of_files.bytes b) → tree ≡ found_after holdings.tree node
       → text ≡ found_answer holdings.tree node → of_files.faults b ≡ of_files.faults a → Looked of_files a b side file at text tree
   place_looked a b holdings side file at node text tree from told grows up joined says same = record {
     losses = [];
-    looks = side_of.looks node (of_files.bytes b)
-        (record {
-          node = up.node;
-          grows = λ t. grows_on side.files (of_files.bytes a) (of_files.bytes b) (told t) (grows t);
-          record_is = λ t. (
-            (up.record_is t).0,
-            file_grew side.files (of_files.bytes a) file (up.record_is t).0 (of_files.bytes b file) (told t) (up.record_is t).1,
-            (up.record_is t).2,
-          );
-        })
+    looks = side_of.looks node (of_files.bytes b) (place_there a b side file at node told grows up)
         (rw from.found says) (rw from.found (ap (λ (found : List Node). record side { found = found; files = of_files.bytes b }) joined)) refl;
     rose = rose_still _ _ same;
   }
@@ -351,12 +345,11 @@ module _ {G A : Type 0} (of_ledger : ledgers.Ghosts G) (of_files : archives.Ghos
       archive_alone archive (side_of.fails files g says' is lost) other = absurd (other refl)
 
   -- one that is refused as none of a node: it says nothing, or something that is refused
-  pub refused_leads : (r : Result Step StepFault) (l : G) (a : A) (side : Side) (start : Chain) (pool : PoolState) (bytes : List ℕ) (said : Option NodeLine) (tree : List Node)
+  pub refused_leads : (s : Step) (l : G) (a : A) (side : Side) (start : Chain) (pool : PoolState) (bytes : List ℕ) (said : Option NodeLine) (tree : List Node)
       → IsAt of_ledger of_files l pool a side start → side.ahead ≡ []
-      → side.found ≡ tree → IsSaid bytes said → ((text : List ℕ) → text ≡ line_refused → Orders of_files.tells side said text [] side) → IfOk r (λ s. s.text ≡ line_refused) → IfOk r (λ s. s.left ≡ [])
-      → Moved of_ledger l l side.chain side.chain → IfOk r (λ s. Leads of_ledger of_files (OrdersLine of_files.tells side (line bytes)) l l a a side start s.text tree s.left s.moved s.changed pool)
-  refused_leads (Err e) l a side start pool bytes said tree here still same is orders says none moved = tt
-  refused_leads (Ok s) l a side start pool bytes said tree here still same is orders says none moved =
+      → side.found ≡ tree → IsSaid bytes said → ((text : List ℕ) → text ≡ line_refused → Orders of_files.tells side said text [] side) → s.text ≡ line_refused → s.left ≡ []
+      → Moved of_ledger l l side.chain side.chain → Leads of_ledger of_files (OrdersLine of_files.tells side (line bytes)) l l a a side start s.text tree s.left s.moved s.changed pool
+  refused_leads s l a side start pool bytes said tree here still same is orders says none moved =
       answered of_ledger of_files l l a a side start pool (OrdersLine of_files.tells side (line bytes)) s.text tree s.left s.moved s.changed here still (said, is, orders s.text says) (sym same) none
       (λ t. all_grow_self (of_files.bytes a)) moved refl refl
 
@@ -365,7 +358,7 @@ module _ {G A : Type 0} (of_ledger : ledgers.Ghosts G) (of_files : archives.Ghos
 module _ {G A : Type 0} (of_ledger : ledgers.Ghosts G) (of_files : archives.Ghosts A) where
   -- a step that didn't use the ledger
   pub step_still : (r : Result Step StepFault) (l : G) (a b : A) → of_ledger.is_live l → IfOk r (λ s. s.left ≡ []) → (of_files.tells → AllGrow (of_files.bytes a) (of_files.bytes b))
-      → of_files.faults a ≤ of_files.faults b → IfErr r (λ e. RoseWith false e (λ n. RoseBy (of_files.faults a) (of_files.faults b) n)) → IfErr r (λ e. e ≡ fault.Memory)
+      → of_files.faults a ≤ of_files.faults b → OnErr r (RoseWith false (λ n. RoseBy (of_files.faults a) (of_files.faults b) n)) → IfErr r (λ e. e ≡ fault.Memory)
       → NodeStep of_ledger of_files l l a b false r
   step_still (Ok s) l a b live none grows more rose memory = record {
     live = live;
@@ -417,16 +410,12 @@ module _ {G A : Type 0} (of_ledger : ledgers.Ghosts G) (of_files : archives.Ghos
     linked = tt;
     keeps = λ t. all_grow_self (of_files.bytes a);
     archive_more = omega arith;
-    archive_rose = rose e;
+    archive_rose = inl (rose_still _ _ refl);
     disk_rose = record { counted = λ m. counted (same_fault e fault.DiskFailed m); uncounted = tt; others_uncounted = λ other. others other };
   })
     where
       same_fault : (x y : StepFault) → ◌≡◌ {A = Result Step StepFault} (Err x) (Err y) → x ≡ y
       same_fault x y m = cc
-
-      rose : (x : StepFault) → RoseWith false x (λ n. RoseBy (of_files.faults a) (of_files.faults a) n)
-      rose fault.DiskFailed = inl (rose_still _ _ refl)
-      rose fault.Memory = inl (rose_still _ _ refl)
 
   -- a step after the ledger was asked
   pub step_on : (old mid new : G) (a b : A) (r : Result Step StepFault) → of_ledger.faults mid ≡ of_ledger.faults old → NodeStep of_ledger of_files mid new a b false r

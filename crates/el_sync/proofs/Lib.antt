@@ -4,3 +4,4 @@ pub mod Led
 pub mod Pooled
 pub mod Tried
 pub mod RowsRead
+pub mod Apart

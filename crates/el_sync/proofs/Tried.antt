@@ -124,17 +124,6 @@ touches_refused false start files pool side moved changed set still change =
       looks = λ s out apart looks. looks_self side.chain s.0;
     }
 
--- by how much the count of the block files' failures rose where a refusal wasn't told
-pub files_rose : (f : MoveFault) (e : StepFault) (a b : ℕ) → (f ≡ stop.ArchiveFailed → RoseBy a b 1) → (f ≢ stop.ArchiveFailed → b ≡ a) → (e ≡ fault.DiskFailed → f ≡ stop.DiskFailed)
-    → RoseBy a b 0 ⊎ ((e ≡ fault.Memory) × RoseBy a b 1)
-files_rose f fault.DiskFailed a b counted others is_disk = inl (rose_still a b (others (λ is. let bad = sym (is_disk refl) ∙ is in cc)))
-files_rose stop.ArchiveFailed fault.Memory a b counted others is_disk = inr (refl, counted refl)
-files_rose stop.DiskFailed fault.Memory a b counted others is_disk = inl (rose_still a b (others (λ is. let bad = is in cc)))
-files_rose stop.Memory fault.Memory a b counted others is_disk = inl (rose_still a b (others (λ is. let bad = is in cc)))
-files_rose (stop.Changed w h) fault.Memory a b counted others is_disk = inl (rose_still a b (others (λ is. let bad = is in cc)))
-files_rose (stop.BadBlock h g) fault.Memory a b counted others is_disk = inl (rose_still a b (others (λ is. let bad = is in cc)))
-files_rose (stop.Refused h g) fault.Memory a b counted others is_disk = inl (rose_still a b (others (λ is. let bad = is in cc)))
-
 -- what a move leaves is no more than there was
 pub made_no_more : (moved : Bool) (rest left : List Node) → left ≡ (if moved then left_of rest else []) → length left ≤ length rest
 made_no_more true rest left is = left_no_more rest left is
@@ -169,7 +158,7 @@ module _ {G A : Type 0} (of_ledger : ledgers.Ghosts G) (of_files : archives.Ghos
       by : {next : Chain} {losses : List Device} → FailsBy false chain next e losses → FailsBy later chain next e losses
       by (by_disk d l) = by_disk d l
       by (by_memory d l) = by_memory d l
-      by (untold d l n) = untold d l n
+      by (untold no_later d l n) = absurd (let bad = no_later in cc)
       by (in_sift no_later d l n) = absurd (let bad = no_later in cc)
 
   -- ---- moves
@@ -234,13 +223,8 @@ module _ {G A : Type 0} (of_ledger : ledgers.Ghosts G) (of_files : archives.Ghos
       → (e ≡ fault.Memory → Moved of_ledger old new chain chain) → MoveFailed of_ledger of_files old new a b e
       → IfErr r (StopsAt of_ledger of_files old new a b chain false (λ (p : Plan). p ≡ plan_of back rest))
   broke {T} r old new a b chain back rest forward fault.Memory is front broken moved f =
-      rw is (still_there of_ledger of_files {T = T} (Err fault.Memory) old new a b chain _ (moved refl) (by f.archive_rose)
+      rw is (still_there of_ledger of_files {T = T} (Err fault.Memory) old new a b chain _ (moved refl) f.archive_rose
       (record { counted = λ e. absurd (let bad = e in cc); uncounted = tt; others_uncounted = λ other. f.disk_same other }))
-    where
-      by : RoseBy (of_files.faults a) (of_files.faults b) 0 ⊎ ((fault.Memory ≡ fault.Memory) × RoseBy (of_files.faults a) (of_files.faults b) 1)
-          → RoseWith false fault.Memory (λ n. RoseBy (of_files.faults a) (of_files.faults b) n)
-      by (inl none) = inl none
-      by (inr one) = inr one.1
   broke r old new a b chain back rest forward fault.DiskFailed is front broken moved f =
       let flight = broken refl in
       rw is (record {
@@ -250,12 +234,8 @@ module _ {G A : Type 0} (of_ledger : ledgers.Ghosts G) (of_files : archives.Ghos
         stood = λ m. absurd (let bad = m in cc);
         losses = device.disk ∷ [];
         fails = by_disk refl refl;
-        rose = λ of_link. rose_of of_link _ _ _ _ (device.disk ∷ []) refl (by f.archive_rose) (f.disk_rose refl);
+        rose = λ of_link. rose_of of_link _ _ _ _ (device.disk ∷ []) refl f.archive_rose (f.disk_rose refl);
       })
-    where
-      by : RoseBy (of_files.faults a) (of_files.faults b) 0 ⊎ ((fault.DiskFailed ≡ fault.Memory) × RoseBy (of_files.faults a) (of_files.faults b) 1) → RoseBy (of_files.faults a) (of_files.faults b) 0
-      by (inl none) = none
-      by (inr one) = absurd (let bad = one.0 in cc)
 
   -- ---- the sift
 
@@ -387,7 +367,7 @@ module _ {G A : Type 0} (of_ledger : ledgers.Ghosts G) (of_files : archives.Ghos
 
       after_files : (e : StepFault) → later ≡ true → FailsBy later side.chain side.chain e (archive ∷ lost_in e)
       after_files fault.DiskFailed yes_later = in_sift yes_later refl refl refl
-      after_files fault.Memory yes_later = untold refl refl refl
+      after_files fault.Memory yes_later = untold yes_later refl refl refl
 
       by : {losses : List Device} {chain : Chain} → Tried of_files.tells side back rest m.moved m.text m.touched losses chain (of_files.bytes b) → Moved of_ledger old mid side.chain chain
           → ((of_link : ℕ) → Rose (failed_calls of_ledger of_files of_link old a) (failed_calls of_ledger of_files of_link mid b) losses)
@@ -406,24 +386,13 @@ module _ {G A : Type 0} (of_ledger : ledgers.Ghosts G) (of_files : archives.Ghos
     nodes = tt;
     linked = tt;
     keeps = f.keeps;
-    archive_more = by f.archive_rose;
-    archive_rose = rose e f.archive_rose;
+    archive_more = omega (arith, f.archive_rose);
+    archive_rose = inl f.archive_rose;
     disk_rose = record { counted = λ m. f.disk_rose (same_fault e fault.DiskFailed m); uncounted = tt; others_uncounted = λ other. f.disk_same other };
   })
     where
       same_fault : (x y : StepFault) → ◌≡◌ {A = Result Step StepFault} (Err x) (Err y) → x ≡ y
       same_fault x y m = cc
-
-      by : RoseBy (of_files.faults a) (of_files.faults b) 0 ⊎ ((e ≡ fault.Memory) × RoseBy (of_files.faults a) (of_files.faults b) 1) → of_files.faults a ≤ of_files.faults b
-      by (inl none) = omega (arith, none)
-      by (inr one) = omega (arith, one.1)
-
-      rose : (x : StepFault) → RoseBy (of_files.faults a) (of_files.faults b) 0 ⊎ ((x ≡ fault.Memory) × RoseBy (of_files.faults a) (of_files.faults b) 1)
-          → RoseWith later x (λ n. RoseBy (of_files.faults a) (of_files.faults b) n)
-      rose fault.DiskFailed (inl none) = inl none
-      rose fault.DiskFailed (inr one) = absurd (let bad = one.0 in cc)
-      rose fault.Memory (inl none) = inl none
-      rose fault.Memory (inr one) = inr one.1
 
   more_files : (a b : A) (P : Type 0) → RoseBy (of_files.faults a) (of_files.faults b) 0 ⊎ (P × RoseBy (of_files.faults a) (of_files.faults b) 1) → of_files.faults a ≤ of_files.faults b
   more_files a b P (inl none) = omega (arith, none)
@@ -452,16 +421,14 @@ module _ {G A : Type 0} (of_ledger : ledgers.Ghosts G) (of_files : archives.Ghos
     linked = tt;
     keeps = k.keeps;
     archive_more = more_files a b (m.moved ≡ false) k.archive_rose;
-    archive_rose = rose e k.archive_rose;
+    archive_rose = rose k.archive_rose;
     disk_rose = record { counted = λ bad. rw k.disk_same at (counted (same_fault e fault.DiskFailed bad)); uncounted = tt; others_uncounted = λ other. others other ∙ k.disk_same };
   })
     where
       same_fault : (x y : StepFault) → ◌≡◌ {A = Result Step StepFault} (Err x) (Err y) → x ≡ y
       same_fault x y bad = cc
 
-      rose : (x : StepFault) → RoseBy (of_files.faults a) (of_files.faults b) 0 ⊎ ((m.moved ≡ false) × RoseBy (of_files.faults a) (of_files.faults b) 1)
-          → RoseWith later x (λ n. RoseBy (of_files.faults a) (of_files.faults b) n)
-      rose fault.DiskFailed (inl none) = inl none
-      rose fault.DiskFailed (inr one) = inr (only one.0, one.1)
-      rose fault.Memory (inl none) = inl none
-      rose fault.Memory (inr one) = inr one.1
+      rose : RoseBy (of_files.faults a) (of_files.faults b) 0 ⊎ ((m.moved ≡ false) × RoseBy (of_files.faults a) (of_files.faults b) 1)
+          → RoseWith later (λ n. RoseBy (of_files.faults a) (of_files.faults b) n)
+      rose (inl none) = inl none
+      rose (inr one) = inr (only one.0, one.1)

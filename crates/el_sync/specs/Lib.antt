@@ -1,3 +1,4 @@
 pub mod Steps
 pub mod RowBounds
+pub mod Starving
 pub mod within

@@ -1,6 +1,6 @@
 -- What a step of the node's work takes and keeps, and what it leaves where it fails. A step is a line of the
 -- node, or a later move of its last tip line.
-use Rattle.std.specs.Prelude.{◌≡◌, ◌⊎◌, ◌≤◌, ℕ, Bool, true, List, [], ◌∷◌, Option, None, Some, Result, Err, IfOk, IfErr, OnOk}
+use Rattle.std.specs.Prelude.{◌≡◌, ◌⊎◌, ◌≤◌, ℕ, Bool, true, List, [], ◌∷◌, Option, None, Some, Result, Err, IfOk, OnOk, OnErr}
 use Rattle.std.specs.List.{AllByRecursion}
 use Rattle.el_base.specs.declared.hash.Hash32.{Hash32}
 use Rattle.el_outside.specs.Counts.{RoseBy, CountsOnly}
@@ -11,6 +11,7 @@ use Rattle.el_chain.specs.declared.moves.Plan.{Plan}
 use Rattle.el_chain.specs.Chains.{Chain, zero_hash}
 use Rattle.el_chain.specs.Headers.{AreLinked}
 use Rattle.el_chain.specs.Records.{IsNode}
+use Rattle.el_lines.specs.NodeAnswers.{archive_refused}
 use Rattle.el_methods.specs.declared.holdings.Holdings.{Holdings}
 use Rattle.el_world.specs.Flights.{IsUnderWay}
 use Rattle.el_model.specs.LedgerCalls.{CrashLeaves, Moved, failed_calls}
@@ -36,11 +37,15 @@ pub record IsFrom (holdings : Holdings) (side : Side) : Type 0 where
 pub data FailsBy (later : Bool) (chain next : Chain) (e : StepFault) (losses : List Device) : Type 0 where
   by_disk : e ≡ fault.DiskFailed → losses ≡ disk ∷ [] → FailsBy later chain next e losses
   by_memory : e ≡ fault.Memory → losses ≡ [] → FailsBy later chain next e losses
-  -- no memory was found after the block files had failed
-  untold : e ≡ fault.Memory → losses ≡ archive ∷ [] → next ≡ chain → FailsBy later chain next e losses
-  -- the disk failed in the sift, after the block files had failed in the move
+  -- in the sift, after the block files had failed in the move: no memory was found, or the disk failed
+  untold : later ≡ true → e ≡ fault.Memory → losses ≡ archive ∷ [] → next ≡ chain
+      → FailsBy later chain next e losses
   in_sift : later ≡ true → e ≡ fault.DiskFailed → losses ≡ archive ∷ disk ∷ [] → next ≡ chain
       → FailsBy later chain next e losses
+
+-- where the block files failed in a line, it touched nothing
+abbrev pub TouchesNoFailed : Step → Type 0
+TouchesNoFailed s = s.text ≡ archive_refused → (s.moved ≡ []) × (s.changed ≡ [])
 
 -- The step failed. What a crash since its start leaves is the side's chain or `next`, the target of a move
 -- that the step may make. Where no memory was found the ledger stands for `next`, which is the side's chain
@@ -57,10 +62,10 @@ pub record StopsAt {G A : Type 0} (of_ledger : ledgers.Ghosts G) (of_files : arc
   pub rose : (of_link : ℕ) → Rose (failed_calls of_ledger of_files of_link old files_old)
       (failed_calls of_ledger of_files of_link new files_new) losses
 
--- by how much the count of the block files' failures rose where a step failed
-abbrev pub RoseWith : Bool → StepFault → (ℕ → Type 0) → Type 0
-RoseWith later fault.DiskFailed rose = rose 0 ⊎ ((later ≡ true) × rose 1)
-RoseWith later fault.Memory rose = rose 0 ⊎ rose 1
+-- by how much the count of the block files' failures rose where a step failed: by one only in the sift after
+-- a later move that they had failed
+abbrev pub RoseWith : Bool → (ℕ → Type 0) → Type 0
+RoseWith later rose = rose 0 ⊎ ((later ≡ true) × rose 1)
 
 -- What each step of the node's work keeps, whatever the ledger stands for.
 pub record NodeStep {G A : Type 0} (of_ledger : ledgers.Ghosts G) (of_files : archives.Ghosts A) (old new : G)
@@ -73,6 +78,6 @@ pub record NodeStep {G A : Type 0} (of_ledger : ledgers.Ghosts G) (of_files : ar
   -- block files only grow, and no count falls
   pub keeps : of_files.tells → AllGrow (of_files.bytes files_old) (of_files.bytes files_new)
   pub archive_more : of_files.faults files_old ≤ of_files.faults files_new
-  pub archive_rose : IfErr result (λ e.
-      RoseWith later e (λ n. RoseBy (of_files.faults files_old) (of_files.faults files_new) n))
+  pub archive_rose : OnErr result
+      (RoseWith later (λ n. RoseBy (of_files.faults files_old) (of_files.faults files_new) n))
   pub disk_rose : CountsOnly (of_ledger.faults old) (of_ledger.faults new) fault.DiskFailed result

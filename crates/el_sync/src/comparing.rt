@@ -84,6 +84,7 @@ fn common_below<G: Ledger>(
         → G.reads ledger.new ≤ G.reads ledger.old + ((count - common chain path) + 1) }
     ensures asked { Asked ⟦<G as Ledger>⟧ ledger.old ledger.new }
     ensures disk_rose { CountsOnly (G.faults ledger.old) (G.faults ledger.new) StepFault.DiskFailed result }
+    ensures device { IfErr result (λ e. e ≡ StepFault.DiskFailed) }
 {
     let mut at = last;
     for height in (0..count).rev() {
@@ -110,6 +111,7 @@ fn common_of<G: Ledger>(ledger: &mut G, tree: &HeaderTree, end: &PathEnd) -> Res
         → G.reads ledger.new ≤ G.reads ledger.old + (back_of chain path + 1) }
     ensures asked { Asked ⟦<G as Ledger>⟧ ledger.old ledger.new }
     ensures disk_rose { CountsOnly (G.faults ledger.old) (G.faults ledger.new) StepFault.DiskFailed result }
+    ensures device { IfErr result (λ e. e ≡ StepFault.DiskFailed) }
 {
     let count = count_of(ledger);
     let both = count.min(end.height.saturating_add(1));
@@ -160,6 +162,7 @@ pub fn compare<G: Ledger>(
         → G.reads ledger.new ≤ G.reads ledger.old + (back_of chain path + 1) }
     ensures asked { Asked ⟦<G as Ledger>⟧ ledger.old ledger.new }
     ensures disk_rose { CountsOnly (G.faults ledger.old) (G.faults ledger.new) StepFault.DiskFailed result }
+    ensures device { IfErr result (λ e. e ≡ StepFault.DiskFailed) }
 {
     let same = common_of(ledger, tree, end)?;
     let count = count_of(ledger);

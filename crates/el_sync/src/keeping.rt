@@ -96,17 +96,18 @@ pub fn order_tx<G: Ledger>(
     alloc: Global,
     ledger: &mut G,
     pool: &mut Pool,
+    room: AnswerRoom,
     bytes: &[u8],
 ) -> Result<PoolAnswer, StepFault>
     requires live { G.is_live ledger.old }
     ensures adds { (side : Side) → G.stands ledger.old side.chain
         → StandsFor pool.old.entries side.chain side.kept → pool.old.limits ≡ side.limits
         → IfOk result (λ r. StandsAfter pool.new side r.changed (Adds side bytes.now r.text [])) }
+    ensures untouched { IfOk result (λ r. r.text ≡ say.archive_refused → r.changed ≡ []) }
     ensures limits { pool.new.limits ≡ pool.old.limits }
     ensures asked { Asked ⟦<G as Ledger>⟧ ledger.old ledger.new }
     ensures disk_rose { CountsOnly (G.faults ledger.old) (G.faults ledger.new) StepFault.DiskFailed result }
 {
-    let room = AnswerRoom::new(alloc)?;
     match pool.add(ledger, bytes) {
         Ok((id, changed)) => Ok(PoolAnswer {
             text: tx_answer(room, id),
@@ -118,13 +119,18 @@ pub fn order_tx<G: Ledger>(
 
 /// Takes a line that tells that the node no longer has the transaction of this txid: it is dropped from those
 /// that are kept, with those that spend it. Fails only where memory runs out.
-pub fn order_drop(alloc: Global, pool: &mut Pool, id: Hash32) -> Result<PoolAnswer, StepFault>
+pub fn order_drop(
+    alloc: Global,
+    pool: &mut Pool,
+    room: AnswerRoom,
+    id: Hash32,
+) -> Result<PoolAnswer, StepFault>
     ensures drops { (side : Side) → StandsFor pool.old.entries side.chain side.kept
         → IfOk result (λ r. StandsAfter pool.new side r.changed (Drops side id r.text [])) }
+    ensures untouched { IfOk result (λ r. r.text ≡ say.archive_refused → r.changed ≡ []) }
     ensures limits { pool.new.limits ≡ pool.old.limits }
     ensures memory { IfErr result (λ e. e ≡ StepFault.Memory) }
 {
-    let room = AnswerRoom::new(alloc)?;
     let Some(changed) = pool.drop_tx(&id)? else {
         return Ok(PoolAnswer {
             text: absent_refused(room, id),

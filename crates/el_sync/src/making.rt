@@ -1,5 +1,5 @@
 // A move, before the unconfirmed set is sifted.
-ghost use Rattle.std.specs.Prelude.{◌≡◌, ◌≢◌, ◌≤◌, false, None, IfOk, IfErr, IsErrOf, length};
+ghost use Rattle.std.specs.Prelude.{◌≡◌, ◌≢◌, ◌≤◌, [], false, true, None, IfOk, IfErr, OnErr, IsErrOf, length};
 ghost use Rattle.std.specs.List.{AllByRecursion};
 ghost use Rattle.el_base.specs.declared.hash.Hash32 as hash_shape;
 ghost use Rattle.el_outside.specs.Files.{AllGrow};
@@ -40,6 +40,7 @@ pub struct Made {
 fn refusal(room: AnswerRoom, fault: MoveFault) -> Result<Bytes, StepFault>
     ensures told { IfOk result (λ text. SaysRefusal fault text) }
     ensures failed { IsErrOf result StepFault.DiskFailed → fault ≡ MoveFault.DiskFailed }
+    ensures told_files { OnErr result (fault ≢ MoveFault.ArchiveFailed) }
     // Where there is something to tell, it is told.
     ensures memory { IsErrOf result StepFault.Memory → (fault ≢ MoveFault.DiskFailed)
         × ((fault ≢ MoveFault.ArchiveFailed) × (say.move_refused fault ≡ None)) }
@@ -55,7 +56,8 @@ fn refusal(room: AnswerRoom, fault: MoveFault) -> Result<Bytes, StepFault>
 }
 
 /// Makes the next move of a tip line, without the sift after it: so many blocks of the chain are taken back,
-/// and the first of the rest are put in. Where it is refused, no block is left.
+/// and the first of the rest are put in. Where it is refused, no block is left. What came of it is written
+/// into the room, without memory.
 ///
 /// # Errors
 ///
@@ -67,6 +69,7 @@ pub fn make_move<G: Ledger, A: Archive>(
     back: u32,
     rest: Ahead,
     archive: &mut A,
+    room: AnswerRoom,
 ) -> Result<Made, StepFault>
     requires live { G.is_live ledger.old }
     requires back { back ≤ max_back }
@@ -78,6 +81,9 @@ pub fn make_move<G: Ledger, A: Archive>(
         → (A.tells → AllGrow side.files (A.bytes archive.old)) → IfOk result (
         Tries ⟦<G as Ledger>⟧ ⟦<A as Archive>⟧ ledger.old ledger.new archive.old archive.new side back
         rest) }
+    // Where it isn't made, it touched nothing, and only then the block files may have failed.
+    ensures untouched { IfOk result (λ m. m.moved ≡ false → m.touched ≡ []) }
+    ensures made { IfOk result (λ m. m.moved ≡ true → m.text ≢ say.archive_refused) }
     ensures stopped { (chain : Chain) → G.stands ledger.old chain → IfErr result (
         StopsAt ⟦<G as Ledger>⟧ ⟦<A as Archive>⟧ ledger.old ledger.new archive.old archive.new chain false
         (λ (p : moves.Plan). p ≡ plan_of back rest)) }
@@ -86,8 +92,6 @@ pub fn make_move<G: Ledger, A: Archive>(
     ensures failed { IfErr result (MoveFailed ⟦<G as Ledger>⟧ ⟦<A as Archive>⟧ ledger.old ledger.new
         archive.old archive.new) }
 {
-    // A move that is made or refused is told without memory.
-    let room = AnswerRoom::new(alloc)?;
     let forward = rest.next_blocks(alloc)?;
     let plan = Plan { back, forward };
     match ledger.go(alloc, &plan, archive) {

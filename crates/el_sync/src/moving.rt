@@ -15,13 +15,14 @@ ghost use Rattle.el_model.specs.LedgerCalls.{Asked};
 ghost use Rattle.el_world.specs.Plans.{plan_of};
 ghost use Rattle.el_world.specs.Side.{Side, Moving};
 ghost use Rattle.el_world.specs.NodeSteps.{IsAt, Leads};
-ghost use Rattle.el_sync.specs.Steps.{NodeStep, StopsAt};
+ghost use Rattle.el_sync.specs.Steps.{NodeStep, StopsAt, TouchesNoFailed};
 
 use crate::ahead::Ahead;
 use crate::fault::StepFault;
 use crate::making::{Made, make_move};
 use el_base::Bytes;
 use el_chain::Touched;
+use el_lines::AnswerRoom;
 use el_methods::Holdings;
 use el_model::{Ledger, QueryFault};
 use el_outside::Archive;
@@ -80,7 +81,7 @@ fn settle<G: Ledger>(
 
 /// Makes the next move of a tip line: so many blocks of the chain are taken back, and the first of the rest
 /// are put in. Where it is refused, no block is left. With the last move the set is sifted, and with a later
-/// one that is refused.
+/// one that is refused. The answer is written into the room.
 ///
 /// # Errors
 ///
@@ -93,6 +94,7 @@ pub fn move_once<G: Ledger, A: Archive>(
     back: u32,
     rest: Ahead,
     archive: &mut A,
+    room: AnswerRoom,
     later: bool,
 ) -> Result<Step, StepFault>
     requires live { G.is_live ledger.old }
@@ -111,6 +113,7 @@ pub fn move_once<G: Ledger, A: Archive>(
         StopsAt ⟦<G as Ledger>⟧ ⟦<A as Archive>⟧ ledger.old ledger.new archive.old archive.new chain later
         (λ (p : moves.Plan). p ≡ plan_of back rest)) }
     ensures limits { pool.new.limits ≡ pool.old.limits }
+    ensures untouched { IfOk result (λ s. later ≡ false → TouchesNoFailed s) }
     ensures no_more { IfOk result (λ s. length s.left ≤ length rest) }
     ensures fewer { IfOk result (λ s. rest ≢ [] → length s.left < length rest) }
     ensures step { NodeStep ⟦<G as Ledger>⟧ ⟦<A as Archive>⟧ ledger.old ledger.new archive.old archive.new
@@ -121,7 +124,7 @@ pub fn move_once<G: Ledger, A: Archive>(
         left,
         moved,
         touched,
-    } = make_move(alloc, ledger, back, rest, archive)?;
+    } = make_move(alloc, ledger, back, rest, archive, room)?;
     let ends = ends_line(&left, moved, later);
     let changed = settle(alloc, ledger, pool, ends)?;
     Ok(Step {
@@ -134,7 +137,7 @@ pub fn move_once<G: Ledger, A: Archive>(
 
 /// Makes the next of the later moves of a tip line, which takes no block back: the first of the rest are put
 /// in. Where it is refused, no block is left. With the last move, and with one that is refused, the set is
-/// sifted.
+/// sifted. The answer is written into the room.
 ///
 /// # Errors
 ///
@@ -146,6 +149,7 @@ pub fn move_next<G: Ledger, A: Archive>(
     holdings: &mut Holdings,
     rest: Ahead,
     archive: &mut A,
+    room: AnswerRoom,
 ) -> Result<Step, StepFault>
     requires live { G.is_live ledger.old }
     requires nodes { AllByRecursion IsNode rest }
@@ -166,5 +170,14 @@ pub fn move_next<G: Ledger, A: Archive>(
     ensures step { NodeStep ⟦<G as Ledger>⟧ ⟦<A as Archive>⟧ ledger.old ledger.new archive.old archive.new
         true result }
 {
-    move_once(alloc, ledger, &mut holdings.pool, 0, rest, archive, true)
+    move_once(
+        alloc,
+        ledger,
+        &mut holdings.pool,
+        0,
+        rest,
+        archive,
+        room,
+        true,
+    )
 }

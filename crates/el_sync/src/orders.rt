@@ -1,21 +1,22 @@
 // The node's lines.
-ghost use Rattle.std.specs.Prelude.{◌≡◌, ◌≤◌, ◌⊎◌, ◌+◌, ℕ, List, [], false, Some, IfOk, IfErr, OnOk, OnErr, length};
+ghost use Rattle.std.specs.Prelude.{◌≡◌, ◌≤◌, ◌⊎◌, ◌+◌, ℕ, List, [], false, Some, IfOk, IfErr, IsErrOf, OnOk, OnErr, length};
 ghost use Rattle.el_outside.specs.Counts.{RoseBy};
 ghost use Rattle.el_outside.specs.Files.{AllGrow};
 ghost use Rattle.el_chain.specs.declared.node.Node as node_shape;
 ghost use Rattle.el_chain.specs.Chains.{Chain};
 ghost use Rattle.el_chain.specs.Headers.{IsPath, added};
+ghost use Rattle.el_chain.specs.Moves.{max_back};
 ghost use Rattle.el_chain.specs.Records.{IsNode};
 ghost use Rattle.el_headers.specs.Adding.{IsEndOf};
 ghost use Rattle.el_world.specs.Flights.{IsFirstMove};
 ghost use Rattle.el_world.specs.Plans.{back_of};
 ghost use Rattle.el_lines.specs.Lines.{line};
-ghost use Rattle.el_lines.specs.NodeAnswers as say;
-ghost use Rattle.el_world.specs.Side.{Side, GoesAlong, OrdersLine, Tips, found_answer};
+ghost use Rattle.el_world.specs.Side.{Side, GoesAlong, LooksUp, OrdersLine, Tips, found_answer};
 ghost use Rattle.el_lines.specs.LineStates.{as_listed};
 ghost use Rattle.el_world.specs.NodeSteps.{IsAt, Leads};
 ghost use Rattle.el_sync.specs.RowBounds.{AsksNoMove, ReadsLine, ReadsTip};
-ghost use Rattle.el_sync.specs.Steps.{IsFrom, NodeStep, StopsAt};
+ghost use Rattle.el_sync.specs.Starving.{MayMove, WantsMemory};
+ghost use Rattle.el_sync.specs.Steps.{IsFrom, NodeStep, StopsAt, TouchesNoFailed};
 ghost use Rattle.el_sync.specs.within.Parts.{IsTipMove, IsPathMove, Looked};
 
 use crate::ahead::Ahead;
@@ -38,9 +39,9 @@ use el_outside::Archive;
 use el_pool::Pool;
 use std::alloc::Global;
 
-// Looks at a place of the block files.
+// Looks at a place of the block files. Fails only where the tree finds no memory for the node there.
 fn order_block<A: Archive>(
-    alloc: Global,
+    room: AnswerRoom,
     holdings: &mut Holdings,
     archive: &mut A,
     file: u32,
@@ -56,9 +57,11 @@ fn order_block<A: Archive>(
     // Where the block files fail, that is told.
     ensures archive_rose { OnErr result (RoseBy (A.faults archive.old) (A.faults archive.new) 0) }
     ensures memory { IfErr result (λ e. e ≡ StepFault.Memory) }
+    // That the files failed, or have no record there, is told without memory.
+    ensures there { (side : Side) → IsFrom holdings.old side
+        → (A.tells → AllGrow side.files (A.bytes archive.old)) → OnErr result ((node : node_shape.Node)
+        × LooksUp A.tells side file at (Some node) (A.bytes archive.new)) }
 {
-    // What comes of the place is told without memory.
-    let room = AnswerRoom::new(alloc)?;
     match record_at(archive, holdings.magic, file, at) {
         Err(_) => Ok(archive_refused(room)),
         Ok(None) => Ok(place_refused(room)),
@@ -86,6 +89,7 @@ fn add_node(room: AnswerRoom, tree: &mut HeaderTree, node: Node) -> Result<Bytes
 fn only_text(alloc: Global, text: Bytes) -> Step
     ensures text { result.text ≡ text }
     ensures left { result.left ≡ [] }
+    ensures untouched { (result.moved ≡ []) × (result.changed ≡ []) }
 {
     Step {
         text,
@@ -99,6 +103,7 @@ fn only_text(alloc: Global, text: Bytes) -> Step
 fn pool_step(alloc: Global, answer: PoolAnswer) -> Step
     ensures text { result.text ≡ answer.text }
     ensures left { result.left ≡ [] }
+    ensures moved { result.moved ≡ [] }
     ensures changed { result.changed ≡ answer.changed }
 {
     Step {
@@ -116,6 +121,7 @@ fn move_along<G: Ledger, A: Archive>(
     tree: &HeaderTree,
     pool: &mut Pool,
     archive: &mut A,
+    room: AnswerRoom,
     end: &PathEnd,
 ) -> Result<Step, StepFault>
     requires live { G.is_live ledger.old }
@@ -133,6 +139,11 @@ fn move_along<G: Ledger, A: Archive>(
         → IsPath tree.now end.now.node.hash path → G.stands ledger.old chain → IfErr result (
         StopsAt ⟦<G as Ledger>⟧ ⟦<A as Archive>⟧ ledger.old ledger.new archive.old archive.new chain
         false (IsPathMove chain path)) }
+    // That it is too deep is told without memory.
+    ensures memory { (path : List node_shape.Node) (chain : Chain)
+        → IsPath tree.now end.now.node.hash path → G.stands ledger.old chain
+        → IsErrOf result StepFault.Memory → back_of chain path ≤ max_back }
+    ensures untouched { IfOk result TouchesNoFailed }
     ensures rows { (path : List node_shape.Node) (chain : Chain)
         → IsPath tree.now end.now.node.hash path → G.stands ledger.old chain → AsksNoMove chain path
         → G.reads ledger.new ≤ G.reads ledger.old + (back_of chain path + 1) }
@@ -141,7 +152,6 @@ fn move_along<G: Ledger, A: Archive>(
     ensures step { NodeStep ⟦<G as Ledger>⟧ ⟦<A as Archive>⟧ ledger.old ledger.new archive.old archive.new
         false result }
 {
-    let room = AnswerRoom::new(alloc)?;
     let Way { back, same } = compare(ledger, tree, end)?;
     if back > MAX_BACK as usize {
         return Ok(only_text(alloc, deep_refused(room, back)));
@@ -151,7 +161,7 @@ fn move_along<G: Ledger, A: Archive>(
         let text = at_answer(room, ledger.tip(), ledger.height());
         return Ok(only_text(alloc, text));
     }
-    move_once(alloc, ledger, pool, back as u32, rest, archive, false)
+    move_once(alloc, ledger, pool, back as u32, rest, archive, room, false)
 }
 
 // Moves the chain towards a block: its first move.
@@ -161,6 +171,7 @@ fn order_tip<G: Ledger, A: Archive>(
     tree: &HeaderTree,
     pool: &mut Pool,
     archive: &mut A,
+    room: AnswerRoom,
     h: Hash32,
 ) -> Result<Step, StepFault>
     requires live { G.is_live ledger.old }
@@ -175,6 +186,9 @@ fn order_tip<G: Ledger, A: Archive>(
         → side.found ≡ tree.now → IfErr result (
         StopsAt ⟦<G as Ledger>⟧ ⟦<A as Archive>⟧ ledger.old ledger.new archive.old archive.new
         side.chain false (IsTipMove side h)) }
+    ensures memory { (side : Side) → G.stands ledger.old side.chain → side.found ≡ tree.now
+        → IsErrOf result StepFault.Memory → MayMove side h }
+    ensures untouched { IfOk result TouchesNoFailed }
     ensures rows { (side : Side) → G.stands ledger.old side.chain → side.found ≡ tree.now
         → ReadsTip side h (G.reads ledger.old) (G.reads ledger.new) }
     ensures limits { pool.new.limits ≡ pool.old.limits }
@@ -183,27 +197,11 @@ fn order_tip<G: Ledger, A: Archive>(
         false result }
 {
     match tree.path_end(&h) {
-        Ok(end) => move_along(alloc, ledger, tree, pool, archive, &end),
-        Err(PathFault::Unknown) => {
-            let room = AnswerRoom::new(alloc)?;
-            Ok(only_text(alloc, unknown_refused(room, h)))
-        }
-        Err(PathFault::Unconnected) => {
-            let room = AnswerRoom::new(alloc)?;
-            Ok(only_text(alloc, unconnected_refused(room, h)))
-        }
+        Ok(end) => move_along(alloc, ledger, tree, pool, archive, room, &end),
+        Err(PathFault::Unknown) => Ok(only_text(alloc, unknown_refused(room, h))),
+        Err(PathFault::Unconnected) => Ok(only_text(alloc, unconnected_refused(room, h))),
         Err(PathFault::Memory) => Err(StepFault::Memory),
     }
-}
-
-// A line that says nothing.
-fn refuse_line(alloc: Global) -> Result<Step, StepFault>
-    ensures text { IfOk result (λ s. s.text ≡ say.line_refused) }
-    ensures left { IfOk result (λ s. s.left ≡ []) }
-    ensures memory { IfErr result (λ e. e ≡ StepFault.Memory) }
-{
-    let room = AnswerRoom::new(alloc)?;
-    Ok(only_text(alloc, line_refused(room)))
 }
 
 // A whole line of the node.
@@ -212,6 +210,7 @@ fn order_line<G: Ledger, A: Archive>(
     ledger: &mut G,
     holdings: &mut Holdings,
     archive: &mut A,
+    room: AnswerRoom,
     text: &[u8],
 ) -> Result<Step, StepFault>
     requires live { G.is_live ledger.old }
@@ -226,6 +225,11 @@ fn order_line<G: Ledger, A: Archive>(
         → IsFrom holdings.old side → IfErr result (
         StopsAt ⟦<G as Ledger>⟧ ⟦<A as Archive>⟧ ledger.old ledger.new archive.old archive.new
         side.chain false (IsFirstMove side (line text.now))) }
+    ensures memory { (side : Side) (start : Chain)
+        → IsAt ⟦<G as Ledger>⟧ ⟦<A as Archive>⟧ ledger.old holdings.old.pool archive.old side start
+        → IsFrom holdings.old side → IsErrOf result StepFault.Memory
+        → WantsMemory A.tells side (A.bytes archive.new) (line text.now) }
+    ensures untouched { IfOk result TouchesNoFailed }
     ensures rows { (side : Side) (start : Chain)
         → IsAt ⟦<G as Ledger>⟧ ⟦<A as Archive>⟧ ledger.old holdings.old.pool archive.old side start
         → IsFrom holdings.old side → IfOk result (λ s.
@@ -239,7 +243,7 @@ fn order_line<G: Ledger, A: Archive>(
 {
     match read_node_line(alloc, text) {
         Ok(NodeLine::Block { file, at }) => {
-            let text = order_block(alloc, holdings, archive, file, at)?;
+            let text = order_block(room, holdings, archive, file, at)?;
             Ok(only_text(alloc, text))
         }
         Ok(NodeLine::Tip(h)) => order_tip(
@@ -248,34 +252,37 @@ fn order_line<G: Ledger, A: Archive>(
             &holdings.tree,
             &mut holdings.pool,
             archive,
+            room,
             h,
         ),
         Ok(NodeLine::Tx(bytes)) => {
-            let answer = order_tx(alloc, ledger, &mut holdings.pool, bytes.as_slice())?;
+            let answer = order_tx(alloc, ledger, &mut holdings.pool, room, bytes.as_slice())?;
             Ok(pool_step(alloc, answer))
         }
         Ok(NodeLine::Drop(id)) => {
-            let answer = order_drop(alloc, &mut holdings.pool, id)?;
+            let answer = order_drop(alloc, &mut holdings.pool, room, id)?;
             Ok(pool_step(alloc, answer))
         }
-        Err(NodeLineFault::Line) => refuse_line(alloc),
+        Err(NodeLineFault::Line) => Ok(only_text(alloc, line_refused(room))),
         Err(NodeLineFault::Memory) => Err(StepFault::Memory),
     }
 }
 
 /// Takes what is met in the node's bytes: a line is done up to its first move, if it makes one, and one that
-/// is too long is refused. It may be called where no earlier tip line has left blocks to put in.
+/// is too long is refused. It may be called where no earlier tip line has left blocks to put in. The answer
+/// is written into the room.
 ///
 /// # Errors
 ///
 /// `StepFault::DiskFailed` where a call on the ledger's device failed, after which it isn't live, and
-/// `StepFault::Memory` where no memory was found. What was moved before stays so, and the set isn't used
-/// again.
+/// `StepFault::Memory` where no memory was found, which no line that is refused before a move takes. What was
+/// moved before stays so, and the set isn't used again.
 pub fn order<G: Ledger, A: Archive>(
     alloc: Global,
     ledger: &mut G,
     holdings: &mut Holdings,
     archive: &mut A,
+    room: AnswerRoom,
     met: LineEvent,
 ) -> Result<Step, StepFault>
     requires live { G.is_live ledger.old }
@@ -290,6 +297,12 @@ pub fn order<G: Ledger, A: Archive>(
         → IsFrom holdings.old side → IfErr result (
         StopsAt ⟦<G as Ledger>⟧ ⟦<A as Archive>⟧ ledger.old ledger.new archive.old archive.new
         side.chain false (IsFirstMove side (as_listed met))) }
+    // What needs no memory is answered without it.
+    ensures memory { (side : Side) (start : Chain)
+        → IsAt ⟦<G as Ledger>⟧ ⟦<A as Archive>⟧ ledger.old holdings.old.pool archive.old side start
+        → IsFrom holdings.old side → IsErrOf result StepFault.Memory
+        → WantsMemory A.tells side (A.bytes archive.new) (as_listed met) }
+    ensures untouched { IfOk result TouchesNoFailed }
     // How many rows are read, where no move is made and no transaction told.
     ensures rows { (side : Side) (start : Chain)
         → IsAt ⟦<G as Ledger>⟧ ⟦<A as Archive>⟧ ledger.old holdings.old.pool archive.old side start
@@ -303,10 +316,9 @@ pub fn order<G: Ledger, A: Archive>(
         false result }
 {
     match met {
-        LineEvent::TooLong { limit: _ } => {
-            let room = AnswerRoom::new(alloc)?;
-            Ok(only_text(alloc, long_refused(room)))
+        LineEvent::TooLong { limit: _ } => Ok(only_text(alloc, long_refused(room))),
+        LineEvent::Line(text) => {
+            order_line(alloc, ledger, holdings, archive, room, text.as_slice())
         }
-        LineEvent::Line(text) => order_line(alloc, ledger, holdings, archive, text.as_slice()),
     }
 }

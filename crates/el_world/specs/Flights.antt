@@ -17,8 +17,8 @@ use Rattle.el_world.specs.Side.{Side}
 use Rattle.el_world.specs.World.{World, Event, orders, IsStill, IsBusy, AllTold}
 use Rattle.el_world.specs.Run.{Stop, Stops, disk_failed, sift_failed, no_memory, untold, unsent, StopsIn, unheard, in_turn}
 
--- The first move of what is met in the node's bytes: of a tip line that takes back as many blocks as may be,
--- and moves something. Else no move begins.
+-- The first move of what is met in the node's bytes: of a tip line that takes back no more blocks than may
+-- be, and moves something. Else no move begins.
 pub record IsFirstMove (side : Side) (met : LineEvent) (p : Plan) : Type 0 where
   pub bytes : List ℕ
   pub hash : List ℕ
@@ -51,14 +51,14 @@ abbrev pub FliesAt : {tells : Type 0} {world : World} {left : List Event} {stop 
 FliesAt {tells = tells} {world = world} {left = left} (disk_failed by nodes silent closed lost) now flight =
     (files : ℕ → List ℕ) × (tells → AllGrow world.side.files files × AllGrow files now)
     × IsUnderWay tells files world.side.chain (IsMoveOf world left) flight
--- the last move was refused
+-- the block files had failed, so that nothing was moved
 FliesAt {world = world} (sift_failed by busy silent closed lost) now flight = flight ≡ world.side.chain
 -- no memory was found before a move, or after it, for the sift
 FliesAt {tells = tells} {world = world} {left = left} (no_memory by nodes silent closed lost) now flight =
     (files : ℕ → List ℕ) × (tells → AllGrow world.side.files files × AllGrow files now)
     × IsUnderWay tells files world.side.chain (IsMoveOf world left) flight
 -- nothing was moved
-FliesAt {world = world} (untold by nodes silent closed lost) now flight = flight ≡ world.side.chain
+FliesAt {world = world} (untold by busy silent closed lost) now flight = flight ≡ world.side.chain
 -- what the turn gave wasn't sent: it is what the turn left
 FliesAt (unsent done rest outs failed after front back m lost last next whole turn cut node delivers by z) now
     flight = flight ≡ after.side.chain

@@ -8,8 +8,8 @@ use Rattle.el_chain.specs.Chains.{Chain}
 use Rattle.el_chain.specs.Headers.{same_hash}
 use Rattle.el_chain.specs.Moves.{max_forward}
 
--- how many blocks stand up to and including the highest common one, of a block and those above it, where
--- that many do of those above it alone; `same` is whether the block itself is common
+-- Of a block and those above it, how many stand up to and including the highest common one, where the number
+-- is that of those above alone, and the Bool says whether the block itself is common.
 abbrev pub common_up_to : Bool → ℕ → ℕ
 common_up_to same (suc above) = suc (suc above)
 common_up_to true zero = 1

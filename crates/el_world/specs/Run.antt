@@ -1,8 +1,9 @@
 -- A whole run: which messages may be sent and which clients closed, in which order, for a list of arrivals.
 -- A failed call of the link closes a client as gone, or stops the run; one of the block files is answered to
 -- the node or to a client; one of the index's device is answered to a client, closes one that was to be told,
--- or stops the run. Where no memory was found for that answer, the client is closed for that, or the run stops
--- for it.
+-- or stops the run. Where no memory is found for the reply to a client, it is closed for that. The room for
+-- an answer to the node is there before the block files are asked; only the sift after a later move, for
+-- which they failed, may find no memory, and the run stops for it.
 use Rattle.std.specs.Prelude.{◌≡◌, ◌⊎◌, ℕ, ◌==◌, List, [], ◌∷◌, ◌++◌, filter, true, not, if◌then◌else◌, Option, Some, None}
 use Rattle.std.specs.Option.{option_to_list}
 use Rattle.el_outside.specs.Devices.{Device, link, archive, disk}
@@ -132,8 +133,8 @@ pub data Stops (tells : Type 0) (world : World) (left : List Event) (stop : Stop
   -- no memory was found for a turn of the node
   no_memory : stop ≡ by_memory → IsNodesTurn world left → sent ≡ [] → closings ≡ [] → losses ≡ []
       → Stops tells world left stop sent closings losses
-  -- nor was it to answer that the block files failed
-  untold : stop ≡ by_memory → IsNodesTurn world left → sent ≡ [] → closings ≡ [] → losses ≡ archive ∷ []
+  -- nor in the sift after a later move of a tip line, for which the block files had failed
+  untold : stop ≡ by_memory → IsBusy world → sent ≡ [] → closings ≡ [] → losses ≡ archive ∷ []
       → Stops tells world left stop sent closings losses
   -- a message to the node wasn't sent, after those before it
   unsent : (done rest : List Event) (outs : Outs) (failed : List Device) (after : World)
@@ -150,7 +151,7 @@ abbrev pub files_at : {tells : Type 0} {world : World} {left : List Event} {stop
 files_at {world = world} (disk_failed by nodes silent closed lost) = world.side.files
 files_at {world = world} (sift_failed by busy silent closed lost) = world.side.files
 files_at {world = world} (no_memory by nodes silent closed lost) = world.side.files
-files_at {world = world} (untold by nodes silent closed lost) = world.side.files
+files_at {world = world} (untold by busy silent closed lost) = world.side.files
 files_at (unsent done rest outs failed after front back m lost last next whole turn cut node delivers by z) =
     after.side.files
 

@@ -16,7 +16,7 @@ Covers clients first second all =
     (s : Hash32) → is_held clients s ≡ true → is_among all s ≡ false
     → (is_among first s ≡ false) × (is_among second s ≡ false)
 
--- the same of three
+-- of the script hashes to which clients subscribe, each of the first, the moved and the changed is among all
 abbrev pub CoversAll : List ClientState → List Hash32 → List Hash32 → List Hash32 → List Hash32 → Type 0
 CoversAll clients first moved changed all =
     (s : Hash32) → is_held clients s ≡ true → is_among all s ≡ false

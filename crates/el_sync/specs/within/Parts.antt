@@ -84,7 +84,6 @@ pub record MoveFailed {G A : Type 0} (of_ledger : ledgers.Ghosts G) (of_files : 
   pub still_live : e ≡ fault.Memory → of_ledger.is_live new
   pub keeps : of_files.tells → AllGrow (of_files.bytes files_old) (of_files.bytes files_new)
   pub archive_rose : RoseBy (of_files.faults files_old) (of_files.faults files_new) 0
-      ⊎ ((e ≡ fault.Memory) × RoseBy (of_files.faults files_old) (of_files.faults files_new) 1)
   pub disk_rose : e ≡ fault.DiskFailed → RoseBy (of_ledger.faults old) (of_ledger.faults new) 1
   pub disk_same : e ≢ fault.DiskFailed → of_ledger.faults new ≡ of_ledger.faults old
 

@@ -1,10 +1,11 @@
-use Rattle.std.proofs.Common.{ap, refl, inl, ◌∙◌, Err}
+use Rattle.std.proofs.Common.{ap, refl, inl, sym, ◌∙◌, Err}
 use Rattle.std.proofs.lemmas.Result.{err_from_is_err_and}
 use Rattle.el_outside.proofs.Devices.{rose_still}
 use Rattle.el_chain.specs.Moves.{max_forward}
 use Rattle.el_chain.specs.Records.{IsNode}
+use Rattle.el_sync.proofs.Apart.{at_apart}
 use Rattle.el_sync.proofs.Led.{memory_of, not_disk, starved_still}
-use Rattle.el_sync.proofs.Tried.{broke, files_rose, made_tries, move_failed, not_failed, not_made}
+use Rattle.el_sync.proofs.Tried.{broke, made_tries, move_failed, not_failed, not_made}
 use Rattle.el_model.proofs.LedgerMoves.{asked_moved, asked_none}
 use Rattle.el_sync.proofs.Lists.{plan_fits, left_linked, all_after}
 use Rattle.el_sync.proofs.making.make_move.Goals as goal
@@ -55,8 +56,7 @@ returns-in_err-text-in-Err-clause-stopped g c = λ chain stands.
     (record {
       still_live = λ memory. (e.unchanged ((c.in_err-text-in-Err.ensures.memory (ap Err memory)).0)).stays.still_live c.requires.live;
       keeps = e.reads.keeps;
-      archive_rose = files_rose c.in-Err.fault c.in_err-text-in-Err.field-0.0 _ _ (λ is. e.reads.counted (ap Err is)) (λ other. e.reads.others_uncounted other)
-          (λ failed. c.in_err-text-in-Err.ensures.failed (ap Err failed));
+      archive_rose = rose_still _ _ (e.reads.others_uncounted c.in_err-text-in-Err.ensures.told_files);
       disk_rose = λ failed. e.cause.counted (ap Err (c.in_err-text-in-Err.ensures.failed (ap Err failed)));
       disk_same = λ other. e.cause.others_uncounted (c.in_err-text-in-Err.ensures.memory (ap Err (not_failed c.in_err-text-in-Err.field-0.0 other))).0;
     })
@@ -69,22 +69,17 @@ returns-in_err-text-in-Err-clause-failed g c =
     (record {
       still_live = λ memory. (e.unchanged ((c.in_err-text-in-Err.ensures.memory (ap Err memory)).0)).stays.still_live c.requires.live;
       keeps = e.reads.keeps;
-      archive_rose = files_rose c.in-Err.fault c.in_err-text-in-Err.field-0.0 _ _ (λ is. e.reads.counted (ap Err is)) (λ other. e.reads.others_uncounted other)
-          (λ failed. c.in_err-text-in-Err.ensures.failed (ap Err failed));
+      archive_rose = rose_still _ _ (e.reads.others_uncounted c.in_err-text-in-Err.ensures.told_files);
       disk_rose = λ failed. e.cause.counted (ap Err (c.in_err-text-in-Err.ensures.failed (ap Err failed)));
       disk_same = λ other. e.cause.others_uncounted (c.in_err-text-in-Err.ensures.memory (ap Err (not_failed c.in_err-text-in-Err.field-0.0 other))).0;
     })
 
-pub returns-in_err-room-clause-stopped : goal.returns-in_err-room-clause-stopped
-returns-in_err-room-clause-stopped g c = λ chain stands.
+pub returns-in_err-forward-clause-stopped : goal.returns-in_err-forward-clause-stopped
+returns-in_err-forward-clause-stopped g c = λ chain stands.
     let p = err_from_is_err_and c.from_residual.result c.from_residual.ensures.1 in
     starved_still g.G.Ledger g.A.Archive c.from_residual.result c.args.ledger.now c.args.ledger.now c.args.archive.now chain _
     (asked_moved g.G.Ledger c.args.ledger.now c.args.ledger.now chain (λ a d f h i j k. g.met.G.Ledger.leaves_own a d f h i j k) c.requires.live (asked_none g.G.Ledger c.args.ledger.now) stands)
     (memory_of c.from_residual.result p.0 p.1 p.2) refl
 
-pub returns-in_err-forward-clause-stopped : goal.returns-in_err-forward-clause-stopped
-returns-in_err-forward-clause-stopped g c = λ chain stands.
-    let p = err_from_is_err_and c.from_residual-in_err-forward.result c.from_residual-in_err-forward.ensures.1 in
-    starved_still g.G.Ledger g.A.Archive c.from_residual-in_err-forward.result c.args.ledger.now c.args.ledger.now c.args.archive.now chain _
-    (asked_moved g.G.Ledger c.args.ledger.now c.args.ledger.now chain (λ a d f h i j k. g.met.G.Ledger.leaves_own a d f h i j k) c.requires.live (asked_none g.G.Ledger c.args.ledger.now) stands)
-    (memory_of c.from_residual-in_err-forward.result p.0 p.1 p.2) refl
+pub returns-in-Ok-clause-made : goal.returns-in-Ok-clause-made
+returns-in-Ok-clause-made g c = λ moved is. at_apart _ _ (sym c.at_answer.ensures ∙ is)

@@ -70,9 +70,9 @@ returns-clause-stopped g c = λ path chain is stands.
 
 pub returns-in_err-back-clause-stopped : goal.returns-in_err-back-clause-stopped
 returns-in_err-back-clause-stopped g c = λ path chain is stands.
-    let p = err_from_is_err_and c.from_residual-in_err-back.result c.from_residual-in_err-back.ensures.1 in
+    let p = err_from_is_err_and c.from_residual.result c.from_residual.ensures.1 in
     let e = c.in_err-back.ensures in
-    asked_stops g.G.Ledger g.A.Archive c.from_residual-in_err-back.result c.in_err-back.field-0.0 c.args.ledger.now c.compare.new.ledger c.args.archive.now chain _ (p.1 ∙ ap Err p.2)
+    asked_stops g.G.Ledger g.A.Archive c.from_residual.result c.in_err-back.field-0.0 c.args.ledger.now c.compare.new.ledger c.args.archive.now chain _ (p.1 ∙ ap Err p.2)
     (asked_moved g.G.Ledger c.args.ledger.now c.compare.new.ledger chain (λ a d f h i j k. g.met.G.Ledger.leaves_own a d f h i j k) c.requires.live e.asked stands)
     (λ is. e.disk_rose.counted (ap Err is)) (λ other. e.disk_rose.others_uncounted other)
 
@@ -82,13 +82,6 @@ returns-in_err-rest-clause-stopped g c = λ path chain is stands.
     starved_still g.G.Ledger g.A.Archive c.from_residual-in_err-rest.result c.args.ledger.now c.compare.new.ledger c.args.archive.now chain _
     (asked_moved g.G.Ledger c.args.ledger.now c.compare.new.ledger chain (λ a d f h i j k. g.met.G.Ledger.leaves_own a d f h i j k) c.requires.live c.in_ok-back.ensures.asked stands)
     (memory_of c.from_residual-in_err-rest.result p.0 p.1 (p.2 ∙ c.in_err-rest.ensures.memory)) c.in_ok-back.ensures.disk_rose.uncounted
-
-pub returns-in_err-room-clause-stopped : goal.returns-in_err-room-clause-stopped
-returns-in_err-room-clause-stopped g c = λ path chain is stands.
-    let p = err_from_is_err_and c.from_residual.result c.from_residual.ensures.1 in
-    starved_still g.G.Ledger g.A.Archive c.from_residual.result c.args.ledger.now c.args.ledger.now c.args.archive.now chain _
-    (asked_moved g.G.Ledger c.args.ledger.now c.args.ledger.now chain (λ a d f h i j k. g.met.G.Ledger.leaves_own a d f h i j k) c.requires.live (asked_none g.G.Ledger c.args.ledger.now) stands)
-    (memory_of c.from_residual.result p.0 p.1 p.2) refl
 
 pub returns-then-back-clause-step : goal.returns-then-back-clause-step
 returns-then-back-clause-step g c =
@@ -103,9 +96,6 @@ returns-then-is_there-clause-step g c =
 
 pub returns-in_err-back-clause-rows : goal.returns-in_err-back-clause-rows
 returns-in_err-back-clause-rows g c = λ path chain is stands none. c.compare.ensures.rows path chain is (c.requires.end path is) stands
-
-pub returns-in_err-room-clause-rows : goal.returns-in_err-room-clause-rows
-returns-in_err-room-clause-rows g c = λ path chain is stands none. omega arith
 
 pub returns-then-back-clause-rows : goal.returns-then-back-clause-rows
 returns-then-back-clause-rows g c = λ path chain is stands none. c.compare.ensures.rows path chain is (c.requires.end path is) stands
@@ -123,3 +113,6 @@ returns-clause-rows g c = λ path chain is stands none.
     let m = path_move chain path c.in_ok-rest.rest c.in_ok-back.field-0.back (plan_of c.in_ok-back.field-0.back c.in_ok-rest.rest) c.if-back.false w.0 rest_is
     (c.is_there.ensures.moves c.if-is_there.false) refl in
     absurd (none m.few m.moving)
+
+pub returns-clause-untouched : goal.returns-clause-untouched
+returns-clause-untouched g c = if_ok_map c.move_once.result _ _ (λ s apart. apart refl) c.move_once.ensures.untouched

@@ -1,9 +1,8 @@
 use Rattle.std.proofs.Common.{refl, sym, ◌∙◌, arith}
-use Rattle.std.proofs.lemmas.Result.{err_from_is_err_and}
 use Rattle.el_lines.specs.Lines.{too_long}
 use Rattle.el_world.specs.Side.{OrdersLine}
 use Rattle.el_model.proofs.LedgerMoves.{asked_moved, asked_none}
-use Rattle.el_sync.proofs.Led.{all_grow_self, answered, memory_of, starved_still}
+use Rattle.el_sync.proofs.Led.{all_grow_self, answered}
 use Rattle.el_sync.proofs.orders.order.Goals as goal
 
 pub returns-in-Line-clause-node : goal.returns-in-Line-clause-node
@@ -12,20 +11,16 @@ returns-in-Line-clause-node g c = rw c.in-Line.is (rw c.as_slice.ensures at c.or
 pub returns-in-Line-clause-stopped : goal.returns-in-Line-clause-stopped
 returns-in-Line-clause-stopped g c = rw c.in-Line.is (rw c.as_slice.ensures at c.order_line.ensures.stopped)
 
-pub returns-in_err-room-in-TooLong-clause-stopped : goal.returns-in_err-room-in-TooLong-clause-stopped
-returns-in_err-room-in-TooLong-clause-stopped g c = λ side start at from.
-    let p = err_from_is_err_and c.from_residual.result c.from_residual.ensures.1 in
-    starved_still g.G.Ledger g.A.Archive c.from_residual.result c.args.ledger.now c.args.ledger.now c.args.archive.now side.chain _
-    (asked_moved g.G.Ledger c.args.ledger.now c.args.ledger.now side.chain (λ a d f h i j k. g.met.G.Ledger.leaves_own a d f h i j k) c.requires.live (asked_none g.G.Ledger c.args.ledger.now) at.stood)
-    (memory_of c.from_residual.result p.0 p.1 p.2) refl
-
-pub returns-in_ok-room-in-TooLong-clause-node : goal.returns-in_ok-room-in-TooLong-clause-node
-returns-in_ok-room-in-TooLong-clause-node g c = rw c.in-TooLong.is (λ side start at from.
+pub returns-in-TooLong-clause-node : goal.returns-in-TooLong-clause-node
+returns-in-TooLong-clause-node g c = rw c.in-TooLong.is (λ side start at from.
     answered g.G.Ledger g.A.Archive c.args.ledger.now c.args.ledger.now c.args.archive.now c.args.archive.now side start c.args.holdings.now.pool (OrdersLine g.A.Archive.tells side too_long) _ _ _ _ _ at from.still
     (c.only_text.ensures.text ∙ c.long_refused.ensures, refl, refl) (sym from.found) c.only_text.ensures.left (λ t. all_grow_self _) (asked_moved g.G.Ledger c.args.ledger.now c.args.ledger.now side.chain (λ a d f h i j k. g.met.G.Ledger.leaves_own a d f h i j k) c.requires.live (asked_none g.G.Ledger c.args.ledger.now) at.stood) refl refl)
 
 pub returns-in-Line-clause-rows : goal.returns-in-Line-clause-rows
 returns-in-Line-clause-rows g c = rw c.in-Line.is (rw c.as_slice.ensures at c.order_line.ensures.rows)
 
-pub returns-in_ok-room-in-TooLong-clause-rows : goal.returns-in_ok-room-in-TooLong-clause-rows
-returns-in_ok-room-in-TooLong-clause-rows g c = rw c.in-TooLong.is (λ side start at from. omega arith)
+pub returns-in-TooLong-clause-rows : goal.returns-in-TooLong-clause-rows
+returns-in-TooLong-clause-rows g c = rw c.in-TooLong.is (λ side start at from. omega arith)
+
+pub returns-in-Line-clause-memory : goal.returns-in-Line-clause-memory
+returns-in-Line-clause-memory g c = rw c.in-Line.is (rw c.as_slice.ensures at c.order_line.ensures.memory)

@@ -1,4 +1,4 @@
-use Rattle.std.proofs.Common.{inl, None, Some, Err, false, refl, sym, ap, ◌∙◌, arith}
+use Rattle.std.proofs.Common.{None, Some, Err, false, refl, sym, ap, ◌∙◌, arith}
 use Rattle.std.proofs.lemmas.Result.{err_from_is_err_and}
 use Rattle.el_lines.specs.Lines.{line}
 use Rattle.el_lines.specs.NodeLines as said
@@ -58,18 +58,12 @@ returns-in_ok-answer-in-Ok-Drop-clause-node g c = λ side start at from.
     c.pool_step-in-Ok-Drop.ensures.text (sym from.found) c.pool_step-in-Ok-Drop.ensures.left c.pool_step-in-Ok-Drop.ensures.changed e.limits
     (asked_moved g.G.Ledger c.args.ledger.now c.args.ledger.now side.chain (λ a d f h i j k. g.met.G.Ledger.leaves_own a d f h i j k) c.requires.live (asked_none g.G.Ledger c.args.ledger.now) at.stood) refl
 
-pub returns-in-Err-Line-clause-node : goal.returns-in-Err-Line-clause-node
-returns-in-Err-Line-clause-node g c = λ side start at from.
-    refused_leads g.G.Ledger g.A.Archive c.refuse_line.result c.args.ledger.now c.args.archive.now side start c.args.holdings.now.pool c.args.text.now None c.args.holdings.now.tree at from.still from.found
-    (rw c.in-Err-Line.field-0-is at c.in-Err-Line.ensures.refused) (λ text is. (is, refl, refl)) c.refuse_line.ensures.text c.refuse_line.ensures.left
-    (asked_moved g.G.Ledger c.args.ledger.now c.args.ledger.now side.chain (λ a d f h i j k. g.met.G.Ledger.leaves_own a d f h i j k) c.requires.live (asked_none g.G.Ledger c.args.ledger.now) at.stood)
-
 pub returns-in_err-text-in-Ok-Block-clause-stopped : goal.returns-in_err-text-in-Ok-Block-clause-stopped
 returns-in_err-text-in-Ok-Block-clause-stopped g c = λ side start at from.
     let p = err_from_is_err_and c.from_residual.result c.from_residual.ensures.1 in
     starved g.G.Ledger g.A.Archive c.from_residual.result c.args.ledger.now c.args.ledger.now c.args.archive.now c.order_block.new.archive side.chain _
     (asked_moved g.G.Ledger c.args.ledger.now c.args.ledger.now side.chain (λ a d f h i j k. g.met.G.Ledger.leaves_own a d f h i j k) c.requires.live (asked_none g.G.Ledger c.args.ledger.now) at.stood)
-    (memory_of c.from_residual.result p.0 p.1 (p.2 ∙ c.in_err-text-in-Ok-Block.ensures.memory)) (inl c.in_err-text-in-Ok-Block.ensures.archive_rose) refl
+    (memory_of c.from_residual.result p.0 p.1 (p.2 ∙ c.in_err-text-in-Ok-Block.ensures.memory)) c.in_err-text-in-Ok-Block.ensures.archive_rose refl
 
 pub returns-in_err-answer-in-Ok-Tx-clause-stopped : goal.returns-in_err-answer-in-Ok-Tx-clause-stopped
 returns-in_err-answer-in-Ok-Tx-clause-stopped g c = λ side start at from.
@@ -85,11 +79,6 @@ returns-in_err-answer-in-Ok-Drop-clause-stopped g c = λ side start at from.
     starved_still g.G.Ledger g.A.Archive c.from_residual-in_err-answer-in-Ok-Drop.result c.args.ledger.now c.args.ledger.now c.args.archive.now side.chain _
     (asked_moved g.G.Ledger c.args.ledger.now c.args.ledger.now side.chain (λ a d f h i j k. g.met.G.Ledger.leaves_own a d f h i j k) c.requires.live (asked_none g.G.Ledger c.args.ledger.now) at.stood)
     (memory_of c.from_residual-in_err-answer-in-Ok-Drop.result p.0 p.1 (p.2 ∙ c.in_err-answer-in-Ok-Drop.ensures.memory)) refl
-
-pub returns-in-Err-Line-clause-stopped : goal.returns-in-Err-Line-clause-stopped
-returns-in-Err-Line-clause-stopped g c = λ side start at from.
-    starved_still g.G.Ledger g.A.Archive c.refuse_line.result c.args.ledger.now c.args.ledger.now c.args.archive.now side.chain _
-    (asked_moved g.G.Ledger c.args.ledger.now c.args.ledger.now side.chain (λ a d f h i j k. g.met.G.Ledger.leaves_own a d f h i j k) c.requires.live (asked_none g.G.Ledger c.args.ledger.now) at.stood) c.refuse_line.ensures.memory refl
 
 pub returns-in-Err-Memory-clause-stopped : goal.returns-in-Err-Memory-clause-stopped
 returns-in-Err-Memory-clause-stopped g c = λ side start at from.
@@ -124,6 +113,32 @@ pub returns-in_ok-answer-in-Ok-Drop-clause-rows : goal.returns-in_ok-answer-in-O
 returns-in_ok-answer-in-Ok-Drop-clause-rows g c = λ side start at from.
     (Some (said.dropped c.in-Ok-Drop.id.0), rw c.in-Ok-Drop.field-0-is at c.in-Ok-Drop.ensures.read, omega arith)
 
+pub returns-in-Err-Line-clause-node : goal.returns-in-Err-Line-clause-node
+returns-in-Err-Line-clause-node g c = λ side start at from.
+    refused_leads g.G.Ledger g.A.Archive c.only_text-in-Err-Line.result c.args.ledger.now c.args.archive.now side start c.args.holdings.now.pool c.args.text.now None c.args.holdings.now.tree at from.still from.found
+    (rw c.in-Err-Line.field-0-is at c.in-Err-Line.ensures.refused) (λ text is. (is, refl, refl)) (c.only_text-in-Err-Line.ensures.text ∙ c.line_refused.ensures) c.only_text-in-Err-Line.ensures.left
+    (asked_moved g.G.Ledger c.args.ledger.now c.args.ledger.now side.chain (λ a d f h i j k. g.met.G.Ledger.leaves_own a d f h i j k) c.requires.live (asked_none g.G.Ledger c.args.ledger.now) at.stood)
+
 pub returns-in-Err-Line-clause-rows : goal.returns-in-Err-Line-clause-rows
-returns-in-Err-Line-clause-rows g c = λ side start at from.
-    if_ok_map c.refuse_line.result _ _ (λ s is. (None, rw c.in-Err-Line.field-0-is at c.in-Err-Line.ensures.refused, omega arith)) c.refuse_line.ensures.text
+returns-in-Err-Line-clause-rows g c = λ side start at from. (None, rw c.in-Err-Line.field-0-is at c.in-Err-Line.ensures.refused, omega arith)
+
+pub returns-in_err-text-in-Ok-Block-clause-memory : goal.returns-in_err-text-in-Ok-Block-clause-memory
+returns-in_err-text-in-Ok-Block-clause-memory g c = λ side start at from is.
+    (Some (said.block c.in-Ok-Block.file c.in-Ok-Block.at), rw c.in-Ok-Block.field-0-is at c.in-Ok-Block.ensures.read, c.in_err-text-in-Ok-Block.ensures.there side from at.told)
+
+pub returns-in-Ok-Tip-clause-memory : goal.returns-in-Ok-Tip-clause-memory
+returns-in-Ok-Tip-clause-memory g c = λ side start at from is.
+    (Some (said.tip c.in-Ok-Tip.h.0), rw c.in-Ok-Tip.field-0-is at c.in-Ok-Tip.ensures.read, c.order_tip.ensures.memory side at.stood from.found is)
+
+pub returns-in_err-answer-in-Ok-Tx-clause-memory : goal.returns-in_err-answer-in-Ok-Tx-clause-memory
+returns-in_err-answer-in-Ok-Tx-clause-memory g c = λ side start at from is.
+    (Some (said.tx c.in-Ok-Tx.bytes), rw c.in-Ok-Tx.field-0-is at c.in-Ok-Tx.ensures.read, tt)
+
+pub returns-in_err-answer-in-Ok-Drop-clause-memory : goal.returns-in_err-answer-in-Ok-Drop-clause-memory
+returns-in_err-answer-in-Ok-Drop-clause-memory g c = λ side start at from is.
+    (Some (said.dropped c.in-Ok-Drop.id.0), rw c.in-Ok-Drop.field-0-is at c.in-Ok-Drop.ensures.read, tt)
+
+-- a transaction, for whose bytes no memory was found
+pub returns-in-Err-Memory-clause-memory : goal.returns-in-Err-Memory-clause-memory
+returns-in-Err-Memory-clause-memory g c = λ side start at from is.
+    let reads = rw c.in-Err-Memory.field-0-is at c.in-Err-Memory.ensures.refused in (Some (said.tx reads.0), reads.1, tt)

@@ -30,32 +30,18 @@ returns-in-Ok-clause-stopped g c = λ side start at found.
     stops_as g.G.Ledger g.A.Archive _ _ _ _ side.chain false _ _ e (λ p first. record { path = path; is_path = rw found is; move_is = first }) f)
     (c.move_along.ensures.stopped path side.chain (rw c.in-Ok.ensures.hash is) at.stood)
 
-pub returns-in_ok-room-in-Err-Unknown-clause-tip : goal.returns-in_ok-room-in-Err-Unknown-clause-tip
-returns-in_ok-room-in-Err-Unknown-clause-tip g c = λ side start at found still.
+pub returns-in-Err-Unknown-clause-tip : goal.returns-in-Err-Unknown-clause-tip
+returns-in-Err-Unknown-clause-tip g c = λ side start at found still.
     answered g.G.Ledger g.A.Archive c.args.ledger.now c.args.ledger.now c.args.archive.now c.args.archive.now side start c.args.pool.now (Tips g.A.Archive.tells side c.args.h) _ _ _ _ _ at still
     (unknown (rw found (rw c.in-Err-Unknown.field-0-is at c.in-Err-Unknown.ensures.fault)) (c.only_text.ensures.text ∙ c.unknown_refused.ensures) refl refl) refl
     c.only_text.ensures.left (λ t. all_grow_self _) (asked_moved g.G.Ledger c.args.ledger.now c.args.ledger.now side.chain (λ a d f h i j k. g.met.G.Ledger.leaves_own a d f h i j k) c.requires.live (asked_none g.G.Ledger c.args.ledger.now) at.stood) refl refl
 
-pub returns-in_ok-room-in-Err-Unconnected-clause-tip : goal.returns-in_ok-room-in-Err-Unconnected-clause-tip
-returns-in_ok-room-in-Err-Unconnected-clause-tip g c = λ side start at found still.
+pub returns-in-Err-Unconnected-clause-tip : goal.returns-in-Err-Unconnected-clause-tip
+returns-in-Err-Unconnected-clause-tip g c = λ side start at found still.
     let why = rw c.in-Err-Unconnected.field-0-is at c.in-Err-Unconnected.ensures.fault in
     answered g.G.Ledger g.A.Archive c.args.ledger.now c.args.ledger.now c.args.archive.now c.args.archive.now side start c.args.pool.now (Tips g.A.Archive.tells side c.args.h) _ _ _ _ _ at still
     (unconnected (rw found why.0) (rw found why.1) (c.only_text-in-Err-Unconnected.ensures.text ∙ c.unconnected_refused.ensures) refl refl) refl
     c.only_text-in-Err-Unconnected.ensures.left (λ t. all_grow_self _) (asked_moved g.G.Ledger c.args.ledger.now c.args.ledger.now side.chain (λ a d f h i j k. g.met.G.Ledger.leaves_own a d f h i j k) c.requires.live (asked_none g.G.Ledger c.args.ledger.now) at.stood) refl refl
-
-pub returns-in_err-room-in-Err-Unknown-clause-stopped : goal.returns-in_err-room-in-Err-Unknown-clause-stopped
-returns-in_err-room-in-Err-Unknown-clause-stopped g c = λ side start at found.
-    let p = err_from_is_err_and c.from_residual.result c.from_residual.ensures.1 in
-    starved_still g.G.Ledger g.A.Archive c.from_residual.result c.args.ledger.now c.args.ledger.now c.args.archive.now side.chain _
-    (asked_moved g.G.Ledger c.args.ledger.now c.args.ledger.now side.chain (λ a d f h i j k. g.met.G.Ledger.leaves_own a d f h i j k) c.requires.live (asked_none g.G.Ledger c.args.ledger.now) at.stood)
-    (memory_of c.from_residual.result p.0 p.1 p.2) refl
-
-pub returns-in_err-room-in-Err-Unconnected-clause-stopped : goal.returns-in_err-room-in-Err-Unconnected-clause-stopped
-returns-in_err-room-in-Err-Unconnected-clause-stopped g c = λ side start at found.
-    let p = err_from_is_err_and c.from_residual-in_err-room-in-Err-Unconnected.result c.from_residual-in_err-room-in-Err-Unconnected.ensures.1 in
-    starved_still g.G.Ledger g.A.Archive c.from_residual-in_err-room-in-Err-Unconnected.result c.args.ledger.now c.args.ledger.now c.args.archive.now side.chain _
-    (asked_moved g.G.Ledger c.args.ledger.now c.args.ledger.now side.chain (λ a d f h i j k. g.met.G.Ledger.leaves_own a d f h i j k) c.requires.live (asked_none g.G.Ledger c.args.ledger.now) at.stood)
-    (memory_of c.from_residual-in_err-room-in-Err-Unconnected.result p.0 p.1 p.2) refl
 
 pub returns-in-Err-Memory-clause-stopped : goal.returns-in-Err-Memory-clause-stopped
 returns-in-Err-Memory-clause-stopped g c = λ side start at found.
@@ -63,12 +49,12 @@ returns-in-Err-Memory-clause-stopped g c = λ side start at found.
     (asked_moved g.G.Ledger c.args.ledger.now c.args.ledger.now side.chain (λ a d f h i j k. g.met.G.Ledger.leaves_own a d f h i j k) c.requires.live (asked_none g.G.Ledger c.args.ledger.now) at.stood)
     refl refl
 
-pub returns-in_ok-room-in-Err-Unknown-clause-step : goal.returns-in_ok-room-in-Err-Unknown-clause-step
-returns-in_ok-room-in-Err-Unknown-clause-step g c =
+pub returns-in-Err-Unknown-clause-step : goal.returns-in-Err-Unknown-clause-step
+returns-in-Err-Unknown-clause-step g c =
     step_asked g.G.Ledger g.A.Archive c.only_text.result c.args.ledger.now c.args.ledger.now c.args.archive.now c.requires.live (asked_none g.G.Ledger c.args.ledger.now) c.only_text.ensures.left refl
 
-pub returns-in_ok-room-in-Err-Unconnected-clause-step : goal.returns-in_ok-room-in-Err-Unconnected-clause-step
-returns-in_ok-room-in-Err-Unconnected-clause-step g c =
+pub returns-in-Err-Unconnected-clause-step : goal.returns-in-Err-Unconnected-clause-step
+returns-in-Err-Unconnected-clause-step g c =
     step_asked g.G.Ledger g.A.Archive c.only_text-in-Err-Unconnected.result c.args.ledger.now c.args.ledger.now c.args.archive.now c.requires.live (asked_none g.G.Ledger c.args.ledger.now)
     c.only_text-in-Err-Unconnected.ensures.left refl
 
@@ -78,17 +64,11 @@ returns-in-Ok-clause-rows g c = λ side stands found. record {
   no_move = λ path is still. c.move_along.ensures.rows path side.chain (rw c.in-Ok.ensures.hash (rw found at is)) stands still;
 }
 
-pub returns-in_ok-room-in-Err-Unknown-clause-rows : goal.returns-in_ok-room-in-Err-Unknown-clause-rows
-returns-in_ok-room-in-Err-Unknown-clause-rows g c = λ side stands found. unread_tip side c.args.h _
+pub returns-in-Err-Unknown-clause-rows : goal.returns-in-Err-Unknown-clause-rows
+returns-in-Err-Unknown-clause-rows g c = λ side stands found. unread_tip side c.args.h _
 
-pub returns-in_err-room-in-Err-Unknown-clause-rows : goal.returns-in_err-room-in-Err-Unknown-clause-rows
-returns-in_err-room-in-Err-Unknown-clause-rows g c = λ side stands found. unread_tip side c.args.h _
-
-pub returns-in_ok-room-in-Err-Unconnected-clause-rows : goal.returns-in_ok-room-in-Err-Unconnected-clause-rows
-returns-in_ok-room-in-Err-Unconnected-clause-rows g c = λ side stands found. unread_tip side c.args.h _
-
-pub returns-in_err-room-in-Err-Unconnected-clause-rows : goal.returns-in_err-room-in-Err-Unconnected-clause-rows
-returns-in_err-room-in-Err-Unconnected-clause-rows g c = λ side stands found. unread_tip side c.args.h _
+pub returns-in-Err-Unconnected-clause-rows : goal.returns-in-Err-Unconnected-clause-rows
+returns-in-Err-Unconnected-clause-rows g c = λ side stands found. unread_tip side c.args.h _
 
 pub returns-in-Err-Memory-clause-rows : goal.returns-in-Err-Memory-clause-rows
 returns-in-Err-Memory-clause-rows g c = λ side stands found. unread_tip side c.args.h _

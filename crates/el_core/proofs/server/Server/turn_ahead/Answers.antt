@@ -16,7 +16,7 @@ returns-in-Ok-touch-clause-moving g c = rw (← c.self.view_is) (λ side start h
       c.move_next.new.holdings.tree c.in-Ok-move_next.step.left c.in-Ok-move_next.step.moved c.in-Ok-move_next.step.changed c.move_next.new.holdings.pool
       (found ∙ sym (ap (λ (h : Holdings). h.tree) c.in-Ok-move_next.ensures.same))
       (rw c.replace-rest.ensures.value at (c.in-Ok-move_next.ensures.moving side start here));
-  covers = c.in-Ok-touch.ensures;
+  covers = c.in-Ok-touch.ensures.covers;
 })
 
 pub returns-in-Ok-touch-clause-sends : goal.returns-in-Ok-touch-clause-sends
