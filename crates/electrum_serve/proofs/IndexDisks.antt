@@ -1,5 +1,5 @@
 -- What an opening of the index leaves of the disk.
-use Rattle.std.proofs.Common.{◌≡◌, ◌≢◌, ◌⊎◌, inl, inr, refl, ℕ, ◌≤◌, List}
+use Rattle.std.proofs.Common.{◌≡◌, ◌≢◌, ◌⊎◌, inl, inr, refl, ℕ, ◌≤◌, List, arith}
 use Rattle.el_outside.specs.declared.disk.Disk as disk
 use Rattle.el_outside.specs.Disk.{Image}
 use Rattle.el_chain.specs.Chains.{Chain}
@@ -12,7 +12,7 @@ use Rattle.el_logstore.specs.Images.{Shows}
 use Rattle.el_redo.specs.declared.faults.OpenFault.{OpenFault}
 use Rattle.el_redo.specs.declared.faults.OpenFault.TheVariants as fault
 use Rattle.el_journal.specs.declared.mark.TheConstants.{JOURNAL}
-use Rattle.electrum_serve.specs.IndexDisks.{ImageMeans, LeavesAsBefore}
+use Rattle.electrum_serve.specs.IndexDisks.{ImageMeans, LeavesOneOf, IsAsBefore}
 use Rattle.electrum_serve.specs.declared.status.Status.{Status}
 use Rattle.electrum_serve.specs.declared.status.Status.TheVariants as status
 use Rattle.electrum_serve.specs.within.Unread.{open_status}
@@ -24,10 +24,29 @@ pub means_rows : (magic : List ℕ) (image : Image) (chain : Chain) (rows : Tabl
 means_rows magic image chain rows one means other shows =
     (rows, shows, same_stand means.0 rows chain means.2 (one means.0 means.1))
 
+-- a disk that is not called
+pub unchanged : {D : Type 0} (G : disk.Ghosts D) (d : D) → IsAsBefore G d d
+unchanged G d = record {
+  others = λ f other. refl;
+  crash = record {
+    later = omega arith;
+    each = λ c left. (
+      c,
+      left,
+      record {
+        here = record { entries = λ entries has. has; bad = λ place is. is };
+        others = λ f other. refl;
+      },
+    );
+    before = λ t c le left. inl left;
+  };
+}
+
 -- an opening that is stopped leaves what was left before, as an index of any network
 pub keeps_as : {D : Type 0} (G : disk.Ghosts D) (old new : D)
     → ((t u : ℕ) (c : Image) → t ≤ u → G.left_since new u c → G.left_since new t c)
-    → OnlyJournal G SameJournal old new → LeavesAsBefore G old new
+    → OnlyJournal G SameJournal old new → (magic : List ℕ) (a b : Chain) → LeavesOneOf G magic old a b
+    → LeavesOneOf G magic new a b
 keeps_as G old new earlier only magic was flight left image now =
     let over = only.crash in
     let b = over.each image (earlier (G.moment old) (G.moment new) image over.later now) in

@@ -1,6 +1,7 @@
 -- Lives follow each other.
 use Rattle.std.proofs.Common.{Bool, true, ◌≡◌, ◌⊎◌, inl, inr, ℕ, List, [], ◌∷◌, length, refl, arith}
 use Rattle.std.specs.List.{AllByRecursion}
+use Rattle.el_outside.specs.Trace.{Trace}
 use Rattle.el_outside.specs.declared.archive.Archive as archive
 use Rattle.el_outside.specs.declared.disk.Disk as disk
 use Rattle.el_outside.specs.declared.link.Link as link
@@ -27,7 +28,7 @@ use Rattle.electrum_serve.specs.Ends.{serve, IndexEnds, UnopenedEnds, ServeEnds,
 use Rattle.electrum_serve.specs.Lives.{IsLeftBy, AreLives, GoOn, none, one}
 use Rattle.electrum_serve.specs.within.Lived.{Lived}
 use Rattle.el_loop.specs.Counts.{Counts}
-use Rattle.el_loop.specs.Runs.{Traffic, RunEnds, IsRun, IsHalted}
+use Rattle.el_loop.specs.Runs.{RunEnds, IsRun, IsHalted}
 use Rattle.el_loop.specs.declared.end.End.{End}
 use Rattle.el_loop.specs.declared.end.End.TheVariants as end
 use Rattle.electrum_serve.specs.declared.status.Status.{Status}
@@ -49,7 +50,7 @@ module _ (P : Chain → Chain → Type 0) where
   both : (a b : Chain) → these a b a b
   both a b = (refl, refl)
 
-  run_pinned : (tells : Type 0) (first : World) (node : Bool) (files : ℕ → List ℕ) (c : Counts) (t : Traffic)
+  run_pinned : (tells : Type 0) (first : World) (node : Bool) (files : ℕ → List ℕ) (c : Counts) (t : Trace)
       (failed : List Device) → IsRun tells first node P files c t failed
       → Pinned P (λ Q. IsRun tells first node Q files c t failed)
   run_pinned tells first node files c t failed r = record {
@@ -67,7 +68,7 @@ module _ (P : Chain → Chain → Type 0) where
     };
   }
 
-  halt_pinned : (tells : Type 0) (first : World) (node : Bool) (files : ℕ → List ℕ) (c : Counts) (t : Traffic)
+  halt_pinned : (tells : Type 0) (first : World) (node : Bool) (files : ℕ → List ℕ) (c : Counts) (t : Trace)
       (stop : Stop) → IsHalted tells first node P files c t stop
       → Pinned P (λ Q. IsHalted tells first node Q files c t stop)
   halt_pinned tells first node files c t stop h = record {
@@ -92,7 +93,7 @@ module _ (P : Chain → Chain → Type 0) where
       let ends = more (these k.acked k.flight) k.ends in
       record { acked = k.acked; flight = k.flight; leaves = k.leaves; ends = ends }
 
-  ends_pinned : (tells : Type 0) (first : World) (node : Bool) (files : ℕ → List ℕ) (c : Counts) (t : Traffic)
+  ends_pinned : (tells : Type 0) (first : World) (node : Bool) (files : ℕ → List ℕ) (c : Counts) (t : Trace)
       (e : End) → RunEnds tells first node P files c t e
       → Pinned P (λ Q. RunEnds tells first node Q files c t e)
   ends_pinned tells first node files c t end.Ended r =
@@ -107,7 +108,7 @@ module _ (P : Chain → Chain → Type 0) where
       with_more (λ X k. (k, r.1, r.2)) (run_pinned tells first node files c t _ r.0)
 
   module _ {A : Type 0} (tells : Type 0) (bytes : A → ℕ → List ℕ) (file_count : A → ℕ) (magic : List ℕ)
-      (limits : PoolLimits) (chain : Chain) (c : Counts) (before after : A) (t : Traffic) where
+      (limits : PoolLimits) (chain : Chain) (c : Counts) (before after : A) (t : Trace) where
     served_pinned : (e : End) → IsServed tells bytes file_count magic limits chain P c before after t e
         → Pinned P (λ Q. IsServed tells bytes file_count magic limits chain Q c before after t e)
     served_pinned e r = with_more (λ X k. record {
@@ -229,14 +230,14 @@ module _ {D A K : Type 0} (of_disk : disk.Ghosts D) (of_files : archive.Ghosts A
 
   -- one life, and those after it
   pub lived_more : (d : D) (was flight : Chain) (l : Call D A K) (files files_after : List A)
-      (links links_after : List K) (ends : List Status) (f : Found l was flight)
+      (links links_after : List K) (ends : List Status) (left : D) (f : Found l was flight)
       → IsLeftBy of_disk d l.before.disk
       → Lived of_disk of_files of_link l.after.disk f.end.acked f.end.in_flight l.words l.turns files
-      files_after links links_after ends
+      files_after links links_after ends left
       → Lived of_disk of_files of_link d was flight l.words l.turns (l.before.files ∷ files)
       (l.after.files ∷ files_after)
-      (l.before.link ∷ links) (l.after.link ∷ links_after) (l.status ∷ ends)
-  lived_more d was flight l files files_after links links_after ends f is then = record {
+      (l.before.link ∷ links) (l.after.link ∷ links_after) (l.status ∷ ends) left
+  lived_more d was flight l files files_after links links_after ends left f is then = record {
     lives = l ∷ then.lives;
     over = (
       record {
@@ -251,6 +252,7 @@ module _ {D A K : Type 0} (of_disk : disk.Ghosts D) (of_files : archive.Ghosts A
       then.over,
     );
     are = (is, then.are);
+    last = then.last;
     go_on = one_more was flight f.chain l then.lives f.from f.end then.go_on;
   }
 
@@ -260,9 +262,9 @@ pub lived_none : {D A K : Type 0} (of_disk : disk.Ghosts D) (of_files : archive.
     (files : List A)
     (links : List K) (ends : List Status) → length files ≡ 0 → length links ≡ length files
     → length ends ≡ length files
-    → Lived of_disk of_files of_link d was flight words turns files files links links ends
+    → Lived of_disk of_files of_link d was flight words turns files files links links ends d
 lived_none of_disk of_files of_link d was flight words turns [] [] [] e0 e1 e2 =
-    record { lives = []; over = tt; are = tt; go_on = none was flight }
+    record { lives = []; over = tt; are = tt; last = refl; go_on = none was flight }
 lived_none of_disk of_files of_link d was flight words turns [] [] (e ∷ es) e0 e1 e2 = absurd (omega arith)
 lived_none of_disk of_files of_link d was flight words turns [] (k ∷ ks) ends e0 e1 e2 = absurd (omega arith)
 lived_none of_disk of_files of_link d was flight words turns (a ∷ more) links ends e0 e1 e2 = absurd

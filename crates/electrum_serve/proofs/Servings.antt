@@ -1,6 +1,7 @@
 -- How a call of `serve` ends.
 use Rattle.std.proofs.Common.{◌≡◌, ◌≢◌, inl, inr, ℕ, List, [], ◌∷◌, ◌++◌, ◌∙◌, refl, sym, ap, Bool, true, arith}
 use Rattle.std.specs.Prelude.{◌⊎◌, Err}
+use Rattle.el_outside.specs.Trace.{Trace}
 use Rattle.el_outside.specs.Counts.{RoseBy, OnlyReads, CountsOnly}
 use Rattle.el_outside.proofs.Traces.{rose_none}
 use Rattle.el_chain.specs.declared.node.Node.{Node}
@@ -14,7 +15,7 @@ use Rattle.electrum_serve.specs.Opened.{IsScanned, nodes_of_chain}
 use Rattle.electrum_serve.specs.OtherChain.{is_other_chain}
 use Rattle.el_outside.specs.Devices.{Faults, Rose, faults}
 use Rattle.el_loop.specs.Counts.{Counts, counts}
-use Rattle.el_loop.specs.Runs.{IsCounted, Traffic, no_traffic, RunEnds, IsRun, IsHalted}
+use Rattle.el_loop.specs.Runs.{IsCounted, no_traffic, RunEnds, IsRun, IsHalted}
 use Rattle.electrum_serve.specs.Ends.{Ends, usage, serve, once, IndexEnds, IsSilent, ServeEnds, UnopenedEnds, OnceEnds, IsServed, IsServedOnce, IsBadFile}
 use Rattle.electrum_serve.specs.Statuses.{status_of_end}
 use Rattle.electrum_serve.specs.within.Unread.{unread_status, start_status}
@@ -78,7 +79,7 @@ same_networks x y = one_network x y.is_serve ∙ sym y.magic_is
 -- a call with the words of `serve` ends as such
 pub only_served : {A : Type 0} {tells : Type 0} {bytes : A → ℕ → List ℕ} {file_count : A → ℕ}
     {words : List (List ℕ)} {was flight chain : Chain} {leaves : List ℕ → Chain → Chain → Type 0} {c : Counts}
-    {before after : A} {t : Traffic} {s : Status} {magic : List ℕ} (asked : IsServe words magic)
+    {before after : A} {t : Trace} {s : Status} {magic : List ℕ} (asked : IsServe words magic)
     → Ends tells bytes file_count words was flight chain leaves c before after t s
     → IndexEnds tells bytes file_count magic asked.limits was flight chain (leaves magic) c before after t s
 only_served is (usage none spent silent) =
@@ -94,12 +95,12 @@ module _ (c : Counts) (of_before of_after : Faults) (rises : (losses : List Devi
   abbrev pub told : Counts
   told = record c { faults_before = of_before; faults_after = of_after }
 
-  counted_told : (t : Traffic) (losses failed : List Device) → IsCounted c t losses failed
+  counted_told : (t : Trace) (losses failed : List Device) → IsCounted c t losses failed
       → IsCounted told t losses failed
   counted_told t losses failed k =
       record { calls = k.calls; turns = k.turns; rose = rises (losses ++ failed) k.rose }
 
-  run_told : (tells : Type 0) (first : World) (node : Bool) (files : ℕ → List ℕ) (t : Traffic)
+  run_told : (tells : Type 0) (first : World) (node : Bool) (files : ℕ → List ℕ) (t : Trace)
       (failed : List Device) → IsRun tells first node P files c t failed
       → IsRun tells first node Q files told t failed
   run_told tells first node files t failed r = record {
@@ -112,7 +113,7 @@ module _ (c : Counts) (of_before of_after : Faults) (rises : (losses : List Devi
     crash = gives r.world.side.chain r.world.side.chain r.crash;
   }
 
-  halt_told : (tells : Type 0) (first : World) (node : Bool) (files : ℕ → List ℕ) (t : Traffic) (stop : Stop)
+  halt_told : (tells : Type 0) (first : World) (node : Bool) (files : ℕ → List ℕ) (t : Trace) (stop : Stop)
       → IsHalted tells first node P files c t stop → IsHalted tells first node Q files told t stop
   halt_told tells first node files t stop h = record {
     losses = h.losses;
@@ -125,7 +126,7 @@ module _ (c : Counts) (of_before of_after : Faults) (rises : (losses : List Devi
     crash = gives _ h.flight h.crash;
   }
 
-  pub ends_told : (tells : Type 0) (first : World) (node : Bool) (files : ℕ → List ℕ) (t : Traffic)
+  pub ends_told : (tells : Type 0) (first : World) (node : Bool) (files : ℕ → List ℕ) (t : Trace)
       (e : End) → RunEnds tells first node P files c t e → RunEnds tells first node Q files told t e
   ends_told tells first node files t end.Ended r = (run_told tells first node files t _ r.0, r.1)
   ends_told tells first node files t end.DiskFailed r = halt_told tells first node files t _ r
@@ -137,12 +138,12 @@ module _ (c : Counts) (of_before of_after : Faults) (rises : (losses : List Devi
   ends_told tells first node files t end.OutOfMemory r = halt_told tells first node files t _ r
   ends_told tells first node files t end.TurnsSpent r = (run_told tells first node files t _ r.0, r.1, r.2)
 
-  silent_told : (t : Traffic) (losses : List Device) → IsSilent c t losses → IsSilent told t losses
+  silent_told : (t : Trace) (losses : List Device) → IsSilent c t losses → IsSilent told t losses
   silent_told t losses k =
       record { traffic = k.traffic; calls = k.calls; rose = rises losses k.rose }
 
   served_told : {A : Type 0} (tells : Type 0) (bytes : A → ℕ → List ℕ) (file_count : A → ℕ) (magic : List ℕ)
-      (limits : PoolLimits) (chain : Chain) (before after : A) (t : Traffic) (e : End)
+      (limits : PoolLimits) (chain : Chain) (before after : A) (t : Trace) (e : End)
       → IsServed tells bytes file_count magic limits chain P c before after t e
       → IsServed tells bytes file_count magic limits chain Q told before after t e
   served_told tells bytes file_count magic limits chain before after t e r = record {
@@ -155,7 +156,7 @@ module _ (c : Counts) (of_before of_after : Faults) (rises : (losses : List Devi
   }
 
   pub serve_told : {A : Type 0} (tells : Type 0) (bytes : A → ℕ → List ℕ) (file_count : A → ℕ)
-      (magic : List ℕ) (limits : PoolLimits) (chain : Chain) (before after : A) (t : Traffic) (s : Status)
+      (magic : List ℕ) (limits : PoolLimits) (chain : Chain) (before after : A) (t : Trace) (s : Status)
       → ServeEnds tells bytes file_count magic limits chain P c before after t s
       → ServeEnds tells bytes file_count magic limits chain Q told before after t s
   serve_told tells bytes file_count magic limits chain before after t status.Ended r =
@@ -196,7 +197,7 @@ with_disk of_link of_archive link_now archive_now of_disk losses rose disk =
 pub served_ends : {A : Type 0} (tells : Type 0) (bytes : A → ℕ → List ℕ) (file_count : A → ℕ)
     (magic : List ℕ) (limits : PoolLimits) (chain : Chain) (leaves : Chain → Chain → Type 0) (c : Counts)
     (before after : A)
-    (t : Traffic) (e : End) → IsServed tells bytes file_count magic limits chain leaves c before after t e
+    (t : Trace) (e : End) → IsServed tells bytes file_count magic limits chain leaves c before after t e
     → ServeEnds tells bytes file_count magic limits chain leaves c before after t (status_of_end e)
 served_ends tells bytes file_count magic limits chain leaves c before after t end.Ended served = served
 served_ends tells bytes file_count magic limits chain leaves c before after t end.DiskFailed served = inr served
@@ -294,7 +295,7 @@ unopened_ends was flight leaves turns calls of_link of_archive low high s good i
 
 -- clients were served without a node
 pub served_once : (tells : Type 0) (magic : List ℕ) (c : Counts) (before after : ℕ → List ℕ)
-    (t : Traffic) (e : End) → e ≢ end.DiskFailed → IsServedOnce tells magic c before after t e
+    (t : Trace) (e : End) → e ≢ end.DiskFailed → IsServedOnce tells magic c before after t e
     → OnceEnds tells magic c before after t (status_of_end e)
 served_once tells magic c before after t end.Ended safe served = served
 served_once tells magic c before after t end.DiskFailed safe served = absurd (safe refl)

@@ -3,11 +3,11 @@ use Rattle.std.specs.Prelude.{ℕ, List}
 use Rattle.el_outside.specs.declared.archive.Archive as archive
 use Rattle.el_outside.specs.declared.disk.Disk as disk
 use Rattle.el_outside.specs.declared.link.Link as link
-use Rattle.el_outside.specs.Trace.{GoesOn}
+use Rattle.el_outside.specs.Trace.{Trace}
 use Rattle.el_chain.specs.Chains.{Chain}
 use Rattle.electrum_serve.specs.Ends.{Ends}
 use Rattle.el_loop.specs.Counts.{Devices, counts_of}
-use Rattle.el_loop.specs.Runs.{Traffic}
+use Rattle.el_loop.specs.Runs.{WentBy}
 use Rattle.electrum_serve.specs.declared.status.Status.{Status}
 
 -- A call: its words, how many calls of `next` it may make, its devices before it and after it, and its end.
@@ -27,9 +27,8 @@ call words turns before after status =
 -- of the disk in the end stands for the one or for the other.
 abbrev pub CallEnds : {D A K : Type 0} → disk.Ghosts D → archive.Ghosts A → link.Ghosts K → Call D A K
     → Chain → Chain → Chain → (List ℕ → Chain → Chain → Type 0) → Type 0
-CallEnds of_disk of_files of_link c was flight chain leaves = (t : Traffic)
-    × (of_link.tells → GoesOn (of_link.trace c.before.link) (of_link.trace c.after.link) t.arrivals t.messages
-    t.closings)
+CallEnds of_disk of_files of_link c was flight chain leaves = (t : Trace)
+    × WentBy of_link c.before.link c.after.link t
     × Ends of_files.tells of_files.bytes of_files.file_count c.words was flight chain leaves
     (counts_of of_disk.faults of_files of_link c.turns c.before c.after) c.before.files c.after.files t
     c.status

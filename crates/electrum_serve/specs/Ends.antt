@@ -1,5 +1,6 @@
 -- How a call of `serve` ends.
 use Rattle.std.specs.Prelude.{◌≡◌, ◌⊎◌, ℕ, List, [], ◌∷◌, true, false}
+use Rattle.el_outside.specs.Trace.{Trace}
 use Rattle.el_outside.specs.Files.{AllGrow, IsFile}
 use Rattle.el_chain.specs.declared.node.Node.{Node}
 use Rattle.el_chain.specs.Chains.{Chain}
@@ -13,14 +14,14 @@ use Rattle.electrum_serve.specs.Opened.{all_added, nodes_of_chain, IsScanned, Is
 use Rattle.electrum_serve.specs.OtherChain.{is_other_chain}
 use Rattle.el_outside.specs.Devices.{Rose}
 use Rattle.el_loop.specs.Counts.{Counts}
-use Rattle.el_loop.specs.Runs.{Traffic, no_traffic, RunEnds}
+use Rattle.el_loop.specs.Runs.{no_traffic, RunEnds}
 use Rattle.el_loop.specs.declared.end.End.{End}
 use Rattle.el_loop.specs.declared.end.End.TheVariants as end
 use Rattle.electrum_serve.specs.declared.status.Status.{Status}
 use Rattle.electrum_serve.specs.declared.status.Status.TheVariants as status
 
 -- the link was not called, and these calls failed
-pub record IsSilent (c : Counts) (t : Traffic) (losses : List Device) : Type 0 where
+pub record IsSilent (c : Counts) (t : Trace) (losses : List Device) : Type 0 where
   pub traffic : t ≡ no_traffic
   pub calls : c.calls_after ≡ c.calls_before
   pub rose : Rose c.faults_before c.faults_after losses
@@ -30,7 +31,7 @@ pub record IsSilent (c : Counts) (t : Traffic) (losses : List Device) : Type 0 w
 -- limits. `before` and `after` are the archive before the call and after it.
 pub record IsServed {A : Type 0} (tells : Type 0) (bytes : A → ℕ → List ℕ) (file_count : A → ℕ)
     (magic : List ℕ) (limits : PoolLimits) (chain : Chain) (leaves : Chain → Chain → Type 0) (c : Counts)
-    (before after : A) (t : Traffic) (e : End) : Type 0 where
+    (before after : A) (t : Trace) (e : End) : Type 0 where
   pub now : A
   pub nodes : List Node
   pub scanned : IsScanned tells bytes file_count magic before now nodes
@@ -50,7 +51,7 @@ pub record IsOtherChain {A : Type 0} (tells : Type 0) (bytes : A → ℕ → Lis
 -- How a call with the words of `serve` ends, once the index is open and has this chain. `leaves` says of two
 -- chains that all that a crash may leave in the end stands for the one or for the other.
 abbrev pub ServeEnds : {A : Type 0} → Type 0 → (A → ℕ → List ℕ) → (A → ℕ) → List ℕ → PoolLimits → Chain
-    → (Chain → Chain → Type 0) → Counts → A → A → Traffic → Status → Type 0
+    → (Chain → Chain → Type 0) → Counts → A → A → Trace → Status → Type 0
 ServeEnds tells bytes file_count magic limits chain leaves c before after t status.Ended =
     IsServed tells bytes file_count magic limits chain leaves c before after t end.Ended
 ServeEnds tells bytes file_count magic limits chain leaves c before after t status.LinkFailed =
@@ -74,7 +75,7 @@ ServeEnds tells bytes file_count magic limits chain leaves c before after t othe
 
 -- How a call with the words of `serve` ends where the index isn't opened. A crash leaves then what it left
 -- before: the chain that was acknowledged or the one that was in flight.
-abbrev pub UnopenedEnds : Chain → Chain → (Chain → Chain → Type 0) → Counts → Traffic → Status → Type 0
+abbrev pub UnopenedEnds : Chain → Chain → (Chain → Chain → Type 0) → Counts → Trace → Status → Type 0
 -- a call of the index's device failed
 UnopenedEnds was flight leaves c t status.DiskFailed = IsSilent c t (disk ∷ []) × leaves was flight
 UnopenedEnds was flight leaves c t status.OutOfMemory = IsSilent c t [] × leaves was flight
@@ -83,7 +84,7 @@ UnopenedEnds was flight leaves c t other = ⊥
 -- How a call with the words of `serve` ends, for a disk that reads as an index of `chain`: the index is not
 -- opened, or it is, and has this chain.
 abbrev pub IndexEnds : {A : Type 0} → Type 0 → (A → ℕ → List ℕ) → (A → ℕ) → List ℕ → PoolLimits → Chain
-    → Chain → Chain → (Chain → Chain → Type 0) → Counts → A → A → Traffic → Status → Type 0
+    → Chain → Chain → (Chain → Chain → Type 0) → Counts → A → A → Trace → Status → Type 0
 IndexEnds tells bytes file_count magic limits was flight chain leaves c before after t s =
     UnopenedEnds was flight leaves c t s
     ⊎ ServeEnds tells bytes file_count magic limits chain leaves c before after t s
@@ -105,7 +106,7 @@ IsUnopened other = ⊥
 -- Clients were served without a node, from the chain that file 0 gives, with its headers. Nothing unconfirmed
 -- comes, so that no limit is met. No crash is spoken of.
 pub record IsServedOnce (tells : Type 0) (magic : List ℕ) (c : Counts) (before after : ℕ → List ℕ)
-    (t : Traffic) (e : End) : Type 0 where
+    (t : Trace) (e : End) : Type 0 where
   pub now : ℕ → List ℕ
   pub nodes : List Node
   pub chain : Chain
@@ -120,7 +121,7 @@ IsBadFile tells magic before after =
     tells → (file : List ℕ) × IsFile (before 0) file (after 0) × GivesNoChain magic file
 
 -- How a call with the words of `once` ends.
-abbrev pub OnceEnds : Type 0 → List ℕ → Counts → (ℕ → List ℕ) → (ℕ → List ℕ) → Traffic → Status → Type 0
+abbrev pub OnceEnds : Type 0 → List ℕ → Counts → (ℕ → List ℕ) → (ℕ → List ℕ) → Trace → Status → Type 0
 OnceEnds tells magic c before after t status.Ended = IsServedOnce tells magic c before after t end.Ended
 OnceEnds tells magic c before after t status.LinkFailed =
     IsServedOnce tells magic c before after t end.LinkFailed
@@ -150,7 +151,7 @@ IsUnserved other = ⊥
 -- the other, as an index of that network.
 pub data Ends {A : Type 0} (tells : Type 0) (bytes : A → ℕ → List ℕ) (file_count : A → ℕ)
     (words : List (List ℕ)) (was flight chain : Chain) (leaves : List ℕ → Chain → Chain → Type 0) (c : Counts)
-    (before after : A) (t : Traffic) (s : Status) : Type 0 where
+    (before after : A) (t : Trace) (s : Status) : Type 0 where
   usage : IsNoCommand words → s ≡ status.Usage → IsSilent c t []
       → Ends tells bytes file_count words was flight chain leaves c before after t s
   serve : (magic : List ℕ) (asked : IsServe words magic)

@@ -7,6 +7,8 @@ use Rattle.el_outside.specs.Disk.{Image}
 use Rattle.el_outside.specs.Moments.{LeftNow}
 use Rattle.el_chain.specs.Chains.{Chain}
 use Rattle.el_model.specs.Keeping.{Either}
+use Rattle.el_journal.specs.Entries.{SameJournal}
+use Rattle.el_journal.specs.Journals.{OnlyJournal}
 use Rattle.el_logstore.specs.Images.{Shows}
 use Rattle.el_index.specs.Means.{Means}
 use Rattle.el_words.specs.Commands.{IsServe}
@@ -21,10 +23,11 @@ abbrev pub LeavesOneOf : {D : Type 0} → disk.Ghosts D → List ℕ → D → C
 LeavesOneOf G magic d acked flight =
     (image : Image) → LeftNow G.moment G.left_since d image → Either (ImageMeans magic) acked flight image
 
--- whatever a crash left stood for, as an index of this network or another, it still stands for
-abbrev pub LeavesAsBefore : {D : Type 0} → disk.Ghosts D → D → D → Type 0
-LeavesAsBefore G old new = (magic : List ℕ) (a b : Chain) → LeavesOneOf G magic old a b
-    → LeavesOneOf G magic new a b
+-- The index is as it was, for this network and every other: no file but the journal was written, and each
+-- image that a crash since then may leave has a journal with the same entries as one that it might have left
+-- before, or one that is cut at the same place.
+abbrev pub IsAsBefore : {D : Type 0} → disk.Ghosts D → D → D → Type 0
+IsAsBefore G old new = OnlyJournal G SameJournal old new
 
 -- The disk tells what it holds, and is an index of the network with this magic: as it reads it stands for
 -- `chain`, and each image that an earlier life may have left stands for `was`, which that life acknowledged,

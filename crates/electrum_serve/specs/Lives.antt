@@ -25,6 +25,11 @@ abbrev pub AreLives : {D A K : Type 0} → disk.Ghosts D → D → List (Call D 
 AreLives of_disk d [] = Unit {0}
 AreLives of_disk d (l ∷ more) = IsLeftBy of_disk d l.before.disk × AreLives of_disk l.after.disk more
 
+-- the disk as the last of the lives left it; this one, where there is none
+abbrev pub last_disk : {D A K : Type 0} → D → List (Call D A K) → D
+last_disk d [] = d
+last_disk d (l ∷ more) = last_disk l.after.disk more
+
 -- a life was lived over these block files and this link, and ended so
 pub record IsOver {D A K : Type 0} (l : Call D A K) (words : List (List ℕ)) (turns : ℕ)
     (files files_after : A) (link link_after : K) (end : Status) : Type 0 where

@@ -55,6 +55,7 @@ pub fn scan_fault(fault: ScanFault) -> FileFault
 // The fault of a block as one of the file.
 fn block_fault(fault: BlockFault) -> FileFault
     ensures bad { result ≡ FileFault.Bad → fault ≢ BlockFault.Memory }
+    ensures memory { result ≡ FileFault.Memory → fault ≡ BlockFault.Memory }
     ensures never_failed { result ≢ FileFault.Failed }
 {
     match fault {
@@ -75,6 +76,7 @@ fn block_fault(fault: BlockFault) -> FileFault
 // The fault of a block that can't stand after the last one as one of the file.
 fn connect_fault(fault: ConnectFault) -> FileFault
     ensures bad { result ≡ FileFault.Bad → fault ≢ ConnectFault.Memory }
+    ensures memory { result ≡ FileFault.Memory → fault ≡ ConnectFault.Memory }
     ensures never_failed { result ≢ FileFault.Failed }
 {
     match fault {

@@ -1,9 +1,11 @@
 // The index on a disk.
-ghost use Rattle.std.specs.Prelude.{◌≡◌, ◌≢◌, ◌⊎◌, ℕ, IfOk, IfErr};
+ghost use Rattle.std.specs.Prelude.{◌≡◌, ◌≢◌, ◌⊎◌, ℕ, IfOk, IfErr, MatchResult};
 ghost use Rattle.el_chain.specs.Chains.{Chain};
 ghost use Rattle.el_outside.specs.Counts.{RoseBy};
+ghost use Rattle.el_journal.specs.declared.mark.TheConstants.{JOURNAL};
+ghost use Rattle.el_journal.specs.Entries.{IsBad};
 ghost use Rattle.el_logstore.specs.Images.{IsBadIndex};
-ghost use Rattle.electrum_serve.specs.IndexDisks.{LeavesOneOf, LeavesAsBefore, IsIndexDisk};
+ghost use Rattle.electrum_serve.specs.IndexDisks.{LeavesOneOf, IsAsBefore, IsIndexDisk};
 ghost use Rattle.electrum_serve.specs.within.Unread.{open_status};
 
 use crate::status::Status;
@@ -48,9 +50,12 @@ pub fn open_index<D: Disk, N: NetworkMagic>(
         → (wanted : ℕ) × (found : ℕ) × IsBadIndex N.magic (D.seen disk) wanted found) }
     ensures is_bad { D.tells → (wanted found : ℕ) → IsBadIndex N.magic (D.seen disk) wanted found
         → IfOk result (λ i. ⊥) }
-    // Then it is as it was, for this network and every other.
-    ensures kept { D.tells → IfErr result (λ e. e.0 ≡ Status.BadIndex
-        → LeavesAsBefore ⟦<D as Disk>⟧ disk e.1) }
+    // That its journal is cut is told without memory.
+    ensures is_cut { D.tells → (place : ℕ) → IsBad place (D.seen disk JOURNAL) → MatchResult result
+        (λ i. ⊥) (λ e. (e.0 ≡ Status.DiskFailed) ⊎ (e.0 ≡ Status.BadIndex)) }
+    // Then it is as it was, whatever is told of it.
+    ensures kept { D.tells → (wanted found : ℕ) → IsBadIndex N.magic (D.seen disk) wanted found
+        → IfErr result (λ e. IsAsBefore ⟦<D as Disk>⟧ disk e.1) }
     ensures uncounted { IfOk result (λ i. ⟦<Index<LogStore<D, N>> as el_model::Ledger>⟧.faults i
         ≡ D.faults disk) }
     ensures counted { IfErr result (λ e. e.0 ≡ Status.DiskFailed
@@ -58,6 +63,7 @@ pub fn open_index<D: Disk, N: NetworkMagic>(
     ensures others_uncounted { IfErr result (λ e. e.0 ≢ Status.DiskFailed
         → D.faults e.1 ≡ D.faults disk) }
 {
+    // A law: an image stands for one index, so that what a crash leaves has one meaning.
     images_stand_in_one_way();
     let store = match open_log::<D, N>(alloc, disk) {
         Ok(store) => store,

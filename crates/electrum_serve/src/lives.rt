@@ -8,7 +8,7 @@ ghost use Rattle.el_words.specs.Commands.{IsServe};
 ghost use Rattle.el_words.specs.Words.{texts};
 ghost use Rattle.electrum_serve.specs.Calls.{Call};
 ghost use Rattle.electrum_serve.specs.IndexDisks.{ImageMeans, LeavesOneOf, IsCall};
-ghost use Rattle.electrum_serve.specs.Lives.{AreLives, AreOver, GoOn, IsFresh, IsLeftBy};
+ghost use Rattle.electrum_serve.specs.Lives.{AreLives, AreOver, GoOn, IsFresh, IsLeftBy, last_disk};
 ghost use Rattle.electrum_serve.specs.within.Lived.{Lived};
 
 use crate::serving::serve;
@@ -51,7 +51,7 @@ fn live_on<D: Disk, A: Archive, K: Link, B: Between<D>>(
     ensures lived { (magic : List ℕ) (was flight : Chain) → D.tells → IsServe (texts words.now) magic
         → LeavesOneOf ⟦<D as Disk>⟧ magic disk was flight
         → Lived ⟦<D as Disk>⟧ ⟦<A as Archive>⟧ ⟦<K as Link>⟧ disk was flight (texts words.now) turns
-        archives.old archives.new links.old links.new ends.new }
+        archives.old archives.new links.old links.new ends.new result }
 {
     let Some((archive, archives)) = archives.split_first_mut() else {
         return disk;
@@ -88,7 +88,7 @@ pub fn live<D: Disk, A: Archive, K: Link, B: Between<D>>(
     ensures whole { (magic : List ℕ) → D.tells → IsServe (texts words.now) magic
         → IsFresh ⟦<D as Disk>⟧ disk → (lives : List (Call D A K))
         × AreOver lives (texts words.now) turns archives.old archives.new links.old links.new ends.new
-        × AreLives ⟦<D as Disk>⟧ disk lives
+        × AreLives ⟦<D as Disk>⟧ disk lives × (result ≡ last_disk disk lives)
         × GoOn ⟦<D as Disk>⟧ ⟦<A as Archive>⟧ ⟦<K as Link>⟧ [] [] lives }
 {
     live_on(alloc, words, disk, between, turns, archives, links, ends)

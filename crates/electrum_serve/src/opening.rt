@@ -5,6 +5,7 @@ ghost use Rattle.el_outside.specs.Counts.{OnlyReads, CountsOnly};
 ghost use Rattle.el_chain.specs.Chains.{Chain};
 ghost use Rattle.el_chain.specs.Records.{IsNode};
 ghost use Rattle.el_chain.specs.declared.node.Node as shape;
+ghost use Rattle.el_files.specs.Scanning.{ScansOnce};
 ghost use Rattle.el_model.specs.LedgerCalls.{Asked};
 ghost use Rattle.electrum_serve.specs.Opened.{IsScanned, all_added, nodes_of_chain};
 ghost use Rattle.electrum_serve.specs.OtherChain as other;
@@ -63,6 +64,8 @@ pub fn scan_all<A: Archive>(
     ensures scanned { IfOk result (λ found.
         IsScanned A.tells A.bytes A.file_count magic archive.old archive.new found.items) }
     ensures never_bad { IsErrOf result FileFault.Bad → ⊥ }
+    // They are scanned once.
+    ensures calls { OnOk result (ScansOnce A.tells A.bytes A.file_count A.calls archive.old archive.new) }
     ensures only_reads { OnlyReads A.tells (A.bytes archive.old) (A.bytes archive.new)
         (A.faults archive.old) (A.faults archive.new) FileFault.Failed result }
 {
@@ -140,6 +143,8 @@ pub fn open_headers<G: Ledger, A: Archive>(
         → (nodes : List shape.Node)
         × IsScanned A.tells A.bytes A.file_count magic archive.old archive.new nodes
         × (other.is_other_chain (nodes_of_chain chain) nodes ≡ true) }
+    // The block files are scanned once.
+    ensures calls { OnOk result (ScansOnce A.tells A.bytes A.file_count A.calls archive.old archive.new) }
     ensures quiet { Asked ⟦<G as Ledger>⟧ ledger.old ledger.new }
     ensures cause { CountsOnly (G.faults ledger.old) (G.faults ledger.new) StartFault.DiskFailed result }
     ensures only_reads { OnlyReads A.tells (A.bytes archive.old) (A.bytes archive.new)

@@ -4,6 +4,8 @@ ghost use Rattle.std.specs.Process.{exit_status};
 ghost use Rattle.el_words.specs.Words.{texts};
 ghost use Rattle.el_words.specs.Commands.{IsNoCommand};
 ghost use Rattle.electrum_serve.specs.within.Devices.{folder_of, index_of};
+ghost use Rattle.electrum_serve.specs.Calls.{Call};
+ghost use Rattle.electrum_serve.specs.IndexDisks.{IsCall};
 ghost use Rattle.electrum_serve.specs.Statuses.{code_of};
 
 use crate::serving::serve;
@@ -73,7 +75,8 @@ fn disk_of(
     index_files(rt, alloc, folder)
 }
 
-// Serves the words over a disk, the block files of their command and a link.
+// Serves the words over a disk, the block files of their command and a link: a call of `serve` with them ends
+// so.
 fn serve_over<D: Disk + Drop, K: Link>(
     rt: &HostRuntime,
     words: &[String],
@@ -81,6 +84,11 @@ fn serve_over<D: Disk + Drop, K: Link>(
     disk: D,
     link: &mut K,
 ) -> Result<Status, OutOfMemory>
+    ensures ends { IfOk result (λ status. (c : Call _ _ _)
+        × IsCall ⟦<D as Disk>⟧ ⟦<BlockFiles<BlockFolder<HostRuntime>> as el_outside::Archive>⟧ ⟦<K as Link>⟧ c
+        × (c.words ≡ texts words.now) × (c.before.disk ≡ disk)
+        × (c.before.files.folder ≡ folder_of command.now)
+        × (c.before.link ≡ link.old) × (c.after.link ≡ link.new) × (c.status ≡ status)) }
     ensures refused { IsNoCommand (texts words.now) → IfOk result (λ status. status ≡ Status.Usage) }
     ensures lawful { IfOk result (λ status. status ≡ Status.Usage → IsNoCommand (texts words.now)) }
 {
@@ -134,7 +142,7 @@ fn serve_command(
         }
         Command::Once { .. } => {
             let mut link = StandardLink::new(rt.clone()?);
-            serve_over(rt, words, command, NoDisk { faults: 0 }, &mut link)
+            serve_over(rt, words, command, NoDisk::new(), &mut link)
         }
     }
 }
@@ -147,8 +155,8 @@ fn serve_nobody(rt: &HostRuntime, words: &[String]) -> Status
     let (status, _) = serve(
         rt.alloc(),
         words,
-        NoDisk { faults: 0 },
-        &mut NoFiles,
+        NoDisk::new(),
+        &mut NoFiles::new(),
         &mut NoLink { calls: 0 },
         TURNS,
     );

@@ -2,19 +2,19 @@
 ghost use Rattle.std.specs.Prelude.{◌≡◌, ◌≢◌, ◌<◌, ℕ, List, [], IfOk, IsErrOf};
 ghost use Rattle.el_outside.specs.Counts.{OnlyReads};
 ghost use Rattle.el_outside.specs.Files.{AllGrow, IsFile};
-ghost use Rattle.el_outside.specs.Trace.{GoesOn};
+ghost use Rattle.el_outside.specs.Trace.{Trace};
 ghost use Rattle.el_chain.specs.declared.node.Node as shape;
 ghost use Rattle.el_chain.specs.Chains.{Chain};
 ghost use Rattle.el_logstore.specs.Images.{IsBadIndex};
 ghost use Rattle.el_words.specs.Words.{network_magic, texts};
 ghost use Rattle.el_words.specs.Commands.{IsNoCommand, IsServe};
-ghost use Rattle.electrum_serve.specs.IndexDisks.{LeavesOneOf, LeavesAsBefore, IsIndexDisk, IsCall};
+ghost use Rattle.electrum_serve.specs.IndexDisks.{LeavesOneOf, IsAsBefore, IsIndexDisk, IsCall};
 ghost use Rattle.el_loop.specs.Counts.{counts_of, devices};
 ghost use Rattle.electrum_serve.specs.Calls.{call};
 ghost use Rattle.electrum_serve.specs.File.{GivesNoChain};
 ghost use Rattle.electrum_serve.specs.Opened.{IsRead, all_added};
 ghost use Rattle.electrum_serve.specs.Statuses.{ShowsCause};
-ghost use Rattle.el_loop.specs.Runs.{Traffic};
+ghost use Rattle.el_loop.specs.Runs.{WentBy};
 ghost use Rattle.electrum_serve.specs.Ends.{OnceEnds, IndexEnds, IsUnserved, IsUnopened};
 ghost use Rattle.electrum_serve.specs.within.Unread.{unread_status};
 
@@ -77,9 +77,8 @@ fn serve_disk<D: Disk, N: NetworkMagic, A: Archive, K: Link>(
     turns: u64,
 ) -> (Status, D)
     ensures ends { (was flight chain : Chain) → IsIndexDisk ⟦<D as Disk>⟧ N.magic disk was flight chain
-        → (traffic : Traffic)
-        × (K.tells → GoesOn (K.trace link.old) (K.trace link.new)
-        traffic.arrivals traffic.messages traffic.closings)
+        → (traffic : Trace)
+        × WentBy ⟦<K as Link>⟧ link.old link.new traffic
         × IndexEnds A.tells A.bytes A.file_count N.magic limits was flight chain
         (LeavesOneOf ⟦<D as Disk>⟧ N.magic result.1) (counts_of D.faults ⟦<A as Archive>⟧ ⟦<K as Link>⟧ turns
         (devices disk archive.old link.old) (devices result.1 archive.new link.new))
@@ -88,8 +87,9 @@ fn serve_disk<D: Disk, N: NetworkMagic, A: Archive, K: Link>(
         → (wanted : ℕ) × (found : ℕ) × IsBadIndex N.magic (D.seen disk) wanted found }
     ensures is_bad { D.tells → (wanted found : ℕ) → IsBadIndex N.magic (D.seen disk) wanted found
         → IsUnopened result.0 }
-    // Then the disk is as it was, for this network and every other, and nothing was counted.
-    ensures kept { D.tells → result.0 ≡ Status.BadIndex → LeavesAsBefore ⟦<D as Disk>⟧ disk result.1 }
+    // Then the index is as it was, whatever is told of it; where that is told, nothing was counted.
+    ensures kept { D.tells → (wanted found : ℕ) → IsBadIndex N.magic (D.seen disk) wanted found
+        → IsAsBefore ⟦<D as Disk>⟧ disk result.1 }
     ensures kept_counts { result.0 ≡ Status.BadIndex → D.faults result.1 ≡ D.faults disk }
     ensures kept_files { result.0 ≡ Status.BadIndex → archive.new ≡ archive.old }
     ensures causes { ShowsCause (counts_of D.faults ⟦<A as Archive>⟧ ⟦<K as Link>⟧ turns
@@ -127,9 +127,8 @@ fn serve_network<D: Disk, A: Archive, K: Link>(
 ) -> (Status, D)
     ensures ends { (was flight chain : Chain)
         → IsIndexDisk ⟦<D as Disk>⟧ (network_magic network) disk was flight chain
-        → (traffic : Traffic)
-        × (K.tells → GoesOn (K.trace link.old) (K.trace link.new)
-        traffic.arrivals traffic.messages traffic.closings)
+        → (traffic : Trace)
+        × WentBy ⟦<K as Link>⟧ link.old link.new traffic
         × IndexEnds A.tells A.bytes A.file_count (network_magic network) limits was flight chain
         (LeavesOneOf ⟦<D as Disk>⟧ (network_magic network) result.1)
         (counts_of D.faults ⟦<A as Archive>⟧ ⟦<K as Link>⟧ turns
@@ -139,8 +138,9 @@ fn serve_network<D: Disk, A: Archive, K: Link>(
         → (wanted : ℕ) × (found : ℕ) × IsBadIndex (network_magic network) (D.seen disk) wanted found }
     ensures is_bad { D.tells → (wanted found : ℕ)
         → IsBadIndex (network_magic network) (D.seen disk) wanted found → IsUnopened result.0 }
-    // Then the disk is as it was, for this network and every other, and nothing was counted.
-    ensures kept { D.tells → result.0 ≡ Status.BadIndex → LeavesAsBefore ⟦<D as Disk>⟧ disk result.1 }
+    // Then the index is as it was, whatever is told of it; where that is told, nothing was counted.
+    ensures kept { D.tells → (wanted found : ℕ)
+        → IsBadIndex (network_magic network) (D.seen disk) wanted found → IsAsBefore ⟦<D as Disk>⟧ disk result.1 }
     ensures kept_counts { result.0 ≡ Status.BadIndex → D.faults result.1 ≡ D.faults disk }
     ensures kept_files { result.0 ≡ Status.BadIndex → archive.new ≡ archive.old }
     ensures causes { ShowsCause (counts_of D.faults ⟦<A as Archive>⟧ ⟦<K as Link>⟧ turns
@@ -168,9 +168,8 @@ fn serve_file<A: Archive, K: Link>(
     link: &mut K,
     turns: u64,
 ) -> Status
-    ensures ends { (disk : ℕ) → (traffic : Traffic)
-        × (K.tells → GoesOn (K.trace link.old) (K.trace link.new)
-        traffic.arrivals traffic.messages traffic.closings)
+    ensures ends { (disk : ℕ) → (traffic : Trace)
+        × WentBy ⟦<K as Link>⟧ link.old link.new traffic
         × OnceEnds A.tells magic (counts_of (λ d. d) ⟦<A as Archive>⟧ ⟦<K as Link>⟧ turns
         (devices disk archive.old link.old) (devices disk archive.new link.new))
         (A.bytes archive.old) (A.bytes archive.new) traffic result }
@@ -198,7 +197,7 @@ fn serve_file<A: Archive, K: Link>(
 /// headers of all block files, and answers the node and the clients of the link, from the chain to which the
 /// node leads it. With those of `once` it reads file 0, and answers the link's clients from its chain,
 /// without the disk. It ends as the link does, or fails, and makes at most `turns` calls of `next`. The disk
-/// comes back as it stands; where it is no index of the network, it is as it was.
+/// comes back as it stands; where it is no index of the network, its journal has the same entries as before.
 pub fn serve<D: Disk, A: Archive, K: Link>(
     alloc: Global,
     words: &[String],
@@ -216,11 +215,12 @@ pub fn serve<D: Disk, A: Archive, K: Link>(
         → (wanted : ℕ) × (found : ℕ) × IsBadIndex magic (D.seen disk) wanted found }
     ensures is_bad { D.tells → (magic : List ℕ) (wanted found : ℕ) → IsServe (texts words.now) magic
         → IsBadIndex magic (D.seen disk) wanted found → IsUnopened result.0 }
-    // Then the disk is as it was, for this network and every other, and nothing was counted.
-    ensures kept { D.tells → result.0 ≡ Status.BadIndex → LeavesAsBefore ⟦<D as Disk>⟧ disk result.1 }
+    // Then the index is as it was, whatever is told of it; where that is told, nothing was counted.
+    ensures kept { D.tells → (magic : List ℕ) (wanted found : ℕ) → IsServe (texts words.now) magic
+        → IsBadIndex magic (D.seen disk) wanted found → IsAsBefore ⟦<D as Disk>⟧ disk result.1 }
     ensures kept_counts { result.0 ≡ Status.BadIndex → D.faults result.1 ≡ D.faults disk }
     ensures kept_files { result.0 ≡ Status.BadIndex → archive.new ≡ archive.old }
-    // Whatever the devices tell, each failure that is told was counted.
+    // Whatever the devices tell, a failure that ends the run was counted.
     ensures causes { ShowsCause (counts_of D.faults ⟦<A as Archive>⟧ ⟦<K as Link>⟧ turns
         (devices disk archive.old link.old) (devices result.1 archive.new link.new)) result.0 }
     // Other words are refused, and then no device is called.

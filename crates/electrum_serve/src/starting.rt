@@ -1,11 +1,11 @@
 // A run from an index that is open.
 ghost use Rattle.std.specs.Prelude.{◌≡◌};
 ghost use Rattle.el_outside.specs.Files.{AllGrow};
-ghost use Rattle.el_outside.specs.Trace.{GoesOn};
+ghost use Rattle.el_outside.specs.Trace.{Trace};
 ghost use Rattle.el_chain.specs.Chains.{Chain};
 ghost use Rattle.el_model.specs.Keeping.{LeavesEither};
 ghost use Rattle.el_loop.specs.Counts.{counts_of, devices};
-ghost use Rattle.el_loop.specs.Runs.{Traffic};
+ghost use Rattle.el_loop.specs.Runs.{WentBy};
 ghost use Rattle.electrum_serve.specs.Ends.{ServeEnds, IsUnserved, IsOpenedEnd};
 ghost use Rattle.electrum_serve.specs.Statuses.{ShowsCause};
 ghost use Rattle.electrum_serve.specs.within.Unread.{start_status};
@@ -42,9 +42,8 @@ pub fn serve_index<G: Ledger, A: Archive, K: Link>(
     turns: u64,
 ) -> (Status, G)
     requires live { G.is_live ledger }
-    ensures ends { (chain : Chain) → G.stands ledger chain → (traffic : Traffic)
-        × (K.tells → GoesOn (K.trace link.old) (K.trace link.new)
-        traffic.arrivals traffic.messages traffic.closings)
+    ensures ends { (chain : Chain) → G.stands ledger chain → (traffic : Trace)
+        × WentBy ⟦<K as Link>⟧ link.old link.new traffic
         × ServeEnds A.tells A.bytes A.file_count magic limits chain
         (LeavesEither G.tells_crash G.means G.moment G.left_since result.1)
         (counts_of G.faults ⟦<A as Archive>⟧ ⟦<K as Link>⟧ turns

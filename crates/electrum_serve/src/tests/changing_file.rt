@@ -1,5 +1,5 @@
 // Block files that grow, and one whose bytes change.
-ghost use Rattle.std.specs.Prelude.{[], refl};
+ghost use Rattle.std.specs.Prelude.{◌≡◌, ◌+◌, [], refl};
 
 use crate::status::Status;
 use crate::tests::block_files::{Files, branch, files_of, only};
@@ -7,7 +7,7 @@ use crate::tests::bringing::Step::Says;
 use crate::tests::bringing::{coming, transcript};
 use crate::tests::calls::{NONE_FAILS, SERVE, TURNS, call_failing, serve_over};
 use crate::tests::names::named;
-use el_base::Bytes;
+use el_base::{Bytes, GhostCount};
 use el_fakes::{Later, MemArchive, SteadyLink, fill};
 use el_outside::{Archive, ArchiveFailed};
 use std::alloc::Global;
@@ -18,16 +18,25 @@ use std::test::Fail;
 struct ChangingFile {
     before: Vec<u8>,
     after: Vec<u8>,
-    calls_left: u64,
+    calls_before: u64,
+    calls: u64,
+    made: GhostCount,
 }
 
 impl ChangingFile {
-    // The bytes that a call finds.
-    fn bytes(&mut self) -> &[u8] {
-        if self.calls_left == 0 {
+    // One call more.
+    fn call(&mut self)
+        ensures { self.new.made ≡ self.old.made + 1 }
+    {
+        self.made.tick();
+        self.calls = self.calls.saturating_add(1);
+    }
+
+    // The bytes that this call finds.
+    fn bytes(&self) -> &[u8] {
+        if self.calls > self.calls_before {
             return self.after.as_slice();
         }
-        self.calls_left -= 1;
         self.before.as_slice()
     }
 }
@@ -43,18 +52,22 @@ impl Archive for ChangingFile {
 
     ghost gave = { λ file at bytes. Unit {0} };
 
+    ghost calls = { λ files. files.made };
+
     ghost faults = { λ files. 0 };
 
     fn files(&mut self) -> Result<u32, ArchiveFailed> {
-        let _bytes = self.bytes();
+        self.call();
         Ok(1)
     }
 
     fn size(&mut self, _file: u32) -> Result<u64, ArchiveFailed> {
+        self.call();
         Ok((self.bytes().len() as u64).min(1_000_000))
     }
 
     fn read(&mut self, _file: u32, at: u64, buf: &mut [u8]) -> Result<usize, ArchiveFailed> {
+        self.call();
         Ok(fill(self.bytes(), at, buf))
     }
 }
@@ -71,7 +84,9 @@ fn answers_after_change(alloc: Global, after: Vec<u8>, lines: &str) -> Result<St
     let mut archive = ChangingFile {
         before: branch(alloc, 2)?.0.into_vec(),
         after,
-        calls_left: calls_of_scan(alloc)?,
+        calls_before: calls_of_scan(alloc)?,
+        calls: 0,
+        made: GhostCount::new(),
     };
     let mut link = SteadyLink::new(alloc, coming(alloc, [Says(0, lines)].as_slice(), 1_000)?)?;
     let _status = serve_over(alloc, SERVE, &mut archive, &mut link, TURNS)?;

@@ -11,9 +11,9 @@ use std::alloc::{AllocError, Global};
 // one whose parent nobody has, and one at height 16 with another Merkle root; a hash that no block has; a
 // transaction that spends the coin of Bitcoin's first block, and a script that it pays to; and of the blocks
 // that part and spend, the last one of each branch, the coinbases of Z, and of A1 and D1, the transaction of
-// A1, B2 and C1, that of D1, and the script of 101; transactions that no block has, in digits: a child of that
-// of A1, another spend of Z's coin and a child of it, and refused ones; and what clients are told of that
-// child.
+// A1, B2 and C1, that of D1, and the script of 101; transactions that no block has, in digits: a child of
+// that of A1, another spend of Z's coin and a child of it, and refused ones; and what clients are told of
+// that child.
 // A text has no name but such as come after it.
 const NAMES: &str = "\
     {asks} {\"id\":1,\"method\":\"blockchain.scripthash.get_history\",\"params\":[\"\n\

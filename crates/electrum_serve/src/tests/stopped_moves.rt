@@ -10,8 +10,8 @@ use std::alloc::Global;
 use std::test::Fail;
 
 // One move in the second of two lives: the files, what the node says in both, and what it is answered in the
-// second, before the move and in all; what it asks of the index alone, and what it is answered before the move
-// and after it.
+// second, before the move and in all; what it asks of the index alone, and what it is answered before the
+// move and after it.
 struct Moving {
     files: Files,
     first: &'static str,

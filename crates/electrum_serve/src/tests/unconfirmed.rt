@@ -19,8 +19,8 @@ const ASKS: Step<'static> = Says(
 
 // The words, what comes, and what is sent.
 const RUNS: [(&str, &[Step<'static>], &str); 3] = [
-    // a child is seen with its parent, which a block then has, and goes where another spend of the coin comes;
-    // the client is told of that
+    // a child is seen with its parent, which a block then has, and goes where another spend of the coin
+    // comes; the client is told of that
     (
         SERVE,
         &[

@@ -1,5 +1,6 @@
-use Rattle.std.proofs.Common.{arith}
+use Rattle.std.proofs.Common.{arith, ap, inl, inr, ◌∙◌, ⊎_elim}
 use Rattle.el_schema.proofs.StandingLemmas.{same_stand}
+use Rattle.electrum_serve.specs.within.Unread.{open_status}
 use Rattle.electrum_serve.proofs.IndexDisks.{keeps_as, unread_leaves, not_bad, told_bad}
 use Rattle.electrum_serve.proofs.index_disk.open_index.Goals as goal
 
@@ -39,6 +40,13 @@ returns-in-Err-over-clause-unopened g c = λ was flight chain is. (
 )
 
 pub returns-in-Err-clause-kept : goal.returns-in-Err-clause-kept
-returns-in-Err-clause-kept g c = λ told bad. keeps_as g.D.Disk c.args.disk c.in-Err.disk
-    (λ t u image le left. g.met.D.Disk.earlier c.in-Err.disk t u image told le left)
-    (c.in-Err.ensures.crash told)
+returns-in-Err-clause-kept g c = λ told wanted found is. c.in-Err.ensures.crash told
+
+pub returns-in-Err-over-clause-kept : goal.returns-in-Err-over-clause-kept
+returns-in-Err-over-clause-kept g c = λ told wanted found is. absurd (c.in-Ok.ensures.is_bad told wanted found is)
+
+pub returns-in-Err-clause-is_cut : goal.returns-in-Err-clause-is_cut
+returns-in-Err-clause-is_cut g c = λ told place cut. ⊎_elim
+    (λ failed. inl (c.status_of.ensures ∙ ap open_status failed))
+    (λ bad. inr (c.status_of.ensures ∙ ap open_status bad))
+    (c.in-Err.ensures.is_cut told place cut)

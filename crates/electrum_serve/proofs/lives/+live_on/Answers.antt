@@ -24,6 +24,7 @@ returns g t c = record {
       let then = c.live_on.ensures.lived magic f.end.acked f.end.in_flight told serves f.end.leaves in
       rw (c.in-Some.ensures.cases.0, c.in-Some-split_first_mut.ensures.cases.0)
       (lived_more g.D.Disk g.A.Archive g.K.Link magic c.args.disk was flight life c.in-Some.archives.now
-      c.live_on.new.archives c.in-Some-split_first_mut.links.now c.live_on.new.links c.live_on.new.ends f next
+      c.live_on.new.archives c.in-Some-split_first_mut.links.now c.live_on.new.links c.live_on.new.ends
+      c.live_on.result f next
       then);
 }

@@ -5,6 +5,7 @@ use Rattle.el_words.specs.Commands.{IsNoCommand}
 use Rattle.electrum_serve.specs.Ends.{usage, serve, once}
 use Rattle.el_loop.specs.Runs.{no_traffic}
 use Rattle.el_outside.proofs.Devices.{all_rose_none}
+use Rattle.electrum_serve.proofs.IndexDisks.{unchanged}
 use Rattle.electrum_serve.proofs.Rises.{caused_none}
 use Rattle.electrum_serve.proofs.Servings.{is_serve, is_once, one_network}
 use Rattle.electrum_serve.proofs.serving.serve.Goals as goal
@@ -22,6 +23,10 @@ returns-in-Some-clause-bad g c = λ told bad magic is.
 pub returns-in-Some-clause-is_bad : goal.returns-in-Some-clause-is_bad
 returns-in-Some-clause-is_bad g c = λ told magic wanted found is bad.
     c.serve_network.ensures.is_bad told wanted found (rw (one_network is c.in-Some.ensures.found.2) at bad)
+
+pub returns-in-Some-clause-kept : goal.returns-in-Some-clause-kept
+returns-in-Some-clause-kept g c = λ told magic wanted found is bad.
+    c.serve_network.ensures.kept told wanted found (rw (one_network is c.in-Some.ensures.found.2) at bad)
 
 pub returns-in-Some-clause-refused : goal.returns-in-Some-clause-refused
 returns-in-Some-clause-refused g c = λ none.
@@ -77,9 +82,10 @@ returns-in-None-clause-is_bad g c = λ told magic wanted found is bad.
     none.not_serve is.blocks is.index is.of_network is.client_port is.node_port is.limits is.is_serve
 
 pub returns-in-Some-once_of-clause-kept : goal.returns-in-Some-once_of-clause-kept
-returns-in-Some-once_of-clause-kept g c = λ told bad.
-    let e = c.serve_file.ensures.ends 0 in
-    absurd (rw bad at e.2)
+returns-in-Some-once_of-clause-kept g c = λ told magic wanted found is bad. unchanged g.D.Disk c.args.disk
+
+pub returns-in-None-clause-kept : goal.returns-in-None-clause-kept
+returns-in-None-clause-kept g c = λ told magic wanted found is bad. unchanged g.D.Disk c.args.disk
 
 pub returns-in-Some-once_of-clause-kept_counts : goal.returns-in-Some-once_of-clause-kept_counts
 returns-in-Some-once_of-clause-kept_counts g c = λ bad.

@@ -39,7 +39,7 @@ returns-in-Err-clause-ends g c = λ was flight chain is.
     )
 
 pub returns-in-Ok-clause-kept : goal.returns-in-Ok-clause-kept
-returns-in-Ok-clause-kept g c = λ told bad. absurd (rw bad at c.serve_index-status.ensures.opened)
+returns-in-Ok-clause-kept g c = λ told wanted found is. absurd (c.in-Ok.ensures.is_bad told wanted found is)
 
 pub returns-in-Ok-clause-kept_counts : goal.returns-in-Ok-clause-kept_counts
 returns-in-Ok-clause-kept_counts g c = λ bad. absurd (rw bad at c.serve_index-status.ensures.opened)

@@ -26,3 +26,12 @@ returns-in-Regtest-clause-bad g c = rw c.in-Regtest.is c.serve_disk-in-Regtest.e
 
 pub returns-in-Regtest-clause-is_bad : goal.returns-in-Regtest-clause-is_bad
 returns-in-Regtest-clause-is_bad g c = rw c.in-Regtest.is c.serve_disk-in-Regtest.ensures.is_bad
+
+pub returns-in-Main-clause-kept : goal.returns-in-Main-clause-kept
+returns-in-Main-clause-kept g c = rw c.in-Main.is c.serve_disk.ensures.kept
+
+pub returns-in-Testnet3-clause-kept : goal.returns-in-Testnet3-clause-kept
+returns-in-Testnet3-clause-kept g c = rw c.in-Testnet3.is c.serve_disk-in-Testnet3.ensures.kept
+
+pub returns-in-Regtest-clause-kept : goal.returns-in-Regtest-clause-kept
+returns-in-Regtest-clause-kept g c = rw c.in-Regtest.is c.serve_disk-in-Regtest.ensures.kept
