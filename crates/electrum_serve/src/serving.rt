@@ -140,7 +140,8 @@ fn serve_network<D: Disk, A: Archive, K: Link>(
         → IsBadIndex (network_magic network) (D.seen disk) wanted found → IsUnopened result.0 }
     // Then the index is as it was, whatever is told of it; where that is told, nothing was counted.
     ensures kept { D.tells → (wanted found : ℕ)
-        → IsBadIndex (network_magic network) (D.seen disk) wanted found → IsAsBefore ⟦<D as Disk>⟧ disk result.1 }
+        → IsBadIndex (network_magic network) (D.seen disk) wanted found
+        → IsAsBefore ⟦<D as Disk>⟧ disk result.1 }
     ensures kept_counts { result.0 ≡ Status.BadIndex → D.faults result.1 ≡ D.faults disk }
     ensures kept_files { result.0 ≡ Status.BadIndex → archive.new ≡ archive.old }
     ensures causes { ShowsCause (counts_of D.faults ⟦<A as Archive>⟧ ⟦<K as Link>⟧ turns
