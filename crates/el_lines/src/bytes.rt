@@ -1,5 +1,5 @@
 // Parts of bytes.
-ghost use Rattle.std.specs.Prelude.{◌≡◌, ◌≤◌, ◌+◌, [], length, drop, take, vec_capacity, MatchOption};
+ghost use Rattle.std.specs.Prelude.{◌≡◌, ◌<◌, ◌≤◌, ◌⊎◌, ◌+◌, [], length, drop, take, vec_capacity, MatchOption};
 ghost use Rattle.el_lines.specs.LineStates.{HasNone};
 ghost use Rattle.el_lines.specs.within.Places.{IsSearched, StandsFirst};
 
@@ -66,6 +66,8 @@ pub(crate) fn give_back(bytes: &mut Vec<u8>, most: usize)
     ensures same { bytes.new.items ≡ bytes.old.items }
     ensures room { vec_capacity bytes.new ≤ vec_capacity bytes.old }
     ensures empty { bytes.old.items ≡ [] → vec_capacity bytes.new ≤ most }
+    ensures stays { (0 < length bytes.old.items) ⊎ (vec_capacity bytes.old ≤ most)
+        → vec_capacity bytes.new ≡ vec_capacity bytes.old }
 {
     if bytes.is_empty() && bytes.capacity() > most {
         bytes.shrink_to_fit();

@@ -1,5 +1,5 @@
 // Bytes that come in pieces, cut into lines.
-ghost use Rattle.std.specs.Prelude.{◌≡◌, ℕ, List, [], ◌∷◌, ◌++◌, ◌+◌, ◌-◌, ◌*◌, ◌<◌, ◌≤◌, length, slice_get, IfOk, IfSome, IfNone, OnOk, OnErr, MatchOption, Ok, Some, None, true, false, take, drop};
+ghost use Rattle.std.specs.Prelude.{◌≡◌, ℕ, List, [], ◌∷◌, ◌++◌, ◌+◌, ◌-◌, ◌*◌, ◌<◌, ◌≤◌, ◌⊎◌, length, slice_get, IsOk, IfOk, IfSome, IfNone, OnOk, OnErr, MatchOption, Ok, Some, None, true, false, take, drop};
 ghost use Rattle.el_lines.specs.Lines.{lines, too_long};
 ghost use Rattle.el_lines.specs.LineStates.{IsAt, held, as_listed, HasNoNewline};
 ghost use Rattle.el_lines.specs.within.Places.{StandsFirst};
@@ -88,7 +88,14 @@ impl LineBuffer {
     pub fn feed(&mut self, bytes: &[u8]) -> Result<(), OutOfMemory>
         ensures at { (fed : List ℕ) (given : ℕ) → IsAt self.old.state fed given
             → OnOk result (IsAt self.new.state (fed ++ bytes.now) given) }
+        // Where there is room for the piece, it is taken. No room is given back here.
+        ensures fits { self.old.kept + length bytes.now ≤ self.old.room → result ≡ Ok tt }
+        ensures room { self.old.room ≤ self.new.room }
+        ensures taken { self.old.state.skips ≡ false
+            → OnOk result (self.old.kept + length bytes.now ≤ self.new.room) }
         ensures refused { OnErr result (self.new.state ≡ self.old.state) }
+        ensures refused_room { OnErr result
+            ((self.new.kept ≡ self.old.kept) × (self.new.room ≡ self.old.room)) }
         ensures limit { self.new.state.limit ≡ self.old.state.limit }
         ensures held { held self.new.state ≤ held self.old.state + length bytes.now }
         // Bytes that were given are let go.
@@ -142,6 +149,9 @@ impl LineBuffer {
         ensures room { self.new.room ≤ self.old.room }
         ensures room_none { IfOk result (λ found. IfNone found
             (held self.new.state ≡ 0 → self.new.room ≤ IDLE_ROOM)) }
+        // All of it stays where bytes are held, or where it is for few.
+        ensures room_stays { (0 < held self.new.state) ⊎ (self.old.room ≤ IDLE_ROOM)
+            → self.new.room ≡ self.old.room }
         ensures looks { OnOk result
             (self.new.looks + self.new.unsearched ≤ self.old.looks + self.old.unsearched) }
         // Where no memory is found, the byte 10 that was found is looked at once more.
@@ -256,12 +266,16 @@ impl LineBuffer {
           rest = self.old.state.rest ++ bytes.now;
           skips = false;
         }) }
-        ensures refused { OnErr result (self.new ≡ record self.old { room = self.new.room }) }
+        ensures fits { self.old.kept + length bytes.now ≤ self.old.room → IsOk result }
+        ensures room { self.old.room ≤ self.new.room }
+        ensures taken { OnOk result (self.old.kept + length bytes.now ≤ self.new.room) }
+        ensures refused { OnErr result (self.new ≡ self.old) }
         ensures kept { OnOk result (self.new.kept ≤ 2 * held self.old.state + length bytes.now) }
         ensures unsearched { OnOk result
             (self.new.unsearched ≡ self.old.unsearched + length bytes.now) }
         ensures looks { self.new.looks ≡ self.old.looks }
     {
+        self.bytes.reserve(bytes.len())?;
         self.bytes.extend_from_slice(bytes)?;
         self.skips = false;
         Ok(())
@@ -273,6 +287,8 @@ impl LineBuffer {
         ensures kept { self.new.kept ≡ held self.old.state }
         ensures room { self.new.room ≤ self.old.room }
         ensures empty { held self.old.state ≡ 0 → self.new.room ≤ IDLE_ROOM }
+        ensures stays { (0 < held self.old.state) ⊎ (self.old.room ≤ IDLE_ROOM)
+            → self.new.room ≡ self.old.room }
         ensures unsearched { self.new.unsearched ≡ self.old.unsearched }
         ensures looks { self.new.looks ≡ self.old.looks }
     {
