@@ -6,8 +6,8 @@ ghost use Rattle.el_row_formats.specs.Tables.{number_of, size_of, limit_of, row_
 ghost use Rattle.el_rows.specs.Changes.{count_at, changed_at, Sets, Counts, shown_at, IsMadeFrom};
 ghost use Rattle.el_rows.specs.within.EditedTables.{edits_of, rows_at, Writes};
 
+use crate::late_edits::LateEdits;
 use crate::shown_rows::ShownRows;
-use crate::table_edits::TableEdits;
 use crate::{AppendFault, Sealed};
 use el_base::OutOfMemory;
 use el_row_formats::{TABLES, Table};
@@ -26,7 +26,7 @@ pub trait Layer {
 pub struct Edits {
     base: [u64; TABLES],
     counts: [u64; TABLES],
-    tables: [TableEdits; TABLES],
+    tables: [LateEdits; TABLES],
     alloc: Global,
 }
 
@@ -55,14 +55,14 @@ impl Edits {
             base,
             counts: base,
             tables: [
-                TableEdits::new(alloc, Table::Blocks.size()),
-                TableEdits::new(alloc, Table::Txs.size()),
-                TableEdits::new(alloc, Table::TxHeads.size()),
-                TableEdits::new(alloc, Table::Outs.size()),
-                TableEdits::new(alloc, Table::Ins.size()),
-                TableEdits::new(alloc, Table::Scripts.size()),
-                TableEdits::new(alloc, Table::ScriptHeads.size()),
-                TableEdits::new(alloc, Table::Entries.size()),
+                LateEdits::new(alloc, Table::Blocks.size()),
+                LateEdits::new(alloc, Table::Txs.size()),
+                LateEdits::new(alloc, Table::TxHeads.size()),
+                LateEdits::new(alloc, Table::Outs.size()),
+                LateEdits::new(alloc, Table::Ins.size()),
+                LateEdits::new(alloc, Table::Scripts.size()),
+                LateEdits::new(alloc, Table::ScriptHeads.size()),
+                LateEdits::new(alloc, Table::Entries.size()),
             ],
             alloc,
         }
@@ -202,7 +202,7 @@ impl Edits {
 // Changes a row of a table, changes it again, or adds one after the last.
 fn write(
     base: &[u64; TABLES],
-    tables: &mut [TableEdits; TABLES],
+    tables: &mut [LateEdits; TABLES],
     t: Table,
     i: u64,
     row: &[u8],

@@ -3,6 +3,7 @@
 
 mod edits;
 mod faults;
+mod late_edits;
 mod open;
 mod row_list;
 mod rows;

@@ -33,6 +33,10 @@ pub record IsWritten (old new : List (List ℕ)) (place : ℕ) (row : List ℕ) 
 abbrev pub edited_at : ℕ → EditedTable → ℕ → Option (List ℕ)
 edited_at base e i = cond (nat_lt i base) (lookup (nat_eq i) e.changed) (slice_get e.added.rows (i - base))
 
+-- no edits of a table whose rows have this size
+abbrev pub unedited : ℕ → EditedTable
+unedited size = record { changed = []; added = record { size = size; rows = [] } }
+
 -- one row more is changed or added, or changed again
 pub record Writes (base : ℕ) (old new : EditedTable) (i : ℕ) (row : List ℕ) : Type 0 where
   pub size : new.added.size ≡ old.added.size
