@@ -1,7 +1,7 @@
 -- What the calls of a folder in memory do, by what the disk below it did.
-use Rattle.std.proofs.Common.{◌≡◌, ◌≢◌, ◌⊎◌, inl, inr, ⊎_elim, ℕ, zero, suc, ◌-◌, ◌≤◌, ◌==◌, min, max, Bool, true, false, List, [], ◌++◌, length, take, drop, Result, OnOk, OnErr, refl, sym, ◌∙◌, ap, subst, arith}
+use Rattle.std.proofs.Common.{◌≡◌, ◌≢◌, ◌⊎◌, inl, inr, ⊎_elim, ℕ, zero, suc, ◌+◌, ◌-◌, ◌<◌, ◌≤◌, ◌==◌, min, max, Bool, true, false, List, [], ◌++◌, length, take, drop, Result, OnOk, OnErr, refl, sym, ◌∙◌, ap, subst, arith}
 use Rattle.std.specs.List.{list_any}
-use Rattle.std.proofs.lemmas.Bool.{cases_eq}
+use Rattle.std.proofs.lemmas.Bool.{cases_eq, cases_lt}
 use Rattle.std.proofs.lemmas.List.{take_all, take-append-le}
 use Rattle.el_outside.specs.Disk.{Image, Torn, Cut, OnFile, Follows, NothingNew, OnDisk}
 use Rattle.el_outside.specs.Images.{at_file, Leaves, IsImage}
@@ -9,7 +9,7 @@ use Rattle.el_outside.specs.Moments.{LeftNow, Passes}
 use Rattle.el_outside.proofs.Images.{at_here, at_other, left_now, only_now, keep_written, is_synced}
 use Rattle.el_open_files.specs.Calls.{IsFront, Lasts, Idle, Changes, Settles}
 use Rattle.el_mem_disk.specs.DiskFiles.{FileState, never_written, file_written}
-use Rattle.el_mem_disk.specs.Disks.{DiskState, state_of, kept_in, seen_on, moment_of, left_on, ticked, with_file, failed}
+use Rattle.el_mem_disk.specs.Disks.{DiskState, state_of, kept_in, seen_on, moment_of, left_on, ticked, with_file, failed, starving}
 use Rattle.el_mem_disk.specs.MemFolders.{folder_seen, folder_moment, folder_left, folder_names}
 use Rattle.el_mem_disk.specs.declared.disk.MemDisk.{MemDisk}
 use Rattle.el_mem_disk.specs.declared.mem_folder.MemFolder.{MemFolder}
@@ -41,18 +41,43 @@ files_same r old new ok err = ⊎_elim (λ e. files_by e) (λ e. files_by e) (ei
 abbrev pub SameOr : (a b : ℕ → FileState) (file : ℕ) → Type 0
 SameOr a b file = (b ≡ a) ⊎ ((here : FileState) × (b ≡ at_file a file here))
 
-pub files_changed : {T E : Type 0} (r : Result T E) (old new : DiskState) (file : ℕ) (here front : FileState)
+pub files_changed : {T E : Type 0} (B : Type 0) (r : Result T E) (old new : DiskState) (file : ℕ) (here front : FileState)
     → OnOk r (new ≡ with_file (ticked old) file here)
-    → OnErr r ((new ≡ failed (ticked old)) ⊎ (new ≡ failed (with_file (ticked old) file front)))
+    → OnErr r ((new ≡ starving (ticked old)) ⊎ (B × (new ≡ failed (with_file (ticked old) file front))))
     → SameOr old.files new.files file
-files_changed r old new file here front ok err = ⊎_elim
+files_changed B r old new file here front ok err = ⊎_elim
     (λ e. inr (here, files_by e))
-    (λ rest. ⊎_elim (λ e. inl (files_by e)) (λ e. inr (front, files_by e)) rest)
+    (λ rest. ⊎_elim (λ e. inl (files_by e)) (λ e. inr (front, files_by e.1)) rest)
     (either r ok err)
 
-pub files_settled : {T E : Type 0} (r : Result T E) (old new : DiskState) (file : ℕ) (here : FileState)
-    → OnOk r (new ≡ with_file (ticked old) file here) → OnErr r (new ≡ failed (ticked old)) → SameOr old.files new.files file
-files_settled r old new file here ok err = ⊎_elim (λ e. inr (here, files_by e)) (λ e. inl (files_by e)) (either r ok err)
+pub files_settled : {T E : Type 0} (B : Type 0) (r : Result T E) (old new : DiskState) (file : ℕ) (here : FileState)
+    → OnOk r (new ≡ with_file (ticked old) file here)
+    → OnErr r ((new ≡ starving (ticked old)) ⊎ (B × (new ≡ failed (ticked old)))) → SameOr old.files new.files file
+files_settled B r old new file here ok err = ⊎_elim
+    (λ e. inr (here, files_by e))
+    (λ rest. ⊎_elim (λ e. inl (files_by e)) (λ e. inl (files_by e.1)) rest)
+    (either r ok err)
+
+-- a write, of which some front may be seen, or which did nothing
+abbrev pub SameOrWritten : (a b : ℕ → FileState) (file at n : ℕ) → Type 0
+SameOrWritten a b file at n = (b ≡ a) ⊎ ((front : List ℕ) × (b ≡ at_file a file (file_written at n front (a file))))
+
+pub files_written : {T E : Type 0} (B : Type 0) (r : Result T E) (old new : DiskState) (file at n limit : ℕ) (bytes front : List ℕ)
+    → (limit ≤ at + n → new ≡ failed (ticked old))
+    → OnOk r (new ≡ with_file (ticked old) file (file_written at n bytes (old.files file)))
+    → (at + n < limit → OnErr r ((new ≡ starving (ticked old))
+    ⊎ (B × (new ≡ failed (with_file (ticked old) file (file_written at n front (old.files file)))))))
+    → SameOrWritten old.files new.files file at n
+files_written B r old new file at n limit bytes front long ok err = ⊎_elim
+    (λ lt. ⊎_elim
+    (λ e. inr (bytes, files_by e))
+    (λ rest. ⊎_elim (λ e. inl (files_by e)) (λ e. inr (front, files_by e.1)) rest)
+    (either r ok (err lt)))
+    (λ le. inl (files_by (long le)))
+    (cases_lt (at + n) limit)
+
+pub same_or : (a b : ℕ → FileState) (file at n : ℕ) → SameOrWritten a b file at n → SameOr a b file
+same_or a b file at n written = ⊎_elim (λ same. inl same) (λ one. inr (file_written at n one.0 (a file), one.1)) written
 
 pub absent_after : (made : List ℕ) (a b : ℕ → FileState) (file : ℕ) → Listed file made ≡ true → SameOr a b file → Absent made a → Absent made b
 absent_after made a b file is changed absent =
@@ -127,20 +152,16 @@ still_at a b file at n front is c leaves f = subst (λ (files : ℕ → FileStat
     (λ ne. subst (λ (x : FileState). IsImage x.kept (c f)) (sym (at_other a file (file_written at n front (a file)) f ne)) (leaves f))
     (cases_eq f file))
 
-pub still : {T E : Type 0} (r : Result T E) (old new : MemDisk) (file at n : ℕ) (bytes front : List ℕ)
-    → OnOk r (state_of new ≡ with_file (ticked (state_of old)) file (file_written at n bytes ((state_of old).files file)))
-    → OnErr r ((state_of new ≡ failed (ticked (state_of old))) ⊎ (state_of new ≡ failed (with_file (ticked (state_of old)) file (file_written at n front ((state_of old).files file)))))
+pub still : (old new : MemDisk) (file at n : ℕ) → SameOrWritten (state_of old).files (state_of new).files file at n
     → NothingNew (LeftNow moment_of left_on new) (LeftNow moment_of left_on old)
-still r old new file at n bytes front ok err c left =
+still old new file at n written c left =
     let a = (state_of old).files in
     let b = (state_of new).files in
     let leaves = only_now (kept_in a) (state_of old).past c left in
     left_now (kept_in b) (state_of new).past c (⊎_elim
-    (λ done. still_at a b file at n bytes (files_by done) c leaves)
-    (λ rest. ⊎_elim
-    (λ nothing. subst (λ (files : ℕ → FileState). Leaves (kept_in files) c) (sym (files_by nothing)) leaves)
-    (λ some. still_at a b file at n front (files_by some) c leaves) rest)
-    (either r ok err))
+    (λ same. subst (λ (files : ℕ → FileState). Leaves (kept_in files) c) (sym same) leaves)
+    (λ some. still_at a b file at n some.0 some.1 c leaves)
+    written)
 
 -- a read that gave nothing had no room, or was at the end
 read_none : (n sub buf most size at : ℕ) → n ≡ min sub (size - at) → sub ≡ min buf (max most 1) → n ≡ 0 → (buf ≡ 0) ⊎ (size ≤ at)

@@ -9,13 +9,14 @@ use Rattle.el_mem_disk.specs.declared.disk.MemDisk.{MemDisk}
 use Rattle.el_mem_disk.specs.within.DiskPast.{known_at}
 
 -- Its files by number; what was known of them at each moment before, the last first; the calls that fail; how
--- many calls were made, and how many of them failed.
+-- many calls were made, how many of them failed, and for how many of these the disk found no memory itself.
 pub record DiskState : Type 0 where
   pub files : ℕ → FileState
   pub past : List (ℕ → Kept)
   pub failing : FailingCalls
   pub calls : ℕ
   pub faults : ℕ
+  pub starved : ℕ
 
 abbrev pub state_of : MemDisk → DiskState
 state_of disk = record {
@@ -24,6 +25,7 @@ state_of disk = record {
   failing = disk.failing;
   calls = disk.calls;
   faults = disk.faults;
+  starved = disk.starved;
 }
 
 -- what is known of each file
@@ -51,3 +53,7 @@ with_file s file here = record s { files = at_file s.files file here }
 
 abbrev pub failed : DiskState → DiskState
 failed s = record s { faults = risen s.faults 1 }
+
+-- it failed, and for want of memory
+abbrev pub starving : DiskState → DiskState
+starving s = record s { faults = risen s.faults 1; starved = risen s.starved 1 }

@@ -21,7 +21,8 @@ use std::alloc::Global;
 /// bytes as a read gives them and, of the time since the file's last sync, the synced bytes, the ranges that
 /// were written, and the least and the greatest size; of the moments before, contracts alone know. The chosen
 /// calls fail, and so does each that finds no memory or would make a file of 2^62 bytes or more. Calls of all
-/// kinds are counted together, from 1 on, up to 2^64 - 1.
+/// kinds are counted together, from 1 on, up to 2^64 - 1. Of a call that finds no memory nothing is done,
+/// also where it is one of the chosen ones; these calls are counted too (`starved`).
 #[derive(Drop)]
 pub struct MemDisk {
     alloc: Global,
@@ -30,11 +31,12 @@ pub struct MemDisk {
     failing: FailingCalls,
     calls: u64,
     faults: u64,
+    starved: u64,
     ghost sound: { (f : ℕ) → IsSound (file_of files.items f) },
 }
 
 impl MemDisk {
-    ghost use Rattle.el_mem_disk.specs.Disks.{state_of, ticked, with_file, failed};
+    ghost use Rattle.el_mem_disk.specs.Disks.{state_of, ticked, with_file, failed, starving};
 
     /// A disk whose files were never written, and the calls that fail. Takes no memory.
     pub fn new(alloc: Global, failing: FailingCalls) -> MemDisk
@@ -44,6 +46,7 @@ impl MemDisk {
           failing = failing;
           calls = 0;
           faults = 0;
+          starved = 0;
         } }
     {
         MemDisk {
@@ -53,6 +56,7 @@ impl MemDisk {
             failing,
             calls: 0,
             faults: 0,
+            starved: 0,
         }
     }
 
@@ -67,6 +71,7 @@ impl MemDisk {
           failing = failing;
           calls = 0;
           faults = 0;
+          starved = 0;
         }) }
     {
         let files = crash(self.alloc, self.files.as_slice(), numbers)?;
@@ -77,6 +82,7 @@ impl MemDisk {
             failing,
             calls: 0,
             faults: 0,
+            starved: 0,
         })
     }
 
@@ -92,6 +98,14 @@ impl MemDisk {
         ensures { result ≡ (state_of self.now).faults }
     {
         self.faults
+    }
+
+    /// How many of the calls that failed found no memory in the disk itself, up to 2^64 - 1. Where this is 0,
+    /// each call that was chosen to fail left what was chosen.
+    pub fn starved(&self) -> u64
+        ensures { result ≡ (state_of self.now).starved }
+    {
+        self.starved
     }
 
     /// The bytes of a file, as a read gives them. It is no call of the disk.
@@ -125,6 +139,14 @@ impl MemDisk {
     {
         self.faults = self.faults.saturating_add(1);
         DiskFailed
+    }
+
+    // A failure for want of memory, which is counted.
+    fn starve(&mut self) -> DiskFailed
+        ensures { state_of self.new ≡ starving (state_of self.old) }
+    {
+        self.starved = self.starved.saturating_add(1);
+        self.fault()
     }
 
     // A write of which this front is seen.
@@ -164,7 +186,7 @@ impl MemDisk {
 
 impl Disk for MemDisk {
     ghost use Rattle.el_mem_disk.specs.Disks.{state_of, seen_on, moment_of, left_on};
-    ghost use Rattle.el_mem_disk.specs.Disks.{ticked, with_file, failed};
+    ghost use Rattle.el_mem_disk.specs.Disks.{ticked, with_file, failed, starving};
     ghost use Rattle.el_mem_disk.specs.within.DiskRules.{left_earlier, reads_as_an_image, is_short};
 
     ghost tells = { Unit {0} };
@@ -238,12 +260,16 @@ impl Disk for MemDisk {
         ensures cause { HasCause (state_of self.old).faults (state_of self.new).faults result }
         ensures done { OnOk result (state_of self.new ≡ with_file (ticked (state_of self.old)) file
             (file_written at (length bytes.now) bytes.now ((state_of self.old).files file))) }
-        // Nothing of it was done, or what a failing write leaves.
-        ensures not_done { OnErr result ((state_of self.new ≡ failed (ticked (state_of self.old)))
-            ⊎ (state_of self.new ≡ failed (with_file (ticked (state_of self.old)) file
+        ensures too_long_done { SIZE_LIMIT ≤ at + length bytes.now
+            → state_of self.new ≡ failed (ticked (state_of self.old)) }
+        // The disk found no memory, and nothing of it was done; or it was to fail, and this is left.
+        ensures not_done { at + length bytes.now < SIZE_LIMIT
+            → OnErr result ((state_of self.new ≡ starving (ticked (state_of self.old)))
+            ⊎ ((is_failing (state_of self.old).failing (state_of self.new).calls ≡ true)
+            × (state_of self.new ≡ failed (with_file (ticked (state_of self.old)) file
             (file_written at (length bytes.now)
             (take (residue_of (state_of self.old).failing.residue (length bytes.now)) bytes.now)
-            ((state_of self.old).files file))))) }
+            ((state_of self.old).files file)))))) }
         ensures fails { is_failing (state_of self.old).failing (state_of self.new).calls ≡ true
             → IsErr result }
     {
@@ -256,7 +282,7 @@ impl Disk for MemDisk {
         match self.write(file, at, bytes.len(), seen) {
             Ok(()) if !fails => Ok(()),
             Ok(()) => Err(self.fault()),
-            Err(OutOfMemory) => Err(self.fault()),
+            Err(OutOfMemory) => Err(self.starve()),
         }
     }
 
@@ -271,10 +297,12 @@ impl Disk for MemDisk {
         ensures cause { HasCause (state_of self.old).faults (state_of self.new).faults result }
         ensures done { OnOk result (state_of self.new ≡ with_file (ticked (state_of self.old)) file
             (file_cut len true ((state_of self.old).files file))) }
-        // Nothing of it was done, or it is known to the disk and isn't seen.
-        ensures not_done { OnErr result ((state_of self.new ≡ failed (ticked (state_of self.old)))
-            ⊎ (state_of self.new ≡ failed (with_file (ticked (state_of self.old)) file
-            (file_cut len false ((state_of self.old).files file))))) }
+        // The disk found no memory, and nothing of it was done; or it was to fail, and then it is known to
+        // the disk and isn't seen.
+        ensures not_done { OnErr result ((state_of self.new ≡ starving (ticked (state_of self.old)))
+            ⊎ ((is_failing (state_of self.old).failing (state_of self.new).calls ≡ true)
+            × (state_of self.new ≡ failed (with_file (ticked (state_of self.old)) file
+            (file_cut len false ((state_of self.old).files file)))))) }
         ensures fails { is_failing (state_of self.old).failing (state_of self.new).calls ≡ true
             → IsErr result }
     {
@@ -282,7 +310,7 @@ impl Disk for MemDisk {
         match self.shorten(file, len, !fails) {
             Ok(()) if !fails => Ok(()),
             Ok(()) => Err(self.fault()),
-            Err(OutOfMemory) => Err(self.fault()),
+            Err(OutOfMemory) => Err(self.starve()),
         }
     }
 
@@ -296,7 +324,10 @@ impl Disk for MemDisk {
         ensures cause { HasCause (state_of self.old).faults (state_of self.new).faults result }
         ensures done { OnOk result (state_of self.new ≡ with_file (ticked (state_of self.old)) file
             (file_synced ((state_of self.old).files file))) }
-        ensures not_done { OnErr result (state_of self.new ≡ failed (ticked (state_of self.old))) }
+        // The disk found no memory, or it was to fail; either way nothing of it was done.
+        ensures not_done { OnErr result ((state_of self.new ≡ starving (ticked (state_of self.old)))
+            ⊎ ((is_failing (state_of self.old).failing (state_of self.new).calls ≡ true)
+            × (state_of self.new ≡ failed (ticked (state_of self.old))))) }
         ensures fails { is_failing (state_of self.old).failing (state_of self.new).calls ≡ true
             → IsErr result }
     {
@@ -305,7 +336,7 @@ impl Disk for MemDisk {
         }
         match self.settle(file) {
             Ok(()) => Ok(()),
-            Err(OutOfMemory) => Err(self.fault()),
+            Err(OutOfMemory) => Err(self.starve()),
         }
     }
 }

@@ -2,6 +2,7 @@ use Rattle.std.proofs.Common.{inr, ◌≤◌, length, take, not, if◌then◌els
 use Rattle.el_outside.specs.Images.{at_file}
 use Rattle.el_mem_disk.specs.DiskFiles.{file_cut}
 use Rattle.el_mem_disk.specs.Disks.{DiskState, state_of, ticked, with_file, failed}
+use Rattle.el_mem_disk.specs.Failing.{is_failing}
 use Rattle.el_mem_disk.proofs.DiskCalls.{files_by, seen_here, seen_others, cut_crash, cut_nothing}
 use Rattle.el_mem_disk.proofs.disk.MemDiskDisk.cut.Goals as goal
 
@@ -30,10 +31,10 @@ returns-in-Ok-2-clause-crash c = cut_crash (state_of c.args.self.now).files (sta
     (files_by c.fault.ensures ∙ files_by c.in-Ok.ensures.ok ∙ ap (λ files. at_file files c.args.file (file_cut c.args.len (not c.tick-fails.result) (files c.args.file))) (files_by c.tick-fails.ensures.same))
 
 pub returns-in-Err-clause-others : goal.returns-in-Err-clause-others
-returns-in-Err-clause-others c f ne = ap (λ files. (files f).bytes) (files_by c.fault-in-Err.ensures ∙ files_by c.in-Err.ensures.err ∙ files_by c.tick-fails.ensures.same)
+returns-in-Err-clause-others c f ne = ap (λ files. (files f).bytes) (files_by c.starve.ensures ∙ files_by c.in-Err.ensures.err ∙ files_by c.tick-fails.ensures.same)
 
 pub returns-in-Err-clause-crash : goal.returns-in-Err-clause-crash
-returns-in-Err-clause-crash c = cut_nothing (state_of c.args.self.now).files (state_of c.fault-in-Err.new.self).files (state_of c.args.self.now).past (state_of c.fault-in-Err.new.self).past c.args.file c.args.len (files_by c.fault-in-Err.ensures ∙ files_by c.in-Err.ensures.err ∙ files_by c.tick-fails.ensures.same)
+returns-in-Err-clause-crash c = cut_nothing (state_of c.args.self.now).files (state_of c.starve.new.self).files (state_of c.args.self.now).past (state_of c.starve.new.self).past c.args.file c.args.len (files_by c.starve.ensures ∙ files_by c.in-Err.ensures.err ∙ files_by c.tick-fails.ensures.same)
 
 pub returns-in-Ok-clause-done : goal.returns-in-Ok-clause-done
 returns-in-Ok-clause-done c =
@@ -41,6 +42,10 @@ returns-in-Ok-clause-done c =
     ∙ ap (λ (b : Bool). with_file (ticked (state_of c.args.self.now)) c.args.file (file_cut c.args.len (not b) ((state_of c.args.self.now).files c.args.file))) c.if-not-fails.true
 
 pub returns-in-Ok-2-clause-not_done : goal.returns-in-Ok-2-clause-not_done
-returns-in-Ok-2-clause-not_done c = inr (c.fault.ensures ∙ ap failed
-    (c.in-Ok.ensures.ok ∙ ap (λ (s : DiskState). with_file s c.args.file (file_cut c.args.len (not c.tick-fails.result) (s.files c.args.file))) c.tick-fails.ensures.same
-    ∙ ap (λ (b : Bool). with_file (ticked (state_of c.args.self.now)) c.args.file (file_cut c.args.len (not b) ((state_of c.args.self.now).files c.args.file))) c.if-not-fails.false))
+returns-in-Ok-2-clause-not_done c = inr (
+  ap (λ (s : DiskState). is_failing (state_of c.args.self.now).failing s.calls) (c.fault.ensures ∙ ap failed c.in-Ok.ensures.ok)
+      ∙ sym c.tick-fails.ensures.fails ∙ c.if-not-fails.false,
+  c.fault.ensures ∙ ap failed
+      (c.in-Ok.ensures.ok ∙ ap (λ (s : DiskState). with_file s c.args.file (file_cut c.args.len (not c.tick-fails.result) (s.files c.args.file))) c.tick-fails.ensures.same
+      ∙ ap (λ (b : Bool). with_file (ticked (state_of c.args.self.now)) c.args.file (file_cut c.args.len (not b) ((state_of c.args.self.now).files c.args.file))) c.if-not-fails.false),
+)

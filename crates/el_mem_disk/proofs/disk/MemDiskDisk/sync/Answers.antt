@@ -1,7 +1,8 @@
-use Rattle.std.proofs.Common.{◌∙◌, ap}
+use Rattle.std.proofs.Common.{◌≡◌, true, inr, ◌∙◌, ap, rules}
 use Rattle.el_outside.specs.Images.{at_file}
 use Rattle.el_mem_disk.specs.DiskFiles.{file_synced}
-use Rattle.el_mem_disk.specs.Disks.{DiskState, state_of, with_file}
+use Rattle.el_mem_disk.specs.Disks.{DiskState, state_of, with_file, failed}
+use Rattle.el_mem_disk.specs.Failing.{is_failing}
 use Rattle.el_mem_disk.proofs.DiskCalls.{files_by, nothing_new, sync_crash, sync_seen, sync_on_disk}
 use Rattle.el_mem_disk.proofs.disk.MemDiskDisk.sync.Goals as goal
 
@@ -28,11 +29,19 @@ returns-in-Ok-clause-others c f ne = λ i. sync_seen (state_of c.args.self.now).
     (files_by c.in-Ok.ensures.ok ∙ ap (λ files. at_file files c.args.file (file_synced (files c.args.file))) (files_by c.tick.ensures.same)) i f
 
 pub returns-in-Err-clause-others : goal.returns-in-Err-clause-others
-returns-in-Err-clause-others c f ne = ap (λ files. (files f).bytes) (files_by c.fault-in-Err.ensures ∙ files_by c.in-Err.ensures.err ∙ files_by c.tick.ensures.same)
+returns-in-Err-clause-others c f ne = ap (λ files. (files f).bytes) (files_by c.starve.ensures ∙ files_by c.in-Err.ensures.err ∙ files_by c.tick.ensures.same)
 
 pub returns-in-Err-clause-crash : goal.returns-in-Err-clause-crash
-returns-in-Err-clause-crash c = nothing_new (state_of c.args.self.now).files (state_of c.fault-in-Err.new.self).files (state_of c.args.self.now).past (state_of c.fault-in-Err.new.self).past (files_by c.fault-in-Err.ensures ∙ files_by c.in-Err.ensures.err ∙ files_by c.tick.ensures.same)
+returns-in-Err-clause-crash c = nothing_new (state_of c.args.self.now).files (state_of c.starve.new.self).files (state_of c.args.self.now).past (state_of c.starve.new.self).past (files_by c.starve.ensures ∙ files_by c.in-Err.ensures.err ∙ files_by c.tick.ensures.same)
 
 pub returns-in-Ok-clause-done : goal.returns-in-Ok-clause-done
 returns-in-Ok-clause-done c =
     c.in-Ok.ensures.ok ∙ ap (λ (s : DiskState). with_file s c.args.file (file_synced (s.files c.args.file))) c.tick.ensures.same
+
+pub returns-then-tick-clause-not_done : goal.returns-then-tick-clause-not_done
+returns-then-tick-clause-not_done c =
+    let planned : is_failing (state_of c.args.self.now).failing (state_of c.tick.new.self).calls ≡ true = search rules in
+    inr (
+      ap (λ (s : DiskState). is_failing (state_of c.args.self.now).failing s.calls) c.fault.ensures ∙ planned,
+      c.fault.ensures ∙ ap failed c.tick.ensures.same,
+    )

@@ -3,7 +3,7 @@ use Rattle.el_outside.specs.Disk.{over}
 use Rattle.el_outside.specs.Images.{at_file}
 use Rattle.el_mem_disk.specs.DiskFiles.{file_written}
 use Rattle.el_mem_disk.specs.Disks.{DiskState, state_of, ticked, with_file, failed}
-use Rattle.el_mem_disk.specs.Failing.{residue_of}
+use Rattle.el_mem_disk.specs.Failing.{is_failing, residue_of}
 use Rattle.el_mem_disk.proofs.DiskCalls.{files_by, nothing_new, bytes_in, seen_here, seen_others, write_crash, torn_nothing}
 use Rattle.el_mem_disk.proofs.disk.MemDiskDisk.write_at.Goals as goal
 
@@ -46,10 +46,10 @@ returns-in-Ok-2-clause-crash c = write_crash (state_of c.args.self.now).files (s
     (files_by c.fault-in-Ok-2.ensures ∙ files_by c.in-Ok.ensures.ok ∙ ap (λ files. at_file files c.args.file (file_written c.args.at (length c.args.bytes.now) c.front-seen.result.now (files c.args.file))) (files_by c.tick-fails.ensures.same))
 
 pub returns-in-Err-clause-others : goal.returns-in-Err-clause-others
-returns-in-Err-clause-others c f ne = ap (λ files. (files f).bytes) (files_by c.fault-in-Err.ensures ∙ files_by c.in-Err.ensures.err ∙ files_by c.tick-fails.ensures.same)
+returns-in-Err-clause-others c f ne = ap (λ files. (files f).bytes) (files_by c.starve.ensures ∙ files_by c.in-Err.ensures.err ∙ files_by c.tick-fails.ensures.same)
 
 pub returns-in-Err-clause-crash : goal.returns-in-Err-clause-crash
-returns-in-Err-clause-crash c = torn_nothing (state_of c.args.self.now).files (state_of c.fault-in-Err.new.self).files (state_of c.args.self.now).past (state_of c.fault-in-Err.new.self).past c.args.file c.args.at (length c.args.bytes.now) (files_by c.fault-in-Err.ensures ∙ files_by c.in-Err.ensures.err ∙ files_by c.tick-fails.ensures.same)
+returns-in-Err-clause-crash c = torn_nothing (state_of c.args.self.now).files (state_of c.starve.new.self).files (state_of c.args.self.now).past (state_of c.starve.new.self).past c.args.file c.args.at (length c.args.bytes.now) (files_by c.starve.ensures ∙ files_by c.in-Err.ensures.err ∙ files_by c.tick-fails.ensures.same)
 
 pub returns-in-Ok-clause-done : goal.returns-in-Ok-clause-done
 returns-in-Ok-clause-done c =
@@ -59,9 +59,13 @@ returns-in-Ok-clause-done c =
     ∙ ap (λ (b : Bool). if b then take (residue_of c.tick-fails.new.self.failing.residue (length c.args.bytes.now)) c.args.bytes.now else c.args.bytes.now) c.if-not-fails.true)
 
 pub returns-in-Ok-2-clause-not_done : goal.returns-in-Ok-2-clause-not_done
-returns-in-Ok-2-clause-not_done c = inr (c.fault-in-Ok-2.ensures ∙ ap failed
-    (c.in-Ok.ensures.ok ∙ ap (λ (s : DiskState). with_file s c.args.file (file_written c.args.at (length c.args.bytes.now) c.front-seen.result.now (s.files c.args.file))) c.tick-fails.ensures.same
-    ∙ ap (λ (seen : List ℕ). with_file (ticked (state_of c.args.self.now)) c.args.file (file_written c.args.at (length c.args.bytes.now) seen ((state_of c.args.self.now).files c.args.file)))
-    (c.front-seen.ensures.exact
-    ∙ ap (λ (b : Bool). if b then take (residue_of c.tick-fails.new.self.failing.residue (length c.args.bytes.now)) c.args.bytes.now else c.args.bytes.now) c.if-not-fails.false
-    ∙ ap (λ (s : DiskState). take (residue_of s.failing.residue (length c.args.bytes.now)) c.args.bytes.now) c.tick-fails.ensures.same)))
+returns-in-Ok-2-clause-not_done c short = inr (
+  ap (λ (s : DiskState). is_failing (state_of c.args.self.now).failing s.calls) (c.fault-in-Ok-2.ensures ∙ ap failed c.in-Ok.ensures.ok)
+      ∙ sym c.tick-fails.ensures.fails ∙ c.if-not-fails.false,
+  c.fault-in-Ok-2.ensures ∙ ap failed
+      (c.in-Ok.ensures.ok ∙ ap (λ (s : DiskState). with_file s c.args.file (file_written c.args.at (length c.args.bytes.now) c.front-seen.result.now (s.files c.args.file))) c.tick-fails.ensures.same
+      ∙ ap (λ (seen : List ℕ). with_file (ticked (state_of c.args.self.now)) c.args.file (file_written c.args.at (length c.args.bytes.now) seen ((state_of c.args.self.now).files c.args.file)))
+      (c.front-seen.ensures.exact
+      ∙ ap (λ (b : Bool). if b then take (residue_of c.tick-fails.new.self.failing.residue (length c.args.bytes.now)) c.args.bytes.now else c.args.bytes.now) c.if-not-fails.false
+      ∙ ap (λ (s : DiskState). take (residue_of s.failing.residue (length c.args.bytes.now)) c.args.bytes.now) c.tick-fails.ensures.same)),
+)

@@ -14,7 +14,7 @@ invariant_of-self c =
     let is : Listed number c.args.self.now.made.items ≡ true = search rules in
     record {
       absent = absent_after c.args.self.now.made.items old.files (state_of c.cut.new.self).files number is
-          (files_changed c.cut.result old (state_of c.cut.new.self) number _ _ c.cut.ensures.done c.cut.ensures.not_done) c.args.self.now.absent;
+          (files_changed _ c.cut.result old (state_of c.cut.new.self) number _ _ c.cut.ensures.done c.cut.ensures.not_done) c.args.self.now.absent;
       kept = c.args.self.now.kept;
     }
 

@@ -24,7 +24,7 @@ invariant_of-self c =
     let is : Listed number c.args.self.now.named.items ≡ true = search rules in
     record {
       absent = absent_after c.args.self.now.made.items old.files (state_of c.sync.new.self).files number (c.args.self.now.kept number is)
-          (files_settled c.sync.result old (state_of c.sync.new.self) number _ c.sync.ensures.done c.sync.ensures.not_done) c.args.self.now.absent;
+          (files_settled _ c.sync.result old (state_of c.sync.new.self) number _ c.sync.ensures.done c.sync.ensures.not_done) c.args.self.now.absent;
       kept = c.args.self.now.kept;
     }
 
