@@ -67,6 +67,19 @@ impl<F: OpenFiles + Drop> FileDisk<F> {
             faults: 0,
         })
     }
+
+    /// The folder, as it stands; its files are closed. Takes no memory.
+    pub fn into_folder(self) -> F
+        ensures { result ≡ self.files }
+    {
+        let FileDisk {
+            files,
+            places: _,
+            made: _,
+            faults: _,
+        } = self;
+        files
+    }
 }
 
 impl<F: OpenFiles + Drop> Disk for FileDisk<F> {
