@@ -1,7 +1,7 @@
 // A disk over the open files of a folder in memory, whose calls go short, are interrupted, or fail.
 
 use crate::disks::none_fails;
-use el_mem_disk::{FailingCalls, MemFolder, Residue};
+use el_mem_disk::{FailingCalls, MemDisk, MemFolder, Residue};
 use el_open_files::FileDisk;
 use el_outside::{Disk, DiskFailed};
 use std::alloc::Global;
@@ -35,6 +35,12 @@ fn short_calls_are_gone_on_with(rt: HostRuntime) -> Result<(), Fail> {
         let mut buf = [0u8; 16];
         assert_eq!(rt; script(&mut disk, &mut buf), Ok(11), "{most} bytes at once");
         assert_eq!(rt; &buf, b"cdefgh12345\0\0\0\0\0", "{most} bytes at once");
+        let below = disk.into_folder().into_disk();
+        assert_eq!(rt;
+            below.bytes(10),
+            b"abcdefgh12345".as_slice(),
+            "{most} bytes at once"
+        );
     }
     Ok(())
 }
@@ -52,8 +58,9 @@ fn interrupted_calls_are_made_again(rt: HostRuntime) -> Result<(), Fail> {
     Ok(())
 }
 
-// How the script ends where all calls of the disk below from that one on fail.
-fn ends_failing(alloc: Global, from: u64) -> Result<Result<usize, DiskFailed>, Fail> {
+// How the script ends where all calls of the disk below from that one on fail, and that disk. Of a write that
+// fails it has the first byte.
+fn ends_failing(alloc: Global, from: u64) -> Result<(Result<usize, DiskFailed>, MemDisk), Fail> {
     let failing = FailingCalls {
         listed: Vec::new(alloc),
         from: Some(from),
@@ -61,7 +68,8 @@ fn ends_failing(alloc: Global, from: u64) -> Result<Result<usize, DiskFailed>, F
     };
     let mut disk = FileDisk::over(folder(alloc, 3, failing, &[])?, alloc)?;
     let mut buf = [0u8; 16];
-    Ok(script(&mut disk, &mut buf))
+    let end = script(&mut disk, &mut buf);
+    Ok((end, disk.into_folder().into_disk()))
 }
 
 // Once all calls that the script makes are before the first that fails, it ends well.
@@ -69,15 +77,20 @@ fn ends_failing(alloc: Global, from: u64) -> Result<Result<usize, DiskFailed>, F
 fn a_failure_is_told(rt: HostRuntime) -> Result<(), Fail> {
     let mut was_fine = false;
     for from in 2..60 {
-        let end = ends_failing(rt.alloc(), from)?;
+        let (end, below) = ends_failing(rt.alloc(), from)?;
         let is_fine = end == Ok(11);
         assert!(rt;
             is_fine || (end == Err(DiskFailed) && !was_fine),
             "from call {from} on"
         );
         was_fine = is_fine;
+        assert_eq!(rt; below.starved(), 0);
+        assert!(rt;
+            b"abcdefgh12345".starts_with(below.bytes(10)),
+            "from call {from} on"
+        );
     }
     assert!(rt; was_fine);
-    assert_eq!(rt; ends_failing(rt.alloc(), 1)?, Err(DiskFailed));
+    assert_eq!(rt; ends_failing(rt.alloc(), 1)?.0, Err(DiskFailed));
     Ok(())
 }
