@@ -145,7 +145,10 @@ fn each_call_fails_in_turn(rt: HostRuntime) -> Result<(), Fail> {
         let failing = fails_at(alloc, call, residue)?;
         let disk = after_script(alloc, failing);
         assert_eq!(rt; (disk.bytes(0), disk.bytes(1)), (first, second));
-        assert_eq!(rt; (disk.calls(), disk.faults()), (10, faults));
+        assert_eq!(rt;
+            (disk.calls(), disk.faults(), disk.starved()),
+            (10, faults, 0)
+        );
     }
     Ok(())
 }
@@ -162,8 +165,8 @@ fn a_crash_is_lived_through(rt: HostRuntime) -> Result<(), Fail> {
     };
     let disk = after_script(alloc, failing);
     assert_eq!(rt;
-        (disk.bytes(0), disk.bytes(1), disk.faults()),
-        (b"azy".as_slice(), b"p".as_slice(), 7)
+        (disk.bytes(0), disk.bytes(1), disk.faults(), disk.starved()),
+        (b"azy".as_slice(), b"p".as_slice(), 7, 0)
     );
     assert!(rt; is_left(alloc, &disk, &[0, 9, 9, 9, 1, 6], b"a", b"\x06")?);
     let mut next = SilentDisk::new(disk.crashed(&[2, 9, 7, 8, 0], none_fails(alloc))?);

@@ -157,7 +157,7 @@ fn each_call_fails_in_turn(rt: HostRuntime) -> Result<(), Fail> {
         for call in first..=last {
             let failing = fails_at(alloc, call, residue)?;
             let (appended, disk) = run(alloc, failing);
-            assert_eq!(rt; (appended, disk.faults()), (wanted, 1));
+            assert_eq!(rt; (appended, disk.faults(), disk.starved()), (wanted, 1, 0));
             assert_eq!(rt; opened_count(alloc, disk, &ENTRIES), Some(left));
         }
     }

@@ -66,6 +66,7 @@ fn is_kept(alloc: Global, call: u64, residue: Residue) -> Result<bool, Fail> {
     let told = moves_told(alloc, life.text.as_str())?;
     let ends = life.status == Status::DiskFailed || life.status == Status::Ended && told == 2;
     let faults = life.disk.faults();
+    let starved = life.disk.starved();
     let next = live(
         alloc,
         SERVE,
@@ -75,7 +76,7 @@ fn is_kept(alloc: Global, call: u64, residue: Residue) -> Result<bool, Fail> {
     )?;
     let text = next.text.as_str();
     let is_last = has_chain(alloc, text, told)? || has_chain(alloc, text, told.saturating_add(1))?;
-    Ok(ends && faults == 1 && next.status == Status::Ended && is_last)
+    Ok(ends && faults == 1 && starved == 0 && next.status == Status::Ended && is_last)
 }
 
 #[test]
