@@ -36,9 +36,11 @@ otherwise value kind (Some d) = ok_or (kind d) InvalidParams
 abbrev pub passing : (Data → Bool) → Data → Option (Unit {0})
 passing test d = if test d then Some tt else None
 
+-- the value is a string
 abbrev pub is_text : Data → Bool
 is_text d = is_some (as_str d)
 
+-- the value is an object
 abbrev pub is_object : Data → Bool
 is_object d = is_some (as_object d)
 

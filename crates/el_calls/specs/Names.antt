@@ -3,6 +3,7 @@ use Rattle.std.specs.Prelude.{ℕ, List, codes}
 use Rattle.el_calls.specs.declared.method.Method.{Method}
 use Rattle.el_calls.specs.declared.method.Method.TheVariants as method
 
+-- the name by which a request asks for the method
 abbrev pub name_of : Method → List ℕ
 name_of method.ServerVersion = codes "server.version"
 name_of method.ServerBanner = codes "server.banner"

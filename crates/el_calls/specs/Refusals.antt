@@ -26,6 +26,7 @@ code_of refusal.DiskFailed = pos 3
 code_of refusal.ArchiveFailed = pos 4
 code_of refusal.ArchiveChanged = pos 5
 
+-- what the error says, in words
 abbrev pub message_of : Refusal → List ℕ
 message_of refusal.Parse = codes "parse error"
 message_of refusal.Invalid = codes "invalid request"

@@ -22,6 +22,7 @@ cut_at_dot (b ∷ bs) = if b == 46 then ([], Some bs) else (b ∷ (cut_at_dot bs
 abbrev pub digit_of : ℕ → Option ℕ
 digit_of b = if is_ascii_digit b then Some (b - 48) else None
 
+-- the number before, and one digit more at its end
 abbrev pub next_digit : Option ℕ → ℕ → Option ℕ
 next_digit before b = do
   n ← before
@@ -42,6 +43,7 @@ abbrev pub part_or_zero : Option (List ℕ) → Option ℕ
 part_or_zero None = Some 0
 part_or_zero (Some text) = part_of text
 
+-- what stands after the first dot, cut at the next one; where nothing does, a part 0 (48 is '0')
 abbrev pub rest_of : Option (List ℕ) → List ℕ × Option (List ℕ)
 rest_of None = (48 ∷ [], None)
 rest_of (Some text) = cut_at_dot text
@@ -54,12 +56,15 @@ version_with first cut = do
   patch ← part_or_zero cut.1
   Some (record { major = major; minor = minor; patch = patch })
 
+-- the version that the text names
 abbrev pub version_of : List ℕ → Option VersionParts
 version_of text = version_with (cut_at_dot text).0 (rest_of (cut_at_dot text).1)
 
+-- a text that names a version
 abbrev pub version_in : Data → Option VersionParts
 version_in d = option_and_then version_of (as_str d)
 
+-- a text names one version that stands for both; of a pair each names one
 abbrev pub versions_with : Option (List ℕ) → Option (Data × Data) → Option (VersionParts × VersionParts)
 versions_with (Some text) pair = do
   version ← version_of text
@@ -80,6 +85,7 @@ is_up_to a b =
     nat_lt a.major b.major
     || (a.major == b.major && (nat_lt a.minor b.minor || (a.minor == b.minor && nat_le a.patch b.patch)))
 
+-- the version that is served: 1.4
 abbrev pub served : VersionParts
 served = record { major = 1; minor = 4; patch = 0 }
 
@@ -91,6 +97,7 @@ is_shared least most = is_up_to least served && is_up_to served most
 abbrev pub are_hex_bytes : List ℕ → Bool
 are_hex_bytes text = (length text % 2 == 0) && list_all is_ascii_hexdigit text
 
+-- there is a text, and it is an even number of hex digits
 abbrev pub are_hex_bytes_in : Option (List ℕ) → Bool
 are_hex_bytes_in None = false
 are_hex_bytes_in (Some text) = are_hex_bytes text

@@ -58,6 +58,7 @@ abbrev pub disk_in : {D : Type 0} → Result (JournalState D) (JournalFault × D
 disk_in (Ok journal) = journal.disk
 disk_in (Err refused) = refused.1
 
+-- the same without the disk: the journal, or the fault
 abbrev pub opened : {D : Type 0} → Result (JournalState D) (JournalFault × D)
     → Result (JournalState D) JournalFault
 opened (Ok journal) = Ok journal

@@ -70,6 +70,7 @@ item_of d =
 
 -- 3. A line
 
+-- the values of a batch as requests, in order
 abbrev pub items_of : Items → List Item
 items_of no_items = []
 items_of (item d ds) = item_of d ∷ items_of ds
@@ -85,6 +86,7 @@ envelope_of (array no_items) = Err (fault.Invalid null)
 envelope_of (array (item d ds)) = Ok (Batch (items_of (item d ds)))
 envelope_of d = one_of (item_of d)
 
+-- a value as a line, or no JSON at all
 abbrev pub envelope_or : Option Data → Result Envelope LineFault
 envelope_or None = Err fault.Parse
 envelope_or (Some d) = envelope_of d
@@ -106,10 +108,12 @@ IsReading line (Err fault.Memory) = ⊤
 abbrev pub IsPrintable : Data → Type 0
 IsPrintable d = has_float d ≡ false
 
+-- the id of a request is printable, if it has one
 abbrev pub IsPrintableId : Option Data → Type 0
 IsPrintableId None = ⊤
 IsPrintableId (Some id) = IsPrintable id
 
+-- the id with which a request, or what is none, is answered is printable
 abbrev pub HasPrintableId : Item → Type 0
 HasPrintableId (Good r) = IsPrintableId r.id
 HasPrintableId (Invalid id) = IsPrintable id

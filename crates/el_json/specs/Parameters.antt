@@ -28,6 +28,7 @@ abbrev pub is_among : List (List ℕ) → List ℕ → Bool
 is_among [] name = false
 is_among (n ∷ ns) name = bytes_eq n name || is_among ns name
 
+-- each member has one of these names
 abbrev pub all_among : List (List ℕ) → Members → Bool
 all_among names no_members = true
 all_among names (member k d ms) = is_among names k && all_among names ms
@@ -43,6 +44,7 @@ has_only names (Names ms) = all_among names ms
 abbrev pub number_in : Data → Option ℕ
 number_in d = option_and_then as_u64 (as_number d)
 
+-- decoded bytes as a hash: they are shown in the reverse of the inner order
 abbrev pub hash_or : Result (List ℕ) FromHexError → Option Hash32
 hash_or (Ok bytes) = Some (record { 0 = reverse bytes })
 hash_or (Err e) = None
@@ -55,6 +57,7 @@ hash_shown text = hash_or (decode_sized text 32)
 abbrev pub hash_in : Data → Option Hash32
 hash_in d = option_and_then hash_shown (as_str d)
 
+-- exactly two values
 abbrev pub pair_of : Items → Option (Data × Data)
 pair_of (item a (item b no_items)) = Some (a, b)
 pair_of ds = None

@@ -33,6 +33,7 @@ pub record Devices (D A K : Type 0) : Type 0 where
   pub files : A
   pub link : K
 
+-- these three, as the devices at some moment
 abbrev pub devices : {D A K : Type 0} → D → A → K → Devices D A K
 devices disk files link = record { disk = disk; files = files; link = link }
 

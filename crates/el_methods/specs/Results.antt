@@ -46,12 +46,15 @@ hex bytes = string (encode_lower bytes)
 abbrev pub shown_hash : Hash32 → Data
 shown_hash h = string (shown h.0)
 
+-- a number that is not below 0
 abbrev pub whole : ℕ → Data
 whole n = number (unsigned n)
 
+-- a number that may be below 0
 abbrev pub signed : ℤ → Data
 signed n = number (of_integer n)
 
+-- one member after the other is put in
 abbrev pub put_all : Members → List (List ℕ × Data) → Members
 put_all ms [] = ms
 put_all ms (m ∷ more) = put_all (put m.0 m.1 ms) more
@@ -60,6 +63,7 @@ put_all ms (m ∷ more) = put_all (put m.0 m.1 ms) more
 abbrev pub object_of : List (List ℕ × Data) → Data
 object_of ms = object (put_all no_members ms)
 
+-- a list of hashes, each as it is shown
 abbrev pub hashes : List Hash32 → Data
 hashes hs = array (items_of (map shown_hash hs))
 
@@ -79,6 +83,7 @@ header_proof chain height cp_height header = proof_among (hashes_to chain cp_hei
 abbrev pub is_bad_checkpoint : Chain → ℕ → ℕ → Bool
 is_bad_checkpoint chain height cp_height = nat_le (length chain) cp_height || nat_lt cp_height height
 
+-- the header alone where the checkpoint is 0, else with its proof
 abbrev pub header_or_proof : Chain → ℕ → ℕ → List ℕ → Result Data Refusal
 header_or_proof chain height cp_height header =
     if cp_height == 0 then Ok (hex header)
@@ -91,6 +96,7 @@ of_header chain height make = do
   header ← ok_or (header_at chain height) refusal.NoSuchHeight
   Ok (make header)
 
+-- the header of that height, or there is none
 abbrev pub block_header : Chain → ℕ → ℕ → Result Data Refusal
 block_header chain height cp_height = do
   header ← ok_or (header_at chain height) refusal.NoSuchHeight
@@ -108,6 +114,7 @@ abbrev pub headers_bytes : Chain → ℕ → ℕ → List ℕ
 headers_bytes chain start n =
     flat_map (λ (b : Placed). header_encoding b.block.header) (take n (drop start chain))
 
+-- so many headers, how many, and how many a reply may have
 abbrev pub headers_value : ℕ → List ℕ → Data
 headers_value n bytes =
     object_of ((codes "count", whole n) ∷ (codes "hex", hex bytes) ∷ (codes "max", whole HEADER_LIMIT) ∷ [])
@@ -124,26 +131,31 @@ abbrev pub is_bad_for_headers : Chain → ℕ → ℕ → ℕ → Bool
 is_bad_for_headers chain start n cp_height =
     nat_le (length chain) cp_height || (nat_lt 0 n && nat_lt (cp_height + 1) (start + n))
 
+-- with their proof, unless the checkpoint is bad; no headers have none
 abbrev pub headers_proved : Chain → ℕ → ℕ → ℕ → Result Data Refusal
 headers_proved chain start n cp_height =
     if is_bad_for_headers chain start n cp_height then Err refusal.BadCheckpoint
     else (if n == 0 then Ok (headers_value n (headers_bytes chain start n))
     else Ok (headers_among (hashes_to chain cp_height) (start + n - 1) n (headers_bytes chain start n)))
 
+-- the headers alone where the checkpoint is 0, else with their proof
 abbrev pub some_headers : Chain → ℕ → ℕ → ℕ → Result Data Refusal
 some_headers chain start n cp_height =
     if cp_height == 0 then Ok (headers_value n (headers_bytes chain start n))
     else headers_proved chain start n cp_height
 
+-- as many of the headers from that height on as a reply may have
 abbrev pub block_headers : Chain → ℕ → ℕ → ℕ → Result Data Refusal
 block_headers chain start count cp_height =
     some_headers chain start (header_count chain start count) cp_height
 
 -- 4. blockchain.headers.subscribe
 
+-- a tip: its height, and its header
 abbrev pub tip_value : ℕ → List ℕ → Data
 tip_value height header = object_of ((codes "height", whole height) ∷ (codes "hex", hex header) ∷ [])
 
+-- the tip, if there are blocks
 abbrev pub headers_subscribe : Chain → Result Data Refusal
 headers_subscribe chain = do
   height ← ok_or (height_of chain) refusal.NoBlocks
@@ -165,6 +177,7 @@ confirmed_of chain id = option_map (λ (p : Position). p.tx) (newest id (positio
 abbrev pub transaction_of : Chain → List Tx → Hash32 → Option Tx
 transaction_of chain kept id = option_or (kept_with id kept) (confirmed_of chain id)
 
+-- the transaction in the form with witnesses, in hex; what a node knows beside it is not served
 abbrev pub transaction_get : Chain → List Tx → Hash32 → Bool → Result Data Refusal
 transaction_get chain kept id true = Err refusal.VerboseNotServed
 transaction_get chain kept id false = do
@@ -181,11 +194,13 @@ is_in_files kept id verbose = not (verbose || is_some (kept_with id kept))
 abbrev pub place_among : Hash32 → List Hash32 → Option ℕ
 place_among id ids = position (λ (other : Hash32). bytes_eq other.0 id.0) ids
 
+-- the place among the txids of a block, and the branch from there
 abbrev pub merkle_value : List Hash32 → ℕ → ℕ → Data
 merkle_value ids height pos =
     object_of ((codes "block_height", whole height) ∷ (codes "merkle", hashes (branch_of ids pos))
     ∷ (codes "pos", whole pos) ∷ [])
 
+-- the place and the branch of the transaction in the block of that height
 abbrev pub get_merkle : Chain → Hash32 → ℕ → Result Data Refusal
 get_merkle chain id height = do
   ids ← ok_or (txids_at chain height) refusal.NoSuchHeight
@@ -198,6 +213,7 @@ id_value ids pos id false = shown_hash id
 id_value ids pos id true =
     object_of ((codes "merkle", hashes (branch_of ids pos)) ∷ (codes "tx_hash", shown_hash id) ∷ [])
 
+-- the txid at that place in the block of that height
 abbrev pub id_from_pos : Chain → ℕ → ℕ → Bool → Result Data Refusal
 id_from_pos chain height pos merkle = do
   ids ← ok_or (txids_at chain height) refusal.NoSuchHeight
@@ -217,6 +233,7 @@ balance_value sums =
     object_of ((codes "confirmed", whole sums.confirmed)
     ∷ (codes "unconfirmed", signed sums.unconfirmed) ∷ [])
 
+-- an entry of the confirmed history: its height and its txid
 abbrev pub entry_value : Entry → Data
 entry_value e = object_of ((codes "height", whole e.height) ∷ (codes "tx_hash", shown_hash e.txid) ∷ [])
 
@@ -226,6 +243,7 @@ pool_value e =
     object_of ((codes "fee", whole e.fee) ∷ (codes "height", signed e.flag)
     ∷ (codes "tx_hash", shown_hash e.txid) ∷ [])
 
+-- a coin, whose height is 0 where it is unconfirmed
 abbrev pub coin_value : Coin → Data
 coin_value c =
     object_of ((codes "height", whole c.height) ∷ (codes "tx_hash", shown_hash c.outpoint.txid)
@@ -235,13 +253,16 @@ coin_value c =
 abbrev pub both_values : List Entry → List PoolEntry → List Data
 both_values confirmed unconfirmed = map entry_value confirmed ++ map pool_value unconfirmed
 
+-- the confirmed history, and then the unconfirmed one
 abbrev pub get_history : Chain → List Tx → List ℕ → Result Data Refusal
 get_history chain kept script_hash =
     listed (both_values (history chain script_hash) (pool_history chain kept script_hash))
 
+-- the unconfirmed history alone
 abbrev pub get_mempool : Chain → List Tx → List ℕ → Result Data Refusal
 get_mempool chain kept script_hash = listed (map pool_value (pool_history chain kept script_hash))
 
+-- the coins, with the unconfirmed ones and without those that unconfirmed transactions take
 abbrev pub list_unspent : Chain → List Tx → List ℕ → Result Data Refusal
 list_unspent chain kept script_hash = listed (map coin_value (unspent chain kept script_hash))
 
@@ -265,6 +286,7 @@ script_hash_subscribe chain kept subs s =
 
 -- 9. server.features
 
+-- what the server is, on the chain that begins with this hash
 abbrev pub features_value : Hash32 → Data
 features_value genesis =
     object_of ((codes "genesis_hash", shown_hash genesis) ∷ (codes "hash_function", string (codes "sha256"))

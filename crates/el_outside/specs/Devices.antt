@@ -23,6 +23,7 @@ failures device losses = length (filter (same_device device) losses)
 abbrev pub Faults : Type 0
 Faults = Device → ℕ
 
+-- the counts of the link, of the block files and of the disk, as one
 abbrev pub faults : ℕ → ℕ → ℕ → Faults
 faults of_link of_archive of_disk link = of_link
 faults of_link of_archive of_disk archive = of_archive

@@ -60,10 +60,12 @@ longer arrivals messages closings trace = record {
 abbrev pub GoesOn : Trace → Trace → List ArrivalWithBytes → List Message → List Closing → Type 0
 GoesOn before after arrivals messages closings = after ≡ longer arrivals messages closings before
 
+-- the arrival tells that the peer has come
 abbrev pub opens : ℕ → ArrivalWithBytes → Bool
 opens p (opened q) = p == q
 opens p other = false
 
+-- the arrival tells that the peer has left
 abbrev pub leaves : ℕ → ArrivalWithBytes → Bool
 leaves p (closed q) = p == q
 leaves p other = false

@@ -28,6 +28,7 @@ abbrev pub is_closing : Result Data Refusal → Bool
 is_closing (Err refusal.VersionNotShared) = true
 is_closing answered = false
 
+-- what was answered counts for the closing of the client, also where it is not replied
 abbrev pub noted : Result Data Refusal → Replies → Replies
 noted answered b = record b { closes = b.closes || is_closing answered }
 
@@ -76,8 +77,8 @@ module _ {X : Type 0} (answers : X → Request → Session → Result Data Refus
       ⊎ ((between : X) × (session : Session) × (replies : Replies) × Step i x s b between session replies
       × CutSteps is between session replies y)
 
--- what the elements that are left make of these values completes what all of them make of those
 module _ {X : Type 0} (answers : X → Request → Session → Result Data Refusal → X → Session → Type 0) where
+  -- what the elements that are left make of these values completes what all of them make of those
   abbrev pub Completes : List Item → X → Session → Replies → List Item → X → Session → Replies → Type 0
   Completes left y t c all x s b =
       (z : X) (u : Session) (d : Replies) → Steps answers left y t c z u d → Steps answers all x s b z u d

@@ -6,6 +6,7 @@ use Rattle.el_calls.specs.Refusals.{code_of, message_of}
 use Rattle.el_methods.specs.Results.{object_of}
 use Rattle.el_calls.specs.declared.refusal.Refusal.{Refusal}
 
+-- an error as a reply has it: its code, and its message
 abbrev pub error_of : Refusal → Data
 error_of r =
     object_of ((codes "code", number (of_integer (code_of r)))

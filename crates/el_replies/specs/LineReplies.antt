@@ -31,6 +31,7 @@ message_to (Some id) answered = Some (message id answered)
 abbrev pub reply_to : Option Data → Result Data Refusal → LineReply
 reply_to id answered = record { text = message_to id answered; closes = is_closing answered }
 
+-- what a batch begins with
 abbrev pub no_replies : Replies
 no_replies = record { text = []; size = 0; any = false; closes = false }
 
@@ -38,6 +39,7 @@ no_replies = record { text = []; size = 0; any = false; closes = false }
 abbrev pub batch_message : Replies → Option (List ℕ)
 batch_message b = if b.any then Some (91 ∷ (b.text ++ 93 ∷ 10 ∷ [])) else None
 
+-- what comes of a batch: its message, and whether one of its answers closes the client
 abbrev pub batch_reply : Replies → LineReply
 batch_reply b = record { text = batch_message b; closes = b.closes }
 
@@ -46,6 +48,7 @@ abbrev pub says : List ℕ → LineReply
 says text = record { text = Some text; closes = false }
 
 module _ {X : Type 0} (answers : X → Request → Session → Result Data Refusal → X → Session → Type 0) where
+  -- what comes of what a line says, where memory is found
   abbrev pub IsReplyTo : Result Envelope LineFault → X → Session → X → Session → LineReply → Type 0
   IsReplyTo (Err fault.Parse) x s y t reply =
       (y ≡ x) × (t ≡ s) × (reply ≡ says (message null (Err refusal.Parse)))

@@ -11,6 +11,7 @@ use Rattle.el_row_formats.specs.declared.table.RowKey.{RowKey}
 abbrev pub Tables : Type 0
 Tables = Table → List (List ℕ)
 
+-- the place of a table in a list of all eight
 abbrev pub index_of : Table → ℕ
 index_of table.Blocks = 0
 index_of table.Txs = 1

@@ -21,6 +21,7 @@ use Rattle.el_row_formats.specs.RowBytes.{block_row_bytes, tx_row_bytes, head_ro
 
 -- 1. Fields of rows
 
+-- the fields of a block's row
 abbrev pub block_fields : ListedBlock → BlockRow
 block_fields b = record {
   header = b.header;
@@ -30,6 +31,7 @@ block_fields b = record {
   sum = b.sum;
 }
 
+-- the fields of a transaction's row: what is listed of it, and its links
 abbrev pub tx_fields : typed.TxRow → TxRow
 tx_fields r = record {
   txid = r.listed.txid;
@@ -57,20 +59,25 @@ listed_tx r = record {
   ins = r.ins;
 }
 
+-- the field of the row of a bucket: the newest row in it
 abbrev pub head_fields : Option ℕ → HeadRow
 head_fields link = record { head = link }
 
+-- the state of an output, as its row has it
 abbrev pub state_fields : listed.State → out_state.State
 state_fields Unspent = out.Unspent
 state_fields (Spent by) = out.Spent by
 state_fields (Buried by) = out.Buried by
 
+-- the fields of an output's row
 abbrev pub out_fields : listed.ListedOut → OutRow
 out_fields x = record { tx = x.tx; value = x.value; script = x.script; state = state_fields x.state }
 
+-- the field of an input's row: the number of the output that it takes
 abbrev pub in_fields : ℕ → InRow
 in_fields k = record { out = k }
 
+-- the fields of a script hash's row: with its links, and its sums
 abbrev pub script_fields : typed.ScriptRow → ScriptRow
 script_fields r = record {
   script = r.script;
@@ -80,6 +87,7 @@ script_fields r = record {
   balance = r.balance;
 }
 
+-- the fields of an entry's row: with the link to the one before
 abbrev pub entry_fields : typed.EntryRow → EntryRow
 entry_fields e = record { tx = e.listed.tx; script = e.listed.script; before = e.before }
 

@@ -127,6 +127,7 @@ add_entry s tx l = record l {
 
 -- 3. Outputs
 
+-- the state is neither spent nor buried
 abbrev pub is_unspent : State → Bool
 is_unspent Unspent = true
 is_unspent (Spent n) = false

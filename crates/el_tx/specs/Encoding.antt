@@ -19,12 +19,15 @@ sized bytes = compact (length bytes) ++ bytes
 abbrev pub counted : {A : Type 0} → (A → List ℕ) → List A → List ℕ
 counted encoding things = compact (length things) ++ flat_map encoding things
 
+-- an outpoint: the txid in inner order, and the index in four bytes
 abbrev pub outpoint_encoding : Outpoint → List ℕ
 outpoint_encoding o = o.txid.0 ++ to_le_bytes w32 o.index
 
+-- an input without its witness: its outpoint, its script, its sequence in four bytes
 abbrev pub input_encoding : TxIn → List ℕ
 input_encoding i = outpoint_encoding i.from ++ (sized i.script ++ to_le_bytes w32 i.sequence)
 
+-- an output: its value in eight bytes, and its script
 abbrev pub output_encoding : TxOut → List ℕ
 output_encoding o = to_le_bytes w64 o.value ++ sized o.script
 
@@ -32,6 +35,7 @@ output_encoding o = to_le_bytes w64 o.value ++ sized o.script
 abbrev pub stack_encoding : TxIn → List ℕ
 stack_encoding i = counted sized i.witness
 
+-- the version in four bytes, in two's complement
 abbrev pub version_encoding : Tx → List ℕ
 version_encoding t = to_le_bytes w32 (cast_unsigned w32 t.version)
 
@@ -53,6 +57,7 @@ witness_encoding t =
 abbrev pub some_witness : List TxIn → Bool
 some_witness inputs = list_any (λ (i : TxIn). not (length i.witness == 0)) inputs
 
+-- whether some input of the transaction has a witness
 abbrev pub has_witness : Tx → Bool
 has_witness t = some_witness t.inputs
 
@@ -68,6 +73,7 @@ total_value outputs = sum_by (λ (o : TxOut). o.value) outputs
 abbrev pub Countable : {A : Type 0} → List A → Type 0
 Countable things = length things < 2 ^ 64
 
+-- an item of bytes: a script, or an item of a witness
 abbrev pub IsItem : List ℕ → Type 0
 IsItem item = Countable item × AreBytes item
 

@@ -107,6 +107,7 @@ abbrev pub FaultInStack : ℕ → List ℕ → TxFault → Type 0
 FaultInStack place bytes f =
     FaultInCounted (FaultAmong (AllByRecursion IsItem) sized (λ _. FaultInSized)) place bytes f
 
+-- the witness of one input: items, as many as a CompactSize can count
 abbrev pub IsStack : List (List ℕ) → Type 0
 IsStack stack = Countable stack × AllByRecursion IsItem stack
 

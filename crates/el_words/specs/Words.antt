@@ -49,10 +49,11 @@ pub record AreLimits (given : Given) (limits : PoolLimits) : Type 0 where
 abbrev pub greatest_limits : PoolLimits
 greatest_limits = record { count = 1000000; bytes = 300000000 }
 
--- the options of `once`, and those of `serve`
+-- the options of `once`
 abbrev pub once_options : List Word
 once_options = codes "--blocks" ∷ codes "--network" ∷ []
 
+-- the options of `serve`
 abbrev pub serve_options : List Word
 serve_options = codes "--blocks" ∷ codes "--index" ∷ codes "--network" ∷ codes "--client-port"
     ∷ codes "--node-port" ∷ codes "--pool-count" ∷ codes "--pool-bytes" ∷ []
@@ -78,5 +79,6 @@ pub record IsServeOf (words : List Word) (blocks index : Word) (n : Network) (cl
   pub ports : ArePorts given client_port node_port
   pub limits_are : AreLimits given limits
 
+-- the words as bytes
 abbrev pub texts : List (String Global) → List Word
 texts ws = map string_bytes ws

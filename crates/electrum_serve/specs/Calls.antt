@@ -18,6 +18,7 @@ pub record Call (D A K : Type 0) : Type 0 where
   pub after : Devices D A K
   pub status : Status
 
+-- a call with these parts
 abbrev pub call : {D A K : Type 0} → List (List ℕ) → ℕ → Devices D A K → Devices D A K → Status → Call D A K
 call words turns before after status =
     record { words = words; turns = turns; before = before; after = after; status = status }
