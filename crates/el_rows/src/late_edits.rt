@@ -1,10 +1,10 @@
 // The edits of one table, for which no memory is taken before the first.
-ghost use Rattle.std.specs.Prelude.{◌≡◌, ◌<◌, ◌≤◌, ◌+◌, ◌-◌, ◌*◌, ◌&&◌, ℕ, [], None, Some, length, OnOk, OnErr, IfOk, option_map, is_some, nat_lt, nat_eq};
+ghost use Rattle.std.specs.Prelude.{◌≡◌, ◌<◌, ◌≤◌, ◌+◌, ◌-◌, ◌*◌, ◌&&◌, ℕ, None, Some, length, OnOk, OnErr, IfOk, option_map, is_some, nat_lt, nat_eq};
 ghost use Rattle.std.specs.List.{list_any};
 ghost use Rattle.std.specs.List.Sorted.{IsStrictlyIncreasing};
 ghost use Rattle.std.specs.Map.{lookup};
 ghost use Rattle.el_row_formats.specs.Tables.{row_at};
-ghost use Rattle.el_rows.specs.within.EditedTables.{edited_at, Writes};
+ghost use Rattle.el_rows.specs.within.EditedTables.{edited_at, unedited, Writes};
 
 use crate::shown_rows::ShownRows;
 use crate::table_edits::TableEdits;
@@ -34,7 +34,7 @@ impl Model for LateEdits {
 impl LateEdits {
     /// No edits of a table whose rows have this size. Takes no memory.
     pub(crate) fn new(alloc: Global, size: usize) -> LateEdits
-        ensures { result ≡ record { changed = []; added = record { size = size; rows = [] } } }
+        ensures { result ≡ unedited size }
     {
         LateEdits {
             made: None,
