@@ -5,6 +5,7 @@ pub mod Refusing
 pub mod Added
 pub mod Gathered
 pub mod Dropped
+pub mod Known
 pub mod Renewed
 pub mod Sifts
 pub mod Relisted

@@ -12,9 +12,7 @@ use Rattle.el_tx.specs.declared.types.TxIn.{TxIn}
 use Rattle.el_tx.specs.declared.types.Tx.{Tx}
 use Rattle.el_tx.specs.Encoding.{total_value}
 use Rattle.el_tx.specs.Hashing.{txid}
-use Rattle.el_chain.specs.declared.node.Spot.{Spot}
 use Rattle.el_chain.specs.Chains.{Chain}
-use Rattle.el_model.specs.Queries.{find_tx}
 use Rattle.el_mempool.specs.declared.held.Held.{Held}
 use Rattle.el_mempool.specs.declared.held.Source.{Source}
 use Rattle.el_mempool.specs.declared.held.KeptTx.{KeptTx}
@@ -30,7 +28,7 @@ use Rattle.el_pool.specs.within.Tables.{total_sources, output_at, IsOver}
 use Rattle.el_pool.specs.within.Renewal.{source_with, renewed, all_take, flag_of, each_free, output_left, found_by, AreSeen, AreUnspent, IsLeft, IsNext}
 use Rattle.el_pool.proofs.Added.{none_of}
 use Rattle.el_pool.proofs.Asked.{output_is}
-use Rattle.el_pool.proofs.Refusing.{any_from, sources_sum, outputs_sum, confirmed_is}
+use Rattle.el_pool.proofs.Refusing.{any_from, sources_sum, outputs_sum}
 
 -- ---- inputs one after the other
 
@@ -223,8 +221,8 @@ module _ (before chain : Chain) (all kept : List Tx) (gone : List Hash32) (t : T
       (seen_all (output_left table gone any) before chain all kept t.inputs e.named unspent
       (lefts table before all kept gone any t.inputs over e.left (λ none. none_flagged all t.inputs (flag_none all t (sym (ap (λ (x : KeptTx). x.flag) e.is) ∙ plain none)))))
 
-  pub when_confirmed : (found : Option Spot) → found ≡ find_tx chain k.txid → is_some found ≡ true → may_join chain kept t ≡ false
-  when_confirmed found is some = gone_confirmed chain kept t (ap (is_confirmed chain) (sym id_is) ∙ sym (confirmed_is chain k.txid) ∙ ap is_some (sym is) ∙ some)
+  pub when_confirmed : (told : Bool) → told ≡ is_confirmed chain k.txid → told ≡ true → may_join chain kept t ≡ false
+  when_confirmed told is so = gone_confirmed chain kept t (ap (is_confirmed chain) (sym id_is) ∙ sym is ∙ so)
 
   all_named : (ss : List Source) (b : Bool) → ss ≡ k.inputs → all_take chain kept ss ≡ b → each_named chain kept t.inputs ≡ b
   all_named ss b same is = sym (take_is before chain all kept t.inputs e.named) ∙ ap (all_take chain kept) (sym (same ∙ inputs_are)) ∙ is
@@ -249,11 +247,11 @@ module _ (before chain : Chain) (all kept : List Tx) (gone : List Hash32) (t : T
       → nat_lt taken given ≡ true → may_join chain kept t ≡ false
   when_short ss found slice outs taken given same is cut outs_are one two less = gone_short chain kept t (sums_are ss found slice outs taken given same is cut outs_are one two ∙ less)
 
-  pub when_stays : (spot : Option Spot) (ss found slice : List Source) (outs : List Held) (taken given : ℕ) (f : ℤ) → spot ≡ find_tx chain k.txid → is_some spot ≡ false → ss ≡ k.inputs
+  pub when_stays : (told : Bool) (ss found slice : List Source) (outs : List Held) (taken given : ℕ) (f : ℤ) → told ≡ is_confirmed chain k.txid → told ≡ false → ss ≡ k.inputs
       → all_take chain kept ss ≡ true → found ≡ renewed chain kept ss → f ≡ flag_of kept found → slice ≡ found → outs ≡ k.outputs → taken ≡ total_sources slice
       → given ≡ total_held outs → nat_lt taken given ≡ false → (may_join chain kept t ≡ true) × (found ≡ sources chain kept t.inputs) × (f ≡ flag kept t)
-  when_stays spot ss found slice outs taken given f spot_is none same take is flags cut outs_are one two enough =
-      let a : is_confirmed chain (txid t) ≡ false = ap (is_confirmed chain) (sym id_is) ∙ sym (confirmed_is chain k.txid) ∙ ap is_some (sym spot_is) ∙ none in
+  when_stays told ss found slice outs taken given f told_is none same take is flags cut outs_are one two enough =
+      let a : is_confirmed chain (txid t) ≡ false = ap (is_confirmed chain) (sym id_is) ∙ sym told_is ∙ none in
       let b : each_takes chain kept t.inputs ≡ true = takes_is chain kept t.inputs ∙ and_from (each_named chain kept t.inputs) (each_free kept t.inputs) (all_named ss true same take) e.free in
       let c = sums_are ss found slice outs taken given same is cut outs_are one two ∙ enough in
       let may : may_join chain kept t ≡ true = rw (a, b, c) refl in

@@ -4,6 +4,7 @@
 
 mod adding;
 mod asking;
+mod confirming;
 mod conflicts;
 mod examining;
 mod moving;

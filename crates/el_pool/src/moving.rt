@@ -15,9 +15,10 @@ ghost use Rattle.el_kept.specs.declared.listing.Listing as listing_shape;
 ghost use Rattle.el_kept.specs.Listings.{txid_of, is_in, AreListed};
 ghost use Rattle.el_kept.specs.Tables.{standing, slot, has, with_takes, without, is_of, retaken, IsTable, HasFewSlots};
 ghost use Rattle.el_pool.specs.within.Tables.{total_sources, IsOver};
-ghost use Rattle.el_pool.specs.within.Renewal.{settled, IsNext, IsKeptOn, AreUnspent, IsSifted};
+ghost use Rattle.el_pool.specs.within.Renewal.{settled, IsNext, IsKeptOn, Knows, KnowsAll, AreUnspent, IsSifted};
 
 use crate::asking::Taken;
+use crate::confirming::confirmed_in;
 use crate::renewing::renewed;
 use crate::room::fee_of;
 use crate::touching::{have_same_scripts, scripts_of, touch_changes, touch_entry};
@@ -116,6 +117,7 @@ fn leave(entry: &KeptTx, gone: &mut Touched, touched: &mut Touched) -> Result<()
 fn sift_one<G: Ledger>(
     alloc: Global,
     table: &Table,
+    confirmed: &Touched,
     ledger: &mut G,
     entry: &KeptTx,
     found: &mut Sifted,
@@ -123,14 +125,14 @@ fn sift_one<G: Ledger>(
     requires live { G.is_live ledger.old }
     ensures sifted { (before chain : Chain) (all kept : List shape.Tx) (t : shape.Tx)
         → IsNext before all kept found.old.gone t entry.now → IsOver table.now before all
-        → AreUnspent chain kept → G.stands ledger.old chain
+        → AreUnspent chain kept → Knows chain confirmed.now entry.now → G.stands ledger.old chain
         → OnOk result (IsSifted before chain all kept t found.old.gone found.new.gone
         found.old.changed found.new.changed found.old.touched found.new.touched) }
     ensures quiet { Quiet G.is_live G.height G.tip G.buckets G.stands G.tells_crash
         G.moment G.left_since ledger.old ledger.new }
     ensures cause { CountsOnly (G.faults ledger.old) (G.faults ledger.new) QueryFault.DiskFailed result }
 {
-    match renewed(alloc, table, &found.gone, ledger, entry)? {
+    match renewed(alloc, table, &found.gone, confirmed, ledger, entry)? {
         Some(taken) => keep(alloc, entry, taken, &mut found.changed, &mut found.touched)?,
         None => leave(entry, &mut found.gone, &mut found.touched)?,
     }
@@ -138,10 +140,15 @@ fn sift_one<G: Ledger>(
 }
 
 // What the sift over the ledger's chain finds of the table's entries, one after the other.
-fn sift_all<G: Ledger>(alloc: Global, table: &Table, ledger: &mut G) -> Result<Sifted, QueryFault>
+fn sift_all<G: Ledger>(
+    alloc: Global,
+    table: &Table,
+    confirmed: &Touched,
+    ledger: &mut G,
+) -> Result<Sifted, QueryFault>
     requires live { G.is_live ledger.old }
     ensures sifted { (before chain : Chain) (all : List shape.Tx) → IsOver table.now before all
-        → G.stands ledger.old chain
+        → KnowsAll chain confirmed.now (standing table.now.kept.entries) → G.stands ledger.old chain
         → IfOk result (λ found. StandsFor (map (settled found.changed)
         (without found.gone (standing table.now.kept.entries))) chain (sift chain all)
         × AreChanged before all chain (sift chain all) found.touched) }
@@ -156,7 +163,7 @@ fn sift_all<G: Ledger>(alloc: Global, table: &Table, ledger: &mut G) -> Result<S
     };
     for (_, slot) in table.kept.iter() {
         if let Some(entry) = slot {
-            sift_one(alloc, table, ledger, entry, &mut found)?;
+            sift_one(alloc, table, confirmed, ledger, entry, &mut found)?;
         }
     }
     // The list says that each is there once.
@@ -246,11 +253,12 @@ fn sift_in_place<G: Ledger>(
         G.moment G.left_since ledger.old ledger.new }
     ensures cause { CountsOnly (G.faults ledger.old) (G.faults ledger.new) QueryFault.DiskFailed result }
 {
+    let confirmed = confirmed_in(alloc, table, ledger)?;
     let Sifted {
         gone,
         changed,
         touched,
-    } = sift_all(alloc, table, ledger)?;
+    } = sift_all(alloc, table, &confirmed, ledger)?;
     take_out_all(table, listings, gone.list());
     settle_all(alloc, table, listings, changed)?;
     tidy(table);

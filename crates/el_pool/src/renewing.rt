@@ -121,30 +121,34 @@ fn taken_again<G: Ledger>(
 }
 
 /// What the inputs of a transaction of the table take over the ledger's chain, after those before it that
-/// aren't gone; None where it may not be kept there. What it took it takes alone: nothing came since.
+/// aren't gone; None where it may not be kept there, as where the chain has it. What it took it takes alone:
+/// nothing came since.
 pub fn renewed<G: Ledger>(
     alloc: Global,
     table: &Table,
     gone: &Touched,
+    confirmed: &Touched,
     ledger: &mut G,
     entry: &KeptTx,
 ) -> Result<Option<Taken>, QueryFault>
     requires live { G.is_live ledger.old }
     ensures stays { (before chain : Chain) (all kept : List shape.Tx) (t : shape.Tx)
         → renewal.IsNext before all kept gone.now t entry.now → IsOver table.now before all
-        → renewal.AreUnspent chain kept → G.stands ledger.old chain
+        → renewal.AreUnspent chain kept → renewal.Knows chain confirmed.now entry.now
+        → G.stands ledger.old chain
         → IfOk result (λ r. IfSome r (λ taken. (may_join chain kept t ≡ true)
         × (taken.sources.items ≡ sources chain kept t.inputs)
         × (taken.flag ≡ flag kept t))) }
     ensures goes { (before chain : Chain) (all kept : List shape.Tx) (t : shape.Tx)
         → renewal.IsNext before all kept gone.now t entry.now → IsOver table.now before all
-        → renewal.AreUnspent chain kept → G.stands ledger.old chain
+        → renewal.AreUnspent chain kept → renewal.Knows chain confirmed.now entry.now
+        → G.stands ledger.old chain
         → IfOk result (λ r. IfNone r (may_join chain kept t ≡ false)) }
     ensures quiet { Quiet G.is_live G.height G.tip G.buckets G.stands G.tells_crash
         G.moment G.left_since ledger.old ledger.new }
     ensures cause { CountsOnly (G.faults ledger.old) (G.faults ledger.new) QueryFault.DiskFailed result }
 {
-    if ledger.find_tx(&entry.txid)?.is_some() {
+    if confirmed.has(&entry.txid) {
         return Ok(None);
     }
     let any = may_take_kept(entry);

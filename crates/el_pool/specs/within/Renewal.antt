@@ -12,7 +12,7 @@ use Rattle.el_chain.specs.Headers.{same_hash}
 use Rattle.el_mempool.specs.declared.held.Held.{Held}
 use Rattle.el_mempool.specs.declared.held.Source.{Source}
 use Rattle.el_mempool.specs.declared.held.KeptTx.{KeptTx}
-use Rattle.el_mempool.specs.Sift.{coin_named, output_among, named, any_takes, is_taken, may_join}
+use Rattle.el_mempool.specs.Sift.{coin_named, output_among, named, any_takes, is_taken, is_confirmed, may_join}
 use Rattle.el_mempool.specs.Standing.{kept_tx}
 use Rattle.el_mempool.specs.Moving.{step_differs}
 use Rattle.el_kept.specs.declared.table.Table.{Table}
@@ -59,6 +59,14 @@ found_by None None = None
 abbrev pub AreSeen : (Outpoint → Option Held) → Chain → List Tx → List Source → Type 0
 AreSeen left chain kept ss = AllByRecursion (λ (s : Source). (left s.from ≡ output_among s.from kept)
     × (is_some (output_among s.from kept) ≡ true → coin_named chain s.from ≡ None)) ss
+
+-- these txids tell whether the chain has the entry's transaction
+abbrev pub Knows : Chain → List Hash32 → KeptTx → Type 0
+Knows chain confirmed k = has confirmed k.txid ≡ is_confirmed chain k.txid
+
+-- and that of each of these
+abbrev pub KnowsAll : Chain → List Hash32 → List KeptTx → Type 0
+KnowsAll chain confirmed ks = AllByRecursion (λ (k : KeptTx). Knows chain confirmed k) ks
 
 -- no output of a kept one is a coin of the chain
 abbrev pub AreUnspent : Chain → List Tx → Type 0

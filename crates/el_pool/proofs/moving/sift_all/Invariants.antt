@@ -4,6 +4,7 @@ use Rattle.el_tx.specs.declared.types.Tx.{Tx}
 use Rattle.el_model.specs.Keeping.{Quiet}
 use Rattle.el_kept.specs.Tables.{standing}
 use Rattle.el_pool.specs.within.Tables.{IsOver}
+use Rattle.el_pool.specs.within.Renewal.{KnowsAll}
 use Rattle.el_pool.proofs.Sifts.{AreLeft}
 use Rattle.el_pool.proofs.moving.sift_all.Given as goal
 
@@ -17,6 +18,7 @@ invariant-loop-slot g l =
       quiet : Quiet d.is_live d.height d.tip d.buckets d.stands d.tells_crash d.moment d.left_since
           l.initial.ledger l.ledger;
       still : d.faults l.ledger ≡ d.faults l.initial.ledger;
-      left : (before chain : Chain) (all : List Tx) → IsOver l.table before all → d.stands l.initial.ledger chain
+      told : (chain : Chain) → KnowsAll chain l.confirmed (standing l.table.kept.entries) → KnowsAll chain l.confirmed (standing l.slot-iterator);
+      left : (before chain : Chain) (all : List Tx) → IsOver l.table before all → KnowsAll chain l.confirmed (standing l.table.kept.entries) → d.stands l.initial.ledger chain
           → AreLeft before chain all l.found.gone l.found.changed l.found.touched (standing l.slot-iterator);
     }

@@ -10,7 +10,7 @@ use Rattle.el_pool.proofs.moving.sift_in_place.Goals as goal
 
 pub returns-clause-sifted : goal.returns-clause-sifted
 returns-clause-sifted g c = λ before chain kept h stood.
-    let said = c.in_ok-gone.ensures.sifted before chain kept (is_over c.args.table.now before kept c.requires.table h) stood in
+    let said = c.in_ok-gone.ensures.sifted before chain kept (is_over c.args.table.now before kept c.requires.table h) (c.in_ok-confirmed.ensures.told chain stood) (c.in_ok-confirmed.ensures.quiet.stays.still_stands chain stood) in
     let are = c.tidy.ensures.table.are ∙ c.in_ok-settle_all.ensures.table.are ∙ ap (map (settled c.in_ok-gone.field-0.changed))
     (c.take_out_all.ensures.table.are ∙ ap (λ ids. without ids (standing c.args.table.now.kept.entries)) c.list.ensures.same) in
     (subst (λ (l : List KeptTx). StandsFor l chain (sift chain kept)) (sym are) said.0, said.1)
