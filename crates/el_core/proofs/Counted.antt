@@ -250,7 +250,7 @@ counted_held entries clients s counts = ap (nat_lt 0) (counts s) ∙ any_held s 
 
 -- ---- a client goes, or has subscribed
 
-same_client : (clients : List ClientState) (i : ℕ) (c d : ClientState) → slice_get clients i ≡ Some c → slice_get clients i ≡ Some d → c ≡ d
+pub same_client : (clients : List ClientState) (i : ℕ) (c d : ClientState) → slice_get clients i ≡ Some c → slice_get clients i ≡ Some d → c ≡ d
 same_client clients i c d at again = same_some c d (sym at ∙ again)
 
 -- of a client all subscriptions are counted

@@ -1,5 +1,5 @@
 -- Turns of the client that speaks, and of one too many.
-use Rattle.std.proofs.Common.{◌≡◌, ◌⊎◌, inl, inr, ℕ, zero, suc, ◌+◌, ◌≤◌, Bool, true, false, not, List, [], ◌∷◌, ◌++◌, length, map, filter, drop, slice_get, Option, Some, None, Ok, Err, refl, sym, ap, ◌∙◌, append-nil, append_assoc, subst, arith, true≢false}
+use Rattle.std.proofs.Common.{◌≡◌, ◌⊎◌, inl, inr, ℕ, zero, suc, ◌+◌, ◌<◌, ◌≤◌, Bool, true, false, not, List, [], ◌∷◌, ◌++◌, length, map, filter, drop, slice_get, Option, Some, None, Ok, Err, refl, sym, ap, ◌∙◌, append-nil, append_assoc, subst, arith, true≢false}
 use Rattle.std.specs.Prelude.{MatchBool, IfSome, IfNone, find}
 use Rattle.std.specs.List.{AllByRecursion, AllZip}
 use Rattle.std.proofs.lemmas.Option.{slice_get_within}
@@ -26,7 +26,7 @@ use Rattle.el_lines.specs.declared.line_buffer.LineEvent.TheVariants as event
 use Rattle.el_core.specs.State.{State, ClientState, HasGivenAll, HearsLeft, in_order, IsSession, SessionsAre, Leaves, NoneWaits, Tellings, AllVoid, IsSaidBy, NodeLeaves, Stands, is_numbered}
 use Rattle.el_core.specs.Turn.{TookTurn, IsDone, GoesTo, outs_of}
 use Rattle.el_core.specs.within.Answering.{Lost}
-use Rattle.el_core.specs.within.Clients.{LineAnswered, replied, starved, Gives, ClientTurn, loses, departs, answers, waits, nobody, gone, steps, PeersTurn, closes, has_turn, replaced, left_if, speaker_after}
+use Rattle.el_core.specs.within.Clients.{LineAnswered, replied, starved, uncounted, Gives, ClientTurn, loses, departs, answers, waits, nobody, gone, steps, PeersTurn, closes, has_turn, replaced, left_if, speaker_after}
 use Rattle.el_core.specs.declared.out.Outs as code
 use Rattle.el_core.proofs.Places.{Both, IfThere, same_some, no_some, zip_at, zip_replaced, all_at, all_replaced, rising_replaced, one_mapped, one_filtered, one_found, one_there, gone_itself, found_none, none_there}
 use Rattle.el_world.proofs.KeepTold.{replies_keep_told}
@@ -285,6 +285,18 @@ module _ {G A : Type 0} (l : ledger.Ghosts G) (f : archive.Ghosts A) where
       closed_step old new before after world left o r told p i c b (line bytes) losses w peer_is kept gives clients speaker unused
       (line_takes old world r.stood.said o p i c w bytes losses (without_client p world) (model.starved e now comes' is refl)) (λ next. rw is tt) rose
 
+  -- no memory was found to keep count of what it subscribed to
+  uncounted_step : (old new : State G) (before after : A) (world : World) (left : List Event) (o : Outs) (r : Beside old new world left) (told : f.tells → AllGrow world.side.files (f.bytes after)) (p i : ℕ) (c : ClientState) (b : LineState)
+      (bytes : List ℕ) (now : known.Session) (losses : List Device) (reply : LineReply) (w : Speaking old world r.stood.said p i c) → c.peer ≡ p → c.lost ≡ false → Gives c.buffer (line bytes) b
+      → new.clients ≡ replaced i None old.clients → new.speaker ≡ None → new.surplus ≡ None
+      → Comes f.tells world.side bytes c.session losses now (Ok reply) → length c.session.subs < length now.subs → o ≡ closes_memory p → Lost l f old.ledger new.ledger before after losses
+      → TookTurn l f old new before after world left o
+  uncounted_step old new before after world left o r told p i c b bytes now losses reply w peer_is kept gives clients speaker unused comes more is rose =
+      let comes' = subst (λ (s : known.Session). Comes f.tells world.side bytes s losses now (Ok reply)) w.is.kept comes in
+      let more' = subst (λ (s : known.Session). length s.subs < length now.subs) w.is.kept more in
+      closed_step old new before after world left o r told p i c b (line bytes) losses w peer_is kept gives clients speaker unused
+      (line_takes old world r.stood.said o p i c w bytes losses (without_client p world) (model.uncounted reply now comes' more' is refl)) (λ next. rw is tt) rose
+
   -- what it gets goes to it
   reply_goes : (p : ℕ) (text : Option (List ℕ)) (closes_it : Bool) (next : World) → (closes_it ≡ false → is_client p next ≡ true)
       → AllByRecursion (GoesTo next None (outs_of_reply p (record { text = text; closes = closes_it })).closing) (outs_of_reply p (record { text = text; closes = closes_it })).messages
@@ -354,6 +366,9 @@ module _ {G A : Type 0} (l : ledger.Ghosts G) (f : archive.Ghosts A) where
   line_step old new before after world left o r told p i c b bytes now st w peer_is kept limit gives staying going unused (starved losses e comes is st_is rose) =
       let g = going st_is in
       starved_step old new before after world left o r told p i c b bytes now losses e w peer_is kept gives g.0 g.1 unused comes is rose
+  line_step old new before after world left o r told p i c b bytes now st w peer_is kept limit gives staying going unused (uncounted losses reply comes more is st_is rose) =
+      let g = going st_is in
+      uncounted_step old new before after world left o r told p i c b bytes now losses reply w peer_is kept gives g.0 g.1 unused comes more is rose
   line_step old new before after world left o r told p i c b bytes now st w peer_is kept limit gives staying going unused (replied losses reply comes is st_is rose) = elim (either reply.closes) [
     | inl h ↦
         let g = going (st_is ∙ ap not h) in

@@ -1,10 +1,16 @@
 -- What lists are after one place changes.
 use Rattle.std.proofs.Common.{◌≡◌, ℕ, zero, suc, ◌+◌, ◌<◌, Bool, true, false, List, [], ◌∷◌, ◌++◌, length, map, drop, take, get_or, Option, Some, None, refl, ap, ◌∙◌, subst, arith}
-use Rattle.std.specs.Prelude.{slice_set, remove, OnSome}
+use Rattle.std.specs.Prelude.{slice_get, slice_set, remove, OnSome}
 use Rattle.std.proofs.lemmas.Option.{slice_get_read}
 use Rattle.el_core.specs.State.{ClientState, work_of_client}
 use Rattle.el_core.specs.declared.out.Outs.{Outs}
 use Rattle.el_core.specs.within.Clients.{replaced, left_if, all_wait, TurnsAt, TellsAt}
+
+-- what was put there stands there
+pub set_read : {A : Type 0} (xs : List A) (i : ℕ) (y : A) → i < length xs → slice_get (slice_set xs i y) i ≡ Some y
+set_read [] i y lt = absurd (omega arith)
+set_read (x ∷ xs) zero y lt = refl
+set_read (x ∷ xs) (suc i) y lt = set_read xs i y (omega arith)
 
 pub set_is_replaced : {A : Type 0} (xs : List A) (i : ℕ) (y : A) → i < length xs → slice_set xs i y ≡ replaced i (Some y) xs
 set_is_replaced [] i y lt = absurd (omega arith)

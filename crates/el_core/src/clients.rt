@@ -9,7 +9,7 @@ ghost use Rattle.el_core.specs.within.Answering.{IsSettled, Lost};
 ghost use Rattle.el_core.specs.Turn.{outs_of};
 ghost use Rattle.el_core.specs.within.Clients.{IsPlace, IsFirstWaiting, HearsAt, ClientTurn, TurnsAt, IsToTell, TellTurn, TellsAt, all_wait, replaced};
 ghost use Rattle.el_core.specs.within.Touching.{is_held};
-ghost use Rattle.el_core.specs.within.Watching.{Counts, CountsFew};
+ghost use Rattle.el_core.specs.within.Watching.{Counts, CountsFew, HasMore};
 
 use crate::client::{Client, client_turn, closing};
 use crate::out::Outs;
@@ -76,6 +76,7 @@ fn count_new(
     requires few { CountsFew i known watched.old.entries list.old.items }
     ensures stays { result ≡ true → list.new.items ≡ list.old.items }
     ensures gone { result ≡ false → list.new.items ≡ replaced i None list.old.items }
+    ensures more { result ≡ false → HasMore i known list.old.items }
     ensures counts { Counts watched.new.entries list.new.items }
 {
     match count_from(watched, list[i].subs(), known) {

@@ -1,5 +1,5 @@
 // How many clients subscribe to each script hash.
-ghost use Rattle.std.specs.Prelude.{◌≡◌, ◌+◌, ◌-◌, ℕ, None, Some, [], ◌∷◌, if◌then◌else◌, nat_lt, OnOk, OnErr, IfErr, take, drop};
+ghost use Rattle.std.specs.Prelude.{◌≡◌, ◌+◌, ◌-◌, ◌<◌, ℕ, length, None, Some, [], ◌∷◌, if◌then◌else◌, nat_lt, OnOk, OnErr, IfErr, take, drop};
 ghost use Rattle.std.specs.Map.{keys_of};
 ghost use Rattle.indexmap.specs.IndexMap.{get};
 ghost use Rattle.el_base.specs.declared.hash.Hash32 as shape;
@@ -111,6 +111,7 @@ pub fn count_from(map: &mut IndexMap<Hash32, usize>, subs: &Subs, known: usize) 
     ensures err { IfErr result (λ n. (t : shape.Hash32) → counted map.new.entries t
         + times t (drop n (keys_of subs.now))
         ≡ counted map.old.entries t + times t (drop known (keys_of subs.now))) }
+    ensures more { OnErr result (known < length subs.now) }
 {
     for number in known..subs.held() {
         let Ok(()) = count_one(map, subs, number) else {

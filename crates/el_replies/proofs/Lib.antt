@@ -1,3 +1,4 @@
 mod BatchLoop
+mod ErrorTexts
 mod Losing
-pub mod LineEnds
+mod LineEnds

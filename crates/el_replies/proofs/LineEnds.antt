@@ -13,12 +13,10 @@ use Rattle.el_json.specs.declared.request.LineFault.TheVariants as fault
 use Rattle.el_calls.specs.declared.refusal.Refusal.{Refusal}
 use Rattle.el_calls.specs.declared.refusal.Refusal.TheVariants as refusal
 use Rattle.el_sessions.specs.declared.session.Session.{Session}
-use Rattle.el_replies.specs.Batches.{Steps, CutSteps}
+use Rattle.el_replies.specs.Batches.{Replies, Steps, CutSteps}
 use Rattle.el_replies.specs.LineReplies.{message, says, batch_message, no_replies}
 use Rattle.el_replies.specs.LineReplies.{IsReplyTo, IsCutAt, IsLineReply}
-use Rattle.el_replies.specs.declared.batch.Replies.{Replies}
 use Rattle.el_replies.specs.declared.line.LineReply.{LineReply}
-use Rattle.el_replies.proofs.BatchLoop.{cut_after}
 
 module _ {X : Type 0} (answers : X → Request → Session → Result Data Refusal → X → Session → Type 0) where
   pub of_said : (line : List ℕ) (said : Result Envelope LineFault) (x y : X) (s t : Session)
@@ -60,16 +58,3 @@ module _ {X : Type 0} (answers : X → Request → Session → Result Data Refus
       → CutSteps answers items x s b y → CutSteps answers items x s no_replies y
   batch_cut items x y s b none cut =
       subst (λ (start : Replies). CutSteps answers items x s start y) none cut
-
-  -- a line that got its reply may as well have found no memory for it
-  reply_cut : (said : Result Envelope LineFault) (x y : X) (s t : Session) (reply : LineReply)
-      → IsReplyTo answers said x s y t reply → IsCutAt answers said x s y
-  reply_cut (Err fault.Parse) x y s t reply h = h.0
-  reply_cut (Err (fault.Invalid id)) x y s t reply h = h.0
-  reply_cut (Err fault.Memory) x y s t reply h = absurd h
-  reply_cut (Ok (One r)) x y s t reply h = inr (h.0, t, h.1)
-  reply_cut (Ok (Batch items)) x y s t reply h = cut_after answers items x s no_replies y t h.0 h.1
-
-  pub line_cut : (line : List ℕ) (x y : X) (s t : Session) (reply : LineReply) (e : OutOfMemory)
-      → IsLineReply answers line x s y t (Ok reply) → IsLineReply answers line x s y t (Err e)
-  line_cut line x y s t reply e h = inr (reply_cut (line_says line) x y s t reply h)

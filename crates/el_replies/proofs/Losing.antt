@@ -1,7 +1,7 @@
 -- What is lost while a line is answered.
-use Rattle.std.proofs.Common.{◌≡◌, sym, subst, ℕ, ◌≤◌, nat_lt, true, false, List, [], ◌++◌, Result, Ok, Err, refl}
+use Rattle.std.proofs.Common.{◌≡◌, ◌∙◌, sym, ap, subst, ℕ, ◌≤◌, nat_lt, true, false, true≢false, List, [], ◌++◌, Result, Ok, Err, refl}
 use Rattle.std.proofs.Common.{append_assoc, append-nil, arith}
-use Rattle.std.specs.Prelude.{OnOk, IfOk, IsErrAnd, MatchResult}
+use Rattle.std.specs.Prelude.{OnOk, OnErr, IfOk, IsOk, IsErrAnd, MatchResult, Some}
 use Rattle.serde_json.specs.Data.{Data}
 use Rattle.el_outside.specs.Counts.{RoseBy}
 use Rattle.el_outside.specs.Devices.{Device, link, archive, disk, failures}
@@ -12,16 +12,15 @@ use Rattle.el_chain.specs.Chains.{Chain}
 use Rattle.el_chain.specs.declared.node.Node.{Node}
 use Rattle.el_json.specs.declared.request.Request.{Request}
 use Rattle.el_json.specs.declared.request.Item.TheVariants.{Good}
-use Rattle.el_replies.specs.Batches.{InTime, Step, Cut, CutStep, with_reply}
+use Rattle.el_replies.specs.Batches.{Replies, InTime, Step, with_reply}
 use Rattle.el_replies.specs.Losses.{losses_of, IsTold, AnswersOf, Loses}
 use Rattle.el_replies.specs.Losses as told
-use Rattle.el_replies.specs.Requested.{IsAnswered}
+use Rattle.el_replies.specs.Requested.{IsAnswered, told_of}
 use Rattle.el_replies.specs.Requested as reply
 use Rattle.el_methods.specs.Outcomes.{IsCounted}
 use Rattle.el_calls.specs.declared.refusal.Refusal.{Refusal}
 use Rattle.el_calls.specs.declared.refusal.Refusal.TheVariants as refusal
 use Rattle.el_sessions.specs.declared.session.Session.{Session}
-use Rattle.el_replies.specs.declared.batch.Replies.{Replies}
 use Rattle.el_replies.specs.declared.batch.TheConstants.{BATCH_LIMIT}
 use Rattle.el_methods.specs.declared.stop.Stop.{Stop}
 use Rattle.el_methods.specs.declared.stop.Stop.TheVariants as stop
@@ -123,10 +122,16 @@ pub done_or : {T E : Type 0} (r : Result T E) (C P Q : Type 0) → (C → P) →
 done_or (Ok x) C P Q f q h = f h
 done_or (Err e) C P Q f q h = q
 
-pub found_or : {T E : Type 0} (r : Result T E) (C P : T → Type 0) (Q : Type 0) → ((x : T) → C x → P x)
-    → Q → IfOk r C → MatchResult r P (λ e. Q)
-found_or (Ok x) C P Q f q h = f x h
-found_or (Err e) C P Q f q h = q
+-- the same, where an error has a cause
+pub done_sure : {T E : Type 0} (r : Result T E) (C S P Q : Type 0) → (C → P) → (S → Q) → OnOk r C → OnErr r S
+    → MatchResult r (λ x. P) (λ e. Q)
+done_sure (Ok x) C S P Q f q h k = f h
+done_sure (Err e) C S P Q f q h k = q k
+
+pub found_sure : {T E : Type 0} (r : Result T E) (C P : T → Type 0) (S Q : Type 0) → ((x : T) → C x → P x)
+    → (S → Q) → IfOk r C → OnErr r S → MatchResult r P (λ e. Q)
+found_sure (Ok x) C P S Q f q h k = f x h
+found_sure (Err e) C P S Q f q h k = q k
 
 -- what holds of a result that is an error
 pub failed : {T E : Type 0} (r : Result T E) (F : E → Type 0) (P : T → Type 0) (Q : Type 0) → IsErrAnd r F → Q
@@ -140,13 +145,35 @@ module _ {X : Type 0} (answers : X → Request → Session → Result Data Refus
       → t ≡ s → c ≡ with_reply r.id (Err refusal.BatchTooLarge) b → Step answers (Good r) x s b x t c
   step_late r x s t b c late same is = rw late (refl, same, is)
 
-  pub cut_late : (r : Request) (x : X) (s : Session) (b : Replies) → nat_lt BATCH_LIMIT b.size ≡ true
-      → CutStep answers (Good r) x s b x
-  cut_late r x s b late = rw late refl
-
   pub in_time : {T E : Type 0} (result : Result T E) (r : Request) (x y : X) (s t : Session) (b c : Replies)
       → nat_lt BATCH_LIMIT b.size ≡ false
-      → MatchResult result (λ z. InTime answers r x s b y t c) (λ e. Cut answers r x s y)
-      → MatchResult result (λ z. Step answers (Good r) x s b y t c) (λ e. CutStep answers (Good r) x s b y)
+      → MatchResult result (λ z. InTime answers r x s b y t c) (λ e. y ≡ x)
+      → MatchResult result (λ z. Step answers (Good r) x s b y t c) (λ e. y ≡ x)
   in_time (Ok z) r x y s t b c early h = rw early h
-  in_time (Err e) r x y s t b c early h = rw early h
+  in_time (Err e) r x y s t b c early h = h
+
+-- a request that was answered a result lost nothing
+none_of_result : (given : Result Data Stop) (answered : Result Data Refusal) → told_of given ≡ Some answered
+    → IsOk answered → losses_of given ≡ []
+none_of_result (Ok answer) answered is ok = refl
+none_of_result (Err (stop.Refused r)) answered is ok = refl
+none_of_result (Err stop.Disk) (Ok answer) is ok = absurd (let e = is in cc)
+none_of_result (Err stop.Disk) (Err r) is ok = absurd (true≢false (sym ok))
+none_of_result (Err stop.Archive) (Ok answer) is ok = absurd (let e = is in cc)
+none_of_result (Err stop.Archive) (Err r) is ok = absurd (true≢false (sym ok))
+none_of_result (Err stop.Changed) answered is ok = refl
+none_of_result (Err stop.Memory) answered is ok = refl
+
+none_of_told : (has : Type 0) (chain : Chain) (kept : List Tx) (found : List Node) (r : Request)
+    (s t : Session) (answered : Result Data Refusal) (lost : List Device)
+    → IsTold has chain kept found r s answered t lost → IsOk answered → lost ≡ []
+none_of_told has chain kept found r s t answered lost (told.refused e c is same none) ok = none
+none_of_told has chain kept found r s t answered lost (told.asked c given is tells so lost_is) ok =
+    lost_is ∙ none_of_result given answered tells ok
+
+pub result_unlost : (has : Type 0) (chain : Chain) (kept : List Tx) (found : List Node)
+    (before after : List Device) (r : Request) (s t : Session) (answered : Result Data Refusal)
+    → AnswersOf has chain kept found before r s answered after t → IsOk answered → after ≡ before
+result_unlost has chain kept found before after r s t answered h ok =
+    h.2 ∙ ap (λ (l : List Device). before ++ l) (none_of_told has chain kept found r s t answered h.0 h.1 ok)
+    ∙ append-nil before

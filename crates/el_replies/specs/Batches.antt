@@ -11,13 +11,22 @@ use Rattle.el_replies.specs.Envelopes.{reply_value}
 use Rattle.el_calls.specs.declared.refusal.Refusal.{Refusal}
 use Rattle.el_calls.specs.declared.refusal.Refusal.TheVariants as refusal
 use Rattle.el_sessions.specs.declared.session.Session.{Session}
-use Rattle.el_replies.specs.declared.batch.Replies.{Replies}
 use Rattle.el_replies.specs.declared.batch.TheConstants.{BATCH_LIMIT}
 
--- one text more, after a comma (44) where it isn't the first; its bytes count until the limit is passed
+-- The replies of a batch so far: their texts after a bracket, with commas between; how many bytes these have
+-- together, counted until they pass the limit; whether there is one; and whether the client is closed after
+-- the batch.
+pub record Replies : Type 0 where
+  pub text : List ℕ
+  pub size : ℕ
+  pub any : Bool
+  pub closes : Bool
+
+-- one text more, after a comma (44), or the bracket (91) if it is the first; its bytes count until the limit
+-- is passed
 abbrev pub added : List ℕ → Replies → Replies
 added text b = record {
-  text = (if b.any then b.text ++ 44 ∷ [] else b.text) ++ text;
+  text = b.text ++ (if b.any then 44 else 91) ∷ text;
   size = if nat_lt BATCH_LIMIT b.size then b.size else b.size + length text;
   any = true;
   closes = b.closes;
@@ -59,21 +68,12 @@ module _ {X : Type 0} (answers : X → Request → Session → Result Data Refus
       (between : X) × (session : Session) × (replies : Replies) × Step i x s b between session replies
       × Steps is between session replies y t c
 
-  -- Memory ran out at a request before the limit was passed: it has no effect, or it was answered and its
-  -- reply found no memory. The session isn't used again.
-  abbrev pub Cut : Request → X → Session → X → Type 0
-  Cut r x s y = (y ≡ x) ⊎ ((answered : Result Data Refusal) × (t : Session) × answers x r s answered y t)
-
-  -- at an element
-  abbrev pub CutStep : Item → X → Session → Replies → X → Type 0
-  CutStep (Good r) x s b y = MatchBool (nat_lt BATCH_LIMIT b.size) (y ≡ x) (Cut r x s y)
-  CutStep (Invalid id) x s b y = y ≡ x
-
-  -- at one of the elements after those before it, or after all of them
+  -- Memory ran out at one of the elements, after those before it were answered. That one loses nothing: there
+  -- is room to tell it of a device that fails before a device is asked.
   abbrev pub CutSteps : List Item → X → Session → Replies → X → Type 0
-  CutSteps [] x s b y = y ≡ x
+  CutSteps [] x s b y = ⊥
   CutSteps (i ∷ is) x s b y =
-      CutStep i x s b y
+      (y ≡ x)
       ⊎ ((between : X) × (session : Session) × (replies : Replies) × Step i x s b between session replies
       × CutSteps is between session replies y)
 

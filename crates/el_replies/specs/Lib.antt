@@ -3,3 +3,4 @@ pub mod Requested
 pub mod Losses
 pub mod Batches
 pub mod LineReplies
+pub mod within

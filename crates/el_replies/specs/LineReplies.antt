@@ -11,12 +11,11 @@ use Rattle.el_json.specs.declared.request.Envelope.TheVariants.{One, Batch}
 use Rattle.el_json.specs.declared.request.LineFault.{LineFault}
 use Rattle.el_json.specs.declared.request.LineFault.TheVariants as fault
 use Rattle.el_replies.specs.Envelopes.{reply_value}
-use Rattle.el_replies.specs.Batches.{Steps, Cut, CutSteps, is_closing}
+use Rattle.el_replies.specs.Batches.{Replies, Steps, CutSteps, is_closing}
 use Rattle.el_replies.specs.declared.line.LineReply.{LineReply}
 use Rattle.el_calls.specs.declared.refusal.Refusal.{Refusal}
 use Rattle.el_calls.specs.declared.refusal.Refusal.TheVariants as refusal
 use Rattle.el_sessions.specs.declared.session.Session.{Session}
-use Rattle.el_replies.specs.declared.batch.Replies.{Replies}
 
 -- the message with one reply
 abbrev pub message : Data → Result Data Refusal → List ℕ
@@ -35,9 +34,9 @@ reply_to id answered = record { text = message_to id answered; closes = is_closi
 abbrev pub no_replies : Replies
 no_replies = record { text = []; size = 0; any = false; closes = false }
 
--- the message with the replies of a batch, if there is one (91 is '[', 93 is ']')
+-- the message with the replies of a batch, if there is one (93 is the closing bracket)
 abbrev pub batch_message : Replies → Option (List ℕ)
-batch_message b = if b.any then Some (91 ∷ (b.text ++ 93 ∷ 10 ∷ [])) else None
+batch_message b = if b.any then Some (b.text ++ 93 ∷ 10 ∷ []) else None
 
 -- what comes of a batch: its message, and whether one of its answers closes the client
 abbrev pub batch_reply : Replies → LineReply
@@ -60,10 +59,11 @@ module _ {X : Type 0} (answers : X → Request → Session → Result Data Refus
   IsReplyTo (Ok (Batch items)) x s y t reply =
       (replies : Replies) × Steps answers items x s no_replies y t replies × (reply ≡ batch_reply replies)
 
-  -- what comes of what a line says where memory runs out meanwhile
+  -- What comes of what a line says where memory runs out meanwhile: nothing was lost, but at elements of a
+  -- batch that were answered.
   abbrev pub IsCutAt : Result Envelope LineFault → X → Session → X → Type 0
   IsCutAt (Err e) x s y = y ≡ x
-  IsCutAt (Ok (One r)) x s y = Cut answers r x s y
+  IsCutAt (Ok (One r)) x s y = y ≡ x
   IsCutAt (Ok (Batch items)) x s y = CutSteps answers items x s no_replies y
 
   -- What comes of the line: the reply, or memory ran out, while the line was read or then.

@@ -1,20 +1,25 @@
 // Batches of requests (JSON-RPC 2.0, section 6).
-ghost use Rattle.std.specs.Prelude.{◌≡◌, ◌<◌, ◌≤◌, ℕ, List, IfOk, OnOk, MatchResult};
+ghost use Rattle.std.specs.Prelude.{◌≡◌, ◌<◌, ◌≤◌, ◌+◌, ℕ, List, IfOk, IsOk, OnOk, OnErr, Ok, Err, MatchResult, MatchOption, option_map, length, vec_capacity};
+ghost use Rattle.serde_json.specs.Written.{compact_text};
 ghost use Rattle.el_outside.specs.Files.{AllGrow};
 ghost use Rattle.el_chain.specs.Chains.{Chain};
 ghost use Rattle.el_model.specs.Keeping.{Quiet};
 ghost use Rattle.el_methods.specs.Archives.{HasTransactions};
 ghost use Rattle.el_mempool.specs.Standing.{StandsFor};
 ghost use Rattle.el_tx.specs.declared.types.Tx as shape;
+ghost use Rattle.el_replies.specs.Envelopes.{reply_value};
 ghost use Rattle.el_replies.specs.Losses.{AnswersOf, Loses};
-ghost use Rattle.el_replies.specs.Batches.{added, with_reply, is_closing, InTime, Step, Steps, Cut, CutStep, CutSteps};
-ghost use Rattle.el_json.specs.Lines.{HasPrintableId, IsPrintableId};
+ghost use Rattle.el_replies.specs.Batches.{added, noted, with_reply, is_closing, InTime, Step, Steps, CutSteps};
+ghost use Rattle.el_replies.specs.within.Errors.{error_text};
+ghost use Rattle.el_replies.specs.within.Gathered.{replies_of, HasEnd, HasSpace};
+ghost use Rattle.el_json.specs.Lines.{HasPrintableId, IsPrintable, IsPrintableId};
 ghost use Rattle.el_methods.specs.Outcomes.{IsPrintableAnswer};
 ghost use Rattle.el_sessions.specs.Sessions.{Extends};
 
-use crate::replies::reply_text;
+use crate::error_room::{ERROR_SIZE, ErrorRoom, extend_reserved, room_for};
+use crate::replies::result_text;
 use crate::requested::answer_request;
-use el_base::{Bytes, OutOfMemory};
+use el_base::OutOfMemory;
 use el_calls::Refusal;
 use el_json::{Answer, Elements, Item, Request};
 use el_methods::Holdings;
@@ -28,9 +33,9 @@ pub const BATCH_LIMIT: u128 = 50_000_000;
 
 /// The replies of a batch so far.
 #[derive(Drop)]
-pub struct Replies {
-    /// Their texts, with commas between.
-    pub text: Bytes,
+pub(crate) struct Gathered {
+    /// Their texts after `[`, with commas between. Where there is one, there is room for what ends the batch.
+    pub text: Vec<u8>,
     /// How many bytes the texts have together, counted until they pass the limit.
     pub size: u128,
     /// Whether there is one.
@@ -49,63 +54,153 @@ pub(crate) fn is_closing(answered: &Result<Answer, Refusal>) -> bool
     }
 }
 
-// Adds the text of a reply.
-fn add(replies: &mut Replies, text: &[u8]) -> Result<(), OutOfMemory>
-    ensures { OnOk result (replies.new ≡ added text.now replies.old) }
+// Adds the text of a reply, for which there is room. Takes no memory.
+fn add(replies: &mut Gathered, text: &[u8])
+    requires { length replies.old.text.items + (length text.now + 3) ≤ vec_capacity replies.old.text }
+    ensures added { replies_of replies.new ≡ added text.now (replies_of replies.old) }
+    ensures end { HasEnd replies.new }
 {
     if replies.any {
-        replies.text.extend(b",")?;
+        extend_reserved(&mut replies.text, b",");
+    } else {
+        extend_reserved(&mut replies.text, b"[");
     }
-    replies.text.extend(text)?;
+    extend_reserved(&mut replies.text, text);
     if replies.size <= BATCH_LIMIT {
         replies.size += text.len() as u128;
     }
     replies.any = true;
+}
+
+// Takes the room for the reply with an error to the request with this id, unless it is a notification.
+fn make_room(
+    alloc: Global,
+    replies: &mut Gathered,
+    id: &Option<Answer>,
+) -> Result<Option<ErrorRoom>, OutOfMemory>
+    requires { IsPrintableId id.now }
+    ensures same { replies_of replies.new ≡ replies_of replies.old }
+    ensures room { IfOk result (λ room. room ≡ option_map compact_text id.now) }
+    ensures space { IfOk result (λ room. HasSpace room replies.new) }
+    ensures end { HasEnd replies.old → HasEnd replies.new }
+{
+    let room = room_for(alloc, id)?;
+    if let Some(room) = &room {
+        replies.text.try_reserve(room.id_len() + (ERROR_SIZE + 3))?;
+    }
+    Ok(room)
+}
+
+// Adds a reply with an error, in the room for it. Takes no memory.
+fn add_error(replies: &mut Gathered, room: Option<ErrorRoom>, refusal: Refusal)
+    requires space { HasSpace room replies.old }
+    requires end { HasEnd replies.old }
+    ensures added { MatchOption room (replies_of replies.new ≡ replies_of replies.old)
+        (λ id. replies_of replies.new ≡ added (error_text id refusal) (replies_of replies.old)) }
+    ensures end { HasEnd replies.new }
+{
+    if let Some(room) = room {
+        let text = room.into_error(refusal);
+        add(replies, text.as_slice());
+    }
+}
+
+// Adds a reply with a result, unless the request is a notification.
+fn add_result(
+    alloc: Global,
+    replies: &mut Gathered,
+    id: Option<Answer>,
+    found: Answer,
+) -> Result<(), OutOfMemory>
+    requires id { IsPrintableId id }
+    requires found { IsPrintable found }
+    requires end { HasEnd replies.old }
+    ensures added { OnOk result (MatchOption id (replies_of replies.new ≡ replies_of replies.old)
+        (λ i. replies_of replies.new ≡ added (compact_text (reply_value i (Ok found))) (replies_of replies.old))) }
+    ensures end { OnOk result (HasEnd replies.new) }
+{
+    let Some(id) = id else {
+        return Ok(());
+    };
+    let text = result_text(alloc, id, found)?;
+    replies.text.try_reserve(text.len() + 3)?;
+    add(replies, text.as_slice());
     Ok(())
 }
 
-// Adds a reply, unless the request is a notification.
-pub(crate) fn add_reply(
+// Notes whether the client that is told this is closed.
+fn note(replies: &mut Gathered, answered: &Result<Answer, Refusal>)
+    ensures noted { replies_of replies.new ≡ noted answered.now (replies_of replies.old) }
+    ensures same { replies.new ≡ record replies.old { closes = replies.new.closes } }
+{
+    replies.closes = replies.closes || is_closing(answered);
+}
+
+// Adds a reply, unless the request is a notification. For one with an error there is room: it takes no memory.
+fn add_reply(
     alloc: Global,
-    replies: &mut Replies,
+    replies: &mut Gathered,
+    room: Option<ErrorRoom>,
     id: Option<Answer>,
     answered: Result<Answer, Refusal>,
 ) -> Result<(), OutOfMemory>
     requires id { IsPrintableId id }
     requires answered { IsPrintableAnswer answered }
-    ensures { OnOk result (replies.new ≡ with_reply id answered replies.old) }
+    requires room { room ≡ option_map compact_text id }
+    requires space { HasSpace room replies.old }
+    requires end { HasEnd replies.old }
+    ensures added { OnOk result (replies_of replies.new ≡ with_reply id answered (replies_of replies.old)) }
+    ensures end { OnOk result (HasEnd replies.new) }
+    ensures sure { OnErr result (IsOk answered) }
 {
-    replies.closes = replies.closes || is_closing(&answered);
-    match id {
-        Some(id) => {
-            let text = reply_text(alloc, id, answered)?;
-            add(replies, text.as_slice())
+    note(replies, &answered);
+    match answered {
+        Ok(found) => add_result(alloc, replies, id, found),
+        Err(refusal) => {
+            add_error(replies, room, refusal);
+            Ok(())
         }
-        None => Ok(()),
     }
 }
 
-// Answers a request before the limit was passed.
+// Adds a reply with an error to what isn't asked, unless it is a notification.
+fn refuse(
+    alloc: Global,
+    replies: &mut Gathered,
+    id: Option<Answer>,
+    refusal: Refusal,
+) -> Result<(), OutOfMemory>
+    requires id { IsPrintableId id }
+    requires end { HasEnd replies.old }
+    ensures added { OnOk result (replies_of replies.new ≡ with_reply id (Err refusal) (replies_of replies.old)) }
+    ensures end { OnOk result (HasEnd replies.new) }
+{
+    let room = make_room(alloc, replies, &id)?;
+    add_reply(alloc, replies, room, id, Err(refusal))
+}
+
+// Answers a request before the limit was passed. The room for an error is taken before it is asked.
 fn answer_in_time<G: Ledger, A: Archive>(
     alloc: Global,
     ledger: &mut G,
     archive: &mut A,
     holdings: &Holdings,
     session: &mut Session,
-    replies: &mut Replies,
+    replies: &mut Gathered,
     request: Request,
 ) -> Result<(), OutOfMemory>
     requires live { G.is_live ledger.old }
     requires id { IsPrintableId request.id }
+    requires end { HasEnd replies.old }
     ensures answered { (chain : Chain) (kept : List shape.Tx) (files : ℕ → List ℕ)
         → G.stands ledger.old chain → StandsFor holdings.now.pool.entries chain kept
         → (A.tells → AllGrow files (A.bytes archive.old)) → Loses
         (G.faults ledger.old) (G.faults ledger.new) (A.faults archive.old) (A.faults archive.new)
         (λ before after. MatchResult result
         (λ _. InTime (AnswersOf (A.tells × HasTransactions files chain) chain kept holdings.now.tree)
-        request before session.old replies.old after session.new replies.new)
-        (λ _. Cut (AnswersOf (A.tells × HasTransactions files chain) chain kept holdings.now.tree)
-        request before session.old after)) }
+        request before session.old (replies_of replies.old) after session.new (replies_of replies.new))
+        (λ _. after ≡ before)) }
+    ensures end { OnOk result (HasEnd replies.new) }
     ensures extends { Extends session.old.subs session.new.subs }
     ensures disk_more { G.faults ledger.old ≤ G.faults ledger.new }
     ensures archive_more { A.faults archive.old ≤ A.faults archive.new }
@@ -113,8 +208,9 @@ fn answer_in_time<G: Ledger, A: Archive>(
         G.moment G.left_since ledger.old ledger.new }
     ensures grows { A.tells → AllGrow (A.bytes archive.old) (A.bytes archive.new) }
 {
+    let room = make_room(alloc, replies, &request.id)?;
     let told = answer_request(alloc, ledger, archive, holdings, session, &request)?;
-    add_reply(alloc, replies, request.id, told)
+    add_reply(alloc, replies, room, request.id, told)
 }
 
 // Answers an element of a batch.
@@ -125,20 +221,21 @@ fn answer_item<G: Ledger, A: Archive>(
     archive: &mut A,
     holdings: &Holdings,
     session: &mut Session,
-    replies: &mut Replies,
+    replies: &mut Gathered,
     item: Item,
 ) -> Result<(), OutOfMemory>
     requires live { G.is_live ledger.old }
     requires printable { HasPrintableId item }
+    requires end { HasEnd replies.old }
     ensures answered { (chain : Chain) (kept : List shape.Tx) (files : ℕ → List ℕ)
         → G.stands ledger.old chain → StandsFor holdings.now.pool.entries chain kept
         → (A.tells → AllGrow files (A.bytes archive.old)) → Loses
         (G.faults ledger.old) (G.faults ledger.new) (A.faults archive.old) (A.faults archive.new)
         (λ before after. MatchResult result
         (λ _. Step (AnswersOf (A.tells × HasTransactions files chain) chain kept holdings.now.tree)
-        item before session.old replies.old after session.new replies.new)
-        (λ _. CutStep (AnswersOf (A.tells × HasTransactions files chain) chain kept holdings.now.tree)
-        item before session.old replies.old after)) }
+        item before session.old (replies_of replies.old) after session.new (replies_of replies.new))
+        (λ _. after ≡ before)) }
+    ensures end { OnOk result (HasEnd replies.new) }
     ensures extends { Extends session.old.subs session.new.subs }
     ensures disk_more { G.faults ledger.old ≤ G.faults ledger.new }
     ensures archive_more { A.faults archive.old ≤ A.faults archive.new }
@@ -149,37 +246,39 @@ fn answer_item<G: Ledger, A: Archive>(
     match item {
         Item::Good(request) => {
             if replies.size > BATCH_LIMIT {
-                add_reply(alloc, replies, request.id, Err(Refusal::BatchTooLarge))
+                refuse(alloc, replies, request.id, Refusal::BatchTooLarge)
             } else {
                 answer_in_time(alloc, ledger, archive, holdings, session, replies, request)
             }
         }
-        Item::Invalid(id) => add_reply(alloc, replies, Some(id), Err(Refusal::Invalid)),
+        Item::Invalid(id) => refuse(alloc, replies, Some(id), Refusal::Invalid),
     }
 }
 
 /// Answers the elements of a batch in order: once the texts of the replies have more than `BATCH_LIMIT` bytes
-/// together, each later request is refused and has no effect. Fails only where memory runs out; what the
-/// elements before that lost is counted too.
-pub fn answer_items<G: Ledger, A: Archive>(
+/// together, each later request is refused and has no effect. Fails only where memory runs out at an element,
+/// which then lost nothing; what those before it lost is counted too.
+pub(crate) fn answer_items<G: Ledger, A: Archive>(
     alloc: Global,
     ledger: &mut G,
     archive: &mut A,
     holdings: &Holdings,
     session: &mut Session,
-    replies: &mut Replies,
+    replies: &mut Gathered,
     elements: &mut Elements,
 ) -> Result<(), OutOfMemory>
     requires live { G.is_live ledger.old }
+    requires end { HasEnd replies.old }
     ensures answered { (chain : Chain) (kept : List shape.Tx) (files : ℕ → List ℕ)
         → G.stands ledger.old chain → StandsFor holdings.now.pool.entries chain kept
         → (A.tells → AllGrow files (A.bytes archive.old)) → Loses
         (G.faults ledger.old) (G.faults ledger.new) (A.faults archive.old) (A.faults archive.new)
         (λ before after. MatchResult result
         (λ _. Steps (AnswersOf (A.tells × HasTransactions files chain) chain kept holdings.now.tree)
-        elements.old before session.old replies.old after session.new replies.new)
+        elements.old before session.old (replies_of replies.old) after session.new (replies_of replies.new))
         (λ _. CutSteps (AnswersOf (A.tells × HasTransactions files chain) chain kept holdings.now.tree)
-        elements.old before session.old replies.old after)) }
+        elements.old before session.old (replies_of replies.old) after)) }
+    ensures end { OnOk result (HasEnd replies.new) }
     ensures extends { Extends session.old.subs session.new.subs }
     ensures disk_more { G.faults ledger.old ≤ G.faults ledger.new }
     ensures archive_more { A.faults archive.old ≤ A.faults archive.new }

@@ -2,10 +2,11 @@
 #![tactic(auto)]
 
 mod batch;
+mod error_room;
 mod line;
 mod replies;
 mod requested;
 
-pub use batch::{BATCH_LIMIT, Replies, answer_items};
+pub use batch::BATCH_LIMIT;
 pub use line::{LineReply, reply_line};
 pub use requested::answer_request;

@@ -1,5 +1,6 @@
 // The reply to a line.
-ghost use Rattle.std.specs.Prelude.{◌≡◌, ◌≤◌, ◌++◌, ◌∷◌, ℕ, List, [], IfOk, Ok, Err, Some, false, MatchResult};
+ghost use Rattle.std.specs.Prelude.{◌≡◌, ◌≤◌, ◌++◌, ◌∷◌, ℕ, List, [], IfOk, IsOk, OnErr, Ok, Err, Some, false, MatchResult, option_map};
+ghost use Rattle.serde_json.specs.Written.{compact_text};
 ghost use Rattle.el_json.specs.Lines.{IsPrintable, IsPrintableId};
 ghost use Rattle.el_outside.specs.Files.{AllGrow};
 ghost use Rattle.el_chain.specs.Chains.{Chain};
@@ -8,13 +9,16 @@ ghost use Rattle.el_methods.specs.Archives.{HasTransactions};
 ghost use Rattle.el_mempool.specs.Standing.{StandsFor};
 ghost use Rattle.el_tx.specs.declared.types.Tx as shape;
 ghost use Rattle.el_replies.specs.Losses.{AnswersOf, Loses};
-ghost use Rattle.el_replies.specs.Batches.{Cut, CutSteps};
-ghost use Rattle.el_replies.specs.LineReplies.{message, reply_to, says, batch_message, no_replies, IsReplyTo, IsLineReply};
+ghost use Rattle.el_replies.specs.Batches.{CutSteps};
+ghost use Rattle.el_replies.specs.LineReplies.{message, message_to, reply_to, says, batch_message, no_replies, IsReplyTo, IsLineReply};
+ghost use Rattle.el_replies.specs.within.Errors.{error_text};
+ghost use Rattle.el_replies.specs.within.Gathered.{replies_of, HasEnd};
 ghost use Rattle.el_methods.specs.Outcomes.{IsPrintableAnswer};
 ghost use Rattle.el_sessions.specs.Sessions.{Extends};
 
-use crate::batch::{Replies, answer_items, is_closing};
-use crate::replies::reply_text;
+use crate::batch::{Gathered, answer_items, is_closing};
+use crate::error_room::{ErrorRoom, extend_reserved, room_for};
+use crate::replies::result_text;
 use crate::requested::answer_request;
 use el_base::{Bytes, OutOfMemory};
 use el_calls::Refusal;
@@ -35,59 +39,80 @@ pub struct LineReply {
     pub closes: bool,
 }
 
-// The message with one reply.
-fn message_of(
-    alloc: Global,
-    id: Answer,
-    answered: Result<Answer, Refusal>,
-) -> Result<Bytes, OutOfMemory>
-    requires id { IsPrintable id }
-    requires answered { IsPrintableAnswer answered }
-    ensures { IfOk result (λ text. text ≡ message id answered) }
+// The message with an error to a request, in the room for it, unless it is a notification. Takes no memory.
+fn error_message(room: Option<ErrorRoom>, refusal: Refusal) -> Option<Bytes>
+    ensures { result ≡ option_map (λ id. error_text id refusal ++ 10 ∷ []) room }
 {
-    let text = reply_text(alloc, id, answered)?;
-    let mut text = Bytes::from_vec(text);
-    text.extend(b"\n")?;
-    Ok(text)
+    match room {
+        None => None,
+        Some(room) => {
+            let mut text = room.into_error(refusal);
+            extend_reserved(&mut text, b"\n");
+            Some(Bytes::from_vec(text))
+        }
+    }
 }
 
-// The message with the replies of a batch, if there is one.
-fn batch_message_of(alloc: Global, replies: &Replies) -> Result<Option<Bytes>, OutOfMemory>
-    ensures { IfOk result (λ text. text ≡ batch_message replies.now) }
+// The message with a result of a request, unless it is a notification.
+fn result_message(
+    alloc: Global,
+    id: Option<Answer>,
+    found: Answer,
+) -> Result<Option<Bytes>, OutOfMemory>
+    requires id { IsPrintableId id }
+    requires found { IsPrintable found }
+    ensures { IfOk result (λ text. text ≡ message_to id (Ok found)) }
+{
+    match id {
+        None => Ok(None),
+        Some(id) => {
+            let mut text = result_text(alloc, id, found)?;
+            text.push(b'\n')?;
+            Ok(Some(Bytes::from_vec(text)))
+        }
+    }
+}
+
+// The message with the replies of a batch, if there is one. Takes no memory.
+fn batch_message_of(replies: Gathered) -> Option<Bytes>
+    requires { HasEnd replies }
+    ensures { result ≡ batch_message (replies_of replies) }
 {
     if !replies.any {
-        return Ok(None);
+        return None;
     }
-    let mut text = Bytes::from_slice(alloc, b"[")?;
-    text.extend(replies.text.as_slice())?;
-    text.extend(b"]\n")?;
-    Ok(Some(text))
+    let mut text = replies.text;
+    extend_reserved(&mut text, b"]\n");
+    Some(Bytes::from_vec(text))
 }
 
-// What comes of a request that was answered so.
+// What comes of a request that was answered so. For an error there is room: it takes no memory.
 fn reply_to_id(
     alloc: Global,
+    room: Option<ErrorRoom>,
     id: Option<Answer>,
     answered: Result<Answer, Refusal>,
 ) -> Result<LineReply, OutOfMemory>
     requires id { IsPrintableId id }
     requires answered { IsPrintableAnswer answered }
-    ensures { IfOk result (λ reply. reply ≡ reply_to id answered) }
+    requires room { room ≡ option_map compact_text id }
+    ensures reply { IfOk result (λ reply. reply ≡ reply_to id answered) }
+    ensures sure { OnErr result (IsOk answered) }
 {
     let closes = is_closing(&answered);
-    match id {
-        Some(id) => {
-            let text = message_of(alloc, id, answered)?;
-            Ok(LineReply {
-                text: Some(text),
-                closes,
-            })
+    match answered {
+        Ok(found) => {
+            let text = result_message(alloc, id, found)?;
+            Ok(LineReply { text, closes })
         }
-        None => Ok(LineReply { text: None, closes }),
+        Err(refusal) => {
+            let text = error_message(room, refusal);
+            Ok(LineReply { text, closes })
+        }
     }
 }
 
-// The message to one request.
+// The message to one request. The room for an error is taken before it is asked.
 fn one_reply<G: Ledger, A: Archive>(
     alloc: Global,
     ledger: &mut G,
@@ -105,8 +130,7 @@ fn one_reply<G: Ledger, A: Archive>(
         (λ before after. MatchResult result
         (λ reply. IsReplyTo (AnswersOf (A.tells × HasTransactions files chain) chain kept holdings.now.tree)
         (Ok (Envelope.One request)) before session.old after session.new reply)
-        (λ _. Cut (AnswersOf (A.tells × HasTransactions files chain) chain kept holdings.now.tree)
-        request before session.old after)) }
+        (λ _. after ≡ before)) }
     ensures extends { Extends session.old.subs session.new.subs }
     ensures disk_more { G.faults ledger.old ≤ G.faults ledger.new }
     ensures archive_more { A.faults archive.old ≤ A.faults archive.new }
@@ -114,16 +138,18 @@ fn one_reply<G: Ledger, A: Archive>(
         G.moment G.left_since ledger.old ledger.new }
     ensures grows { A.tells → AllGrow (A.bytes archive.old) (A.bytes archive.new) }
 {
+    let room = room_for(alloc, &request.id)?;
     let told = answer_request(alloc, ledger, archive, holdings, session, &request)?;
-    reply_to_id(alloc, request.id, told)
+    reply_to_id(alloc, room, request.id, told)
 }
 
 // No replies yet. Takes no memory.
-fn no_replies(alloc: Global) -> Replies
-    ensures { result ≡ no_replies }
+fn no_replies(alloc: Global) -> Gathered
+    ensures none { replies_of result ≡ no_replies }
+    ensures end { HasEnd result }
 {
-    Replies {
-        text: Bytes::new(alloc),
+    Gathered {
+        text: Vec::new(alloc),
         size: 0,
         any: false,
         closes: false,
@@ -167,11 +193,9 @@ fn batch_reply<G: Ledger, A: Archive>(
         &mut replies,
         &mut elements,
     )?;
-    let text = batch_message_of(alloc, &replies)?;
-    Ok(LineReply {
-        text,
-        closes: replies.closes,
-    })
+    let closes = replies.closes;
+    let text = batch_message_of(replies);
+    Ok(LineReply { text, closes })
 }
 
 // What comes of a line that is no request.
@@ -179,15 +203,17 @@ fn fault_reply(alloc: Global, id: Answer, refusal: Refusal) -> Result<LineReply,
     requires { IsPrintable id }
     ensures { IfOk result (λ reply. reply ≡ says (message id (Err refusal))) }
 {
-    let text = message_of(alloc, id, Err(refusal))?;
+    let room = ErrorRoom::new(alloc, &id)?;
+    let text = error_message(Some(room), refusal);
     Ok(LineReply {
-        text: Some(text),
+        text,
         closes: false,
     })
 }
 
 /// What comes of a line of a client, which stands without the byte 10 that ended it. What is lost meanwhile
-/// is told to the client in the replies, and is counted also where memory runs out before there is one.
+/// is told to the client in the replies. Where memory runs out, nothing was lost, but at elements of a batch
+/// that were answered before.
 #[tactic(auto, using(el_sessions::proofs::Subscribing::extends_same))]
 pub fn reply_line<G: Ledger, A: Archive>(
     alloc: Global,

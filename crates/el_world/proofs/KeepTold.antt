@@ -32,11 +32,10 @@ use Rattle.el_sessions.specs.declared.session.Session.{Session}
 use Rattle.el_sessions.specs.declared.session.Version.{Version}
 use Rattle.el_methods.specs.declared.stop.Stop.{Stop}
 use Rattle.el_methods.specs.declared.stop.Stop.TheVariants as stop
-use Rattle.el_replies.specs.Batches.{InTime, Step, Steps, with_reply}
+use Rattle.el_replies.specs.Batches.{Replies, InTime, Step, Steps, with_reply}
 use Rattle.el_replies.specs.LineReplies.{IsReplyTo, no_replies}
 use Rattle.el_replies.specs.Losses.{AnswersOf, IsTold}
 use Rattle.el_replies.specs.Losses as answer
-use Rattle.el_replies.specs.declared.batch.Replies.{Replies}
 use Rattle.el_replies.specs.declared.batch.TheConstants.{BATCH_LIMIT}
 use Rattle.el_replies.specs.declared.line.LineReply.{LineReply}
 use Rattle.el_subs.specs.Told.{status, AllTold}

@@ -1,5 +1,5 @@
 -- What the server stands for, and what each event does to it. Peer 0 is the node, and the others are clients.
-use Rattle.std.specs.Prelude.{◌≡◌, ℕ, ◌==◌, nat_lt, Bool, true, false, not, if◌then◌else◌, List, [], ◌∷◌, ◌++◌, length, map, filter, find, MatchBool, Option, Some, None, Result, Ok, Err}
+use Rattle.std.specs.Prelude.{◌≡◌, ◌<◌, ℕ, ◌==◌, nat_lt, Bool, true, false, not, if◌then◌else◌, List, [], ◌∷◌, ◌++◌, length, map, filter, find, MatchBool, Option, Some, None, Result, Ok, Err}
 use Rattle.std.specs.List.{list_any, flat_map}
 use Rattle.std.specs.Option.{option_to_list}
 use Rattle.el_outside.specs.Devices.{Device, disk}
@@ -194,8 +194,8 @@ Comes tells side bytes was losses now result =
     IsLineReply (AnswersOf (tells × HasTransactions side.files side.chain) side.chain side.kept side.found)
     bytes [] was losses now result
 
--- A line of a client with this session gets its reply; or no memory was found for it, and the client is
--- closed.
+-- A line of a client with this session gets its reply; or no memory was found for it, or to keep count of
+-- what the line subscribed to, and the client is closed.
 pub data IsAnswered (tells : Type 0) (world : World) (p : ℕ) (bytes : List ℕ) (session : Session)
     (outs : Outs) (losses : List Device) (next : World) : Type 0 where
   replied : (reply : LineReply) (kept : client.Session)
@@ -204,6 +204,11 @@ pub data IsAnswered (tells : Type 0) (world : World) (p : ℕ) (bytes : List ℕ
       → IsAnswered tells world p bytes session outs losses next
   starved : (e : OutOfMemory) (kept : client.Session)
       → Comes tells world.side bytes session.client losses kept (Err e)
+      → outs ≡ closes_memory p → next ≡ without_client p world
+      → IsAnswered tells world p bytes session outs losses next
+  uncounted : (reply : LineReply) (kept : client.Session)
+      → Comes tells world.side bytes session.client losses kept (Ok reply)
+      → length session.client.subs < length kept.subs
       → outs ≡ closes_memory p → next ≡ without_client p world
       → IsAnswered tells world p bytes session outs losses next
 

@@ -103,8 +103,8 @@ NextIsLine b = (fed : List ℕ) (given : ℕ) → IsAt b fed given → given ≤
     → (bytes : List ℕ) × (slice_get (lines b.limit fed) given ≡ Some (line bytes))
 
 -- What comes of a line of a client over the side: it gets what the line is replied, and may then be closed;
--- or no memory was found for that. `was` is what is kept of it for its requests, and then `now`; `rose` says
--- by which losses the counts rose.
+-- or no memory was found for that, or to keep count of what it subscribed to. `was` is what is kept of it for
+-- its requests, and then `now`; `rose` says by which losses the counts rose.
 pub data LineAnswered (tells : Type 0) (side : Side) (rose : List Device → Type 0) (p : ℕ) (bytes : List ℕ)
     (was now : known.Session) (outs : model.Outs) (stays : Bool) : Type 0 where
   replied : (losses : List Device) (reply : LineReply) → Comes tells side bytes was losses now (Ok reply)
@@ -112,6 +112,9 @@ pub data LineAnswered (tells : Type 0) (side : Side) (rose : List Device → Typ
       → LineAnswered tells side rose p bytes was now outs stays
   starved : (losses : List Device) (e : OutOfMemory) → Comes tells side bytes was losses now (Err e)
       → outs ≡ closes_memory p → stays ≡ false → rose losses
+      → LineAnswered tells side rose p bytes was now outs stays
+  uncounted : (losses : List Device) (reply : LineReply) → Comes tells side bytes was losses now (Ok reply)
+      → length was.subs < length now.subs → outs ≡ closes_memory p → stays ≡ false → rose losses
       → LineAnswered tells side rose p bytes was now outs stays
 
 -- the client, where it stays

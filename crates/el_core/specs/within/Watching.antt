@@ -1,5 +1,5 @@
 -- How many clients subscribe to a script hash.
-use Rattle.std.specs.Prelude.{◌≡◌, ℕ, ◌+◌, if◌then◌else◌, List, [], ◌∷◌, ◌++◌, take, Some, None, slice_get}
+use Rattle.std.specs.Prelude.{◌≡◌, ℕ, ◌+◌, ◌<◌, if◌then◌else◌, List, [], ◌∷◌, ◌++◌, length, take, Some, None, slice_get}
 use Rattle.std.specs.Map.{keys_of, lookup}
 use Rattle.std.specs.Option.{unwrap_or}
 use Rattle.el_base.specs.declared.hash.Hash32.{Hash32}
@@ -30,3 +30,7 @@ abbrev pub CountsFew : ℕ → ℕ → List (Hash32 × ℕ) → List ClientState
 CountsFew i few entries clients =
     (c : ClientState) → slice_get clients i ≡ Some c → (s : Hash32) → counted entries s
     ≡ times s (held_keys (replaced i None clients)) + times s (take few (keys_of c.session.subs))
+
+-- the client at that place subscribes to more than so many
+abbrev pub HasMore : ℕ → ℕ → List ClientState → Type 0
+HasMore i few clients = (c : ClientState) → slice_get clients i ≡ Some c → few < length c.session.subs

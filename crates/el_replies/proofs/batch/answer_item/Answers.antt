@@ -2,10 +2,11 @@ use Rattle.std.proofs.Common.{◌≡◌, refl, nat_lt, true, false, arith, sym, 
 use Rattle.std.specs.Prelude.{MatchResult}
 use Rattle.std.proofs.lemmas.Bool.Decides.{nat_tests}
 use Rattle.el_json.specs.declared.request.Item.{Item}
-use Rattle.el_replies.proofs.Losing.{so, none_lost, step_late, cut_late, in_time, done_or}
-use Rattle.el_replies.specs.Batches.{Step, CutStep}
+use Rattle.el_replies.proofs.Losing.{so, none_lost, step_late, in_time, done_or}
+use Rattle.el_replies.specs.Batches.{Step}
 use Rattle.el_methods.specs.Archives.{HasTransactions}
 use Rattle.el_replies.specs.Losses.{AnswersOf}
+use Rattle.el_replies.specs.within.Gathered.{replies_of}
 use Rattle.el_replies.specs.declared.batch.TheConstants.{BATCH_LIMIT}
 use Rattle.el_replies.proofs.batch.answer_item.Goals as goal
 
@@ -16,16 +17,14 @@ returns-then-replies-gt-BATCH_LIMIT-clause-answered g c = λ chain kept files st
     let late : nat_lt BATCH_LIMIT c.args.replies.now.size ≡ true = grind (arith, nat_tests) in
     let answers = AnswersOf (g.A.Archive.tells × HasTransactions files chain) chain kept
     c.args.holdings.now.tree in
+    let was = replies_of c.args.replies.now in
+    let is = replies_of c.refuse.new.replies in
     none_lost _ _ _ (λ before.
-    let P : Item → Type 0 = λ i. MatchResult c.add_reply.result
-    (λ z. Step answers i before c.args.session.now c.args.replies.now before c.args.session.now
-    c.add_reply.new.replies)
-    (λ e. CutStep answers i before c.args.session.now c.args.replies.now before) in
-    subst P (sym c.in-Good.is) (done_or c.add_reply.result _ _ _
-    (λ is. step_late answers c.in-Good.request before c.args.session.now c.args.session.now c.args.replies.now
-    c.add_reply.new.replies late refl is)
-    (cut_late answers c.in-Good.request before c.args.session.now c.args.replies.now late)
-    c.add_reply.ensures))
+    let P : Item → Type 0 = λ i. MatchResult c.refuse.result
+    (λ z. Step answers i before c.args.session.now was before c.args.session.now is) (λ e. before ≡ before) in
+    subst P (sym c.in-Good.is) (done_or c.refuse.result _ _ _
+    (λ added. step_late answers c.in-Good.request before c.args.session.now c.args.session.now was is late refl
+    added) refl c.refuse.ensures.added))
 
 pub returns-else-replies-gt-BATCH_LIMIT-clause-answered :
     goal.returns-else-replies-gt-BATCH_LIMIT-clause-answered
@@ -34,23 +33,23 @@ returns-else-replies-gt-BATCH_LIMIT-clause-answered g c = λ chain kept files st
     let early : nat_lt BATCH_LIMIT c.args.replies.now.size ≡ false = grind (arith, nat_tests) in
     let answers = AnswersOf (g.A.Archive.tells × HasTransactions files chain) chain kept
     c.args.holdings.now.tree in
+    let was = replies_of c.args.replies.now in
+    let is = replies_of c.answer_in_time.new.replies in
     so _ _ (λ x y h.
     let P : Item → Type 0 = λ i. MatchResult c.answer_in_time.result
-    (λ z. Step answers i x c.args.session.now c.args.replies.now y c.answer_in_time.new.session
-    c.answer_in_time.new.replies)
-    (λ e. CutStep answers i x c.args.session.now c.args.replies.now y) in
+    (λ z. Step answers i x c.args.session.now was y c.answer_in_time.new.session is) (λ e. y ≡ x) in
     subst P (sym c.in-Good.is) (in_time answers c.answer_in_time.result c.in-Good.request x y
-    c.args.session.now c.answer_in_time.new.session c.args.replies.now c.answer_in_time.new.replies early h))
+    c.args.session.now c.answer_in_time.new.session was is early h))
     (c.answer_in_time.ensures.answered chain kept files stands over grew)
 
 pub returns-in-Invalid-clause-answered : goal.returns-in-Invalid-clause-answered
 returns-in-Invalid-clause-answered g c = λ chain kept files stands over grew.
     let answers = AnswersOf (g.A.Archive.tells × HasTransactions files chain) chain kept
     c.args.holdings.now.tree in
+    let was = replies_of c.args.replies.now in
+    let is = replies_of c.refuse-in-Invalid.new.replies in
     none_lost _ _ _ (λ before.
-    let P : Item → Type 0 = λ i. MatchResult c.add_reply-in-Invalid.result
-    (λ z. Step answers i before c.args.session.now c.args.replies.now before c.args.session.now
-    c.add_reply-in-Invalid.new.replies)
-    (λ e. CutStep answers i before c.args.session.now c.args.replies.now before) in
-    subst P (sym c.in-Invalid.is) (done_or c.add_reply-in-Invalid.result _ _ _ (λ is. (refl, refl, is)) refl
-    c.add_reply-in-Invalid.ensures))
+    let P : Item → Type 0 = λ i. MatchResult c.refuse-in-Invalid.result
+    (λ z. Step answers i before c.args.session.now was before c.args.session.now is) (λ e. before ≡ before) in
+    subst P (sym c.in-Invalid.is) (done_or c.refuse-in-Invalid.result _ _ _ (λ added. (refl, refl, added)) refl
+    c.refuse-in-Invalid.ensures.added))

@@ -4,6 +4,7 @@ use Rattle.el_model.proofs.Quiets.{quiet_none, quiet_on}
 use Rattle.el_methods.specs.Archives.{HasTransactions}
 use Rattle.el_sessions.proofs.Subscribing.{extends_same, extends_more}
 use Rattle.el_replies.specs.Losses.{AnswersOf}
+use Rattle.el_replies.specs.within.Gathered.{replies_of}
 use Rattle.el_replies.proofs.BatchLoop.{begins, cut_begins, goes_on, cut_goes_on, ends, cut_here}
 use Rattle.el_replies.proofs.Losing.{so, none_lost, both, failed}
 use Rattle.el_replies.proofs.batch.answer_items.Goals as goal
@@ -17,13 +18,14 @@ loop-item-init g c =
       grows = λ tells. all_grow_none _;
       extends = extends_same c.args.session.now.subs;
       disk_more = omega arith;
+      end = c.requires.end;
       archive_more = omega arith;
       so_far = λ chain kept files stands over grew.
           let answers = AnswersOf (g.A.Archive.tells × HasTransactions files chain) chain kept
           c.args.holdings.now.tree in
           none_lost _ _ _ (λ before. (
-            begins answers _ c.args.elements.now before c.args.session.now c.args.replies.now refl,
-            cut_begins answers _ c.args.elements.now before c.args.session.now c.args.replies.now refl,
+            begins answers _ c.args.elements.now before c.args.session.now (replies_of c.args.replies.now) refl,
+            cut_begins answers _ c.args.elements.now before c.args.session.now (replies_of c.args.replies.now) refl,
           ));
     }
 
@@ -37,6 +39,7 @@ loop-item-preserved g c =
           (c.answer_item.ensures.grows tells);
       extends = extends_more _ _ _ c.loop-item.invariant.extends c.answer_item.ensures.extends;
       disk_more = omega (arith, c.loop-item.invariant.disk_more, c.answer_item.ensures.disk_more);
+      end = c.in_ok-answer_item.ensures.end;
       archive_more = omega (arith, c.loop-item.invariant.archive_more, c.answer_item.ensures.archive_more);
       so_far = λ chain kept files stands over grew.
           let answers = AnswersOf (g.A.Archive.tells × HasTransactions files chain) chain kept
@@ -44,9 +47,9 @@ loop-item-preserved g c =
           let stood = c.loop-item.invariant.quiet.stays.still_stands chain stands in
           both _ _ _ (λ x y z h k. (
             goes_on answers c.in-Some.item _ _ c.args.elements.now y z _ _ _ _ x c.args.session.now
-                c.args.replies.now c.in-Some.ensures.item h.0 k,
+                (replies_of c.args.replies.now) c.in-Some.ensures.item h.0 k,
             cut_goes_on answers c.in-Some.item _ _ c.args.elements.now y z _ _ _ _ x c.args.session.now
-                c.args.replies.now c.in-Some.ensures.item h.1 k,
+                (replies_of c.args.replies.now) c.in-Some.ensures.item h.1 k,
           ))
           (c.loop-item.invariant.so_far chain kept files stands over grew)
           (c.in_ok-answer_item.ensures.answered chain kept files stood over
@@ -58,8 +61,8 @@ returns-clause-answered g c = λ chain kept files stands over grew.
     let answers = AnswersOf (g.A.Archive.tells × HasTransactions files chain) chain kept
     c.args.holdings.now.tree in
     let none : c.loop-item.elements ≡ [] = c.in_default.ensures.item.0 in
-    so _ _ (λ x y h. ends answers _ c.args.elements.now y _ _ x c.args.session.now c.args.replies.now none
-    h.0)
+    so _ _ (λ x y h. ends answers _ c.args.elements.now y _ _ x c.args.session.now
+    (replies_of c.args.replies.now) none h.0)
     (c.loop-item.invariant.so_far chain kept files stands over grew)
 
 pub returns-in_err-answer_item-clause-answered : goal.returns-in_err-answer_item-clause-answered
@@ -68,8 +71,8 @@ returns-in_err-answer_item-clause-answered g c = λ chain kept files stands over
     c.args.holdings.now.tree in
     let stood = c.loop-item.invariant.quiet.stays.still_stands chain stands in
     both _ _ _ (λ x y z h k. failed c.from_residual.result _ _ _ c.from_residual.ensures.1
-    (cut_here answers c.in-Some.item _ _ c.args.elements.now y z _ _ x c.args.session.now c.args.replies.now
-    c.in-Some.ensures.item h.1 k))
+    (cut_here answers c.in-Some.item _ _ c.args.elements.now y z _ _ x c.args.session.now
+    (replies_of c.args.replies.now) c.in-Some.ensures.item h.1 k))
     (c.loop-item.invariant.so_far chain kept files stands over grew)
     (c.in_err-answer_item.ensures.answered chain kept files stood over
     (λ tells. all_grow_more _ _ _ (grew tells) (c.loop-item.invariant.grows tells)))

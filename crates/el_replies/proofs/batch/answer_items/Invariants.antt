@@ -8,6 +8,7 @@ use Rattle.el_methods.specs.Archives.{HasTransactions}
 use Rattle.el_sessions.specs.Sessions.{Extends}
 use Rattle.el_replies.specs.Batches.{Completes, CutCompletes}
 use Rattle.el_replies.specs.Losses.{AnswersOf, Loses}
+use Rattle.el_replies.specs.within.Gathered.{replies_of, HasEnd}
 use Rattle.el_replies.proofs.batch.answer_items.Given as goal
 
 abbrev pub decreases-loop-item : goal.decreases-loop-item
@@ -23,6 +24,7 @@ invariant-loop-item g l =
       grows : a.tells → AllGrow (a.bytes l.initial.archive) (a.bytes l.archive);
       extends : Extends l.initial.session.subs l.session.subs;
       disk_more : d.faults l.initial.ledger ≤ d.faults l.ledger;
+      end : HasEnd l.replies;
       archive_more : a.faults l.initial.archive ≤ a.faults l.archive;
       so_far : (chain : Chain) (kept : List Tx) (files : ℕ → List ℕ) → d.stands l.initial.ledger chain
           → StandsFor l.holdings.pool.entries chain kept
@@ -31,8 +33,8 @@ invariant-loop-item g l =
           (a.faults l.archive)
           (λ before after.
           let answers = AnswersOf (a.tells × HasTransactions files chain) chain kept l.holdings.tree in
-          Completes answers l.elements after l.session l.replies l.initial.elements before l.initial.session
-          l.initial.replies
-          × CutCompletes answers l.elements after l.session l.replies l.initial.elements before
-          l.initial.session l.initial.replies);
+          Completes answers l.elements after l.session (replies_of l.replies) l.initial.elements before
+          l.initial.session (replies_of l.initial.replies)
+          × CutCompletes answers l.elements after l.session (replies_of l.replies) l.initial.elements before
+          l.initial.session (replies_of l.initial.replies));
     }
