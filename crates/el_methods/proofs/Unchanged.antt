@@ -17,7 +17,7 @@ use Rattle.el_chain.specs.declared.coin.Coin.{Coin}
 use Rattle.el_chain.specs.declared.node.Spot.{Spot}
 use Rattle.el_files.specs.Reading.{text_at, IsTxOf}
 use Rattle.el_model.specs.Queries.{newest, place_at, spot_of, find_tx}
-use Rattle.el_methods.specs.Archives.{HasBlocks, HasTransactions, HasChanged}
+use Rattle.el_methods.specs.Archives.{HasBlocks, HasTransaction, HasChanged}
 use Rattle.el_methods.specs.declared.stop.Stop.{Stop}
 use Rattle.el_methods.specs.declared.stop.Stop.TheVariants as stop
 use Rattle.el_methods.proofs.Found.{chosen, newest-append}
@@ -90,18 +90,18 @@ encoded_from id before height (b ∷ bs) coins next p e =
     (λ q f. has_encoding id next.0.encoded.0 height b coins next.0.encoded.1 q f) p
     (sym (newest-append id here (positions_from (height + 1) bs after)) ∙ e)
 
--- also where the block files have the transactions of a good chain
-of_transactions : (files : ℕ → List ℕ) (chain : Chain) (id : Hash32) (s : Spot) → IsGood chain
-    → HasTransactions files chain → find_tx chain id ≡ Some s → HasChanged s id (files s.place.file) → ⊥
-of_transactions files chain id s good has is changed =
+-- also where the block files have that transaction of a good chain
+of_transaction : (files : ℕ → List ℕ) (chain : Chain) (id : Hash32) (s : Spot) → IsGood chain
+    → HasTransaction files chain id → find_tx chain id ≡ Some s → HasChanged s id (files s.place.file) → ⊥
+of_transaction files chain id s good has is changed =
     let at = found chain s (newest id (positions chain)) is in
-    stands_whole files chain id s at.0 at.2 at.1 at.4 (has id at.0 at.2 at.1 at.3)
+    stands_whole files chain id s at.0 at.2 at.1 at.4 (has at.0 at.2 at.1 at.3)
     (encoded_from id [] 0 chain [] good.each at.0 at.1) changed
 
 -- so that they have changed is not told then
 pub not_told : (files : ℕ → List ℕ) (chain : Chain) (id : Hash32) (s : Spot) → IsGood chain
-    → HasTransactions files chain → find_tx chain id ≡ Some s → (given : Result Data Stop)
+    → HasTransaction files chain id → find_tx chain id ≡ Some s → (given : Result Data Stop)
     → IfErr given (λ e. e ≡ stop.Changed → HasChanged s id (files s.place.file)) → given ≢ Err stop.Changed
 not_told files chain id s good has is (Ok answer) told same = absurd (cc)
 not_told files chain id s good has is (Err e) told same =
-    of_transactions files chain id s good has is (told (let h : Err e ≡ Err stop.Changed = same in cc))
+    of_transaction files chain id s good has is (told (let h : Err e ≡ Err stop.Changed = same in cc))

@@ -92,13 +92,14 @@ reads_files kept (call.TransactionGet id verbose) = result.is_in_files kept id v
 reads_files kept c = false
 
 -- A call is given this. It is as defined, unless it is read from the block files and they may not have the
--- chain's transactions; `has` is that they have them. Where it is read from them, what is kept of the client
--- stays as it was in any case. That a call of the block files failed, or that they have changed, is told only
--- where it is read from them, and that they have changed only where they don't have the chain's transactions.
-pub record IsGiven (has : Type 0) (chain : Chain) (kept : List Tx) (found : List Node) (c : Call)
+-- transaction that is asked for; `has` is that they have what a call asks for. Where it is read from them,
+-- what is kept of the client stays as it was in any case. That a call of the block files failed, or that they
+-- have changed, is told only where it is read from them, and that they have changed only where they lack what
+-- is asked for.
+pub record IsGiven (has : Call → Type 0) (chain : Chain) (kept : List Tx) (found : List Node) (c : Call)
     (s t : Session) (given : Result Data Stop) : Type 0 where
   pub of_index : reads_files kept c ≡ false → IsReplyWith (replied chain kept found s c) s t given
-  pub of_files : has → IsReplyWith (replied chain kept found s c) s t given
+  pub of_files : has c → IsReplyWith (replied chain kept found s c) s t given
   pub still : reads_files kept c ≡ true → t ≡ s
   pub untold : reads_files kept c ≡ false → TellsNoFiles given
-  pub unchanged : has → given ≢ Err stop.Changed
+  pub unchanged : has c → given ≢ Err stop.Changed

@@ -6,7 +6,7 @@ ghost use Rattle.el_tx.specs.declared.types.Tx as shape;
 ghost use Rattle.el_chain.specs.Chains.{Chain};
 ghost use Rattle.el_mempool.specs.Standing.{StandsFor};
 ghost use Rattle.el_model.specs.Keeping.{Quiet};
-ghost use Rattle.el_methods.specs.Archives.{HasTransactions};
+ghost use Rattle.el_methods.specs.Archives.{HasAsked};
 ghost use Rattle.el_methods.specs.RowBounds.{rows_of};
 ghost use Rattle.el_methods.specs.Outcomes.{IsReplyWith, IsCounted, IsDiskCounted, TellsNoFiles, IsPrintableAnswer};
 ghost use Rattle.el_methods.specs.Replied.{replied, reads_files, agreed};
@@ -87,10 +87,10 @@ pub fn answer<G: Ledger, A: Archive>(
     call: Call,
 ) -> Result<Answer, Stop>
     requires live { G.is_live ledger.old }
-    // Where the block files have the chain's transactions at their places.
+    // Where the block files have the chain's transaction that is asked for at its place.
     ensures answer { (chain : Chain) (kept : List shape.Tx) → G.stands ledger.old chain
         → StandsFor holdings.now.pool.entries chain kept → A.tells
-        → HasTransactions (A.bytes archive.new) chain
+        → HasAsked (A.bytes archive.new) chain call
         → IsReplyWith (replied chain kept holdings.now.tree session.old call) session.old session.new result }
     // Whatever the block files are, unless the call reads them.
     ensures of_index { (chain : Chain) (kept : List shape.Tx) → G.stands ledger.old chain
@@ -99,9 +99,9 @@ pub fn answer<G: Ledger, A: Archive>(
     // That the block files failed or have changed is told only where the call reads them.
     ensures untold { (chain : Chain) (kept : List shape.Tx) → StandsFor holdings.now.pool.entries chain kept
         → reads_files kept call ≡ false → TellsNoFiles result }
-    // That they have changed is told only where they don't have the chain's transactions at their places.
+    // That they have changed is told only where they don't have what is asked for at its place.
     ensures unchanged { (chain : Chain) → G.stands ledger.old chain → A.tells
-        → HasTransactions (A.bytes archive.new) chain → result ≢ Err stop.Changed }
+        → HasAsked (A.bytes archive.new) chain call → result ≢ Err stop.Changed }
     ensures still { (kept : List shape.Tx) → reads_files kept call ≡ true → session.new ≡ session.old }
     // Subscriptions only grow, at the end, whatever the ledger stands for.
     ensures extends { Extends session.old.subs session.new.subs }

@@ -19,8 +19,7 @@ pub use answering::answer;
 pub use blocks::{HEADER_LIMIT, headers_subscribe};
 pub use holdings::Holdings;
 pub use laws::{
-    blocks_have_transactions, moves_have_records, records_stay, transactions_are_unchanged,
-    transactions_stay,
+    asked_stays, blocks_have_asked, moves_have_records, records_stay, transactions_are_unchanged,
 };
 pub use limits::ENTRY_LIMIT;
 pub use statuses::told_of;

@@ -11,7 +11,7 @@ ghost use Rattle.el_methods.specs.Results as defined;
 ghost use Rattle.el_methods.specs.Results.{hex, is_in_files};
 ghost use Rattle.el_mempool.specs.Standing.{StandsFor};
 ghost use Rattle.el_tx.specs.declared.types.Tx as tx_shape;
-ghost use Rattle.el_methods.specs.Archives.{HasTransactions, HasChanged};
+ghost use Rattle.el_methods.specs.Archives.{HasTransaction, HasChanged};
 ghost use Rattle.el_methods.specs.Outcomes.{IsAnswer, IsCounted, IsDiskCounted, TellsNoFiles, IsPrintableAnswer};
 ghost use Rattle.el_methods.specs.declared.stop.Stop.TheVariants as stop;
 ghost use Rattle.el_calls.specs.declared.refusal.Refusal as shape;
@@ -89,10 +89,10 @@ fn confirmed_get<G: Ledger, A: Archive>(
 ) -> Result<Answer, Stop>
     requires live { G.is_live ledger.old }
     ensures answer { (chain : Chain) → G.stands ledger.old chain → A.tells
-        → HasTransactions (A.bytes archive.new) chain
+        → HasTransaction (A.bytes archive.new) chain id
         → IsAnswer (defined.transaction_get chain [] id false) result }
     ensures unchanged { (chain : Chain) → G.stands ledger.old chain → A.tells
-        → HasTransactions (A.bytes archive.new) chain → result ≢ Err stop.Changed }
+        → HasTransaction (A.bytes archive.new) chain id → result ≢ Err stop.Changed }
     ensures changed { (chain : Chain) → G.stands ledger.old chain → A.tells
         → IfErr result (λ e. e ≡ stop.Changed → (spot : place.Spot) × (find_tx chain id ≡ Some spot)
         × HasChanged spot id (A.bytes archive.new spot.place.file)) }
@@ -134,9 +134,9 @@ pub fn transaction_get<G: Ledger, A: Archive>(
     verbose: bool,
 ) -> Result<Answer, Stop>
     requires live { G.is_live ledger.old }
-    // Where the block files have the chain's transactions at their places.
+    // Where the block files have the chain's transaction at its place.
     ensures answer { (chain : Chain) (kept : List tx_shape.Tx) → G.stands ledger.old chain
-        → StandsFor pool.now.entries chain kept → A.tells → HasTransactions (A.bytes archive.new) chain
+        → StandsFor pool.now.entries chain kept → A.tells → HasTransaction (A.bytes archive.new) chain id
         → IsAnswer (defined.transaction_get chain kept id verbose) result }
     // Whatever they are, where it isn't read from them.
     ensures of_set { (chain : Chain) (kept : List tx_shape.Tx) → StandsFor pool.now.entries chain kept
@@ -145,7 +145,7 @@ pub fn transaction_get<G: Ledger, A: Archive>(
     ensures untold { (chain : Chain) (kept : List tx_shape.Tx) → StandsFor pool.now.entries chain kept
         → is_in_files kept id verbose ≡ false → TellsNoFiles result }
     ensures unchanged { (chain : Chain) → G.stands ledger.old chain → A.tells
-        → HasTransactions (A.bytes archive.new) chain → result ≢ Err stop.Changed }
+        → HasTransaction (A.bytes archive.new) chain id → result ≢ Err stop.Changed }
     // Only where the bytes that stand at the transaction's place are not its own.
     ensures changed { (chain : Chain) → G.stands ledger.old chain → A.tells
         → IfErr result (λ e. e ≡ stop.Changed → (spot : place.Spot) × (find_tx chain id ≡ Some spot)

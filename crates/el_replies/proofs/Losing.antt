@@ -18,6 +18,7 @@ use Rattle.el_replies.specs.Losses as told
 use Rattle.el_replies.specs.Requested.{IsAnswered, told_of}
 use Rattle.el_replies.specs.Requested as reply
 use Rattle.el_methods.specs.Outcomes.{IsCounted}
+use Rattle.el_calls.specs.declared.call.Call.{Call}
 use Rattle.el_calls.specs.declared.refusal.Refusal.{Refusal}
 use Rattle.el_calls.specs.declared.refusal.Refusal.TheVariants as refusal
 use Rattle.el_sessions.specs.declared.session.Session.{Session}
@@ -52,7 +53,7 @@ pub never_less : (d e a b : ℕ) (given : Result Data Stop)
 never_less d e a b given h =
     let n = counts (λ n. RoseBy d e n) (λ n. RoseBy a b n) given h in (rises d e _ n.0, rises a b _ n.1)
 
-pub with_losses : (has : Type 0) (chain : Chain) (kept : List Tx) (found : List Node) (r : Request)
+pub with_losses : (has : Call → Type 0) (chain : Chain) (kept : List Tx) (found : List Node) (r : Request)
     (s t : Session) (d e a b : ℕ) (answered : Result Data Refusal)
     → IsAnswered has chain kept found r s (λ n. RoseBy d e n) (λ n. RoseBy a b n) answered t
     → Loses d e a b (λ before after. AnswersOf has chain kept found before r s answered after t)
@@ -164,14 +165,14 @@ none_of_result (Err stop.Archive) (Err r) is ok = absurd (true≢false (sym ok))
 none_of_result (Err stop.Changed) answered is ok = refl
 none_of_result (Err stop.Memory) answered is ok = refl
 
-none_of_told : (has : Type 0) (chain : Chain) (kept : List Tx) (found : List Node) (r : Request)
+none_of_told : (has : Call → Type 0) (chain : Chain) (kept : List Tx) (found : List Node) (r : Request)
     (s t : Session) (answered : Result Data Refusal) (lost : List Device)
     → IsTold has chain kept found r s answered t lost → IsOk answered → lost ≡ []
 none_of_told has chain kept found r s t answered lost (told.refused e c is same none) ok = none
 none_of_told has chain kept found r s t answered lost (told.asked c given is tells so lost_is) ok =
     lost_is ∙ none_of_result given answered tells ok
 
-pub result_unlost : (has : Type 0) (chain : Chain) (kept : List Tx) (found : List Node)
+pub result_unlost : (has : Call → Type 0) (chain : Chain) (kept : List Tx) (found : List Node)
     (before after : List Device) (r : Request) (s t : Session) (answered : Result Data Refusal)
     → AnswersOf has chain kept found before r s answered after t → IsOk answered → after ≡ before
 result_unlost has chain kept found before after r s t answered h ok =

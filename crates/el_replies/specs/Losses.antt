@@ -27,8 +27,8 @@ losses_of (Err stop.Changed) = []
 losses_of (Err stop.Memory) = []
 
 -- The client with this session is told so of the request, has that session then, and this was lost. `has` is
--- that the block files have the chain's transactions.
-pub data IsTold (has : Type 0) (chain : Chain) (kept : List Tx) (found : List Node) (r : Request)
+-- that the block files have what a call asks for.
+pub data IsTold (has : Call → Type 0) (chain : Chain) (kept : List Tx) (found : List Node) (r : Request)
     (s : Session) (told : Result Data Refusal) (t : Session) (lost : List Device) : Type 0 where
   -- it asks for no call
   refused : (e : Refusal) → IsCalled r.method r.params (Err e) → told ≡ Err e → t ≡ s → lost ≡ []
@@ -40,7 +40,7 @@ pub data IsTold (has : Type 0) (chain : Chain) (kept : List Tx) (found : List No
       → IsTold has chain kept found r s told t lost
 
 -- As `IsTold`, where `before` was lost already, and `after` is that with what this request lost.
-abbrev pub AnswersOf : Type 0 → Chain → List Tx → List Node → List Device → Request → Session
+abbrev pub AnswersOf : (Call → Type 0) → Chain → List Tx → List Node → List Device → Request → Session
     → Result Data Refusal → List Device → Session → Type 0
 AnswersOf has chain kept found before r s told after t =
     (lost : List Device) × IsTold has chain kept found r s told t lost × (after ≡ before ++ lost)

@@ -26,9 +26,9 @@ told_of (Err stop.Changed) = Some (Err refusal.ArchiveChanged)
 told_of (Err stop.Memory) = None
 
 -- The client with this session is told so of the request, and has that session then. `has` is that the block
--- files have the chain's transactions; `disk` and `archive` say by how much the counts of the two devices
+-- files have what a call asks for; `disk` and `archive` say by how much the counts of the two devices
 -- rose.
-pub data IsAnswered (has : Type 0) (chain : Chain) (kept : List Tx) (found : List Node) (r : Request)
+pub data IsAnswered (has : Call → Type 0) (chain : Chain) (kept : List Tx) (found : List Node) (r : Request)
     (s : Session) (disk archive : ℕ → Type 0) (told : Result Data Refusal) (t : Session) : Type 0 where
   -- it asks for no call
   refused : (e : Refusal) → IsCalled r.method r.params (Err e) → told ≡ Err e → t ≡ s → disk 0 → archive 0

@@ -4,7 +4,7 @@ ghost use Rattle.serde_json.specs.Written.{compact_text};
 ghost use Rattle.el_outside.specs.Files.{AllGrow};
 ghost use Rattle.el_chain.specs.Chains.{Chain};
 ghost use Rattle.el_model.specs.Keeping.{Quiet};
-ghost use Rattle.el_methods.specs.Archives.{HasTransactions};
+ghost use Rattle.el_methods.specs.Archives.{HasAsked};
 ghost use Rattle.el_mempool.specs.Standing.{StandsFor};
 ghost use Rattle.el_tx.specs.declared.types.Tx as shape;
 ghost use Rattle.el_replies.specs.Envelopes.{reply_value};
@@ -116,7 +116,8 @@ fn add_result(
     requires found { IsPrintable found }
     requires end { HasEnd replies.old }
     ensures added { OnOk result (MatchOption id (replies_of replies.new ≡ replies_of replies.old)
-        (λ i. replies_of replies.new ≡ added (compact_text (reply_value i (Ok found))) (replies_of replies.old))) }
+        (λ i. replies_of replies.new
+        ≡ added (compact_text (reply_value i (Ok found))) (replies_of replies.old))) }
     ensures end { OnOk result (HasEnd replies.new) }
 {
     let Some(id) = id else {
@@ -136,7 +137,8 @@ fn note(replies: &mut Gathered, answered: &Result<Answer, Refusal>)
     replies.closes = replies.closes || is_closing(answered);
 }
 
-// Adds a reply, unless the request is a notification. For one with an error there is room: it takes no memory.
+// Adds a reply, unless the request is a notification. For one with an error there is room: it takes no
+// memory.
 fn add_reply(
     alloc: Global,
     replies: &mut Gathered,
@@ -172,7 +174,8 @@ fn refuse(
 ) -> Result<(), OutOfMemory>
     requires id { IsPrintableId id }
     requires end { HasEnd replies.old }
-    ensures added { OnOk result (replies_of replies.new ≡ with_reply id (Err refusal) (replies_of replies.old)) }
+    ensures added { OnOk result (replies_of replies.new
+        ≡ with_reply id (Err refusal) (replies_of replies.old)) }
     ensures end { OnOk result (HasEnd replies.new) }
 {
     let room = make_room(alloc, replies, &id)?;
@@ -197,7 +200,7 @@ fn answer_in_time<G: Ledger, A: Archive>(
         → (A.tells → AllGrow files (A.bytes archive.old)) → Loses
         (G.faults ledger.old) (G.faults ledger.new) (A.faults archive.old) (A.faults archive.new)
         (λ before after. MatchResult result
-        (λ _. InTime (AnswersOf (A.tells × HasTransactions files chain) chain kept holdings.now.tree)
+        (λ _. InTime (AnswersOf (λ c. A.tells × HasAsked files chain c) chain kept holdings.now.tree)
         request before session.old (replies_of replies.old) after session.new (replies_of replies.new))
         (λ _. after ≡ before)) }
     ensures end { OnOk result (HasEnd replies.new) }
@@ -232,7 +235,7 @@ fn answer_item<G: Ledger, A: Archive>(
         → (A.tells → AllGrow files (A.bytes archive.old)) → Loses
         (G.faults ledger.old) (G.faults ledger.new) (A.faults archive.old) (A.faults archive.new)
         (λ before after. MatchResult result
-        (λ _. Step (AnswersOf (A.tells × HasTransactions files chain) chain kept holdings.now.tree)
+        (λ _. Step (AnswersOf (λ c. A.tells × HasAsked files chain c) chain kept holdings.now.tree)
         item before session.old (replies_of replies.old) after session.new (replies_of replies.new))
         (λ _. after ≡ before)) }
     ensures end { OnOk result (HasEnd replies.new) }
@@ -274,9 +277,9 @@ pub(crate) fn answer_items<G: Ledger, A: Archive>(
         → (A.tells → AllGrow files (A.bytes archive.old)) → Loses
         (G.faults ledger.old) (G.faults ledger.new) (A.faults archive.old) (A.faults archive.new)
         (λ before after. MatchResult result
-        (λ _. Steps (AnswersOf (A.tells × HasTransactions files chain) chain kept holdings.now.tree)
+        (λ _. Steps (AnswersOf (λ c. A.tells × HasAsked files chain c) chain kept holdings.now.tree)
         elements.old before session.old (replies_of replies.old) after session.new (replies_of replies.new))
-        (λ _. CutSteps (AnswersOf (A.tells × HasTransactions files chain) chain kept holdings.now.tree)
+        (λ _. CutSteps (AnswersOf (λ c. A.tells × HasAsked files chain c) chain kept holdings.now.tree)
         elements.old before session.old (replies_of replies.old) after)) }
     ensures end { OnOk result (HasEnd replies.new) }
     ensures extends { Extends session.old.subs session.new.subs }

@@ -5,7 +5,7 @@ ghost use Rattle.el_json.specs.Lines.{IsPrintable, IsPrintableId};
 ghost use Rattle.el_outside.specs.Files.{AllGrow};
 ghost use Rattle.el_chain.specs.Chains.{Chain};
 ghost use Rattle.el_model.specs.Keeping.{Quiet};
-ghost use Rattle.el_methods.specs.Archives.{HasTransactions};
+ghost use Rattle.el_methods.specs.Archives.{HasAsked};
 ghost use Rattle.el_mempool.specs.Standing.{StandsFor};
 ghost use Rattle.el_tx.specs.declared.types.Tx as shape;
 ghost use Rattle.el_replies.specs.Losses.{AnswersOf, Loses};
@@ -128,7 +128,7 @@ fn one_reply<G: Ledger, A: Archive>(
         → (A.tells → AllGrow files (A.bytes archive.old)) → Loses
         (G.faults ledger.old) (G.faults ledger.new) (A.faults archive.old) (A.faults archive.new)
         (λ before after. MatchResult result
-        (λ reply. IsReplyTo (AnswersOf (A.tells × HasTransactions files chain) chain kept holdings.now.tree)
+        (λ reply. IsReplyTo (AnswersOf (λ c. A.tells × HasAsked files chain c) chain kept holdings.now.tree)
         (Ok (Envelope.One request)) before session.old after session.new reply)
         (λ _. after ≡ before)) }
     ensures extends { Extends session.old.subs session.new.subs }
@@ -171,9 +171,9 @@ fn batch_reply<G: Ledger, A: Archive>(
         → (A.tells → AllGrow files (A.bytes archive.old)) → Loses
         (G.faults ledger.old) (G.faults ledger.new) (A.faults archive.old) (A.faults archive.new)
         (λ before after. MatchResult result
-        (λ reply. IsReplyTo (AnswersOf (A.tells × HasTransactions files chain) chain kept holdings.now.tree)
+        (λ reply. IsReplyTo (AnswersOf (λ c. A.tells × HasAsked files chain c) chain kept holdings.now.tree)
         (Ok (Envelope.Batch elements)) before session.old after session.new reply)
-        (λ _. CutSteps (AnswersOf (A.tells × HasTransactions files chain) chain kept holdings.now.tree)
+        (λ _. CutSteps (AnswersOf (λ c. A.tells × HasAsked files chain c) chain kept holdings.now.tree)
         elements before session.old no_replies after)) }
     ensures extends { Extends session.old.subs session.new.subs }
     ensures disk_more { G.faults ledger.old ≤ G.faults ledger.new }
@@ -230,7 +230,7 @@ pub fn reply_line<G: Ledger, A: Archive>(
         → (A.tells → AllGrow files (A.bytes archive.old)) → Loses
         (G.faults ledger.old) (G.faults ledger.new) (A.faults archive.old) (A.faults archive.new)
         (λ before after. IsLineReply
-        (AnswersOf (A.tells × HasTransactions files chain) chain kept holdings.now.tree)
+        (AnswersOf (λ c. A.tells × HasAsked files chain c) chain kept holdings.now.tree)
         line.now before session.old after session.new result) }
     // Subscriptions only grow, at the end, whatever the ledger stands for.
     ensures extends { Extends session.old.subs session.new.subs }

@@ -4,7 +4,7 @@ ghost use Rattle.el_outside.specs.Counts.{RoseBy};
 ghost use Rattle.el_outside.specs.Files.{AllGrow};
 ghost use Rattle.el_chain.specs.Chains.{Chain};
 ghost use Rattle.el_model.specs.Keeping.{Quiet};
-ghost use Rattle.el_methods.specs.Archives.{HasTransactions};
+ghost use Rattle.el_methods.specs.Archives.{HasAsked};
 ghost use Rattle.el_mempool.specs.Standing.{StandsFor};
 ghost use Rattle.el_tx.specs.declared.types.Tx as shape;
 ghost use Rattle.el_replies.specs.Requested.{IsAnswered, told_of};
@@ -48,7 +48,7 @@ pub fn answer_request<G: Ledger, A: Archive>(
     ensures answered { (chain : Chain) (kept : List shape.Tx) (files : ℕ → List ℕ)
         → G.stands ledger.old chain → StandsFor holdings.now.pool.entries chain kept
         → (A.tells → AllGrow files (A.bytes archive.old)) → IfOk result
-        (λ told. IsAnswered (A.tells × HasTransactions files chain) chain kept holdings.now.tree request.now
+        (λ told. IsAnswered (λ c. A.tells × HasAsked files chain c) chain kept holdings.now.tree request.now
         session.old (λ n. RoseBy (G.faults ledger.old) (G.faults ledger.new) n)
         (λ n. RoseBy (A.faults archive.old) (A.faults archive.new) n) told session.new) }
     // Where memory runs out nothing is lost.

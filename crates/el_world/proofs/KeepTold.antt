@@ -169,7 +169,7 @@ module _ (chain : Chain) (kept : List Tx) where
       same_session s (result.id_from_pos chain height pos merkle) was
   call_keeps found call.FeeHistogram s was = was
 
-  given_keeps : (has : Type 0) (found : List Node) (c : Call) (s t : Session) (given : Result Data Stop)
+  given_keeps : (has : Call → Type 0) (found : List Node) (c : Call) (s t : Session) (given : Result Data Stop)
       → IsGiven has chain kept found c s t given → IsAllTold s → IsAllTold t
   given_keeps has found c s t given is was = by (reads_files kept c) refl
     where
@@ -179,7 +179,7 @@ module _ (chain : Chain) (kept : List Tx) where
           reply_keeps IsAllTold (replied chain kept found s c) s t given (is.of_index e)
           (call_keeps found c s was) was
 
-  request_keeps : (has : Type 0) (found : List Node) (before next : List Device) (r : Request) (s t : Session)
+  request_keeps : (has : Call → Type 0) (found : List Node) (before next : List Device) (r : Request) (s t : Session)
       (answered : Result Data Refusal) → AnswersOf has chain kept found before r s answered next t
       → IsAllTold s → IsAllTold t
   request_keeps has found before next r s t answered is was = by is.0 is.1

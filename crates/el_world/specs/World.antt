@@ -17,7 +17,7 @@ use Rattle.el_lines.specs.Lines.{LineEvent, line, too_long, added_lines}
 use Rattle.el_lines.specs.NodeAnswers.{node_limit}
 use Rattle.el_world.specs.Plans.{IsMoving}
 use Rattle.el_sessions.specs.declared.session.Session as client
-use Rattle.el_methods.specs.Archives.{HasTransactions}
+use Rattle.el_methods.specs.Archives.{HasAsked}
 use Rattle.el_replies.specs.Losses.{AnswersOf}
 use Rattle.el_replies.specs.LineReplies.{IsLineReply}
 use Rattle.el_replies.specs.declared.line.LineReply.{LineReply}
@@ -187,11 +187,11 @@ after_reply p reply session kept world =
 
 -- What comes of a client's line over the side: each of its requests is answered as it is defined, or that a
 -- device failed, which is lost. A request that reads the block files is answered as it is defined where these
--- have the chain's transactions at their places.
+-- have the transaction that it asks for at its place.
 abbrev pub Comes : Type 0 → Side → List ℕ → client.Session → List Device → client.Session
     → Result LineReply OutOfMemory → Type 0
 Comes tells side bytes was losses now result =
-    IsLineReply (AnswersOf (tells × HasTransactions side.files side.chain) side.chain side.kept side.found)
+    IsLineReply (AnswersOf (λ c. tells × HasAsked side.files side.chain c) side.chain side.kept side.found)
     bytes [] was losses now result
 
 -- A line of a client with this session gets its reply; or no memory was found for it, or to keep count of

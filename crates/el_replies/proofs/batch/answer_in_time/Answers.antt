@@ -1,17 +1,21 @@
 use Rattle.std.proofs.Common.{refl, ap, ◌∙◌}
-use Rattle.el_methods.specs.Archives.{HasTransactions}
+use Rattle.el_calls.specs.declared.call.Call.{Call}
+use Rattle.el_methods.specs.Archives.{HasAsked}
 use Rattle.el_replies.specs.Batches.{with_reply}
 use Rattle.el_replies.proofs.Losing.{so, unlost, none_lost, with_losses, result_unlost, done_sure, failed}
 use Rattle.el_replies.proofs.batch.answer_in_time.Goals as goal
 
 pub returns-clause-answered : goal.returns-clause-answered
 returns-clause-answered g c = λ chain kept files stands over grew.
-    let has = g.A.Archive.tells × HasTransactions files chain in
+    let has : Call → Type 0 = λ c. g.A.Archive.tells × HasAsked files chain c in
     let told = with_losses has chain kept c.args.holdings.now.tree c.args.request c.args.session.now
     c.answer_request.new.session _ _ _ _ c.in_ok-told.told
     (c.in_ok-told.ensures.answered chain kept files stands over grew) in
-    so _ _ (λ x y h. done_sure c.add_reply.result _ _ _ _ (λ is. (c.in_ok-told.told, h,
-    is ∙ ap (with_reply c.args.request.id c.in_ok-told.told) c.make_room.ensures.same))
+    so _ _ (λ x y h. done_sure c.add_reply.result _ _ _ _ (λ is. (
+      c.in_ok-told.told,
+      h,
+      is ∙ ap (with_reply c.args.request.id c.in_ok-told.told) c.make_room.ensures.same,
+    ))
     (result_unlost has chain kept c.args.holdings.now.tree x y c.args.request c.args.session.now
     c.answer_request.new.session c.in_ok-told.told h) c.add_reply.ensures.added c.add_reply.ensures.sure) told
 

@@ -4,7 +4,7 @@ use Rattle.std.proofs.lemmas.Bool.Decides.{nat_tests}
 use Rattle.el_json.specs.declared.request.Item.{Item}
 use Rattle.el_replies.proofs.Losing.{so, none_lost, step_late, in_time, done_or}
 use Rattle.el_replies.specs.Batches.{Step}
-use Rattle.el_methods.specs.Archives.{HasTransactions}
+use Rattle.el_methods.specs.Archives.{HasAsked}
 use Rattle.el_replies.specs.Losses.{AnswersOf}
 use Rattle.el_replies.specs.within.Gathered.{replies_of}
 use Rattle.el_replies.specs.declared.batch.TheConstants.{BATCH_LIMIT}
@@ -15,7 +15,7 @@ pub returns-then-replies-gt-BATCH_LIMIT-clause-answered :
 returns-then-replies-gt-BATCH_LIMIT-clause-answered g c = λ chain kept files stands over grew.
     let limit = c.if-replies-gt-BATCH_LIMIT.true in
     let late : nat_lt BATCH_LIMIT c.args.replies.now.size ≡ true = grind (arith, nat_tests) in
-    let answers = AnswersOf (g.A.Archive.tells × HasTransactions files chain) chain kept
+    let answers = AnswersOf (λ c. g.A.Archive.tells × HasAsked files chain c) chain kept
     c.args.holdings.now.tree in
     let was = replies_of c.args.replies.now in
     let is = replies_of c.refuse.new.replies in
@@ -31,7 +31,7 @@ pub returns-else-replies-gt-BATCH_LIMIT-clause-answered :
 returns-else-replies-gt-BATCH_LIMIT-clause-answered g c = λ chain kept files stands over grew.
     let limit = c.if-replies-gt-BATCH_LIMIT.false in
     let early : nat_lt BATCH_LIMIT c.args.replies.now.size ≡ false = grind (arith, nat_tests) in
-    let answers = AnswersOf (g.A.Archive.tells × HasTransactions files chain) chain kept
+    let answers = AnswersOf (λ c. g.A.Archive.tells × HasAsked files chain c) chain kept
     c.args.holdings.now.tree in
     let was = replies_of c.args.replies.now in
     let is = replies_of c.answer_in_time.new.replies in
@@ -44,7 +44,7 @@ returns-else-replies-gt-BATCH_LIMIT-clause-answered g c = λ chain kept files st
 
 pub returns-in-Invalid-clause-answered : goal.returns-in-Invalid-clause-answered
 returns-in-Invalid-clause-answered g c = λ chain kept files stands over grew.
-    let answers = AnswersOf (g.A.Archive.tells × HasTransactions files chain) chain kept
+    let answers = AnswersOf (λ c. g.A.Archive.tells × HasAsked files chain c) chain kept
     c.args.holdings.now.tree in
     let was = replies_of c.args.replies.now in
     let is = replies_of c.refuse-in-Invalid.new.replies in

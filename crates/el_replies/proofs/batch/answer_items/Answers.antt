@@ -1,7 +1,7 @@
 use Rattle.std.proofs.Common.{◌≡◌, [], refl, arith}
 use Rattle.el_outside.proofs.Traces.{all_grow_none, all_grow_more}
 use Rattle.el_model.proofs.Quiets.{quiet_none, quiet_on}
-use Rattle.el_methods.specs.Archives.{HasTransactions}
+use Rattle.el_methods.specs.Archives.{HasAsked}
 use Rattle.el_sessions.proofs.Subscribing.{extends_same, extends_more}
 use Rattle.el_replies.specs.Losses.{AnswersOf}
 use Rattle.el_replies.specs.within.Gathered.{replies_of}
@@ -21,7 +21,7 @@ loop-item-init g c =
       end = c.requires.end;
       archive_more = omega arith;
       so_far = λ chain kept files stands over grew.
-          let answers = AnswersOf (g.A.Archive.tells × HasTransactions files chain) chain kept
+          let answers = AnswersOf (λ c. g.A.Archive.tells × HasAsked files chain c) chain kept
           c.args.holdings.now.tree in
           none_lost _ _ _ (λ before. (
             begins answers _ c.args.elements.now before c.args.session.now (replies_of c.args.replies.now) refl,
@@ -42,7 +42,7 @@ loop-item-preserved g c =
       end = c.in_ok-answer_item.ensures.end;
       archive_more = omega (arith, c.loop-item.invariant.archive_more, c.answer_item.ensures.archive_more);
       so_far = λ chain kept files stands over grew.
-          let answers = AnswersOf (g.A.Archive.tells × HasTransactions files chain) chain kept
+          let answers = AnswersOf (λ c. g.A.Archive.tells × HasAsked files chain c) chain kept
           c.args.holdings.now.tree in
           let stood = c.loop-item.invariant.quiet.stays.still_stands chain stands in
           both _ _ _ (λ x y z h k. (
@@ -58,7 +58,7 @@ loop-item-preserved g c =
 
 pub returns-clause-answered : goal.returns-clause-answered
 returns-clause-answered g c = λ chain kept files stands over grew.
-    let answers = AnswersOf (g.A.Archive.tells × HasTransactions files chain) chain kept
+    let answers = AnswersOf (λ c. g.A.Archive.tells × HasAsked files chain c) chain kept
     c.args.holdings.now.tree in
     let none : c.loop-item.elements ≡ [] = c.in_default.ensures.item.0 in
     so _ _ (λ x y h. ends answers _ c.args.elements.now y _ _ x c.args.session.now
@@ -67,7 +67,7 @@ returns-clause-answered g c = λ chain kept files stands over grew.
 
 pub returns-in_err-answer_item-clause-answered : goal.returns-in_err-answer_item-clause-answered
 returns-in_err-answer_item-clause-answered g c = λ chain kept files stands over grew.
-    let answers = AnswersOf (g.A.Archive.tells × HasTransactions files chain) chain kept
+    let answers = AnswersOf (λ c. g.A.Archive.tells × HasAsked files chain c) chain kept
     c.args.holdings.now.tree in
     let stood = c.loop-item.invariant.quiet.stays.still_stands chain stands in
     both _ _ _ (λ x y z h k. failed c.from_residual.result _ _ _ c.from_residual.ensures.1

@@ -4,7 +4,7 @@ use Rattle.el_tx.specs.declared.types.Tx.{Tx}
 use Rattle.el_chain.specs.Chains.{Chain}
 use Rattle.el_mempool.specs.Standing.{StandsFor}
 use Rattle.el_model.specs.Keeping.{Quiet}
-use Rattle.el_methods.specs.Archives.{HasTransactions}
+use Rattle.el_methods.specs.Archives.{HasAsked}
 use Rattle.el_sessions.specs.Sessions.{Extends}
 use Rattle.el_replies.specs.Batches.{Completes, CutCompletes}
 use Rattle.el_replies.specs.Losses.{AnswersOf, Loses}
@@ -32,7 +32,7 @@ invariant-loop-item g l =
           → Loses (d.faults l.initial.ledger) (d.faults l.ledger) (a.faults l.initial.archive)
           (a.faults l.archive)
           (λ before after.
-          let answers = AnswersOf (a.tells × HasTransactions files chain) chain kept l.holdings.tree in
+          let answers = AnswersOf (λ c. a.tells × HasAsked files chain c) chain kept l.holdings.tree in
           Completes answers l.elements after l.session (replies_of l.replies) l.initial.elements before
           l.initial.session (replies_of l.initial.replies)
           × CutCompletes answers l.elements after l.session (replies_of l.replies) l.initial.elements before

@@ -1,11 +1,12 @@
 use Rattle.std.proofs.Common.{refl}
-use Rattle.el_methods.specs.Archives.{HasTransactions}
+use Rattle.el_calls.specs.declared.call.Call.{Call}
+use Rattle.el_methods.specs.Archives.{HasAsked}
 use Rattle.el_replies.proofs.Losing.{so, unlost, none_lost, with_losses, result_unlost, found_sure, failed}
 use Rattle.el_replies.proofs.line.one_reply.Goals as goal
 
 pub returns-clause-answered : goal.returns-clause-answered
 returns-clause-answered g c = λ chain kept files stands over grew.
-    let has = g.A.Archive.tells × HasTransactions files chain in
+    let has : Call → Type 0 = λ c. g.A.Archive.tells × HasAsked files chain c in
     let told = with_losses has chain kept c.args.holdings.now.tree c.args.request c.args.session.now
     c.answer_request.new.session _ _ _ _ c.in_ok-told.told
     (c.in_ok-told.ensures.answered chain kept files stands over grew) in

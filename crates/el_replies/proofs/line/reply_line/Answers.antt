@@ -1,7 +1,7 @@
 use Rattle.std.proofs.Common.{◌≡◌, Ok}
 use Rattle.el_json.specs.Lines.{line_says}
 use Rattle.el_json.specs.declared.request.Envelope.TheVariants.{One, Batch}
-use Rattle.el_methods.specs.Archives.{HasTransactions}
+use Rattle.el_methods.specs.Archives.{HasAsked}
 use Rattle.el_replies.specs.Losses.{AnswersOf}
 use Rattle.el_replies.proofs.LineEnds.{of_said}
 use Rattle.el_replies.proofs.Losing.{so}
@@ -9,7 +9,7 @@ use Rattle.el_replies.proofs.line.reply_line.Goals as goal
 
 pub returns-in-Ok-One-clause-answered : goal.returns-in-Ok-One-clause-answered
 returns-in-Ok-One-clause-answered g c = λ chain kept files stands over grew.
-    let answers = AnswersOf (g.A.Archive.tells × HasTransactions files chain) chain kept
+    let answers = AnswersOf (λ c. g.A.Archive.tells × HasAsked files chain c) chain kept
     c.args.holdings.now.tree in
     let says = c.in-Ok-One.ensures.says in
     let is = c.in-Ok-One.field-0-is in
@@ -20,7 +20,7 @@ returns-in-Ok-One-clause-answered g c = λ chain kept files stands over grew.
 
 pub returns-in-Ok-Batch-clause-answered : goal.returns-in-Ok-Batch-clause-answered
 returns-in-Ok-Batch-clause-answered g c = λ chain kept files stands over grew.
-    let answers = AnswersOf (g.A.Archive.tells × HasTransactions files chain) chain kept
+    let answers = AnswersOf (λ c. g.A.Archive.tells × HasAsked files chain c) chain kept
     c.args.holdings.now.tree in
     let says = c.in-Ok-Batch.ensures.says in
     let is = c.in-Ok-Batch.field-0-is in

@@ -1,7 +1,7 @@
 use Rattle.std.proofs.Common.{◌∙◌, sym, subst, refl, rules, ℕ, List, Ok, Err}
 use Rattle.el_outside.proofs.Traces.{all_grow_more}
 use Rattle.el_calls.specs.Methods.{IsCalled}
-use Rattle.el_methods.proofs.Places.{transactions_stay}
+use Rattle.el_methods.proofs.Places.{asked_stays}
 use Rattle.el_replies.specs.Requested.{refused, asked}
 use Rattle.el_replies.proofs.Losing.{never_less}
 use Rattle.el_replies.proofs.requested.answer_request.Goals as goal
@@ -20,11 +20,11 @@ returns-in-Some-clause-answered g c = λ chain kept files stands over grew.
     (record {
       of_index = λ none. answer.of_index chain kept stands over none;
       of_files = λ has. answer.answer chain kept stands over has.0
-          (transactions_stay _ _ chain (all_grow_more _ _ _ (grew has.0) (answer.grows has.0)) has.1);
+          (asked_stays _ _ chain c.in-Ok.call (all_grow_more _ _ _ (grew has.0) (answer.grows has.0)) has.1);
       still = λ reads. answer.still kept reads;
       untold = λ none. answer.untold chain kept over none;
       unchanged = λ has. answer.unchanged chain stands has.0
-          (transactions_stay _ _ chain (all_grow_more _ _ _ (grew has.0) (answer.grows has.0)) has.1);
+          (asked_stays _ _ chain c.in-Ok.call (all_grow_more _ _ _ (grew has.0) (answer.grows has.0)) has.1);
     })
     answer.counted
 
