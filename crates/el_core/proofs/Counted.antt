@@ -15,7 +15,7 @@ use Rattle.el_core.specs.Arrivals.{kept_clients}
 use Rattle.el_core.specs.State.{ClientState, is_numbered}
 use Rattle.el_core.specs.within.Clients.{replaced, all_wait}
 use Rattle.el_core.specs.within.Touching.{is_held}
-use Rattle.el_core.specs.within.Watching.{times, held_keys, counted, Counts, CountsFew}
+use Rattle.el_core.specs.within.Watching.{times, held_keys, counted, NoneIdle, Counts, CountsFew}
 use Rattle.el_core.proofs.Places.{same_some}
 use Rattle.el_core.proofs.Replacing.{set_is_replaced}
 
@@ -59,6 +59,24 @@ one_down old new s count left is less t set = elim (either (same_hash s t)) [
       let a : counted new t ≡ counted old t = ap (λ (o : Option ℕ). unwrap_or o 0) (rw h at set) in
       let f : same_hash t s ≡ false = turned s t false h in
       rw f (omega arith)
+]
+
+-- none stands beside one to which nobody subscribes: a number above 0 is set, or one is taken out
+pub none_idle : (old new : List (Hash32 × ℕ)) (s : Hash32) (count : ℕ) → 0 < count → NoneIdle old
+    → ((t : Hash32) → lookup (same_hash t) new ≡ (if same_hash s t then Some count else lookup (same_hash t) old)) → NoneIdle new
+none_idle old new s count more none set t is = elim (either (same_hash s t)) [
+  | inl h ↦
+      let e : ◌≡◌ {A = Option ℕ} (Some count) (Some 0) = sym (rw h at (set t)) ∙ is in
+      let z : count ≡ 0 = cc in
+      absurd (omega arith)
+  | inr h ↦ none t (sym (rw h at (set t)) ∙ is)
+]
+
+pub still_none_idle : (old new : List (Hash32 × ℕ)) (s : Hash32) → NoneIdle old
+    → ((t : Hash32) → lookup (same_hash t) new ≡ (if same_hash s t then None else lookup (same_hash t) old)) → NoneIdle new
+still_none_idle old new s none dropped t is = elim (either (same_hash s t)) [
+  | inl h ↦ absurd (let e : ◌≡◌ {A = Option ℕ} None (Some 0) = sym (rw h at (dropped t)) ∙ is in cc)
+  | inr h ↦ none t (sym (rw h at (dropped t)) ∙ is)
 ]
 
 pub when_ok : {T E : Type 0} (P Q : Type 0) (r : Result T E) → (P → Q) → OnOk r P → OnOk r Q

@@ -14,13 +14,12 @@ ghost use Rattle.el_core.specs.within.Watching.{Counts, CountsFew, HasMore};
 use crate::client::{Client, client_turn, closing};
 use crate::out::Outs;
 use crate::telling::tell_turn;
-use crate::watching::{count_from, is_counted, uncount};
+use crate::watching::{Watched, count_from, is_counted, uncount};
 use el_base::{Hash32, OutOfMemory};
 use el_chain::Touched;
 use el_methods::Holdings;
 use el_model::Ledger;
 use el_outside::{Archive, Peer, Why};
-use indexmap::IndexMap;
 use std::alloc::Global;
 use std::marker::Model;
 
@@ -29,7 +28,7 @@ use std::marker::Model;
 #[derive(Drop)]
 pub struct Clients {
     list: Vec<Client>,
-    watched: IndexMap<Hash32, usize>,
+    watched: Watched,
 }
 
 impl Model for Clients {
@@ -41,7 +40,7 @@ impl Model for Clients {
 
     ghost view = { λ c. c.list.items };
 
-    ghost invariant = { λ c. Counts c.watched.entries c.list.items };
+    ghost invariant = { λ c. Counts c.watched c.list.items };
 }
 
 // All are to be told of a line of the node.
@@ -54,11 +53,11 @@ fn await_all(list: &mut Vec<Client>)
 }
 
 // Takes away the client at that place, of whose subscriptions so many are counted, the first ones.
-fn take_out(list: &mut Vec<Client>, watched: &mut IndexMap<Hash32, usize>, i: usize, few: usize)
+fn take_out(list: &mut Vec<Client>, watched: &mut Watched, i: usize, few: usize)
     requires inside { i < length list.old.items }
-    requires few { CountsFew i few watched.old.entries list.old.items }
+    requires few { CountsFew i few watched.old list.old.items }
     ensures gone { list.new.items ≡ replaced i None list.old.items }
-    ensures counts { Counts watched.new.entries list.new.items }
+    ensures counts { Counts watched.new list.new.items }
 {
     uncount(watched, list[i].subs(), few);
     list.remove(i);
@@ -66,18 +65,13 @@ fn take_out(list: &mut Vec<Client>, watched: &mut IndexMap<Hash32, usize>, i: us
 
 // Counts the subscriptions of the client at that place from `known` on. Where there is no memory for one, the
 // client is taken away. Whether it stays.
-fn count_new(
-    list: &mut Vec<Client>,
-    watched: &mut IndexMap<Hash32, usize>,
-    i: usize,
-    known: usize,
-) -> bool
+fn count_new(list: &mut Vec<Client>, watched: &mut Watched, i: usize, known: usize) -> bool
     requires inside { i < length list.old.items }
-    requires few { CountsFew i known watched.old.entries list.old.items }
+    requires few { CountsFew i known watched.old list.old.items }
     ensures stays { result ≡ true → list.new.items ≡ list.old.items }
     ensures gone { result ≡ false → list.new.items ≡ replaced i None list.old.items }
     ensures more { result ≡ false → HasMore i known list.old.items }
-    ensures counts { Counts watched.new.entries list.new.items }
+    ensures counts { Counts watched.new list.new.items }
 {
     match count_from(watched, list[i].subs(), known) {
         Ok(()) => true,
@@ -95,7 +89,7 @@ impl Clients {
     {
         Clients {
             list: Vec::new(alloc),
-            watched: IndexMap::new(alloc),
+            watched: Watched::new(alloc),
         }
     }
 

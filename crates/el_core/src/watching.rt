@@ -9,6 +9,37 @@ ghost use Rattle.el_core.specs.within.Watching.{counted, times};
 use el_base::{Hash32, OutOfMemory};
 use el_sessions::Subs;
 use indexmap::IndexMap;
+use std::alloc::Global;
+use std::marker::Model;
+
+/// Of each script hash how many clients subscribe to it; one to which nobody does takes no place.
+#[derive(Drop)]
+pub struct Watched {
+    map: IndexMap<Hash32, usize>,
+}
+
+impl Model for Watched {
+    ghost use Rattle.std.specs.Prelude.{List, ℕ};
+    ghost use Rattle.el_base.specs.declared.hash.Hash32 as shape;
+    ghost use Rattle.el_core.specs.within.Watching.{NoneIdle};
+
+    ghost Value = { List (shape.Hash32 × ℕ) };
+
+    ghost view = { λ w. w.map.entries };
+
+    ghost invariant = { λ w. NoneIdle w.map.entries };
+}
+
+impl Watched {
+    /// Nobody subscribes to anything. Takes no memory.
+    pub fn new(alloc: Global) -> Watched
+        ensures { result ≡ [] }
+    {
+        Watched {
+            map: IndexMap::new(alloc),
+        }
+    }
+}
 
 // How many subscribe to the script hash.
 fn count_of(map: &IndexMap<Hash32, usize>, s: &Hash32) -> usize
@@ -18,10 +49,10 @@ fn count_of(map: &IndexMap<Hash32, usize>, s: &Hash32) -> usize
 }
 
 /// Whether someone subscribes to the script hash.
-pub fn is_counted(map: &IndexMap<Hash32, usize>, s: &Hash32) -> bool
-    ensures { result ≡ nat_lt 0 (counted map.now.entries s.now) }
+pub fn is_counted(watched: &Watched, s: &Hash32) -> bool
+    ensures { result ≡ nat_lt 0 (counted watched.now s.now) }
 {
-    count_of(map, s) > 0
+    count_of(&watched.map, s) > 0
 }
 
 // So many subscribe to the script hash. Fails only where memory runs out, and nobody did.
@@ -45,58 +76,54 @@ fn drop_count(map: &mut IndexMap<Hash32, usize>, s: &Hash32)
 
 // One more subscribes to the script hash. Fails only where memory runs out, or where as many do as can be
 // counted; nothing has then changed.
-fn count_up(map: &mut IndexMap<Hash32, usize>, s: Hash32) -> Result<(), OutOfMemory>
-    ensures ok { OnOk result ((t : shape.Hash32) → counted map.new.entries t
-        ≡ counted map.old.entries t + times t (s ∷ [])) }
-    ensures err { OnErr result (map.new.entries ≡ map.old.entries) }
+fn count_up(watched: &mut Watched, s: Hash32) -> Result<(), OutOfMemory>
+    ensures ok { OnOk result ((t : shape.Hash32) → counted watched.new t
+        ≡ counted watched.old t + times t (s ∷ [])) }
+    ensures err { OnErr result (watched.new ≡ watched.old) }
 {
-    let count = count_of(map, &s);
+    let count = count_of(&watched.map, &s);
     if count >= usize::MAX {
         return Err(OutOfMemory);
     }
-    set_count(map, s, count + 1)?;
+    set_count(&mut watched.map, s, count + 1)?;
     Ok(())
 }
 
 // One less subscribes to the script hash, which is taken out with the last. Takes no memory.
-fn count_down(map: &mut IndexMap<Hash32, usize>, s: &Hash32)
-    ensures { (t : shape.Hash32) → counted map.new.entries t
-        ≡ counted map.old.entries t - times t (s.now ∷ []) }
+fn count_down(watched: &mut Watched, s: &Hash32)
+    ensures { (t : shape.Hash32) → counted watched.new t
+        ≡ counted watched.old t - times t (s.now ∷ []) }
 {
-    let count = count_of(map, s);
+    let count = count_of(&watched.map, s);
     if count > 1 {
         // It is there, so that this can't fail.
-        let _ = set_count(map, *s, count - 1);
+        let _ = set_count(&mut watched.map, *s, count - 1);
     } else {
-        drop_count(map, s);
+        drop_count(&mut watched.map, s);
     }
 }
 
 // Counts the subscription of that number, if there is one.
-fn count_one(
-    map: &mut IndexMap<Hash32, usize>,
-    subs: &Subs,
-    number: usize,
-) -> Result<(), OutOfMemory>
-    ensures ok { OnOk result ((t : shape.Hash32) → counted map.new.entries t
+fn count_one(watched: &mut Watched, subs: &Subs, number: usize) -> Result<(), OutOfMemory>
+    ensures ok { OnOk result ((t : shape.Hash32) → counted watched.new t
         + times t (drop (number + 1) (keys_of subs.now))
-        ≡ counted map.old.entries t + times t (drop number (keys_of subs.now))) }
-    ensures err { OnErr result (map.new.entries ≡ map.old.entries) }
+        ≡ counted watched.old t + times t (drop number (keys_of subs.now))) }
+    ensures err { OnErr result (watched.new ≡ watched.old) }
 {
     match subs.at(number) {
-        Some(sub) => count_up(map, sub.0),
+        Some(sub) => count_up(watched, sub.0),
         None => Ok(()),
     }
 }
 
 // Counts the subscription of that number no more, where those before it aren't counted any more.
-fn uncount_one(map: &mut IndexMap<Hash32, usize>, subs: &Subs, number: usize)
-    ensures { (t : shape.Hash32) (all : ℕ) → counted map.old.entries t
-        ≡ all - times t (take number (keys_of subs.now)) → counted map.new.entries t
+fn uncount_one(watched: &mut Watched, subs: &Subs, number: usize)
+    ensures { (t : shape.Hash32) (all : ℕ) → counted watched.old t
+        ≡ all - times t (take number (keys_of subs.now)) → counted watched.new t
         ≡ all - times t (take (number + 1) (keys_of subs.now)) }
 {
     if let Some(sub) = subs.at(number) {
-        count_down(map, &sub.0);
+        count_down(watched, &sub.0);
     }
 }
 
@@ -105,16 +132,16 @@ fn uncount_one(map: &mut IndexMap<Hash32, usize>, subs: &Subs, number: usize)
 /// # Errors
 ///
 /// Where memory runs out, the number of the first that wasn't counted.
-pub fn count_from(map: &mut IndexMap<Hash32, usize>, subs: &Subs, known: usize) -> Result<(), usize>
-    ensures ok { OnOk result ((t : shape.Hash32) → counted map.new.entries t
-        ≡ counted map.old.entries t + times t (drop known (keys_of subs.now))) }
-    ensures err { IfErr result (λ n. (t : shape.Hash32) → counted map.new.entries t
+pub fn count_from(watched: &mut Watched, subs: &Subs, known: usize) -> Result<(), usize>
+    ensures ok { OnOk result ((t : shape.Hash32) → counted watched.new t
+        ≡ counted watched.old t + times t (drop known (keys_of subs.now))) }
+    ensures err { IfErr result (λ n. (t : shape.Hash32) → counted watched.new t
         + times t (drop n (keys_of subs.now))
-        ≡ counted map.old.entries t + times t (drop known (keys_of subs.now))) }
+        ≡ counted watched.old t + times t (drop known (keys_of subs.now))) }
     ensures more { OnErr result (known < length subs.now) }
 {
     for number in known..subs.held() {
-        let Ok(()) = count_one(map, subs, number) else {
+        let Ok(()) = count_one(watched, subs, number) else {
             return Err(number);
         };
     }
@@ -122,11 +149,11 @@ pub fn count_from(map: &mut IndexMap<Hash32, usize>, subs: &Subs, known: usize) 
 }
 
 /// Counts the first subscriptions of a client no more, as many as this. Takes no memory.
-pub fn uncount(map: &mut IndexMap<Hash32, usize>, subs: &Subs, few: usize)
-    ensures { (t : shape.Hash32) → counted map.new.entries t
-        ≡ counted map.old.entries t - times t (take few (keys_of subs.now)) }
+pub fn uncount(watched: &mut Watched, subs: &Subs, few: usize)
+    ensures { (t : shape.Hash32) → counted watched.new t
+        ≡ counted watched.old t - times t (take few (keys_of subs.now)) }
 {
     for number in 0..few {
-        uncount_one(map, subs, number);
+        uncount_one(watched, subs, number);
     }
 }

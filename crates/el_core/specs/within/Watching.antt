@@ -21,6 +21,10 @@ held_keys (c ∷ cs) = keys_of c.session.subs ++ held_keys cs
 abbrev pub counted : List (Hash32 × ℕ) → Hash32 → ℕ
 counted entries s = unwrap_or (lookup (same_hash s) entries) 0
 
+-- 0 stands beside no script hash: one to which nobody subscribes has no place
+abbrev pub NoneIdle : List (Hash32 × ℕ) → Type 0
+NoneIdle entries = (s : Hash32) → lookup (same_hash s) entries ≡ Some 0 → ⊥
+
 -- beside each script hash stands how many of the clients subscribe to it
 abbrev pub Counts : List (Hash32 × ℕ) → List ClientState → Type 0
 Counts entries clients = (s : Hash32) → counted entries s ≡ times s (held_keys clients)

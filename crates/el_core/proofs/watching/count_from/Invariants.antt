@@ -5,4 +5,4 @@ use Rattle.el_core.specs.within.Watching.{counted, times}
 use Rattle.el_core.proofs.watching.count_from.Given as goal
 
 abbrev pub invariant-loop-number : goal.invariant-loop-number
-invariant-loop-number l = (t : Hash32) → counted l.map.entries t + times t (drop l.number (keys_of l.subs)) ≡ counted l.fn.map.entries t + times t (drop l.known (keys_of l.subs))
+invariant-loop-number l = (t : Hash32) → counted l.watched t + times t (drop l.number (keys_of l.subs)) ≡ counted l.fn.watched t + times t (drop l.known (keys_of l.subs))

@@ -5,8 +5,8 @@ use Rattle.el_core.proofs.watching.count_one.Goals as goal
 
 pub returns-in-Some-clause-ok : goal.returns-in-Some-clause-ok
 returns-in-Some-clause-ok c =
-    when_ok _ _ c.count_up.result (λ more t. next_counted t c.args.subs.now c.args.number (counted c.args.map.now.entries t) (counted c.count_up.new.map.entries t) c.in-Some.sub (sym c.at.ensures ∙ c.in-Some.is) (more t))
+    when_ok _ _ c.count_up.result (λ more t. next_counted t c.args.subs.now c.args.number (counted c.args.watched.now t) (counted c.count_up.new.watched t) c.in-Some.sub (sym c.at.ensures ∙ c.in-Some.is) (more t))
     c.count_up.ensures.ok
 
 pub returns-in-None-clause-ok : goal.returns-in-None-clause-ok
-returns-in-None-clause-ok c = λ t. none_counted t c.args.subs.now c.args.number (counted c.args.map.now.entries t) (sym c.at.ensures ∙ c.in-None.is)
+returns-in-None-clause-ok c = λ t. none_counted t c.args.subs.now c.args.number (counted c.args.watched.now t) (sym c.at.ensures ∙ c.in-None.is)

@@ -5,7 +5,7 @@ use Rattle.el_core.proofs.watching.uncount_one.Goals as goal
 
 pub returns-in-Some : goal.returns-in-Some
 returns-in-Some c = λ t all is.
-    next_uncounted t c.args.subs.now c.args.number all (counted c.args.map.now.entries t) (counted c.count_down.new.map.entries t) c.in-Some.sub (sym c.at.ensures ∙ c.in-Some.is) (c.count_down.ensures t) is
+    next_uncounted t c.args.subs.now c.args.number all (counted c.args.watched.now t) (counted c.count_down.new.watched t) c.in-Some.sub (sym c.at.ensures ∙ c.in-Some.is) (c.count_down.ensures t) is
 
 pub returns-in_default : goal.returns-in_default
-returns-in_default c = λ t all is. none_uncounted t c.args.subs.now c.args.number all (counted c.args.map.now.entries t) (sym c.in_default.ensures) is
+returns-in_default c = λ t all is. none_uncounted t c.args.subs.now c.args.number all (counted c.args.watched.now t) (sym c.in_default.ensures) is

@@ -22,10 +22,10 @@ pub invariant_of-self : goal.invariant_of-self
 invariant_of-self g c =
     let items = c.self.inside.list.items in
     let lt : c.args.i < length items = subst (λ (l : List ClientState). c.args.i < length l) (sym c.self.view_is) c.requires.inside in
-    set_counts c.self.inside.watched.entries items c.args.i c.index_mut.result.now c.tell_turn-outs.new.client lt c.index_mut.ensures.value c.tell_turn-outs.ensures.keys c.self.invariant
+    set_counts c.self.inside.watched items c.args.i c.index_mut.result.now c.tell_turn-outs.new.client lt c.index_mut.ensures.value c.tell_turn-outs.ensures.keys c.self.invariant
 
 pub invariant_of-self-2 : goal.invariant_of-self-2
 invariant_of-self-2 g c =
     let items = c.self.inside.list.items in
     let lt : c.args.i < length items = subst (λ (l : List ClientState). c.args.i < length l) (sym c.self.view_is) c.requires.inside in
-    set_counts c.self.inside.watched.entries items c.args.i c.index_mut.result.now c.tell_turn-outs.new.client lt c.index_mut.ensures.value c.tell_turn-outs.ensures.keys c.self.invariant
+    set_counts c.self.inside.watched items c.args.i c.index_mut.result.now c.tell_turn-outs.new.client lt c.index_mut.ensures.value c.tell_turn-outs.ensures.keys c.self.invariant
