@@ -1,8 +1,9 @@
 -- Parts of bytes are bytes, and the numbers that they encode are bounded.
-use Rattle.std.proofs.Common.{ℕ, ◌+◌, ◌<◌, ◌^◌, List, ◌∷◌, take, drop, suc, arith, inl, inr}
-use Rattle.std.specs.Int.{w16, w32, w64, from_le_bytes}
+use Rattle.std.proofs.Common.{ℕ, ◌+◌, ◌<◌, ◌^◌, List, ◌∷◌, take, drop, suc, arith, inl, inr, ◌≡◌, ◌++◌, sym, ap, ◌∙◌}
+use Rattle.std.specs.Int.{w16, w32, w64, from_le_bytes, to_le_bytes}
 use Rattle.std.proofs.lemmas.Bool.{cases_lt}
 use Rattle.std.proofs.lemmas.List.{length-take, get_or-drop, get_or-take, get_or_past}
+use Rattle.std.proofs.lemmas.Nat.{from_le_bytes-to_le_bytes_4}
 use Rattle.el_base.specs.Left.{AreBytes}
 
 -- the bytes after the first
@@ -29,3 +30,10 @@ below_4 bytes all = omega (arith, all 0, all 1, all 2, all 3)
 
 pub below_8 : (bytes : List ℕ) → AreBytes bytes → from_le_bytes w64 bytes < 2 ^ 64
 below_8 bytes all = omega (arith, all 0, all 1, all 2, all 3, all 4, all 5, all 6, all 7)
+
+-- a number in four bytes, and what stands after it
+pub number_again : (m n : ℕ) (x y : List ℕ) → m < 2 ^ 32 → n < 2 ^ 32 → to_le_bytes w32 m ++ x ≡ to_le_bytes w32 n ++ y → (m ≡ n) × (x ≡ y)
+number_again m n x y p q e = (
+  sym (from_le_bytes-to_le_bytes_4 m p) ∙ ap (λ (t : List ℕ). from_le_bytes w32 (take 4 t)) e ∙ from_le_bytes-to_le_bytes_4 n q,
+  ap (λ (t : List ℕ). drop 4 t) e,
+)

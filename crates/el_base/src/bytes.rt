@@ -1,5 +1,5 @@
 // Bytes.
-ghost use Rattle.std.specs.Prelude.{◌≡◌, ℕ, List, [], ◌∷◌, ◌++◌, length, OnOk, OnErr, IfOk, ◌==◌};
+ghost use Rattle.std.specs.Prelude.{◌≡◌, ◌≤◌, ◌+◌, ℕ, List, [], ◌∷◌, ◌++◌, length, vec_capacity, OnOk, OnErr, IfOk, ◌==◌};
 ghost use Rattle.std.proofs.Common.{rules};
 ghost use Rattle.std.specs.Cmp.Rules.{comparing};
 ghost use Rattle.std.specs.Str.{bytes_eq};
@@ -96,4 +96,16 @@ impl PartialEq for Bytes {
 
 impl Eq for Bytes {
     ghost laws = { Prim.search (comparing, rules) };
+}
+
+/// Adds bytes, for which there is room, at the end of a `Vec`. Takes no memory.
+pub fn extend_reserved(list: &mut Vec<u8>, bytes: &[u8])
+    requires { length list.old.items + length bytes.now ≤ vec_capacity list.old }
+    ensures items { list.new.items ≡ list.old.items ++ bytes.now }
+    ensures room { vec_capacity list.old ≤ vec_capacity list.new }
+{
+    match list.extend_from_slice(bytes) {
+        Ok(()) => {}
+        Err(_) => unreachable!(),
+    }
 }

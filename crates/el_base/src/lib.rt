@@ -14,7 +14,7 @@ mod memory;
 mod shown;
 mod text;
 
-pub use bytes::Bytes;
+pub use bytes::{Bytes, extend_reserved};
 pub use compact::{CompactFault, compact_len, read_compact, write_compact};
 pub use cursor::{Cursor, Short};
 pub use ghost_count::GhostCount;

@@ -1,5 +1,5 @@
 // Reading a block.
-ghost use Rattle.std.specs.Prelude.{◌≡◌, ◌≢◌, ◌⊎◌, ◌≤◌, ◌<◌, ◌+◌, ◌^◌, ◌++◌, ℕ, List, length, IfOk, IfErr, IfNone, IfSome, OnOk, Ok, Err};
+ghost use Rattle.std.specs.Prelude.{◌≡◌, ◌≢◌, ◌⊎◌, ◌≤◌, ◌<◌, ◌+◌, ◌*◌, ◌^◌, ◌++◌, ℕ, List, length, IfOk, IfErr, IfNone, IfSome, OnOk, Ok, Err};
 ghost use Rattle.el_base.specs.Compact.{compact, FirstCompactFault};
 ghost use Rattle.el_base.specs.declared.compact.CompactFault.{CompactFault};
 ghost use Rattle.el_tx.specs.Encoding.{HasEncoding};
@@ -89,7 +89,10 @@ fn next_tx(
 
 // How many transactions to have room for, of so many that are announced: no more than the bytes can hold, of
 // which each has 60 at least.
-fn room(n: u64, bytes: usize) -> usize {
+fn room(n: u64, bytes: usize) -> usize
+    ensures announced { result ≤ n }
+    ensures few { result * 60 ≤ bytes }
+{
     let most = bytes / 60;
     if n < most as u64 { n as usize } else { most }
 }

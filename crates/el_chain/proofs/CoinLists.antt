@@ -4,10 +4,15 @@ use Rattle.std.proofs.lemmas.Bool.{cases_Bool, and_parts}
 use Rattle.std.proofs.lemmas.Slice.Eq.{bytes_eq-Decides}
 use Rattle.std.specs.Str.{bytes_eq}
 use Rattle.std.specs.Cmp.{IsEquivalence}
+use Rattle.el_base.specs.declared.hash.Hash32.{Hash32}
 use Rattle.el_tx.specs.declared.types.Outpoint.{Outpoint}
-use Rattle.el_tx.specs.Hashing.{same_outpoint}
+use Rattle.el_tx.specs.declared.types.TxIn.{TxIn}
+use Rattle.el_tx.specs.declared.types.TxOut.{TxOut}
+use Rattle.el_tx.specs.declared.types.Tx.{Tx}
+use Rattle.el_tx.specs.Hashing.{same_outpoint, txid, is_coinbase}
 use Rattle.el_chain.specs.declared.coin.Coin.{Coin}
-use Rattle.el_chain.specs.Coins.{without, add_coin, supply}
+use Rattle.el_chain.specs.Chains.{Chain}
+use Rattle.el_chain.specs.Coins.{without, add_coin, coin_made, spend_inputs, add_outputs, coins_left, coins_after, coins_after_all, coins_from, supply}
 use Rattle.el_chain.specs.CoinLists.{coin_in, value_in, AreOnce}
 
 -- one outpoint is the other exactly where they are equal
@@ -106,6 +111,38 @@ once_more (x ∷ xs) c once none = elim (cases_Bool (same_outpoint x.outpoint c.
 pub once_put : (c : Coin) (coins : List Coin) → AreOnce coins → AreOnce (add_coin c coins)
 once_put c coins once =
     once_more (without c.outpoint coins) c (once_without c.outpoint coins once) (in_without c.outpoint coins c.outpoint ∙ rw (same_self c.outpoint) refl)
+
+-- ---- nor by transactions
+
+pub once_spent : (is : List TxIn) (coins : List Coin) → AreOnce coins → AreOnce (spend_inputs is coins)
+once_spent [] coins once = once
+once_spent (i ∷ is) coins once = once_spent is (without i.from coins) (once_without i.from coins once)
+
+pub once_added : (id : Hash32) (height n : ℕ) (os : List TxOut) (coins : List Coin) → AreOnce coins → AreOnce (add_outputs id height n os coins)
+once_added id height n [] coins once = once
+once_added id height n (o ∷ os) coins once = once_added id height (n + 1) os (add_coin (coin_made id height n o) coins) (once_put (coin_made id height n o) coins once)
+
+once_left : (t : Tx) (coins : List Coin) → AreOnce coins → AreOnce (coins_left t coins)
+once_left t coins once = elim (cases_Bool (is_coinbase t)) [
+  | inl e ↦ rw e once
+  | inr e ↦ rw e (once_spent t.inputs coins once)
+]
+
+pub once_after : (height : ℕ) (t : Tx) (coins : List Coin) → AreOnce coins → AreOnce (coins_after height t coins)
+once_after height t coins once = once_added (txid t) height 0 t.outputs (coins_left t coins) (once_left t coins once)
+
+once_after_all : (height : ℕ) (ts : List Tx) (coins : List Coin) → AreOnce coins → AreOnce (coins_after_all height ts coins)
+once_after_all height [] coins once = once
+once_after_all height (t ∷ ts) coins once = once_after_all height ts (coins_after height t coins) (once_after height t coins once)
+
+once_from : (height : ℕ) (blocks : Chain) (coins : List Coin) → AreOnce coins → AreOnce (coins_from height blocks coins)
+once_from height [] coins once = once
+once_from height (b ∷ bs) coins once = once_from (height + 1) bs (coins_after_all height b.block.txs coins) (once_after_all height b.block.txs coins once)
+
+pub once_in_chain : (chain : Chain) → AreOnce (coins_from 0 chain [])
+once_in_chain chain = once_from 0 chain [] tt
+
+-- ---- sums
 
 -- a list without a coin for the outpoint stays
 pub without_none : (p : Outpoint) (coins : List Coin) → coin_in coins p ≡ None → without p coins ≡ coins

@@ -10,7 +10,7 @@ use Rattle.el_tx.specs.declared.types.TxIn.{TxIn}
 use Rattle.el_tx.specs.declared.types.Tx.{Tx}
 use Rattle.el_tx.specs.Hashing.{full_encoding}
 use Rattle.el_tx.specs.Headers.{header_encoding}
-use Rattle.el_tx.specs.Encoding.{counted, sized, outpoint_encoding, input_encoding, output_encoding, stack_encoding, version_encoding, body_encoding, has_witness, HasEncoding}
+use Rattle.el_tx.specs.Encoding.{counted, sized, outpoint_encoding, input_encoding, output_encoding, stack_encoding, version_encoding, body_encoding, has_witness, HasEncoding, max_money}
 use Rattle.el_block.specs.declared.block.Block.{Block}
 use Rattle.el_chain.specs.declared.placed.Placed.{Placed}
 use Rattle.el_chain.specs.declared.coin.Coin.{Coin}
@@ -20,7 +20,7 @@ use Rattle.el_chain.specs.Chains.{Chain}
 use Rattle.el_block.specs.declared.limits.TheConstants.{MAX_BLOCK_WEIGHT}
 use Rattle.el_chain.specs.declared.limits.TheConstants.{ROW_LIMIT}
 use Rattle.el_chain.specs.Coins.{coins_after_all, coins_from, coins}
-use Rattle.el_chain.specs.Faults.{full, full_fault, missing_fault, first_fault, IsNext, AreNext}
+use Rattle.el_chain.specs.Faults.{full, full_fault, missing_fault, first_fault, IsNext, AreNext, money_fault}
 use Rattle.el_chain.specs.History.{positions, block_positions, first_start}
 use Rattle.el_chain.specs.CoinLists.{FitsBlock}
 
@@ -135,3 +135,14 @@ has_room chain (t ∷ ts) h some =
         some_none : Some (refusal.Full 1 ROW_LIMIT) ≡ None → ⊥
         some_none f = cc
     by false e none = let least = ltb-false ROW_LIMIT (length chain + 1) e in omega arith
+
+-- a sum without a fault
+pub money_fits : (sum : ℕ) → money_fault sum ≡ None → sum ≤ max_money
+money_fits sum none = by (nat_lt max_money sum) refl none
+  where
+    by : (b : Bool) → nat_lt max_money sum ≡ b → money_fault sum ≡ None → sum ≤ max_money
+    by true e h = let bad = rw e at h in absurd (some_none bad)
+      where
+        some_none : Some (refusal.Money sum) ≡ None → ⊥
+        some_none f = cc
+    by false e h = ltb-false max_money sum e

@@ -3,6 +3,7 @@ use Rattle.std.proofs.Common.{◌≡◌, inl, inr, ℕ, ◌+◌, Bool, true, fal
 use Rattle.std.proofs.lemmas.Bool.{cases_Bool}
 use Rattle.std.proofs.lemmas.List.{map-append}
 use Rattle.std.proofs.lemmas.List.Elements.{filter-append}
+use Rattle.std.proofs.Math.Bool.{or-false}
 use Rattle.std.specs.Str.{bytes_eq}
 use Rattle.el_tx.specs.declared.types.Outpoint.{Outpoint}
 use Rattle.el_tx.specs.declared.types.Tx.{Tx}
@@ -15,10 +16,6 @@ use Rattle.el_chain.specs.Coins.{without, add_coin, coins_after, coins_after_all
 use Rattle.el_chain.specs.History.{Position, funds, concerns, entry, positions_in, block_positions, first_start, positions_from, has_own}
 use Rattle.el_chain.specs.Listings.{listed, entries_of, listed_in, listed_from}
 use Rattle.el_chain.proofs.CoinLists.{same_gives, apart_turned}
-
-or_false : (b : Bool) → (b || false) ≡ b
-or_false true = refl
-or_false false = refl
 
 -- the script hash's own coins where one coin is taken
 pub own_without : (script_hash : List ℕ) (p : Outpoint) (coins : List Coin) (o : Outpoint)
@@ -53,7 +50,7 @@ own_without script_hash p (c ∷ cs) o = elim (cases_Bool (same_outpoint c.outpo
 -- where one more stands after
 pub own_more : (script_hash : List ℕ) (coins : List Coin) (c : Coin) (o : Outpoint)
     → has_own script_hash (coins ++ c ∷ []) o ≡ (has_own script_hash coins o || (same_outpoint c.outpoint o && bytes_eq c.script.0 script_hash))
-own_more script_hash [] c o = or_false (same_outpoint c.outpoint o && bytes_eq c.script.0 script_hash)
+own_more script_hash [] c o = or-false (same_outpoint c.outpoint o && bytes_eq c.script.0 script_hash)
 own_more script_hash (x ∷ xs) c o = elim (cases_Bool (same_outpoint x.outpoint o && bytes_eq x.script.0 script_hash)) [
   | inl h ↦ rw h refl
   | inr h ↦ rw h (own_more script_hash xs c o)
@@ -68,7 +65,7 @@ own_put script_hash c coins o = own_more script_hash (without c.outpoint coins) 
         → (cond (same_outpoint c.outpoint o) false (has_own script_hash coins o) || (same_outpoint c.outpoint o && bytes_eq c.script.0 script_hash))
         ≡ cond (same_outpoint c.outpoint o) (bytes_eq c.script.0 script_hash) (has_own script_hash coins o)
     by true e = rw e refl
-    by false e = rw e (or_false (has_own script_hash coins o))
+    by false e = rw e (or-false (has_own script_hash coins o))
 
 -- the entries of positions, of which one stands before the others
 pub entries_before : (script_hash : List ℕ) (p : Position) (ps : List Position)

@@ -6,6 +6,7 @@ pub mod Histories
 pub mod Tallies
 pub mod GoodChains
 pub mod DraftSteps
+pub mod MoveSteps
 pub mod GivenChains
 pub mod SupplyLaws
 pub mod CoinOrigins

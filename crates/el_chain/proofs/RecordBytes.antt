@@ -1,19 +1,17 @@
 -- Records that stand in a file, which may have grown since, and what is read of them.
-use Rattle.std.proofs.Common.{◌≡◌, ℕ, ◌+◌, ◌-◌, ◌<◌, ◌≤◌, ◌^◌, min, List, ◌++◌, length, take, drop, refl, sym, ap, ◌∙◌, arith, length-drop, Bool, true, false, ◌&&◌, if◌then◌else◌, IsTrue, nat_le, Result, Err}
+use Rattle.std.proofs.Common.{◌≡◌, ℕ, ◌+◌, ◌-◌, ◌≤◌, min, List, length, take, drop, refl, sym, ap, ◌∙◌, arith, length-drop, Bool, true, false, ◌&&◌, if◌then◌else◌, IsTrue, nat_le, Result, Err}
 use Rattle.std.specs.Prelude.{Option, None, Some, option_map, IfOk}
-use Rattle.std.specs.Int.{w32, to_le_bytes, cast_signed, cast_unsigned}
 use Rattle.std.specs.Str.{bytes_eq}
 use Rattle.std.proofs.lemmas.Bool.{leb-true}
-use Rattle.std.proofs.lemmas.List.{take-append-drop, drop-drop, drop-append-le, take-append-le, take-take, drop-take, length-take-le, take_min}
-use Rattle.std.proofs.lemmas.Int.{of_z-to_z}
+use Rattle.std.proofs.lemmas.List.{drop-drop, drop-append-le, take-append-le, take-take, drop-take, length-take-le, take_min}
 use Rattle.el_base.specs.declared.hash.Hash32.{Hash32}
 use Rattle.el_base.specs.Left.{AreBytes}
-use Rattle.el_base.proofs.ByteLemmas.{front_bytes, below_4, bytes_after as bytes_left}
+use Rattle.el_base.proofs.ByteLemmas.{front_bytes}
 use Rattle.el_outside.specs.Files.{Grows}
 use Rattle.el_outside.specs.declared.archive.Place.{Place}
-use Rattle.el_tx.specs.Headers.{header_of, header_encoding, number_from}
-use Rattle.el_tx.proofs.HeaderLemmas.{number_in_front, six_fields}
+use Rattle.el_tx.specs.Headers.{header_of, header_encoding}
 use Rattle.el_block.specs.declared.limits.TheConstants.{MAX_BLOCK_WEIGHT}
+use Rattle.el_block.proofs.BlockOrFault.{header_encoded}
 use Rattle.el_chain.specs.declared.limits.TheConstants.{MIN_BLOCK_SIZE}
 use Rattle.el_chain.specs.declared.node.Node.{Node}
 use Rattle.el_chain.specs.declared.read_fault.ReadFault.{ReadFault}
@@ -89,33 +87,6 @@ block_stays bytes now p (more, grows) enough =
     ap (λ (t : List ℕ). take p.len (drop (p.offset + 8) t)) grows ∙ ap (take p.len) (drop-append-le (p.offset + 8) bytes more near)
     ∙ take-append-le p.len (drop (p.offset + 8) bytes) more inner
 
--- a list is cut twice
-cut : (k n m : ℕ) (xs : List ℕ) → k + n ≡ m → drop k xs ≡ take n (drop k xs) ++ drop m xs
-cut k n m xs e = sym (take-append-drop n (drop k xs)) ∙ ap (λ (t : List ℕ). take n (drop k xs) ++ t) (drop-drop n k xs ∙ ap (λ (j : ℕ). drop j xs) e)
-
-number_cut : (k m : ℕ) (xs : List ℕ) → k + 4 ≡ m → m ≤ length xs → AreBytes xs → drop k xs ≡ to_le_bytes w32 (number_from k xs) ++ drop m xs
-number_cut k m xs e within fits =
-    let long : 4 ≤ length (drop k xs) = rw (length-drop k xs) (omega arith) in
-    number_in_front (drop k xs) (number_from k xs) long (bytes_left k xs fits) refl
-    ∙ ap (λ (t : List ℕ). to_le_bytes w32 (number_from k xs) ++ t) (drop-drop 4 k xs ∙ ap (λ (j : ℕ). drop j xs) e)
-
-version_cut : (xs : List ℕ) → length xs ≡ 80 → AreBytes xs
-    → xs ≡ to_le_bytes w32 (cast_unsigned w32 (cast_signed w32 (number_from 0 xs))) ++ drop 4 xs
-version_cut xs long fits =
-    let below : number_from 0 xs < 2 ^ 32 = below_4 (take 4 xs) (front_bytes 4 xs fits) in
-    number_in_front xs (cast_unsigned w32 (cast_signed w32 (number_from 0 xs))) (omega arith) fits (of_z-to_z w32 (number_from 0 xs) below)
-
--- 80 bytes are the encoding of the header that is read from them
-header_back : (xs : List ℕ) → length xs ≡ 80 → AreBytes xs → header_encoding (header_of xs) ≡ xs
-header_back xs long fits =
-    let previous : length (take 32 (drop 4 xs)) ≡ 32 = length-take-le 32 (drop 4 xs) (rw (length-drop 4 xs) (omega arith)) in
-    let root : length (take 32 (drop 36 xs)) ≡ 32 = length-take-le 32 (drop 36 xs) (rw (length-drop 36 xs) (omega arith)) in
-    six_fields xs (to_le_bytes w32 (cast_unsigned w32 (cast_signed w32 (number_from 0 xs)))) (take 32 (drop 4 xs)) (take 32 (drop 36 xs))
-    (to_le_bytes w32 (number_from 68 xs)) (to_le_bytes w32 (number_from 72 xs)) (to_le_bytes w32 (number_from 76 xs))
-    (drop 4 xs) (drop 36 xs) (drop 68 xs) (drop 72 xs) (drop 76 xs) (drop 80 xs) long refl previous root refl refl refl
-    (version_cut xs long fits) (cut 4 32 36 xs (omega arith)) (cut 36 32 68 xs (omega arith))
-    (number_cut 68 72 xs (omega arith) (omega arith) fits) (number_cut 72 76 xs (omega arith) (omega arith) fits) (number_cut 76 80 xs (omega arith) (omega arith) fits)
-
 -- the bytes at a record's place are those of its block
 pub record_block : (magic bytes body : List ℕ) (file : ℕ) (n : Node) → IsRecordIn magic file bytes n → body ≡ block_at n.place bytes → AreBytes body → IsBlockOf n body
 record_block magic bytes body file n r is fits =
@@ -132,7 +103,7 @@ record_block magic bytes body file n r is fits =
     header_of_node file n.place.offset (drop 8 front) (size_here magic front) n r.stands ∙ ap header_of (drop-drop 8 n.place.offset bytes)
     ∙ sym (header_in_front (drop at bytes)) ∙ ap header_of head in
     let eighty : length (take 80 body) ≡ 80 = length-take-le 80 body (omega arith) in
-    record { size = long; header = sym (header_back (take 80 body) eighty (front_bytes 80 body fits)) ∙ ap header_encoding (sym header) }
+    record { size = long; header = sym (header_encoded (take 80 body) eighty (front_bytes 80 body fits)) ∙ ap header_encoding (sym header) }
 
 -- what a read gives of a file, of which it may have fewer bytes than were asked for
 pub part_read : (len at count : ℕ) (given bytes : List ℕ) → count ≡ min len (length bytes - at) → given ≡ take count (drop at bytes)

@@ -20,3 +20,11 @@ from_more height (x ∷ xs) b cs =
 
 pub positions_more : (chain : Chain) (b : Placed) → positions (chain ++ b ∷ []) ≡ positions chain ++ block_positions (length chain) b.block.txs (coins chain)
 positions_more chain b = from_more 0 chain b [] ∙ ap (λ (n : ℕ). positions chain ++ block_positions n b.block.txs (coins chain)) (let e : 0 + length chain ≡ length chain = omega arith in e)
+
+-- the coins after two chains, one behind the other
+pub coins_joined : (height : ℕ) (front back : Chain) (cs : List Coin) → coins_from height (front ++ back) cs ≡ coins_from (height + length front) back (coins_from height front cs)
+coins_joined height [] back cs = ap (λ (n : ℕ). coins_from n back cs) (let e : height ≡ height + 0 = omega arith in e)
+coins_joined height (b ∷ front) back cs =
+    let after = coins_after_all height b.block.txs cs in
+    coins_joined (height + 1) front back after
+    ∙ ap (λ (n : ℕ). coins_from n back (coins_from (height + 1) front after)) (let e : height + 1 + length front ≡ height + suc (length front) = omega arith in e)

@@ -3,12 +3,12 @@
 use Rattle.std.specs.Prelude.{ℕ, ◌+◌, Bool, not, ◌&&◌, ◌||◌, List, [], ◌∷◌, ◌++◌, length, map, filter}
 use Rattle.std.specs.List.{list_any}
 use Rattle.std.specs.Str.{bytes_eq}
-use Rattle.el_base.specs.Compact.{compact}
 use Rattle.el_tx.specs.declared.types.Outpoint.{Outpoint}
 use Rattle.el_tx.specs.declared.types.TxIn.{TxIn}
 use Rattle.el_tx.specs.declared.types.TxOut.{TxOut}
 use Rattle.el_tx.specs.declared.types.Tx.{Tx}
 use Rattle.el_tx.specs.Hashing.{full_encoding, txid, same_outpoint, is_coinbase}
+pub use Rattle.el_block.specs.Blocks.{first_start}
 use Rattle.el_chain.specs.declared.entry.Entry.{Entry}
 use Rattle.el_chain.specs.Chains.{Chain}
 use Rattle.el_chain.specs.declared.coin.Coin.{Coin}
@@ -31,11 +31,6 @@ positions_in height pos start [] coins = []
 positions_in height pos start (t ∷ ts) coins =
     record { height = height; pos = pos; start = start; tx = t; before = coins }
     ∷ positions_in height (pos + 1) (start + length (full_encoding t)) ts (coins_after height t coins)
-
--- where the first of a block's transactions begins: after the header's 80 bytes and the CompactSize of the
--- number of transactions
-abbrev pub first_start : List Tx → ℕ
-first_start ts = 80 + length (compact (length ts))
 
 -- the positions of all transactions of a block of that height, where these coins stand before it
 abbrev pub block_positions : ℕ → List Tx → List Coin → List Position

@@ -6,16 +6,11 @@ use Rattle.std.specs.List.{list_any}
 use Rattle.el_base.specs.declared.hash.Hash32.{Hash32}
 use Rattle.el_tx.specs.declared.types.TxIn.{TxIn}
 use Rattle.el_tx.specs.declared.types.TxOut.{TxOut}
-use Rattle.el_tx.specs.declared.types.Tx.{Tx}
-use Rattle.el_tx.specs.Hashing.{is_coinbase}
+pub use Rattle.el_tx.specs.Hashing.{spending_inputs}
 use Rattle.std.specs.Str.{bytes_eq}
 use Rattle.el_chain.specs.declared.coin.Coin.{Coin}
 use Rattle.el_chain.specs.Coins.{is_coin_of, script_hash_of}
 use Rattle.el_chain.specs.History.{Position}
-
--- the inputs of a transaction that spend a coin: a coinbase has none
-abbrev pub spending_inputs : Tx → List TxIn
-spending_inputs t = if is_coinbase t then [] else t.inputs
 
 -- the script hashes of the coins that inputs spend
 abbrev pub spent_scripts : List Coin → List TxIn → List Hash32

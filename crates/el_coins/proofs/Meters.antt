@@ -26,6 +26,7 @@ use Rattle.el_chain.specs.CoinLists.{coin_in, AreOnce}
 use Rattle.el_coins.specs.within.Meters.{AreScripts, IsMeter, met_by, met_in, met_from}
 use Rattle.el_chain.proofs.CoinLists.{same_gives, differs, in_without, in_put, once_without, once_put}
 use Rattle.el_chain.proofs.Meters.{gather_joined}
+use Rattle.el_chain.proofs.Tallies.{coins_joined}
 
 -- the script hash of a coin
 abbrev pub script_of : Coin → Hash32
@@ -187,13 +188,6 @@ met_parted height (b ∷ bs) back cs =
     ∙ ap (λ (n : ℕ). met_from (height + 1) bs mid ++ met_from n back (coins_from (height + 1) bs mid)) (let e : height + 1 + length bs ≡ height + suc (length bs) = omega arith in e))
     ∙ sym (append_assoc (met_in height b.block.txs cs) (met_from (height + 1) bs mid) (met_from (height + suc (length bs)) back (coins_from (height + 1) bs mid)))
 
-coins_parted : (height : ℕ) (front back : Chain) (cs : List Coin) → coins_from height (front ++ back) cs ≡ coins_from (height + length front) back (coins_from height front cs)
-coins_parted height [] back cs = ap (λ (n : ℕ). coins_from n back cs) (let e : height ≡ height + 0 = omega arith in e)
-coins_parted height (b ∷ bs) back cs =
-    let mid = coins_after_all height b.block.txs cs in
-    coins_parted (height + 1) bs back mid
-    ∙ ap (λ (n : ℕ). coins_from n back (coins_from (height + 1) bs mid)) (let e : height + 1 + length bs ≡ height + suc (length bs) = omega arith in e)
-
 -- before anything is counted
 pub meter_begins : (m : Meter) → m.coins.entries ≡ [] → m.scripts.keys ≡ [] → m.entries ≡ 0 → IsMeter m [] []
 meter_begins m none no_keys zero = record {
@@ -212,5 +206,5 @@ all_met start one two three front back ts h a b c =
     let first = a 0 [] [] h in
     let second = b (0 + length front) (met_from 0 front []) (coins_from 0 front []) first in
     let lists = met_parted 0 front back [] in
-    let left = coins_parted 0 front back [] in
+    let left = coins_joined 0 front back [] in
     c (length (front ++ back)) (met_from 0 (front ++ back) []) (coins (front ++ back)) (rw (lists, left) second)

@@ -1,6 +1,6 @@
 -- The counts of a chain's transactions, position by position.
-use Rattle.std.proofs.Common.{◌≡◌, inl, inr, ℕ, suc, ◌+◌, ◌-◌, ◌<◌, ◌≤◌, ◌^◌, min, Bool, true, false, cond, nat_lt, List, [], ◌∷◌, ◌++◌, length, map, take, get_or, Option, None, Some, option_map, refl, ap, sym, ◌∙◌, append_assoc, append-nil, length-append, arith, ltb-false, lt-ltb}
-use Rattle.std.proofs.lemmas.Bool.{cases_Bool, ltb-true, le-ltb}
+use Rattle.std.proofs.Common.{◌≡◌, ℕ, suc, ◌+◌, ◌-◌, ◌<◌, ◌≤◌, ◌^◌, min, Bool, true, false, cond, nat_lt, List, [], ◌∷◌, ◌++◌, length, map, take, get_or, Option, None, Some, option_map, refl, ap, sym, ◌∙◌, append_assoc, append-nil, length-append, arith, ltb-false, lt-ltb}
+use Rattle.std.proofs.lemmas.Bool.{ltb-true, le-ltb}
 use Rattle.std.proofs.lemmas.List.{map-append}
 use Rattle.std.proofs.lemmas.List.Sums.{sum_by-cons, sum_by_push}
 use Rattle.std.specs.Prelude.{option_to_list}
@@ -9,44 +9,25 @@ use Rattle.std.specs.Option.{option_or}
 use Rattle.el_base.specs.declared.hash.Hash32.{Hash32}
 use Rattle.el_base.proofs.Lists.{all_append, all_more, taken_at}
 use Rattle.el_tx.specs.declared.types.TxIn.{TxIn}
-use Rattle.el_tx.specs.declared.types.TxOut.{TxOut}
 use Rattle.el_tx.specs.declared.types.Tx.{Tx}
-use Rattle.el_tx.specs.Hashing.{full_encoding, txid, is_coinbase}
+use Rattle.el_tx.specs.Hashing.{full_encoding}
 use Rattle.el_chain.specs.declared.coin.Coin.{Coin}
 use Rattle.el_chain.specs.declared.fault.ConnectFault.{ConnectFault}
 use Rattle.el_chain.specs.declared.fault.ConnectFault.TheVariants as refusal
 use Rattle.el_chain.specs.declared.limits.TheConstants.{ROW_LIMIT}
 use Rattle.el_coins.specs.declared.tally.Tally.{Tally}
 use Rattle.el_chain.specs.Chains.{Chain}
-use Rattle.el_chain.specs.Coins.{without, add_coin, coin_made, spend_inputs, add_outputs, coins_left, coins_after, coins_after_all, coins}
+use Rattle.el_chain.specs.Coins.{coins_after, coins_after_all, coins}
 use Rattle.el_chain.specs.History.{Position, positions_in, block_positions, first_start, positions_from, positions}
 use Rattle.el_chain.specs.RowCounts.{spending_inputs, spent_scripts, output_script, concerned_scripts, add_scripts, output_count, input_count, script_count, entry_count}
 use Rattle.el_chain.specs.Faults.{full}
 use Rattle.el_chain.specs.CoinLists.{coin_in, AreOnce}
 use Rattle.el_coins.specs.within.Meters.{met_by, met_in, met_from, distinct_count, pair_count}
 use Rattle.el_coins.specs.Tallies.{IsTally, MeetAs, met_fault}
-use Rattle.el_chain.proofs.CoinLists.{once_without, once_put}
+use Rattle.el_chain.proofs.CoinLists.{once_after}
 use Rattle.el_coins.proofs.Meters.{one_of, gather_within, script_of}
 
--- no outpoint gets two coins by a transaction
-once_spent : (is : List TxIn) (cs : List Coin) → AreOnce cs → AreOnce (spend_inputs is cs)
-once_spent [] cs once = once
-once_spent (i ∷ is) cs once = once_spent is (without i.from cs) (once_without i.from cs once)
-
-once_added : (id : Hash32) (height n : ℕ) (os : List TxOut) (cs : List Coin) → AreOnce cs → AreOnce (add_outputs id height n os cs)
-once_added id height n [] cs once = once
-once_added id height n (o ∷ os) cs once = once_added id height (n + 1) os (add_coin (coin_made id height n o) cs) (once_put (coin_made id height n o) cs once)
-
-once_left : (t : Tx) (cs : List Coin) → AreOnce cs → AreOnce (coins_left t cs)
-once_left t cs once = elim (cases_Bool (is_coinbase t)) [
-  | inl e ↦ rw e once
-  | inr e ↦ rw e (once_spent t.inputs cs once)
-]
-
-once_after : (height : ℕ) (t : Tx) (cs : List Coin) → AreOnce cs → AreOnce (coins_after height t cs)
-once_after height t cs once = once_added (txid t) height 0 t.outputs (coins_left t cs) (once_left t cs once)
-
--- nor by the transactions of a block
+-- no outpoint gets two coins by the transactions of a block
 abbrev pub IsOnceAt : Position → Type 0
 IsOnceAt p = AreOnce p.before
 

@@ -2,7 +2,7 @@
 ghost use Rattle.std.specs.Prelude.{◌≡◌, ◌⊎◌, ◌+◌, ◌≤◌, ◌<◌, ◌++◌, ℕ, List, None, Some, length, OnOk, IfErr, MatchResult};
 ghost use Rattle.std.specs.List.{AllByRecursion};
 ghost use Rattle.el_chain.specs.History as walk;
-ghost use Rattle.el_chain.specs.RowCounts.{spending_inputs};
+ghost use Rattle.el_tx.specs.Hashing.{spending_inputs};
 ghost use Rattle.el_chain.specs.Faults.{full, full_fault};
 ghost use Rattle.el_chain.specs.CoinLists.{FitsBlock};
 ghost use Rattle.el_coins.specs.CoinTables.{HasFitting};

@@ -1,5 +1,5 @@
 -- What is prepared of a block, the blocks of a chain, and their sum.
-use Rattle.std.proofs.Common.{◌≡◌, suc, inl, inr, ◌⊎◌, ℕ, ◌+◌, ◌<◌, ◌≤◌, ◌^◌, Bool, List, [], ◌∷◌, ◌++◌, length, map, Option, None, Some, Result, Ok, Err, refl, ap, sym, subst, ◌∙◌, arith, length-append, flat_map, sum_by}
+use Rattle.std.proofs.Common.{◌≡◌, suc, inl, inr, ◌⊎◌, ℕ, ◌+◌, ◌<◌, ◌≤◌, ◌^◌, List, [], ◌∷◌, ◌++◌, length, map, Option, None, Some, Result, Ok, Err, refl, ap, sym, subst, ◌∙◌, arith, length-append, flat_map}
 use Rattle.std.proofs.lemmas.List.{length-map}
 use Rattle.std.proofs.lemmas.List.Sums.{sum_by-cons}
 use Rattle.std.proofs.lemmas.Bool.{cases_Bool}
@@ -22,7 +22,7 @@ use Rattle.el_chain.specs.Faults.{fault, IsGood, IsNext, AreNext}
 use Rattle.el_chain.specs.RowCounts.{spending_inputs}
 use Rattle.el_chain.specs.History.{first_start}
 use Rattle.el_chain.specs.CoinLists.{FitsBlock}
-use Rattle.el_chain.proofs.GoodChains.{fits_of_encoded, all_in_encoding, next_more, has_room, first_none}
+use Rattle.el_chain.proofs.GoodChains.{fits_of_encoded, all_in_encoding, next_more, has_room, first_none, money_fits}
 use Rattle.el_prepare.specs.declared.prepared.PreparedTx.{PreparedTx}
 use Rattle.el_prepare.specs.Prepared.{prepared, prepared_tx, prepared_txs, paid, taken}
 use Rattle.el_tables.specs.ChainLists.{ListedBlock, lists, listed_blocks}
@@ -30,14 +30,13 @@ use Rattle.el_tables.specs.Connecting.{◌>>=◌, connect_txs, connect_tx, missi
 use Rattle.el_tables.specs.Lists.{Lists, unspent_sum}
 use Rattle.el_tables.specs.Tables.{HeadCounts, format_1, heads_for}
 use Rattle.el_tables.proofs.Outputs.{from_front}
-use Rattle.el_tables.proofs.UndoneBlocks.{row_more, good_before}
+use Rattle.el_tables.proofs.UndoneBlocks.{row_more, good_before, prepared_count}
 use Rattle.el_tables.proofs.WholeBlocks.{connects}
 use Rattle.el_row_formats.specs.Tables as held
 use Rattle.el_row_formats.specs.declared.table.Table.TheVariants as table
 use Rattle.el_schema.specs.Rows.{Hold, block_fields}
 use Rattle.el_schema.specs.Standing.{StandFor, HoldChain, heads_in}
 use Rattle.el_connect.specs.within.Parts.{Reached, IsBetween, LedTo, values, IsSmall, connect_next, connect_all}
-use Rattle.el_connect.proofs.StepLemmas.{money_fits}
 use Rattle.el_connect.proofs.MadeLemmas.{between_next}
 use Rattle.el_chain.specs.declared.fault.ConnectFault.TheVariants as refusal
 use Rattle.el_tables.proofs.FitLemmas.{chain_fits}
@@ -98,10 +97,6 @@ block_small b encoded =
     let all = length-append (header_encoding b.header) (counted full_encoding b.txs) in
     txs_small (80 + length (compact (length b.txs))) b.txs (omega arith) (fits_of_encoded b encoded)
 
-pub txs_count : (start : ℕ) (ts : List Tx) → length (prepared_txs start ts) ≡ length ts
-txs_count start [] = refl
-txs_count start (t ∷ ts) = ap (λ n. suc n) (txs_count (start + length (full_encoding t)) ts)
-
 some_tx : (b : Block) → HasBlockEncoding b → 1 ≤ length b.txs
 some_tx b encoded = by b.txs (encoded.1).coinbase
   where
@@ -126,7 +121,7 @@ few_txs b encoded =
     let light = s.light in
     let txs = length-append (compact (length b.txs)) (flat_map full_encoding b.txs) in
     let all = length-append (header_encoding b.header) (counted full_encoding b.txs) in
-    let count = txs_count (first_start b.txs) b.txs in
+    let count = prepared_count (first_start b.txs) b.txs in
     omega arith
 
 -- 2. The steps with what is prepared are those of the lists

@@ -9,6 +9,7 @@ use Rattle.el_chain.specs.RowCounts.{add_scripts}
 use Rattle.el_chain.specs.declared.fault.ConnectFault.{ConnectFault}
 use Rattle.el_chain.specs.declared.fault.ConnectFault.TheVariants as refusal
 use Rattle.el_chain.specs.declared.limits.TheConstants.{ROW_LIMIT}
+use Rattle.el_chain.proofs.GoodChains.{money_fits}
 use Rattle.el_prepare.specs.declared.prepared.PreparedTx.{PreparedTx}
 use Rattle.el_tables.specs.ChainLists.{ListedBlock}
 use Rattle.el_tables.specs.Connecting.{◌>>=◌, spend_all, spend_coin, fund_all, listed_after, connect_tx, missing_at, ok_unless, bounds_by, full_by}
@@ -19,6 +20,7 @@ use Rattle.el_tables.specs.Tables.{HeadCounts}
 use Rattle.el_tables.proofs.FitLemmas.{take_out_fits}
 use Rattle.el_tables.proofs.OutEdits.{is_there}
 use Rattle.el_tables.proofs.RunningSums.{spent_less}
+use Rattle.el_tables.proofs.Steps.{length_state}
 use Rattle.el_rows.specs.Changes.{OnTable}
 use Rattle.el_row_formats.specs.Tables as held
 use Rattle.el_row_formats.specs.declared.table.Table.TheVariants as table
@@ -28,7 +30,7 @@ use Rattle.el_schema.proofs.Rows.{on_ins}
 use Rattle.el_schema.proofs.Held.{count_ins}
 use Rattle.el_connect.specs.within.Parts.{Reached, IsBetween, IsCounted, OutsInTurn, connect_next, made_by, scripts_of, touch_coins}
 use Rattle.el_connect.specs.within.Full.{TakenBy, TakingOn, FineCoins, IsNext, ReadyCoins}
-use Rattle.el_connect.proofs.StepLemmas.{state_long, input_missing, input_spent, inputs_end, last_txid, before_last, money_fits, not_added}
+use Rattle.el_connect.proofs.StepLemmas.{input_missing, input_spent, inputs_end, last_txid, before_last, not_added}
 use Rattle.el_connect.proofs.TouchLemmas.{coin_touched, full_none, full_some, fund_scripts, touch_scripts}
 use Rattle.el_connect.proofs.MadeLemmas.{made_txs, made_outs, made_ins, tx_leads}
 
@@ -98,7 +100,7 @@ module _ (counts : HeadCounts) (bs : List ListedBlock) (start before : Lists) (m
       let ins = inv.real_ins in
       let any = any_there k real.outs there in
       let outs_long = ap (λ (xs : List ListedOut). length xs) inv.outs in
-      let state = state_long (State.Spent by) k now.outs in
+      let state = length_state (State.Spent by) k now.outs in
       record {
         now = spend_output by k now;
         real = spend_coin by k real;
@@ -117,7 +119,7 @@ module _ (counts : HeadCounts) (bs : List ListedBlock) (start before : Lists) (m
         sum_is = omega arith;
         fell = omega arith;
         real_txs = inv.real_txs;
-        real_outs = state_long (State.Spent by) k real.outs ∙ inv.real_outs;
+        real_outs = length_state (State.Spent by) k real.outs ∙ inv.real_outs;
         real_ins = omega arith;
       }
 

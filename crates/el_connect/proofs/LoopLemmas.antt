@@ -1,5 +1,6 @@
 -- How the loops over inputs and outputs go on.
-use Rattle.std.proofs.Common.{◌≡◌, ◌⊎◌, inl, inr, ℕ, zero, suc, ◌+◌, ◌-◌, ◌<◌, ◌≤◌, ◌^◌, List, [], ◌∷◌, length, drop, get_or, refl, ap, sym, subst, ◌∙◌, arith}
+use Rattle.std.proofs.Common.{◌≡◌, ◌⊎◌, inl, inr, ℕ, ◌+◌, ◌-◌, ◌<◌, ◌≤◌, ◌^◌, List, [], length, drop, get_or, ap, sym, subst, ◌∙◌, arith}
+use Rattle.std.proofs.lemmas.List.{get_or_default}
 use Rattle.el_base.specs.declared.hash.Hash32.{Hash32}
 use Rattle.el_tx.specs.declared.types.Outpoint.{Outpoint}
 use Rattle.el_chain.specs.declared.fault.ConnectFault.{ConnectFault}
@@ -19,12 +20,6 @@ use Rattle.el_connect.proofs.TouchLemmas.{coin_here, coins_left, coins_end, touc
 pub fails : {X : Type 0} (e : ConnectFault) → (e ≡ refusal.DiskFailed) ⊎ (e ≡ refusal.Memory) → (e ≡ refusal.DiskFailed) ⊎ ((e ≡ refusal.Memory) ⊎ X)
 fails e (inl disk) = inl disk
 fails e (inr memory) = inr (inl memory)
-
--- within a list it doesn't matter what stands for the members after it
-pub any_default : {X : Type 0} (xs : List X) (i : ℕ) (d e : X) → i < length xs → get_or xs i d ≡ get_or xs i e
-any_default [] i d e lt = absurd (omega arith)
-any_default (x ∷ xs) zero d e lt = refl
-any_default (x ∷ xs) (suc i) d e lt = any_default xs i d e (omega arith)
 
 -- what stands for outpoints and outputs after the last
 abbrev pub no_outpoint : Outpoint
@@ -48,7 +43,7 @@ module _ (counts : HeadCounts) (bs : List ListedBlock) (l : Lists) (by n first s
       let now = inv.lists in
       let is : get_or now.ins (first + at) 0 ≡ get_or ks at 0 = ap (λ (xs : List ℕ). get_or xs (first + at) 0) inv.ins ∙ coin_here first at l.ins ks coins in
       let k = get_or now.ins (first + at) 0 in
-      inv.left ∙ coins_left by at k ks now lt (is ∙ any_default ks at 0 k lt)
+      inv.left ∙ coins_left by at k ks now lt (is ∙ get_or_default ks at 0 k lt)
 
   pub touches_more : (rows new : held.Tables) (at : ℕ) → at < length ks → Touches rows at → ((now : Lists) → Reached counts bs now rows sum → Reached counts bs (after at now) new sum)
       → ((now : Lists) → Reached counts bs now rows sum → HasRoom now 0 n → HasRoom (after at now) 0 n) → Touches new (at + 1)

@@ -10,8 +10,9 @@ use Rattle.el_chain.specs.declared.fault.ConnectFault.{ConnectFault}
 use Rattle.el_prepare.specs.declared.prepared.PreparedTx.{PreparedTx}
 use Rattle.el_tables.specs.Connecting.{◌>>=◌, spend_all, spend_coin, fund, fund_all, listed_after, connect_tx, missing_at, ok_unless, bounds_by, full_by}
 use Rattle.el_tables.specs.Lists.{State, Lists, ListedTx, ListedOut, add_entry, add_tx, bury, coin_number, replaced, script_number, unspent_sum}
+use Rattle.el_tables.proofs.Steps.{length_state}
 use Rattle.el_connect.specs.within.Parts.{IsBetween, OutsInTurn, connect_next, made_by}
-use Rattle.el_connect.proofs.StepLemmas.{bury_long, fund_txs, state_long}
+use Rattle.el_connect.proofs.StepLemmas.{bury_long, fund_txs}
 use Rattle.el_connect.proofs.TouchLemmas.{within_full}
 
 pub money_none : (sum : ℕ) → sum ≤ max_money → money_fault sum ≡ None
@@ -65,7 +66,7 @@ inputs_leave by at (o ∷ os) l m e = go (λ k. inputs_leave by (at + 1) os (spe
     go later (Some k) is =
         let f : spend_all by at (o ∷ os) l ≡ spend_all by (at + 1) os (spend_coin by k l) = rw is refl in
         let rest = later k (sym f ∙ e) in
-        (rest.0, rest.1 ∙ state_long (State.Spent by) k l.outs)
+        (rest.0, rest.1 ∙ length_state (State.Spent by) k l.outs)
 
 turn_more : (first count more : ℕ) (ts : List ListedTx) (t : ListedTx) → OutsInTurn first ts count → t.first_out ≡ count → count + t.outs ≡ more → OutsInTurn first (ts ++ t ∷ []) more
 turn_more first count more [] t h at end = let same : first ≡ count = h in (at ∙ sym same, ap (λ (n : ℕ). n + t.outs) same ∙ end)

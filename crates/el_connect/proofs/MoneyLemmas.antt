@@ -12,6 +12,7 @@ use Rattle.el_chain.specs.declared.fault.ConnectFault.{ConnectFault}
 use Rattle.el_tables.specs.Connecting.{fund, fund_all}
 use Rattle.el_tables.specs.Edits.{no_out}
 use Rattle.el_tables.specs.Lists.{State, Lists, ListedTx, ListedOut, add_entry, bury, coin_number, has_output, if_unspent, output_number, replaced, script_number, txid_at, unspent_at, unspent_sum, with_state}
+use Rattle.el_tables.proofs.Steps.{unspent_front, named_of}
 use Rattle.el_connect.specs.within.Parts.{OutsInTurn, coin_value, value_of, values}
 use Rattle.el_connect.specs.within.Full.{IsNext}
 use Rattle.el_connect.proofs.MadeLemmas.{money_none}
@@ -75,11 +76,6 @@ named_apart id i j first count k (t ∷ ts) h e f =
 
 -- 2. What an output leaves of the others' coins
 
-unspent_front : (k : ℕ) (xs ys : List ListedOut) → k < length xs → unspent_at k (xs ++ ys) ≡ unspent_at k xs
-unspent_front k [] ys lt = absurd (omega arith)
-unspent_front zero (x ∷ xs) ys lt = refl
-unspent_front (suc k) (x ∷ xs) ys lt = unspent_front k xs ys (omega arith)
-
 unspent_apart : (s : State) (j k : ℕ) (xs : List ListedOut) → (j ≡ k → ⊥) → unspent_at k (with_state s j xs) ≡ unspent_at k xs
 unspent_apart s j k [] apart = refl
 unspent_apart s zero zero (x ∷ xs) apart = absurd (apart refl)
@@ -111,17 +107,6 @@ held_still n r (Some k) x xs known =
       | inr e ↦ rw (unspent, e) refl
     ]
 
-coin_named : (outs : List ListedOut) (names : Option ℕ) (k : ℕ) → option_and_then (if_unspent outs) names ≡ Some k → names ≡ Some k
-coin_named outs None k e = e
-coin_named outs (Some j) k e = by (unspent_at j outs) e
-  where
-    by : (b : Bool) → (if b then Some j else None) ≡ Some k → Some j ≡ Some k
-    by true f = f
-    by false f = absurd (wrong f)
-      where
-        wrong : None ≡ Some k → ⊥
-        wrong g = cc
-
 -- 3. Outputs one after the other
 
 module _ (l next : Lists) (number : ℕ) (id : Hash32) (turn : OutsInTurn 0 l.txs (length l.outs)) (is_next : IsNext l next number id) where
@@ -141,7 +126,7 @@ module _ (l next : Lists) (number : ℕ) (id : Hash32) (turn : OutsInTurn 0 l.tx
       λ k is.
       let here : output_number (point j) l.txs ≡ Some k = ap (output_number (point j)) (sym front) ∙ is in
       let low = (named_within (point j) 0 (length l.outs) k l.txs turn here).1 in
-      (omega arith, λ buried. let same = named_apart id at j 0 (length l.outs) k l.txs turn (coin_named now.outs (output_number (point at) l.txs) k (sym names ∙ buried)) here in omega arith) in
+      (omega arith, λ buried. let same = named_apart id at j 0 (length l.outs) k l.txs turn (named_of now.outs (output_number (point at) l.txs) k (sym names ∙ buried)) here in omega arith) in
       held_still number r (output_number (point j) (take number now.txs)) x now.outs known
 
   -- so many outputs are counted

@@ -1,12 +1,9 @@
 -- What the steps of a transaction do to lengths, to the sum of all coins, and to the room that is left.
-use Rattle.std.proofs.Common.{◌≡◌, ◌⊎◌, inl, inr, ℕ, zero, suc, ◌+◌, ◌-◌, ◌<◌, ◌≤◌, ◌^◌, List, [], ◌∷◌, ◌++◌, length, take, drop, get_or, Option, None, Some, Ok, Err, refl, ap, sym, ◌∙◌, arith, min, unwrap_or}
-use Rattle.std.proofs.lemmas.Bool.{cases_lt, lt-ltb}
+use Rattle.std.proofs.Common.{◌≡◌, ◌⊎◌, inl, inr, ℕ, zero, suc, ◌+◌, ◌-◌, ◌<◌, ◌≤◌, ◌^◌, List, [], ◌∷◌, ◌++◌, length, take, drop, get_or, Option, None, Some, Ok, Err, refl, arith, min, unwrap_or}
 use Rattle.std.proofs.lemmas.List.{take_at, drop_all}
 use Rattle.el_base.specs.declared.hash.Hash32.{Hash32}
 use Rattle.el_base.proofs.Lists.{left_at}
 use Rattle.el_tx.specs.declared.types.Outpoint.{Outpoint}
-use Rattle.el_tx.specs.Encoding.{max_money}
-use Rattle.el_chain.specs.Faults.{money_fault}
 use Rattle.el_chain.specs.RowCounts.{add_script}
 use Rattle.el_chain.specs.declared.fault.ConnectFault.{ConnectFault}
 use Rattle.el_chain.specs.declared.fault.ConnectFault.TheVariants as refusal
@@ -18,28 +15,22 @@ use Rattle.el_tables.specs.Fits.{Fits}
 use Rattle.el_tables.specs.Lists.{State, Lists, ListedTx, ListedOut, script_number, add_entry, add_output, spend_output, with_state, script_at, coin_number, spend, replaced, bury, unspent_sum, txid_at}
 use Rattle.el_tables.specs.Tables.{HeadCounts}
 use Rattle.el_tables.proofs.FitLemmas.{touch_fits, add_out_fits}
-use Rattle.el_tables.proofs.Sums.{balance_within}
 use Rattle.el_tables.proofs.RunningSums.{alone_more, buries_more}
 use Rattle.el_tables.proofs.Scripts.{once_has, number_within}
+use Rattle.el_tables.proofs.Steps.{length_state}
 use Rattle.el_row_formats.specs.Tables as held
 use Rattle.el_row_formats.specs.declared.table.Table.{Table}
 use Rattle.el_row_formats.specs.declared.table.Table.TheVariants as table
 use Rattle.el_buckets.specs.Faults.{NotAdded}
 use Rattle.el_schema.specs.Rows.{Hold}
 use Rattle.el_schema.proofs.Held.{count_txs}
-use Rattle.el_spend.specs.Outputs.{BalancesFit}
 use Rattle.el_connect.specs.within.Parts.{Reached, values, value_of}
 
 -- 1. Lengths
 
-pub state_long : (s : State) (k : ℕ) (xs : List ListedOut) → length (with_state s k xs) ≡ length xs
-state_long s k [] = refl
-state_long s zero (x ∷ xs) = refl
-state_long s (suc k) (x ∷ xs) = ap (λ n. suc n) (state_long s k xs)
-
 pub bury_long : (by : ℕ) (r : Option ℕ) (xs : List ListedOut) → length (bury by r xs) ≡ length xs
 bury_long by None xs = refl
-bury_long by (Some k) xs = state_long (State.Buried by) k xs
+bury_long by (Some k) xs = length_state (State.Buried by) k xs
 
 -- 2. An input
 
@@ -123,25 +114,10 @@ last_txid (u ∷ us) t = last_txid us t
 pub before_last : (txs : List ListedTx) (t : ListedTx) → take (length txs) (txs ++ t ∷ []) ≡ txs
 before_last txs t = take_at txs (t ∷ []) (length txs) refl
 
--- 5. Faults
-
-pub money_fits : (sum : ℕ) → money_fault sum ≡ None → sum ≤ max_money
-money_fits sum e = by (cases_lt max_money sum)
-  where
-    by : (max_money < sum) ⊎ (sum ≤ max_money) → sum ≤ max_money
-    by (inr le) = le
-    by (inl lt) = absurd (wrong (sym (let t = lt-ltb max_money sum lt in rw t refl) ∙ e))
-      where
-        wrong : Some (refusal.Money sum) ≡ None → ⊥
-        wrong h = cc
-
--- 6. Rows and the sum after a step
+-- 5. Rows and the sum after a step
 
 pub spent_lists : (o : Outpoint) (by k : ℕ) (l : Lists) → coin_number o l.txs l.outs ≡ Some k → unwrap_or (spend o by l) l ≡ spend_output by k l
 spent_lists o by k l is = rw is refl
-
-pub balances_fit : (outs : List ListedOut) → unspent_sum outs < 2 ^ 64 → BalancesFit outs
-balances_fit outs fit = λ s. let part = balance_within s outs in omega arith
 
 pub output_reached : (counts : HeadCounts) (bs : List ListedBlock) (l : Lists) (before rows : held.Tables) (sum tx index gone after : ℕ) (o : ℕ × Hash32) → Reached counts bs l before sum
     → unspent_sum l.outs + o.0 < 2 ^ 64 → gone ≡ value_of (replaced tx index (add_entry o.1 tx l)) l.outs → after ≡ min (sum - gone + o.0) 18446744073709551615
@@ -161,7 +137,7 @@ output_reached counts bs l before rows sum tx index gone after o reached fit bur
       sum_is = omega (arith, is, more, all);
     }
 
--- 7. Faults of calls where there is room
+-- 6. Faults of calls where there is room
 
 pub not_added : (t : Table) (n : ℕ) (e : ConnectFault) → n < ROW_LIMIT → NotAdded t n e → e ≡ refusal.Memory
 not_added t n e lt (inl full) = absurd (let at = full.0 in omega arith)

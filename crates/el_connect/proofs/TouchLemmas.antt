@@ -7,7 +7,7 @@ use Rattle.el_base.specs.declared.hash.Hash32.{Hash32}
 use Rattle.el_base.proofs.Lists.{left_at}
 use Rattle.el_chain.specs.Chains.{zero_hash}
 use Rattle.el_chain.specs.Faults.{full}
-use Rattle.el_chain.specs.RowCounts.{has_script, add_script, add_scripts}
+use Rattle.el_chain.specs.RowCounts.{add_script, add_scripts}
 use Rattle.el_chain.proofs.GoodChains.{first_none, second_none}
 use Rattle.el_chain.specs.declared.fault.ConnectFault.{ConnectFault}
 use Rattle.el_chain.specs.declared.fault.ConnectFault.TheVariants as refusal
@@ -18,6 +18,7 @@ use Rattle.el_tables.specs.Lists.{State, Lists, ListedOut, ListedEntry, add_entr
 use Rattle.el_tables.specs.ChainLists.{ListedBlock}
 use Rattle.el_tables.specs.Tables.{HeadCounts}
 use Rattle.el_tables.proofs.FitLemmas.{touch_fits}
+use Rattle.el_tables.proofs.Scripts.{once_longer}
 use Rattle.el_row_formats.specs.Tables as held
 use Rattle.el_schema.specs.Rows.{Hold}
 use Rattle.el_buckets.specs.Faults.{NotAdded}
@@ -106,13 +107,6 @@ touch_refused s tx n m l e few tells (inr (inr (inr memory))) = inr (inl memory.
 
 -- 2. Many entries
 
-script_more : (s : Hash32) (xs : List Hash32) → length xs ≤ length (add_script s xs)
-script_more s xs = by (has_script s xs)
-  where
-    by : (b : Bool) → length xs ≤ length (if b then xs else xs ++ s ∷ [])
-    by true = omega arith
-    by false = let long = length-append xs (s ∷ []) in omega arith
-
 entry_more : (tx n : ℕ) (es : List ListedEntry) → length es ≤ length (append_entry tx n es)
 entry_more tx n es = by (is_tx tx (last_tx_of n es))
   where
@@ -126,7 +120,7 @@ touch_more by [] l = (omega arith, omega arith)
 touch_more by (k ∷ ks) l =
     let h = script_of_output k l in
     let rest = touch_more by ks (add_entry h by l) in
-    let a = script_more h l.scripts in
+    let a = once_longer h l.scripts in
     let b = entry_more by (script_number h l.scripts) l.entries in
     let c = rest.0 in
     let d = rest.1 in
@@ -136,7 +130,7 @@ pub fund_more : (tx at : ℕ) (os : List (ℕ × Hash32)) (l : Lists) → (lengt
 fund_more tx at [] l = (omega arith, omega arith)
 fund_more tx at (o ∷ os) l =
     let rest = fund_more tx (at + 1) os (fund tx at o l) in
-    let a = script_more o.1 l.scripts in
+    let a = once_longer o.1 l.scripts in
     let b = entry_more tx (script_number o.1 l.scripts) l.entries in
     let c = rest.0 in
     let d = rest.1 in

@@ -1,15 +1,14 @@
 -- How many clients subscribe to a script hash, as clients and subscriptions come and go.
-use Rattle.std.proofs.Common.{◌≡◌, ◌||◌, inl, inr, ℕ, zero, suc, ◌+◌, ◌-◌, ◌<◌, ◌≤◌, ◌==◌, nat_lt, Bool, true, false, not, if◌then◌else◌, List, [], ◌∷◌, ◌++◌, length, filter, take, drop, slice_get, Option, Some, None, Result, Ok, Err, refl, sym, ap, ◌∙◌, subst, arith, true≢false, eq-eqb, lt-ltb, append-nil}
-use Rattle.std.specs.List.{AllByRecursion, list_any}
+use Rattle.std.proofs.Common.{◌≡◌, ◌||◌, inl, inr, ℕ, zero, suc, ◌+◌, ◌-◌, ◌<◌, ◌≤◌, nat_lt, Bool, true, false, if◌then◌else◌, List, [], ◌∷◌, ◌++◌, length, take, drop, slice_get, Option, Some, None, Result, Ok, Err, refl, sym, ap, ◌∙◌, subst, arith, eq-eqb, lt-ltb}
+use Rattle.std.specs.List.{AllByRecursion}
 use Rattle.std.specs.Map.{keys_of, lookup}
 use Rattle.std.specs.Option.{unwrap_or}
 use Rattle.std.specs.Prelude.{OnOk, OnErr, get_or, slice_set}
 use Rattle.std.proofs.lemmas.Option.{slice_get_read}
-use Rattle.std.proofs.lemmas.Slice.Eq.{bytes_eq-Decides}
 use Rattle.el_base.specs.declared.hash.Hash32.{Hash32}
 use Rattle.el_chain.specs.Headers.{same_hash}
-use Rattle.el_chain.proofs.TouchLemmas.{same_turned}
-use Rattle.el_sessions.specs.Sessions.{Subscription, Extends, is_subscribed, is_to}
+use Rattle.el_chain.proofs.TouchLemmas.{same_turned, hash_gives}
+use Rattle.el_sessions.specs.Sessions.{Subscription, Extends, is_subscribed}
 use Rattle.el_lines.proofs.Cuts.{either}
 use Rattle.el_core.specs.Arrivals.{kept_clients}
 use Rattle.el_core.specs.State.{ClientState, is_numbered}
@@ -18,11 +17,9 @@ use Rattle.el_core.specs.within.Touching.{is_held}
 use Rattle.el_core.specs.within.Watching.{times, held_keys, counted, NoneIdle, Counts, CountsFew}
 use Rattle.el_core.proofs.Places.{same_some}
 use Rattle.el_core.proofs.Replacing.{set_is_replaced}
+use Rattle.el_subs.proofs.News.{keys_length}
 
 -- ---- one script hash
-
-same_is : (a b : Hash32) → same_hash a b ≡ true → a ≡ b
-same_is a b h = ap (λ (bytes : List ℕ). record { 0 = bytes }) ((bytes_eq-Decides a.0 b.0).0 h)
 
 turned : (a b : Hash32) (r : Bool) → same_hash a b ≡ r → same_hash b a ≡ r
 turned a b r h = sym (same_turned a b) ∙ h
@@ -33,7 +30,7 @@ pub one_up : (old new : List (Hash32 × ℕ)) (s : Hash32) (count : ℕ) → cou
     → counted new t ≡ counted old t + times t (s ∷ [])
 one_up old new s count is t set = elim (either (same_hash s t)) [
   | inl h ↦
-      let e : s ≡ t = same_is s t h in
+      let e : s ≡ t = hash_gives s t h in
       let a : counted new t ≡ count + 1 = ap (λ (o : Option ℕ). unwrap_or o 0) (rw h at set) in
       let b : count ≡ counted old t = subst (λ (k : Hash32). count ≡ counted old k) e is in
       let f : same_hash t s ≡ true = turned s t true h in
@@ -50,7 +47,7 @@ pub one_down : (old new : List (Hash32 × ℕ)) (s : Hash32) (count : ℕ) (left
     → counted new t ≡ counted old t - times t (s ∷ [])
 one_down old new s count left is less t set = elim (either (same_hash s t)) [
   | inl h ↦
-      let e : s ≡ t = same_is s t h in
+      let e : s ≡ t = hash_gives s t h in
       let a : counted new t ≡ unwrap_or left 0 = ap (λ (o : Option ℕ). unwrap_or o 0) (rw h at set) in
       let b : count ≡ counted old t = subst (λ (k : Hash32). count ≡ counted old k) e is in
       let f : same_hash t s ≡ true = turned s t true h in
@@ -78,10 +75,6 @@ still_none_idle old new s none dropped t is = elim (either (same_hash s t)) [
   | inl h ↦ absurd (let e : ◌≡◌ {A = Option ℕ} None (Some 0) = sym (rw h at (dropped t)) ∙ is in cc)
   | inr h ↦ none t (sym (rw h at (dropped t)) ∙ is)
 ]
-
-pub when_ok : {T E : Type 0} (P Q : Type 0) (r : Result T E) → (P → Q) → OnOk r P → OnOk r Q
-when_ok P Q (Ok x) f h = f h
-when_ok P Q (Err e) f h = tt
 
 -- a number above 0 is there, so that setting it doesn't fail
 pub when_there : {T E : Type 0} (P : Type 0) (r : Result T E) (old : List (Hash32 × ℕ)) (s : Hash32) (count : ℕ) → count ≡ counted old s → 0 < count → OnErr r (lookup (same_hash s) old ≡ None) → OnOk r P → P
@@ -188,10 +181,6 @@ few_uncounted t subs n few now old le ge is =
     subst (λ (m : ℕ). now ≡ old - times t (take m (keys_of subs))) same is
 
 -- ---- clients
-
-keys_length : (subs : List Subscription) → length (keys_of subs) ≡ length subs
-keys_length [] = refl
-keys_length (x ∷ xs) = ap suc (keys_length xs)
 
 -- what a client holds is among what all hold
 held_at : (t : Hash32) (clients : List ClientState) (i : ℕ) (c : ClientState) → slice_get clients i ≡ Some c

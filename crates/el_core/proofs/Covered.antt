@@ -1,22 +1,18 @@
 -- Script hashes that are touched, of those to which clients subscribe.
-use Rattle.std.proofs.Common.{◌≡◌, ◌||◌, inl, inr, ℕ, zero, suc, ◌+◌, ◌<◌, ◌≤◌, Bool, true, false, not, if◌then◌else◌, List, [], ◌∷◌, ◌++◌, length, take, get_or, Result, Ok, Err, refl, sym, ap, ◌∙◌, subst, arith, true≢false}
+use Rattle.std.proofs.Common.{◌≡◌, inl, inr, ℕ, ◌+◌, ◌<◌, ◌≤◌, Bool, true, false, if◌then◌else◌, List, [], ◌∷◌, ◌++◌, length, take, get_or, Result, Ok, Err, refl, sym, ap, ◌∙◌, subst, true≢false}
 use Rattle.std.specs.List.{list_any}
 use Rattle.std.specs.Prelude.{OnOk}
 use Rattle.std.proofs.lemmas.Bool.{or_parts, or_from}
 use Rattle.std.proofs.lemmas.List.{take_all, get_or_default}
 use Rattle.std.proofs.lemmas.List.Folds.{list_any-append}
-use Rattle.std.proofs.lemmas.Slice.Eq.{bytes_eq-Decides}
 use Rattle.el_base.specs.declared.hash.Hash32.{Hash32}
 use Rattle.el_base.proofs.Lists.{taken_at}
 use Rattle.el_chain.specs.Headers.{same_hash}
-use Rattle.el_chain.proofs.TouchLemmas.{any_added}
+use Rattle.el_chain.proofs.TouchLemmas.{any_added, hash_gives}
 use Rattle.el_lines.proofs.Cuts.{either}
 use Rattle.el_touched.specs.Untouched.{is_among}
 use Rattle.el_core.specs.State.{ClientState}
 use Rattle.el_core.specs.within.Touching.{is_held, Covers, CoversAll}
-
-same_is : (a b : Hash32) → same_hash a b ≡ true → a ≡ b
-same_is a b h = ap (λ (bytes : List ℕ). record { 0 = bytes }) ((bytes_eq-Decides a.0 b.0).0 h)
 
 -- one script hash: it is added
 pub one_added : (clients : List ClientState) (old new : List Hash32) (x : Hash32) → new ≡ (if list_any (same_hash x) old then old else old ++ x ∷ []) → Covers clients old (x ∷ []) new
@@ -30,7 +26,7 @@ one_left clients old x nobody_holds s held none = (none, or_from (same_hash s x)
   where
     other : same_hash s x ≡ false
     other = elim (either (same_hash s x)) [
-      | inl same ↦ absurd (true≢false (sym held ∙ ap (is_held clients) (same_is s x same) ∙ nobody_holds))
+      | inl same ↦ absurd (true≢false (sym held ∙ ap (is_held clients) (hash_gives s x same) ∙ nobody_holds))
       | inr differs ↦ differs
     ]
 

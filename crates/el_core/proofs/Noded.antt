@@ -1,5 +1,5 @@
 -- Turns of the node, over what the server keeps and the world that it stands for.
-use Rattle.std.proofs.Common.{◌≡◌, inl, inr, ℕ, zero, suc, ◌+◌, ◌==◌, Bool, true, false, true≢false, length, eqb-true, List, [], ◌∷◌, ◌++◌, map, drop, Option, Some, Result, Ok, Err, refl, ap, sym, ◌∙◌, arith, subst}
+use Rattle.std.proofs.Common.{◌≡◌, inl, inr, ℕ, ◌+◌, Bool, true, false, true≢false, List, [], ◌∷◌, ◌++◌, map, drop, Option, Some, Result, Ok, Err, refl, ap, sym, ◌∙◌, arith, subst}
 use Rattle.std.specs.List.{AllByRecursion, slice_get}
 use Rattle.el_base.specs.declared.hash.Hash32.{Hash32}
 use Rattle.std.proofs.lemmas.Option.{slice_get_within}
@@ -16,7 +16,7 @@ use Rattle.el_mempool.specs.Standing.{PoolState}
 use Rattle.el_world.specs.NodeSteps.{IsAt, Leads}
 use Rattle.el_lines.specs.Lines.{LineEvent, lines}
 use Rattle.el_lines.specs.NodeAnswers.{node_limit}
-use Rattle.el_world.specs.Plans.{IsMoving, plan_of}
+use Rattle.el_world.specs.Plans.{plan_of}
 use Rattle.el_world.specs.Side.{Side, Moving, OrdersLine}
 use Rattle.el_world.specs.World as model
 use Rattle.el_world.specs.World.{World, Session, Event, orders, reply_to, IsStill, IsBusy, AllTold, begun}
@@ -29,6 +29,7 @@ use Rattle.el_sync.specs.Steps.{IsFrom, NodeStep, FailsBy, by_disk, by_memory, u
 use Rattle.el_sync.specs.declared.fault.StepFault.{StepFault}
 use Rattle.el_sync.specs.declared.moving.Step.{Step}
 use Rattle.el_sync.specs.declared.fault.StepFault.TheVariants as fault
+use Rattle.el_sync.proofs.Compared.{moving_any}
 use Rattle.el_core.specs.State.{State, NodeLeaves, NoneWaits, Stands}
 use Rattle.el_core.specs.Turn.{TookTurn, TurnFailed, GoesTo, outs_of, stop_of}
 use Rattle.el_core.specs.within.Answering.{Answered, Lost, NodeKeeps, holdings_of}
@@ -36,16 +37,6 @@ use Rattle.el_core.specs.within.Clients.{Gives, begun_at}
 use Rattle.el_core.specs.declared.out.Outs.{Outs}
 use Rattle.el_core.proofs.Sessions.{left_first}
 use Rattle.el_core.proofs.Tellings.{tellings_led}
-
-pub moving_any : (b : ℕ) (ns : List Node) → (ns ≡ [] → ⊥) → IsMoving b ns
-moving_any zero [] some = absurd (some refl)
-moving_any zero (n ∷ ns) some = tt
-moving_any (suc b) ns some = tt
-
--- whether nothing is ahead
-pub nil_if : (xs : List Node) (b : Bool) → b ≡ true → b ≡ (length xs == 0) → xs ≡ []
-nil_if [] b yes_b is = refl
-nil_if (x ∷ xs) b yes_b is = absurd (let e = eqb-true (length (x ∷ xs)) 0 (sym is ∙ yes_b) in omega arith)
 
 fault_same : (a b : StepFault) → ◌≡◌ {A = Result Outs StepFault} (Err a) (Err b) → a ≡ b
 fault_same a b e = cc

@@ -13,10 +13,11 @@ use Rattle.el_chain.specs.declared.node.Node.{Node}
 use Rattle.el_block.specs.Blocks.{AllDiffer}
 use Rattle.el_chain.specs.Headers.{same_hash, has_hash, is_known, is_second, added, names_none, genesis, IsFound}
 use Rattle.el_chain.specs.Records.{IsNode}
+use Rattle.el_chain.proofs.TouchLemmas.{hash_gives, hash_from}
 use Rattle.el_block.proofs.BlockRules.{still_differ}
 use Rattle.el_headers.specs.Adding.{IsNew}
 use Rattle.el_headers.specs.within.Tables.{greatest, names, AreOlder, open_count, Has, HasParent, HasHeight, AreHeights, IsHeight, IsParent, NoneLeft, Numbers, is_lowest}
-use Rattle.el_headers.proofs.Places.{hash_is, hash_same, at_left, at_last, at_more, greatest_more, greatest_passes, greatest_above}
+use Rattle.el_headers.proofs.Places.{at_left, at_last, at_more, greatest_more, greatest_passes, greatest_above}
 use Rattle.el_headers.proofs.Heights.{open_more, open_one_more, open_few}
 
 -- the genesis stays, and comes with the first node that names none
@@ -47,7 +48,7 @@ others_differ : (h : Hash32) (found : List Node) → is_known found h ≡ false 
 others_differ h [] e = tt
 others_differ h (m ∷ ms) e =
     let parts = or_parts (same_hash m.hash h) (is_known ms h) e in
-    (λ is. false≢true (sym parts.0 ∙ hash_same m.hash h is), others_differ h ms parts.1)
+    (λ is. false≢true (sym parts.0 ∙ hash_from m.hash h is), others_differ h ms parts.1)
 
 pub found_more : (found : List Node) (n : Node) → IsFound found → IsNode n → IsNew found n → IsFound (found ++ n ∷ [])
 found_more found n h node new = record {
@@ -264,14 +265,14 @@ pub parent_at : (found : List Node) (h : Hash32) (number : ℕ) → greatest (ha
 parent_at found h number is =
     let p = greatest_passes 0 (has_hash h) found number is in
     let same : p.0 ≡ number = let e = p.2 in omega arith in
-    (p.1, subst (λ (q : ℕ). slice_get found q ≡ Some p.1) same p.3, hash_is p.1.hash h p.4)
+    (p.1, subst (λ (q : ℕ). slice_get found q ≡ Some p.1) same p.3, hash_gives p.1.hash h p.4)
 
 pub unknown_parent : (found : List Node) (heights : List (Option ℕ)) (n : Node) → names_none n ≡ false
     → greatest (has_hash n.header.previous) found ≡ None → IsHeight found heights n None
 unknown_parent found heights n later none = (
   later,
   λ j m at named.
-      let above = greatest_above 0 (has_hash n.header.previous) found j m at (hash_same m.hash n.header.previous named) in
+      let above = greatest_above 0 (has_hash n.header.previous) found j m at (hash_from m.hash n.header.previous named) in
       absurd (none-some above.0 (sym none ∙ above.1)),
 )
 
@@ -295,7 +296,7 @@ pub parent_number : (found : List Node) (heights : List (Option ℕ)) → AreHei
 parent_number found heights a i k n at known =
     let has : HasHeight found heights n (suc k) = a.sound i (suc k) n at known in
     let p = has.1 in
-    let above = greatest_above 0 (has_hash n.header.previous) found p.number p.parent p.stands (hash_same p.parent.hash n.header.previous p.named) in
+    let above = greatest_above 0 (has_hash n.header.previous) found p.number p.parent p.stands (hash_from p.parent.hash n.header.previous p.named) in
     (above.0, above.1)
 
 pub is_parent : (found : List Node) (heights : List (Option ℕ)) → AreHeights found heights [] NoneLeft → AllDiffer (map (λ (m : Node). m.hash) found)

@@ -9,8 +9,9 @@ use Rattle.indexmap.specs.IndexMap.{IndexMap, get}
 use Rattle.el_base.specs.declared.hash.Hash32.{Hash32}
 use Rattle.el_chain.specs.declared.node.Node.{Node}
 use Rattle.el_chain.specs.Headers.{same_hash, names_none}
+use Rattle.el_chain.proofs.TouchLemmas.{hash_gives, hash_from}
 use Rattle.el_headers.specs.within.Tables.{greatest, names, AreNewest, AreOlder, open_count, is_open_height, attached_at, stacked, Has, HasHeight, AreHeights, NoneLeft, IsUpTo, ChildrenLeft, StayKnown}
-use Rattle.el_headers.proofs.Places.{hash_is, hash_same, at_one, at_there, at_left, at_last, at_more, set_here, set_other, in_front, of_front, greatest_passes, greatest_above}
+use Rattle.el_headers.proofs.Places.{at_one, at_there, at_left, at_last, at_more, set_here, set_other, in_front, of_front, greatest_passes, greatest_above}
 
 -- a height is known or not
 pub known_or_open : (heights : List (Option ℕ)) (i : ℕ) → i < length heights
@@ -137,7 +138,7 @@ left_below : (nodes : List Node) (older heights : List (Option ℕ)) (stack : Li
     → (a : AtChild nodes older heights stack parent k child next) (i : ℕ) (n : Node) → slice_get nodes i ≡ Some n
     → n.header.previous ≡ a.before.hash → i < child → IsUpTo next i
 left_below nodes older heights stack parent k child next a i n at named lt =
-    let above = greatest_above 0 (names a.before.hash) (take child nodes) i n (in_front child nodes i n at lt) (hash_same n.header.previous a.before.hash named) in
+    let above = greatest_above 0 (names a.before.hash) (take child nodes) i n (in_front child nodes i n at lt) (hash_from n.header.previous a.before.hash named) in
     let le = above.2 in
     let up : i ≤ above.0 = omega arith in
     subst (λ (o : Option ℕ). IsUpTo o i) (sym (next_greatest nodes older heights stack parent k child next a ∙ above.1)) up
@@ -151,7 +152,7 @@ next_child nodes older heights stack parent k child next a c is =
     let front = of_front child nodes found.0 found.1 found.3 in
     let same : found.0 ≡ c = let e = found.2 in omega arith in
     let lt = front.1 in
-    (found.1, subst (λ (p : ℕ). slice_get nodes p ≡ Some found.1) same front.0, hash_is found.1.header.previous a.before.hash found.4, omega arith)
+    (found.1, subst (λ (p : ℕ). slice_get nodes p ≡ Some found.1) same front.0, hash_gives found.1.header.previous a.before.hash found.4, omega arith)
 
 -- a child that was attached before
 pub passed_child : (nodes : List Node) (older heights : List (Option ℕ)) (stack : List ℕ) (parent k child : ℕ) (next : Option ℕ)
@@ -273,7 +274,7 @@ pub all_left : (nodes : List Node) (heights : List (Option ℕ)) (stack : List �
 all_left nodes heights stack parent m newest at is = left_as nodes heights stack (λ i j. j ≡ parent) (ChildrenLeft parent newest)
     (λ i j n b ni bj named same.
     let one : b ≡ m = at_one nodes parent b m (subst (λ (p : ℕ). slice_get nodes p ≡ Some b) same bj) at in
-    let above = greatest_above 0 (names m.hash) nodes i n ni (hash_same n.header.previous m.hash (sym named ∙ ap (λ (x : Node). x.hash) one)) in
+    let above = greatest_above 0 (names m.hash) nodes i n ni (hash_from n.header.previous m.hash (sym named ∙ ap (λ (x : Node). x.hash) one)) in
     let le = above.2 in
     let up : i ≤ above.0 = omega arith in
     (same, subst (λ (o : Option ℕ). IsUpTo o i) (sym (is ∙ above.1)) up))
@@ -289,7 +290,7 @@ pub newest_named : (nodes : List Node) (m : Node) (newest : Option ℕ) (child :
 newest_named nodes m newest child is some =
     let found = greatest_passes 0 (names m.hash) nodes child (sym is ∙ some) in
     let same : found.0 ≡ child = let e = found.2 in omega arith in
-    (found.1, subst (λ (p : ℕ). slice_get nodes p ≡ Some found.1) same found.3, hash_is found.1.header.previous m.hash found.4)
+    (found.1, subst (λ (p : ℕ). slice_get nodes p ≡ Some found.1) same found.3, hash_gives found.1.header.previous m.hash found.4)
 
 -- a child after it was looked at
 pub child_done : (nodes : List Node) (older heights : List (Option ℕ)) (stack : List ℕ) (parent k child : ℕ) (next : Option ℕ)

@@ -1,6 +1,6 @@
 -- At most one path leads to a hash; paths stay paths, and go on.
-use Rattle.std.proofs.Common.{◌≡◌, ◌≢◌, ◌⊎◌, inl, inr, ℕ, zero, suc, ◌≤◌, false, List, [], ◌∷◌, ◌++◌, length, Option, None, Some, Result, Ok, Err, refl, sym, ap, ◌∙◌, subst, arith}
-use Rattle.std.specs.Prelude.{Contains, IfOk, IfSome, IfNone}
+use Rattle.std.proofs.Common.{◌≡◌, ◌≢◌, ◌⊎◌, inl, inr, ℕ, zero, suc, ◌≤◌, false, List, [], ◌∷◌, ◌++◌, length, Option, None, Some, refl, sym, ap, ◌∙◌, subst, arith}
+use Rattle.std.specs.Prelude.{Contains, IfSome, IfNone}
 use Rattle.std.specs.List.{AllByRecursion, slice_get}
 use Rattle.std.proofs.lemmas.Bool.{cases_Bool, false≢true}
 use Rattle.std.proofs.lemmas.List.{length_push}
@@ -9,7 +9,8 @@ use Rattle.el_base.proofs.Lists.{all_more, all_weaker}
 use Rattle.el_base.specs.declared.hash.Hash32.{Hash32}
 use Rattle.el_chain.specs.declared.node.Node.{Node}
 use Rattle.el_chain.specs.Headers.{has_hash, is_known, is_second, added, names_none, genesis, IsFound, AreLinked, last_node, IsPath}
-use Rattle.el_headers.proofs.Places.{at_one, any_from, hash_same}
+use Rattle.el_chain.proofs.TouchLemmas.{hash_from}
+use Rattle.el_headers.proofs.Places.{at_one, any_from}
 use Rattle.el_headers.proofs.Growing.{genesis_stays, one_place}
 use Rattle.el_headers.proofs.Paths.{place_of, member_at, found_at, path_before}
 
@@ -113,10 +114,6 @@ one_path found h one other f p q =
     same_first : (a b : Node) → genesis found ≡ Some a → genesis found ≡ Some b → a ≡ b
     same_first a b e k = cc
 
-pub if_ok_map : {T E : Type 0} (r : Result T E) (P Q : T → Type 0) → ((x : T) → P x → Q x) → IfOk r P → IfOk r Q
-if_ok_map (Ok x) P Q f h = f x h
-if_ok_map (Err e) P Q f h = tt
-
 -- what is found for the block that a node on a path names
 pub parent_on : (found : List Node) (h : Hash32) (path : List Node) (k : ℕ) (n : Node) (r : Option Node) → IsFound found → IsPath found h path → slice_get path (suc k) ≡ Some n
     → IfSome r (λ m. Contains found m × (m.hash ≡ n.header.previous)) → IfNone r (is_known found n.header.previous ≡ false) → r ≡ slice_get path k
@@ -126,7 +123,7 @@ parent_on found h path k n (Some m) f p at some none =
 parent_on found h path k n None f p at some none =
     let b = path_before found h path k n p at in
     let i = place_of found b.0 b.3 in
-    absurd (false≢true (sym none ∙ any_from (has_hash n.header.previous) found i.0 b.0 i.1 (hash_same b.0.hash n.header.previous (sym b.2))))
+    absurd (false≢true (sym none ∙ any_from (has_hash n.header.previous) found i.0 b.0 i.1 (hash_from b.0.hash n.header.previous (sym b.2))))
 
 -- a path stays one over more nodes
 path_over : (found more : List Node) (h : Hash32) (path : List Node) → IsPath found h path → IsPath (found ++ more) h path

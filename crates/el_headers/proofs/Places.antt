@@ -4,19 +4,10 @@ use Rattle.std.specs.List.{slice_get, list_any}
 use Rattle.std.specs.Option.{option_or}
 use Rattle.std.proofs.lemmas.Bool.{cases_Bool, or_cases, or_left, or_right, false≢true}
 use Rattle.std.proofs.lemmas.Option.{none-some, same_Some}
-use Rattle.std.proofs.lemmas.Slice.Eq.{bytes_eq-Decides}
-use Rattle.el_base.specs.declared.hash.Hash32.{Hash32}
 use Rattle.el_chain.specs.declared.node.Node.{Node}
-use Rattle.el_chain.specs.Headers.{same_hash}
 use Rattle.el_headers.specs.within.Tables.{greatest_from}
 
 -- two hashes are one exactly where they are equal
-pub hash_is : (a b : Hash32) → same_hash a b ≡ true → a ≡ b
-hash_is a b h = ap (λ (bytes : List ℕ). record { 0 = bytes }) ((bytes_eq-Decides a.0 b.0).0 h)
-
-pub hash_same : (a b : Hash32) → a ≡ b → same_hash a b ≡ true
-hash_same a b e = (bytes_eq-Decides a.0 b.0).1 (ap (λ (h : Hash32). h.0) e)
-
 -- one place has one element
 pub at_one : {X : Type 0} (xs : List X) (i : ℕ) (x y : X) → slice_get xs i ≡ Some x → slice_get xs i ≡ Some y → x ≡ y
 at_one xs i x y h k = same_Some x y (sym h ∙ k)

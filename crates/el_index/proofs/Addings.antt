@@ -1,10 +1,9 @@
 -- Blocks are put in, one after the other.
-use Rattle.std.proofs.Common.{◌≡◌, ◌⊎◌, inl, inr, ℕ, zero, suc, ◌+◌, ◌-◌, ◌<◌, ◌≤◌, ◌||◌, List, [], ◌∷◌, ◌++◌, length, take, drop, get_or, None, Some, refl, sym, subst, ap, ◌∙◌, append_assoc, append-nil, arith}
-use Rattle.std.specs.List.{AllByRecursion, list_any}
-use Rattle.std.proofs.lemmas.List.{take_all, get_or_default}
+use Rattle.std.proofs.Common.{◌≡◌, ◌⊎◌, inl, inr, ℕ, ◌+◌, ◌-◌, ◌≤◌, ◌||◌, List, [], ◌∷◌, ◌++◌, length, take, drop, None, Some, refl, sym, subst, ap, ◌∙◌, append_assoc, append-nil, arith}
+use Rattle.std.specs.List.{list_any}
+use Rattle.std.proofs.lemmas.List.{take_all}
 use Rattle.el_base.specs.declared.hash.Hash32.{Hash32}
 use Rattle.el_tx.specs.declared.types.Header.{Header}
-use Rattle.el_base.proofs.Lists.{cut_at, left_at, taken_at}
 use Rattle.el_block.specs.declared.block.Block.{Block}
 use Rattle.el_block.specs.Blocks.{EncodesBlock, block_hash}
 use Rattle.el_chain.specs.declared.placed.Placed.{Placed}
@@ -18,12 +17,12 @@ use Rattle.el_chain.specs.Chains.{Chain, tip, zero_hash}
 use Rattle.el_chain.specs.Coins.{coins}
 use Rattle.el_chain.specs.Faults.{IsGood, fault}
 use Rattle.el_chain.specs.Headers.{AreLinked, same_hash}
-use Rattle.el_chain.specs.Moves.{AreOf, AreBlocks, FaultInAt, IsStop, shorter}
+use Rattle.el_chain.specs.Moves.{FaultInAt, IsStop, shorter}
 use Rattle.el_chain.specs.Records.{IsNode, IsBlockOf}
 use Rattle.el_chain.specs.Touches.{touches_any}
 use Rattle.el_chain.proofs.Chains.{tip_last}
 use Rattle.el_chain.proofs.DraftSteps.{header_same}
-use Rattle.el_chain.proofs.GoodChains.{next_more}
+use Rattle.el_chain.proofs.MoveSteps.{NextIs, next_blocks_more, stops_at}
 use Rattle.el_row_formats.specs.Tables.{Tables}
 use Rattle.el_schema.specs.Standing.{StandFor}
 use Rattle.el_index.specs.within.Adding.{AreAdded, IsAfter, AreAfter, AreMoved, IsOwn}
@@ -57,65 +56,6 @@ is_after chain n t rows b node of s names done =
 pub names_tip : (n : Node) (t : List ℕ) (b : Block) (before : Hash32) → IsNode n → IsBlockOf n t → EncodesBlock t b → n.header.previous ≡ before → b.header.previous ≡ before
 names_tip n t b before node of s names = ap (λ (h : Header). h.previous) (header_same n t b node of s) ∙ names
 
-blocks_more : (ns : List Node) (ts : List (List ℕ)) (bs : Chain) (n : Node) (t : List ℕ) (b : Placed) → AreBlocks ns ts bs → b.place ≡ n.place → EncodesBlock t b.block
-    → AreBlocks (ns ++ n ∷ []) (ts ++ t ∷ []) (bs ++ b ∷ [])
-blocks_more [] [] [] n t b h place encodes = (place, encodes, tt)
-blocks_more [] [] (c ∷ bs) n t b h place encodes = absurd h
-blocks_more [] (u ∷ ts) bs n t b h place encodes = absurd h
-blocks_more (m ∷ ns) [] bs n t b h place encodes = absurd h
-blocks_more (m ∷ ns) (u ∷ ts) [] n t b h place encodes = absurd h
-blocks_more (m ∷ ns) (u ∷ ts) (c ∷ bs) n t b h place encodes = (h.0, h.1, blocks_more ns ts bs n t b h.2 place encodes)
-
--- what is left of the nodes and of their bytes
-pub record Left (nodes : List Node) (texts : List (List ℕ)) (i : ℕ) : Type 0 where
-  pub nodes_left : AllByRecursion IsNode (drop i nodes)
-  pub of : AreOf (drop i nodes) (drop i texts)
-
--- the next node and its bytes
-pub record NextIs (nodes : List Node) (texts : List (List ℕ)) (i : ℕ) (n : Node) (t : List ℕ) : Type 0 where
-  pub left : drop i nodes ≡ n ∷ drop (i + 1) nodes
-  pub front : take i nodes ++ n ∷ [] ≡ take (i + 1) nodes
-  pub front_texts : take i texts ++ t ∷ [] ≡ take (i + 1) texts
-  pub whole : nodes ≡ take i nodes ++ n ∷ drop (i + 1) nodes
-  pub whole_texts : texts ≡ take i texts ++ t ∷ drop (i + 1) texts
-  pub node : IsNode n
-  pub of : IsBlockOf n t
-  pub rest : Left nodes texts (i + 1)
-
-pub within : (nodes : List Node) (texts : List (List ℕ)) (i : ℕ) → Left nodes texts i → i < length nodes → i < length texts
-within nodes texts i l lt = by i nodes texts l.of lt
-  where
-    by : (i : ℕ) (ns : List Node) (ts : List (List ℕ)) → AreOf (drop i ns) (drop i ts) → i < length ns → i < length ts
-    by i [] ts h lt = absurd (omega arith)
-    by zero (n ∷ ns) [] h lt = absurd h
-    by zero (n ∷ ns) (t ∷ ts) h lt = omega arith
-    by (suc i) (n ∷ ns) [] h lt = absurd (none i ns h (omega arith))
-      where
-        none : (i : ℕ) (ns : List Node) → AreOf (drop i ns) [] → i < length ns → ⊥
-        none i [] h lt = omega arith
-        none zero (n ∷ ns) h lt = h
-        none (suc i) (n ∷ ns) h lt = none i ns h (omega arith)
-    by (suc i) (n ∷ ns) (t ∷ ts) h lt = let r = by i ns ts h (omega arith) in omega arith
-
-pub next_is : (nodes : List Node) (texts : List (List ℕ)) (i : ℕ) (n d : Node) (t : List ℕ) → Left nodes texts i → i < length nodes → n ≡ get_or nodes i d → t ≡ get_or texts i t → NextIs nodes texts i n t
-next_is nodes texts i n d t l lt is' is_text =
-    let is : n ≡ get_or nodes i n = is' ∙ get_or_default nodes i d n lt in
-    let lt' = within nodes texts i l lt in
-    let left = left_at nodes i n lt is in
-    let left_texts = left_at texts i t lt' is_text in
-    let each = rw left at l.nodes_left in
-    let of = rw (left, left_texts) at l.of in
-    record {
-      left = left;
-      front = sym (taken_at nodes i n lt is);
-      front_texts = sym (taken_at texts i t lt' is_text);
-      whole = cut_at nodes i n lt is;
-      whole_texts = cut_at texts i t lt' is_text;
-      node = each.0;
-      of = of.0;
-      rest = record { nodes_left = each.1; of = of.1 };
-    }
-
 -- The blocks of the first nodes stand after the chain, and the nodes that are left go on.
 pub record IsAdding (chain : Chain) (nodes : List Node) (texts : List (List ℕ)) (i : ℕ) (rows : Tables) (blocks : Chain) : Type 0 where
   pub after : AreAfter chain (take i nodes) (take i texts) rows blocks
@@ -147,10 +87,7 @@ adding_more chain nodes texts i rows rows' blocks n t b a is after =
     let joined : (chain ++ blocks) ++ b ∷ [] ≡ chain ++ (blocks ++ b ∷ []) = append_assoc chain blocks (b ∷ []) in
     record {
       after = record {
-        next = record {
-          are = rw (← is.front, ← is.front_texts) (blocks_more (take i nodes) (take i texts) blocks n t b a.after.next.are after.place after.encodes);
-          next = next_more chain blocks b a.after.next.next after.next;
-        };
+        next = next_blocks_more chain nodes texts i blocks n t b a.after.next is after.place after.encodes after.next;
         stand = rw (← joined) after.stand;
       };
       linked = rw (← joined, after.hash) l.1;
@@ -164,19 +101,7 @@ adding_ends chain nodes texts i rows blocks a past same = rw (take_all i nodes p
 pub adding_stops : (chain : Chain) (nodes : List Node) (texts : List (List ℕ)) (i : ℕ) (rows : Tables) (blocks : Chain) (n : Node) (t : List ℕ) (e : MoveFault)
     → IsAdding chain nodes texts i rows blocks → NextIs nodes texts i n t → IsOwn e ⊎ IsStop (chain ++ blocks) n.hash t e → IsOwn e ⊎ FaultInAt chain nodes texts e
 adding_stops chain nodes texts i rows blocks n t e a is (inl own) = inl own
-adding_stops chain nodes texts i rows blocks n t e a is (inr stop) = inr (record {
-  front = take i nodes;
-  node = n;
-  after = drop (i + 1) nodes;
-  whole = is.whole;
-  front_texts = take i texts;
-  text = t;
-  after_texts = drop (i + 1) texts;
-  whole_texts = is.whole_texts;
-  blocks = blocks;
-  before = a.after.next;
-  first_fault = stop;
-})
+adding_stops chain nodes texts i rows blocks n t e a is (inr stop) = inr (stops_at chain nodes texts i blocks n t e a.after.next is stop)
 
 -- all edits of a move
 pub are_moved : Law → (p : Plan) (chain : Chain) (texts : List (List ℕ)) (old mid new : List Hash32) (rows : Tables) (blocks : Chain) → IsGood chain → old ≡ []

@@ -2,17 +2,17 @@
 use Rattle.std.proofs.Common.{◌≡◌, ◌≢◌, ◌⊎◌, inl, inr, ℕ, zero, suc, ◌-◌, List, [], ◌∷◌, ◌++◌, length, slice_index_or, Option, Some, refl, sym, ap, ◌∙◌, Result, Err, arith}
 use Rattle.std.specs.List.{AllByRecursion}
 use Rattle.el_base.specs.declared.hash.Hash32.{Hash32}
-use Rattle.el_block.specs.Blocks.{AllDiffer, block_hash}
+use Rattle.el_block.specs.Blocks.{AllDiffer}
 use Rattle.el_chain.specs.declared.moves.MoveFault.{MoveFault}
 use Rattle.el_chain.specs.declared.moves.MoveFault.TheVariants as stop
 use Rattle.el_chain.specs.declared.moves.Plan.{Plan}
 use Rattle.el_chain.specs.declared.node.Node.{Node}
-use Rattle.el_chain.specs.Chains.{Chain, tip, tip_after, zero_hash}
+use Rattle.el_chain.specs.Chains.{Chain, tip, zero_hash}
 use Rattle.el_chain.specs.Headers.{last_node}
 use Rattle.el_chain.specs.Moves.{AreOf, AreRead, AreBlocks, FaultInAt, InFlight, IsPlan, IsRefused, last_hash, shorter, target}
 use Rattle.el_chain.specs.Records.{IsNode}
 use Rattle.el_chain.specs.Touches.{AreTouched}
-use Rattle.el_chain.proofs.DraftSteps.{header_same}
+use Rattle.el_chain.proofs.MoveSteps.{tip_joined, blocks_tip}
 use Rattle.el_model.specs.Queries.{tip_of}
 use Rattle.el_row_formats.specs.Tables.{Tables}
 use Rattle.el_rows.specs.Reads.{Same}
@@ -26,20 +26,6 @@ moved_rows p chain texts scripts a b blocks m same = record {
   stand = same_stand a b (target p chain blocks) m.stand same;
   touched = m.touched;
 }
-
-tip_joined : (before : Hash32) (a b : Chain) → tip_after before (a ++ b) ≡ tip_after (tip_after before a) b
-tip_joined before [] b = refl
-tip_joined before (x ∷ a) b = tip_joined (block_hash x.block.header) a b
-
-blocks_tip : (before : Hash32) (ns : List Node) (ts : List (List ℕ)) (bs : Chain) → AllByRecursion IsNode ns → AreOf ns ts → AreBlocks ns ts bs → tip_after before bs ≡ last_hash before ns
-blocks_tip before [] [] [] nodes of are = refl
-blocks_tip before [] [] (b ∷ bs) nodes of are = absurd are
-blocks_tip before [] (t ∷ ts) bs nodes of are = absurd are
-blocks_tip before (n ∷ ns) [] bs nodes of are = absurd are
-blocks_tip before (n ∷ ns) (t ∷ ts) [] nodes of are = absurd are
-blocks_tip before (n ∷ ns) (t ∷ ts) (b ∷ bs) nodes of are =
-    let here : block_hash b.block.header ≡ n.hash = ap block_hash (header_same n t b.block nodes.0 of.0 are.1) ∙ sym nodes.0.hash in
-    ap (λ h. tip_after h bs) here ∙ blocks_tip n.hash ns ts bs nodes.1 of.1 are.2
 
 some_tip : (a : Chain) (ns : List Node) (ts : List (List ℕ)) (n : Node) (bs : Chain) → AreBlocks (n ∷ ns) ts bs → tip_of (a ++ bs) ≡ Some (tip (a ++ bs))
 some_tip a ns [] n bs are = absurd are

@@ -3,7 +3,7 @@ use Rattle.std.proofs.Common.{◌≡◌, inl, inr, true, false, Bool, cond, ◌|
 use Rattle.std.proofs.lemmas.Bool.{cases_Bool, true≢false, false_from_ne_true}
 use Rattle.std.proofs.lemmas.Option.{slice_get-map}
 use Rattle.std.specs.List.{AllByRecursion, list_any, find, IsDistinct}
-use Rattle.std.specs.Prelude.{map, option_to_list, slice_get, option_map, option_copied, if◌then◌else◌}
+use Rattle.std.specs.Prelude.{map, option_to_list, slice_get, option_map, option_copied}
 use Rattle.std.specs.Option.{option_or, option_flatten, is_some}
 use Rattle.std.specs.Map.{keys_of, lookup}
 use Rattle.el_base.specs.declared.hash.Hash32.{Hash32}
@@ -16,7 +16,7 @@ use Rattle.el_chain.specs.Headers.{same_hash}
 use Rattle.el_mempool.specs.declared.held.Held.{Held}
 use Rattle.el_mempool.specs.declared.held.Source.{Source}
 use Rattle.el_mempool.specs.declared.held.KeptTx.{KeptTx}
-use Rattle.el_mempool.specs.Sift.{output_held, output_among, named, any_takes, is_taken}
+use Rattle.el_mempool.specs.Sift.{output_held, output_among, named, any_takes}
 use Rattle.el_mempool.specs.Refusals.{is_kept, kept_with, spender_of}
 use Rattle.el_mempool.specs.Standing.{source_at, sources, kept_tx, StandsFor}
 use Rattle.el_kept.specs.declared.table.Table.{Table}
@@ -97,14 +97,6 @@ taker_is o chain all (t ∷ ts) h =
         → option_map (λ (k : KeptTx). k.txid) (cond b (Some (kept_tx chain all t)) (find (takes_from o) (map (kept_tx chain all) ts))) ≡ option_map txid (cond b (Some t) (spender_of o ts))
     by true more = refl
     by false more = more
-
-pub spender_taken : (o : Outpoint) (kept : List Tx) → is_some (option_map txid (spender_of o kept)) ≡ is_taken o kept
-spender_taken o [] = refl
-spender_taken o (t ∷ ts) = by (any_takes o t.inputs) (spender_taken o ts)
-  where
-    by : (b : Bool) → is_some (option_map txid (spender_of o ts)) ≡ is_taken o ts → is_some (option_map txid (if b then Some t else spender_of o ts)) ≡ (b || is_taken o ts)
-    by true e = refl
-    by false e = e
 
 -- ---- look-ups
 

@@ -1,6 +1,6 @@
 -- An entry more in the slots of a table, and in the index of takers.
 use Rattle.std.proofs.Common.{◌≡◌, ◌⊎◌, inl, inr, ℕ, ◌+◌, ◌*◌, ◌<◌, ◌≤◌, true, false, Bool, cond, ◌||◌, List, [], ◌∷◌, ◌++◌, length, take, get_or, Option, None, Some, Result, Ok, Err, Bor, refl, ap, sym, ◌∙◌, arith, length-append}
-use Rattle.std.proofs.lemmas.Bool.{cases_Bool, or_cases, or_parts, true≢false}
+use Rattle.std.proofs.lemmas.Bool.{or_cases, or_parts, true≢false}
 use Rattle.std.proofs.lemmas.List.Folds.{find-append, list_any_more}
 use Rattle.std.proofs.lemmas.List.Sums.{sum_by-cons}
 use Rattle.std.specs.List.{AllByRecursion, list_any, find, sum_by}
@@ -15,7 +15,7 @@ use Rattle.el_base.specs.declared.hash.Hash32.{Hash32}
 use Rattle.el_tx.specs.declared.types.Outpoint.{Outpoint}
 use Rattle.el_tx.specs.Hashing.{same_outpoint}
 use Rattle.el_chain.specs.Headers.{same_hash}
-use Rattle.el_chain.proofs.CoinLists.{same_gives, same_from}
+use Rattle.el_chain.proofs.CoinLists.{same_gives, outpoints_equal}
 use Rattle.el_mempool.specs.declared.held.Source.{Source}
 use Rattle.el_mempool.specs.declared.held.KeptTx.{KeptTx}
 use Rattle.el_kept.specs.declared.table.Table.{Table}
@@ -110,12 +110,7 @@ few_more mid new e before count next cut absent put more few =
 -- ---- what is asked before
 
 pub outpoint_turned : (a b : Outpoint) → same_outpoint a b ≡ same_outpoint b a
-outpoint_turned a b = by (cases_Bool (same_outpoint a b)) (cases_Bool (same_outpoint b a))
-  where
-    by : (same_outpoint a b ≡ true) ⊎ (same_outpoint a b ≡ false) → (same_outpoint b a ≡ true) ⊎ (same_outpoint b a ≡ false) → same_outpoint a b ≡ same_outpoint b a
-    by (inl h) other = h ∙ sym (same_from b a (sym (same_gives a b h)))
-    by (inr h) (inl k) = same_from a b (sym (same_gives b a k)) ∙ sym k
-    by (inr h) (inr k) = h ∙ sym k
+outpoint_turned a b = outpoints_equal.symm a b
 
 -- one input more has its taker
 pub takers_step : (o : Outpoint) (xs : List Source) (i : ℕ) (d : Source) (now old first : Option Hash32) (id : Hash32) → i < length xs → now ≡ cond (same_outpoint (get_or xs i d).from o) (Some id) old

@@ -20,6 +20,7 @@ use Rattle.std.specs.BTreeSet.{BTreeSet, keys}
 use Rattle.std.specs.BTreeMap.Range.{range_contains}
 use Rattle.indexmap.specs.IndexMap.{get}
 use Rattle.el_base.specs.declared.hash.Hash32.{Hash32}
+use Rattle.el_base.proofs.Lists.{all_both, all_filter}
 use Rattle.el_tx.specs.declared.types.Outpoint.{Outpoint}
 use Rattle.el_tx.specs.declared.types.TxOut.{TxOut}
 use Rattle.el_tx.specs.declared.types.Tx.{Tx}
@@ -38,7 +39,7 @@ use Rattle.el_mempool.proofs.Confirmed.{hash_self, hash_same}
 use Rattle.el_mempool.proofs.Named.{all_named}
 use Rattle.el_mempool.proofs.Ordered.{InOrder, ordered, all_in_order}
 use Rattle.el_mempool.proofs.Picked.{KeysApart}
-use Rattle.el_mempool.proofs.Changes.{shown_total, apart_from, keys_in_order}
+use Rattle.el_mempool.proofs.Changes.{shown_total, apart_from, keys_in_order, own_found, spender_taken}
 use Rattle.el_mempool.proofs.Arrivals.{entry_at}
 use Rattle.el_mempool.proofs.ShownOrder.{AreBytes, reversed_txid, reversed_length, shown_by_bytes}
 use Rattle.el_mempool.proofs.Unspent.{is_listed, filter_none, unfunded}
@@ -46,7 +47,7 @@ use Rattle.el_kept.specs.declared.listing.Listing.{Listing}
 use Rattle.el_kept.specs.declared.table.Table.{Table}
 use Rattle.el_kept.specs.Tables.{standing, by_txid, slot, slot_at_script, takes_from, IsTable}
 use Rattle.el_kept.specs.Listings.{coin_of, listing_cmp, txid_of, listing, lists, is_in, AreListed, least, greatest, under, entries_listed, seen, outs_from}
-use Rattle.el_kept.proofs.Entries.{entry_with, found_is, taker_is, spender_taken}
+use Rattle.el_kept.proofs.Entries.{entry_with, found_is, taker_is}
 use Rattle.el_kept.proofs.Listed.{listed_is}
 
 -- ---- sorted lists of the same elements are one
@@ -276,10 +277,6 @@ keys_below s t u up apart =
     by Equal e g = absurd (true≢false e)
     by Greater e g = absurd (true≢false g)
 
-all_both : {X : Type 0} (P Q R : X → Type 0) (xs : List X) → ((x : X) → P x → Q x → R x) → AllByRecursion P xs → AllByRecursion Q xs → AllByRecursion R xs
-all_both P Q R [] f p q = tt
-all_both P Q R (x ∷ xs) f p q = (f x p.0 q.0, all_both P Q R xs f p.1 q.1)
-
 keys_sorted : (s : Hash32) (ts : List Tx) → InOrder shown_cmp ts → KeysApart txid ts
     → IsStrictlySortedBy (λ t u. listing_cmp (key s t) (key s u)) ts
 unfolding IsStrictlySortedBy
@@ -344,23 +341,6 @@ bytes_of p q (t ∷ ts) h = by (or_cases (p t && same_hash (txid t) (txid_of q))
         let is : reverse (txid t).0 ≡ q.reversed = ap (λ (x : Hash32). reverse x.0) (hash_same (txid t) (txid_of q) parts.1) ∙ reverse-reverse q.reversed in
         (ap length (sym is) ∙ reversed_length t, subst AreBytes is (reversed_txid t))
     by (inr e) more = more e
-
-own_found : (ts : List Tx) → KeysApart txid ts → AllByRecursion (λ (t : Tx). kept_with (txid t) ts ≡ Some t) ts
-own_found [] h = tt
-own_found (t ∷ ts) h = (
-  ap (λ b. cond b (Some t) (kept_with (txid t) ts)) (hash_self (txid t) (txid t) refl),
-  all_both (λ (u : Tx). txid t ≡ txid u → ⊥) (λ (u : Tx). kept_with (txid u) ts ≡ Some u) (λ (u : Tx). kept_with (txid u) (t ∷ ts) ≡ Some u) ts
-      (λ u off is. ap (λ b. cond b (Some t) (kept_with (txid u) ts)) (false_from_ne_true (same_hash (txid u) (txid t)) (λ e. off (sym (hash_same (txid u) (txid t) e)))) ∙ is)
-      h.0 (own_found ts h.1),
-)
-
-all_filtered : {X : Type 0} (P : X → Type 0) (p : X → Bool) (xs : List X) → AllByRecursion P xs → AllByRecursion P (filter p xs)
-all_filtered P p [] h = tt
-all_filtered P p (x ∷ xs) h = by (p x) (all_filtered P p xs h.1)
-  where
-    by : (b : Bool) → AllByRecursion P (filter p xs) → AllByRecursion P (cond b (x ∷ filter p xs) (filter p xs))
-    by true more = (h.0, more)
-    by false more = more
 
 -- ---- loops
 
@@ -452,7 +432,7 @@ module _ (t : Table) (ls : BTreeSet Listing) (chain : Chain) (kept : List Tx) (s
       ∙ found_is t chain kept (txid u) is_table stands ∙ ap (option_map (kept_tx chain kept)) is
 
   all_here : AllByRecursion (λ (u : Tx). kept_with (txid u) kept ≡ Some u) concerned
-  all_here = all_filtered (λ (u : Tx). kept_with (txid u) kept ≡ Some u) (concerns chain kept s.0) (by_shown kept)
+  all_here = all_filter (λ (u : Tx). kept_with (txid u) kept ≡ Some u) (concerns chain kept s.0) (by_shown kept)
       (all_in_order shown_cmp (λ (u : Tx). kept_with (txid u) kept ≡ Some u) kept (own_found kept apart))
 
   each_here : (us : List Tx) → AllByRecursion (λ (u : Tx). kept_with (txid u) kept ≡ Some u) us → entries_listed t (map (key s) us) ≡ map (kept_tx chain kept) us

@@ -1,6 +1,6 @@
 -- What a block names that is put in once some of the last blocks are taken back.
 use Rattle.std.proofs.Common.{◌≡◌, ℕ, zero, suc, ◌-◌, ◌≤◌, List, [], ◌∷◌, length, take, Some}
-use Rattle.std.proofs.Common.{refl, ap, sym, ◌∙◌, subst, arith}
+use Rattle.std.proofs.Common.{ap, sym, ◌∙◌, subst, arith}
 use Rattle.el_base.specs.declared.hash.Hash32.{Hash32}
 use Rattle.el_base.specs.Hashing.{sha256d}
 use Rattle.el_block.specs.Blocks.{block_hash}
@@ -9,11 +9,7 @@ use Rattle.el_chain.specs.Chains.{Chain, tip, tip_after, zero_hash}
 use Rattle.el_chain.specs.Headers.{AreLinked}
 use Rattle.el_chain.specs.Moves.{FitsChain, shorter}
 use Rattle.el_chain.proofs.Chains.{hash_is}
-use Rattle.el_model.specs.Queries.{blocks_in, header_at, height_of}
-
-pub blocks_are : (chain : Chain) → blocks_in (height_of chain) ≡ length chain
-blocks_are [] = refl
-blocks_are (b ∷ bs) = omega arith
+use Rattle.el_model.specs.Queries.{header_at}
 
 -- the block at that height is the last one of as many and one more
 ends_there : (before : Hash32) (chain : Chain) (i : ℕ) (text : List ℕ) (hash : Hash32)

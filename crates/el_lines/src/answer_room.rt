@@ -1,7 +1,7 @@
 // Room for what a node is answered.
 ghost use Rattle.std.specs.Prelude.{◌≡◌, ◌≤◌, ◌+◌, ◌++◌, [], length, vec_capacity};
 
-use el_base::OutOfMemory;
+use el_base::{OutOfMemory, extend_reserved};
 use std::alloc::Global;
 use std::marker::Model;
 
@@ -51,8 +51,6 @@ pub(crate) fn and_then(line: Vec<u8>, bytes: &[u8]) -> Vec<u8>
     ensures room { vec_capacity line ≤ vec_capacity result }
 {
     let mut line = line;
-    match line.extend_from_slice(bytes) {
-        Ok(()) => line,
-        Err(_) => unreachable!(),
-    }
+    extend_reserved(&mut line, bytes);
+    line
 }

@@ -1,6 +1,6 @@
 -- An arrival, with all turns that it asks for.
 use Rattle.std.proofs.Common.{◌≡◌, inl, inr, ℕ, ◌==◌, false, not, List, [], ◌∷◌, ◌++◌, map, None, refl, sym, ap, ◌∙◌, append_assoc, IsTrue}
-use Rattle.std.specs.Prelude.{Result, Ok, Err, OnOk, IfErr, find}
+use Rattle.std.specs.Prelude.{Result, Ok, Err, IfErr, find}
 use Rattle.std.specs.List.{filter}
 use Rattle.el_outside.specs.declared.archive.Archive as archive
 use Rattle.el_outside.specs.declared.link.Link as link
@@ -100,10 +100,6 @@ told_after (brought p bytes) world told = elim (either (p == 0)) [
 told_after (closed p) world told = told
 told_after quiet world told = told
 told_after ended world told = told
-
-pub on_ok : {T E : Type 0} (P Q : Type 0) (r : Result T E) → (P → Q) → OnOk r P → OnOk r Q
-on_ok P Q (Ok x) f h = f h
-on_ok P Q (Err e) f h = tt
 
 pub if_err : {T E : Type 0} (P Q : E → Type 0) (r : Result T E) → ((e : E) → P e → Q e) → IfErr r P
     → IfErr r Q

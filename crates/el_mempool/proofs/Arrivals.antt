@@ -3,6 +3,7 @@ use Rattle.std.proofs.Common.{◌≡◌, ℕ, true, false, Bool, cond, not, ◌|
 use Rattle.std.proofs.lemmas.Bool.{and_parts, not-true, or_parts}
 use Rattle.std.proofs.lemmas.List.Elements.{filter-append}
 use Rattle.std.proofs.lemmas.List.Folds.{list_any-append}
+use Rattle.std.proofs.Math.Bool.{or-false}
 use Rattle.std.specs.List.{AllByRecursion, list_any}
 use Rattle.std.specs.Prelude.{map, option_map, option_to_list}
 use Rattle.std.specs.Str.{bytes_eq}
@@ -153,14 +154,10 @@ old_others chain kept t s (u ∷ us) h =
     let apart : same_hash (txid t) (txid u) ≡ false = hash_turned (txid t) (txid u) ∙ parts.0 in
     rw apart (old_others chain kept t s us parts.1)
 
-or_none : (b : Bool) → (b || false) ≡ b
-or_none true = refl
-or_none false = refl
-
 new_only : (chain : Chain) (kept : List Tx) (t : Tx) (s : Hash32) → is_kept (txid t) kept ≡ false → list_any (is_new_at chain kept t s) (kept ++ t ∷ []) ≡ concerns chain (kept ++ t ∷ []) s.0 t
 new_only chain kept t s new =
     let own = hash_self (txid t) (txid t) refl in
-    list_any-append (is_new_at chain kept t s) kept (t ∷ []) ∙ ap (λ b. b || (is_new_at chain kept t s t || false)) (old_others chain kept t s kept new) ∙ rw own (or_none (concerns chain (kept ++ t ∷ []) s.0 t))
+    list_any-append (is_new_at chain kept t s) kept (t ∷ []) ∙ ap (λ b. b || (is_new_at chain kept t s t || false)) (old_others chain kept t s kept new) ∙ rw own (or-false (concerns chain (kept ++ t ∷ []) s.0 t))
 
 -- one more transaction changes the script hashes that it concerns
 pub arrival_changes : (limits : PoolLimits) (entries : List KeptTx) (chain : Chain) (kept : List Tx) (t : Tx) (scripts : List Hash32) → StandsFor entries chain kept → tx_refusal limits chain kept t ≡ None

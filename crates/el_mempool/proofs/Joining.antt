@@ -2,6 +2,7 @@
 use Rattle.std.proofs.Common.{◌≡◌, ◌≢◌, inl, inr, length, true, false, Bool, cond, not, ◌&&◌, ◌||◌, List, [], ◌∷◌, ◌++◌, Option, None, Some, refl, ap, sym, ◌∙◌}
 use Rattle.std.proofs.lemmas.Bool.{cases_Bool, and_from, and_parts, not-true, or_parts, true≢false, false_from_ne_true, not_from_false}
 use Rattle.std.proofs.lemmas.List.Sums.{fold-append}
+use Rattle.std.proofs.lemmas.List.{map-append}
 use Rattle.std.specs.List.{AllByRecursion, list_any}
 use Rattle.std.specs.Prelude.{map, option_map, option_to_list, nat_lt}
 use Rattle.std.specs.Option.{option_or, is_some}
@@ -11,7 +12,7 @@ use Rattle.el_tx.specs.declared.types.TxIn.{TxIn}
 use Rattle.el_tx.specs.declared.types.Tx.{Tx}
 use Rattle.el_tx.specs.Encoding.{total_value}
 use Rattle.el_tx.specs.Hashing.{txid, full_encoding}
-use Rattle.el_block.specs.Blocks.{AllDiffer}
+use Rattle.el_block.proofs.BlockRules.{still_differ}
 use Rattle.el_chain.specs.Chains.{Chain}
 use Rattle.el_chain.specs.Headers.{same_hash}
 use Rattle.el_mempool.specs.declared.held.Held.{Held}
@@ -133,18 +134,6 @@ entries_more : (chain : Chain) (xs : List Tx) (t : Tx) (ts : List Tx) → is_con
 entries_more chain xs t [] fresh h = refl
 entries_more chain xs t (u ∷ us) fresh h = ap (λ k. k ∷ map (kept_tx chain (xs ++ t ∷ [])) us) (entry_more chain xs t u fresh h.0) ∙ ap (λ l. kept_tx chain xs u ∷ l) (entries_more chain xs t us fresh h.1)
 
-map_more : {X Y : Type 0} (f : X → Y) (xs : List X) (x : X) → map f (xs ++ x ∷ []) ≡ map f xs ++ f x ∷ []
-map_more f [] x = refl
-map_more f (y ∷ ys) x = ap (λ l. f y ∷ l) (map_more f ys x)
-
-differ_more : (ids : List Hash32) (id : Hash32) → AllDiffer ids → AllByRecursion (λ x. x ≢ id) ids → AllDiffer (ids ++ id ∷ [])
-differ_more [] id h apart = (tt, tt)
-differ_more (x ∷ xs) id h apart = (more xs h.0, differ_more xs id h.1 apart.1)
-  where
-    more : (ys : List Hash32) → AllByRecursion (λ y. x ≢ y) ys → AllByRecursion (λ y. x ≢ y) (ys ++ id ∷ [])
-    more [] all = (apart.0, tt)
-    more (y ∷ ys) all = (all.0, more ys all.1)
-
 new_apart : (id : Hash32) (ts : List Tx) → is_kept id ts ≡ false → AllByRecursion (λ x. x ≢ id) (map txid ts)
 new_apart id [] h = tt
 new_apart id (t ∷ ts) h =
@@ -156,10 +145,10 @@ pub stands_with : (entries : List KeptTx) (chain : Chain) (kept : List Tx) (t : 
 stands_with entries chain kept t h f = record {
   sifted = stays_of (may_join chain) (kept ++ t ∷ []) (joins_more (may_join chain) [] kept t (joins_of (may_join chain) kept h.sifted) f.joins);
   are = ap (λ l. l ++ kept_tx chain kept t ∷ []) h.are
-      ∙ sym (map_more (kept_tx chain (kept ++ t ∷ [])) kept t
+      ∙ sym (map-append (kept_tx chain (kept ++ t ∷ [])) kept (t ∷ [])
       ∙ ap (λ l. l ++ kept_tx chain (kept ++ t ∷ []) t ∷ []) (entries_more chain kept t kept f.unconfirmed (all_named chain kept h.sifted))
       ∙ ap (λ k. map (kept_tx chain kept) kept ++ k ∷ []) (entry_more chain kept t t f.unconfirmed f.named));
-  once = rw (map_more txid kept t) (differ_more (map txid kept) (txid t) h.once (new_apart (txid t) kept f.new));
+  once = rw (map-append txid kept (t ∷ [])) (still_differ (map txid kept) (txid t) h.once (new_apart (txid t) kept f.new));
 }
 
 -- the kept ones stand for the chain with one more that nothing refuses

@@ -7,7 +7,7 @@ use Rattle.std.specs.Ordering.{is_gt, ordering_reverse}
 use Rattle.std.specs.Cmp.{IsTotalOrder}
 use Rattle.std.proofs.lemmas.Cmp.{upto}
 use Rattle.std.specs.List.{AllByRecursion, filter}
-use Rattle.el_base.proofs.Lists.{all_weaker}
+use Rattle.el_base.proofs.Lists.{all_weaker, all_filter}
 use Rattle.el_mempool.specs.Unconfirmed.{put, in_order}
 
 -- no element is greater than those after it
@@ -53,13 +53,6 @@ put_ordered R o x (y ∷ ys) h = elim (cases_Bool (is_gt (R x y))) [
 pub ordered : {X : Type 0} (R : X → X → Ordering) → IsTotalOrder R → (xs : List X) → InOrder R (in_order R xs)
 ordered R o [] = tt
 ordered R o (x ∷ xs) = put_ordered R o x (in_order R xs) (ordered R o xs)
-
-all_filter : {X : Type 0} (P : X → Type 0) (q : X → Bool) (xs : List X) → AllByRecursion P xs → AllByRecursion P (filter q xs)
-all_filter P q [] h = tt
-all_filter P q (x ∷ xs) h = elim (cases_Bool (q x)) [
-  | inl g ↦ rw g (h.0, all_filter P q xs h.1)
-  | inr g ↦ rw g (all_filter P q xs h.1)
-]
 
 put_first : {X : Type 0} (R : X → X → Ordering) (x : X) (ys : List X) → AllByRecursion (λ y. is_gt (R x y) ≡ false) ys → put R x ys ≡ x ∷ ys
 put_first R x [] h = refl

@@ -9,6 +9,7 @@ use Rattle.std.specs.Prelude.{option_to_list, slice_get}
 use Rattle.std.specs.Option.{option_or}
 use Rattle.std.specs.Str.{bytes_eq}
 use Rattle.el_base.specs.declared.hash.Hash32.{Hash32}
+use Rattle.el_base.proofs.Lists.{all_mid}
 use Rattle.el_tx.specs.declared.types.Outpoint.{Outpoint}
 use Rattle.el_tx.specs.declared.types.TxIn.{TxIn}
 use Rattle.el_tx.specs.declared.types.TxOut.{TxOut}
@@ -39,18 +40,14 @@ each_from P all pre (x ∷ xs) e f = (f pre x xs e, each_from P all (pre ++ x �
 pub each_in : {X : Type 0} (P : X → Type 0) (all : List X) → ((front : List X) (x : X) (back : List X) → all ≡ front ++ x ∷ back → P x) → AllByRecursion P all
 each_in P all f = each_from P all [] all refl f
 
-here_of : {X : Type 0} (P : X → Type 0) (front : List X) (x : X) (back : List X) → AllByRecursion P (front ++ x ∷ back) → P x
-here_of P [] x back h = h.0
-here_of P (y ∷ ys) x back h = here_of P ys x back h.1
-
 at_front : {X : Type 0} (P : X → Type 0) (all front : List X) (x : X) (back : List X) → all ≡ front ++ x ∷ back → AllByRecursion P all → P x
-at_front {X} P all front x back whole h = here_of P front x back (subst (λ (l : List X). AllByRecursion P l) whole h)
+at_front {X} P all front x back whole h = all_mid P front x back (subst (λ (l : List X). AllByRecursion P l) whole h)
 
 -- ---- what an output of a kept one is named as
 
 front_apart : (front : List Tx) (t : Tx) (back : List Tx) → KeysApart txid (front ++ t ∷ back) → AllByRecursion (λ (u : Tx). txid u ≡ txid t → ⊥) front
 front_apart [] t back h = tt
-front_apart (u ∷ us) t back h = (here_of (λ (v : Tx). txid u ≡ txid v → ⊥) us t back h.0, front_apart us t back h.1)
+front_apart (u ∷ us) t back h = (all_mid (λ (v : Tx). txid u ≡ txid v → ⊥) us t back h.0, front_apart us t back h.1)
 
 among_front : (o : Outpoint) (front ts : List Tx) (id : Hash32) → id ≡ o.txid → AllByRecursion (λ (u : Tx). txid u ≡ id → ⊥) front → output_among o (front ++ ts) ≡ output_among o ts
 among_front o [] ts id is h = refl
@@ -128,7 +125,7 @@ taken_after one two g h all s o v (u ∷ us) is own same taken = by (taken_after
     by after (inr on) (inl gone) = let more = rw gone at taken in rw on (or_right (any_takes o u.inputs) (is_taken o (rest h us)) (after more))
     by after (inr on) (inr stays) = rw on (on_case after (said stays))
 
-two_ways : (a b : Bool) → (a ≡ true → b ≡ true) → (b ≡ true → a ≡ true) → a ≡ b
+pub two_ways : (a b : Bool) → (a ≡ true → b ≡ true) → (b ≡ true → a ≡ true) → a ≡ b
 two_ways true b f g = sym (f refl)
 two_ways false true f g = g refl
 two_ways false false f g = refl
@@ -242,7 +239,7 @@ unspent_same one two g h all s apart fresh_one fresh_two same =
     one_way a b i j agree over front t more whole stays o v is has own =
         let apart_here = rw whole at apart in
         let over_here = rw whole at over in
-        let fresh = here_of (λ (u : Tx). i (txid u) ≡ false → is_confirmed a (txid u) ≡ false) front t more over_here stays in
+        let fresh = all_mid (λ (u : Tx). i (txid u) ≡ false → is_confirmed a (txid u) ≡ false) front t more over_here stays in
         let is_named : named a (rest i all) o ≡ Some v = ap (λ l. named a (rest i l) o) whole ∙ named_here a i front t more o v apart_here fresh stays is has in
         taken_after a b i j all s o v all is_named own agree
 

@@ -1,6 +1,6 @@
 -- The coins that the chain and the kept ones leave hold no more than the chain's: each that joins gives no more than it takes.
 use Rattle.std.proofs.Common.{◌≡◌, ◌⊎◌, inl, inr, ℕ, zero, suc, ◌+◌, ◌≤◌, ◌<◌, true, false, Bool, cond, ◌&&◌, ◌||◌, List, [], ◌∷◌, ◌++◌, Option, None, Some, refl, ap, sym, ◌∙◌, append_assoc, arith}
-use Rattle.std.proofs.lemmas.Bool.{cases_Bool, and_parts, or_parts, not-true, true≢false, false_from_ne_true}
+use Rattle.std.proofs.lemmas.Bool.{cases_Bool, and_parts, or_parts, or_right, not-true, true≢false, false_from_ne_true}
 use Rattle.std.proofs.lemmas.List.Folds.{list_any-append}
 use Rattle.std.proofs.lemmas.List.Sums.{sum_by-cons}
 use Rattle.std.specs.List.{AllByRecursion}
@@ -12,13 +12,13 @@ use Rattle.el_tx.specs.declared.types.Outpoint.{Outpoint}
 use Rattle.el_tx.specs.declared.types.TxIn.{TxIn}
 use Rattle.el_tx.specs.declared.types.TxOut.{TxOut}
 use Rattle.el_tx.specs.declared.types.Tx.{Tx}
-use Rattle.el_tx.specs.Hashing.{txid, same_outpoint, is_coinbase}
+use Rattle.el_tx.specs.Hashing.{txid, same_outpoint}
 use Rattle.el_chain.specs.declared.coin.Coin.{Coin}
 use Rattle.el_chain.specs.Chains.{Chain}
-use Rattle.el_chain.specs.Coins.{without, spend_inputs, coin_made, add_coin, add_outputs, coins_left, coins_after, coins_after_all, coins_from, coins, supply}
+use Rattle.el_chain.specs.Coins.{without, spend_inputs, coin_made, add_coin, add_outputs, coins, supply}
 use Rattle.el_chain.specs.Headers.{same_hash}
 use Rattle.el_chain.specs.CoinLists.{coin_in, value_in, AreOnce}
-use Rattle.el_chain.proofs.CoinLists.{same_gives, same_self, same_from, in_without, in_put, once_without, once_put, supply_without, supply_put}
+use Rattle.el_chain.proofs.CoinLists.{same_gives, same_self, in_without, in_put, once_without, once_put, once_spent, once_added, once_in_chain, supply_without, supply_put, outpoints_equal}
 use Rattle.el_mempool.specs.declared.held.Held.{Held}
 use Rattle.el_mempool.specs.Sift.{coin_held, coin_named, output_held, output_of, output_among, named, any_takes, is_taken, each_takes, held_by, total_held, is_confirmed, may_join, sift}
 use Rattle.el_mempool.specs.Refusals.{is_kept}
@@ -33,37 +33,7 @@ use Rattle.el_base.proofs.Lists.{all_weaker}
 use Rattle.el_block.specs.Blocks.{AllDiffer}
 use Rattle.el_mempool.proofs.Sifted.{NoneKept, none_more, none_of_nothing, joins_named}
 
--- ---- no outpoint has two coins
-
-once_spent : (is : List TxIn) (cs : List Coin) → AreOnce cs → AreOnce (spend_inputs is cs)
-once_spent [] cs once = once
-once_spent (i ∷ is) cs once = once_spent is (without i.from cs) (once_without i.from cs once)
-
-once_added : (id : Hash32) (h n : ℕ) (os : List TxOut) (cs : List Coin) → AreOnce cs → AreOnce (add_outputs id h n os cs)
-once_added id h n [] cs once = once
-once_added id h n (o ∷ os) cs once = once_added id h (n + 1) os (add_coin (coin_made id h n o) cs) (once_put (coin_made id h n o) cs once)
-
-once_after : (h : ℕ) (ts : List Tx) (cs : List Coin) → AreOnce cs → AreOnce (coins_after_all h ts cs)
-once_after h [] cs once = once
-once_after h (t ∷ ts) cs once = once_after h ts (coins_after h t cs) (once_added (txid t) h 0 t.outputs (coins_left t cs) (left (is_coinbase t)))
-  where
-    left : (b : Bool) → AreOnce (cond b cs (spend_inputs t.inputs cs))
-    left true = once
-    left false = once_spent t.inputs cs once
-
-once_from : (h : ℕ) (bs : Chain) (cs : List Coin) → AreOnce cs → AreOnce (coins_from h bs cs)
-once_from h [] cs once = once
-once_from h (b ∷ bs) cs once = once_from (h + 1) bs (coins_after_all h b.block.txs cs) (once_after h b.block.txs cs once)
-
 -- ---- inputs take their coins out
-
-turned : (a b : Outpoint) → same_outpoint a b ≡ same_outpoint b a
-turned a b = by (cases_Bool (same_outpoint a b)) (cases_Bool (same_outpoint b a))
-  where
-    by : (same_outpoint a b ≡ true) ⊎ (same_outpoint a b ≡ false) → (same_outpoint b a ≡ true) ⊎ (same_outpoint b a ≡ false) → same_outpoint a b ≡ same_outpoint b a
-    by (inl h) other = h ∙ sym (same_from b a (sym (same_gives a b h)))
-    by (inr h) (inl k) = same_from a b (sym (same_gives b a k)) ∙ sym k
-    by (inr h) (inr k) = h ∙ sym k
 
 held_one : (x : Option Coin) (l : List Held) → total_held (option_to_list (option_map coin_held x) ++ l) ≡ value_in x + total_held l
 held_one None l = omega arith
@@ -73,6 +43,11 @@ held_one (Some c) l = sum_by-cons (λ (h : Held). h.value) (coin_held c) l
 abbrev pub Names : Chain → List Tx → List TxIn → List Coin → Type 0
 Names chain kept is cs = (o : Outpoint) → any_takes o is ≡ true → option_map coin_held (coin_in cs o) ≡ named chain kept o
 
+pub names_later : (chain : Chain) (kept : List Tx) (i : TxIn) (is : List TxIn) (cs : List Coin) → Names chain kept (i ∷ is) cs → any_takes i.from is ≡ false → Names chain kept is (without i.from cs)
+names_later chain kept i is cs names apart o h =
+    let other : same_outpoint i.from o ≡ false = false_from_ne_true (same_outpoint i.from o) (λ e. true≢false (sym h ∙ ap (λ x. any_takes x is) (sym (same_gives i.from o e)) ∙ apart)) in
+    ap (option_map coin_held) (in_without i.from cs o ∙ ap (λ b. cond b None (coin_in cs o)) other) ∙ names o (or_right (same_outpoint o i.from) (any_takes o is) h)
+
 pub spent_less : (chain : Chain) (kept : List Tx) (is : List TxIn) (cs : List Coin) → AreOnce cs → each_takes chain kept is ≡ true → Names chain kept is cs
     → supply (spend_inputs is cs) + total_held (held_by chain kept is) ≡ supply cs
 spent_less chain kept [] cs once takes names = omega arith
@@ -81,24 +56,15 @@ spent_less chain kept (i ∷ is) cs once takes names =
     let more = and_parts _ _ both.1 in
     let own : any_takes i.from (i ∷ is) ≡ true = ap (λ b. b || any_takes i.from is) (same_self i.from) in
     let first : named chain kept i.from ≡ option_map coin_held (coin_in cs i.from) = sym (names i.from own) in
-    let rest = spent_less chain kept is (without i.from cs) (once_without i.from cs once) more.1 (later (not-true _ more.0)) in
+    let rest = spent_less chain kept is (without i.from cs) (once_without i.from cs once) more.1 (names_later chain kept i is cs names (not-true _ more.0)) in
     let out = supply_without i.from cs once in
     let one = ap (λ x. total_held (option_to_list x ++ held_by chain kept is)) first ∙ held_one (coin_in cs i.from) (held_by chain kept is) in
     omega (arith, rest, out, one)
-  where
-    later : any_takes i.from is ≡ false → Names chain kept is (without i.from cs)
-    later apart o h =
-        let other : same_outpoint i.from o ≡ false = false_from_ne_true (same_outpoint i.from o) (λ e. true≢false (sym h ∙ ap (λ x. any_takes x is) (sym (same_gives i.from o e)) ∙ apart)) in
-        ap (option_map coin_held) (in_without i.from cs o ∙ ap (λ b. cond b None (coin_in cs o)) other) ∙ names o (after (same_outpoint o i.from) h)
-      where
-        after : (b : Bool) → any_takes o is ≡ true → (b || any_takes o is) ≡ true
-        after true e = refl
-        after false e = e
 
 pub in_spent : (is : List TxIn) (cs : List Coin) (o : Outpoint) → coin_in (spend_inputs is cs) o ≡ cond (any_takes o is) None (coin_in cs o)
 in_spent [] cs o = refl
 in_spent (i ∷ is) cs o =
-    in_spent is (without i.from cs) o ∙ ap (cond (any_takes o is) None) (in_without i.from cs o ∙ ap (λ b. cond b None (coin_in cs o)) (turned i.from o)) ∙ by (same_outpoint o i.from) (any_takes o is)
+    in_spent is (without i.from cs) o ∙ ap (cond (any_takes o is) None) (in_without i.from cs o ∙ ap (λ b. cond b None (coin_in cs o)) (outpoints_equal.symm i.from o)) ∙ by (same_outpoint o i.from) (any_takes o is)
   where
     by : (a b : Bool) → cond b None (cond a None (coin_in cs o)) ≡ cond (a || b) None (coin_in cs o)
     by true true = refl
@@ -190,7 +156,7 @@ pub record AreLeftBy (chain : Chain) (kept : List Tx) (cs : List Coin) : Type 0 
 abbrev pub after_one : Tx → List Coin → List Coin
 after_one t cs = add_outputs (txid t) 0 0 t.outputs (spend_inputs t.inputs cs)
 
-takes_untaken : (chain : Chain) (kept : List Tx) (is : List TxIn) (o : Outpoint) → each_takes chain kept is ≡ true → any_takes o is ≡ true → is_taken o kept ≡ false
+pub takes_untaken : (chain : Chain) (kept : List Tx) (is : List TxIn) (o : Outpoint) → each_takes chain kept is ≡ true → any_takes o is ≡ true → is_taken o kept ≡ false
 takes_untaken chain kept [] o h there = absurd (true≢false (sym there))
 takes_untaken chain kept (i ∷ is) o h there =
     let both = and_parts _ _ h in
@@ -209,7 +175,7 @@ none_among_kept o id (t ∷ ts) h is =
     let apart : same_hash (txid t) o.txid ≡ false = ap (same_hash (txid t)) (sym is) ∙ parts.0 in
     ap (λ x. option_or x (output_among o ts)) (output_apart o t apart) ∙ none_among_kept o id ts parts.1 is
 
-mapped_or : (a b : Option Coin) → option_map coin_held (option_or a b) ≡ option_or (option_map coin_held a) (option_map coin_held b)
+pub mapped_or : (a b : Option Coin) → option_map coin_held (option_or a b) ≡ option_or (option_map coin_held a) (option_map coin_held b)
 mapped_or None b = refl
 mapped_or (Some c) b = refl
 
@@ -276,4 +242,4 @@ pub fees_within : (chain : Chain) (kept : List Tx) → sift chain kept ≡ kept 
 fees_within chain kept same once =
     all_weaker (λ (t : Tx). total_held (held_by chain kept t.inputs) ≤ supply (coins chain)) (λ (t : Tx). fee chain kept t ≤ supply (coins chain)) kept (λ t h. omega (arith, h))
     (fees_fit chain kept [] kept (coins chain) (supply (coins chain)) refl (joins_of (may_join chain) kept same) (none_of_nothing kept) (apart_from kept once)
-    (record { once = once_from 0 chain [] tt; each = λ o free. or_nothing (coin_named chain o) }) (omega arith))
+    (record { once = once_in_chain chain; each = λ o free. or_nothing (coin_named chain o) }) (omega arith))

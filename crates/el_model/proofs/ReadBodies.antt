@@ -1,5 +1,5 @@
 -- Bytes of blocks that were read stay as the files grow.
-use Rattle.std.proofs.Common.{◌≡◌, ℕ, zero, suc, ◌+◌, ◌<◌, ◌≤◌, List, [], ◌∷◌, ◌++◌, length, map, take, drop, get_or, refl, sym, ap, ◌∙◌, append_assoc, arith}
+use Rattle.std.proofs.Common.{◌≡◌, ℕ, zero, suc, ◌+◌, ◌<◌, ◌≤◌, List, [], ◌∷◌, ◌++◌, length, map, take, drop, get_or, refl, sym, ap, ◌∙◌, arith}
 use Rattle.std.proofs.lemmas.List.{take-append-le, take_all, get_or_default}
 use Rattle.std.specs.List.{AllByRecursion}
 use Rattle.el_outside.specs.Files.{AllGrow}
@@ -114,6 +114,3 @@ unread_at tells old new nodes i texts n d (stop.Refused h f) r lt is grows unrea
 pub reading_ends : (tells : Type 0) (files : ℕ → List ℕ) (nodes : List Node) (i : ℕ) (texts : List (List ℕ)) → Reading tells files nodes i texts → length nodes ≤ i
     → AreRead tells files nodes texts
 reading_ends tells files nodes i texts r most = rw (take_all i nodes most) at r.read
-
-pub grows_on : (a b c : ℕ → List ℕ) → AllGrow a b → AllGrow b c → AllGrow a c
-grows_on a b c g h = λ file. ((g file).0 ++ (h file).0, (h file).1 ∙ ap (λ (l : List ℕ). l ++ (h file).0) (g file).1 ∙ append_assoc (a file) (g file).0 (h file).0)

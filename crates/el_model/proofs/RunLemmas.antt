@@ -7,7 +7,6 @@ use Rattle.std.specs.Prelude.{Option, None}
 use Rattle.el_base.specs.declared.hash.Hash32.{Hash32}
 use Rattle.el_base.proofs.Lists.{left_at}
 use Rattle.el_chain.specs.Chains.{tip, zero_hash}
-use Rattle.el_chain.specs.Headers.{AreLinked}
 use Rattle.el_chain.specs.Moves.{IsPlan, FitsChain, InFlight, IsRefused, shorter, last_hash}
 use Rattle.el_chain.specs.declared.node.Node.{Node}
 use Rattle.el_model.specs.Going.{FollowOn, AreMovesOf}
@@ -23,6 +22,7 @@ use Rattle.el_chain.specs.declared.moves.Plan.{Plan}
 use Rattle.el_chain.specs.declared.moves.MoveFault.{MoveFault}
 use Rattle.el_model.specs.declared.going.Mark.{Mark}
 use Rattle.el_model.specs.declared.going.Mark.TheVariants as mark
+use Rattle.el_chain.proofs.MoveSteps.{last_any}
 
 module _ (tells : Type 0) (start : Chain) (plans : List Plan) (n : ℕ) (sent : List Mark) (acked : Chain) (p d : Plan) (lt : n < length plans) (is : p ≡ get_or plans n d) (told : Told tells start (take n plans) sent acked) where
   here : get_or plans n d ∷ [] ≡ p ∷ []
@@ -138,10 +138,6 @@ follows stands plans i p d h lt is' =
 tip_named : (chain : Chain) (h : Hash32) → tip_of chain ≡ Some h → tip chain ≡ h
 tip_named [] h is = absurd (let e : None ≡ Some h = is in cc)
 tip_named (b ∷ bs) h is = cc
-
-last_any : (a b : Hash32) (ns : List Node) → (ns ≡ [] → ⊥) → last_hash a ns ≡ last_hash b ns
-last_any a b [] some = absurd (some refl)
-last_any a b (n ∷ ns) some = refl
 
 -- moves that follow on are moves of each chain with that tip
 next_moves : (stands : Chain → Type 0) (before : Hash32) (ps : List Plan) → ((chain : Chain) → stands chain → tip_of chain ≡ Some before) → FollowOn before ps → AreMovesOf stands ps

@@ -1,10 +1,12 @@
 -- What the calls of a disk do to what is known of its files, and so to the images that a crash may leave.
 use Rattle.std.proofs.Common.{◌↔◌, ◌≡◌, ◌≢◌, ◌⊎◌, inl, inr, ⊎_elim, ℕ, ◌+◌, ◌<◌, ◌≤◌, min, max, ◌&&◌, ◌||◌, nat_le, nat_lt, Bool, true, false, List, [], ◌∷◌, ◌++◌, length, get_or, take, map, refl, sym, ◌∙◌, ap, subst, arith, if◌then◌else◌}
-use Rattle.std.proofs.lemmas.Bool.{cases_eq, cases_lt}
+use Rattle.std.proofs.lemmas.Bool.{cases_eq, cases_lt, or_parts, or_from, or_cases, or_left, or_right}
 use Rattle.std.proofs.lemmas.Bool.Decides.{nat_tests}
 use Rattle.std.specs.List.{range_with_len, list_any}
 use Rattle.std.proofs.lemmas.List.FromFn.{length-map-range_with_len, get_or-map-range_with_len}
 use Rattle.std.proofs.lemmas.List.{ext_get_or, get_or_past, get_or-take, length-take-le}
+use Rattle.std.proofs.Math.Bool.{or-false}
+use Rattle.std.proofs.lemmas.List.Folds.{list_any-append}
 use Rattle.el_outside.specs.Disk.{Image, over, Torn, Cut, OnFile, Follows, NothingNew, OnDisk}
 use Rattle.el_outside.specs.Moments.{Elapses}
 use Rattle.el_outside.specs.Images.{Kept, is_written, IsImage, synced, written, shortened, at_file, Leaves, LeftSince}
@@ -18,23 +20,7 @@ at_other all file here f ne = grind (arith, nat_tests)
 
 -- a range more
 any_more : {X : Type 0} (p : X → Bool) (xs : List X) (y : X) → list_any p (xs ++ y ∷ []) ≡ (list_any p xs || p y)
-any_more p [] y = or_no (p y)
-  where
-    or_no : (b : Bool) → (b || false) ≡ b
-    or_no true = refl
-    or_no false = refl
-any_more p (x ∷ xs) y = ap (λ b. p x || b) (any_more p xs y) ∙ or_assoc (p x) (list_any p xs) (p y)
-  where
-    or_assoc : (a b c : Bool) → (a || (b || c)) ≡ ((a || b) || c)
-    or_assoc true b c = refl
-    or_assoc false b c = refl
-
-neither : (a b : Bool) → (a || b) ≡ false → (a ≡ false) × (b ≡ false)
-neither true b h = absurd (let k = h in cc)
-neither false b h = (refl, h)
-
-both : (a b : Bool) → a ≡ false → b ≡ false → (a || b) ≡ false
-both a b h k = rw (h, k) refl
+any_more p xs y = list_any-append p xs (y ∷ []) ∙ ap (λ b. list_any p xs || b) (or-false (p y))
 
 out_of : (at n i : ℕ) → (nat_le at i && nat_lt i (at + n)) ≡ false → (i < at) ⊎ (at + n ≤ i)
 out_of at n i h = ⊎_elim (λ lt. inl lt) (λ ge. ⊎_elim (λ lt. absurd (grind (arith, nat_tests))) (λ past. inr past) (cases_lt i (at + n))) (cases_lt i at)
@@ -44,11 +30,11 @@ is_out at n i out = grind (arith, nat_tests)
 
 pub split : (ranges : List (ℕ × ℕ)) (at n i : ℕ) → is_written (ranges ++ (at, at + n) ∷ []) i ≡ false → (is_written ranges i ≡ false) × ((i < at) ⊎ (at + n ≤ i))
 split ranges at n i h =
-    let two = neither _ _ (sym (any_more (λ (range : ℕ × ℕ). nat_le range.0 i && nat_lt i range.1) ranges (at, at + n)) ∙ h) in
+    let two = or_parts _ _ (sym (any_more (λ (range : ℕ × ℕ). nat_le range.0 i && nat_lt i range.1) ranges (at, at + n)) ∙ h) in
     (two.0, out_of at n i two.1)
 
 pub unsplit : (ranges : List (ℕ × ℕ)) (at n i : ℕ) → is_written ranges i ≡ false → (i < at) ⊎ (at + n ≤ i) → is_written (ranges ++ (at, at + n) ∷ []) i ≡ false
-unsplit ranges at n i h out = any_more (λ (range : ℕ × ℕ). nat_le range.0 i && nat_lt i range.1) ranges (at, at + n) ∙ both _ _ h (is_out at n i out)
+unsplit ranges at n i h out = any_more (λ (range : ℕ × ℕ). nat_le range.0 i && nat_lt i range.1) ranges (at, at + n) ∙ or_from _ _ h (is_out at n i out)
 
 -- the bytes that a list has below n, and then those of another
 abbrev pub listed : (ℕ → ℕ) → ℕ → List ℕ
@@ -291,22 +277,11 @@ is_in at n i ge lt = grind (arith, nat_tests)
 in_of : (at n i : ℕ) → (nat_le at i && nat_lt i (at + n)) ≡ true → (at ≤ i) × (i < at + n)
 in_of at n i h = ⊎_elim (λ lt. absurd (grind (arith, nat_tests))) (λ ge. ⊎_elim (λ lt. (ge, lt)) (λ past. absurd (grind (arith, nat_tests))) (cases_lt i (at + n))) (cases_lt i at)
 
-one_true : (a b : Bool) → (a || b) ≡ true → (a ≡ true) ⊎ (b ≡ true)
-one_true true b h = inl refl
-one_true false b h = inr h
-
-left_true : (a b : Bool) → a ≡ true → (a || b) ≡ true
-left_true a b h = rw h refl
-
-right_true : (a b : Bool) → b ≡ true → (a || b) ≡ true
-right_true true b h = refl
-right_true false b h = h
-
 pub written_places : (kept : Kept) (at n i : ℕ) → is_written (written at n kept).ranges i ≡ true ↔ ((is_written kept.ranges i ≡ true) ⊎ ((at ≤ i) × (i < at + n)))
 written_places kept at n i =
     let more = any_more (λ (range : ℕ × ℕ). nat_le range.0 i && nat_lt i range.1) kept.ranges (at, at + n) in (
-      λ h. ⊎_elim (λ a. inl a) (λ b. inr (in_of at n i b)) (one_true _ _ (sym more ∙ h)),
-      λ h. ⊎_elim (λ a. more ∙ left_true _ _ a) (λ b. more ∙ right_true _ _ (is_in at n i b.0 b.1)) h,
+      λ h. ⊎_elim (λ a. inl a) (λ b. inr (in_of at n i b)) (or_cases _ _ (sym more ∙ h)),
+      λ h. ⊎_elim (λ a. more ∙ or_left _ _ a) (λ b. more ∙ or_right _ _ (is_in at n i b.0 b.1)) h,
     )
 
 -- a life that starts

@@ -1,5 +1,7 @@
 -- How traces go on, how counts rise, how files grow.
-use Rattle.std.proofs.Common.{◌≡◌, ℕ, ◌+◌, List, [], ◌∷◌, ◌++◌, refl, ap, sym, ◌∙◌, append_assoc, append-nil, arith, Bool, true, false, not, ◌&&◌, ◌||◌, ◌==◌, eq-eqb, IsTrue}
+use Rattle.std.proofs.Common.{◌≡◌, ℕ, ◌+◌, List, [], ◌∷◌, ◌++◌, refl, sym, ◌∙◌, append_assoc, append-nil, arith, Bool, true, false, not, ◌&&◌, ◌||◌, ◌==◌, eq-eqb, IsTrue}
+use Rattle.std.proofs.Math.Bool.{or-true, or-false}
+use Rattle.std.proofs.lemmas.List.Folds.{list_any-append}
 use Rattle.std.specs.List.{list_any}
 use Rattle.el_outside.specs.Trace.{Trace, ArrivalWithBytes, opened, Message, Closing, GoesOn, opens, leaves, is_open, is_unused, is_new, was_closed}
 use Rattle.el_outside.specs.declared.link.Why.{Why}
@@ -35,33 +37,17 @@ all_grow_none f = λ n. grows_none (f n)
 pub all_grow_more : (f g h : ℕ → List ℕ) → AllGrow f g → AllGrow g h → AllGrow f h
 all_grow_more f g h p q = λ n. grows_more (f n) (g n) (h n) (p n) (q n)
 
-any_more : {X : Type 0} (p : X → Bool) (xs ys : List X) → list_any p (xs ++ ys) ≡ (list_any p xs || list_any p ys)
-any_more p [] ys = refl
-any_more p (x ∷ xs) ys = ap (λ b. p x || b) (any_more p xs ys) ∙ or_assoc (p x) (list_any p xs) (list_any p ys)
-  where
-    or_assoc : (a b c : Bool) → (a || (b || c)) ≡ ((a || b) || c)
-    or_assoc true b c = refl
-    or_assoc false b c = refl
-
-or_true : (b : Bool) → (b || true) ≡ true
-or_true true = refl
-or_true false = refl
-
-or_no : (b : Bool) → (b || false) ≡ b
-or_no true = refl
-or_no false = refl
-
 same_number : (p : ℕ) → p == p ≡ true
 same_number p = eq-eqb p p refl
 
 opened_open : (xs : List ArrivalWithBytes) (c : Bool) (p : ℕ) → IsTrue (not (list_any (leaves p) xs) && not c)
     → IsTrue (list_any (opens p) (xs ++ opened p ∷ []) && (not (list_any (leaves p) (xs ++ opened p ∷ [])) && not c))
-opened_open xs c p unused = rw (any_more (opens p) xs (opened p ∷ []), any_more (leaves p) xs (opened p ∷ []), same_number p, or_true, or_no) unused
+opened_open xs c p unused = rw (list_any-append (opens p) xs (opened p ∷ []), list_any-append (leaves p) xs (opened p ∷ []), same_number p, or-true, or-false) unused
 
 arrived_open : (xs : List ArrivalWithBytes) (c : Bool) (p : ℕ) (a : ArrivalWithBytes) → IsTrue (list_any (opens p) xs && (not (list_any (leaves p) xs) && not c)) → leaves p a ≡ false
     → IsTrue (list_any (opens p) (xs ++ a ∷ []) && (not (list_any (leaves p) (xs ++ a ∷ [])) && not c))
 arrived_open xs c p a is stays =
-    rw (any_more (opens p) xs (a ∷ []), any_more (leaves p) xs (a ∷ []), stays, or_no (list_any (leaves p) xs))
+    rw (list_any-append (opens p) xs (a ∷ []), list_any-append (leaves p) xs (a ∷ []), stays, or-false (list_any (leaves p) xs))
     (still (list_any (opens p) xs) (opens p a) (not (list_any (leaves p) xs) && not c) is)
   where
     still : (a b c : Bool) → IsTrue (a && c) → IsTrue ((a || (b || false)) && c)
@@ -71,7 +57,7 @@ arrived_open xs c p a is stays =
 other_open : (o l : Bool) (cs : List Closing) (p q : ℕ) (why : Why) → IsTrue (o && (not l && not (list_any (λ (c : Closing). p == c.peer) cs))) → p == q ≡ false
     → IsTrue (o && (not l && not (list_any (λ (c : Closing). p == c.peer) (cs ++ record { peer = q; why = why } ∷ []))))
 other_open o l cs p q why is other =
-    rw (any_more (λ (c : Closing). p == c.peer) cs (record { peer = q; why = why } ∷ []), other, or_no (list_any (λ (c : Closing). p == c.peer) cs)) is
+    rw (list_any-append (λ (c : Closing). p == c.peer) cs (record { peer = q; why = why } ∷ []), other, or-false (list_any (λ (c : Closing). p == c.peer) cs)) is
 
 -- a new peer with an unused number is open
 pub opened_is_open : (s t : Trace) (p : ℕ) → IsTrue (is_unused s p) → GoesOn s t (opened p ∷ []) [] [] → IsTrue (is_open t p)

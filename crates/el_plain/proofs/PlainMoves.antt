@@ -1,10 +1,9 @@
 -- What a plain ledger has moved to.
 use Rattle.std.proofs.Common.{◌≡◌, ℕ, suc, ◌+◌, ◌-◌, List, [], ◌∷◌, ◌++◌, length, drop, Option, Some, Result, Ok, Err, refl, sym, ap, ap₂, ◌∙◌, arith, length-append}
 use Rattle.std.proofs.lemmas.List.{length-take-le}
-use Rattle.std.specs.List.{AllByRecursion}
 use Rattle.std.specs.Result.{IfOk, IfErr, IsErrOf}
 use Rattle.el_base.specs.declared.hash.Hash32.{Hash32}
-use Rattle.el_block.specs.Blocks.{AllDiffer, block_hash}
+use Rattle.el_block.specs.Blocks.{AllDiffer}
 use Rattle.el_chain.specs.declared.moves.Plan.{Plan}
 use Rattle.el_chain.specs.declared.node.Node.{Node}
 use Rattle.el_chain.specs.declared.moves.Moved.{Moved}
@@ -12,14 +11,13 @@ use Rattle.el_chain.specs.declared.moves.MoveFault.{MoveFault}
 use Rattle.el_chain.specs.declared.moves.MoveFault.TheVariants as stop
 use Rattle.el_outside.specs.Counts.{CountsOnly}
 use Rattle.el_chain.specs.Faults.{IsGood}
-use Rattle.el_chain.specs.Records.{IsNode}
-use Rattle.el_chain.specs.Chains.{Chain, tip, tip_after, zero_hash}
-use Rattle.el_chain.proofs.DraftSteps.{header_same}
+use Rattle.el_chain.specs.Chains.{Chain, tip, zero_hash}
+use Rattle.el_chain.proofs.MoveSteps.{tip_joined, blocks_tip, last_any}
 use Rattle.el_plain.specs.Plain.{IsPlain}
 use Rattle.el_model.proofs.Heights.{blocks_are}
 use Rattle.el_model.specs.Queries.{blocks_in, tip_of, height_of}
 use Rattle.el_chain.specs.Coins.{coins}
-use Rattle.el_chain.specs.Moves.{IsPlan, AreRead, AreOf, AreBlocks, AreNextBlocks, Moves, target, shorter, last_hash}
+use Rattle.el_chain.specs.Moves.{IsPlan, AreRead, AreBlocks, AreNextBlocks, Moves, target, shorter, last_hash}
 use Rattle.el_chain.specs.Touches.{Touch, AreTouched}
 
 pub plain_moved : (tells : Type 0) (files : ℕ → List ℕ) (old new : Chain) (p : Plan) (texts : List (List ℕ)) (nodes : List Node) (scripts : List Hash32) → nodes ≡ p.forward
@@ -33,24 +31,6 @@ plain_moved tells files old new p texts nodes scripts same read (fresh, is, next
   is,
   record { each = touch; once = once },
 )
-
-tip_joined : (before : Hash32) (a b : Chain) → tip_after before (a ++ b) ≡ tip_after (tip_after before a) b
-tip_joined before [] b = refl
-tip_joined before (x ∷ a) b = tip_joined (block_hash x.block.header) a b
-
-blocks_tip : (before : Hash32) (ns : List Node) (ts : List (List ℕ)) (bs : Chain) → AllByRecursion IsNode ns → AreOf ns ts → AreBlocks ns ts bs → tip_after before bs ≡ last_hash before ns
-blocks_tip before [] [] [] nodes of are = refl
-blocks_tip before [] [] (b ∷ bs) nodes of are = absurd are
-blocks_tip before [] (t ∷ ts) bs nodes of are = absurd are
-blocks_tip before (n ∷ ns) [] bs nodes of are = absurd are
-blocks_tip before (n ∷ ns) (t ∷ ts) [] nodes of are = absurd are
-blocks_tip before (n ∷ ns) (t ∷ ts) (b ∷ bs) nodes of are =
-    let here : block_hash b.block.header ≡ n.hash = ap block_hash (header_same n t b.block nodes.0 of.0 are.1) ∙ sym nodes.0.hash in
-    ap (λ h. tip_after h bs) here ∙ blocks_tip n.hash ns ts bs nodes.1 of.1 are.2
-
-last_any : (a b : Hash32) (ns : List Node) → (ns ≡ [] → ⊥) → last_hash a ns ≡ last_hash b ns
-last_any a b [] some = absurd (some refl)
-last_any a b (n ∷ ns) some = refl
 
 some_tip : (chain : Chain) → (chain ≡ [] → ⊥) → tip_of chain ≡ Some (tip chain)
 some_tip [] some = absurd (some refl)

@@ -16,10 +16,10 @@ use Rattle.el_block.specs.declared.block.Block.{Block}
 use Rattle.el_block.specs.declared.limits.TheConstants.{MAX_BLOCK_WEIGHT}
 use Rattle.el_block.specs.declared.fault.BlockFault.{BlockFault}
 use Rattle.el_block.specs.declared.fault.BlockFault.TheVariants as fault
-use Rattle.el_block.specs.Blocks.{EncodesBlock, block_encoding, block_hash}
+use Rattle.el_block.specs.Blocks.{EncodesBlock, block_encoding, block_hash, first_start}
 use Rattle.el_prepare.specs.declared.prepared.Prepared.{Prepared}
 use Rattle.el_prepare.specs.declared.prepared.PreparedTx.{PreparedTx}
-use Rattle.el_prepare.specs.Prepared.{prepared, prepared_tx, prepared_txs, first_start}
+use Rattle.el_prepare.specs.Prepared.{prepared, prepared_tx, prepared_txs}
 
 -- ---- transactions, one after the other
 

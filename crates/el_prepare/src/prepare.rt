@@ -20,7 +20,7 @@ use std::alloc::{AllocError, Global};
 
 // The inputs that take a coin.
 fn spending_inputs<'b, 'a>(tx: &'b TxView<'a>) -> &'b [TxInView<'a>]
-    ensures { result.now ≡ spec.spending_inputs tx.now }
+    ensures { result.now ≡ hashing.spending_inputs tx.now }
 {
     if tx.is_coinbase() {
         return &[];

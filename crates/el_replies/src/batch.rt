@@ -16,10 +16,10 @@ ghost use Rattle.el_json.specs.Lines.{HasPrintableId, IsPrintable, IsPrintableId
 ghost use Rattle.el_methods.specs.Outcomes.{IsPrintableAnswer};
 ghost use Rattle.el_sessions.specs.Sessions.{Extends};
 
-use crate::error_room::{ERROR_SIZE, ErrorRoom, extend_reserved, room_for};
+use crate::error_room::{ERROR_SIZE, ErrorRoom, room_for};
 use crate::replies::result_text;
 use crate::requested::answer_request;
-use el_base::OutOfMemory;
+use el_base::{OutOfMemory, extend_reserved};
 use el_calls::Refusal;
 use el_json::{Answer, Elements, Item, Request};
 use el_methods::Holdings;

@@ -4,7 +4,7 @@ ghost use Rattle.serde_json.specs.Written.{compact_text};
 ghost use Rattle.el_json.specs.Lines.{IsPrintable, IsPrintableId};
 ghost use Rattle.el_replies.specs.within.Errors.{error_start, error_text};
 
-use el_base::OutOfMemory;
+use el_base::{OutOfMemory, extend_reserved};
 use el_calls::Refusal;
 use el_json::Answer;
 use itoa::Buffer;
@@ -33,18 +33,6 @@ impl Model for ErrorRoom {
 
     ghost invariant = { λ r. (r.line.items ≡ [])
         × (length r.id.items + ERROR_SIZE ≤ vec_capacity r.line) };
-}
-
-/// Adds bytes, for which there is room, at the end of a `Vec`. Takes no memory.
-pub(crate) fn extend_reserved(list: &mut Vec<u8>, bytes: &[u8])
-    requires { length list.old.items + length bytes.now ≤ vec_capacity list.old }
-    ensures items { list.new.items ≡ list.old.items ++ bytes.now }
-    ensures room { vec_capacity list.old ≤ vec_capacity list.new }
-{
-    match list.extend_from_slice(bytes) {
-        Ok(()) => {}
-        Err(_) => unreachable!(),
-    }
 }
 
 // Adds the error's text up to the id.

@@ -17,10 +17,10 @@ ghost use Rattle.el_methods.specs.Outcomes.{IsPrintableAnswer};
 ghost use Rattle.el_sessions.specs.Sessions.{Extends};
 
 use crate::batch::{Gathered, answer_items, is_closing};
-use crate::error_room::{ErrorRoom, extend_reserved, room_for};
+use crate::error_room::{ErrorRoom, room_for};
 use crate::replies::result_text;
 use crate::requested::answer_request;
-use el_base::{Bytes, OutOfMemory};
+use el_base::{Bytes, OutOfMemory, extend_reserved};
 use el_calls::Refusal;
 use el_json::{Answer, Elements, Envelope, LineFault, Request, read_line};
 use el_methods::Holdings;

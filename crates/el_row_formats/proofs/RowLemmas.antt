@@ -1,8 +1,9 @@
 -- No two rows of a table have the same bytes.
 use Rattle.std.proofs.Common.{◌≡◌, ℕ, ◌<◌, ◌^◌, List, [], ◌∷◌, ◌++◌, Option, Some, None, length, get_or, take, drop, refl, sym, ap, ◌∙◌, arith, append_assoc}
-use Rattle.std.specs.Int.{w32, w64, to_le_bytes, from_le_bytes}
-use Rattle.std.proofs.lemmas.Nat.{from_le_bytes-to_le_bytes_4, from_le_bytes-to_le_bytes_8}
+use Rattle.std.specs.Int.{w64, to_le_bytes, from_le_bytes}
+use Rattle.std.proofs.lemmas.Nat.{from_le_bytes-to_le_bytes_8}
 use Rattle.el_base.proofs.Lists.{same_cut}
+use Rattle.el_base.proofs.ByteLemmas.{number_again}
 use Rattle.el_row_formats.specs.declared.block_row.BlockRow.{BlockRow}
 use Rattle.el_row_formats.specs.declared.tx_row.TxRow.{TxRow}
 use Rattle.el_row_formats.specs.declared.head_row.HeadRow.{HeadRow}
@@ -13,12 +14,6 @@ use Rattle.el_row_formats.specs.declared.entry_row.EntryRow.{EntryRow}
 use Rattle.el_row_formats.specs.declared.out_row.State.{State}
 use Rattle.el_row_formats.specs.declared.out_row.State.TheVariants as state
 use Rattle.el_row_formats.specs.RowBytes.{link_number, link_bytes, state_number, state_by, state_of, out_row_bytes, FitsOutRow, ReadsAsOut, block_row_bytes, FitsBlockRow, tx_row_bytes, FitsTxRow, head_row_bytes, FitsHeadRow, in_row_bytes, FitsInRow, script_row_bytes, FitsScriptRow, entry_row_bytes, FitsEntryRow}
-
-number_again : (m n : ℕ) (x y : List ℕ) → m < 2 ^ 32 → n < 2 ^ 32 → to_le_bytes w32 m ++ x ≡ to_le_bytes w32 n ++ y → (m ≡ n) × (x ≡ y)
-number_again m n x y p q e = (
-  sym (from_le_bytes-to_le_bytes_4 m p) ∙ ap (λ (t : List ℕ). from_le_bytes w32 (take 4 t)) e ∙ from_le_bytes-to_le_bytes_4 n q,
-  ap (λ (t : List ℕ). drop 4 t) e,
-)
 
 long_again : (m n : ℕ) (x y : List ℕ) → m < 2 ^ 64 → n < 2 ^ 64 → to_le_bytes w64 m ++ x ≡ to_le_bytes w64 n ++ y → (m ≡ n) × (x ≡ y)
 long_again m n x y p q e = (

@@ -7,18 +7,13 @@ use Rattle.std.proofs.lemmas.Option.{slice_get_cases}
 use Rattle.indexmap.specs.Layout.{set_value_at}
 use Rattle.el_base.specs.declared.hash.Hash32.{Hash32}
 use Rattle.el_chain.specs.Headers.{same_hash}
+use Rattle.el_chain.proofs.TouchLemmas.{hash_gives}
 use Rattle.el_sessions.specs.Sessions.{Subscription}
 use Rattle.el_subs.specs.Told.{is_news, retold, news, marked, IsTold, AllTold, OthersTold, is_touched, cost_of}
 use Rattle.el_subs.specs.within.Partly.{partly, touched_at, SoFar}
 
 pub same_bytes : (a : Hash32) → same_hash a a ≡ true
 same_bytes a = (bytes_eq-Decides a.0 a.0).1 refl
-
-pub the_hash : (a b : Hash32) → same_hash a b ≡ true → a ≡ b
-the_hash a b e = ap (λ (l : List ℕ). of l) ((bytes_eq-Decides a.0 b.0).0 e)
-  where
-    of : List ℕ → Hash32
-    of l = record { 0 = l }
 
 pub status_is_same : (a : Option Hash32) → option_eq same_hash a a ≡ true
 status_is_same None = refl
@@ -28,7 +23,7 @@ pub same_told : (a b : Option Hash32) → option_eq same_hash a b ≡ true → a
 same_told None None e = refl
 same_told None (Some b) e = absurd (true≢false (sym e))
 same_told (Some a) None e = absurd (true≢false (sym e))
-same_told (Some a) (Some b) e = ap Some (the_hash a b e)
+same_told (Some a) (Some b) e = ap Some (hash_gives a b e)
 
 pub element : {A : Type 0} (xs : List A) (i : ℕ) → i < length xs → (x : A) × (slice_get xs i ≡ Some x)
 element xs i lt = elim ((slice_get_cases xs i).1) [

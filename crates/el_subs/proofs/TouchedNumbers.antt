@@ -5,21 +5,24 @@ use Rattle.std.specs.List.{IsDistinct, list_any}
 use Rattle.std.specs.List.Sorted.{IsPermutation, IsSorted, IsStrictlyIncreasing}
 use Rattle.std.specs.Map.{keys_of}
 use Rattle.std.specs.Ordering.{nat_cmp}
-use Rattle.std.proofs.lemmas.Bool.{cases_lt}
+use Rattle.std.proofs.lemmas.Bool.{cases_lt, false_from_ne_true, or_parts}
 use Rattle.std.proofs.lemmas.List.{get_or_default, get_or_past, take_all}
 use Rattle.std.proofs.lemmas.List.Folds.{list_any-append, list_any_at}
 use Rattle.std.proofs.lemmas.List.Sorted.{list_any-IsPermutation, IsNonDecreasingBy-from_sort}
 use Rattle.std.proofs.lemmas.Map.Keys.{IsDistinct-head, IsDistinct-tail, IsDistinct-cons, IsDistinct-IsPermutation, IsStrictlyIncreasing-from_distinct}
 use Rattle.std.proofs.Math.Seq.{take-suc}
+use Rattle.std.proofs.Math.Bool.{or-false}
 use Rattle.indexmap.specs.Layout.{set_value_at}
 use Rattle.el_base.specs.declared.hash.Hash32.{Hash32}
 use Rattle.el_base.proofs.Lists.{all_more, all_at}
 use Rattle.el_block.specs.Blocks.{AllDiffer}
 use Rattle.el_chain.specs.Headers.{same_hash}
+use Rattle.el_chain.proofs.TouchLemmas.{hash_gives}
 use Rattle.el_sessions.specs.Sessions.{Subscription}
 use Rattle.el_subs.specs.Told.{news, OthersTold, cost_of}
 use Rattle.el_subs.specs.within.Partly.{touched_at, SoFar}
-use Rattle.el_subs.proofs.News.{same_bytes, the_hash, told_first, told_more, passed, rows_next}
+use Rattle.el_subs.proofs.News.{same_bytes, told_first, told_more, passed, rows_next}
+use Rattle.el_mempool.proofs.Unspent.{two_ways}
 
 -- ---- gathering
 
@@ -27,23 +30,6 @@ use Rattle.el_subs.proofs.News.{same_bytes, the_hash, told_first, told_more, pas
 pub record AreNumbers (touched : List Hash32) (subs : List Subscription) (numbers : List ℕ) : Type 0 where
   pub exact : (number : ℕ) → list_any (nat_eq number) numbers ≡ touched_at touched subs number
   pub distinct : IsDistinct eqb numbers
-
-same_answer : (a b : Bool) → (a ≡ true → b ≡ true) → (b ≡ true → a ≡ true) → a ≡ b
-same_answer true b there back = sym (there refl)
-same_answer false true there back = back refl
-same_answer false false there back = refl
-
-no_answer : (a : Bool) → (a ≡ true → ⊥) → a ≡ false
-no_answer true none = absurd (none refl)
-no_answer false none = refl
-
-or_false : (a : Bool) → (a || false) ≡ a
-or_false true = refl
-or_false false = refl
-
-either_part : (a b : Bool) → (a || b) ≡ false → (a ≡ false) × (b ≡ false)
-either_part false b e = (refl, e)
-either_part true b e = absurd (true≢false e)
 
 -- nothing is touched yet
 nothing_at : (subs : List Subscription) (number : ℕ) → touched_at [] subs number ≡ false
@@ -73,7 +59,7 @@ key_touched t (x ∷ xs) (suc number) at = key_touched t xs number at
 touched_key : (t : Hash32) (subs : List Subscription) (number : ℕ) → touched_at (t ∷ []) subs number ≡ true
     → slice_get (keys_of subs) number ≡ Some t
 touched_key t [] number is = absurd (true≢false (sym is))
-touched_key t (x ∷ xs) zero is = ap Some (the_hash x.0 t (sym (or_false (same_hash x.0 t)) ∙ is))
+touched_key t (x ∷ xs) zero is = ap Some (hash_gives x.0 t (sym (or-false (same_hash x.0 t)) ∙ is))
 touched_key t (x ∷ xs) (suc number) is = touched_key t xs number is
 
 -- where it is no subscription's
@@ -82,11 +68,11 @@ pub none_more : (ts : List Hash32) (t : Hash32) (subs : List Subscription) (plac
     → AreNumbers ts subs numbers → AreNumbers (ts ++ t ∷ []) subs numbers
 none_more ts t subs place numbers stands none are = record {
   exact = λ number.
-      let no : touched_at (t ∷ []) subs number ≡ false = no_answer _ (λ is.
+      let no : touched_at (t ∷ []) subs number ≡ false = false_from_ne_true _ (λ is.
       let some : None ≡ Some number = sym none ∙ (stands number).1 (touched_key t subs number is) in
       absurd cc) in
       are.exact number ∙ sym (more_at ts t subs number ∙ ap (λ (b : Bool). touched_at ts subs number || b) no
-      ∙ or_false (touched_at ts subs number));
+      ∙ or-false (touched_at ts subs number));
   distinct = are.distinct;
 }
 
@@ -104,7 +90,7 @@ distinct_more : (numbers : List ℕ) (number : ℕ) → IsDistinct eqb numbers �
 unfolding IsDistinct
 distinct_more [] number distinct none = IsDistinct-cons eqb number [] tt tt
 distinct_more (x ∷ xs) number distinct none =
-    let parts = either_part (nat_eq number x) (list_any (nat_eq number) xs) none in
+    let parts = or_parts (nat_eq number x) (list_any (nat_eq number) xs) none in
     let other : eqb x number ≡ false = flips x number ∙ parts.0 in
     IsDistinct-cons eqb x (xs ++ number ∷ []) (all_more (λ y. eqb x y ≡ false) xs number (IsDistinct-head eqb x xs distinct) other)
     (distinct_more xs number (IsDistinct-tail eqb x xs distinct) parts.1)
@@ -117,13 +103,13 @@ some_more : (ts : List Hash32) (t : Hash32) (subs : List Subscription) (number :
     → AreNumbers ts subs numbers → AreNumbers (ts ++ t ∷ []) subs (numbers ++ number ∷ [])
 some_more ts t subs number numbers stands fresh are = record {
   exact = λ k.
-      let same : nat_eq k number ≡ touched_at (t ∷ []) subs k = same_answer _ _
+      let same : nat_eq k number ≡ touched_at (t ∷ []) subs k = two_ways _ _
       (λ e. let is : number ≡ k = sym (eqb-true k number e) in key_touched t subs k ((stands k).0 (ap Some is)))
       (λ e.
       let at : ◌≡◌ {A = Option ℕ} (Some number) (Some k) = (stands k).1 (touched_key t subs k e) in
       let is : number ≡ k = cc in
       subst (λ (n : ℕ). nat_eq k n ≡ true) (sym is) (grind arith)) in
-      list_any-append (nat_eq k) numbers (number ∷ []) ∙ ap (λ (b : Bool). list_any (nat_eq k) numbers || b) (or_false (nat_eq k number) ∙ same)
+      list_any-append (nat_eq k) numbers (number ∷ []) ∙ ap (λ (b : Bool). list_any (nat_eq k) numbers || b) (or-false (nat_eq k number) ∙ same)
       ∙ ap (λ (b : Bool). b || touched_at (t ∷ []) subs k) (are.exact k) ∙ sym (more_at ts t subs k);
   distinct = distinct_more numbers number are.distinct (are.exact number ∙ fresh_at ts t subs number fresh ((stands number).0 refl));
 }
@@ -135,7 +121,7 @@ not_before [] i d differ lt = absurd (omega (arith, lt))
 not_before (x ∷ xs) zero d differ lt = refl
 not_before (x ∷ xs) (suc i) d differ lt =
     let le : i < length xs = omega (arith, lt) in
-    let other : same_hash (get_or xs i d) x ≡ false = no_answer _ (λ is. all_at (λ y. x ≡ y → ⊥) xs i d differ.0 le (sym (the_hash _ _ is))) in
+    let other : same_hash (get_or xs i d) x ≡ false = false_from_ne_true _ (λ is. all_at (λ y. x ≡ y → ⊥) xs i d differ.0 le (sym (hash_gives _ _ is))) in
     rw (other) (not_before xs i d differ.1 le)
 
 -- ---- the steps of the loop

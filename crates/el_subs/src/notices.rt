@@ -7,7 +7,7 @@ ghost use Rattle.el_outside.specs.Counts.{CountsOnly};
 ghost use Rattle.el_tx.specs.declared.types.Tx as shape;
 ghost use Rattle.el_chain.specs.Chains.{Chain};
 ghost use Rattle.el_json.specs.Lines.{IsPrintable};
-ghost use Rattle.el_model.specs.Keeping.{Quiet};
+ghost use Rattle.el_model.specs.LedgerCalls.{Asked};
 ghost use Rattle.el_mempool.specs.Standing.{StandsFor};
 ghost use Rattle.el_view.specs.Rows.{history_rows};
 ghost use Rattle.el_methods.specs.Results as defined;
@@ -88,8 +88,7 @@ fn add_tip_line<G: Ledger>(
     ensures line { (chain : Chain) → G.stands ledger.old chain
         → OnOk result (lines.new.items ≡ lines.old.items ++ tip_lines (defined.headers_subscribe chain)) }
     ensures rows { G.reads ledger.new ≤ G.reads ledger.old + 1 }
-    ensures quiet { Quiet G.is_live G.height G.tip G.buckets G.stands G.tells_crash
-        G.moment G.left_since ledger.old ledger.new }
+    ensures quiet { Asked ⟦<G as Ledger>⟧ ledger.old ledger.new }
     ensures cause { CountsOnly (G.faults ledger.old) (G.faults ledger.new) QueryFault.DiskFailed result }
 {
     let mut is_told = true;
@@ -107,8 +106,9 @@ fn add_tip_line<G: Ledger>(
 /// All lines that a client is told after a line of the node, in order, each with byte 10 at its end
 /// (Electrum Protocol 1.4, `blockchain.headers.subscribe` and `blockchain.scripthash.subscribe`): the tip,
 /// where it subscribes to headers and the ledger's tip isn't the one before, in inner order; and then of each
-/// of its subscriptions the status, where it isn't the one told last. Those are then marked as told. This is
-/// so where each subscription to a script hash that isn't touched was told its status; no other is looked at.
+/// of its subscriptions the status, where it isn't the one told last. Those are then marked as told. These
+/// are all, where each subscription to a script hash that isn't touched was told its status; no other is
+/// looked at.
 ///
 /// # Errors
 ///
@@ -136,8 +136,7 @@ pub fn notify<G: Ledger>(
         (keys_of session.old.subs)) }
     // The script hashes stay, whatever the ledger stands for.
     ensures keys { keys_of session.new.subs ≡ keys_of session.old.subs }
-    ensures quiet { Quiet G.is_live G.height G.tip G.buckets G.stands G.tells_crash
-        G.moment G.left_since ledger.old ledger.new }
+    ensures quiet { Asked ⟦<G as Ledger>⟧ ledger.old ledger.new }
     ensures cause { CountsOnly (G.faults ledger.old) (G.faults ledger.new) QueryFault.DiskFailed result }
 {
     let mut lines = Vec::new(alloc);

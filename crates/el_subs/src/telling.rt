@@ -8,7 +8,7 @@ ghost use Rattle.el_base.specs.declared.hash.Hash32 as hash_shape;
 ghost use Rattle.el_outside.specs.Counts.{CountsOnly};
 ghost use Rattle.el_tx.specs.declared.types.Tx as shape;
 ghost use Rattle.el_chain.specs.Chains.{Chain};
-ghost use Rattle.el_model.specs.Keeping.{Quiet};
+ghost use Rattle.el_model.specs.LedgerCalls.{Asked};
 ghost use Rattle.el_mempool.specs.Standing.{StandsFor};
 ghost use Rattle.el_view.specs.Rows.{history_rows};
 ghost use Rattle.el_sessions.specs.Sessions.{Subscription};
@@ -61,8 +61,7 @@ fn tell_one<G: Ledger>(
         → (s : hash_shape.Hash32) → slice_get (keys_of subs.old) number ≡ Some s
         → G.reads ledger.new ≤ G.reads ledger.old + history_rows chain (G.buckets ledger.old) s.0 }
     ensures keys { keys_of subs.new ≡ keys_of subs.old }
-    ensures quiet { Quiet G.is_live G.height G.tip G.buckets G.stands G.tells_crash
-        G.moment G.left_since ledger.old ledger.new }
+    ensures quiet { Asked ⟦<G as Ledger>⟧ ledger.old ledger.new }
     ensures cause { CountsOnly (G.faults ledger.old) (G.faults ledger.new) QueryFault.DiskFailed result }
 {
     let Some((s, told)) = subs.at(number) else {
@@ -77,9 +76,9 @@ fn tell_one<G: Ledger>(
 }
 
 /// What a client is told of its subscriptions, in their order: the script hash and the status, both in inner
-/// order, of each whose status isn't the one told last. They are then marked as told. It holds where each
-/// subscription to a script hash that isn't touched was told its status. Each touched script hash is looked
-/// up once, and no other subscription is looked at, so it takes no more time where there are many.
+/// order, of each whose status isn't the one told last. They are then marked as told. These are all, where
+/// each subscription to a script hash that isn't touched was told its status: each touched script hash is
+/// looked up once, and no other subscription is looked at, however many there are.
 ///
 /// # Errors
 ///
@@ -104,8 +103,7 @@ pub fn tell<G: Ledger>(
         (keys_of subs.old) }
     // The script hashes stay, whatever the ledger stands for.
     ensures keys { keys_of subs.new ≡ keys_of subs.old }
-    ensures quiet { Quiet G.is_live G.height G.tip G.buckets G.stands G.tells_crash
-        G.moment G.left_since ledger.old ledger.new }
+    ensures quiet { Asked ⟦<G as Ledger>⟧ ledger.old ledger.new }
     ensures cause { CountsOnly (G.faults ledger.old) (G.faults ledger.new) QueryFault.DiskFailed result }
 {
     let numbers = touched_numbers(alloc, subs, touched)?;

@@ -11,6 +11,7 @@ use Rattle.el_block.specs.Blocks.{block_hash}
 use Rattle.el_chain.specs.Chains.{Chain, tip, tip_after, zero_hash}
 use Rattle.el_chain.specs.Headers.{AreLinked, same_hash, IsPath, genesis}
 use Rattle.el_chain.specs.Moves.{shorter, last_hash}
+use Rattle.el_chain.proofs.TouchLemmas.{hash_gives, hash_from}
 use Rattle.el_tx.specs.Headers.{header_encoding}
 use Rattle.el_lines.specs.NodeAnswers.{at_answer}
 use Rattle.el_headers.specs.Adding.{IsEndOf}
@@ -22,10 +23,6 @@ use Rattle.el_sync.proofs.Lists.{linked_after}
 -- the rest of a path is linked
 pub drop_linked : (path rest : List Node) → AreLinked zero_hash path → (n : ℕ) × (rest ≡ drop n path) → (x : Hash32) × AreLinked x rest
 drop_linked path rest h end = (last_hash zero_hash (take end.0 path), rw end.1 (linked_after end.0 zero_hash path h))
-
--- and where nothing is taken back, it is linked to the tip
-same_is : (a b : Hash32) → same_hash a b ≡ true → a ≡ b
-same_is a b h = ap (λ (l : List ℕ). record { 0 = l }) (search rules)
 
 -- how many are common, of a block and those above it
 up_to_less : (same : Bool) (above : ℕ) → common_up_to same above ≤ suc above
@@ -61,7 +58,7 @@ common_linked before (b ∷ bs) (n ∷ ns) h = by (same_hash (block_hash b.block
         let here : AreLinked (tip_after (block_hash b.block.header) (take (suc m) bs)) (drop (suc m) ns) = rw (tip_not_before (block_hash b.block.header) n.hash bs m long) go' in
         rw is here
     by true zero e is go =
-        let same = same_is (block_hash b.block.header) n.hash e in
+        let same = hash_gives (block_hash b.block.header) n.hash e in
         let here : AreLinked (block_hash b.block.header) ns = rw same h.1 in
         rw (e, is) here
     by false zero e is go = rw (e, is) h
@@ -107,7 +104,7 @@ path_linked found path h p = rw p.whole (names_zero found p.first p.begins, p.li
         → (genesis found ≡ Some n → n.header.previous ≡ zero_hash) → n.header.previous ≡ zero_hash
     by found x n true is e go =
         let one : x ≡ n = (let f = rw is at e in cc) in
-        rw (← one) (same_is x.header.previous zero_hash is)
+        rw (← one) (hash_gives x.header.previous zero_hash is)
     by found x n false is e go = go (let f = rw is at e in f)
 
     names_zero : (found : List Node) (n : Node) → genesis found ≡ Some n → n.header.previous ≡ zero_hash
@@ -123,14 +120,11 @@ block_here (b ∷ bs) (suc i) text h =
     let r = block_here bs i text h in
     (r.0, r.1 ∙ ap (λ n. r.0 ∷ drop n (b ∷ bs)) (let e : suc (i + 1) ≡ suc i + 1 = omega arith in e), r.2)
 
-hash_same : (a b : Hash32) → a ≡ b → same_hash a b ≡ true
-hash_same a b e = search rules
-
 hash_other : (a b : Hash32) → (a ≡ b → ⊥) → same_hash a b ≡ false
 hash_other a b no_eq = by (same_hash a b) refl
   where
     by : (s : Bool) → same_hash a b ≡ s → same_hash a b ≡ false
-    by true e = absurd (no_eq (same_is a b e))
+    by true e = absurd (no_eq (hash_gives a b e))
     by false e = e
 
 node_at : (path : List Node) (i : ℕ) (n : Node) → slice_get path i ≡ Some n → drop i path ≡ n ∷ drop (i + 1) path
@@ -207,7 +201,7 @@ below_same chain path i k last n text is one there header same =
     let b = block_here chain k text header in
     let here = sym (is.node k one) ∙ there in
     let hash : block_hash b.0.block.header ≡ n.hash = ap (λ (t : List ℕ). record { 0 = sha256d t }) b.2 ∙ same in
-    let yes_same = hash_same (block_hash b.0.block.header) n.hash hash in
+    let yes_same = hash_from (block_hash b.0.block.header) n.hash hash in
     let next_one : i ≡ k + 1 = omega (arith, one) in
     let above : common (drop (k + 1) chain) (drop (k + 1) path) ≡ 0 = rw (← next_one) is.none_above in
     let found : common (drop k chain) (drop k path) ≡ 1 = rw (b.1, node_at path k n here, yes_same, above) refl in

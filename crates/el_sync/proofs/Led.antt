@@ -1,11 +1,11 @@
 -- What steps leave of a ledger and of block files, of which only the traits are known.
 use Rattle.std.specs.Prelude.{OnErr}
-use Rattle.std.proofs.Common.{◌≡◌, ◌≢◌, ◌⊎◌, inl, inr, Bool, false, ℕ, ◌≤◌, arith, List, [], ◌∷◌, ◌++◌, Option, Some, Result, Ok, Err, refl, sym, ap, ◌∙◌, append-nil, append_assoc}
+use Rattle.std.proofs.Common.{◌≡◌, ◌≢◌, inl, Bool, false, ℕ, ◌≤◌, arith, List, [], ◌∷◌, ◌++◌, Option, Some, Result, Ok, Err, refl, sym, ap, ◌∙◌, append_assoc}
 use Rattle.std.specs.Result.{IfOk, IfErr}
 use Rattle.el_base.specs.declared.hash.Hash32.{Hash32}
 use Rattle.el_outside.specs.Counts.{CountsOnly, RoseBy}
 use Rattle.el_outside.specs.Devices as device
-use Rattle.el_outside.specs.Devices.{Device, link, archive, disk, failures, faults, Rose}
+use Rattle.el_outside.specs.Devices.{Device, link, archive, disk, failures, faults}
 use Rattle.el_outside.specs.Files.{AllGrow, IsFile}
 use Rattle.el_outside.specs.declared.archive.Archive as archives
 use Rattle.el_chain.specs.declared.node.Node.{Node}
@@ -38,24 +38,15 @@ use Rattle.el_sync.specs.declared.fault.StepFault.{StepFault}
 use Rattle.el_sync.specs.declared.fault.StepFault.TheVariants as fault
 use Rattle.el_sync.specs.declared.moving.Step.{Step}
 use Rattle.el_outside.proofs.Devices.{rose_still, rose_of}
+use Rattle.el_outside.proofs.Traces.{all_grow_none, all_grow_more}
 
 -- ---- block files that only grow
-
-pub all_grow_self : (a : ℕ → List ℕ) → AllGrow a a
-all_grow_self a = λ file. ([], sym (append-nil (a file)))
-
-pub grows_on : (a b c : ℕ → List ℕ) → AllGrow a b → AllGrow b c → AllGrow a c
-grows_on a b c g h = λ file. ((g file).0 ++ (h file).0, (h file).1 ∙ ap (λ (l : List ℕ). l ++ (h file).0) (g file).1 ∙ append_assoc (a file) (g file).0 (h file).0)
 
 pub file_grew : (a b : ℕ → List ℕ) (file : ℕ) (bytes after : List ℕ) → AllGrow a b → IsFile (b file) bytes after → IsFile (a file) bytes after
 file_grew a b file bytes after g is = record {
   grew = ((g file).0 ++ is.grew.0, is.grew.1 ∙ ap (λ (l : List ℕ). l ++ is.grew.0) (g file).1 ∙ append_assoc (a file) (g file).0 is.grew.0);
   grows = is.grows;
 }
-
-pub if_ok_map : {T E : Type 0} (r : Result T E) (P Q : T → Type 0) → ((x : T) → P x → Q x) → IfOk r P → IfOk r Q
-if_ok_map (Ok x) P Q f h = f x h
-if_ok_map (Err e) P Q f h = tt
 
 pub if_err_map : {T E : Type 0} (r : Result T E) (P Q : E → Type 0) → ((x : E) → P x → Q x) → IfErr r P → IfErr r Q
 if_err_map (Ok x) P Q f h = tt
@@ -112,7 +103,7 @@ module _ {G A : Type 0} (of_ledger : ledgers.Ghosts G) (of_files : archives.Ghos
     set = at.set;
     touches = touches_none side side start moved changed refl refl;
     went = went;
-    told = λ t. grows_on side.files (of_files.bytes a) (of_files.bytes b) (at.told t) (grows t);
+    told = λ t. all_grow_more side.files (of_files.bytes a) (of_files.bytes b) (at.told t) (grows t);
     rose = λ of_link. rose_of of_link _ _ _ _ [] refl (rose_still _ _ files_same) (rose_still _ _ disk_same);
   }
 
@@ -276,16 +267,12 @@ path_move chain path rest back p few is rest_is moving plan =
 
 -- ---- a place that is looked at
 
-pub on_err_all : {T E : Type 0} (r : Result T E) (P : Type 0) → P → OnErr r P
-on_err_all (Ok x) P h = tt
-on_err_all (Err e) P h = h
-
 module _ {A : Type 0} (of_files : archives.Ghosts A) where
   pub place_there : (a b : A) (side : Side) (file at : ℕ) (node : Option Node) → (of_files.tells → AllGrow side.files (of_files.bytes a)) → (of_files.tells → AllGrow (of_files.bytes a) (of_files.bytes b))
       → side_of.LooksUp of_files.tells (record side { files = of_files.bytes a }) file at node (of_files.bytes b) → side_of.LooksUp of_files.tells side file at node (of_files.bytes b)
   place_there a b side file at node told grows up = record {
     node = up.node;
-    grows = λ t. grows_on side.files (of_files.bytes a) (of_files.bytes b) (told t) (grows t);
+    grows = λ t. all_grow_more side.files (of_files.bytes a) (of_files.bytes b) (told t) (grows t);
     record_is = λ t. (
       (up.record_is t).0,
       file_grew side.files (of_files.bytes a) file (up.record_is t).0 (of_files.bytes b file) (told t) (up.record_is t).1,
@@ -309,7 +296,7 @@ module _ {A : Type 0} (of_files : archives.Ghosts A) where
       → RoseBy (of_files.faults a) (of_files.faults b) 1 → Looked of_files a b side file at text tree
   place_failed a b holdings side file at text tree from told grows same says rose = record {
     losses = archive ∷ [];
-    looks = side_of.fails (of_files.bytes b) (λ t. grows_on side.files (of_files.bytes a) (of_files.bytes b) (told t) (grows t)) says
+    looks = side_of.fails (of_files.bytes b) (λ t. all_grow_more side.files (of_files.bytes a) (of_files.bytes b) (told t) (grows t)) says
         (ap (λ (found : List Node). record side { found = found; files = of_files.bytes b }) (same ∙ sym from.found)) refl;
     rose = rose;
   }
@@ -333,7 +320,7 @@ module _ {G A : Type 0} (of_ledger : ledgers.Ghosts G) (of_files : archives.Ghos
     set = record { stood = here.set.stood; still = here.set.still; limits = here.set.limits };
     touches = touches_none side (record side { found = tree; files = of_files.bytes b }) start moved changed refl refl;
     went = went;
-    told = λ t. all_grow_self (of_files.bytes b);
+    told = λ t. all_grow_none (of_files.bytes b);
     rose = λ of_link. rose_of of_link _ _ _ _ looked.losses (archive_alone link looked.looks (λ e. cc)) looked.rose
         (rw (archive_alone disk looked.looks (λ e. cc)) (rose_still _ _ refl));
   }
@@ -351,7 +338,7 @@ module _ {G A : Type 0} (of_ledger : ledgers.Ghosts G) (of_files : archives.Ghos
       → Moved of_ledger l l side.chain side.chain → Leads of_ledger of_files (OrdersLine of_files.tells side (line bytes)) l l a a side start s.text tree s.left s.moved s.changed pool
   refused_leads s l a side start pool bytes said tree here still same is orders says none moved =
       answered of_ledger of_files l l a a side start pool (OrdersLine of_files.tells side (line bytes)) s.text tree s.left s.moved s.changed here still (said, is, orders s.text says) (sym same) none
-      (λ t. all_grow_self (of_files.bytes a)) moved refl refl
+      (λ t. all_grow_none (of_files.bytes a)) moved refl refl
 
 -- ---- what every step keeps
 
@@ -393,7 +380,7 @@ module _ {G A : Type 0} (of_ledger : ledgers.Ghosts G) (of_files : archives.Ghos
     still_live = λ e. asked.stays.still_live live;
     nodes = rw none tt;
     linked = rw none tt;
-    keeps = λ t. all_grow_self (of_files.bytes a);
+    keeps = λ t. all_grow_none (of_files.bytes a);
     archive_more = omega arith;
     archive_rose = tt;
     disk_rose = record { counted = λ e. absurd cc; uncounted = same; others_uncounted = tt };
@@ -408,7 +395,7 @@ module _ {G A : Type 0} (of_ledger : ledgers.Ghosts G) (of_files : archives.Ghos
     still_live = λ m. asked.stays.still_live live;
     nodes = tt;
     linked = tt;
-    keeps = λ t. all_grow_self (of_files.bytes a);
+    keeps = λ t. all_grow_none (of_files.bytes a);
     archive_more = omega arith;
     archive_rose = inl (rose_still _ _ refl);
     disk_rose = record { counted = λ m. counted (same_fault e fault.DiskFailed m); uncounted = tt; others_uncounted = λ other. others other };

@@ -2,7 +2,6 @@
 use Rattle.std.proofs.Common.{◌≡◌, ◌⊎◌, inl, inr, ℕ, zero, suc, ◌+◌, ◌-◌, ◌<◌, ◌≤◌, true, false, Bool, List, [], ◌∷◌, length, take, drop, Option, Some, refl, sym, ap, ◌∙◌, arith, nat_lt, ltb-true, ltb-false}
 use Rattle.std.proofs.lemmas.List.{drop_all, drop-drop, length-drop}
 use Rattle.std.specs.Prelude.{min}
-use Rattle.std.specs.List.{AllByRecursion}
 use Rattle.el_base.specs.declared.hash.Hash32.{Hash32}
 use Rattle.el_chain.specs.declared.node.Node.{Node}
 use Rattle.el_chain.specs.Chains.{Chain, tip, zero_hash}
@@ -22,11 +21,6 @@ pub linked_after : (n : ℕ) (before : Hash32) (ns : List Node) → AreLinked be
 linked_after zero before ns h = h
 linked_after (suc n) before [] h = tt
 linked_after (suc n) before (x ∷ ns) h = linked_after n x.hash ns h.1
-
-pub all_after : (P : Node → Type 0) (n : ℕ) (ns : List Node) → AllByRecursion P ns → AllByRecursion P (drop n ns)
-all_after P zero ns h = h
-all_after P (suc n) [] h = tt
-all_after P (suc n) (x ∷ ns) h = all_after P n ns h.1
 
 -- passing over the blocks of one move
 pub passed_over : (path : List Node) (from n m : ℕ) → from ≤ length path → n ≡ min (length path - from) m → drop (from + n) path ≡ drop m (drop from path)

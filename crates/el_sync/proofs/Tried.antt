@@ -11,6 +11,7 @@ use Rattle.el_outside.specs.Files.{AllGrow}
 use Rattle.el_outside.specs.declared.archive.Archive as archives
 use Rattle.el_outside.proofs.Devices.{all_rose_on, rose_of, rose_still}
 use Rattle.el_outside.proofs.Moments.{joined, weaker}
+use Rattle.el_outside.proofs.Traces.{all_grow_none, all_grow_more}
 use Rattle.el_chain.specs.declared.node.Node.{Node}
 use Rattle.el_chain.specs.declared.moves.MoveFault.{MoveFault}
 use Rattle.el_chain.specs.declared.moves.MoveFault.TheVariants as stop
@@ -44,7 +45,7 @@ use Rattle.el_sync.specs.declared.fault.StepFault.{StepFault}
 use Rattle.el_sync.specs.declared.fault.StepFault.TheVariants as fault
 use Rattle.el_sync.specs.declared.making.Made.{Made}
 use Rattle.el_sync.specs.declared.moving.Step.{Step}
-use Rattle.el_sync.proofs.Led.{all_grow_self, grows_on, stands_there, still_there}
+use Rattle.el_sync.proofs.Led.{stands_there, still_there}
 use Rattle.el_sync.proofs.Lists.{left_fewer, left_no_more, none_fewer}
 
 -- ---- whether the set is sifted
@@ -176,7 +177,7 @@ module _ {G A : Type 0} (of_ledger : ledgers.Ghosts G) (of_files : archives.Ghos
     losses = [];
     chain = shorter back side.chain ++ moved.0;
     tried = made moved.0 (rw is at moved.1) (rw is at moved.3) yes_moved refl (rw (← tip_is (shorter back side.chain ++ moved.0) moved.2, ← height_is (shorter back side.chain ++ moved.0) moved.2) text_is) refl;
-    grows = λ t. grows_on side.files (of_files.bytes a) (of_files.bytes b) (told t) (grows t);
+    grows = λ t. all_grow_more side.files (of_files.bytes a) (of_files.bytes b) (told t) (grows t);
     moved = record { stood = moved.2; crash = moved.4 };
     rose = λ of_link. rose_of of_link _ _ _ _ [] refl (rose_still _ _ files_same) (rose_still _ _ disk_same);
   }
@@ -191,7 +192,7 @@ module _ {G A : Type 0} (of_ledger : ledgers.Ghosts G) (of_files : archives.Ghos
     losses = losses;
     chain = side.chain;
     tried = tried;
-    grows = λ t. grows_on side.files (of_files.bytes a) (of_files.bytes b) (told t) (grows t);
+    grows = λ t. all_grow_more side.files (of_files.bytes a) (of_files.bytes b) (told t) (grows t);
     moved = moved;
     rose = rose;
   }
@@ -287,7 +288,7 @@ module _ {G A : Type 0} (of_ledger : ledgers.Ghosts G) (of_files : archives.Ghos
             touches = touches_moved (left_of rest) (shorter back side.chain ++ blocks) start (of_files.bytes b) side m.touched changed
                 (move_keeps (plan_of back rest) side.chain blocks m.touched touched) (λ none. (sifts start (shorter back side.chain ++ blocks) at.set.stood stood (ended none)).1);
             went = then_asked old mid new side.chain (shorter back side.chain ++ blocks) own live (rw chain_is at moved) asked;
-            told = λ t. all_grow_self (of_files.bytes b);
+            told = λ t. all_grow_none (of_files.bytes b);
             rose = rose_on losses rose;
           }
       by {losses} {chain} (refused e why no_moved chain_is says apart lost) moved rose =
@@ -307,7 +308,7 @@ module _ {G A : Type 0} (of_ledger : ledgers.Ghosts G) (of_files : archives.Ghos
             touches = touches_refused later start (of_files.bytes b) pool side m.touched changed at.set still
                 (λ yes_later. (sifts start side.chain at.set.stood moved_on.stood (ended ∙ yes_later)).1);
             went = then_asked old mid new side.chain side.chain own live moved_on asked;
-            told = λ t. all_grow_self (of_files.bytes b);
+            told = λ t. all_grow_none (of_files.bytes b);
             rose = rose_on losses rose;
           }
       by {losses} {chain} (failed no_moved chain_is says apart lost) moved rose =
@@ -327,7 +328,7 @@ module _ {G A : Type 0} (of_ledger : ledgers.Ghosts G) (of_files : archives.Ghos
             touches = touches_refused later start (of_files.bytes b) pool side m.touched changed at.set still
                 (λ yes_later. (sifts start side.chain at.set.stood moved_on.stood (ended ∙ yes_later)).1);
             went = then_asked old mid new side.chain side.chain own live moved_on asked;
-            told = λ t. all_grow_self (of_files.bytes b);
+            told = λ t. all_grow_none (of_files.bytes b);
             rose = rose_on losses rose;
           }
 

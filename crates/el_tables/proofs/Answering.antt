@@ -1,6 +1,6 @@
 -- What is asked of the lists of a chain is what the chain says.
 use Rattle.std.proofs.Common.{◌≡◌, inl, inr, ℕ, zero, suc, ◌+◌, ◌==◌, true, false, List, [], ◌∷◌, ◌++◌, length, map, filter, Option, None, Some, option_map, option_and_then, refl, ap, sym, ◌∙◌, append_assoc, arith, length-append, ne_eqb, eq-eqb, find, bytes_eq, slice_get}
-use Rattle.std.proofs.lemmas.Bool.{cases_Bool, and_right}
+use Rattle.std.proofs.lemmas.Bool.{cases_Bool, and_right, true≢false}
 use Rattle.std.proofs.lemmas.List.{map-append, length-map, get_or_at}
 use Rattle.std.specs.List.{AllByRecursion}
 use Rattle.el_base.specs.declared.hash.Hash32.{Hash32}
@@ -33,9 +33,6 @@ abbrev pub own_coins : List ℕ → List Coin → List Coin
 own_coins script coins = filter (λ (c : Coin). bytes_eq c.script.0 script) coins
 
 -- 1. Balances
-
-true_false : true ≡ false → ⊥
-true_false e = cc
 
 balance_is : (s : Hash32) (scripts : List Hash32) (xs : List Output) → AllHave scripts xs
     → supply (own_coins s.0 (coins_of xs)) ≡ balance_of (script_number s scripts) (map (listed_out scripts) xs)
@@ -130,7 +127,7 @@ coin_at (suc k) o l scripts txs (x ∷ xs) et es know at there =
     let rest = coin_at k o l scripts txs xs et es know.1 at.1 there in
     elim (cases_Bool (is_unspent x.state)) [
       | inl u ↦ elim (cases_Bool (is_coin_of o x.coin)) [
-        | inl h ↦ absurd (true_false (sym (both h u) ∙ at.0))
+        | inl h ↦ absurd (true≢false (sym (both h u) ∙ at.0))
         | inr h ↦ rw (u, h) rest
       ]
       | inr u ↦ rw u rest

@@ -1,6 +1,6 @@
 -- One transaction more: its steps lead from the lists of transactions to those with it.
 use Rattle.std.proofs.Common.{◌≡◌, inl, inr, ℕ, ◌+◌, true, false, List, [], ◌∷◌, ◌++◌, length, map, filter, Option, None, Some, Result, Ok, Err, refl, ap, sym, ap₂, ◌∙◌, append-nil, arith, length-append}
-use Rattle.std.proofs.lemmas.Bool.{cases_Bool, or_from, or_parts}
+use Rattle.std.proofs.lemmas.Bool.{cases_Bool, or_from, or_parts, true≢false}
 use Rattle.std.proofs.lemmas.List.{length-map}
 use Rattle.std.specs.List.{AllByRecursion, flat_map}
 use Rattle.el_base.specs.declared.hash.Hash32.{Hash32}
@@ -34,9 +34,6 @@ use Rattle.el_tables.proofs.Settled.{whole_settles}
 abbrev pub ApartFrom : Outpoint → List TxIn → Type 0
 ApartFrom p is = AllByRecursion (λ (i : TxIn). same_outpoint p i.from ≡ false) is
 
-true_false : true ≡ false → ⊥
-true_false e = cc
-
 has_left : (p o : Outpoint) (cs : List Coin) → has_coin p cs ≡ false → has_coin p (without o cs) ≡ false
 has_left p o [] h = refl
 has_left p o (c ∷ cs) h =
@@ -59,7 +56,7 @@ not_named p (i ∷ is) n cs none h = elim (cases_Bool (has_coin i.from cs)) [
   | inl e ↦
       let rest = rw e at none in (
         elim (cases_Bool (same_outpoint p i.from)) [
-          | inl s ↦ absurd (true_false (sym e ∙ ap (λ (o : Outpoint). has_coin o cs) (sym (same_gives p i.from s)) ∙ h))
+          | inl s ↦ absurd (true≢false (sym e ∙ ap (λ (o : Outpoint). has_coin o cs) (sym (same_gives p i.from s)) ∙ h))
           | inr s ↦ s
         ],
         not_named p is (n + 1) (without i.from cs) rest (has_left p i.from cs h),

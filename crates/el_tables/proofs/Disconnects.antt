@@ -21,7 +21,7 @@ use Rattle.el_tables.specs.Disconnecting.{last, is_entry_of, take_back_entries, 
 use Rattle.el_tables.proofs.Outputs.{coins_of, outputs_more}
 use Rattle.el_tables.proofs.Names.{live, settle}
 use Rattle.el_tables.proofs.Numbering.{outs_of, ins_of, length_outputs, length_txs, txs_more, names_all, ins_more}
-use Rattle.el_tables.proofs.Scripts.{hash_gives, Keeps, AllIn, NoTx, all_from, all_has, all_met, has_more, has_back, number_next, number_within, once_has, once_keeps, gather_keeps, gather_has, gathered, scripts_more, entries_same, entries_more, no_tx_yet}
+use Rattle.el_tables.proofs.Scripts.{hash_gives, Keeps, AllIn, NoTx, all_from, all_has, all_met, has_more, has_back, number_next, number_within, once_has, once_keeps, gather_keeps, gather_has, gathered, scripts_more, entries_same, entries_more, no_tx_yet, once_longer}
 use Rattle.el_tables.proofs.Steps.{listed_kept, lists_same, lists_with, settle_inputs, bury_outputs}
 use Rattle.el_tables.proofs.Settled.{whole_settles}
 use Rattle.el_tables.proofs.Connects.{outputs_have, names_inputs}
@@ -64,12 +64,6 @@ within_more scripts more (e ∷ es) le h = (let lt = h.0 in omega arith, within_
 within_joined : (scripts : List Hash32) (es fs : List ListedEntry) → Within scripts es → Within scripts fs → Within scripts (es ++ fs)
 within_joined scripts [] fs a b = b
 within_joined scripts (e ∷ es) fs a b = (a.0, within_joined scripts es fs a.1 b)
-
-once_long : (s : Hash32) (scripts : List Hash32) → length scripts ≤ length (add_script s scripts)
-once_long s scripts = elim (cases_Bool (has_script s scripts)) [
-  | inl h ↦ rw h (let e : length scripts ≤ length scripts = omega arith in e)
-  | inr h ↦ rw h (let l = length-append scripts (s ∷ []) in let e : length scripts ≤ length (scripts ++ s ∷ []) = omega arith in e)
-]
 
 -- what was there, where one more is there
 once_was : (s t : Hash32) (scripts : List Hash32) → has_script t (add_script s scripts) ≡ true → (has_script t scripts ≡ true) ⊎ (s ≡ t)
@@ -143,7 +137,7 @@ entries_back n m k (s ∷ ss) scripts es covered within l is =
     let e = entry_of more m s in
     let final = add_scripts more ss in
     let own : entry_of final m s ≡ e = ap (λ (j : ℕ). record { tx = m; script = j }) (gather_keeps ss s more (once_has s scripts).0).1 in
-    let long = once_long s scripts in
+    let long = once_longer s scripts in
     let lt = number_within s more (once_has s scripts).0 in
     let rest = entries_back n m (suc k) ss more (es ++ e ∷ []) (covered_once s m scripts es covered)
     (within_joined more es (e ∷ []) (within_more scripts more es long within) (lt, tt)) l (omega arith) in

@@ -1,6 +1,6 @@
 -- The steps keep the numbers of scripts in order; so each step's edit of rows is exact.
-use Rattle.std.proofs.Common.{◌≡◌, inl, inr, ℕ, zero, suc, ◌+◌, ◌-◌, ◌<◌, ◌≤◌, ◌==◌, Bool, true, false, cond, ◌&&◌, List, [], ◌∷◌, ◌++◌, length, map, Option, None, Some, refl, ap, sym, subst, ◌∙◌, arith, eq-eqb, ne_eqb, length-append, if◌then◌else◌}
-use Rattle.std.proofs.lemmas.Bool.{cases_Bool, cases_lt, or_parts, or_from}
+use Rattle.std.proofs.Common.{◌≡◌, inl, inr, ℕ, zero, suc, ◌+◌, ◌-◌, ◌<◌, ◌≤◌, ◌==◌, Bool, true, false, cond, List, [], ◌∷◌, ◌++◌, length, map, Option, None, Some, refl, ap, sym, subst, ◌∙◌, arith, eq-eqb, ne_eqb, length-append, if◌then◌else◌}
+use Rattle.std.proofs.lemmas.Bool.{cases_Bool, cases_lt, or_parts, or_from, true≢false}
 use Rattle.std.specs.List.{list_any}
 use Rattle.el_base.specs.declared.hash.Hash32.{Hash32}
 use Rattle.el_chain.specs.RowCounts.{has_script, add_script, concerned_scripts, add_scripts}
@@ -9,21 +9,18 @@ use Rattle.el_tables.specs.Lists.{State, ListedTx, ListedOut, ListedEntry, Lists
 use Rattle.el_tables.specs.Lists.State.{Unspent, Spent, Buried}
 use Rattle.el_chain.specs.History.{Position, positions}
 use Rattle.el_tables.specs.ChainLists.{ListedBlock, Output, outputs, scripts_of, entry_of, entries_from, listed_out, lists}
-use Rattle.el_tables.specs.Disconnecting.{but_last, last, unbury, give_back, buried_at, spent_at, take_back_tx, take_back_entry, take_back_output, unspend, without_entry}
+use Rattle.el_tables.specs.Disconnecting.{but_last, last, unbury, give_back, buried_at, spent_at, take_back_tx, take_back_entry, take_back_output, unspend}
 use Rattle.el_tables.specs.Tables.{HeadCounts, greatest_from, greatest, tables_of}
 use Rattle.el_tables.specs.Edits.{script_added, entry_dropped}
 use Rattle.el_tables.specs.Fits.{after_entry, reached, InOrder, OutsWithin, Once, IsNumbered, Fits}
 use Rattle.el_tables.proofs.Outputs.{from_front}
-use Rattle.el_tables.proofs.Scripts.{hash_gives, number_next, number_within, gather_keeps, touched, touched_is, scripts_more, entries_more, entries_same, no_tx_yet, all_met}
+use Rattle.el_tables.proofs.Scripts.{hash_gives, number_next, number_within, gather_keeps, touched, touched_is, scripts_more, entries_more, entries_same, no_tx_yet, all_met, once_longer}
 use Rattle.el_tables.proofs.Steps.{AllHave}
 use Rattle.el_tables.proofs.Connects.{outputs_have}
 use Rattle.el_tables.proofs.Listing.{once_snoc}
 use Rattle.el_chain.specs.Chains.{Chain}
 use Rattle.el_tables.proofs.TakeBack.{but_last_is, last_is}
 use Rattle.el_tables.proofs.ScriptEdits.{IsLastFirst, no_last_tx, touch_new_rows, take_back_entry_rows}
-
-yes_no : true ≡ false → ⊥
-yes_no e = cc
 
 -- 1. Entries in order
 
@@ -65,7 +62,7 @@ none_after n k (e ∷ es) h le =
     ]
   where
     self : (n : ℕ) (e : ListedEntry) → (e.script == n) ≡ false → e.script ≡ n → ⊥
-    self n e q s = yes_no (sym (eq-eqb e.script n s) ∙ q)
+    self n e q s = true≢false (sym (eq-eqb e.script n s) ∙ q)
 
 -- one that is reached has one
 any_below : (n k : ℕ) (es : List ListedEntry) → n ≤ k → k < reached n es → list_any (is_of_script k) es ≡ true
@@ -78,7 +75,7 @@ any_below n k (e ∷ es) le lt = elim (cases_Bool (is_of_script k e)) [
     next : (n k : ℕ) (e : ListedEntry) → n ≤ k → (e.script == k) ≡ false → after_entry n e ≤ k
     next n k e le h = elim (cases_Bool (e.script == n)) [
       | inl q ↦ let at = Rattle.std.proofs.Common.eqb-true e.script n q in rw q (elim (Rattle.std.proofs.Common.eq-or-lt_of_le le) [
-        | inl s ↦ absurd (yes_no (sym (eq-eqb e.script k (at ∙ s)) ∙ h))
+        | inl s ↦ absurd (true≢false (sym (eq-eqb e.script k (at ∙ s)) ∙ h))
         | inr lt ↦ let g : suc n ≤ k = omega arith in g
       ])
       | inr q ↦ rw q le
@@ -101,7 +98,7 @@ first_is_last scripts entries h es e is none =
     let all : after_entry (reached 0 es) e ≡ length scripts = sym (reached_last 0 es e) ∙ ap (reached 0) (sym is) ∙ h.all in
     elim (Rattle.std.proofs.Common.eq-or-lt_of_le le) [
       | inl at ↦ let q = eq-eqb e.script (reached 0 es) at in let up = rw q at all in omega arith
-      | inr lt ↦ absurd (yes_no (sym (any_below 0 e.script es (omega arith) lt) ∙ none))
+      | inr lt ↦ absurd (true≢false (sym (any_below 0 e.script es (omega arith) lt) ∙ none))
     ]
 
 pub touch_new_fits : (counts : HeadCounts) (bs : List ListedBlock) (l : Lists) (s : Hash32) (tx : ℕ) → Fits l → 0 < counts.scripts
@@ -220,12 +217,6 @@ touch_numbers scripts es s tx h = elim (cases_Bool (has_script s scripts)) [
         let last = reached_last 0 es e in
         record { once = h.once; order = order_grows 0 es e h.order (omega arith); all = last ∙ same ∙ h.all }
 
-once_longer : (s : Hash32) (scripts : List Hash32) → length scripts ≤ length (add_script s scripts)
-once_longer s scripts = elim (cases_Bool (has_script s scripts)) [
-  | inl h ↦ rw h (let g : length scripts ≤ length scripts = omega arith in g)
-  | inr h ↦ rw h (let long = length-append scripts (s ∷ []) in let g : length scripts ≤ length (scripts ++ s ∷ []) = omega arith in g)
-]
-
 pub touch_fits : (l : Lists) (s : Hash32) (tx : ℕ) → Fits l → Fits (add_entry s tx l)
 touch_fits l s tx h = record {
   numbered = touch_numbers l.scripts l.entries s tx h.numbered;
@@ -278,7 +269,7 @@ script_found s xs h = found_from 0 s xs h ∙ by (has_script s xs)
 
 none_there : (es : List ListedEntry) (e : ListedEntry) → list_any (is_of_script e.script) es ≡ false → reached 0 es ≤ e.script
 none_there es e none = elim (cases_lt e.script (reached 0 es)) [
-  | inl lt ↦ absurd (yes_no (sym (any_below 0 e.script es (omega arith) lt) ∙ none))
+  | inl lt ↦ absurd (true≢false (sym (any_below 0 e.script es (omega arith) lt) ∙ none))
   | inr le ↦ le
 ]
 
@@ -299,7 +290,7 @@ entry_back_numbers l h = from_front
         elim (cases_Bool (list_any (is_of_script e.script) es)) [
           | inl there ↦
               let taken : take_back_entry old ≡ record l { entries = es } = rw (a, b, there) refl in
-              let apart = ne_eqb e.script (reached 0 es) (λ q. yes_no (sym there ∙ none_after 0 e.script es order.0 (omega arith))) in
+              let apart = ne_eqb e.script (reached 0 es) (λ q. true≢false (sym there ∙ none_after 0 e.script es order.0 (omega arith))) in
               subst (λ (x : Lists). IsNumbered x.scripts x.entries) (sym taken) (record { once = f.once; order = order.0; all = rw apart at all })
           | inr none ↦
               let taken : take_back_entry old ≡ record l { scripts = but_last l.scripts; entries = es } = rw (a, b, none) refl in

@@ -1,6 +1,6 @@
 -- The rows after `spend_output`, `add_output`, `take_back_output` and `unspend`.
 use Rattle.std.proofs.Common.{◌≡◌, inl, inr, ℕ, zero, suc, ◌+◌, ◌-◌, true, false, List, [], ◌∷◌, ◌++◌, take, set, get_or, Option, None, Some, refl, ap, ap₂, sym, ◌∙◌, arith, eq-eqb, ne_eqb, if◌then◌else◌}
-use Rattle.std.proofs.lemmas.Bool.{cases_Bool}
+use Rattle.std.proofs.lemmas.Bool.{cases_Bool, true≢false}
 use Rattle.el_base.specs.declared.hash.Hash32.{Hash32}
 use Rattle.el_tables.specs.Lists.{State, ListedOut, Lists, is_unspent, output_number, unspent_at, with_state, script_at, if_unspent, spend_output, replaced, bury, add_output, held, balance_of}
 use Rattle.el_tables.specs.Lists.State.{Unspent, Spent, Buried}
@@ -40,16 +40,13 @@ buried_is by k [] = refl
 buried_is by zero (x ∷ xs) = refl
 buried_is by (suc k) (x ∷ xs) = buried_is by k xs
 
-yes_no : true ≡ false → ⊥
-yes_no e = cc
-
 not_unspent : (s : State) → is_spent s ≡ true → is_unspent s ≡ false
-not_unspent Unspent e = absurd (yes_no (sym e))
+not_unspent Unspent e = absurd (true≢false (sym e))
 not_unspent (Spent n) e = refl
 not_unspent (Buried n) e = refl
 
 not_there : (by : ℕ) (s : State) → is_buried_by by s ≡ true → is_unspent s ≡ false
-not_there by Unspent e = absurd (yes_no (sym e))
+not_there by Unspent e = absurd (true≢false (sym e))
 not_there by (Spent n) e = refl
 not_there by (Buried n) e = refl
 

@@ -1,7 +1,6 @@
 -- Script hashes, each once, and the entries that a transaction's touches add.
-use Rattle.std.proofs.Common.{◌≡◌, inl, inr, ◌⊎◌, ℕ, suc, ◌+◌, ◌<◌, ◌≤◌, true, false, cond, List, [], ◌∷◌, ◌++◌, length, map, get_or, Option, None, Some, refl, ap, sym, ap₂, ◌∙◌, append_assoc, append-nil, arith, ne_eqb, eq-eqb, ◌==◌}
-use Rattle.std.proofs.lemmas.Bool.{cases_Bool, or_from, or_parts, or_left, or_right}
-use Rattle.std.proofs.lemmas.Slice.Eq.{bytes_eq-Decides}
+use Rattle.std.proofs.Common.{◌≡◌, inl, inr, ◌⊎◌, ℕ, suc, ◌+◌, ◌<◌, ◌≤◌, true, false, cond, List, [], ◌∷◌, ◌++◌, length, map, get_or, Option, None, Some, refl, ap, sym, ap₂, ◌∙◌, append_assoc, append-nil, arith, ne_eqb, eq-eqb, ◌==◌, length-append, Bool}
+use Rattle.std.proofs.lemmas.Bool.{cases_Bool, or_from, or_parts, or_left, or_right, true≢false}
 use Rattle.std.proofs.lemmas.List.{map-append}
 use Rattle.std.specs.Option.{option_or}
 use Rattle.std.specs.List.{AllByRecursion, flat_map}
@@ -12,30 +11,20 @@ use Rattle.el_chain.proofs.Meters.{gather_joined}
 use Rattle.el_tables.specs.Lists.{ListedEntry, script_number, is_of_script, last_tx_of, is_tx, append_entry}
 use Rattle.el_chain.specs.History.{Position}
 use Rattle.el_tables.specs.ChainLists.{scripts_of, entry_of, entries_from}
+pub use Rattle.el_chain.proofs.TouchLemmas.{hash_gives, hash_from}
 
-true_false : true ≡ false → ⊥
-true_false e = cc
-
--- 1. Hashes
-
-pub hash_gives : (a b : Hash32) → same_hash a b ≡ true → a ≡ b
-hash_gives a b h = ap (λ (bytes : List ℕ). record { 0 = bytes }) ((bytes_eq-Decides a.0 b.0).0 h)
-
-pub hash_from : (a b : Hash32) → a ≡ b → same_hash a b ≡ true
-hash_from a b e = (bytes_eq-Decides a.0 b.0).1 (ap (λ (h : Hash32). h.0) e)
-
--- 2. Numbers
+-- 1. Numbers
 
 -- a script that is there has a number of its own, which others after leave
 pub number_kept : (s : Hash32) (xs ys : List Hash32) → has_script s xs ≡ true → script_number s (xs ++ ys) ≡ script_number s xs
-number_kept s [] ys h = absurd (true_false (sym h))
+number_kept s [] ys h = absurd (true≢false (sym h))
 number_kept s (x ∷ xs) ys h = elim (cases_Bool (same_hash x s)) [
   | inl e ↦ rw e refl
   | inr e ↦ let rest = rw e at h in rw e (ap suc (number_kept s xs ys rest))
 ]
 
 pub has_more : (s : Hash32) (xs ys : List Hash32) → has_script s xs ≡ true → has_script s (xs ++ ys) ≡ true
-has_more s [] ys h = absurd (true_false (sym h))
+has_more s [] ys h = absurd (true≢false (sym h))
 has_more s (x ∷ xs) ys h = elim (cases_Bool (same_hash x s)) [
   | inl e ↦ rw e refl
   | inr e ↦ let rest = rw e at h in rw e (has_more s xs ys rest)
@@ -66,7 +55,7 @@ number_next s (x ∷ xs) h =
     rw e (ap suc rest)
 
 pub number_within : (s : Hash32) (xs : List Hash32) → has_script s xs ≡ true → script_number s xs < length xs
-number_within s [] h = absurd (true_false (sym h))
+number_within s [] h = absurd (true≢false (sym h))
 number_within s (x ∷ xs) h = elim (cases_Bool (same_hash x s)) [
   | inl e ↦ rw e (let g : 0 < length (x ∷ xs) = omega arith in g)
   | inr e ↦ let rest = rw e at h in let lt = number_within s xs rest in rw e (let g : suc (script_number s xs) < length (x ∷ xs) = omega arith in g)
@@ -74,7 +63,7 @@ number_within s (x ∷ xs) h = elim (cases_Bool (same_hash x s)) [
 
 -- the hash of the number
 pub number_at : (s d : Hash32) (xs : List Hash32) → has_script s xs ≡ true → get_or xs (script_number s xs) d ≡ s
-number_at s d [] h = absurd (true_false (sym h))
+number_at s d [] h = absurd (true≢false (sym h))
 number_at s d (x ∷ xs) h = elim (cases_Bool (same_hash x s)) [
   | inl e ↦ rw e (hash_gives x s e)
   | inr e ↦ let rest = rw e at h in rw e (number_at s d xs rest)
@@ -87,7 +76,7 @@ number_apart s t xs there same apart = elim (cases_Bool (has_script s xs)) [
       let a = number_at s s xs h in
       let b = number_at t s xs there in
       let e : t ≡ s = sym b ∙ ap (λ (n : ℕ). get_or xs n s) same ∙ a in
-      true_false (sym (hash_from t s e) ∙ apart)
+      true≢false (sym (hash_from t s e) ∙ apart)
   | inr h ↦ let lt = number_within t xs there in let at = number_next s xs h in omega arith
 ]
 
@@ -97,6 +86,13 @@ once_keeps s t xs there = elim (cases_Bool (has_script s xs)) [
   | inl h ↦ rw h (there, refl)
   | inr h ↦ rw h (has_more t xs (s ∷ []) there, number_kept t xs (s ∷ []) there)
 ]
+
+pub once_longer : (s : Hash32) (xs : List Hash32) → length xs ≤ length (add_script s xs)
+once_longer s xs = by (has_script s xs)
+  where
+    by : (b : Bool) → length xs ≤ length (cond b xs (xs ++ s ∷ []))
+    by true = omega arith
+    by false = let long = length-append xs (s ∷ []) in omega arith
 
 pub once_has : (s : Hash32) (xs : List Hash32) → (has_script s (add_script s xs) ≡ true) × (script_number s (add_script s xs) ≡ script_number s xs)
 once_has s xs = elim (cases_Bool (has_script s xs)) [
@@ -115,7 +111,7 @@ gather_keeps (s ∷ ss) t xs there =
 
 -- each of them is then there
 pub gather_has : (ss : List Hash32) (xs : List Hash32) (t : Hash32) → has_script t ss ≡ true → has_script t (add_scripts xs ss) ≡ true
-gather_has [] xs t h = absurd (true_false (sym h))
+gather_has [] xs t h = absurd (true≢false (sym h))
 gather_has (s ∷ ss) xs t h = elim (cases_Bool (same_hash s t)) [
   | inl e ↦
       let one : has_script t (add_script s xs) ≡ true = ap (λ (u : Hash32). has_script u (add_script s xs)) (sym (hash_gives s t e)) ∙ (once_has s xs).0 in
@@ -142,7 +138,7 @@ gather_only (s ∷ ss) xs t h none =
       | inr g ↦ rw g (snoc xs h e)
     ]
 
--- 3. All of some are there
+-- 2. All of some are there
 
 abbrev pub AllIn : List Hash32 → List Hash32 → Type 0
 AllIn xs ss = AllByRecursion (λ t. has_script t xs ≡ true) ss
@@ -153,7 +149,7 @@ all_from xs (s ∷ ss) h =
     (h s (or_left (same_hash s s) (has_script s ss) (hash_from s s refl)), all_from xs ss (λ t e. h t (or_right (same_hash s t) (has_script t ss) e)))
 
 pub all_has : (xs ss : List Hash32) (t : Hash32) → AllIn xs ss → has_script t ss ≡ true → has_script t xs ≡ true
-all_has xs [] t all h = absurd (true_false (sym h))
+all_has xs [] t all h = absurd (true≢false (sym h))
 all_has xs (s ∷ ss) t all h = elim (cases_Bool (same_hash s t)) [
   | inl e ↦ ap (λ (u : Hash32). has_script u xs) (sym (hash_gives s t e)) ∙ all.0
   | inr e ↦ let rest = rw e at h in all_has xs ss t all.1 rest
@@ -163,10 +159,10 @@ all_has xs (s ∷ ss) t all h = elim (cases_Bool (same_hash s t)) [
 pub gathered : (ss : List Hash32) (t : Hash32) → has_script t (add_scripts [] ss) ≡ true → has_script t ss ≡ true
 gathered ss t h = elim (cases_Bool (has_script t ss)) [
   | inl e ↦ e
-  | inr e ↦ absurd (true_false (sym h ∙ gather_only ss [] t refl e))
+  | inr e ↦ absurd (true≢false (sym h ∙ gather_only ss [] t refl e))
 ]
 
--- 4. Entries
+-- 3. Entries
 
 -- no entry is of the transaction
 abbrev pub NoTx : ℕ → List ListedEntry → Type 0
@@ -210,7 +206,7 @@ last_of_one scripts m j (s ∷ ss) = by (last_of_one scripts m j ss)
 
 last_met : (scripts : List Hash32) (m : ℕ) (s : Hash32) (ss : List Hash32) → has_script s ss ≡ true
     → last_tx_of (script_number s scripts) (map (entry_of scripts m) ss) ≡ Some m
-last_met scripts m s [] h = absurd (true_false (sym h))
+last_met scripts m s [] h = absurd (true≢false (sym h))
 last_met scripts m s (x ∷ xs) h = elim (cases_Bool (same_hash x s)) [
   | inl e ↦ by e (last_of_one scripts m (script_number s scripts) xs)
   | inr e ↦ let rest = rw e at h in let more = last_met scripts m s xs rest in rw more refl
@@ -297,7 +293,7 @@ pub touched_joined : (m : ℕ) (ss us : List Hash32) (scripts : List Hash32) (es
 touched_joined m [] us scripts es = refl
 touched_joined m (s ∷ ss) us scripts es = touched_joined m ss us (add_script s scripts) (append_entry m (script_number s scripts) es)
 
--- 5. The scripts and entries of transactions, with one more
+-- 4. The scripts and entries of transactions, with one more
 
 flat_joined : (ps qs : List Position) → flat_map concerned_scripts (ps ++ qs) ≡ flat_map concerned_scripts ps ++ flat_map concerned_scripts qs
 flat_joined [] qs = refl

@@ -1,6 +1,6 @@
 -- Who spent the newest output with an outpoint, position by position, is what the lists tell.
 use Rattle.std.proofs.Common.{◌≡◌, inl, inr, ℕ, zero, suc, ◌+◌, Bool, true, false, cond, List, [], ◌∷◌, ◌++◌, length, map, fold, slice_get, Option, None, Some, option_map, option_and_then, refl, ap, sym, ◌∙◌, arith, append_assoc, append-nil}
-use Rattle.std.proofs.lemmas.Bool.{cases_Bool, or_from}
+use Rattle.std.proofs.lemmas.Bool.{cases_Bool, or_from, true≢false}
 use Rattle.std.proofs.lemmas.List.Sums.{fold-append}
 use Rattle.std.specs.List.{list_any}
 use Rattle.std.specs.Option.{option_or}
@@ -26,9 +26,6 @@ use Rattle.el_tables.proofs.Steps.{none_of, named_of}
 use Rattle.el_tables.proofs.Connects.{ApartFrom, not_named, next_position}
 use Rattle.el_tables.proofs.Spenders.{states_agree}
 use Rattle.el_tables.proofs.WholeBlocks.{good_has}
-
-true_false : true ≡ false → ⊥
-true_false e = cc
 
 -- 1. One position more
 
@@ -58,28 +55,28 @@ taken_there : (o : Outpoint) (t : Tx) (cs : List Coin) → missing_input 0 (spen
 taken_there o t cs none h = elim (cases_Bool (has_coin o cs)) [
   | inl e ↦ e
   | inr e ↦ elim (cases_Bool (is_coinbase t)) [
-    | inl k ↦ let bad = rw k at h in absurd (true_false (sym bad))
+    | inl k ↦ let bad = rw k at h in absurd (true≢false (sym bad))
     | inr k ↦
         let rest = rw k at none in
         let apart = apart_none o t.inputs (not_named o t.inputs 0 cs rest e) in
         let bad = rw (k, apart) at h in
-        absurd (true_false (sym bad))
+        absurd (true≢false (sym bad))
   ]
 ]
 
 state_at : (k : ℕ) (outs : List ListedOut) → unspent_at k outs ≡ true → option_map (λ (x : ListedOut). x.state) (slice_get outs k) ≡ Some Unspent
-state_at k [] u = absurd (true_false (sym u))
+state_at k [] u = absurd (true≢false (sym u))
 state_at zero (x ∷ xs) u = ap (λ (s : State). Some s) (is_it x.state u)
   where
     is_it : (s : State) → is_unspent s ≡ true → s ≡ Unspent
     is_it Unspent e = refl
-    is_it (Spent n) e = absurd (true_false (sym e))
-    is_it (Buried n) e = absurd (true_false (sym e))
+    is_it (Spent n) e = absurd (true≢false (sym e))
+    is_it (Buried n) e = absurd (true≢false (sym e))
 state_at (suc k) (x ∷ xs) u = state_at k xs u
 
 there_case : (o : Outpoint) (ps : List Position) (r : Option ℕ) → coin_number o (txs_from 0 0 ps) (map (listed_out (scripts_of ps)) (outputs ps)) ≡ r
     → Found o (scripts_of ps) (outputs ps) r → has_coin o (coins_of (outputs ps)) ≡ true → newest_state o 0 ps ≡ Some Unspent
-there_case o ps None e f h = absurd (true_false (sym h ∙ none_of o (coins_of (outputs ps)) (none_coins o (outputs ps) f)))
+there_case o ps None e f h = absurd (true≢false (sym h ∙ none_of o (coins_of (outputs ps)) (none_coins o (outputs ps) f)))
 there_case o ps (Some k) e f h =
     let name = named_of (map (listed_out (scripts_of ps)) (outputs ps)) (output_number o (txs_from 0 0 ps)) k e in
     let state = state_at k (map (listed_out (scripts_of ps)) (outputs ps)) f.there in

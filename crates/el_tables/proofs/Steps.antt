@@ -213,6 +213,11 @@ unspent_front k [] ys lt = absurd (omega arith)
 unspent_front zero (x ∷ xs) ys lt = refl
 unspent_front (suc k) (x ∷ xs) ys lt = unspent_front k xs ys (omega arith)
 
+pub length_state : (s : State) (k : ℕ) (xs : List ListedOut) → length (with_state s k xs) ≡ length xs
+length_state s k [] = refl
+length_state s zero (x ∷ xs) = refl
+length_state s (suc k) (x ∷ xs) = ap suc (length_state s k xs)
+
 pub state_front : (s : State) (k : ℕ) (xs ys : List ListedOut) → k < length xs → with_state s k (xs ++ ys) ≡ with_state s k xs ++ ys
 state_front s k [] ys lt = absurd (omega arith)
 state_front s zero (x ∷ xs) ys lt = refl

@@ -18,7 +18,7 @@ use Rattle.el_tables.specs.ChainLists.{Output, output, listed_out, spent_numbers
 use Rattle.el_tables.specs.Disconnecting.{but_last, last, times, is_buried_by, buried_at, spent_at, unbury, take_back_output, unspend}
 use Rattle.el_tables.proofs.Outputs.{coins_of}
 use Rattle.el_tables.proofs.Names.{OnlyAt, NamesBy, Names, settle, settle_none, settle_at, dead_at, names_settled, coins_settled, none_coins, at_within}
-use Rattle.el_tables.proofs.Steps.{settle_inputs, bury_outputs, lists_with, none_of, state_front}
+use Rattle.el_tables.proofs.Steps.{settle_inputs, bury_outputs, lists_with, none_of, state_front, length_state}
 
 -- 1. The last
 
@@ -114,11 +114,6 @@ unburied_case m index o scripts xs new at free (Some k) h =
           let is_buried = buried_front m k rows more lt ∙ not_buried m index k o scripts xs at free h in
           rw (same, whole, is_buried) refl
     ]
-  where
-    length_state : (s : State) (j : ℕ) (ys : List ListedOut) → length (with_state s j ys) ≡ length ys
-    length_state s j [] = refl
-    length_state s zero (y ∷ ys) = refl
-    length_state s (suc j) (y ∷ ys) = ap suc (length_state s j ys)
 
 one_back : (ts : List ListedTx) (t : ListedTx) (height index : ℕ) (o : TxOut) (xs new : List Output) (ins : List ℕ) (scripts : List Hash32) (es : List ListedEntry)
     → Names ts xs → FreeFrom (length ts) index xs → t.first_out ≡ length xs → length new ≡ index

@@ -105,7 +105,7 @@ blocks_more chain b =
     blocks_on 0 0 (0 + length chain) (length (lists chain).txs) chain b [] refl (omega arith)
     ∙ ap (λ (n : ℕ). listed_blocks chain ++ listed_block (length (lists chain).txs) n b ∷ []) sum
 
-prepared_count : (start : ℕ) (ts : List Tx) → length (prepared_txs start ts) ≡ length ts
+pub prepared_count : (start : ℕ) (ts : List Tx) → length (prepared_txs start ts) ≡ length ts
 prepared_count start [] = refl
 prepared_count start (t ∷ ts) = ap suc (prepared_count (start + length (full_encoding t)) ts)
 

@@ -7,7 +7,7 @@ use Rattle.el_base.specs.declared.hash.Hash32.{Hash32}
 use Rattle.el_outside.specs.declared.archive.Place.{Place}
 use Rattle.el_tx.specs.declared.types.Outpoint.{Outpoint}
 use Rattle.el_tx.specs.declared.types.TxIn.{TxIn}
-use Rattle.el_tx.specs.Hashing.{txid, full_encoding}
+use Rattle.el_tx.specs.Hashing.{txid, full_encoding, spending_inputs}
 use Rattle.el_tx.specs.Headers.{header_encoding}
 use Rattle.el_chain.specs.declared.placed.Placed.{Placed}
 use Rattle.el_chain.specs.declared.coin.Coin.{Coin}
@@ -15,7 +15,7 @@ use Rattle.el_chain.specs.Chains.{Chain}
 use Rattle.el_chain.specs.Coins.{is_coin_of, coins_after_all, supply}
 use Rattle.el_chain.specs.CoinLaws.{makes, takes}
 use Rattle.el_chain.specs.History.{Position, positions}
-use Rattle.el_chain.specs.RowCounts.{spending_inputs, concerned_scripts, add_scripts}
+use Rattle.el_chain.specs.RowCounts.{concerned_scripts, add_scripts}
 use Rattle.el_tables.specs.Lists.{ListedTx, State, ListedOut, ListedEntry, Lists, script_number, output_number}
 use Rattle.el_tables.specs.Lists.State.{Unspent, Spent, Buried}
 

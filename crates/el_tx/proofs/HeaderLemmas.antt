@@ -7,7 +7,7 @@ use Rattle.std.proofs.lemmas.Nat.{le_bytes_4, from_le_bytes-to_le_bytes_4}
 use Rattle.std.proofs.lemmas.List.{take_at, drop_at, take-append-drop, length-take-le, nil_from_length}
 use Rattle.std.proofs.Math.Facts.{Fits-of_z, Fits-lt-pow}
 use Rattle.el_base.specs.Left.{AreBytes}
-use Rattle.el_base.proofs.ByteLemmas.{front_bytes, below_4}
+use Rattle.el_base.proofs.ByteLemmas.{front_bytes, below_4, number_again}
 use Rattle.el_base.proofs.Lists.{same_cut}
 use Rattle.el_tx.specs.Headers.{header_encoding, header_of, number_from, IsHeader}
 use Rattle.el_tx.specs.declared.types.Header.{Header}
@@ -45,13 +45,6 @@ six_fields bytes v p r t b n r1 r2 r3 r4 r5 r6 whole lv lp lr lt lb ln e1 e2 e3 
     let none : r6 ≡ [] = nil_from_length r6 (omega arith) in
     let last : r5 ≡ n = e6 ∙ ap (λ (x : List ℕ). n ++ x) none ∙ append-nil n in
     rw (e1, e2, e3, e4, e5, last) refl
-
--- what stands after a number's encoding, and the number
-number_again : (m n : ℕ) (x y : List ℕ) → m < 2 ^ 32 → n < 2 ^ 32 → to_le_bytes w32 m ++ x ≡ to_le_bytes w32 n ++ y → (m ≡ n) × (x ≡ y)
-number_again m n x y p q e = (
-  sym (from_le_bytes-to_le_bytes_4 m p) ∙ ap (λ (t : List ℕ). from_le_bytes w32 (take 4 t)) e ∙ from_le_bytes-to_le_bytes_4 n q,
-  ap (λ (t : List ℕ). drop 4 t) e,
-)
 
 version_again : (v w : ℤ) → FitsSigned w32 v → FitsSigned w32 w → cast_unsigned w32 v ≡ cast_unsigned w32 w → v ≡ w
 version_again v w f g e = sym (to_z-of_z w32 v f) ∙ ap (λ (n : ℕ). cast_signed w32 n) e ∙ to_z-of_z w32 w g

@@ -45,3 +45,7 @@ of_coinbase (i ∷ j ∷ more) = false
 -- whether a transaction is a coinbase, by its inputs
 abbrev pub is_coinbase : Tx → Bool
 is_coinbase t = of_coinbase t.inputs
+
+-- the inputs of a transaction that spend a coin: a coinbase has none
+abbrev pub spending_inputs : Tx → List TxIn
+spending_inputs t = if is_coinbase t then [] else t.inputs

@@ -1,12 +1,10 @@
 -- The sums on the way back: taking an output back lowers the sum of all coins by no more than the output's
 -- value, and giving an input back doesn't lower it.
-use Rattle.std.proofs.Common.{◌≡◌, inl, inr, ℕ, zero, suc, ◌+◌, ◌<◌, ◌≤◌, ◌^◌, List, [], ◌∷◌, Option, None, Some, refl, ap, ◌∙◌, arith}
+use Rattle.std.proofs.Common.{◌≡◌, inl, inr, ℕ, zero, suc, ◌+◌, ◌≤◌, List, [], ◌∷◌, Option, None, Some, refl, ap, ◌∙◌, arith}
 use Rattle.std.proofs.lemmas.Bool.{cases_Bool}
 use Rattle.el_tables.specs.Lists.{ListedOut, ListedEntry, Lists, State, is_unspent, with_state, unspent_sum}
 use Rattle.el_tables.specs.Lists.State.{Unspent}
 use Rattle.el_tables.specs.Disconnecting.{but_last, last, times, unbury, give_back, buried_at, spent_at, named_before, without_output, take_back_output, unspend, take_back_entry, take_back_entries, without_entry, is_entry_of}
-use Rattle.el_tables.proofs.Sums.{balance_within}
-use Rattle.el_spend.specs.Outputs.{BalancesFit}
 
 -- what outputs hold, whatever became of them
 abbrev pub all_values : List ListedOut → ℕ
@@ -146,8 +144,3 @@ entries_keep (suc k) tx l = elim (cases_Bool (is_entry_of tx (last l.entries))) 
     one : (e : Option ListedEntry) → (without_entry e l).outs ≡ l.outs
     one None = refl
     one (Some e) = refl
-
--- 5. Balances
-
-pub fit_below : (xs : List ListedOut) → unspent_sum xs < 2 ^ 64 → BalancesFit xs
-fit_below xs less script = let part = balance_within script xs in omega arith

@@ -1,7 +1,7 @@
 -- The transactions of a good chain's last block can be taken back one after the other.
-use Rattle.std.proofs.Common.{◌≡◌, ◌⊎◌, inl, inr, ℕ, ◌+◌, ◌-◌, ◌<◌, ◌≤◌, ◌^◌, Bool, true, false, List, [], ◌∷◌, ◌++◌, length, map, nat_lt, None, Some, refl, ap, sym, subst, ◌∙◌, arith, append_assoc, append-nil}
+use Rattle.std.proofs.Common.{◌≡◌, ◌⊎◌, inl, inr, ℕ, ◌+◌, ◌-◌, ◌<◌, ◌≤◌, ◌^◌, List, [], ◌∷◌, ◌++◌, length, map, None, Some, refl, ap, sym, subst, ◌∙◌, arith, append_assoc, append-nil}
 use Rattle.std.specs.List.{AllByRecursion}
-use Rattle.std.proofs.lemmas.Bool.{cases_lt, ltb-false}
+use Rattle.std.proofs.lemmas.Bool.{cases_lt}
 use Rattle.std.proofs.lemmas.List.Sums.{sum_by-cons}
 use Rattle.el_base.specs.declared.hash.Hash32.{Hash32}
 use Rattle.el_tx.specs.declared.types.Tx.{Tx}
@@ -17,7 +17,7 @@ use Rattle.el_chain.specs.Coins.{coins_after, supply}
 use Rattle.el_chain.specs.CoinLaws.{makes, coins_made}
 use Rattle.el_chain.specs.Faults.{missing_input, missing_fault, money_fault, position_fault, first_fault, IsGood}
 use Rattle.el_chain.specs.History.{Position, positions_in, block_positions, positions, first_start}
-use Rattle.el_chain.proofs.GoodChains.{first_none, second_none}
+use Rattle.el_chain.proofs.GoodChains.{first_none, second_none, money_fits}
 use Rattle.el_chain.proofs.Tallies.{positions_more}
 use Rattle.el_tables.specs.Lists.{ListedTx, ListedOut, Lists, unspent_sum}
 use Rattle.el_tables.specs.ChainLists.{Output, output, outputs, listed_out, scripts_of, listed_position, txs_from, lists_of, lists}
@@ -30,8 +30,9 @@ use Rattle.el_tables.proofs.Outputs.{coins_of, coins_step, chain_coins, moved_ou
 use Rattle.el_tables.proofs.TakeBack.{last_is}
 use Rattle.el_tables.proofs.UndoneBlocks.{disconnects_txs, good_front, good_before}
 use Rattle.el_tables.proofs.WholeBlocks.{map_none, missing_is, all_held_is}
+use Rattle.el_tables.proofs.Sums.{balances_fit}
 use Rattle.el_undo.specs.within.Undone.{CanUndo, CanUndoAll}
-use Rattle.el_undo.proofs.Bounds.{all_values, outputs_back, outputs_less, inputs_back, inputs_same, entries_keep, fit_below}
+use Rattle.el_undo.proofs.Bounds.{all_values, outputs_back, outputs_less, inputs_back, inputs_same, entries_keep}
 
 -- 1. Values
 
@@ -78,16 +79,6 @@ pub encoded_money : (t : Tx) → HasEncoding t → total_value t.outputs ≤ max
 encoded_money t (bytes, stripped lawful none is) = lawful.money
 encoded_money t (bytes, with_witness lawful some is) = lawful.money
 
-pub no_money_fault : (sum : ℕ) → money_fault sum ≡ None → sum ≤ max_money
-no_money_fault sum none = by (nat_lt max_money sum) refl none
-  where
-    by : (b : Bool) → nat_lt max_money sum ≡ b → money_fault sum ≡ None → sum ≤ max_money
-    by true e h = let bad = rw e at h in absurd (some_none bad)
-      where
-        some_none : Some (refusal.Money sum) ≡ None → ⊥
-        some_none f = cc
-    by false e h = ltb-false max_money sum e
-
 -- 2. One transaction
 
 undone_outs : (ps : List Position) (p : Position) (t : ListedTx) → last (lists_of (ps ++ p ∷ [])).txs ≡ Some t → missing_input 0 (spending_inputs p.tx) (coins_of (outputs ps)) ≡ None
@@ -113,8 +104,8 @@ can_undo ps p none few money =
     record {
       tx = t;
       is_last = is;
-      outputs = λ k le. fit_below (times k take_back_output l).outs (out_fits k t.outs l (lists_of ps).outs le end_values end_sum values money);
-      inputs = λ k le. fit_below (times k unspend mid).outs (in_fits k t.ins mid (lists_of ps).outs le after few);
+      outputs = λ k le. balances_fit (times k take_back_output l).outs (out_fits k t.outs l (lists_of ps).outs le end_values end_sum values money);
+      inputs = λ k le. balances_fit (times k unspend mid).outs (in_fits k t.ins mid (lists_of ps).outs le after few);
       numbered = positions_numbered (ps ++ p ∷ []);
     }
   where
@@ -144,7 +135,7 @@ sum_after height index start t ps none =
     let p = next_position height index start t ps in
     let bounds = second_none (missing_fault index t (coins_of (outputs ps))) _ none in
     let money = first_none (money_fault (supply (coins_after height t (coins_of (outputs ps))))) _ bounds in
-    let le = no_money_fault _ money in
+    let le = money_fits _ money in
     let held = all_held_is (scripts_of (ps ++ p ∷ [])) (outputs (ps ++ p ∷ [])) in
     let step = ap supply (coins_step ps p) in
     omega arith

@@ -1,8 +1,9 @@
 -- What a script hash holds by the chain and the kept transactions: what it held by the chain, with what they give, without what they take.
-use Rattle.std.proofs.Common.{◌≡◌, ◌⊎◌, inl, inr, ℕ, ◌+◌, Bool, true, false, cond, ◌&&◌, ◌||◌, not, List, [], ◌∷◌, ◌++◌, Option, None, Some, refl, ap, sym, ◌∙◌, append_assoc, append-nil, arith}
-use Rattle.std.proofs.lemmas.Bool.{cases_Bool, and_parts, not-true, true≢false, false_from_ne_true}
+use Rattle.std.proofs.Common.{◌≡◌, ℕ, ◌+◌, Bool, true, false, ◌&&◌, ◌||◌, not, List, [], ◌∷◌, ◌++◌, Option, None, Some, refl, ap, sym, ◌∙◌, append_assoc, append-nil, arith}
+use Rattle.std.proofs.lemmas.Bool.{and_parts, not-true, true≢false}
 use Rattle.std.proofs.lemmas.List.Folds.{list_any-append}
 use Rattle.std.proofs.lemmas.List.Sums.{sum_by-cons}
+use Rattle.std.proofs.Math.Bool.{or-false}
 use Rattle.std.specs.List.{filter, flat_map}
 use Rattle.std.specs.Prelude.{map, option_map, option_to_list}
 use Rattle.std.specs.Str.{bytes_eq}
@@ -17,7 +18,7 @@ use Rattle.el_chain.specs.Chains.{Chain}
 use Rattle.el_chain.specs.Coins.{without, coins, supply}
 use Rattle.el_chain.specs.CoinLaws.{coins_made}
 use Rattle.el_chain.specs.CoinLists.{coin_in, AreOnce}
-use Rattle.el_chain.proofs.CoinLists.{same_gives, same_self, in_without, once_without}
+use Rattle.el_chain.proofs.CoinLists.{same_self, once_without, once_in_chain}
 use Rattle.el_model.specs.Queries as confirmed
 use Rattle.el_mempool.specs.declared.held.Held.{Held}
 use Rattle.el_mempool.specs.declared.held.Source.{Source}
@@ -27,10 +28,11 @@ use Rattle.el_mempool.specs.Unconfirmed.{shown_cmp, by_shown, made, pool_unspent
 use Rattle.el_mempool.proofs.Sifting.{AllJoin, joins_of}
 use Rattle.el_mempool.proofs.Picked.{KeysApart}
 use Rattle.el_mempool.proofs.Sifted.{AreFresh}
+use Rattle.el_mempool.proofs.Worth.{Names, names_later, takes_untaken}
 use Rattle.el_view.specs.Views.{untaken, unspent}
 use Rattle.el_view.specs.within.Sums.{value_at, given_at, taken_at}
 use Rattle.el_view.proofs.Weighing.{weigh, weigh_is, weigh_filter, weigh_agree, weigh_append, weight_of, weigh_without, in_filter, once_filter, weigh_in_order}
-use Rattle.el_view.proofs.Making.{once_in_chain, once_with_made, chain_has_none, all_named_in}
+use Rattle.el_view.proofs.Making.{once_with_made, chain_has_none, all_named_in}
 
 -- the coin has the script hash
 abbrev pub own : List ℕ → Coin → Bool
@@ -62,10 +64,6 @@ one_more : (s : List ℕ) (i : TxIn) (x : Option Held) (xs : List Source) → ta
 one_more s i None xs = omega arith
 one_more s i (Some h) xs = sum_by-cons (λ (x : Source). value_at s x.held) (source_at i h) xs
 
--- the coins are what these inputs name
-abbrev pub Names : Chain → List Tx → List TxIn → List Coin → Type 0
-Names chain kept is cs = (o : Outpoint) → any_takes o is ≡ true → option_map coin_held (coin_in cs o) ≡ named chain kept o
-
 both_not : (a b p : Bool) → (not (a || b) && p) ≡ (not a && (not b && p))
 both_not true b p = refl
 both_not false b p = refl
@@ -84,45 +82,20 @@ spent chain kept before s (i ∷ is) cs once takes names =
     let first : weight_of (own s) (coin_in cs i.from) ≡ held_at s (named chain kept i.from) = weight_is s (coin_in cs i.from) ∙ ap (held_at s) (names i.from self) in
     let here = weigh_agree (left s (i ∷ is)) (λ c. not (same_outpoint c.outpoint i.from) && left s is c) (λ c. both_not (same_outpoint c.outpoint i.from) (any_takes c.outpoint is) (own s c)) cs
     ∙ sym (weigh_filter (left s is) (λ (c : Coin). not (same_outpoint c.outpoint i.from)) cs) in
-    let rest = spent chain kept before s is (without i.from cs) (once_without i.from cs once) more.1 (later (not-true _ more.0)) in
+    let rest = spent chain kept before s is (without i.from cs) (once_without i.from cs once) more.1 (names_later chain kept i is cs names (not-true _ more.0)) in
     let out = weigh_without (own s) i.from cs once in
     let one = one_more s i (named chain kept i.from) (sources chain kept is) in
     omega (arith, here, rest, out, one, first)
-  where
-    later : any_takes i.from is ≡ false → Names chain kept is (without i.from cs)
-    later apart o h =
-        let other : same_outpoint i.from o ≡ false = false_from_ne_true (same_outpoint i.from o) (λ e. true≢false (sym h ∙ ap (λ x. any_takes x is) (sym (same_gives i.from o e)) ∙ apart)) in
-        ap (option_map coin_held) (in_without i.from cs o ∙ ap (λ b. cond b None (coin_in cs o)) other) ∙ names o (after (same_outpoint o i.from) h)
-      where
-        after : (b : Bool) → any_takes o is ≡ true → (b || any_takes o is) ≡ true
-        after true e = refl
-        after false e = e
 
 -- ---- one kept transaction after the other
-
-takes_untaken : (chain : Chain) (kept : List Tx) (is : List TxIn) (o : Outpoint) → each_takes chain kept is ≡ true → any_takes o is ≡ true → is_taken o kept ≡ false
-takes_untaken chain kept [] o h there = absurd (true≢false (sym there))
-takes_untaken chain kept (i ∷ is) o h there =
-    let both = and_parts _ _ h in
-    let first = and_parts _ _ both.0 in
-    let more = and_parts _ _ both.1 in
-    by (cases_Bool (same_outpoint o i.from)) (not-true _ first.1) (takes_untaken chain kept is o more.1)
-  where
-    by : (same_outpoint o i.from ≡ true) ⊎ (same_outpoint o i.from ≡ false) → is_taken i.from kept ≡ false → (any_takes o is ≡ true → is_taken o kept ≡ false) → is_taken o kept ≡ false
-    by (inl e) free rest = ap (λ x. is_taken x kept) (same_gives o i.from e) ∙ free
-    by (inr e) free rest = rest (sym (ap (λ b. b || any_takes o is) e) ∙ there)
 
 -- with the script hash, and taken by none of these transactions
 abbrev pub free : List ℕ → List Tx → Coin → Bool
 free s ts c = not (is_taken c.outpoint ts) && own s c
 
-or_false : (b : Bool) → (b || false) ≡ b
-or_false true = refl
-or_false false = refl
-
 free_more : (s : List ℕ) (before : List Tx) (t : Tx) (c : Coin) → free s (before ++ t ∷ []) c ≡ (not (is_taken c.outpoint before) && left s t.inputs c)
 free_more s before t c =
-    ap (λ b. not b && own s c) (list_any-append (λ (u : Tx). any_takes c.outpoint u.inputs) before (t ∷ []) ∙ ap (λ b. is_taken c.outpoint before || b) (or_false (any_takes c.outpoint t.inputs)))
+    ap (λ b. not b && own s c) (list_any-append (λ (u : Tx). any_takes c.outpoint u.inputs) before (t ∷ []) ∙ ap (λ b. is_taken c.outpoint before || b) (or-false (any_takes c.outpoint t.inputs)))
     ∙ both_not (is_taken c.outpoint before) (any_takes c.outpoint t.inputs) (own s c)
 
 not_true_of : (b : Bool) → b ≡ false → not b ≡ true

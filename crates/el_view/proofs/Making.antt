@@ -1,52 +1,27 @@
 -- The coins that kept transactions make beside those of the chain: what their outpoints name, and that none has two.
-use Rattle.std.proofs.Common.{◌≡◌, inl, inr, ℕ, zero, suc, ◌+◌, ◌≤◌, Bool, true, false, cond, ◌&&◌, List, [], ◌∷◌, ◌++◌, Option, None, Some, refl, ap, sym, ◌∙◌, append_assoc, append-nil, arith}
+use Rattle.std.proofs.Common.{◌≡◌, inl, inr, ℕ, zero, suc, ◌+◌, ◌≤◌, Bool, true, false, ◌&&◌, List, [], ◌∷◌, ◌++◌, Option, None, Some, refl, ap, sym, ◌∙◌, append_assoc, append-nil, arith}
 use Rattle.std.proofs.lemmas.Bool.{cases_Bool, true≢false, false_from_ne_true}
 use Rattle.std.specs.List.{AllByRecursion, flat_map}
 use Rattle.std.specs.Prelude.{nat_eq, slice_get, option_map}
 use Rattle.std.specs.Option.{option_or}
 use Rattle.el_base.specs.declared.hash.Hash32.{Hash32}
 use Rattle.el_tx.specs.declared.types.Outpoint.{Outpoint}
-use Rattle.el_tx.specs.declared.types.TxIn.{TxIn}
 use Rattle.el_tx.specs.declared.types.TxOut.{TxOut}
 use Rattle.el_tx.specs.declared.types.Tx.{Tx}
-use Rattle.el_tx.specs.Hashing.{txid, same_outpoint, is_coinbase}
+use Rattle.el_tx.specs.Hashing.{txid, same_outpoint}
 use Rattle.el_chain.specs.declared.coin.Coin.{Coin}
 use Rattle.el_chain.specs.Chains.{Chain}
-use Rattle.el_chain.specs.Coins.{without, spend_inputs, coin_made, add_coin, add_outputs, coins_left, coins_after, coins_after_all, coins_from, coins}
+use Rattle.el_chain.specs.Coins.{coin_made, coins}
 use Rattle.el_chain.specs.CoinLaws.{coins_made}
 use Rattle.el_chain.specs.Headers.{same_hash}
 use Rattle.el_chain.specs.CoinLists.{coin_in, AreOnce}
-use Rattle.el_chain.proofs.CoinLists.{same_gives, in_more, once_more, once_without, once_put}
+use Rattle.el_chain.proofs.CoinLists.{same_gives, in_more, once_more}
 use Rattle.el_mempool.specs.Sift.{coin_held, coin_named, output_held, output_of, output_among, named, is_confirmed}
 use Rattle.el_mempool.specs.Unconfirmed.{made}
 use Rattle.el_mempool.proofs.Confirmed.{unconfirmed_none}
 use Rattle.el_mempool.proofs.Picked.{KeysApart}
 use Rattle.el_mempool.proofs.Sifted.{AreFresh}
-
--- ---- no outpoint of a chain has two coins
-
-once_spent : (is : List TxIn) (cs : List Coin) → AreOnce cs → AreOnce (spend_inputs is cs)
-once_spent [] cs once = once
-once_spent (i ∷ is) cs once = once_spent is (without i.from cs) (once_without i.from cs once)
-
-once_added : (id : Hash32) (h n : ℕ) (os : List TxOut) (cs : List Coin) → AreOnce cs → AreOnce (add_outputs id h n os cs)
-once_added id h n [] cs once = once
-once_added id h n (o ∷ os) cs once = once_added id h (n + 1) os (add_coin (coin_made id h n o) cs) (once_put (coin_made id h n o) cs once)
-
-once_after : (h : ℕ) (ts : List Tx) (cs : List Coin) → AreOnce cs → AreOnce (coins_after_all h ts cs)
-once_after h [] cs once = once
-once_after h (t ∷ ts) cs once = once_after h ts (coins_after h t cs) (once_added (txid t) h 0 t.outputs (coins_left t cs) (left (is_coinbase t)))
-  where
-    left : (b : Bool) → AreOnce (cond b cs (spend_inputs t.inputs cs))
-    left true = once
-    left false = once_spent t.inputs cs once
-
-once_from : (h : ℕ) (bs : Chain) (cs : List Coin) → AreOnce cs → AreOnce (coins_from h bs cs)
-once_from h [] cs once = once
-once_from h (b ∷ bs) cs once = once_from (h + 1) bs (coins_after_all h b.block.txs cs) (once_after h b.block.txs cs once)
-
-pub once_in_chain : (chain : Chain) → AreOnce (coins chain)
-once_in_chain chain = once_from 0 chain [] tt
+use Rattle.el_mempool.proofs.Worth.{mapped_or}
 
 -- ---- none that a kept one makes
 
@@ -112,10 +87,6 @@ in_append (x ∷ xs) ys o = elim (cases_Bool (same_outpoint x.outpoint o)) [
   | inl h ↦ rw h refl
   | inr h ↦ rw h (in_append xs ys o)
 ]
-
-mapped_or : (a b : Option Coin) → option_map coin_held (option_or a b) ≡ option_or (option_map coin_held a) (option_map coin_held b)
-mapped_or None b = refl
-mapped_or (Some c) b = refl
 
 nat_own : (n : ℕ) → nat_eq n (n + 0) ≡ true
 nat_own n = grind arith

@@ -1,6 +1,6 @@
 -- The sums over the entries that clients see of a script hash are those over all kept transactions.
-use Rattle.std.proofs.Common.{◌≡◌, inl, inr, ℕ, ◌+◌, ℤ, pos, ◌-ℤ◌, Bool, true, false, cond, List, [], ◌∷◌, ◌++◌, Option, None, Some, refl, ap, sym, ◌∙◌, arith}
-use Rattle.std.proofs.lemmas.Bool.{cases_Bool, or_parts, false_from_ne_true}
+use Rattle.std.proofs.Common.{◌≡◌, inl, inr, ℕ, ◌+◌, ℤ, pos, ◌-ℤ◌, Bool, true, false, cond, List, [], ◌∷◌, ◌++◌, Option, None, Some, refl, ap, ◌∙◌, arith}
+use Rattle.std.proofs.lemmas.Bool.{cases_Bool, or_parts}
 use Rattle.std.proofs.lemmas.Int.{ints}
 use Rattle.std.proofs.lemmas.List.Sums.{sum_by-cons}
 use Rattle.std.specs.List.{AllByRecursion, filter, list_any}
@@ -14,7 +14,6 @@ use Rattle.el_tx.specs.declared.types.Tx.{Tx}
 use Rattle.el_tx.specs.Hashing.{txid}
 use Rattle.el_chain.specs.Chains.{Chain}
 use Rattle.el_chain.specs.Coins.{supply, script_hash_of}
-use Rattle.el_chain.specs.Headers.{same_hash}
 use Rattle.el_chain.specs.History.{funds}
 use Rattle.el_model.specs.Queries as confirmed
 use Rattle.el_mempool.specs.declared.entry.PoolEntry.{PoolEntry}
@@ -25,29 +24,12 @@ use Rattle.el_mempool.specs.Sift.{output_held, named, held_by}
 use Rattle.el_mempool.specs.Refusals.{kept_with}
 use Rattle.el_mempool.specs.Standing.{source_at, sources, kept_tx, StandsFor}
 use Rattle.el_mempool.specs.Unconfirmed.{has_script, concerns, put, in_order, shown_cmp, by_shown, entry, pool_history}
-use Rattle.el_mempool.proofs.Confirmed.{hash_self, hash_same}
 use Rattle.el_mempool.proofs.Ordered.{all_in_order}
 use Rattle.el_mempool.proofs.Picked.{KeysApart}
-use Rattle.el_mempool.proofs.Changes.{apart_from}
+use Rattle.el_mempool.proofs.Changes.{apart_from, own_found}
 use Rattle.el_view.specs.Views.{unspent, unconfirmed}
 use Rattle.el_view.specs.within.Sums.{value_at, given_at, taken_at, given_in, taken_in, kept_of, given_by, taken_by}
 use Rattle.el_view.proofs.Conserved.{tally, gives, takes, conserved}
-
--- ---- each kept transaction is found by its txid
-
-found_first : (t : Tx) (ts : List Tx) → kept_with (txid t) (t ∷ ts) ≡ Some t
-found_first t ts = let here = hash_self (txid t) (txid t) refl in rw here refl
-
-found_more : (t : Tx) (us ts : List Tx) → AllByRecursion (λ (u : Tx). txid t ≡ txid u → ⊥) us → AllByRecursion (λ (u : Tx). kept_with (txid u) ts ≡ Some u) us
-    → AllByRecursion (λ (u : Tx). kept_with (txid u) (t ∷ ts) ≡ Some u) us
-found_more t [] ts apart found = tt
-found_more t (u ∷ us) ts apart found =
-    let other : same_hash (txid u) (txid t) ≡ false = false_from_ne_true (same_hash (txid u) (txid t)) (λ e. apart.0 (sym (hash_same (txid u) (txid t) e))) in
-    (rw other found.0, found_more t us ts apart.1 found.1)
-
-all_found : (ts : List Tx) → KeysApart txid ts → AllByRecursion (λ (t : Tx). kept_with (txid t) ts ≡ Some t) ts
-all_found [] apart = tt
-all_found (t ∷ ts) apart = (found_first t ts, found_more t ts ts apart.0 (all_found ts apart.1))
 
 -- ---- the others have nothing of the script hash
 
@@ -103,7 +85,7 @@ tally_in_order R f [] = refl
 tally_in_order R f (t ∷ ts) = tally_put R f t (in_order R ts) ∙ ap (λ n. f t + n) (tally_in_order R f ts)
 
 found_in_order : (kept : List Tx) → KeysApart txid kept → AllByRecursion (λ (t : Tx). kept_with (txid t) kept ≡ Some t) (by_shown kept)
-found_in_order kept apart = all_in_order shown_cmp (λ (t : Tx). kept_with (txid t) kept ≡ Some t) kept (all_found kept apart)
+found_in_order kept apart = all_in_order shown_cmp (λ (t : Tx). kept_with (txid t) kept ≡ Some t) kept (own_found kept apart)
 
 given_is : (chain : Chain) (kept : List Tx) (s : List ℕ) → KeysApart txid kept → given_by chain kept s (pool_history chain kept s) ≡ tally (gives s) kept
 given_is chain kept s apart =

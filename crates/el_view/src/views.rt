@@ -3,7 +3,7 @@ ghost use Rattle.std.specs.Prelude.{◌≡◌, ◌≤◌, ◌+◌, ℕ, ℤ, pos
 ghost use Rattle.el_outside.specs.Counts.{CountsOnly};
 ghost use Rattle.el_chain.specs.Chains.{Chain};
 ghost use Rattle.el_chain.specs.History.{history};
-ghost use Rattle.el_model.specs.Keeping.{Quiet};
+ghost use Rattle.el_model.specs.LedgerCalls.{Asked};
 ghost use Rattle.el_tx.specs.declared.types.Tx as shape;
 ghost use Rattle.el_mempool.specs.Sift.{is_taken};
 ghost use Rattle.el_mempool.specs.Standing.{StandsFor};
@@ -49,8 +49,7 @@ pub fn view_history<G: Ledger>(
         → IfOk result (λ r. r.1.items ≡ pool_history chain kept script_hash.now.0) }
     ensures rows { (chain : Chain) → G.stands ledger.old chain → G.reads ledger.new
         ≤ G.reads ledger.old + history_rows chain (G.buckets ledger.old) script_hash.now.0 }
-    ensures quiet { Quiet G.is_live G.height G.tip G.buckets G.stands G.tells_crash
-        G.moment G.left_since ledger.old ledger.new }
+    ensures quiet { Asked ⟦<G as Ledger>⟧ ledger.old ledger.new }
     ensures cause { CountsOnly (G.faults ledger.old) (G.faults ledger.new) QueryFault.DiskFailed result }
 {
     let confirmed = ledger.history(alloc, script_hash)?;
@@ -98,8 +97,7 @@ pub fn view_unspent<G: Ledger>(
         → IfOk result (λ coins. coins.items ≡ spec.unspent chain kept script_hash.now.0) }
     ensures rows { (chain : Chain) → G.stands ledger.old chain → G.reads ledger.new
         ≤ G.reads ledger.old + unspent_rows chain (G.buckets ledger.old) script_hash.now.0 }
-    ensures quiet { Quiet G.is_live G.height G.tip G.buckets G.stands G.tells_crash
-        G.moment G.left_since ledger.old ledger.new }
+    ensures quiet { Asked ⟦<G as Ledger>⟧ ledger.old ledger.new }
     ensures cause { CountsOnly (G.faults ledger.old) (G.faults ledger.new) QueryFault.DiskFailed result }
 {
     let mut coins = ledger.unspent(alloc, script_hash)?;
@@ -136,8 +134,7 @@ pub fn view_balance<G: Ledger>(
         → IfOk result (λ found. found ≡ spec.balance chain kept script_hash.now.0) }
     ensures rows { (chain : Chain) → G.stands ledger.old chain → G.reads ledger.new
         ≤ G.reads ledger.old + script_rows chain (G.buckets ledger.old) script_hash.now.0 }
-    ensures quiet { Quiet G.is_live G.height G.tip G.buckets G.stands G.tells_crash
-        G.moment G.left_since ledger.old ledger.new }
+    ensures quiet { Asked ⟦<G as Ledger>⟧ ledger.old ledger.new }
     ensures cause { CountsOnly (G.faults ledger.old) (G.faults ledger.new) QueryFault.DiskFailed result }
 {
     let confirmed = ledger.balance(script_hash)?;
@@ -166,8 +163,7 @@ pub fn view_status<G: Ledger>(
         → IfOk result (λ found. found ≡ status chain kept script_hash.now.0) }
     ensures rows { (chain : Chain) → G.stands ledger.old chain → G.reads ledger.new
         ≤ G.reads ledger.old + history_rows chain (G.buckets ledger.old) script_hash.now.0 }
-    ensures quiet { Quiet G.is_live G.height G.tip G.buckets G.stands G.tells_crash
-        G.moment G.left_since ledger.old ledger.new }
+    ensures quiet { Asked ⟦<G as Ledger>⟧ ledger.old ledger.new }
     ensures cause { CountsOnly (G.faults ledger.old) (G.faults ledger.new) QueryFault.DiskFailed result }
 {
     let confirmed = ledger.history(alloc, script_hash)?;

@@ -1,11 +1,13 @@
 -- The look-up of an option's value, and the check that words give options.
-use Rattle.std.proofs.Common.{◌≡◌, ◌∙◌, zero, suc, List, [], ◌∷◌, Bool, true, false, refl, sym, ap, subst, map, drop, slice_index_or, Contains, Option, Some, None, option_map, is_some, inl, inr, ◌⊎◌, ◌||◌, ◌↔◌, ◌==◌, arith, length}
+use Rattle.std.proofs.Common.{◌≡◌, ◌∙◌, zero, suc, List, [], ◌∷◌, true, false, refl, sym, ap, subst, map, drop, slice_index_or, Contains, Option, Some, None, option_map, is_some, inl, inr, ◌↔◌, ◌==◌, arith, length}
 use Rattle.std.specs.Borrow.{Bor}
 use Rattle.std.specs.Global.{Global}
 use Rattle.std.specs.Prelude.{String}
 use Rattle.std.specs.List.{AllByRecursion, IsDistinct, list_any}
 use Rattle.std.specs.Str.{bytes_eq}
 use Rattle.std.proofs.lemmas.Slice.Eq.{bytes_eq-Decides}
+use Rattle.std.proofs.lemmas.Bool.{or_cases}
+use Rattle.std.proofs.Math.Bool.{or-true}
 use Rattle.el_words.specs.Options.{Word, Given, words_of, value_of, IsValue, AreOptions}
 use Rattle.el_words.specs.Words.{texts}
 use Rattle.el_words.specs.within.Reading.{GiveOptions}
@@ -122,19 +124,11 @@ pub some_found : (found : Option (Bor Word)) → is_some found ≡ true
 some_found None e none = cc
 some_found (Some value) e none = cc
 
-either : (a b : Bool) → (a || b) ≡ true → (a ≡ true) ⊎ (b ≡ true)
-either true b e = inl refl
-either false b e = inr e
-
-always : (a : Bool) → (a || true) ≡ true
-always true = refl
-always false = refl
-
 -- a word among the options
 pub is_among : (options : List (Bor Word)) (word : Word) → list_any (λ y. bytes_eq y.now word) options ≡ true
     → Contains (map (λ option. option.now) options) word
 is_among [] word e = absurd cc
-is_among (option ∷ more) word e = elim (either (bytes_eq option.now word) _ e) [
+is_among (option ∷ more) word e = elim (or_cases (bytes_eq option.now word) _ e) [
   | inl here ↦ (0, omega arith, (bytes_eq-Decides option.now word).0 here)
   | inr later ↦ let has = is_among more word later in (suc has.0, omega (arith, has.1), has.2)
 ]
@@ -144,7 +138,7 @@ pub among_is : (options : List (Bor Word)) (word : Word) → Contains (map (λ o
 among_is [] word has = absurd (let lt = has.1 in omega arith)
 among_is (option ∷ more) word (zero, lt, is) = rw ((bytes_eq-Decides option.now word).1 is) refl
 among_is (option ∷ more) word (suc k, lt, is) =
-    rw (among_is more word (k, omega (arith, lt), is)) (always (bytes_eq option.now word))
+    rw (among_is more word (k, omega (arith, lt), is)) (or-true (bytes_eq option.now word))
 
 -- words of which no two are left give options where none is left
 pub ended : (options words : List Word) (rest : List (String Global))

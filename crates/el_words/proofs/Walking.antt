@@ -2,7 +2,7 @@
 use Rattle.std.proofs.Common.{◌≡◌, ◌==◌, ◌∙◌, ◌&&◌, ◌||◌, not, ℕ, zero, suc, List, [], ◌∷◌, ◌++◌, Bool, true, false, cond, if◌then◌else◌, codes, refl, sym, ap, ap₂, subst, map, drop, find, fold, slice_get, Contains, Option, Some, None, option_map, option_and_then, arith}
 use Rattle.std.specs.List.{AllByRecursion, IsDistinct}
 use Rattle.std.specs.Str.{bytes_eq}
-use Rattle.std.proofs.lemmas.Bool.{ne_eqb}
+use Rattle.std.proofs.lemmas.Bool.{ne_eqb, or_parts, and_from}
 use Rattle.clap.specs.Walk.{Row, Rule, Text, Walk, Held, first_of, walked, walk_from, nothing_held, option, has_row, settled, at_row, with_values, more_values, without, with_default, default_rows, reading_by, finished}
 use Rattle.clap.specs.Simple.{Shape, matches_of, is_simple, built}
 use Rattle.clap.specs.Takes.{takes, walk_passes, turn_passes, settle_passes, level_passes}
@@ -106,31 +106,24 @@ used_once h o value = each (λ o. settle_passes rules false (after h o value)
 
 -- ---- rows
 
-neither : (a b : Bool) → (a || b) ≡ false → (a ≡ false) × (b ≡ false)
-neither true b e = absurd cc
-neither false b e = (refl, e)
-
-and_true : (a b : Bool) → a ≡ true → b ≡ true → (a && b) ≡ true
-and_true a b x y = rw (x, y) refl
-
 at_absent : (id : Word) (change : Row → List Row) (missing : List Row) (rows : List Row)
     → has_row id rows ≡ false → at_row id change missing rows ≡ rows ++ missing
 at_absent id change missing [] e = refl
 at_absent id change missing (r ∷ rs) e =
-    let p = neither (bytes_eq r.id id) _ e in
+    let p = or_parts (bytes_eq r.id id) _ e in
     rw p.0 (ap (λ (l : List Row). r ∷ l) (at_absent id change missing rs p.1))
 
 without_absent : (id : Word) (rows : List Row) → has_row id rows ≡ false → without id rows ≡ rows
 without_absent id [] e = refl
 without_absent id (r ∷ rs) e =
-    let p = neither (bytes_eq r.id id) _ e in
+    let p = or_parts (bytes_eq r.id id) _ e in
     rw p.0 (ap (λ (l : List Row). r ∷ l) (without_absent id rs p.1))
 
 still_absent : (id : Word) (r : Row) (rows : List Row) → has_row id rows ≡ false → bytes_eq r.id id ≡ false
     → has_row id (rows ++ r ∷ []) ≡ false
 still_absent id r [] e other = rw other refl
 still_absent id r (x ∷ xs) e other =
-    let p = neither (bytes_eq x.id id) _ e in
+    let p = or_parts (bytes_eq x.id id) _ e in
     rw p.0 (still_absent id r xs p.1 other)
 
 none_after : (a : List Row) → a ≡ a ++ []
@@ -194,8 +187,8 @@ walked_all h ((o, x ∷ xs) ∷ more) settles absent are =
     (record { known = are.known.1; valued = are.valued.1; once = are.once.1 }) in
     record {
       end = next.end;
-      passes = and_true _ _ (option_turn h o k ∙ rw settles refl)
-          (and_true _ _
+      passes = and_from _ _ (option_turn h o k ∙ rw settles refl)
+          (and_from _ _
           (ap (λ (w : Walk). turn_passes top [] w (x ∷ xs)) (option_step h o k) ∙ value_turn h o x xs hx k)
           (ap (λ (w : Walk). walk_passes top [] w (words_of more)) stepped ∙ next.passes));
       walk_is = ap (λ (w : Walk). fold (walked rules []) w (words_of more)) stepped ∙ next.walk_is;
@@ -216,8 +209,8 @@ level : (given : Given) → AreOptions serve_options given
 unfolding clap_on_literals
 level given are =
     let w = walked_here given are in
-    and_true _ _ w.passes
-    (and_true _ _ (ap (λ (e : Walk). settle_passes rules false e.held) w.walk_is ∙ w.settles) refl)
+    and_from _ _ w.passes
+    (and_from _ _ (ap (λ (e : Walk). settle_passes rules false e.held) w.walk_is ∙ w.settles) refl)
 
 -- clap takes the words
 pub taken : (given : Given) → AreOptions serve_options given → takes reader (words_of given) ≡ true

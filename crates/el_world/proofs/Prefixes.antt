@@ -1,5 +1,5 @@
 -- Where hashes don't collide, the highest common block has only common blocks below it.
-use Rattle.std.proofs.Common.{◌≡◌, ℕ, zero, suc, true, false, Bool, List, [], ◌∷◌, rules, refl, sym, ap, ◌∙◌}
+use Rattle.std.proofs.Common.{◌≡◌, ℕ, zero, suc, true, false, Bool, List, [], ◌∷◌, refl, sym, ap, ◌∙◌}
 use Rattle.el_base.specs.declared.hash.Hash32.{Hash32}
 use Rattle.el_block.specs.Blocks.{block_hash}
 use Rattle.el_tx.specs.declared.types.Header.{Header}
@@ -7,14 +7,9 @@ use Rattle.el_chain.specs.declared.node.Node.{Node}
 use Rattle.el_chain.specs.declared.placed.Placed.{Placed}
 use Rattle.el_chain.specs.Chains.{Chain}
 use Rattle.el_chain.specs.Headers.{AreLinked, same_hash}
+use Rattle.el_chain.proofs.TouchLemmas.{hash_gives, hash_from}
 use Rattle.el_world.specs.Plans.{common, common_up_to}
 use Rattle.el_world.specs.Prefixes.{AreChained, HaveNoCollision, prefix}
-
-same_is : (a b : Hash32) → same_hash a b ≡ true → a ≡ b
-same_is a b h = ap (λ (l : List ℕ). record { 0 = l }) (search rules)
-
-hash_same : (a b : Hash32) → a ≡ b → same_hash a b ≡ true
-hash_same a b e = search rules
 
 above : (b : Placed) (bs : Chain) (n : Node) (ns : List Node) → HaveNoCollision (b ∷ bs) (n ∷ ns) → HaveNoCollision bs ns
 above b bs n ns differ = λ height c m at at'. differ (suc height) c m at at'
@@ -35,7 +30,7 @@ one_before x y (b ∷ bs) (n ∷ ns) count chained linked differ is =
     by : (same : Bool) (more : ℕ) → same_hash (block_hash b.block.header) n.hash ≡ same → common bs ns ≡ more
         → ((more : ℕ) → common bs ns ≡ suc more → block_hash b.block.header ≡ n.hash) → common (b ∷ bs) (n ∷ ns) ≡ suc count → x ≡ y
     by same (suc more) s m go u = first (go more m)
-    by true zero s m go u = first (same_is (block_hash b.block.header) n.hash s)
+    by true zero s m go u = first (hash_gives (block_hash b.block.header) n.hash s)
     by false zero s m go u = absurd (let e = rw (s, m) at u in cc)
 
 up : (more : ℕ) → common_up_to true more ≡ suc more
@@ -52,10 +47,10 @@ prefix_is before (b ∷ bs) (n ∷ ns) chained linked differ =
     by : (same : Bool) (more : ℕ) → same_hash (block_hash b.block.header) n.hash ≡ same → common bs ns ≡ more
         → (AreLinked (block_hash b.block.header) ns → common bs ns ≡ prefix bs ns) → common (b ∷ bs) (n ∷ ns) ≡ prefix (b ∷ bs) (n ∷ ns)
     by true more s m go =
-        let hash = same_is (block_hash b.block.header) n.hash s in
+        let hash = hash_gives (block_hash b.block.header) n.hash s in
         let rest : AreLinked (block_hash b.block.header) ns = rw hash linked.1 in
         rw s (up (common bs ns) ∙ ap suc (go rest))
     by false zero s m go = rw (s, m) refl
     by false (suc more) s m go =
         let hash = one_before (block_hash b.block.header) n.hash bs ns more chained.1 linked.1 (above b bs n ns differ) m in
-        absurd (let e = hash_same (block_hash b.block.header) n.hash hash in cc)
+        absurd (let e = hash_from (block_hash b.block.header) n.hash hash in cc)

@@ -1,5 +1,5 @@
 -- The nodes that a scan finds, and the tree where they are added.
-use Rattle.std.proofs.Common.{◌≡◌, ℕ, zero, suc, ◌+◌, ◌<◌, List, [], ◌∷◌, ◌++◌, length, take, get_or, Option, None, Some, refl, sym, ap, ◌∙◌, arith}
+use Rattle.std.proofs.Common.{◌≡◌, ℕ, zero, suc, ◌+◌, ◌<◌, List, [], ◌∷◌, ◌++◌, length, take, get_or, Option, None, Some, refl, sym, ap, ◌∙◌}
 use Rattle.std.specs.Prelude.{slice_get, option_map}
 use Rattle.std.specs.List.{AllByRecursion}
 use Rattle.el_base.proofs.Lists.{all_weaker}
@@ -14,6 +14,7 @@ use Rattle.el_chain.specs.Faults.{IsGood, AreNext}
 use Rattle.el_chain.specs.declared.node.Node.{Node}
 use Rattle.el_chain.specs.declared.placed.Placed.{Placed}
 use Rattle.el_model.specs.Queries.{blocks_in, header_at, place_at, height_of}
+use Rattle.el_model.proofs.Heights.{blocks_are}
 use Rattle.el_chain.specs.Headers.{added}
 use Rattle.el_chain.specs.Records.{IsNode}
 use Rattle.el_files.specs.Appending.{AppendsOnly}
@@ -88,10 +89,6 @@ one_more ns so_far i n are is =
     ap (λ (l : List Node). l ++ n ∷ []) are
     ∙ ap (λ (m : Node). take i ns ++ m ∷ []) (sym same)
     ∙ sym (take_more ns i n lt)
-
-blocks_are : (chain : Chain) → blocks_in (height_of chain) ≡ length chain
-blocks_are [] = refl
-blocks_are (b ∷ bs) = omega arith
 
 pub nodes_length : (chain : Chain) → length (nodes_of_chain chain) ≡ blocks_in (height_of chain)
 nodes_length chain = length-map chain node_of_block ∙ sym (blocks_are chain)

@@ -4,6 +4,7 @@ use Rattle.std.specs.Prelude.{◌⊎◌, Err}
 use Rattle.el_outside.specs.Trace.{Trace}
 use Rattle.el_outside.specs.Counts.{RoseBy, OnlyReads, CountsOnly}
 use Rattle.el_outside.proofs.Traces.{rose_none}
+use Rattle.el_outside.proofs.Devices.{rose_still}
 use Rattle.el_chain.specs.declared.node.Node.{Node}
 use Rattle.el_chain.specs.Chains.{Chain}
 use Rattle.el_world.specs.World.{World}
@@ -206,10 +207,6 @@ served_ends tells bytes file_count magic limits chain leaves c before after t en
     inr served
 served_ends tells bytes file_count magic limits chain leaves c before after t end.TurnsSpent served = served
 
--- a count that is as it was
-as_before : (a b : ℕ) → b ≡ a → RoseBy a b 0
-as_before a b e = omega arith
-
 -- nothing went over the link, and the other counts rose by these losses
 silent : (turns calls of_link low high of_disk now : ℕ) (losses : List Device) → failures link losses ≡ 0
     → RoseBy low high (failures archive losses) → RoseBy of_disk now (failures disk losses)
@@ -243,13 +240,13 @@ start_ends tells bytes file_count magic limits chain leaves turns calls of_link 
     after start.DiskFailed reads counts other left =
     inl (
       silent turns calls of_link low high of_disk now (disk ∷ []) refl
-          (as_before low high (reads.others_uncounted (λ e. cc))) (counts.counted refl),
+          (rose_still low high (reads.others_uncounted (λ e. cc))) (counts.counted refl),
       left,
     )
 start_ends tells bytes file_count magic limits chain leaves turns calls of_link low high of_disk now before
     after start.ArchiveFailed reads counts other left = (
       silent turns calls of_link low high of_disk now (archive ∷ []) refl (reads.counted refl)
-          (as_before of_disk now (counts.others_uncounted (λ e. cc))),
+          (rose_still of_disk now (counts.others_uncounted (λ e. cc))),
       left,
     )
 start_ends tells bytes file_count magic limits chain leaves turns calls of_link low high of_disk now before
@@ -257,16 +254,16 @@ start_ends tells bytes file_count magic limits chain leaves turns calls of_link 
     let o = other refl in (
       record { nodes = o.0; scanned = o.1; other = o.2 },
       silent turns calls of_link low high of_disk now [] refl
-          (as_before low high (reads.others_uncounted (λ e. cc)))
-          (as_before of_disk now (counts.others_uncounted (λ e. cc))),
+          (rose_still low high (reads.others_uncounted (λ e. cc)))
+          (rose_still of_disk now (counts.others_uncounted (λ e. cc))),
       left,
     )
 start_ends tells bytes file_count magic limits chain leaves turns calls of_link low high of_disk now before
     after start.Memory reads counts other left =
     inl (
       silent turns calls of_link low high of_disk now [] refl
-          (as_before low high (reads.others_uncounted (λ e. cc)))
-          (as_before of_disk now (counts.others_uncounted (λ e. cc))),
+          (rose_still low high (reads.others_uncounted (λ e. cc)))
+          (rose_still of_disk now (counts.others_uncounted (λ e. cc))),
       left,
     )
 
@@ -288,7 +285,7 @@ unopened_ends was flight leaves turns calls of_link of_archive low high s good i
       )
       | inr (inr memory) ↦ rw memory (
         silent turns calls of_link of_archive of_archive low high [] refl (rose_none of_archive)
-            (as_before low high (uncounted (λ e. cc))),
+            (rose_still low high (uncounted (λ e. cc))),
         left,
       )
     ]
@@ -316,9 +313,9 @@ unread_ends tells magic turns calls of_link low high of_disk before after fault.
     (rose_none of_disk)
 unread_ends tells magic turns calls of_link low high of_disk before after fault.Memory reads bad =
     inl (silent turns calls of_link low high of_disk of_disk [] refl
-    (as_before low high (reads.others_uncounted (λ e. cc))) (rose_none of_disk))
+    (rose_still low high (reads.others_uncounted (λ e. cc))) (rose_none of_disk))
 unread_ends tells magic turns calls of_link low high of_disk before after fault.Bad reads bad = (
   bad refl,
   silent turns calls of_link low high of_disk of_disk [] refl
-      (as_before low high (reads.others_uncounted (λ e. cc))) (rose_none of_disk),
+      (rose_still low high (reads.others_uncounted (λ e. cc))) (rose_none of_disk),
 )

@@ -4,12 +4,12 @@ use Rattle.el_base.specs.declared.hash.Hash32.{Hash32}
 use Rattle.indexmap.specs.IndexMap.{IndexMap, get}
 use Rattle.el_tx.specs.declared.types.Outpoint.{Outpoint}
 use Rattle.el_tx.specs.declared.types.Tx.{Tx}
-use Rattle.el_tx.specs.Hashing.{same_outpoint}
+use Rattle.el_tx.specs.Hashing.{same_outpoint, spending_inputs}
 use Rattle.el_chain.specs.declared.coin.Coin.{Coin}
 use Rattle.el_coins.specs.declared.meter.Meter.{Meter}
 use Rattle.el_chain.specs.Chains.{Chain}
 use Rattle.el_chain.specs.Coins.{coins_after, coins_after_all}
-use Rattle.el_chain.specs.RowCounts.{spending_inputs, spent_scripts, output_script, add_scripts}
+use Rattle.el_chain.specs.RowCounts.{spent_scripts, output_script, add_scripts}
 use Rattle.el_chain.specs.CoinLists.{coin_in, AreOnce}
 
 -- a map has the script hash of each coin, and no outpoint has two coins

@@ -4,8 +4,8 @@ use Rattle.std.specs.List.{flat_map, AllByRecursion}
 use Rattle.el_tx.specs.declared.types.Tx.{Tx}
 use Rattle.el_tx.specs.Hashing.{full_encoding}
 use Rattle.el_block.specs.declared.limits.TheConstants.{MAX_BLOCK_WEIGHT}
+use Rattle.el_block.specs.Blocks.{first_start}
 use Rattle.el_chain.specs.declared.placed.Placed.{Placed}
-use Rattle.el_chain.specs.History.{first_start}
 
 -- The block has no more transactions, and its transactions end no later, than a block weighs.
 pub record IsLight (b : Placed) : Type 0 where

@@ -6,10 +6,11 @@ use Rattle.el_row_formats.specs.Tables as held
 use Rattle.el_row_formats.specs.declared.table.Table.TheVariants as table
 use Rattle.el_rows.specs.Transaction.{tables_in}
 use Rattle.el_tables.specs.Lists.{add_entry, add_output, unspent_sum}
+use Rattle.el_tables.proofs.Sums.{balances_fit}
 use Rattle.el_schema.specs.Rows.{Hold}
 use Rattle.el_connect.proofs.LoopLemmas.{same_maker}
 use Rattle.el_connect.proofs.TouchLemmas.{touch_refused, room_funded}
-use Rattle.el_connect.proofs.StepLemmas.{entered_number, balances_fit, funded_at_most, output_reached}
+use Rattle.el_connect.proofs.StepLemmas.{entered_number, funded_at_most, output_reached}
 use Rattle.el_connect.proofs.outputs.fund_output.Goals as goal
 
 pub returns-in_err-script-clause-refused : goal.returns-in_err-script-clause-refused

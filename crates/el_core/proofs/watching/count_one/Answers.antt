@@ -1,11 +1,12 @@
 use Rattle.std.proofs.Common.{◌∙◌, sym}
+use Rattle.std.proofs.lemmas.Result.{on_ok_weaker}
 use Rattle.el_core.specs.within.Watching.{counted}
-use Rattle.el_core.proofs.Counted.{when_ok, next_counted, none_counted}
+use Rattle.el_core.proofs.Counted.{next_counted, none_counted}
 use Rattle.el_core.proofs.watching.count_one.Goals as goal
 
 pub returns-in-Some-clause-ok : goal.returns-in-Some-clause-ok
 returns-in-Some-clause-ok c =
-    when_ok _ _ c.count_up.result (λ more t. next_counted t c.args.subs.now c.args.number (counted c.args.watched.now t) (counted c.count_up.new.watched t) c.in-Some.sub (sym c.at.ensures ∙ c.in-Some.is) (more t))
+    on_ok_weaker c.count_up.result (λ more t. next_counted t c.args.subs.now c.args.number (counted c.args.watched.now t) (counted c.count_up.new.watched t) c.in-Some.sub (sym c.at.ensures ∙ c.in-Some.is) (more t))
     c.count_up.ensures.ok
 
 pub returns-in-None-clause-ok : goal.returns-in-None-clause-ok

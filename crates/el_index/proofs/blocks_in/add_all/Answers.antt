@@ -1,12 +1,13 @@
-use Rattle.std.proofs.Common.{◌⊎◌, ◌++◌, ◌∷◌, [], ◌∙◌, refl, arith}
+use Rattle.std.proofs.Common.{◌⊎◌, ◌++◌, ◌∷◌, [], refl, arith}
 use Rattle.std.proofs.lemmas.Result.{err_from_is_err_and}
 use Rattle.el_rows.proofs.TransactionLemmas.{as_edited, more_edits, nothing}
 use Rattle.el_rows.specs.Transaction.{tables_in}
 use Rattle.el_chain.specs.Moves.{FaultInAt}
 use Rattle.el_chain.proofs.CoinSteps.{err_passed}
 use Rattle.el_chain.proofs.DraftSteps.{same_length}
+use Rattle.el_chain.proofs.MoveSteps.{within, next_is}
 use Rattle.el_index.specs.within.Adding.{IsOwn}
-use Rattle.el_index.proofs.Addings.{within, next_is, adding_begins, adding_names, adding_more, adding_ends, adding_stops}
+use Rattle.el_index.proofs.Addings.{adding_begins, adding_names, adding_more, adding_ends, adding_stops}
 use Rattle.el_index.proofs.blocks_in.add_all.Goals as goal
 
 pub loop-index-init : goal.loop-index-init

@@ -5,7 +5,8 @@ use Rattle.el_row_formats.specs.declared.table.Table.TheVariants as table
 use Rattle.el_rows.specs.Transaction.{tables_in}
 use Rattle.el_rows.proofs.TransactionLemmas.{EditedSoFar}
 use Rattle.el_schema.specs.Standing.{StandFor}
-use Rattle.el_index.proofs.Addings.{Left, IsAdding}
+use Rattle.el_chain.proofs.MoveSteps.{Left}
+use Rattle.el_index.proofs.Addings.{IsAdding}
 use Rattle.el_index.proofs.blocks_in.add_all.Given as goal
 
 abbrev pub invariant-loop-index : goal.invariant-loop-index

@@ -1,6 +1,7 @@
 use Rattle.std.proofs.Common.{◌≡◌, ◌≤◌, ◌-◌, length, ◌∙◌, ap, arith}
 use Rattle.el_model.specs.Queries.{blocks_in}
-use Rattle.el_ledger_tests.proofs.Named.{blocks_are, some_left}
+use Rattle.el_model.proofs.Heights.{blocks_are}
+use Rattle.el_ledger_tests.proofs.Named.{some_left}
 use Rattle.el_ledger_tests.proofs.laid.named_after.Goals as goal
 
 pub returns-clause-named : goal.returns-clause-named

@@ -1,5 +1,6 @@
 use Rattle.std.proofs.Common.{inl, sym, ◌∙◌}
-use Rattle.el_loop.proofs.Arrivals.{arrival_done, arrival_stopped, arrival_lost, taken_files, on_ok, if_err}
+use Rattle.std.proofs.lemmas.Result.{on_ok_weaker}
+use Rattle.el_loop.proofs.Arrivals.{arrival_done, arrival_stopped, arrival_lost, taken_files, if_err}
 use Rattle.el_loop.proofs.running.serve_arrival.Goals as goal
 
 pub returns-in-Ok-clause-served : goal.returns-in-Ok-clause-served
@@ -11,7 +12,7 @@ returns-in-Ok-clause-served g c = λ world stood told grown are.
       are_open = λ tells. are tells t.next c.take.new.self t.after;
       grown = λ tells. rw same (grown tells);
     }) in
-    on_ok _ _ c.work_off.result (λ f. arrival_done g.G.Ledger g.A.Archive g.K.Link _ world c.args.server.now
+    on_ok_weaker c.work_off.result (λ f. arrival_done g.G.Ledger g.A.Archive g.K.Link _ world c.args.server.now
     c.take.new.self _ _ _ still told c.in-Ok.ensures.ledger t f)
     done
 

@@ -7,7 +7,8 @@ use Rattle.el_sync.proofs.Apart.{at_apart}
 use Rattle.el_sync.proofs.Led.{memory_of, not_disk, starved_still}
 use Rattle.el_sync.proofs.Tried.{broke, made_tries, move_failed, not_failed, not_made}
 use Rattle.el_model.proofs.LedgerMoves.{asked_moved, asked_none}
-use Rattle.el_sync.proofs.Lists.{plan_fits, left_linked, all_after}
+use Rattle.el_sync.proofs.Lists.{plan_fits, left_linked}
+use Rattle.el_headers.proofs.Paths.{all_drop}
 use Rattle.el_sync.proofs.making.make_move.Goals as goal
 
 pub go-requires-clause-fits : goal.go-requires-clause-fits
@@ -26,7 +27,7 @@ returns-in-Ok-clause-keeps g c =
     record {
       live = e.live;
       left = c.passed.ensures;
-      nodes = rw c.passed.ensures (all_after IsNode max_forward c.args.rest c.requires.nodes);
+      nodes = rw c.passed.ensures (all_drop IsNode max_forward c.args.rest c.requires.nodes);
       linked = left_linked c.requires.linked.0 c.args.rest c.passed.result (g.G.Ledger.tip c.go.new.self) c.passed.ensures c.requires.linked.1 (rw c.in_ok-forward.ensures at e.last);
       keeps = e.reads.keeps;
       archive_rose = inl (rose_still _ _ e.reads.uncounted);

@@ -1,8 +1,8 @@
 use Rattle.std.proofs.Common.{ap, [], ◌∙◌, Err}
 use Rattle.std.proofs.lemmas.Result.{err_from_is_err_and}
 use Rattle.el_world.specs.Side.{quiet_side}
-use Rattle.el_sync.proofs.Led.{all_grow_self}
 use Rattle.el_sync.proofs.Tried.{later_then, made_fewer, made_no_more, settled, stops_first, unsettled}
+use Rattle.el_outside.proofs.Traces.{all_grow_none}
 use Rattle.el_sync.proofs.moving.move_once.Goals as goal
 
 pub returns-clause-moving : goal.returns-clause-moving
@@ -24,7 +24,7 @@ returns-in_err-changed-clause-stopped g c = λ chain stands.
     let e = c.in_ok-text.ensures in
     let s = c.in_err-changed.ensures in
     let p = err_from_is_err_and c.from_residual-in_err-changed.result c.from_residual-in_err-changed.ensures.1 in
-    let tried = e.tried (quiet_side chain [] (record { count = 0; bytes = 0 }) [] (g.A.Archive.bytes c.args.archive.now)) stands (λ t. all_grow_self _) in
+    let tried = e.tried (quiet_side chain [] (record { count = 0; bytes = 0 }) [] (g.A.Archive.bytes c.args.archive.now)) stands (λ t. all_grow_none _) in
     unsettled g.G.Ledger g.A.Archive c.from_residual-in_err-changed.result c.in_err-changed.field-0.0 c.args.ledger.now c.make_move.new.ledger c.settle.new.ledger c.args.archive.now
     c.make_move.new.archive _ c.args.back c.args.rest c.in_ok-text.field-0 c.args.later (p.1 ∙ ap Err p.2) (λ a d f h i j k. g.met.G.Ledger.leaves_own a d f h i j k) e.keeps.live tried
     (later_then c.in_ok-text.field-0.left c.in_ok-text.field-0.moved c.args.later c.ends_line-ends.result c.ends_line-ends.ensures s.only) s.asked

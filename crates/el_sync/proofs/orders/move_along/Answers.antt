@@ -1,11 +1,12 @@
 use Rattle.std.proofs.Common.{Err, false, drop, refl, sym, ap, ◌∙◌, arith}
-use Rattle.std.proofs.lemmas.Result.{err_from_is_err_and}
+use Rattle.std.proofs.lemmas.Result.{err_from_is_err_and, IfOk-weaker}
 use Rattle.el_lines.specs.NodeAnswers.{deep_refused}
 use Rattle.el_world.specs.Plans.{plan_of}
 use Rattle.el_world.specs.Side.{deep, there}
-use Rattle.el_sync.proofs.Led.{all_grow_self, along_moves, answered, asked_stops, if_ok_map, if_err_map, leads_as, leads_on, memory_of, path_move, starved_still, step_asked, stops_as, stops_on}
+use Rattle.el_sync.proofs.Led.{along_moves, answered, asked_stops, if_err_map, leads_as, leads_on, memory_of, path_move, starved_still, step_asked, stops_as, stops_on}
 use Rattle.el_model.proofs.LedgerMoves.{asked_moved, asked_none}
 use Rattle.el_sync.proofs.Compared.{drop_linked, path_linked, rest_fits, at_is}
+use Rattle.el_outside.proofs.Traces.{all_grow_none}
 use Rattle.el_sync.proofs.orders.move_along.Goals as goal
 
 pub returns-then-back-clause-along : goal.returns-then-back-clause-along
@@ -13,7 +14,7 @@ returns-then-back-clause-along g c = λ path side start is at still.
     let w = c.in_ok-back.ensures.way path side.chain is (c.requires.end path is) at.stood in
     let asked = c.in_ok-back.ensures.asked in
     answered g.G.Ledger g.A.Archive c.args.ledger.now c.compare.new.ledger c.args.archive.now c.args.archive.now side start c.args.pool.now _ _ _ _ _ _ at still
-    (deep (rw w.0 at c.if-back.true) (c.only_text.ensures.text ∙ c.deep_refused.ensures ∙ ap deep_refused w.0) refl refl) refl c.only_text.ensures.left (λ t. all_grow_self _)
+    (deep (rw w.0 at c.if-back.true) (c.only_text.ensures.text ∙ c.deep_refused.ensures ∙ ap deep_refused w.0) refl refl) refl c.only_text.ensures.left (λ t. all_grow_none _)
     (asked_moved g.G.Ledger c.args.ledger.now c.compare.new.ledger side.chain (λ a d f h i j k. g.met.G.Ledger.leaves_own a d f h i j k) c.requires.live asked at.stood)
     refl c.in_ok-back.ensures.disk_rose.uncounted
 
@@ -27,7 +28,7 @@ returns-then-is_there-clause-along g c = λ path side start is at still.
     answered g.G.Ledger g.A.Archive c.args.ledger.now c.compare.new.ledger c.args.archive.now c.args.archive.now side start c.args.pool.now _ _ _ _ _ _ at still
     (there (sym w.0 ∙ none.0) (sym rest_is ∙ none.1) (c.only_text-then-is_there.ensures.text ∙ c.at_answer-text.ensures
     ∙ at_is _ _ _ _ (c.tip.ensures ∙ g.met.G.Ledger.tip_is c.compare.new.ledger side.chain here) (c.height.ensures ∙ g.met.G.Ledger.height_is c.compare.new.ledger side.chain here)) refl refl)
-    refl c.only_text-then-is_there.ensures.left (λ t. all_grow_self _)
+    refl c.only_text-then-is_there.ensures.left (λ t. all_grow_none _)
     (asked_moved g.G.Ledger c.args.ledger.now c.compare.new.ledger side.chain (λ a d f h i j k. g.met.G.Ledger.leaves_own a d f h i j k) c.requires.live asked at.stood)
     refl c.in_ok-back.ensures.disk_rose.uncounted
 
@@ -49,7 +50,7 @@ returns-clause-along g c = λ path side start is at still.
     let w = c.in_ok-back.ensures.way path side.chain is (c.requires.end path is) at.stood in
     let rest_is = c.in_ok-rest.ensures.rest path is ∙ ap (λ k. drop k path) w.1 in
     let asked = c.in_ok-back.ensures.asked in
-    if_ok_map c.move_once.result _ _ (λ s leads.
+    IfOk-weaker c.move_once.result _ _ (λ s leads.
     leads_as g.G.Ledger g.A.Archive c.args.ledger.now c.move_once.new.ledger c.args.archive.now c.move_once.new.archive side start _ _ s.text side.found s.left s.moved s.changed c.move_once.new.pool
     (λ losses next. along_moves g.G.Ledger g.A.Archive _ side next path c.in_ok-rest.rest c.in_ok-back.field-0.back s.text losses c.if-back.false w.0 rest_is
     (c.is_there.ensures.moves c.if-is_there.false))
@@ -115,4 +116,4 @@ returns-clause-rows g c = λ path chain is stands none.
     absurd (none m.few m.moving)
 
 pub returns-clause-untouched : goal.returns-clause-untouched
-returns-clause-untouched g c = if_ok_map c.move_once.result _ _ (λ s apart. apart refl) c.move_once.ensures.untouched
+returns-clause-untouched g c = IfOk-weaker c.move_once.result _ _ (λ s apart. apart refl) c.move_once.ensures.untouched

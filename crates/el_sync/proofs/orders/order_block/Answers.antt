@@ -1,5 +1,6 @@
 use Rattle.std.proofs.Common.{None, Some, refl}
-use Rattle.el_sync.proofs.Led.{on_err_all, place_looked, place_failed, place_there}
+use Rattle.el_sync.proofs.Led.{place_looked, place_failed, place_there}
+use Rattle.el_files.proofs.Appends.{on_err}
 use Rattle.el_sync.proofs.orders.order_block.Goals as goal
 
 pub returns-in-Ok-None-clause-looked : goal.returns-in-Ok-None-clause-looked
@@ -28,7 +29,7 @@ returns-in_err-text-in-Ok-Some-clause-there g c = λ side from told.
     let e = c.in-Ok-Some.ensures in
     let here = rw c.in-Ok-Some.field-0-is at e.node in
     let is = rw c.in-Ok-Some.field-0-is at e.record in
-    on_err_all c.from_residual.result _ (
+    on_err c.from_residual.result _ (
       c.in-Ok-Some.node,
       place_there g.A.Archive c.args.archive.now c.record_at.new.archive side c.args.file c.args.at (Some c.in-Ok-Some.node) told e.only_reads.keeps
           (record { node = here.found.found.node; grows = e.only_reads.keeps; record_is = λ t. ((is t).0, (is t).1, (rw from.magic (is t).2)) }),

@@ -1,10 +1,10 @@
 use Rattle.std.proofs.Common.{None, Some, Err, false, refl, sym, ap, ◌∙◌, arith}
-use Rattle.std.proofs.lemmas.Result.{err_from_is_err_and}
+use Rattle.std.proofs.lemmas.Result.{err_from_is_err_and, IfOk-weaker}
 use Rattle.el_lines.specs.Lines.{line}
 use Rattle.el_lines.specs.NodeLines as said
 use Rattle.el_world.specs.Side.{OrdersLine, Tips}
 use Rattle.el_model.proofs.LedgerMoves.{asked_moved, asked_none}
-use Rattle.el_sync.proofs.Led.{asked_stops, block_leads, if_ok_map, if_err_map, kept_leads, leads_in, memory_of, refused_leads, said_after, stands_there, starved, starved_still, step_asked, stops_as}
+use Rattle.el_sync.proofs.Led.{asked_stops, block_leads, if_err_map, kept_leads, leads_in, memory_of, refused_leads, said_after, stands_there, starved, starved_still, step_asked, stops_as}
 use Rattle.el_sync.specs.declared.fault.StepFault.TheVariants as fault
 use Rattle.el_sync.specs.declared.moving.Step.{Step}
 use Rattle.el_methods.specs.declared.holdings.Holdings.{Holdings}
@@ -20,7 +20,7 @@ returns-in_ok-text-in-Ok-Block-clause-node g c = λ side start at from.
 
 pub returns-in-Ok-Tip-clause-node : goal.returns-in-Ok-Tip-clause-node
 returns-in-Ok-Tip-clause-node g c = λ side start at from.
-    if_ok_map c.order_tip.result _ _ (λ s leads.
+    IfOk-weaker c.order_tip.result _ _ (λ s leads.
     leads_in g.G.Ledger g.A.Archive c.args.ledger.now c.order_tip.new.ledger c.args.archive.now c.order_tip.new.archive side start
     (Tips g.A.Archive.tells side c.in-Ok-Tip.h) (OrdersLine g.A.Archive.tells side (line c.args.text.now)) s.text side.found c.args.holdings.now.tree s.left s.moved s.changed c.order_tip.new.pool from.found
     (λ losses next led. (Some (said.tip c.in-Ok-Tip.h.0), rw c.in-Ok-Tip.field-0-is at c.in-Ok-Tip.ensures.read, led)) leads)
@@ -102,7 +102,7 @@ returns-in_ok-text-in-Ok-Block-clause-rows g c = λ side start at from.
 
 pub returns-in-Ok-Tip-clause-rows : goal.returns-in-Ok-Tip-clause-rows
 returns-in-Ok-Tip-clause-rows g c = λ side start at from.
-    if_ok_map c.order_tip.result _ _ (λ s leads. (Some (said.tip c.in-Ok-Tip.h.0), rw c.in-Ok-Tip.field-0-is at c.in-Ok-Tip.ensures.read, c.order_tip.ensures.rows side at.stood from.found))
+    IfOk-weaker c.order_tip.result _ _ (λ s leads. (Some (said.tip c.in-Ok-Tip.h.0), rw c.in-Ok-Tip.field-0-is at c.in-Ok-Tip.ensures.read, c.order_tip.ensures.rows side at.stood from.found))
     (c.order_tip.ensures.tip side start at from.found from.still)
 
 pub returns-in_ok-answer-in-Ok-Tx-clause-rows : goal.returns-in_ok-answer-in-Ok-Tx-clause-rows

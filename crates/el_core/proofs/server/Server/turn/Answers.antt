@@ -1,5 +1,5 @@
 use Rattle.std.proofs.Common.{◌∙◌, sym, ap, subst, Some, Ok, Err, inr}
-use Rattle.el_core.proofs.Noded.{nil_if}
+use Rattle.el_sync.proofs.Compared.{nil_if}
 use Rattle.el_core.proofs.server.Server.turn.Goals as goal
 use Rattle.el_core.specs.Turn.{outs_of, closing_of}
 use Rattle.el_core.proofs.Causes.{waiting_joins, none_ordered_before, none_given, none_unread, reply_other, found_memory, peers_long, tell_memory, tell_none}
