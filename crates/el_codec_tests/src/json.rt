@@ -1,5 +1,6 @@
 // What no contract says: lines from outside, printed texts, and that each call succeeds where memory is
 // ample.
+ghost use Rattle.std.specs.Prelude.{◌<◌, ◌^◌};
 ghost use Rattle.el_json.specs.Lines.{IsPrintable, HasPrintableId, IsPrintableId};
 
 use el_base::Text;
@@ -60,20 +61,25 @@ fn add_batch(alloc: Global, out: &mut Vec<u8>, mut elements: Elements) -> Result
     Ok(())
 }
 
-// What is read of a line, in short.
-fn in_short(alloc: Global, line: &[u8]) -> Result<Vec<u8>, Fail> {
-    let mut out = Vec::new(alloc);
+// Adds what is read of a line.
+fn add_line(alloc: Global, out: &mut Vec<u8>, line: &[u8]) -> Result<(), Fail> {
     match read_line(alloc, line) {
-        Ok(Envelope::One(request)) => add_request(alloc, &mut out, &request)?,
-        Ok(Envelope::Batch(elements)) => add_batch(alloc, &mut out, elements)?,
-        Err(LineFault::Invalid(id)) => add_item(alloc, &mut out, &Item::Invalid(id))?,
-        Err(fault) => out.extend_from_slice(format!(in alloc; "{fault}")?.as_bytes())?,
+        Ok(Envelope::One(request)) => add_request(alloc, out, &request),
+        Ok(Envelope::Batch(elements)) => add_batch(alloc, out, elements),
+        Err(LineFault::Invalid(id)) => add_item(alloc, out, &Item::Invalid(id)),
+        Err(fault) => Ok(out.extend_from_slice(format!(in alloc; "{fault}")?.as_bytes())?),
     }
-    Ok(out)
+}
+
+// Whether this is read of a line, in short.
+fn says(alloc: Global, line: &[u8], short: &str) -> Result<bool, Fail> {
+    let mut out = Vec::new(alloc);
+    add_line(alloc, &mut out, line)?;
+    Ok(out.as_slice() == short.as_bytes())
 }
 
 // Lines, and what they say by JSON-RPC 2.0, sections 4 to 6, and RFC 8259.
-const LINES: [(&[u8], &str); 44] = [
+const LINES: &[(&[u8], &str)] = &[
     (b"{\"id\":1,\"method\":\"m\"}", "1 m ["),
     (b"{\"id\":1,\"method\":\"m\",\"params\":null}", "1 m ["),
     (b"{\"id\":1,\"method\":\"m\",\"params\":[7,8]}", "1 m [7"),
@@ -144,18 +150,22 @@ const LINES: [(&[u8], &str); 44] = [
     (b"[1e400]", "no JSON"),
 ];
 
+// Whether this is read of a line of so many brackets and the same number that close them.
+fn says_of_brackets(alloc: Global, brackets: usize, short: &str) -> Result<bool, Fail>
+    requires { brackets < 2 ^ 32 }
+{
+    let mut line = vec![in alloc; b'['; brackets]?;
+    line.extend_from_slice(&vec![in alloc; b']'; brackets]?)?;
+    says(alloc, line.as_slice(), short)
+}
+
 #[test]
 fn lines(rt: HostRuntime) -> Result<(), Fail> {
-    for (line, short) in LINES {
-        let found = in_short(rt.alloc(), line)?;
-        assert_eq!(rt; found.as_slice(), short.as_bytes(), "of {line:?}");
+    for (line, short) in LINES.iter() {
+        assert!(rt; says(rt.alloc(), line, short)?, "of {line:?}");
     }
-    for (brackets, short) in [(127, "!null;"), (128, "no JSON")] {
-        let mut line = vec![in rt.alloc(); b'['; brackets]?;
-        line.extend_from_slice(&vec![in rt.alloc(); b']'; brackets]?)?;
-        let found = in_short(rt.alloc(), &line)?;
-        assert_eq!(rt; found.as_slice(), short.as_bytes(), "{brackets} deep");
-    }
+    assert!(rt; says_of_brackets(rt.alloc(), 127, "!null;")?);
+    assert!(rt; says_of_brackets(rt.alloc(), 128, "no JSON")?);
     Ok(())
 }
 
@@ -202,9 +212,8 @@ fn answers(rt: HostRuntime) -> Result<(), Fail> {
     Ok(())
 }
 
-// The simple kinds that a parameter is of, in short.
-fn simple_kinds(alloc: Global, param: &Param) -> Result<Vec<u8>, Fail> {
-    let mut out = Vec::new(alloc);
+// Adds the simple kinds that a parameter is of, in short.
+fn add_simple_kinds(alloc: Global, out: &mut Vec<u8>, param: &Param) -> Result<(), Fail> {
     if let Some(n) = param.number() {
         out.extend_from_slice(n.to_string(alloc)?.as_bytes())?;
     }
@@ -214,12 +223,11 @@ fn simple_kinds(alloc: Global, param: &Param) -> Result<Vec<u8>, Fail> {
     if let Some(text) = param.text() {
         out.extend_from_slice(text.as_bytes())?;
     }
-    Ok(out)
+    Ok(())
 }
 
-// All kinds, in short: of a hash its first and its last byte in inner order.
-fn kinds(alloc: Global, param: &Param) -> Result<Vec<u8>, Fail> {
-    let mut out = simple_kinds(alloc, param)?;
+// Adds the other kinds, in short: of a hash its first and its last byte in inner order.
+fn add_other_kinds(out: &mut Vec<u8>, param: &Param) -> Result<(), Fail> {
     if let Some(hash) = param.hash() {
         out.extend_from_slice(&[hash.0[0], hash.0[31]])?;
     }
@@ -230,7 +238,15 @@ fn kinds(alloc: Global, param: &Param) -> Result<Vec<u8>, Fail> {
         let in_order = first.flag().is_some() && second.flag().is_none();
         out.push(if in_order { b',' } else { b'?' })?;
     }
-    Ok(out)
+    Ok(())
+}
+
+// Whether the parameter is of these kinds.
+fn is_of_kinds(alloc: Global, param: &Param, short: &str) -> Result<bool, Fail> {
+    let mut out = Vec::new(alloc);
+    add_simple_kinds(alloc, &mut out, param)?;
+    add_other_kinds(&mut out, param)?;
+    Ok(out.as_slice() == short.as_bytes())
 }
 
 // 64 digits in both cases, of which the first two show the last byte in inner order; and one too few.
@@ -242,41 +258,44 @@ const SHORTER: &str = "\"41aA000000000000000000000000000000000000000000000000000
 
 const SHORTER_READ: &str = "41aA00000000000000000000000000000000000000000000000000000000004";
 
+const PARAMETERS: [(&str, &str); 13] = [
+    ("0", "0"),
+    ("18446744073709551615", "18446744073709551615"),
+    ("-1", ""),
+    ("1.0", ""),
+    ("false", "not"),
+    ("\"0\"", "0"),
+    ("{}", "{"),
+    ("[1]", ""),
+    ("[true,2]", ","),
+    ("[1,2,3]", ""),
+    ("null", ""),
+    (DIGITS, READ),
+    (SHORTER, SHORTER_READ),
+];
+
+// Whether the request's one parameter, `a`, is of these kinds.
+fn asks_with(alloc: Global, request: &Request, short: &str) -> Result<bool, Fail> {
+    let only = request.params.has_only(&["b", "a"]) && !request.params.has_only(&["b"]);
+    match request.params.given(0, "a") {
+        Some(param) => Ok(is_of_kinds(alloc, &param, short)? && only),
+        None => Ok(false),
+    }
+}
+
+// Whether the value is read as a parameter of these kinds.
+fn is_parameter(alloc: Global, value: &str, short: &str) -> Result<bool, Fail> {
+    let line = format!(in alloc; "{{\"id\":1,\"method\":\"m\",\"params\":{{\"a\":{value}}}}}")?;
+    match read_line(alloc, line.as_bytes())? {
+        Envelope::One(request) => asks_with(alloc, &request, short),
+        Envelope::Batch(_) => Ok(false),
+    }
+}
+
 #[test]
 fn parameters(rt: HostRuntime) -> Result<(), Fail> {
-    for (value, short) in [
-        ("0", "0"),
-        ("18446744073709551615", "18446744073709551615"),
-        ("-1", ""),
-        ("1.0", ""),
-        ("false", "not"),
-        ("\"0\"", "0"),
-        ("{}", "{"),
-        ("[1]", ""),
-        ("[true,2]", ","),
-        ("[1,2,3]", ""),
-        ("null", ""),
-        (DIGITS, READ),
-        (SHORTER, SHORTER_READ),
-    ] {
-        let line = format!(in rt.alloc();
-            "{{\"id\":1,\"method\":\"m\",\"params\":{{\"a\":{value}}}}}"
-        )?;
-        match read_line(rt.alloc(), line.as_bytes())? {
-            Envelope::One(request) => {
-                assert!(rt;
-                    request.params.has_only(&["b", "a"]) && !request.params.has_only(&["b"])
-                );
-                match request.params.given(0, "a") {
-                    Some(param) => {
-                        let found = kinds(rt.alloc(), &param)?;
-                        assert_eq!(rt; found.as_slice(), short.as_bytes(), "of {value}");
-                    }
-                    None => assert!(rt; false),
-                }
-            }
-            Envelope::Batch(_) => assert!(rt; false),
-        }
+    for (value, short) in PARAMETERS.iter() {
+        assert!(rt; is_parameter(rt.alloc(), value, short)?, "of {value}");
     }
     Ok(())
 }

@@ -11,11 +11,17 @@ use std::test::Fail;
 // 4860eb18bf1b1620e37e9490fc8a427514416fd75159ab86688e9a8300000000.
 fn blocks() -> Result<[Hash32; 3], HexFault> {
     Ok([
-        Hash32::from_shown("000000000019d6689c085ae165831e934ff763ae46a2a6c172b3f1b60a8ce26f")?,
-        Hash32::from_shown("00000000839a8e6886ab5951d76f411475428afc90947ee320161bbf18eb6048")?,
-        Hash32::from_shown("000000006a625f06636b8bb6ac7b960a8d03705d1ace08b1a19da3fdcc99ddbd")?,
+        Hash32::from_shown(FIRST)?,
+        Hash32::from_shown(SECOND)?,
+        Hash32::from_shown(THIRD)?,
     ])
 }
+
+const FIRST: &str = "000000000019d6689c085ae165831e934ff763ae46a2a6c172b3f1b60a8ce26f";
+
+const SECOND: &str = "00000000839a8e6886ab5951d76f411475428afc90947ee320161bbf18eb6048";
+
+const THIRD: &str = "000000006a625f06636b8bb6ac7b960a8d03705d1ace08b1a19da3fdcc99ddbd";
 
 // The first two joined, the third joined with itself, and these two joined.
 const FIRST_TWO: &str = "abdc2227d02d114b77be15085c1257709252a7a103f9ac0ab3c85d67e12bc0b8";
@@ -43,47 +49,60 @@ const BLOCK_100000: [&str; 4] = [
 
 const ROOT_100000: &str = "f3e94742aca4b5ef85488dc37c06c3282295ffec960994b2c0d5ac2a25a95766";
 
+// Whether these hashes have that root.
+fn has_root(alloc: Global, hashes: &[Hash32], shown: &str) -> Result<bool, Fail>
+    requires { 0 < length hashes.now }
+{
+    let wanted = Hash32::from_shown(shown)?;
+    Ok(root(alloc, hashes)? == wanted)
+}
+
 #[test]
 fn roots(rt: HostRuntime) -> Result<(), Fail> {
-    let [first, second, third] = blocks()?;
-    let mut block = [first; 4];
-    for (at, shown) in BLOCK_100000.iter().enumerate() {
-        block[at] = Hash32::from_shown(*shown)?;
-    }
-    assert_eq!(rt; root(rt.alloc(), &[first])?, first);
-    assert_eq!(rt;
-        root(rt.alloc(), &[first, second])?,
-        Hash32::from_shown(FIRST_TWO)?
-    );
-    assert_eq!(rt;
-        root(rt.alloc(), &[first, second, third])?,
-        Hash32::from_shown(ALL_THREE)?
-    );
-    assert_eq!(rt; root(rt.alloc(), &block)?, Hash32::from_shown(ROOT_100000)?);
-    let forty = leaves(rt.alloc(), 40)?;
-    assert_eq!(rt; root(rt.alloc(), &forty)?, Hash32::from_shown(ROOT_40)?);
+    let hashes = blocks()?;
+    assert!(rt; has_root(rt.alloc(), &hashes[..1], FIRST)?);
+    assert!(rt; has_root(rt.alloc(), &hashes[..2], FIRST_TWO)?);
+    assert!(rt; has_root(rt.alloc(), &hashes, ALL_THREE)?);
+    assert!(rt; has_root(rt.alloc(), &leaves(rt.alloc(), 40)?, ROOT_40)?);
     Ok(())
 }
 
 #[test]
-fn branches_of_one_and_three(rt: HostRuntime) -> Result<(), Fail> {
-    let [first, second, third] = blocks()?;
-    let (partners, top) = branch(rt.alloc(), &[first], 0)?;
-    assert_eq!(rt; (partners.len(), top), (0, first));
-    let first_two = Hash32::from_shown(FIRST_TWO)?;
-    let third_twice = Hash32::from_shown(THIRD_TWICE)?;
-    let all_three = Hash32::from_shown(ALL_THREE)?;
-    let wants = [
-        [second, third_twice],
-        [first, third_twice],
-        [third, first_two],
-    ];
-    for (pos, want) in wants.iter().enumerate() {
-        let (partners, top) = branch(rt.alloc(), &[first, second, third], pos)?;
-        assert_eq!(rt; partners.as_slice(), want.as_slice(), "at {pos}");
-        assert_eq!(rt; top, all_three, "at {pos}");
-        let leaf = [first, second, third][pos];
-        assert_eq!(rt; climb(leaf, pos as u64, &partners), all_three, "at {pos}");
+fn the_root_of_a_block_of_bitcoin(rt: HostRuntime) -> Result<(), Fail> {
+    let mut block = [Hash32([0; 32]); 4];
+    for (at, shown) in BLOCK_100000.iter().enumerate() {
+        block[at] = Hash32::from_shown(*shown)?;
     }
+    assert!(rt; has_root(rt.alloc(), &block, ROOT_100000)?);
+    Ok(())
+}
+
+// Whether the branch of the hash at that place has these partners and that root, to which they lead.
+fn has_branch(alloc: Global, hashes: &[Hash32], place: usize, wanted: &[&str]) -> Result<bool, Fail>
+    requires { place < length hashes.now }
+{
+    let top = Hash32::from_shown(ALL_THREE)?;
+    let (partners, found) = branch(alloc, hashes, place)?;
+    let mut alike = found == top && partners.len() == wanted.len();
+    for (partner, shown) in partners.iter().zip(wanted.iter()) {
+        alike = alike && Hash32::from_shown(*shown) == Ok(*partner);
+    }
+    Ok(alike && climb(hashes[place], place as u64, &partners) == top)
+}
+
+#[test]
+fn branches_of_three(rt: HostRuntime) -> Result<(), Fail> {
+    let hashes = blocks()?;
+    assert!(rt; has_branch(rt.alloc(), &hashes, 0, &[SECOND, THIRD_TWICE])?);
+    assert!(rt; has_branch(rt.alloc(), &hashes, 1, &[FIRST, THIRD_TWICE])?);
+    assert!(rt; has_branch(rt.alloc(), &hashes, 2, &[THIRD, FIRST_TWO])?);
+    Ok(())
+}
+
+#[test]
+fn a_branch_of_one(rt: HostRuntime) -> Result<(), Fail> {
+    let [first, _, _] = blocks()?;
+    let (partners, top) = branch(rt.alloc(), &[first], 0)?;
+    assert!(rt; partners.is_empty() && top == first);
     Ok(())
 }

@@ -1,12 +1,12 @@
 // Transactions: Bitcoin's first two and one with a witness, and which fault others have first.
 use crate::digits::shown_is;
-use el_base::{Hash32, sha256};
+use el_base::{Bytes, Hash32, sha256};
 use el_gen::{
     BLOCK_1, BLOCK_1_TXID, EMPTY_SCRIPT_HASH, GENESIS, GENESIS_TXID, OP_1_SCRIPT_HASH,
     P2PKH_SCRIPT, P2PKH_SCRIPT_HASH, WITNESS_TX, WITNESS_TXID,
 };
 use el_tx::{
-    Sizes, Tx, TxFault, decode_tx, each_has_one_encoding, each_is_read_or_faults, encode_tx,
+    Sizes, Tx, TxFault, TxIn, decode_tx, each_has_one_encoding, each_is_read_or_faults, encode_tx,
     first_fault_is_one, headers_differ_in_encoding, is_coinbase, no_encoding_begins_another,
     nothing_encoded_faults, sizes_of, txid, vsize, weight,
 };
@@ -83,40 +83,62 @@ fn witnessed() -> Result<[u8; 66], Fail> {
 }
 
 // The transaction of the digits.
-fn tx_of(alloc: Global, digits: &str) -> Result<Tx, Fail> {
-    let bytes = hex::decode(alloc, digits)?;
-    let (tx, _) = decode_tx(alloc, bytes.as_slice())?;
-    Ok(tx)
+fn tx_of(alloc: Global, digits: &str) -> Option<Tx> {
+    let bytes = hex::decode(alloc, digits).ok()?;
+    let (tx, _) = decode_tx(alloc, bytes.as_slice()).ok()?;
+    Some(tx)
+}
+
+// Whether the input is that of the coinbase of Bitcoin's second block.
+fn is_coinbase_input(input: &TxIn) -> bool {
+    input.from.txid.0 == [0; 32]
+        && (input.from.index, input.sequence) == (4294967295, 4294967295)
+        && input.script.as_slice() == [4, 255, 255, 0, 29, 1, 4].as_slice()
+        && input.witness.is_empty()
+}
+
+// Whether the version, the lock time and the inputs are those of this coinbase.
+fn is_second_coinbase(tx: &Tx) -> bool {
+    let mut alike = (tx.version, tx.lock) == (1, 0) && tx.inputs.len() == 1;
+    for input in tx.inputs.as_slice() {
+        alike = alike && is_coinbase_input(input);
+    }
+    alike
+}
+
+// Whether its one output is that of this coinbase.
+fn pays_its_miner(tx: &Tx) -> bool {
+    let mut alike = tx.outputs.len() == 1;
+    for output in tx.outputs.as_slice() {
+        alike = alike && (output.value, output.script.len()) == (5_000_000_000, 67);
+    }
+    alike
+}
+
+// Whether the inputs are the one of the transaction with a witness.
+fn has_its_witness(tx: &Tx) -> bool {
+    let mut alike = tx.inputs.len() == 1;
+    for input in tx.inputs.as_slice() {
+        alike = alike && input.from.txid.0 == [17; 32] && is_answer(input.witness.as_slice());
+    }
+    alike
+}
+
+// Whether there is one item, of one byte, 42.
+fn is_answer(items: &[Bytes]) -> bool {
+    let mut alike = items.len() == 1;
+    for item in items {
+        alike = alike && item.as_slice() == [42].as_slice();
+    }
+    alike
 }
 
 #[test]
-fn fields(rt: HostRuntime) -> Result<(), Fail> {
-    let tx = tx_of(rt.alloc(), &BLOCK_1[162..])?;
-    assert_eq!(rt; (tx.version, tx.lock), (1, 0));
-    assert_eq!(rt; (tx.inputs.len(), tx.outputs.len()), (1, 1));
-    for input in tx.inputs.as_slice() {
-        assert_eq!(rt; input.from.txid.0, [0; 32]);
-        assert_eq!(rt;
-            (input.from.index, input.sequence),
-            (4294967295, 4294967295)
-        );
-        assert_eq!(rt;
-            input.script.as_slice(),
-            [4, 255, 255, 0, 29, 1, 4].as_slice()
-        );
-        assert_eq!(rt; input.witness.len(), 0);
-    }
-    for output in tx.outputs.as_slice() {
-        assert_eq!(rt; (output.value, output.script.len()), (5_000_000_000, 67));
-    }
-    let tx = tx_of(rt.alloc(), WITNESS_TX)?;
-    for input in tx.inputs.as_slice() {
-        assert_eq!(rt; (input.from.txid.0, input.witness.len()), ([17; 32], 1));
-        for item in input.witness.as_slice() {
-            assert_eq!(rt; item.as_slice(), [42].as_slice());
-        }
-    }
-    Ok(())
+fn fields(rt: HostRuntime) {
+    let second = tx_of(rt.alloc(), &BLOCK_1[162..]);
+    assert!(rt; second.is_some_and(|tx| is_second_coinbase(&tx) && pays_its_miner(&tx)));
+    let witnessed = tx_of(rt.alloc(), WITNESS_TX);
+    assert!(rt; witnessed.is_some_and(|tx| has_its_witness(&tx)));
 }
 
 // The fault, or none where a transaction is read.
@@ -154,11 +176,15 @@ fn cuts_and_long_numbers(rt: HostRuntime) -> Result<(), Fail> {
     Ok(())
 }
 
-// The same front for each case: the version, one input of 41 bytes, and what follows.
+// The version and one input of 41 bytes.
+const FRONT: [u8; 46] = [
+    2, 0, 0, 0, 1, 17, 17, 17, 17, 17, 17, 17, 17, 17, 17, 17, 17, 17, 17, 17, 17, 17, 17, 17, 17,
+    17, 17, 17, 17, 17, 17, 17, 17, 17, 17, 17, 17, 17, 17, 17, 17, 0, 255, 255, 255, 255,
+];
+
+// The same front for each case, and what follows.
 fn with_outputs(alloc: Global, outputs: &[u8]) -> Result<Vec<u8>, AllocError> {
-    let mut bytes = Vec::from_slice(alloc, &[2, 0, 0, 0, 1])?;
-    bytes.extend_from_slice(&[17; 36])?;
-    bytes.extend_from_slice(&[0, 255, 255, 255, 255])?;
+    let mut bytes = Vec::from_slice(alloc, &FRONT)?;
     bytes.extend_from_slice(outputs)?;
     Ok(bytes)
 }

@@ -1,10 +1,11 @@
 // What is read where it stands is what is read into memory of its own, and other bytes are refused alike.
 use crate::digits::{AFTER_ROOT, BEFORE_ROOT, COIN, ROOT_COIN_A, SIGNED_A, bytes_of};
 use el_base::Bytes;
-use el_block::{decode_with_txids, view_with_txids};
+use el_block::{Block, BlockView, decode_with_txids, view_with_txids};
 use el_gen::{BLOCK_1, GENESIS, WITNESS_TX};
 use el_tx::{
-    BytesView, TxIn, TxInView, TxOut, TxOutView, decode_tx, is_coinbase, sizes_of, view_tx,
+    BytesView, Sizes, Tx, TxIn, TxInView, TxOut, TxOutView, TxView, decode_tx, is_coinbase,
+    sizes_of, view_tx,
 };
 use std::alloc::Global;
 use std::test::Fail;
@@ -36,18 +37,24 @@ fn same_outputs(views: &[TxOutView<'_>], outputs: &[TxOut]) -> bool {
     same
 }
 
+// Whether the sizes are the same.
+fn same_sizes(view: &TxView<'_>, sizes: Sizes) -> bool {
+    view.stripped_len() as u128 == sizes.stripped && view.full_len() as u128 == sizes.full
+}
+
+// Whether it is the same transaction with the same sizes.
+fn same_tx(view: &TxView<'_>, tx: &Tx) -> bool {
+    (view.version(), view.lock()) == (tx.version, tx.lock)
+        && same_sizes(view, sizes_of(tx))
+        && view.is_coinbase() == is_coinbase(tx)
+        && same_inputs(view.inputs(), tx.inputs.as_slice())
+        && same_outputs(view.outputs(), tx.outputs.as_slice())
+}
+
 // Whether both readings of the bytes give the same transaction with the same sizes, or the same fault.
 fn alike(alloc: Global, bytes: &[u8]) -> bool {
     match (view_tx(alloc, bytes), decode_tx(alloc, bytes)) {
-        (Ok((view, a)), Ok((tx, b))) => {
-            let sizes = sizes_of(&tx);
-            (a, view.version(), view.lock()) == (b, tx.version, tx.lock)
-                && (view.stripped_len() as u128, view.full_len() as u128)
-                    == (sizes.stripped, sizes.full)
-                && view.is_coinbase() == is_coinbase(&tx)
-                && same_inputs(view.inputs(), tx.inputs.as_slice())
-                && same_outputs(view.outputs(), tx.outputs.as_slice())
-        }
+        (Ok((view, a)), Ok((tx, b))) => a == b && same_tx(&view, &tx),
         (Err(e), Err(f)) => e == f,
         _ => false,
     }
@@ -81,6 +88,17 @@ fn transactions(rt: HostRuntime) -> Result<(), Fail> {
     Ok(())
 }
 
+// Whether the block has the same header and transactions.
+fn same_block(view: &BlockView<'_>, block: &Block) -> bool {
+    let mut same = view.header() == block.header && view.txs().len() == block.txs.len();
+    for (view, tx) in view.txs().iter().zip(block.txs.as_slice()) {
+        same = same
+            && same_inputs(view.inputs(), tx.inputs.as_slice())
+            && same_outputs(view.outputs(), tx.outputs.as_slice());
+    }
+    same
+}
+
 // Whether both readings of the bytes give a block of the same header, transactions and txids, or the same
 // fault.
 fn blocks_alike(alloc: Global, bytes: &[u8]) -> bool {
@@ -89,15 +107,7 @@ fn blocks_alike(alloc: Global, bytes: &[u8]) -> bool {
         decode_with_txids(alloc, bytes),
     ) {
         (Ok((view, a)), Ok((block, b))) => {
-            let mut same = view.header() == block.header
-                && view.txs().len() == block.txs.len()
-                && a.as_slice() == b.as_slice();
-            for (view, tx) in view.txs().iter().zip(block.txs.as_slice()) {
-                same = same
-                    && same_inputs(view.inputs(), tx.inputs.as_slice())
-                    && same_outputs(view.outputs(), tx.outputs.as_slice());
-            }
-            same
+            a.as_slice() == b.as_slice() && same_block(&view, &block)
         }
         (Err(e), Err(f)) => e == f,
         _ => false,
