@@ -1,5 +1,5 @@
 // Merkle trees: values from outside, as users see hashes. They were computed by another program.
-ghost use Rattle.std.specs.Prelude.{◌≡◌, length, IfOk};
+ghost use Rattle.std.specs.Prelude.{◌≡◌, ◌<◌, length, IfOk};
 
 use el_base::{Hash32, HexFault};
 use el_merkle::{branch, climb, root};
