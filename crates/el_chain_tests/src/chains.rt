@@ -1,12 +1,12 @@
 // The plain chain: whole blocks as Bitcoin's nodes serialize them, each with its answer. Another program made
 // them.
-ghost use Rattle.std.specs.Prelude.{◌≡◌, ℕ, List, IsTrue, IfOk};
+ghost use Rattle.std.specs.Prelude.{◌≡◌, ℕ, List, IfOk};
 ghost use Rattle.el_block.specs.Blocks.{HasBlockEncoding};
-ghost use Rattle.el_chain.specs.Chains.{tip};
 
+use crate::records::{entries_of, names_tip};
 use el_base::Hash32;
 use el_block::{Block, decode_block};
-use el_chain::{ConnectFault, Entry, Touched};
+use el_chain::{ConnectFault, Touched};
 use el_outside::Place;
 use el_plain::PlainChain;
 use el_tx::Outpoint;
@@ -130,21 +130,17 @@ const SCRIPT_4: &str = "d369d0916f0d4df226bee954e40d2d857bfde939c5a40f262cf30b5b
 
 const SCRIPT_5: &str = "e72740764225bbf7c83185af009ed02e9e1b0818ee37330aa8eaf6e0c71355a2";
 
+// The first two blocks, and the twins.
+const TWO: &[&str] = &[FIRST, SECOND];
+
+const TWINS: &[&str] = &[TWIN, OTHER_TWIN];
+
 fn block_of(alloc: Global, text: &str) -> Result<Block, Fail>
     ensures { IfOk result HasBlockEncoding }
 {
     let bytes = hex::decode(alloc, text)?;
     let block = decode_block(alloc, bytes.as_slice())?;
     Ok(block)
-}
-
-fn names_tip(block: &Block, ledger: &PlainChain) -> bool
-    ensures { IsTrue result → block.now.header.previous ≡ tip ledger.now }
-{
-    match ledger.tip() {
-        Some(hash) => block.header.previous == hash,
-        None => block.header.previous == Hash32([0; 32]),
-    }
 }
 
 // The fault of a block, or None where it was added.
@@ -154,7 +150,7 @@ fn fault_of(
     text: &str,
 ) -> Result<Option<ConnectFault>, Fail> {
     let block = block_of(alloc, text)?;
-    if !names_tip(&block, ledger) {
+    if !names_tip(&block, ledger.blocks()) {
         return Err(Fail::new("the block does not name the tip"));
     }
     let place = Place {
@@ -176,51 +172,60 @@ fn ledger_of(alloc: Global, texts: &[&str]) -> Result<PlainChain, Fail> {
     Ok(ledger)
 }
 
-// The entries at these heights with these txids.
-fn entries_of(alloc: Global, places: &[(u32, &str)]) -> Result<Vec<Entry>, Fail> {
-    let mut entries = Vec::new(alloc);
-    for (height, text) in places {
-        let txid = Hash32::from_shown(*text)?;
-        entries.push(Entry {
-            height: *height,
-            txid,
-        })?;
-    }
-    Ok(entries)
-}
-
-// What a chain of the blocks and then this one has as the fault of this one; its tip is then what it was.
-fn refused_after(alloc: Global, texts: &[&str], text: &str) -> Result<Option<ConnectFault>, Fail> {
-    let mut ledger = ledger_of(alloc, texts)?;
+// The fault of a block, or None where it was added; after a fault the tip is what it was.
+fn fault_alone(
+    alloc: Global,
+    ledger: &mut PlainChain,
+    text: &str,
+) -> Result<Option<ConnectFault>, Fail> {
     let tip = ledger.tip();
-    let fault = fault_of(alloc, &mut ledger, text)?;
+    let fault = fault_of(alloc, ledger, text)?;
     if fault.is_some() && ledger.tip() != tip {
         return Err(Fail::new("a refused block changed the tip"));
     }
     Ok(fault)
 }
 
+// What a chain of the blocks and then this one has as the fault of this one.
+fn fault_after(alloc: Global, texts: &[&str], text: &str) -> Result<Option<ConnectFault>, Fail> {
+    let mut ledger = ledger_of(alloc, texts)?;
+    fault_alone(alloc, &mut ledger, text)
+}
+
+// Blocks that can't stand after the second, each with its fault.
+const REFUSED: &[(&str, ConnectFault)] = &[
+    (SPENT, ConnectFault::MissingCoin { tx: 1, input: 0 }),
+    (SPENT_BEFORE, ConnectFault::MissingCoin { tx: 2, input: 1 }),
+    (SPENT_TWICE, ConnectFault::MissingCoin { tx: 1, input: 1 }),
+    (UNKNOWN, ConnectFault::MissingCoin { tx: 1, input: 0 }),
+    (TOO_EARLY, ConnectFault::MissingCoin { tx: 1, input: 0 }),
+    (
+        RICH,
+        ConnectFault::Money {
+            supply: 2_100_010_000_000_000,
+        },
+    ),
+];
+
+// The first of these blocks, counted from 0, that isn't refused so.
+fn not_refused(alloc: Global, ledger: &mut PlainChain) -> Result<Option<usize>, Fail> {
+    for (number, (text, fault)) in REFUSED.iter().enumerate() {
+        if fault_alone(alloc, ledger, *text)? != Some(*fault) {
+            return Ok(Some(number));
+        }
+    }
+    Ok(None)
+}
+
 // All blocks after the second are refused by one ledger, one after the other.
+fn refuses_all(alloc: Global) -> Result<Option<usize>, Fail> {
+    let mut ledger = ledger_of(alloc, TWO)?;
+    not_refused(alloc, &mut ledger)
+}
+
 #[test]
 fn refuses_blocks(rt: HostRuntime) -> Result<(), Fail> {
-    let mut ledger = ledger_of(rt.alloc(), [FIRST, SECOND].as_slice())?;
-    let tip = ledger.tip();
-    for (text, fault) in [
-        (SPENT, ConnectFault::MissingCoin { tx: 1, input: 0 }),
-        (SPENT_BEFORE, ConnectFault::MissingCoin { tx: 2, input: 1 }),
-        (SPENT_TWICE, ConnectFault::MissingCoin { tx: 1, input: 1 }),
-        (UNKNOWN, ConnectFault::MissingCoin { tx: 1, input: 0 }),
-        (TOO_EARLY, ConnectFault::MissingCoin { tx: 1, input: 0 }),
-        (
-            RICH,
-            ConnectFault::Money {
-                supply: 2_100_010_000_000_000,
-            },
-        ),
-    ] {
-        assert!(rt; fault_of(rt.alloc(), &mut ledger, text)? == Some(fault));
-        assert!(rt; ledger.tip() == tip);
-    }
+    assert_eq!(rt; refuses_all(rt.alloc())?, None);
     Ok(())
 }
 
@@ -237,24 +242,34 @@ fn has_entries(
     Ok(found.as_slice() == expected.as_slice())
 }
 
+type History = (
+    &'static [&'static str],
+    &'static str,
+    &'static [(u32, &'static str)],
+);
+
+// Blocks, a script hash, and its entries after them.
+const HISTORIES: &[History] = &[
+    (TWO, SCRIPT_1, &[(0, TXID_FIRST), (1, TXID_SPENDING)]),
+    (TWO, SCRIPT_2, &[(1, TXID_SECOND)]),
+    (TWO, SCRIPT_3, &[(1, TXID_SPENDING), (1, TXID_LAST)]),
+    (TWO, SCRIPT_4, &[(1, TXID_LAST)]),
+    (TWO, SCRIPT_5, &[]),
+    (TWINS, SCRIPT_5, &[(0, TXID_TWIN), (1, TXID_TWIN)]),
+];
+
+// Whether a chain of the blocks has these entries of the script hash.
+fn has_history(alloc: Global, row: &History) -> Result<bool, Fail> {
+    let (texts, script, places) = *row;
+    let chain = ledger_of(alloc, texts)?;
+    has_entries(alloc, &chain, script, places)
+}
+
 #[test]
 fn lists_histories(rt: HostRuntime) -> Result<(), Fail> {
-    let chain = ledger_of(rt.alloc(), [FIRST, SECOND].as_slice())?;
-    for (script, places) in [
-        (SCRIPT_1, [(0, TXID_FIRST), (1, TXID_SPENDING)].as_slice()),
-        (SCRIPT_2, [(1, TXID_SECOND)].as_slice()),
-        (SCRIPT_3, [(1, TXID_SPENDING), (1, TXID_LAST)].as_slice()),
-        (SCRIPT_4, [(1, TXID_LAST)].as_slice()),
-        (SCRIPT_5, [].as_slice()),
-    ] {
-        assert!(rt;
-            has_entries(rt.alloc(), &chain, script, places)?,
-            "of {script}"
-        );
+    for row in HISTORIES {
+        assert!(rt; has_history(rt.alloc(), row)?, "of {}", row.1);
     }
-    let twins = ledger_of(rt.alloc(), [TWIN, OTHER_TWIN].as_slice())?;
-    let places = [(0, TXID_TWIN), (1, TXID_TWIN)];
-    assert!(rt; has_entries(rt.alloc(), &twins, SCRIPT_5, places.as_slice())?);
     Ok(())
 }
 
@@ -263,8 +278,8 @@ fn lists_histories(rt: HostRuntime) -> Result<(), Fail> {
 fn keeps_one_coin_of_twins(rt: HostRuntime) -> Result<(), Fail> {
     let twins = [TWIN, OTHER_TWIN, TWIN_SPENT];
     let missing = ConnectFault::MissingCoin { tx: 1, input: 0 };
-    assert!(rt; refused_after(rt.alloc(), &twins[..2], TWIN_SPENT)? == None);
-    assert!(rt; refused_after(rt.alloc(), &twins, TWIN_AGAIN)? == Some(missing));
+    assert!(rt; fault_after(rt.alloc(), &twins[..2], TWIN_SPENT)? == None);
+    assert!(rt; fault_after(rt.alloc(), &twins, TWIN_AGAIN)? == Some(missing));
     Ok(())
 }
 
@@ -281,28 +296,53 @@ fn balance_of(chain: &PlainChain, script: &str) -> Option<u64> {
     Some(chain.balance(&script))
 }
 
+// What the outputs hold after the second block.
+const VALUES: &[(&str, u32, Option<u64>)] = &[
+    (TXID_FIRST, 0, None),
+    (TXID_SECOND, 0, Some(5_000_000_000)),
+    (TXID_SPENDING, 0, None),
+    (TXID_SPENDING, 1, Some(2_000_000_000)),
+    (TXID_SPENDING, 2, None),
+    (TXID_LAST, 0, Some(3_000_000_000)),
+];
+
+// The first of these outputs, counted from 0, that holds something else.
+fn wrong_value(chain: &PlainChain) -> Option<usize> {
+    for (number, (txid, index, value)) in VALUES.iter().enumerate() {
+        if value_of(chain, *txid, *index) != *value {
+            return Some(number);
+        }
+    }
+    None
+}
+
+// What the script hashes hold after the second block.
+const BALANCES: &[(&str, u64)] = &[
+    (SCRIPT_1, 2_000_000_000),
+    (SCRIPT_2, 5_000_000_000),
+    (SCRIPT_3, 0),
+    (SCRIPT_4, 3_000_000_000),
+    (SCRIPT_5, 0),
+];
+
+// The first of these script hashes, counted from 0, that holds something else.
+fn wrong_balance(chain: &PlainChain) -> Option<usize> {
+    for (number, (script, balance)) in BALANCES.iter().enumerate() {
+        if balance_of(chain, *script) != Some(*balance) {
+            return Some(number);
+        }
+    }
+    None
+}
+
+fn tells(alloc: Global) -> Result<(Option<usize>, Option<usize>), Fail> {
+    let chain = ledger_of(alloc, TWO)?;
+    Ok((wrong_value(&chain), wrong_balance(&chain)))
+}
+
 #[test]
 fn tells_coins_and_balances(rt: HostRuntime) -> Result<(), Fail> {
-    let chain = ledger_of(rt.alloc(), [FIRST, SECOND].as_slice())?;
-    for (txid, index, value) in [
-        (TXID_FIRST, 0, None),
-        (TXID_SECOND, 0, Some(5_000_000_000)),
-        (TXID_SPENDING, 0, None),
-        (TXID_SPENDING, 1, Some(2_000_000_000)),
-        (TXID_SPENDING, 2, None),
-        (TXID_LAST, 0, Some(3_000_000_000)),
-    ] {
-        assert!(rt; value_of(&chain, txid, index) == value, "{txid}, {index}");
-    }
-    for (script, balance) in [
-        (SCRIPT_1, 2_000_000_000),
-        (SCRIPT_2, 5_000_000_000),
-        (SCRIPT_3, 0),
-        (SCRIPT_4, 3_000_000_000),
-        (SCRIPT_5, 0),
-    ] {
-        assert!(rt; balance_of(&chain, script) == Some(balance), "of {script}");
-    }
+    assert_eq!(rt; tells(rt.alloc())?, (None, None));
     Ok(())
 }
 
@@ -334,38 +374,52 @@ fn is_left(
     )
 }
 
+type Left = (
+    &'static [&'static str],
+    &'static str,
+    &'static [(u32, &'static str)],
+    (u64, bool),
+);
+
 // Of the twins the coin that the second had replaced is a coin again.
+const LEFT: &[Left] = &[
+    (TWO, SCRIPT_1, &[(0, TXID_FIRST)], (5_000_000_000, true)),
+    (TWO, SCRIPT_2, &[], (0, true)),
+    (TWO, SCRIPT_3, &[], (0, true)),
+    (TWO, SCRIPT_4, &[], (0, true)),
+    (TWO, SCRIPT_5, &[], (0, false)),
+    (TWINS, SCRIPT_5, &[(0, TXID_TWIN)], (5_000_000_000, true)),
+];
+
 #[test]
 fn takes_a_block_back(rt: HostRuntime) -> Result<(), Fail> {
-    let two = [FIRST, SECOND];
-    let twins = [TWIN, OTHER_TWIN];
-    let first = [(0, TXID_FIRST)];
-    let twin = [(0, TXID_TWIN)];
-    for (texts, script, places, left) in [
-        (&two, SCRIPT_1, first.as_slice(), (5_000_000_000, true)),
-        (&two, SCRIPT_2, [].as_slice(), (0, true)),
-        (&two, SCRIPT_3, [].as_slice(), (0, true)),
-        (&two, SCRIPT_4, [].as_slice(), (0, true)),
-        (&two, SCRIPT_5, [].as_slice(), (0, false)),
-        (&twins, SCRIPT_5, twin.as_slice(), (5_000_000_000, true)),
-    ] {
+    for (texts, script, places, left) in LEFT {
         assert!(rt;
-            is_left(rt.alloc(), texts.as_slice(), script, places, left)?,
+            is_left(rt.alloc(), *texts, *script, *places, *left)?,
             "of {script}"
         );
     }
     Ok(())
 }
 
+// What is kept of script hashes of which one is added twice.
+fn three_added(alloc: Global) -> Result<Touched, Fail> {
+    let mut touched = Touched::new(alloc);
+    for byte in [1, 2, 1].iter() {
+        touched.add(Hash32([*byte; 32]))?;
+    }
+    Ok(touched)
+}
+
+// Whether each of them is kept once, and no other.
+fn has_two(touched: &Touched) -> bool {
+    let [one, two, three] = [Hash32([1; 32]), Hash32([2; 32]), Hash32([3; 32])];
+    let listed = touched.list() == [one, two].as_slice();
+    listed && touched.has(&one) && touched.has(&two) && !touched.has(&three)
+}
+
 #[test]
 fn keeps_each_script_once(rt: HostRuntime) -> Result<(), Fail> {
-    let mut touched = Touched::new(rt.alloc());
-    for byte in [1, 2, 1] {
-        touched.add(Hash32([byte; 32]))?;
-    }
-    assert!(rt; touched.list() == [Hash32([1; 32]), Hash32([2; 32])].as_slice());
-    for (byte, is_there) in [(1, true), (2, true), (3, false)] {
-        assert!(rt; touched.has(&Hash32([byte; 32])) == is_there);
-    }
+    assert!(rt; has_two(&three_added(rt.alloc())?));
     Ok(())
 }

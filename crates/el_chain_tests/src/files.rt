@@ -1,5 +1,6 @@
 // Block files: Bitcoin's first two blocks in a file, and calls that fail where the archive does.
-ghost use Rattle.std.specs.Prelude.{[], refl};
+ghost use Rattle.std.specs.Prelude.{[], IfOk, IfSome, refl};
+ghost use Rattle.el_chain.specs.Records.{IsNode};
 
 use el_base::{Bytes, GhostCount, Hash32, OutOfMemory};
 use el_chain::{Node, Spot};
@@ -82,14 +83,27 @@ impl Archive for ShortFile {
     }
 }
 
-// The bytes that hex texts give, one after the other.
-fn joined(alloc: Global, parts: &[&str]) -> Result<Vec<u8>, Fail> {
-    let mut bytes = Vec::new(alloc);
+// Adds the bytes that hex texts give, one after the other.
+fn add(alloc: Global, bytes: &mut Vec<u8>, parts: &[&str]) -> Result<(), Fail> {
     for part in parts {
         let more = hex::decode(alloc, *part)?;
         bytes.extend_from_slice(more.as_slice())?;
     }
+    Ok(())
+}
+
+// So many zeros, and after them the bytes that hex texts give.
+fn zeros_and(alloc: Global, zeros: usize, parts: &[&str]) -> Result<Vec<u8>, Fail> {
+    let mut bytes = vec![in alloc; 0u8; zeros]?;
+    add(alloc, &mut bytes, parts)?;
     Ok(bytes)
+}
+
+// Adds 70,000 zeros.
+fn add_zeros(alloc: Global, bytes: &mut Vec<u8>) -> Result<(), Fail> {
+    let more = vec![in alloc; 0u8; 70_000]?;
+    bytes.extend_from_slice(more.as_slice())?;
+    Ok(())
 }
 
 // The file of 677 bytes, with both records and the first 58 bytes of the second one again.
@@ -98,16 +112,11 @@ fn whole(alloc: Global) -> Result<Vec<u8>, Fail> {
     let parts = [
         HEAD_0, GENESIS, "aabbcc", HEAD_1, BLOCK_1, ZEROS, HEAD_1, cut,
     ];
-    joined(alloc, parts.as_slice())
+    zeros_and(alloc, 0, parts.as_slice())
 }
 
-// Zeros, and after them the second record.
-fn far(alloc: Global, zeros: usize) -> Result<Vec<u8>, Fail> {
-    let mut bytes = vec![in alloc; 0u8; zeros]?;
-    let record = joined(alloc, [HEAD_1, BLOCK_1].as_slice())?;
-    bytes.extend_from_slice(record.as_slice())?;
-    Ok(bytes)
-}
+// The second record.
+const SECOND: &[&str] = &[HEAD_1, BLOCK_1];
 
 // Block files, of which file 0 alone has bytes. Those of them that come later, and the calls that fail, are
 // listed.
@@ -123,33 +132,48 @@ fn files_of(
     Ok(MemArchive::growing(files, later, Vec::from_slice(alloc, failing)?))
 }
 
-fn places_of(alloc: Global, found: &[Node]) -> Result<Vec<Place>, Fail> {
-    Ok(found.iter().map(|node| node.place).collect(alloc)?)
-}
-
-// The places that a scan of file 0 finds.
-fn scanned_in<A: Archive>(alloc: Global, files: &mut A) -> Result<Vec<Place>, Fail> {
+// The nodes that a scan of file 0 finds.
+fn scanned<A: Archive>(alloc: Global, files: &mut A) -> Result<Vec<Node>, Fail> {
     let mut found = Vec::new(alloc);
     scan_file(alloc, files, MAGIC, 0, &mut found)?;
-    places_of(alloc, found.as_slice())
+    Ok(found)
 }
 
-// The places that a scan of a file with these bytes finds.
-fn scanned(alloc: Global, bytes: Vec<u8>) -> Result<Vec<Place>, Fail> {
-    let mut files = files_of(alloc, bytes, &[], &[])?;
-    scanned_in(alloc, &mut files)
-}
-
-// The places of the first `count` records of the file.
-fn first_places(alloc: Global, count: usize) -> Result<Vec<Place>, Fail> {
-    let mut places = Vec::new(alloc);
-    for at in [place(0, 285), place(296, 215)] {
-        if places.len() < count {
-            places.push(at)?;
+// Whether the records of the nodes stand at these places.
+fn stand_at(nodes: &[Node], places: &[Place]) -> bool {
+    for (node, place) in nodes.iter().zip(places.iter()) {
+        if node.place != *place {
+            return false;
         }
     }
-    Ok(places)
+    nodes.len() == places.len()
 }
+
+// Whether a scan of file 0 finds the records at these places.
+fn finds_in(alloc: Global, files: &mut MemArchive, places: &[Place]) -> Result<bool, Fail> {
+    let found = scanned(alloc, files)?;
+    Ok(stand_at(found.as_slice(), places))
+}
+
+// Whether a scan of a file with these bytes does.
+fn finds(alloc: Global, bytes: Vec<u8>, places: &[Place]) -> Result<bool, Fail> {
+    let mut files = files_of(alloc, bytes, &[], &[])?;
+    finds_in(alloc, &mut files, places)
+}
+
+// The places of the two records of the file.
+const PLACES: &[Place] = &[
+    Place {
+        file: 0,
+        offset: 0,
+        len: 285,
+    },
+    Place {
+        file: 0,
+        offset: 296,
+        len: 215,
+    },
+];
 
 fn place(offset: u64, len: u32) -> Place {
     Place {
@@ -165,8 +189,8 @@ fn finds_exchanged(alloc: Global) -> Result<bool, Fail> {
     let parts = [
         HEAD_1, BLOCK_1, "aabbcc", HEAD_0, GENESIS, ZEROS, HEAD_1, cut,
     ];
-    let places = scanned(alloc, joined(alloc, parts.as_slice())?)?;
-    Ok(places.as_slice() == [place(0, 215), place(226, 285)].as_slice())
+    let bytes = zeros_and(alloc, 0, parts.as_slice())?;
+    finds(alloc, bytes, [place(0, 215), place(226, 285)].as_slice())
 }
 
 // Whether a scan of this front of the file finds the records that it has whole.
@@ -178,63 +202,81 @@ fn finds_front(alloc: Global, front: &[u8]) -> Result<bool, Fail> {
     } else {
         2
     };
-    let places = scanned(alloc, Vec::from_slice(alloc, front)?)?;
-    let wanted = first_places(alloc, count)?;
-    Ok(places.as_slice() == wanted.as_slice())
+    let bytes = Vec::from_slice(alloc, front)?;
+    finds(alloc, bytes, &PLACES[..count])
+}
+
+#[test]
+fn scans_exchanged_records(rt: HostRuntime) -> Result<(), Fail> {
+    assert!(rt; finds_exchanged(rt.alloc())?);
+    Ok(())
+}
+
+// The size of the first front in which the records aren't found so.
+fn wrong_front(alloc: Global, bytes: &[u8]) -> Result<Option<usize>, Fail> {
+    for size in 0..=bytes.len() {
+        if !finds_front(alloc, &bytes[..size])? {
+            return Ok(Some(size));
+        }
+    }
+    Ok(None)
+}
+
+fn scans_fronts(alloc: Global) -> Result<Option<usize>, Fail> {
+    let bytes = whole(alloc)?;
+    wrong_front(alloc, bytes.as_slice())
 }
 
 #[test]
 fn scans_a_file(rt: HostRuntime) -> Result<(), Fail> {
-    assert!(rt; finds_exchanged(rt.alloc())?);
-    let bytes = whole(rt.alloc())?;
-    for size in 0..=bytes.len() {
-        let front = &bytes.as_slice()[..size];
-        assert!(rt; finds_front(rt.alloc(), front)?, "of {size} bytes");
-    }
+    assert_eq!(rt; scans_fronts(rt.alloc())?, None);
     Ok(())
 }
+
+// Whether the second record is found after so many zeros.
+fn finds_far(alloc: Global, zeros: usize) -> Result<bool, Fail> {
+    let bytes = zeros_and(alloc, zeros, SECOND)?;
+    finds(alloc, bytes, [place(zeros as u64, 215)].as_slice())
+}
+
+// Numbers of zeros after which the record stands at the end of a piece, or over it.
+const FAR: &[usize] = &[
+    65_312, 65_313, 65_314, 65_447, 65_448, 65_449, 65_535, 65_536,
+];
 
 #[test]
 fn scans_over_the_end_of_a_piece(rt: HostRuntime) -> Result<(), Fail> {
-    for zeros in [
-        65_312usize,
-        65_313,
-        65_314,
-        65_447,
-        65_448,
-        65_449,
-        65_535,
-        65_536,
-    ] {
-        let places = scanned(rt.alloc(), far(rt.alloc(), zeros)?)?;
-        let wanted = [place(zeros as u64, 215)];
-        assert_eq!(rt; places.as_slice(), wanted.as_slice(), "after {zeros} zeros");
+    for zeros in FAR {
+        assert!(rt; finds_far(rt.alloc(), *zeros)?, "after {zeros} zeros");
     }
     Ok(())
 }
 
-// How many records a scan finds in a file of zeros, the second record and 70,000 more zeros, whose reads are
-// short from that place on.
-fn count_in_short(alloc: Global, zeros: usize, short_from: u64) -> Result<usize, Fail> {
-    let mut bytes = far(alloc, zeros)?;
-    let more = vec![in alloc; 0u8; 70_000]?;
-    bytes.extend_from_slice(more.as_slice())?;
-    let mut file = ShortFile {
+// A file of zeros, the second record and 70,000 more zeros, whose reads are short from that place on.
+fn short_file(alloc: Global, zeros: usize, short_from: u64) -> Result<ShortFile, Fail> {
+    let mut bytes = zeros_and(alloc, zeros, SECOND)?;
+    add_zeros(alloc, &mut bytes)?;
+    Ok(ShortFile {
         bytes,
         short_from,
         made: GhostCount::new(),
-    };
-    Ok(scanned_in(alloc, &mut file)?.len())
+    })
+}
+
+// How many records a scan finds in such a file.
+fn count_in_short(alloc: Global, zeros: usize, short_from: u64) -> Result<usize, Fail> {
+    let mut file = short_file(alloc, zeros, short_from)?;
+    Ok(scanned(alloc, &mut file)?.len())
 }
 
 // A file that gives fewer bytes than its size promised ends there. What the buffer had before isn't scanned
 // again.
 #[test]
 fn scans_what_is_given(rt: HostRuntime) -> Result<(), Fail> {
-    for (zeros, short_from, count) in [(0, 0, 0), (1_000, 0, 0), (1_000, 1, 1)] {
-        let found = count_in_short(rt.alloc(), zeros, short_from)?;
+    for (zeros, short_from, count) in [(0, 0, 0), (1_000, 0, 0), (1_000, 1, 1)].iter() {
+        let found = count_in_short(rt.alloc(), *zeros, *short_from)?;
         assert!(rt;
-            found == count,
+            found == *count,
             "after {zeros} zeros, short from {short_from}"
         );
     }
@@ -244,29 +286,30 @@ fn scans_what_is_given(rt: HostRuntime) -> Result<(), Fail> {
 // Whether a scan of the file, which grows so, finds that many of its records.
 fn finds_later(alloc: Global, later: Later, count: usize) -> Result<bool, Fail> {
     let mut files = files_of(alloc, whole(alloc)?, &[later], &[])?;
-    let places = scanned_in(alloc, &mut files)?;
-    let wanted = first_places(alloc, count)?;
-    Ok(places.as_slice() == wanted.as_slice())
+    finds_in(alloc, &mut files, &PLACES[..count.min(2)])
 }
+
+// From which call on the file has the bytes from which place on, and how many records are then found.
+const LATER: &[(u64, u64, usize)] = &[
+    (1, 293, 2),
+    (2, 293, 1),
+    (2, 400, 1),
+    (3, 293, 1),
+    (2, 519, 2),
+    (2, 0, 0),
+];
 
 // The file is scanned up to the size that it has when it is asked for: by call 1 in a scan of one file.
 #[test]
 fn scans_a_file_that_grows(rt: HostRuntime) -> Result<(), Fail> {
-    for (call, from, count) in [
-        (1, 293, 2),
-        (2, 293, 1),
-        (2, 400, 1),
-        (3, 293, 1),
-        (2, 519, 2),
-        (2, 0, 0),
-    ] {
+    for (call, from, count) in LATER {
         let later = Later {
-            call,
+            call: *call,
             file: 0,
-            from,
+            from: *from,
         };
         assert!(rt;
-            finds_later(rt.alloc(), later, count)?,
+            finds_later(rt.alloc(), later, *count)?,
             "from {from} on by call {call}"
         );
     }
@@ -275,9 +318,9 @@ fn scans_a_file_that_grows(rt: HostRuntime) -> Result<(), Fail> {
 
 // A file with both records, 70,000 zeros and the second record again.
 fn with_three(alloc: Global) -> Result<Vec<u8>, Fail> {
-    let mut bytes = joined(alloc, [HEAD_0, GENESIS, HEAD_1, BLOCK_1].as_slice())?;
-    let third = far(alloc, 70_000)?;
-    bytes.extend_from_slice(third.as_slice())?;
+    let mut bytes = zeros_and(alloc, 0, [HEAD_0, GENESIS, HEAD_1, BLOCK_1].as_slice())?;
+    add_zeros(alloc, &mut bytes)?;
+    add(alloc, &mut bytes, SECOND)?;
     Ok(bytes)
 }
 
@@ -289,21 +332,22 @@ fn scan_failing(alloc: Global, fails: u64) -> Result<(Result<(), ScanFault>, usi
     Ok((end, found.len()))
 }
 
-// Calls 1 to 4 are those of the number of files, the size, and the two pieces.
+const FAILED: Result<(), ScanFault> = Err(ScanFault::ArchiveFailed);
+
+// Which call fails, how the scan ends, and how many records it finds. Calls 1 to 4 are those of the number of
+// files, the size, and the two pieces.
+const SCANS: &[(u64, (Result<(), ScanFault>, usize))] = &[
+    (0, (Ok(()), 3)),
+    (1, (FAILED, 0)),
+    (2, (FAILED, 0)),
+    (3, (FAILED, 0)),
+    (4, (FAILED, 2)),
+];
+
 #[test]
 fn scans_all_files(rt: HostRuntime) -> Result<(), Fail> {
-    let failed = Err(ScanFault::ArchiveFailed);
-    for (fails, end, count) in [
-        (0, Ok(()), 3),
-        (1, failed, 0),
-        (2, failed, 0),
-        (3, failed, 0),
-        (4, failed, 2),
-    ] {
-        assert!(rt;
-            scan_failing(rt.alloc(), fails)? == (end, count),
-            "at {fails}"
-        );
+    for (fails, wanted) in SCANS {
+        assert!(rt; scan_failing(rt.alloc(), *fails)? == *wanted, "at {fails}");
     }
     Ok(())
 }
@@ -322,37 +366,59 @@ fn is_record(files: &mut MemArchive, at: u64, shown: Option<&str>) -> bool {
     }
 }
 
+// Places of file 0, and the hash of the block whose record stands there, or None.
+const RECORDS: &[(u64, Option<&str>)] = &[
+    (0, Some(GENESIS_HASH)),
+    (1, None),
+    (296, Some(BLOCK_1_HASH)),
+    (619, None),
+    (u64::MAX, None),
+];
+
+// The first of these places at which something else is found.
+fn wrong_record(alloc: Global) -> Result<Option<u64>, Fail> {
+    let mut files = first_files(alloc)?;
+    for (at, shown) in RECORDS {
+        if !is_record(&mut files, *at, *shown) {
+            return Ok(Some(*at));
+        }
+    }
+    Ok(None)
+}
+
 #[test]
 fn finds_a_record(rt: HostRuntime) -> Result<(), Fail> {
-    let mut files = first_files(rt.alloc())?;
-    for (at, shown) in [
-        (0, Some(GENESIS_HASH)),
-        (1, None),
-        (296, Some(BLOCK_1_HASH)),
-        (619, None),
-        (u64::MAX, None),
-    ] {
-        assert!(rt; is_record(&mut files, at, shown), "at {at}");
-    }
+    assert_eq!(rt; wrong_record(rt.alloc())?, None);
     Ok(())
 }
 
 // The files where file 0 has these bytes from place 296 on.
 fn second_files(alloc: Global, parts: &[&str]) -> Result<MemArchive, Fail> {
-    let mut bytes = vec![in alloc; 0u8; 296]?;
-    let more = joined(alloc, parts)?;
-    bytes.extend_from_slice(more.as_slice())?;
-    files_of(alloc, bytes, &[], &[])
+    files_of(alloc, zeros_and(alloc, 296, parts)?, &[], &[])
+}
+
+// The node of the second record of the file.
+fn second_node(alloc: Global) -> Result<Option<Node>, Fail>
+    ensures { IfOk result (λ found. IfSome found IsNode) }
+{
+    let mut files = first_files(alloc)?;
+    let node = record_at(&mut files, MAGIC, 0, 296)?;
+    Ok(node)
+}
+
+// How many bytes were read.
+fn len_read(read: Result<Vec<u8>, ReadFault>) -> Result<usize, ReadFault> {
+    let bytes = read?;
+    Ok(bytes.len())
 }
 
 // How many bytes are read of the second block where the file has these bytes from place 296 on.
 fn read_in(alloc: Global, parts: &[&str]) -> Result<Result<usize, ReadFault>, Fail> {
-    let mut first = first_files(alloc)?;
-    let mut second = second_files(alloc, parts)?;
-    match record_at(&mut first, MAGIC, 0, 296)? {
-        Some(node) => Ok(read_block(alloc, &mut second, &node).map(|bytes| bytes.len())),
-        None => Ok(Ok(0)),
-    }
+    let Some(node) = second_node(alloc)? else {
+        return Ok(Ok(0));
+    };
+    let mut files = second_files(alloc, parts)?;
+    Ok(len_read(read_block(alloc, &mut files, &node)))
 }
 
 // The fault of a read that found something else than was wanted.
@@ -365,25 +431,33 @@ fn changed(wanted: &str, found: Option<&str>) -> Result<ReadFault, Fail> {
     Ok(ReadFault::Changed { wanted, found })
 }
 
+// How many bytes are read where that is the header's last byte and that the number of transactions.
+fn read_with(alloc: Global, last: &str, count: &str) -> Result<Result<usize, ReadFault>, Fail> {
+    let parts = [HEAD_1, &BLOCK_1[..158], last, count, &BLOCK_1[162..]];
+    read_in(alloc, parts.as_slice())
+}
+
+// What is read of the block as it is, with another last byte of its header, and where it is cut.
+fn blocks_read(alloc: Global) -> Result<[Result<usize, ReadFault>; 3], Fail> {
+    let right = read_with(alloc, "99", "01")?;
+    let other = read_with(alloc, "98", "01")?;
+    Ok([right, other, read_with(alloc, "99", "")?])
+}
+
 #[test]
 fn reads_a_block(rt: HostRuntime) -> Result<(), Fail> {
     let other = changed(BLOCK_1_HASH, Some(HASH_CHANGED))?;
     let none = changed(BLOCK_1_HASH, None)?;
-    let (header, tx) = (&BLOCK_1[..158], &BLOCK_1[162..]);
-    for (last, count, result) in [
-        ("99", "01", Ok(215)),
-        ("98", "01", Err(other)),
-        ("99", "", Err(none)),
-    ] {
-        let parts = [HEAD_1, header, last, count, tx];
-        assert!(rt; read_in(rt.alloc(), parts.as_slice())? == result);
-    }
+    let read = blocks_read(rt.alloc())?;
+    assert!(rt; read == [Ok(215), Err(other), Err(none)]);
     Ok(())
 }
 
-// How many bytes are read of the second block's transaction where the file has these bytes.
-fn read_tx_in(alloc: Global, parts: &[&str], len: u32) -> Result<Result<usize, ReadFault>, Fail> {
-    let mut files = files_of(alloc, joined(alloc, parts)?, &[], &[])?;
+// How many bytes are read of the second block's transaction of that length, where that is its last byte.
+fn read_tx_with(alloc: Global, last: &str, len: u32) -> Result<Result<usize, ReadFault>, Fail> {
+    let wanted = Hash32::from_shown(BLOCK_1_TXID)?;
+    let bytes = zeros_and(alloc, 0, [HEAD_1, &BLOCK_1[..428], last].as_slice())?;
+    let mut files = files_of(alloc, bytes, &[], &[])?;
     let spot = Spot {
         height: 1,
         pos: 0,
@@ -391,25 +465,22 @@ fn read_tx_in(alloc: Global, parts: &[&str], len: u32) -> Result<Result<usize, R
         start: 81,
         len,
     };
-    let wanted = Hash32::from_shown(BLOCK_1_TXID)?;
-    Ok(read_tx(alloc, &mut files, &spot, wanted).map(|bytes| bytes.len()))
+    Ok(len_read(read_tx(alloc, &mut files, &spot, wanted)))
+}
+
+// What is read of the transaction as it is, with another last byte, and with a byte less or more.
+fn txs_read(alloc: Global) -> Result<[Result<usize, ReadFault>; 4], Fail> {
+    let right = read_tx_with(alloc, "00", 134)?;
+    let other = read_tx_with(alloc, "01", 134)?;
+    let less = read_tx_with(alloc, "00", 133)?;
+    Ok([right, other, less, read_tx_with(alloc, "00", 135)?])
 }
 
 #[test]
 fn reads_a_transaction(rt: HostRuntime) -> Result<(), Fail> {
     let other = changed(BLOCK_1_TXID, Some(TXID_CHANGED))?;
     let none = changed(BLOCK_1_TXID, None)?;
-    for (last, len, result) in [
-        ("00", 134, Ok(134)),
-        ("01", 134, Err(other)),
-        ("00", 133, Err(none)),
-        ("00", 135, Err(none)),
-    ] {
-        let parts = [HEAD_1, &BLOCK_1[..428], last];
-        assert!(rt;
-            read_tx_in(rt.alloc(), parts.as_slice(), len)? == result,
-            "of {len} bytes"
-        );
-    }
+    let read = txs_read(rt.alloc())?;
+    assert!(rt; read == [Ok(134), Err(other), Err(none), Err(none)]);
     Ok(())
 }

@@ -88,42 +88,65 @@ fn spoil_root(alloc: Global, records: &mut Vec<Bytes>) -> Result<(), Fail> {
     Ok(())
 }
 
+// Adds a coinbase, and a block that has its coin in two halves.
+fn add_two(alloc: Global, records: &mut Vec<Bytes>) -> Result<(), Fail> {
+    add(alloc, records, 0, None)?;
+    add(alloc, records, 1, Some(halves(alloc)?))
+}
+
+// Adds a block that spends one of the halves, or a coin that isn't there.
+fn add_spending(alloc: Global, records: &mut Vec<Bytes>, missing: bool) -> Result<(), Fail> {
+    let index = if missing { 2 } else { 0 };
+    let tx = spent(alloc, HALVES, index, 2_500_000_000)?;
+    add(alloc, records, 2, Some(tx))
+}
+
+// Adds that block and a coinbase.
+fn add_rest(alloc: Global, records: &mut Vec<Bytes>, wrong: Wrong) -> Result<(), Fail> {
+    add_spending(alloc, records, wrong.missing)?;
+    if wrong.root_of == 2 {
+        spoil_root(alloc, records)?;
+    }
+    add(alloc, records, 3, None)?;
+    if wrong.root_of == 3 {
+        spoil_root(alloc, records)?;
+    }
+    Ok(())
+}
+
 /// Four blocks: a coinbase, its coin in two halves, one of these spent, and a coinbase.
 pub fn four(alloc: Global, wrong: Wrong) -> Result<Vec<Bytes>, Fail> {
     let mut records = Vec::new(alloc);
-    add(alloc, &mut records, 0, None)?;
-    add(alloc, &mut records, 1, Some(halves(alloc)?))?;
-    let index = if wrong.missing { 2 } else { 0 };
-    let tx = spent(alloc, HALVES, index, 2_500_000_000)?;
-    add(alloc, &mut records, 2, Some(tx))?;
-    if wrong.root_of == 2 {
-        spoil_root(alloc, &mut records)?;
-    }
-    add(alloc, &mut records, 3, None)?;
-    if wrong.root_of == 3 {
-        spoil_root(alloc, &mut records)?;
-    }
+    add_two(alloc, &mut records)?;
+    add_rest(alloc, &mut records, wrong)?;
     Ok(records)
+}
+
+// The records, of which that one has another nonce.
+fn with_nonce(alloc: Global, records: &[Bytes], nonce_of: usize) -> Result<Vec<Bytes>, Fail> {
+    let mut files = Vec::new(alloc);
+    for (file, record) in records.iter().enumerate() {
+        // The nonce begins with byte 76 of a block.
+        let place = if file == nonce_of { 84 } else { usize::MAX };
+        files.push(with_other(alloc, record, place)?)?;
+    }
+    Ok(files)
+}
+
+// Makes the last file shorter by so many bytes.
+fn shorten(alloc: Global, files: &mut Vec<Bytes>, short: usize) -> Result<(), Fail> {
+    if let Some(last) = files.pop() {
+        let len = last.len().saturating_sub(short);
+        files.push(Bytes::from_slice(alloc, &last.as_slice()[..len])?)?;
+    }
+    Ok(())
 }
 
 /// The files of the records: each in a file of its own.
 pub fn archive_of(alloc: Global, records: &[Bytes], wrong: Wrong) -> Result<MemArchive, Fail> {
-    let mut files = Vec::new(alloc);
-    for (file, record) in records.iter().enumerate() {
-        // The nonce begins with byte 76 of a block.
-        let place = if file == wrong.nonce_of {
-            84
-        } else {
-            usize::MAX
-        };
-        files.push(with_other(alloc, record, place)?)?;
-    }
-    if let Some(last) = files.pop() {
-        let len = last.len().saturating_sub(wrong.short);
-        files.push(Bytes::from_slice(alloc, &last.as_slice()[..len])?)?;
-    }
-    let mut failing = Vec::new(alloc);
-    failing.push(wrong.failing)?;
+    let mut files = with_nonce(alloc, records, wrong.nonce_of)?;
+    shorten(alloc, &mut files, wrong.short)?;
+    let failing = Vec::from_slice(alloc, [wrong.failing].as_slice())?;
     Ok(MemArchive::new(files, failing))
 }
 
@@ -166,6 +189,19 @@ pub fn moved(
     Ok(moved)
 }
 
+/// The fault that stops a move which takes so many blocks back and puts in the last three of the records, of
+/// which something is wrong.
+pub fn stopped_by(
+    alloc: Global,
+    ledger: &mut PlainLedger,
+    back: u32,
+    records: &[Bytes],
+    wrong: Wrong,
+) -> Result<Option<MoveFault>, Fail> {
+    let mut archive = archive_of(alloc, records, wrong)?;
+    Ok(move_in(alloc, ledger, back, (records, 1, 4), &mut archive)?.err())
+}
+
 // A ledger of the first block.
 fn first_alone(alloc: Global, records: &[Bytes]) -> Result<PlainLedger, Fail> {
     let mut ledger = PlainLedger::over(PlainChain::new(alloc));
@@ -206,20 +242,27 @@ const ALL_FOUR: [(&str, usize, u64); 3] = [
 
 /// Whether these script hashes are touched, and no other.
 pub fn touches(moved: &Moved, scripts: &[&str]) -> bool {
+    for script in scripts {
+        match Hash32::from_shown(*script) {
+            Ok(hash) if moved.touched.has(&hash) => {}
+            _ => return false,
+        }
+    }
     moved.touched.list().len() == scripts.len()
-        && scripts.iter().all(|script| {
-            Hash32::from_shown(*script).is_ok_and(|hash| moved.touched.has(&hash))
-        })
 }
 
-// Whether three blocks after the first lead to the last of the four, and touch the three scripts.
+// Whether the three blocks after the first lead to the last of the four, and touch the three scripts.
+fn leads_to_last(alloc: Global, ledger: &mut PlainLedger, records: &[Bytes]) -> Result<bool, Fail> {
+    let moved = moved(alloc, ledger, 0, (records, 1, 4))?;
+    let led = moved.height == Some(3) && is_shown(moved.tip, Some(BLOCK_3));
+    Ok(led && touches(&moved, [SCRIPT_1, SCRIPT_100, SCRIPT_101].as_slice()))
+}
+
 fn puts_in_three(alloc: Global) -> Result<bool, Fail> {
     let records = four(alloc, NONE_WRONG)?;
     let mut ledger = first_alone(alloc, records.as_slice())?;
-    let moved = moved(alloc, &mut ledger, 0, (records.as_slice(), 1, 4))?;
-    let led = moved.height == Some(3) && is_shown(moved.tip, Some(BLOCK_3));
-    let touched = touches(&moved, [SCRIPT_1, SCRIPT_100, SCRIPT_101].as_slice());
-    Ok(led && touched && stands_at(alloc, &mut ledger, (3, BLOCK_3), &ALL_FOUR)?)
+    let led = leads_to_last(alloc, &mut ledger, records.as_slice())?;
+    Ok(led && stands_at(alloc, &mut ledger, (3, BLOCK_3), &ALL_FOUR)?)
 }
 
 // The fault that a move is to be stopped by: the third block misses a coin or has a bad Merkle root, a header
@@ -271,14 +314,11 @@ fn fault_of(wanted: Wanted<'_>) -> Result<MoveFault, Fail> {
 
 // Whether the move of three blocks, of which something is wrong, is refused by that fault and changes
 // nothing.
-fn is_refused(alloc: Global, wrong: Wrong, wanted: Wanted<'_>) -> Result<bool, Fail> {
+fn is_refused(alloc: Global, wrong: Wrong, wanted: MoveFault) -> Result<bool, Fail> {
     let records = four(alloc, wrong)?;
     let mut ledger = first_alone(alloc, records.as_slice())?;
-    let mut archive = archive_of(alloc, records.as_slice(), wrong)?;
-    let some = (records.as_slice(), 1, 4);
-    let found = move_in(alloc, &mut ledger, 0, some, &mut archive)?.err();
-    let told = found == Some(fault_of(wanted)?);
-    Ok(told && stands_at(alloc, &mut ledger, (0, BLOCK_0), &FIRST_ALONE)?)
+    let found = stopped_by(alloc, &mut ledger, 0, records.as_slice(), wrong)?;
+    Ok(found == Some(wanted) && stands_at(alloc, &mut ledger, (0, BLOCK_0), &FIRST_ALONE)?)
 }
 
 // What the scripts of 1, 100 and 101 have after the first block.
@@ -293,7 +333,7 @@ const MISSING: Wrong = Wrong {
     ..NONE_WRONG
 };
 
-const WRONG: [(Wrong, Wanted<'static>); 9] = [
+const WRONG: &[(Wrong, Wanted<'static>)] = &[
     (MISSING, Wanted::Missing),
     (
         Wrong {
@@ -359,7 +399,7 @@ const WRONG: [(Wrong, Wanted<'static>); 9] = [
 // The first case, counted from 0, that isn't refused so.
 fn not_refused(alloc: Global) -> Result<Option<usize>, Fail> {
     for (number, (wrong, wanted)) in WRONG.iter().enumerate() {
-        if !is_refused(alloc, *wrong, *wanted)? {
+        if !is_refused(alloc, *wrong, fault_of(*wanted)?)? {
             return Ok(Some(number));
         }
     }
@@ -389,7 +429,7 @@ struct Told<'a> {
     two: Option<(u32, &'a str)>,
 }
 
-const TOLD: [Told<'static>; 3] = [
+const TOLD: &[Told<'static>] = &[
     Told {
         coinbases: 0,
         wrong: NONE_WRONG,
@@ -447,19 +487,30 @@ fn records_of(alloc: Global, told: Told<'_>) -> Result<Vec<Bytes>, Fail> {
 }
 
 // Makes the moves, and tells whether the marks are these.
-fn is_told(alloc: Global, told: Told<'_>) -> Result<bool, Fail> {
-    let records = records_of(alloc, told)?;
-    let plans = two_moves(alloc, records.as_slice(), told.first)?;
-    let mut archive = archive_of(alloc, records.as_slice(), NONE_WRONG)?;
+fn has_marks(
+    alloc: Global,
+    plans: &[Plan],
+    archive: &mut MemArchive,
+    told: Told<'_>,
+) -> Result<bool, Fail>
+    requires { AreMovesOf (IsPlain []) plans.now }
+{
+    let marks = marks_of(told)?;
     let mut ledger = PlainLedger::new(alloc);
     let mut sent = Listed::new(alloc);
-    let plans = plans.as_slice();
-    let end = go_on(alloc, &mut ledger, plans, &mut archive, &mut sent);
+    let end = go_on(alloc, &mut ledger, plans, archive, &mut sent);
     let wanted = match told.two {
         Some(_) => Ok(()),
         None => Err(Stop::Refused),
     };
-    Ok(end == wanted && sent.as_slice() == marks_of(told)?.as_slice())
+    Ok(end == wanted && sent.as_slice() == marks.as_slice())
+}
+
+fn is_told(alloc: Global, told: Told<'_>) -> Result<bool, Fail> {
+    let records = records_of(alloc, told)?;
+    let plans = two_moves(alloc, records.as_slice(), told.first)?;
+    let mut archive = archive_of(alloc, records.as_slice(), NONE_WRONG)?;
+    has_marks(alloc, plans.as_slice(), &mut archive, told)
 }
 
 // The first case, counted from 0, that isn't told so.
@@ -474,15 +525,14 @@ fn not_told(alloc: Global) -> Result<Option<usize>, Fail> {
 
 // Whether that is the hash that users see so.
 fn is_shown(hash: Option<Hash32>, shown: Option<&str>) -> bool {
-    match (hash, shown) {
-        (Some(hash), Some(digits)) => Hash32::from_shown(digits) == Ok(hash),
-        (None, None) => true,
-        _ => false,
+    match shown {
+        Some(digits) => hash.is_some() && Hash32::from_shown(digits).ok() == hash,
+        None => hash.is_none(),
     }
 }
 
 // How many coinbases are put in at once, and the height and the hash of the last.
-const MOVES: [(usize, Option<u32>, Option<&str>); 3] = [
+const MOVES: &[(usize, Option<u32>, Option<&str>)] = &[
     (0, None, None),
     (1, Some(0), Some(BLOCK_0)),
     (16, Some(15), Some(COINBASES_15)),
@@ -509,7 +559,7 @@ fn leads_to(
 fn not_led(alloc: Global) -> Result<Option<usize>, Fail> {
     let records = coinbases(alloc, 16)?;
     for case in MOVES {
-        if !leads_to(alloc, records.as_slice(), case)? {
+        if !leads_to(alloc, records.as_slice(), *case)? {
             return Ok(Some(case.0));
         }
     }

@@ -2,9 +2,7 @@
 // have after them. Hashes are as users see them; another program computed them from the rules.
 ghost use Rattle.std.specs.Prelude.{◌≡◌, ◌<◌};
 
-use crate::moves::{
-    NONE_WRONG, Wrong, archive_of, coinbases, four, move_in, moved, stands_at, touches,
-};
+use crate::moves::{NONE_WRONG, Wrong, coinbases, four, moved, stands_at, stopped_by, touches};
 use crate::records::{BLOCK_0, BLOCK_1, SCRIPT_1, SCRIPT_100, SCRIPT_101, add};
 use el_base::{Bytes, Hash32};
 use el_chain::MoveFault;
@@ -43,6 +41,36 @@ fn five(alloc: Global) -> Result<Vec<Bytes>, Fail> {
     Ok(records)
 }
 
+// A ledger of so many coinbases.
+fn chain_of(alloc: Global, count: u32) -> Result<PlainLedger, Fail> {
+    let records = coinbases(alloc, count)?;
+    ledger_of(alloc, records.as_slice())
+}
+
+// Whether both ledgers list the same entries of the script hash.
+fn list_alike(
+    alloc: Global,
+    one: &mut PlainLedger,
+    other: &mut PlainLedger,
+    script: &Hash32,
+) -> Result<bool, Fail> {
+    let entries = one.history(alloc, script)?;
+    let others = other.history(alloc, script)?;
+    Ok(entries.as_slice() == others.as_slice())
+}
+
+// Whether both ledgers have the same five coins of the script hash.
+fn have_five(
+    alloc: Global,
+    one: &mut PlainLedger,
+    other: &mut PlainLedger,
+    script: &Hash32,
+) -> Result<bool, Fail> {
+    let coins = one.unspent(alloc, script)?;
+    let others = other.unspent(alloc, script)?;
+    Ok(coins.as_slice() == others.as_slice() && coins.len() == 5)
+}
+
 // Whether both ledgers answer alike for the script hash, which has five coins.
 fn answer_alike(
     alloc: Global,
@@ -50,11 +78,7 @@ fn answer_alike(
     other: &mut PlainLedger,
 ) -> Result<bool, Fail> {
     let script = Hash32::from_shown(SCRIPT_101)?;
-    let entries = one.history(alloc, &script)?;
-    let alike = entries.as_slice() == other.history(alloc, &script)?.as_slice();
-    let coins = one.unspent(alloc, &script)?;
-    let others = other.unspent(alloc, &script)?;
-    Ok(alike && coins.as_slice() == others.as_slice() && coins.len() == 5)
+    Ok(list_alike(alloc, one, other, &script)? && have_five(alloc, one, other, &script)?)
 }
 
 // What the script of 101 has after 102 coinbases, and after five.
@@ -62,14 +86,19 @@ const ALL: [(&str, usize, u64); 1] = [(SCRIPT_101, 102, 510_000_000_000)];
 
 const FIVE: [(&str, usize, u64); 1] = [(SCRIPT_101, 5, 25_000_000_000)];
 
-// A ledger of 102 blocks, of which a hundred are taken back, and the last three of five others put in.
-fn turned(alloc: Global, others: &[Bytes]) -> Result<PlainLedger, Fail> {
-    let records = coinbases(alloc, 102)?;
-    let mut ledger = ledger_of(alloc, records.as_slice())?;
-    if !stands_at(alloc, &mut ledger, (101, COINBASES_101), &ALL)? {
+// Takes a hundred blocks of 102 back, and puts the last three of five others in.
+fn turn(alloc: Global, ledger: &mut PlainLedger, others: &[Bytes]) -> Result<(), Fail> {
+    if !stands_at(alloc, ledger, (101, COINBASES_101), &ALL)? {
         return Err(Fail::new("the first chain stands otherwise"));
     }
-    moved(alloc, &mut ledger, 100, (others, 2, 5))?;
+    moved(alloc, ledger, 100, (others, 2, 5))?;
+    Ok(())
+}
+
+// A ledger of which a hundred blocks were taken back, and the last three of five others put in.
+fn turned(alloc: Global, others: &[Bytes]) -> Result<PlainLedger, Fail> {
+    let mut ledger = chain_of(alloc, 102)?;
+    turn(alloc, &mut ledger, others)?;
     Ok(ledger)
 }
 
@@ -77,19 +106,24 @@ fn turned(alloc: Global, others: &[Bytes]) -> Result<PlainLedger, Fail> {
 fn takes_a_hundred(alloc: Global) -> Result<bool, Fail> {
     let others = five(alloc)?;
     let mut ledger = turned(alloc, others.as_slice())?;
-    let stands = stands_at(alloc, &mut ledger, (4, OTHER_4), &FIVE)?;
     let mut anew = ledger_of(alloc, others.as_slice())?;
-    Ok(stands && answer_alike(alloc, &mut ledger, &mut anew)?)
+    let alike = answer_alike(alloc, &mut ledger, &mut anew)?;
+    Ok(alike && stands_at(alloc, &mut ledger, (4, OTHER_4), &FIVE)?)
 }
 
 // What the script of 101 has after the first block.
 const ONE: [(&str, usize, u64); 1] = [(SCRIPT_101, 1, 5_000_000_000)];
 
-// Whether the coin that a second coinbase of one txid had replaced is a coin again.
-fn makes_a_coin_again(alloc: Global) -> Result<bool, Fail> {
+// A ledger of two coinbases of one txid.
+fn twins(alloc: Global) -> Result<PlainLedger, Fail> {
     let mut records = coinbases(alloc, 1)?;
     add(alloc, &mut records, 0, None)?;
-    let mut ledger = ledger_of(alloc, records.as_slice())?;
+    ledger_of(alloc, records.as_slice())
+}
+
+// Whether the coin that a second coinbase of one txid had replaced is a coin again.
+fn makes_a_coin_again(alloc: Global) -> Result<bool, Fail> {
+    let mut ledger = twins(alloc)?;
     moved(alloc, &mut ledger, 1, (&[], 0, 0))?;
     let stands = stands_at(alloc, &mut ledger, (0, BLOCK_0), &ONE)?;
     Ok(stands && has_first_coin(alloc, &mut ledger)?)
@@ -112,25 +146,32 @@ const THREE: [(&str, usize, u64); 2] = [(SCRIPT_1, 0, 0), (SCRIPT_101, 3, 15_000
 
 // Whether a move back whose third new block is bad changes nothing.
 fn changes_nothing(alloc: Global) -> Result<bool, Fail> {
-    let records = coinbases(alloc, 3)?;
-    let mut ledger = ledger_of(alloc, records.as_slice())?;
+    let mut ledger = chain_of(alloc, 3)?;
     let others = four(alloc, BAD_THIRD)?;
-    let mut archive = archive_of(alloc, others.as_slice(), BAD_THIRD)?;
-    let some = (others.as_slice(), 1, 4);
-    let result = move_in(alloc, &mut ledger, 2, some, &mut archive)?;
-    let is_bad = matches!(result, Err(MoveFault::BadBlock { .. }));
+    let found = stopped_by(alloc, &mut ledger, 2, others.as_slice(), BAD_THIRD)?;
+    let is_bad = matches!(found, Some(MoveFault::BadBlock { .. }));
     Ok(is_bad && stands_at(alloc, &mut ledger, (2, COINBASES_2), &THREE)?)
 }
 
 // What the scripts of 1 and 100 have after two of the four blocks.
 const TWO: [(&str, usize, u64); 2] = [(SCRIPT_1, 0, 0), (SCRIPT_100, 1, 2_500_000_000)];
 
+// A ledger of the four blocks.
+fn first_four(alloc: Global) -> Result<PlainLedger, Fail> {
+    let records = four(alloc, NONE_WRONG)?;
+    ledger_of(alloc, records.as_slice())
+}
+
+// Takes two blocks back, and tells whether that touches the scripts of 1 and 101, and no other.
+fn touches_two(alloc: Global, ledger: &mut PlainLedger) -> Result<bool, Fail> {
+    let moved = moved(alloc, ledger, 2, (&[], 0, 0))?;
+    Ok(touches(&moved, [SCRIPT_1, SCRIPT_101].as_slice()))
+}
+
 // Whether a move that only takes blocks back touches the scripts of these, and no other.
 fn touches_what_is_removed(alloc: Global) -> Result<bool, Fail> {
-    let records = four(alloc, NONE_WRONG)?;
-    let mut ledger = ledger_of(alloc, records.as_slice())?;
-    let moved = moved(alloc, &mut ledger, 2, (&[], 0, 0))?;
-    let touched = touches(&moved, [SCRIPT_1, SCRIPT_101].as_slice());
+    let mut ledger = first_four(alloc)?;
+    let touched = touches_two(alloc, &mut ledger)?;
     Ok(touched && stands_at(alloc, &mut ledger, (1, BLOCK_1), &TWO)?)
 }
 

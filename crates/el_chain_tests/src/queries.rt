@@ -6,7 +6,7 @@ ghost use Rattle.el_model.specs.Queries.{height_of};
 
 use crate::records::{
     BLOCK_0, BLOCK_1, COINBASE_0, COINBASE_1, HALVES, SCRIPT_1, SCRIPT_100, SCRIPT_101, add,
-    halves, output_of, size_of, spent, tip_hash,
+    entries_of, entry_of, halves, names_tip, output_of, size_of, spent,
 };
 use el_base::{Bytes, Hash32};
 use el_block::{Block, decode_block};
@@ -65,12 +65,6 @@ fn block_in(alloc: Global, record: &[u8]) -> Result<Block, Fail>
     Ok(block)
 }
 
-fn names_tip(block: &Block, ledger: &PlainLedger) -> bool
-    ensures { IsTrue result → block.now.header.previous ≡ tip ledger.now }
-{
-    block.header.previous == tip_hash(ledger.blocks())
-}
-
 fn place_of(file: u32, len: u32) -> Place {
     Place {
         file,
@@ -85,7 +79,7 @@ fn ledger_of(alloc: Global, records: &[Bytes]) -> Result<PlainLedger, Fail> {
     let mut file = 0;
     for record in records {
         let block = block_in(alloc, record.as_slice())?;
-        if !names_tip(&block, &ledger) {
+        if !names_tip(&block, ledger.blocks()) {
             return Err(Fail::new("the block does not name the tip"));
         }
         ledger.extend(block, place_of(file, size_of(record.as_slice())))?;
@@ -110,11 +104,6 @@ struct Owned<'a> {
     balance: u64,
 }
 
-fn entry_of(height: u32, txid: &str) -> Result<Entry, Fail> {
-    let txid = Hash32::from_shown(txid)?;
-    Ok(Entry { height, txid })
-}
-
 fn coin_of(script: &str, coin: (&str, u32, u64, u32)) -> Result<Coin, Fail> {
     let (txid, index, value, height) = coin;
     Ok(Coin {
@@ -123,14 +112,6 @@ fn coin_of(script: &str, coin: (&str, u32, u64, u32)) -> Result<Coin, Fail> {
         script: Hash32::from_shown(script)?,
         height,
     })
-}
-
-fn entries_of(alloc: Global, wanted: &[(u32, &str)]) -> Result<Vec<Entry>, Fail> {
-    let mut entries = Vec::new(alloc);
-    for (height, txid) in wanted {
-        entries.push(entry_of(*height, *txid)?)?;
-    }
-    Ok(entries)
 }
 
 fn coins_of(
@@ -159,10 +140,10 @@ fn has_coins(alloc: Global, ledger: &mut PlainLedger, owned: &Owned<'_>) -> Resu
     let coins = coins_of(alloc, owned.script, owned.coins)?;
     let found = ledger.unspent(alloc, &script)?;
     let balance = ledger.balance(&script)?;
-    Ok(found.as_slice() == coins.as_slice() && balance == owned.balance)
+    Ok(balance == owned.balance && found.as_slice() == coins.as_slice())
 }
 
-const OWNED: [(Blocks, Owned<'static>); 6] = [
+const OWNED: &[(Blocks, Owned<'static>)] = &[
     (
         Blocks::Halved,
         Owned {
@@ -230,12 +211,16 @@ const OWNED: [(Blocks, Owned<'static>); 6] = [
     ),
 ];
 
+// Whether the script has in the chain what it is to have.
+fn owns(alloc: Global, blocks: Blocks, owned: &Owned<'_>) -> Result<bool, Fail> {
+    let mut ledger = chain_of(alloc, blocks)?;
+    Ok(has_entries(alloc, &mut ledger, owned)? && has_coins(alloc, &mut ledger, owned)?)
+}
+
 // The first case, counted from 0, in which a script hasn't what it is to have.
 fn wrong_script(alloc: Global) -> Result<Option<usize>, Fail> {
     for (number, (blocks, owned)) in OWNED.iter().enumerate() {
-        let mut ledger = chain_of(alloc, *blocks)?;
-        let entries = has_entries(alloc, &mut ledger, owned)?;
-        if !entries || !has_coins(alloc, &mut ledger, owned)? {
+        if !owns(alloc, *blocks, owned)? {
             return Ok(Some(number));
         }
     }
@@ -300,7 +285,7 @@ fn finds(ledger: &mut PlainLedger, records: &[Bytes], traced: &Traced<'_>) -> Re
     Ok(ledger.find_tx(&txid)? == spot)
 }
 
-const TRACED: [(Blocks, Traced<'static>); 6] = [
+const TRACED: &[(Blocks, Traced<'static>)] = &[
     (
         Blocks::Halved,
         Traced {
@@ -357,13 +342,17 @@ const TRACED: [(Blocks, Traced<'static>); 6] = [
     ),
 ];
 
+// Whether the output is in the chain as it is to be.
+fn traces(alloc: Global, blocks: Blocks, traced: &Traced<'_>) -> Result<bool, Fail> {
+    let records = records_of(alloc, blocks)?;
+    let mut ledger = ledger_of(alloc, records.as_slice())?;
+    Ok(has_output(&mut ledger, traced)? && finds(&mut ledger, records.as_slice(), traced)?)
+}
+
 // The first case, counted from 0, in which an output isn't as it is to be.
 fn wrong_output(alloc: Global) -> Result<Option<usize>, Fail> {
     for (number, (blocks, traced)) in TRACED.iter().enumerate() {
-        let records = records_of(alloc, *blocks)?;
-        let mut ledger = ledger_of(alloc, records.as_slice())?;
-        let output = has_output(&mut ledger, traced)?;
-        if !output || !finds(&mut ledger, records.as_slice(), traced)? {
+        if !traces(alloc, *blocks, traced)? {
             return Ok(Some(number));
         }
     }
@@ -378,7 +367,7 @@ type ByHeight = (
 );
 
 // A height, the hash and the size of its block, the hashes up to it, and its txids.
-const BY_HEIGHT: [ByHeight; 2] = [
+const BY_HEIGHT: &[ByHeight] = &[
     (0, (BLOCK_0, 152), &[BLOCK_0], &[COINBASE_0]),
     (
         1,
@@ -439,14 +428,19 @@ fn has_hashes(
     Ok(are_shown(hashes.as_slice(), shown.0) && are_shown(txids.as_slice(), shown.1))
 }
 
+// Whether the ledger answers so for a height.
+fn has_block(alloc: Global, ledger: &mut PlainLedger, wanted: &ByHeight) -> Result<bool, Fail> {
+    let (height, block, hashes, txids) = *wanted;
+    Ok(has_header(ledger, height, block)? && has_hashes(alloc, ledger, height, (hashes, txids))?)
+}
+
 // The first height of a chain of two blocks at which an answer isn't as it is to be; 2 where the last block
 // is another one.
 fn wrong_height(alloc: Global) -> Result<Option<u32>, Fail> {
     let mut ledger = chain_of(alloc, Blocks::Halved)?;
-    for (height, block, hashes, txids) in BY_HEIGHT {
-        let header = has_header(&mut ledger, height, block)?;
-        if !header || !has_hashes(alloc, &mut ledger, height, (hashes, txids))? {
-            return Ok(Some(height));
+    for wanted in BY_HEIGHT {
+        if !has_block(alloc, &mut ledger, wanted)? {
+            return Ok(Some(wanted.0));
         }
     }
     let tip = Hash32::from_shown(BLOCK_1)?;

@@ -3,16 +3,18 @@
 ghost use Rattle.std.specs.Prelude.{◌≡◌, ◌≤◌, [], ◌∷◌, length, IfOk, IfSome, IsTrue};
 ghost use Rattle.std.specs.List.{AllByRecursion};
 ghost use Rattle.el_tx.specs.Encoding.{HasEncoding};
+ghost use Rattle.el_tx.specs.Headers.{IsHeader};
 ghost use Rattle.el_chain.specs.Chains.{tip, zero_hash};
 ghost use Rattle.el_chain.specs.Headers.{AreLinked};
 ghost use Rattle.el_chain.specs.Moves.{IsPlan, last_hash};
 ghost use Rattle.el_chain.specs.Records.{IsNode};
 
 use el_base::{Bytes, Hash32, Listed, sha256d};
-use el_chain::{MAX_BACK, MAX_FORWARD, Node, Placed, Plan};
+use el_block::Block;
+use el_chain::{Entry, MAX_BACK, MAX_FORWARD, Node, Placed, Plan};
 use el_gen::{block, block_record, coinbase, spend};
 use el_outside::Place;
-use el_tx::{Outpoint, Tx, block_hash, decode_header, encode_header};
+use el_tx::{Header, Outpoint, Tx, block_hash, decode_header, encode_header};
 use std::alloc::Global;
 use std::test::Fail;
 
@@ -46,6 +48,21 @@ pub fn output_of(txid: &str, index: u32) -> Result<Outpoint, Fail> {
     Ok(Outpoint { txid, index })
 }
 
+/// The entry of that height with that txid.
+pub fn entry_of(height: u32, txid: &str) -> Result<Entry, Fail> {
+    let txid = Hash32::from_shown(txid)?;
+    Ok(Entry { height, txid })
+}
+
+/// The entries at these heights with these txids.
+pub fn entries_of(alloc: Global, places: &[(u32, &str)]) -> Result<Vec<Entry>, Fail> {
+    let mut entries = Vec::new(alloc);
+    for (height, txid) in places {
+        entries.push(entry_of(*height, *txid)?)?;
+    }
+    Ok(entries)
+}
+
 /// That output, spent into one output to the script of 1.
 pub fn spent(alloc: Global, txid: &str, index: u32, value: u64) -> Result<Tx, Fail>
     requires { value ≤ 5000000000 }
@@ -76,12 +93,44 @@ pub fn tip_hash(blocks: &[Placed]) -> Hash32
     }
 }
 
+/// Whether the block names the last of these as the one before.
+pub fn names_tip(block: &Block, blocks: &[Placed]) -> bool
+    ensures { IsTrue result → block.now.header.previous ≡ tip blocks.now }
+{
+    block.header.previous == tip_hash(blocks)
+}
+
 // The hash of the block of the last record.
 fn last_of(records: &[Bytes]) -> Hash32 {
     match records.last() {
         Some(record) if record.len() >= 88 => sha256d(&record.as_slice()[8..88]),
         _ => NO_HASH,
     }
+}
+
+// The coinbase of that height, and one more transaction.
+fn txs_of(alloc: Global, coinbase_of: u32, more: Option<Tx>) -> Result<Vec<Tx>, Fail>
+    requires { IfSome more HasEncoding }
+    ensures some { IfOk result (λ txs. 1 ≤ length txs.items) }
+    ensures encoded { IfOk result (λ txs. AllByRecursion HasEncoding txs.items) }
+{
+    let mut txs = Vec::new(alloc);
+    txs.push(coinbase(alloc, coinbase_of, 0, 101)?)?;
+    if let Some(tx) = more {
+        txs.push(tx)?;
+    }
+    Ok(txs)
+}
+
+// The record of a block of these transactions after the last.
+fn next_record(alloc: Global, records: &[Bytes], txs: Vec<Tx>) -> Result<Bytes, Fail>
+    requires some { 1 ≤ length txs.items }
+    requires encoded { AllByRecursion HasEncoding txs.items }
+{
+    let height = records.len().min(100) as u32;
+    let made = block(alloc, last_of(records), height, 0, txs)?;
+    let record = block_record(alloc, [0xfa, 0xbf, 0xb5, 0xda], &made)?;
+    Ok(record)
 }
 
 /// Adds the record of a block after the last: the coinbase of that height, and one more transaction.
@@ -93,20 +142,28 @@ pub fn add(
 ) -> Result<(), Fail>
     requires { IfSome more HasEncoding }
 {
-    let mut txs = Vec::new(alloc);
-    txs.push(coinbase(alloc, coinbase_of, 0, 101)?)?;
-    if let Some(tx) = more {
-        txs.push(tx)?;
-    }
-    let height = records.len().min(100) as u32;
-    let made = block(alloc, last_of(records.as_slice()), height, 0, txs)?;
-    records.push(block_record(alloc, [0xfa, 0xbf, 0xb5, 0xda], &made)?)?;
+    let txs = txs_of(alloc, coinbase_of, more)?;
+    let record = next_record(alloc, records.as_slice(), txs)?;
+    records.push(record)?;
     Ok(())
 }
 
 /// How many bytes the block of a record has.
 pub fn size_of(record: &[u8]) -> u32 {
     record.len().saturating_sub(8).min(4_000_000) as u32
+}
+
+/// The node of the block with this header, whose record stands there.
+pub fn node_at(header: Header, place: Place) -> Node
+    requires { IsHeader header }
+    ensures { IsNode result }
+{
+    let hash = block_hash(&encode_header(&header));
+    Node {
+        hash,
+        header,
+        place,
+    }
 }
 
 // The node of a record, which stands alone in a file.
@@ -119,18 +176,12 @@ fn node_of(record: &[u8], file: u32) -> Result<Node, Fail>
     let Some(front) = record[8..].first_chunk::<80>() else {
         return Err(Fail::new("a short record"));
     };
-    let header = decode_header(front);
-    let hash = block_hash(&encode_header(&header));
     let place = Place {
         file,
         offset: 0,
         len: size_of(record),
     };
-    Ok(Node {
-        hash,
-        header,
-        place,
-    })
+    Ok(node_at(decode_header(front), place))
 }
 
 // The nodes of the records, of which the first stands in that file.
