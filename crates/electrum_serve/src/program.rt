@@ -1,9 +1,9 @@
 // From the words of the command line to the end of the program.
-ghost use Rattle.std.specs.Prelude.{◌≡◌, drop, IfOk};
+ghost use Rattle.std.specs.Prelude.{◌≡◌, ◌-◌, ◌^◌, drop, IfOk};
 ghost use Rattle.std.specs.Process.{exit_status};
 ghost use Rattle.el_words.specs.Words.{texts};
 ghost use Rattle.el_words.specs.Commands.{IsNoCommand};
-ghost use Rattle.electrum_serve.specs.within.Devices.{folder_of, index_of};
+ghost use Rattle.electrum_serve.specs.within.Devices.{folder_of, index_of, IsServeCommand, IsOnceCommand};
 ghost use Rattle.electrum_serve.specs.Calls.{Call};
 ghost use Rattle.electrum_serve.specs.IndexDisks.{IsCall};
 ghost use Rattle.electrum_serve.specs.Statuses.{code_of};
@@ -86,7 +86,7 @@ fn serve_over<D: Disk + Drop, K: Link>(
 ) -> Result<Status, OutOfMemory>
     ensures ends { IfOk result (λ status. (c : Call _ _ _)
         × IsCall ⟦<D as Disk>⟧ ⟦<BlockFiles<BlockFolder<HostRuntime>> as el_outside::Archive>⟧ ⟦<K as Link>⟧ c
-        × (c.words ≡ texts words.now) × (c.before.disk ≡ disk)
+        × (c.words ≡ texts words.now) × (c.turns ≡ 2 ^ 64 - 1) × (c.before.disk ≡ disk)
         × (c.before.files.folder ≡ folder_of command.now)
         × (c.before.link ≡ link.old) × (c.after.link ≡ link.new) × (c.status ≡ status)) }
     ensures refused { IsNoCommand (texts words.now) → IfOk result (λ status. status ≡ Status.Usage) }
@@ -126,6 +126,16 @@ fn serve_command(
     words: &[String],
     command: &Command,
 ) -> Result<Status, OutOfMemory>
+    ensures serve { IsServeCommand command.now → IfOk result (λ status. (c : Call _ _ _)
+        × IsCall ⟦<FileDisk<IndexFolder<HostRuntime>> as Disk>⟧
+        ⟦<BlockFiles<BlockFolder<HostRuntime>> as el_outside::Archive>⟧ ⟦<TcpLink as Link>⟧ c
+        × (c.words ≡ texts words.now) × (c.turns ≡ 2 ^ 64 - 1) × (c.before.disk.files ≡ index_of command.now)
+        × (c.before.files.folder ≡ folder_of command.now) × (c.status ≡ status)) }
+    ensures once { IsOnceCommand command.now → IfOk result (λ status. (c : Call _ _ _)
+        × IsCall ⟦<NoDisk as Disk>⟧ ⟦<BlockFiles<BlockFolder<HostRuntime>> as el_outside::Archive>⟧
+        ⟦<StandardLink<HostRuntime> as Link>⟧ c
+        × (c.words ≡ texts words.now) × (c.turns ≡ 2 ^ 64 - 1)
+        × (c.before.files.folder ≡ folder_of command.now) × (c.status ≡ status)) }
     ensures refused { IsNoCommand (texts words.now) → IfOk result (λ status. status ≡ Status.Usage) }
     ensures lawful { IfOk result (λ status. status ≡ Status.Usage → IsNoCommand (texts words.now)) }
 {

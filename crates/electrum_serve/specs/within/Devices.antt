@@ -12,3 +12,13 @@ folder_of (command.Once blocks network) = blocks
 abbrev pub index_of : Command → List ℕ
 index_of (command.Serve blocks index network client_port node_port limits) = index
 index_of (command.Once blocks network) = []
+
+-- the command is that of `serve`
+abbrev pub IsServeCommand : Command → Type 0
+IsServeCommand (command.Serve blocks index network client_port node_port limits) = Unit {0}
+IsServeCommand (command.Once blocks network) = ⊥
+
+-- that of `once`
+abbrev pub IsOnceCommand : Command → Type 0
+IsOnceCommand (command.Serve blocks index network client_port node_port limits) = ⊥
+IsOnceCommand (command.Once blocks network) = Unit {0}
