@@ -1,7 +1,7 @@
 // A disk over the open files of a folder in memory, whose calls go short, are interrupted, or fail.
 
 use crate::disks::none_fails;
-use el_mem_disk::{FailingCalls, MemDisk, MemFolder, Residue};
+use el_mem_disk::{FailingCalls, MemFolder, Residue};
 use el_open_files::FileDisk;
 use el_outside::{Disk, DiskFailed};
 use std::alloc::Global;
@@ -27,40 +27,45 @@ fn folder(
     Ok(MemFolder::new(alloc, most, failing, interrupted))
 }
 
+// Whether the script reads what it must.
+fn reads_all<D: Disk>(disk: &mut D) -> bool {
+    let mut buf = [0u8; 16];
+    script(disk, &mut buf) == Ok(11) && &buf == b"cdefgh12345\0\0\0\0\0"
+}
+
+const WRITTEN: &[u8] = b"abcdefgh12345";
+
+// Whether the script reads what it must and all of it is written, where calls move so many bytes at most and
+// these are interrupted.
+fn goes_on(alloc: Global, most: usize, interrupted: &[u64]) -> Result<bool, Fail> {
+    let folder = folder(alloc, most, none_fails(alloc), interrupted)?;
+    let mut disk = FileDisk::over(folder, alloc)?;
+    let is_read = reads_all(&mut disk);
+    let below = disk.into_folder().into_disk();
+    Ok(is_read && below.bytes(10) == WRITTEN)
+}
+
 #[test]
 fn short_calls_are_gone_on_with(rt: HostRuntime) -> Result<(), Fail> {
-    let alloc = rt.alloc();
     for most in [1, 3, 100] {
-        let mut disk = FileDisk::over(folder(alloc, most, none_fails(alloc), &[])?, alloc)?;
-        let mut buf = [0u8; 16];
-        assert_eq!(rt; script(&mut disk, &mut buf), Ok(11), "{most} bytes at once");
-        assert_eq!(rt; &buf, b"cdefgh12345\0\0\0\0\0", "{most} bytes at once");
-        let below = disk.into_folder().into_disk();
-        assert_eq!(rt;
-            below.bytes(10),
-            b"abcdefgh12345".as_slice(),
-            "{most} bytes at once"
-        );
+        assert!(rt; goes_on(rt.alloc(), most, &[])?, "{most} bytes at once");
     }
     Ok(())
 }
 
 // Which calls are interrupted is told by the numbers of the calls of the disk below, which an interrupted one
 // raises.
+const INTERRUPTED: &[u64] = &[5, 6, 9, 10, 20, 21, 22, 30];
+
 #[test]
 fn interrupted_calls_are_made_again(rt: HostRuntime) -> Result<(), Fail> {
-    let alloc = rt.alloc();
-    let folder = folder(alloc, 3, none_fails(alloc), &[5, 6, 9, 10, 20, 21, 22, 30])?;
-    let mut disk = FileDisk::over(folder, alloc)?;
-    let mut buf = [0u8; 16];
-    assert_eq!(rt; script(&mut disk, &mut buf), Ok(11));
-    assert_eq!(rt; &buf, b"cdefgh12345\0\0\0\0\0");
+    assert!(rt; goes_on(rt.alloc(), 3, INTERRUPTED)?);
     Ok(())
 }
 
-// How the script ends where all calls of the disk below from that one on fail, and that disk. Of a write that
-// fails it has the first byte.
-fn ends_failing(alloc: Global, from: u64) -> Result<(Result<usize, DiskFailed>, MemDisk), Fail> {
+// How the script ends where all calls of the disk below from that one on fail, of a write that fails the
+// first byte being left; and whether that disk then has a front of what the script writes.
+fn ends_failing(alloc: Global, from: u64) -> Result<(Result<usize, DiskFailed>, bool), Fail> {
     let failing = FailingCalls {
         listed: Vec::new(alloc),
         from: Some(from),
@@ -69,7 +74,11 @@ fn ends_failing(alloc: Global, from: u64) -> Result<(Result<usize, DiskFailed>, 
     let mut disk = FileDisk::over(folder(alloc, 3, failing, &[])?, alloc)?;
     let mut buf = [0u8; 16];
     let end = script(&mut disk, &mut buf);
-    Ok((end, disk.into_folder().into_disk()))
+    let below = disk.into_folder().into_disk();
+    Ok((
+        end,
+        below.starved() == 0 && WRITTEN.starts_with(below.bytes(10)),
+    ))
 }
 
 // Once all calls that the script makes are before the first that fails, it ends well.
@@ -77,20 +86,13 @@ fn ends_failing(alloc: Global, from: u64) -> Result<(Result<usize, DiskFailed>, 
 fn a_failure_is_told(rt: HostRuntime) -> Result<(), Fail> {
     let mut was_fine = false;
     for from in 2..60 {
-        let (end, below) = ends_failing(rt.alloc(), from)?;
+        let (end, has_front) = ends_failing(rt.alloc(), from)?;
         let is_fine = end == Ok(11);
-        assert!(rt;
-            is_fine || (end == Err(DiskFailed) && !was_fine),
-            "from call {from} on"
-        );
+        let is_told = is_fine || (end == Err(DiskFailed) && !was_fine);
+        assert!(rt; is_told && has_front, "from call {from} on");
         was_fine = is_fine;
-        assert_eq!(rt; below.starved(), 0);
-        assert!(rt;
-            b"abcdefgh12345".starts_with(below.bytes(10)),
-            "from call {from} on"
-        );
     }
     assert!(rt; was_fine);
-    assert_eq!(rt; ends_failing(rt.alloc(), 1)?.0, Err(DiskFailed));
+    assert!(rt; ends_failing(rt.alloc(), 1)?.0 == Err(DiskFailed));
     Ok(())
 }

@@ -6,7 +6,6 @@ use el_base::OutOfMemory;
 use el_journal::{EntryFault, JOURNAL, Journal, JournalFault, open_journal};
 use el_mem_disk::{FailingCalls, MemDisk, Residue, SilentDisk};
 use std::alloc::Global;
-use std::process::Abort;
 use std::test::Fail;
 
 // Whether the journal has these entries, and no other.
@@ -37,6 +36,26 @@ fn opened_count(alloc: Global, disk: MemDisk, all: &[&[u8]]) -> Option<u64> {
 
 const SIXTEEN: &[u8] = b"0123456789abcdef";
 
+const THREE: &[&[u8]] = &[b"", b"a", SIXTEEN];
+
+// Appends the three entries to a journal that has none.
+fn takes_three(journal: &mut Journal<SilentDisk>) -> bool {
+    let is_fresh = journal.len() == 0 && journal.is_empty();
+    for bytes in THREE {
+        if journal.append(bytes) != Ok(()) {
+            return false;
+        }
+    }
+    is_fresh
+}
+
+// Whether the disk has a journal of the three entries, and nothing else.
+fn has_three(disk: &MemDisk) -> bool {
+    let bytes =
+        b"\x01\0\0\0\0\0\0\0\0\x01\x01\0\0\0\0\0\0\0a\x01\x10\0\0\0\0\0\0\x000123456789abcdef\0";
+    disk.bytes(JOURNAL) == bytes.as_slice() && disk.bytes(0) == b"".as_slice()
+}
+
 #[test]
 fn entries_are_given_back(rt: HostRuntime) -> Result<(), Fail> {
     let alloc = rt.alloc();
@@ -44,18 +63,11 @@ fn entries_are_given_back(rt: HostRuntime) -> Result<(), Fail> {
     let Ok(mut journal) = open_journal(alloc, disk) else {
         return Err(Fail::new("the journal was not opened"));
     };
-    assert_eq!(rt; (journal.len(), journal.is_empty()), (0, true));
-    for bytes in [b"".as_slice(), b"a", SIXTEEN] {
-        assert_eq!(rt; journal.append(bytes), Ok(()));
-    }
-    assert_eq!(rt; has_entries(&mut journal, &[b"", b"a", SIXTEEN]), Ok(true));
+    assert!(rt; takes_three(&mut journal));
+    assert!(rt; has_entries(&mut journal, THREE) == Ok(true));
     let disk = journal.into_disk().into_disk();
-    assert_eq!(rt;
-        disk.bytes(JOURNAL),
-        b"\x01\0\0\0\0\0\0\0\0\x01\x01\0\0\0\0\0\0\0a\x01\x10\0\0\0\0\0\0\x000123456789abcdef\0".as_slice()
-    );
-    assert_eq!(rt; disk.bytes(0), b"".as_slice());
-    assert_eq!(rt; opened_count(alloc, disk, &[b"", b"a", SIXTEEN]), Some(3));
+    assert!(rt; has_three(&disk));
+    assert!(rt; opened_count(alloc, disk, THREE) == Some(3));
     Ok(())
 }
 
@@ -72,7 +84,7 @@ fn opened(alloc: Global, file: &[u8]) -> Result<u64, JournalFault> {
 
 // Files, and what an opening answers: short ones, closed gates that aren't 0, bytes after the closed gate,
 // entries without bytes, open gates with too little after them, the greatest length.
-const FILES: [(&[u8], Result<u64, JournalFault>); 13] = [
+const FILES: &[(&[u8], Result<u64, JournalFault>)] = &[
     (b"", Ok(0)),
     (b"\x01", Ok(0)),
     (b"\x07", Ok(0)),
@@ -100,21 +112,27 @@ const FILES: [(&[u8], Result<u64, JournalFault>); 13] = [
     (TWO, Ok(2)),
 ];
 
-#[test]
-fn bad_journals_are_told(rt: HostRuntime) -> Result<(), Fail> {
-    let alloc = rt.alloc();
-    for (file, wanted) in FILES {
-        assert_eq!(rt; opened(alloc, file), wanted);
-    }
+// Whether an opening tells of each front of TWO what it has.
+fn fronts_are_told(alloc: Global) -> bool {
     for n in 0..TWO.len() {
         let wanted = match n {
             0..=1 => Ok(0),
             2..=10 => Err(JournalFault::BadJournal { place: 0 }),
             _ => Err(JournalFault::BadJournal { place: 10 }),
         };
-        assert_eq!(rt; opened(alloc, &TWO[..n]), wanted);
+        if opened(alloc, &TWO[..n]) != wanted {
+            return false;
+        }
     }
-    Ok(())
+    true
+}
+
+#[test]
+fn bad_journals_are_told(rt: HostRuntime) {
+    for (file, wanted) in FILES {
+        assert!(rt; opened(rt.alloc(), file) == *wanted);
+    }
+    assert!(rt; fronts_are_told(rt.alloc()));
 }
 
 // What the runs below append.
@@ -138,7 +156,7 @@ fn run(alloc: Global, failing: FailingCalls) -> (u64, MemDisk) {
 // The opening makes calls 1 to 4, the appends make 5 to 10 and 11 to 16; calls 9 and 15 write the gates.
 // Calls that fail, each in turn: the first and the last of them, what a failing write leaves, how many
 // entries are appended, and how many the journal has that is opened then.
-const FAILURES: [(u64, u64, Residue, u64, u64); 9] = [
+const FAILURES: &[(u64, u64, Residue, u64, u64)] = &[
     (1, 8, Residue::Nothing, 0, 0),
     (1, 8, Residue::All, 0, 0),
     (9, 9, Residue::Nothing, 0, 0),
@@ -150,27 +168,38 @@ const FAILURES: [(u64, u64, Residue, u64, u64); 9] = [
     (16, 16, Residue::Nothing, 1, 2),
 ];
 
+// Whether a run in which one call fails appends so many entries, and a journal that is opened then has so
+// many.
+fn leaves(alloc: Global, failing: FailingCalls, wanted: u64, left: u64) -> bool {
+    let (appended, disk) = run(alloc, failing);
+    let is_counted = (appended, disk.faults(), disk.starved()) == (wanted, 1, 0);
+    let is_left = opened_count(alloc, disk, &ENTRIES) == Some(left);
+    is_counted && is_left
+}
+
 #[test]
 fn each_call_fails_in_turn(rt: HostRuntime) -> Result<(), Fail> {
     let alloc = rt.alloc();
     for (first, last, residue, wanted, left) in FAILURES {
-        for call in first..=last {
-            let failing = fails_at(alloc, call, residue)?;
-            let (appended, disk) = run(alloc, failing);
-            assert_eq!(rt; (appended, disk.faults(), disk.starved()), (wanted, 1, 0));
-            assert_eq!(rt; opened_count(alloc, disk, &ENTRIES), Some(left));
+        for call in *first..=*last {
+            let failing = fails_at(alloc, call, *residue)?;
+            assert!(rt; leaves(alloc, failing, *wanted, *left));
         }
     }
-    let (appended, disk) = run(alloc, none_fails(alloc));
-    assert_eq!(rt; (appended, disk.bytes(JOURNAL)), (2, TWO));
     Ok(())
 }
 
+#[test]
+fn entries_are_written(rt: HostRuntime) {
+    let (appended, disk) = run(rt.alloc(), none_fails(rt.alloc()));
+    assert!(rt; appended == 2 && disk.bytes(JOURNAL) == TWO);
+}
+
 // How many bytes the journal has beyond the least, and what each free byte is.
-const CHOICES: [(u64, u64); 6] = [(0, 0), (0, 1), (99, 0), (21, 1), (11, 1), (5, 255)];
+const CHOICES: &[(u64, u64)] = &[(0, 0), (0, 1), (99, 0), (21, 1), (11, 1), (5, 255)];
 
 // Stops: the first call that fails, and all after it do; the least and the most entries that are left.
-const STOPS: [(u64, u64, u64); 17] = [
+const STOPS: &[(u64, u64, u64)] = &[
     (1, 0, 0),
     (2, 0, 0),
     (3, 0, 0),
@@ -190,14 +219,31 @@ const STOPS: [(u64, u64, u64); 17] = [
     (17, 2, 2),
 ];
 
+// Whether an opening of the disk finds so many entries.
+fn has_between(alloc: Global, disk: MemDisk, least: u64, most: u64) -> bool {
+    match opened_count(alloc, disk, &ENTRIES) {
+        Some(count) => least <= count && count <= most,
+        None => false,
+    }
+}
+
+// What a crash leaves in the image that is chosen so, each call of which fails from this one on.
+fn crashed(
+    alloc: Global,
+    disk: &MemDisk,
+    choice: &(u64, u64),
+    from: Option<u64>,
+) -> Result<MemDisk, OutOfMemory> {
+    let numbers = choosing(alloc, choice.0, choice.1)?;
+    disk.crashed(numbers.as_slice(), all_fail_from(alloc, from))
+}
+
 // Whether an opening after a crash, in the image of each choice, finds so many entries.
 fn finds(alloc: Global, disk: &MemDisk, least: u64, most: u64) -> Result<bool, OutOfMemory> {
-    for (more, byte) in CHOICES {
-        let numbers = choosing(alloc, more, byte)?;
-        let left = disk.crashed(numbers.as_slice(), none_fails(alloc))?;
-        match opened_count(alloc, left, &ENTRIES) {
-            Some(count) if least <= count && count <= most => {}
-            _ => return Ok(false),
+    for choice in CHOICES {
+        let left = crashed(alloc, disk, choice, None)?;
+        if !has_between(alloc, left, least, most) {
+            return Ok(false);
         }
     }
     Ok(true)
@@ -211,19 +257,40 @@ fn stopped(alloc: Global, disk: MemDisk) -> MemDisk {
     }
 }
 
+// Whether the same holds after a crash in the image of that choice and an opening that is stopped at each of
+// its calls.
+fn finds_after_stops(
+    alloc: Global,
+    disk: &MemDisk,
+    choice: &(u64, u64),
+    least: u64,
+    most: u64,
+) -> Result<bool, OutOfMemory> {
+    for stop in 1..=4 {
+        let left = crashed(alloc, disk, choice, Some(stop))?;
+        if !finds(alloc, &stopped(alloc, left), least, most)? {
+            return Ok(false);
+        }
+    }
+    Ok(true)
+}
+
+// Whether the run that is stopped at that call leaves so many entries, in each image and after each stop of
+// an opening.
+fn stop_leaves(alloc: Global, call: u64, least: u64, most: u64) -> Result<bool, OutOfMemory> {
+    let (_, disk) = run(alloc, all_fail_from(alloc, Some(call)));
+    for choice in CHOICES {
+        if !finds_after_stops(alloc, &disk, choice, least, most)? {
+            return Ok(false);
+        }
+    }
+    finds(alloc, &disk, least, most)
+}
+
 #[test]
 fn a_stop_leaves_the_old_list_or_the_new(rt: HostRuntime) -> Result<(), Fail> {
-    let alloc = rt.alloc();
     for (call, least, most) in STOPS {
-        let (_, disk) = run(alloc, all_fail_from(alloc, Some(call)));
-        assert!(rt; finds(alloc, &disk, least, most)?);
-        for (more, byte) in CHOICES {
-            for stop in 1..=4 {
-                let numbers = choosing(alloc, more, byte)?;
-                let left = disk.crashed(numbers.as_slice(), all_fail_from(alloc, Some(stop)))?;
-                assert!(rt; finds(alloc, &stopped(alloc, left), least, most)?);
-            }
-        }
+        assert!(rt; stop_leaves(rt.alloc(), *call, *least, *most)?, "{call}");
     }
     Ok(())
 }

@@ -1,9 +1,8 @@
 // What no contract says of the link over sockets: what goes over it. Both ends stand in one process.
-ghost use Rattle.std.specs.Prelude.{◌≡◌, IfOk, length};
+ghost use Rattle.std.specs.Prelude.{◌≡◌, length};
 
 use el_net::TcpLink;
 use el_outside::{Arrival, BUFFER_SIZE, Link, Peer, SendFault, Why};
-use std::alloc::Global;
 use std::io;
 use std::io::{Read, Write};
 use std::net::{Ipv4Addr, Shutdown, SocketAddr, TcpStream};
@@ -11,12 +10,6 @@ use std::test::Fail;
 
 fn connect(rt: &HostRuntime, port: u16) -> io::Result<TcpStream> {
     TcpStream::connect(rt, SocketAddr::from((Ipv4Addr::LOCALHOST, port)))
-}
-
-fn buffer(alloc: Global) -> Result<Vec<u8>, Fail>
-    ensures { IfOk result (λ buf. length buf.items ≡ BUFFER_SIZE) }
-{
-    Ok(vec![in alloc; 0u8; BUFFER_SIZE]?)
 }
 
 // What comes next and isn't `Quiet`.
@@ -99,16 +92,41 @@ fn has_one_node(
     Ok(is_heard && has_left && brings(&node, b"at\n") && ends(&node) && ends(&second))
 }
 
+// Two clients come, one after the other.
+fn serves_clients(
+    rt: &HostRuntime,
+    port: u16,
+    link: &mut TcpLink,
+    buf: &mut [u8],
+) -> io::Result<bool>
+    requires { length buf.old ≡ BUFFER_SIZE }
+{
+    let first = connect(rt, port)?;
+    let is_served = serves_a_client_to_its_end(first, link, buf)?;
+    let second = connect(rt, port)?;
+    Ok(is_served && closes_a_client(second, link, buf))
+}
+
+// Two nodes come at once.
+fn serves_a_node(
+    rt: &HostRuntime,
+    port: u16,
+    link: &mut TcpLink,
+    buf: &mut [u8],
+) -> io::Result<bool>
+    requires { length buf.old ≡ BUFFER_SIZE }
+{
+    let node = connect(rt, port)?;
+    let other = connect(rt, port)?;
+    has_one_node(node, other, link, buf)
+}
+
 #[test]
 fn sockets_bring_what_was_sent(rt: HostRuntime) -> Result<(), Fail> {
-    let mut buf = buffer(rt.alloc())?;
+    let mut buf = [0u8; BUFFER_SIZE];
     let mut link = TcpLink::new(&rt, rt.alloc(), 0, 0)?;
     let (clients, nodes) = link.ports()?;
-    let first = connect(&rt, clients)?;
-    assert!(rt; serves_a_client_to_its_end(first, &mut link, &mut buf)?);
-    let second = connect(&rt, clients)?;
-    assert!(rt; closes_a_client(second, &mut link, &mut buf));
-    let (node, other) = (connect(&rt, nodes)?, connect(&rt, nodes)?);
-    assert!(rt; has_one_node(node, other, &mut link, &mut buf)?);
+    assert!(rt; serves_clients(&rt, clients, &mut link, &mut buf)?);
+    assert!(rt; serves_a_node(&rt, nodes, &mut link, &mut buf)?);
     Ok(())
 }

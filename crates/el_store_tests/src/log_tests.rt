@@ -3,15 +3,16 @@
 ghost use Rattle.std.specs.Prelude.{OnOk, IfOk};
 
 use crate::disks::{all_fail_from, choosing, disk_with, none_fails};
+use crate::redo_tests::{append_three, edit_three};
 use el_base::OutOfMemory;
 use el_journal::{JOURNAL, open_journal};
 use el_logstore::{LogStore, open_log};
 use el_mem_disk::{FailingCalls, MemDisk, SilentDisk};
+use el_outside::DiskFailed;
 use el_redo::{Mainnet, OpenFault};
 use el_row_formats::Table;
 use el_rows::{CommitFault, Rows, Txn};
 use std::alloc::Global;
-use std::process::Abort;
 use std::test::Fail;
 
 // How many heads and inputs there are at first, after one commit, and after both.
@@ -27,9 +28,7 @@ fn first<R: Rows>(alloc: Global, rows: &mut R) -> Result<Result<(), CommitFault>
     ensures live { IfOk result (λ r. OnOk r (R.is_live rows.new)) }
 {
     let mut txn = Txn::new(alloc, rows);
-    txn.append(Table::Ins, b"in-0")?;
-    txn.append(Table::TxHeads, b"head")?;
-    txn.append(Table::Ins, b"in-1")?;
+    append_three(&mut txn)?;
     let sealed = txn.seal()?;
     Ok(rows.commit(&sealed))
 }
@@ -40,11 +39,7 @@ fn second<R: Rows>(alloc: Global, rows: &mut R) -> Result<Result<(), CommitFault
     ensures live { IfOk result (λ r. OnOk r (R.is_live rows.new)) }
 {
     let mut txn = Txn::new(alloc, rows);
-    if txn.count(Table::Ins) == 2 && txn.count(Table::TxHeads) == 1 {
-        txn.shrink(Table::Ins, 1);
-        txn.put(Table::Ins, 0, b"IN-0")?;
-        txn.put(Table::TxHeads, 0, b"HEAD")?;
-    }
+    edit_three(&mut txn)?;
     let sealed = txn.seal()?;
     Ok(rows.commit(&sealed))
 }
@@ -85,31 +80,38 @@ fn opened(alloc: Global, disk: MemDisk) -> Result<(u64, u64), OpenFault> {
     }
 }
 
-/// The rows are read after the store was opened again.
-pub fn come_back<A: Abort>(rt: &A, alloc: Global) -> Result<(), Fail> {
-    let (made, disk) = run(alloc, none_fails(alloc))?;
-    assert_eq!(rt; made, 2);
-    let Ok(mut store) = open(alloc, disk) else {
+// Whether the store has one head and one input, which are these.
+fn has_rows<R: Rows>(rows: &mut R, head: &[u8; 4], input: &[u8; 4]) -> Result<bool, DiskFailed>
+    requires live { R.is_live rows.old }
+{
+    let mut first = [0; 4];
+    let mut second = [0; 4];
+    if rows.count(Table::TxHeads) == 1 {
+        rows.row(Table::TxHeads, 0, &mut first)?;
+    }
+    if rows.count(Table::Ins) == 1 {
+        rows.row(Table::Ins, 0, &mut second)?;
+    }
+    Ok(&first == head && &second == input)
+}
+
+#[test]
+fn rows_come_back(rt: HostRuntime) -> Result<(), Fail> {
+    let (made, disk) = run(rt.alloc(), none_fails(rt.alloc()))?;
+    assert!(rt; made == 2);
+    let Ok(mut store) = open(rt.alloc(), disk) else {
         return Err(Fail::new("the store was not opened"));
     };
-    let mut head = [0; 4];
-    let mut input = [0; 4];
-    if store.count(Table::TxHeads) == 1 {
-        store.row(Table::TxHeads, 0, &mut head)?;
-        if store.count(Table::Ins) == 1 {
-            store.row(Table::Ins, 0, &mut input)?;
-        }
-    }
-    assert_eq!(rt; (head, input), (*b"HEAD", *b"IN-0"));
+    assert!(rt; has_rows(&mut store, b"HEAD", b"IN-0")?);
     Ok(())
 }
 
 // How many bytes the journal has beyond the least, and what each free byte is.
-const CHOICES: [(u64, u64); 5] = [(0, 0), (0, 1), (999, 0), (124, 1), (9, 255)];
+const CHOICES: &[(u64, u64)] = &[(0, 0), (0, 1), (999, 0), (124, 1), (9, 255)];
 
 // Stops: the first call that fails, and all after it do; what is left: the old rows or the new ones. The
 // opening makes calls 1 to 4, the commits make 5 to 10 and 11 to 16; calls 9 and 15 write the gates.
-const STOPS: [(u64, (u64, u64), (u64, u64)); 17] = [
+const STOPS: &[(u64, (u64, u64), (u64, u64))] = &[
     (1, NONE, NONE),
     (2, NONE, NONE),
     (3, NONE, NONE),
@@ -129,6 +131,17 @@ const STOPS: [(u64, (u64, u64), (u64, u64)); 17] = [
     (17, BOTH, BOTH),
 ];
 
+// What a crash leaves in the image that is chosen so, each call of which fails from this one on.
+fn crashed(
+    alloc: Global,
+    disk: &MemDisk,
+    choice: &(u64, u64),
+    from: Option<u64>,
+) -> Result<MemDisk, OutOfMemory> {
+    let numbers = choosing(alloc, choice.0, choice.1)?;
+    disk.crashed(numbers.as_slice(), all_fail_from(alloc, from))
+}
+
 // Whether an opening after a crash, in the image of each choice, finds the old rows or the new ones.
 fn finds(
     alloc: Global,
@@ -136,10 +149,8 @@ fn finds(
     old: (u64, u64),
     new: (u64, u64),
 ) -> Result<bool, OutOfMemory> {
-    for (more, byte) in CHOICES {
-        let numbers = choosing(alloc, more, byte)?;
-        let left = disk.crashed(numbers.as_slice(), none_fails(alloc))?;
-        let found = opened(alloc, left);
+    for choice in CHOICES {
+        let found = opened(alloc, crashed(alloc, disk, choice, None)?);
         if found != Ok(old) && found != Ok(new) {
             return Ok(false);
         }
@@ -155,19 +166,44 @@ fn stopped(alloc: Global, disk: MemDisk) -> MemDisk {
     }
 }
 
+// Whether the same holds after a crash in the image of that choice and an opening that is stopped at each of
+// these calls.
+fn finds_after_stops(
+    alloc: Global,
+    disk: &MemDisk,
+    choice: &(u64, u64),
+    old: (u64, u64),
+    new: (u64, u64),
+) -> Result<bool, OutOfMemory> {
+    for stop in [1, 2, 3, 5, 9] {
+        let left = crashed(alloc, disk, choice, Some(stop))?;
+        if !finds(alloc, &stopped(alloc, left), old, new)? {
+            return Ok(false);
+        }
+    }
+    Ok(true)
+}
+
+// Whether a crash leaves the old rows or the new ones, in each image and after each stop of an opening.
+fn leaves(
+    alloc: Global,
+    disk: &MemDisk,
+    old: (u64, u64),
+    new: (u64, u64),
+) -> Result<bool, OutOfMemory> {
+    for choice in CHOICES {
+        if !finds_after_stops(alloc, disk, choice, old, new)? {
+            return Ok(false);
+        }
+    }
+    finds(alloc, disk, old, new)
+}
+
 #[test]
 fn a_stop_leaves_the_old_rows_or_the_new(rt: HostRuntime) -> Result<(), Fail> {
-    let alloc = rt.alloc();
     for (call, old, new) in STOPS {
-        let (_, disk) = run(alloc, all_fail_from(alloc, Some(call)))?;
-        assert!(rt; finds(alloc, &disk, old, new)?);
-        for (more, byte) in CHOICES {
-            for stop in [1, 2, 3, 5, 9] {
-                let numbers = choosing(alloc, more, byte)?;
-                let left = disk.crashed(numbers.as_slice(), all_fail_from(alloc, Some(stop)))?;
-                assert!(rt; finds(alloc, &stopped(alloc, left), old, new)?);
-            }
-        }
+        let (_, disk) = run(rt.alloc(), all_fail_from(rt.alloc(), Some(*call)))?;
+        assert!(rt; leaves(rt.alloc(), &disk, *old, *new)?, "{call}");
     }
     Ok(())
 }
@@ -180,20 +216,24 @@ fn bad(wanted: u64, found: u64) -> OpenFault {
     }
 }
 
+// Whether an opening of a journal of these bytes, which were cut, tells of that.
+fn is_told(alloc: Global, file: &[u8]) -> bool {
+    let wanted = match file.len() {
+        0..=1 => Ok(NONE),
+        2..=124 => Err(bad(0, 0)),
+        _ => Err(bad(0, 124)),
+    };
+    opened(alloc, disk_with(alloc, file)) == wanted
+}
+
 // The first entry has 124 bytes with its gate and its length, the second 111.
 #[test]
 fn a_cut_journal_is_told(rt: HostRuntime) -> Result<(), Fail> {
-    let alloc = rt.alloc();
-    let (_, disk) = run(alloc, none_fails(alloc))?;
+    let (_, disk) = run(rt.alloc(), none_fails(rt.alloc()))?;
     let file = disk.bytes(JOURNAL);
-    assert_eq!(rt; file.len(), 124 + 111 + 1);
+    assert!(rt; file.len() == 124 + 111 + 1);
     for n in 0..file.len() {
-        let wanted = match n {
-            0..=1 => Ok(NONE),
-            2..=124 => Err(bad(0, 0)),
-            _ => Err(bad(0, 124)),
-        };
-        assert_eq!(rt; opened(alloc, disk_with(alloc, &file[..n])), wanted);
+        assert!(rt; is_told(rt.alloc(), &file[..n]));
     }
     Ok(())
 }
@@ -212,7 +252,7 @@ const KEPT: &[u8] = b"ELIX\x01\0\0\0\xf9\xbe\xb4\xd9\
 \0\0\0\0\0\0\0\0\0\0\0\0\0\0\0\0\0\0\0\0\0\0\0\0\0\0\0\0\0\0\0\0";
 
 // Entries, and what an opening answers, or the number of the entry that it names.
-const ENTRIES: [(&[&[u8]], Result<(u64, u64), u64>); 7] = [
+const ENTRIES: &[(&[&[u8]], Result<(u64, u64), u64>)] = &[
     (&[], Ok(NONE)),
     (&[HEAD], Ok((1, 0))),
     (&[HEAD, HEAD, KEPT], Ok((1, 0))),
@@ -232,18 +272,21 @@ fn disk_of(alloc: Global, entries: &[&[u8]]) -> Option<MemDisk> {
     Some(journal.into_disk().into_disk())
 }
 
-#[test]
-fn entries_that_spell_no_commit_are_told(rt: HostRuntime) -> Result<(), Fail> {
-    let alloc = rt.alloc();
-    for (entries, wanted) in ENTRIES {
-        let Some(disk) = disk_of(alloc, entries) else {
-            return Err(Fail::new("the journal was not written"));
-        };
-        let wanted = match wanted {
-            Ok(counts) => Ok(counts),
-            Err(entry) => Err(bad(1, entry)),
-        };
-        assert_eq!(rt; opened(alloc, disk), wanted);
+// Whether an opening of a disk whose journal has these entries answers so.
+fn opens_to(alloc: Global, entries: &[&[u8]], wanted: Result<(u64, u64), u64>) -> bool {
+    let wanted = match wanted {
+        Ok(counts) => Ok(counts),
+        Err(entry) => Err(bad(1, entry)),
+    };
+    match disk_of(alloc, entries) {
+        Some(disk) => opened(alloc, disk) == wanted,
+        None => false,
     }
-    Ok(())
+}
+
+#[test]
+fn entries_that_spell_no_commit_are_told(rt: HostRuntime) {
+    for (entries, wanted) in ENTRIES {
+        assert!(rt; opens_to(rt.alloc(), entries, *wanted));
+    }
 }

@@ -6,11 +6,10 @@ ghost use Rattle.el_rows.specs.Changes.{OnTable};
 ghost use Rattle.el_rows.specs.Reads.{OnlyRead};
 ghost use Rattle.el_row_formats.specs.declared.table.Table.{Table};
 
-use crate::log_tests::come_back;
+use el_outside::DiskFailed;
 use el_row_formats::{TABLES, Table};
 use el_rows::{CommitFault, Rows, Txn, VecRows, VersionedRows};
 use std::alloc::Global;
-use std::process::Abort;
 use std::test::Fail;
 
 // A caller of any store, proved from the trait alone: it writes one head over another, and commits.
@@ -84,70 +83,97 @@ fn edit_one(
     Ok(())
 }
 
-// The transaction shows these rows of the table and no others.
-fn compare_table<A: Abort>(
-    rt: &A,
-    txn: &mut Txn<'_, VecRows>,
-    t: Table,
-    rows: &[Vec<u8>],
-) -> Result<(), Fail>
+// Whether the transaction shows this row.
+fn shows(txn: &mut Txn<'_, VecRows>, t: Table, i: u64, wanted: &[u8]) -> Result<bool, DiskFailed>
     ensures name { txn.new.rows.ghost_name ≡ txn.old.rows.ghost_name }
 {
-    assert_eq!(rt; txn.count(t), rows.len() as u64);
-    for i in 0..txn.count(t) {
-        let mut row = [0; 112];
-        let row = &mut row[..t.size()];
-        if i < txn.count(t) {
-            txn.get(t, i, row)?;
-        }
-        assert!(rt;
-            rows.get(i as usize)
-                .is_some_and(|wanted| wanted.as_slice() == &*row)
-        );
+    let mut row = [0; 112];
+    let row = &mut row[..t.size()];
+    if i < txn.count(t) {
+        txn.get(t, i, row)?;
     }
-    Ok(())
+    Ok(wanted == &*row)
 }
 
-// The transaction shows these rows and no others.
-fn compare<A: Abort>(rt: &A, txn: &mut Txn<'_, VecRows>, plain: &Plain) -> Result<(), Fail>
+// Whether the transaction shows these rows of the table and no others.
+fn shows_table(txn: &mut Txn<'_, VecRows>, t: Table, rows: &[Vec<u8>]) -> Result<bool, DiskFailed>
+    ensures name { txn.new.rows.ghost_name ≡ txn.old.rows.ghost_name }
+{
+    let has_count = txn.count(t) == rows.len() as u64;
+    for (i, row) in rows.iter().enumerate() {
+        if !shows(txn, t, i as u64, row.as_slice())? {
+            return Ok(false);
+        }
+    }
+    Ok(has_count)
+}
+
+// Whether the transaction shows these rows and no others.
+fn shows_all(txn: &mut Txn<'_, VecRows>, plain: &Plain) -> Result<bool, DiskFailed>
     ensures name { txn.new.rows.ghost_name ≡ txn.old.rows.ghost_name }
 {
     for (t, rows) in Table::ALL.iter().zip(plain.iter()) {
-        compare_table(rt, txn, *t, rows.as_slice())?;
+        if !shows_table(txn, *t, rows.as_slice())? {
+            return Ok(false);
+        }
     }
-    Ok(())
+    Ok(true)
 }
 
-// So many edits of one transaction, which are then committed.
-fn one_round<A: Abort>(
-    rt: &A,
+// Fifty edits of one transaction, which a seed tells.
+fn edit_all(
     alloc: Global,
-    rows: &mut VecRows,
+    txn: &mut Txn<'_, VecRows>,
     plain: &mut Plain,
     seed: &mut u64,
-) -> Result<(), Fail> {
-    let mut txn = Txn::new(alloc, rows);
+) -> Result<(), Fail>
+    ensures name { txn.new.rows.ghost_name ≡ txn.old.rows.ghost_name }
+{
     for _ in 0..50 {
         *seed ^= *seed << 13;
         *seed ^= *seed >> 7;
         *seed ^= *seed << 17;
-        edit_one(alloc, &mut txn, plain, *seed)?;
+        edit_one(alloc, txn, plain, *seed)?;
     }
-    compare(rt, &mut txn, plain)?;
+    Ok(())
+}
+
+// Whether edits are those of lists, before they are committed and after it.
+fn one_round(
+    alloc: Global,
+    rows: &mut VecRows,
+    plain: &mut Plain,
+    seed: &mut u64,
+) -> Result<bool, Fail> {
+    let mut txn = Txn::new(alloc, rows);
+    edit_all(alloc, &mut txn, plain, seed)?;
+    let is_shown = shows_all(&mut txn, plain)?;
     let sealed = txn.seal()?;
     rows.commit(&sealed)?;
     let mut after = Txn::new(alloc, rows);
-    compare(rt, &mut after, plain)
+    Ok(shows_all(&mut after, plain)? && is_shown)
 }
 
-// Edits are those of lists.
-fn four_rounds<A: Abort>(rt: &A, alloc: Global) -> Result<(), Fail> {
+#[test]
+fn edits_are_those_of_lists(rt: HostRuntime) -> Result<(), Fail> {
+    let alloc = rt.alloc();
     let mut rows = VecRows::new(alloc);
     let mut plain = no_rows(alloc);
     let mut seed = 88_172_645_463_325_252;
     for _ in 0..4 {
-        one_round(rt, alloc, &mut rows, &mut plain, &mut seed)?;
+        assert!(rt; one_round(alloc, &mut rows, &mut plain, &mut seed)?);
     }
+    Ok(())
+}
+
+// Appends three heads.
+fn append_heads<R: Rows>(txn: &mut Txn<'_, R>) -> Result<(), Fail>
+    ensures below { txn.new.rows.now ≡ txn.old.rows.now }
+    ensures name { txn.new.rows.ghost_name ≡ txn.old.rows.ghost_name }
+{
+    txn.append(Table::TxHeads, &[7, 0, 0, 0])?;
+    txn.append(Table::TxHeads, &[8, 0, 0, 0])?;
+    txn.append(Table::TxHeads, &[9, 0, 0, 0])?;
     Ok(())
 }
 
@@ -156,9 +182,7 @@ fn heads<R: Rows>(alloc: Global, rows: &mut R) -> Result<Result<(), CommitFault>
     requires live { R.is_live rows.old }
 {
     let mut txn = Txn::new(alloc, rows);
-    txn.append(Table::TxHeads, &[7, 0, 0, 0])?;
-    txn.append(Table::TxHeads, &[8, 0, 0, 0])?;
-    txn.append(Table::TxHeads, &[9, 0, 0, 0])?;
+    append_heads(&mut txn)?;
     let sealed = txn.seal()?;
     rows.commit(&sealed)?;
     if rows.count(Table::TxHeads) > 2 {
@@ -167,30 +191,29 @@ fn heads<R: Rows>(alloc: Global, rows: &mut R) -> Result<Result<(), CommitFault>
     Ok(Ok(()))
 }
 
-// Stores take commits.
-fn copied<A: Abort>(rt: &A, alloc: Global) -> Result<(), Fail> {
+// Whether lists take the heads.
+fn lists_take_heads(alloc: Global) -> Result<bool, Fail> {
     let mut head = [0; 4];
     let mut plain = VecRows::new(alloc);
-    assert!(rt; heads(alloc, &mut plain)? == Ok(()));
+    let is_taken = heads(alloc, &mut plain)? == Ok(());
     if plain.count(Table::TxHeads) == 3 {
         plain.row(Table::TxHeads, 2, &mut head)?;
     }
-    assert_eq!(rt; head, [7, 0, 0, 0]);
-    for (good, wanted) in [(1, Err(CommitFault::DiskFailed)), (2, Ok(()))] {
-        let mut rows = VersionedRows::new(alloc, good)?;
-        assert!(rt; heads(alloc, &mut rows)? == wanted);
-        assert_eq!(rt; rows.count(Table::TxHeads), 3);
-    }
-    Ok(())
+    Ok(is_taken && head == [7, 0, 0, 0])
 }
 
-fn all_stores<A: Abort>(rt: &A, alloc: Global) -> Result<(), Fail> {
-    four_rounds(rt, alloc)?;
-    copied(rt, alloc)?;
-    come_back(rt, alloc)
+// Whether a store that fails after so many commits answers this to the heads, and has three.
+fn has_heads(alloc: Global, good: u64, wanted: Result<(), CommitFault>) -> Result<bool, Fail> {
+    let mut rows = VersionedRows::new(alloc, good)?;
+    let is_answered = heads(alloc, &mut rows)? == wanted;
+    Ok(is_answered && rows.count(Table::TxHeads) == 3)
 }
 
 #[test]
-fn rows_are_kept(rt: HostRuntime) -> Result<(), Fail> {
-    all_stores(&rt, rt.alloc())
+fn stores_take_commits(rt: HostRuntime) -> Result<(), Fail> {
+    let alloc = rt.alloc();
+    assert!(rt; lists_take_heads(alloc)?);
+    assert!(rt; has_heads(alloc, 1, Err(CommitFault::DiskFailed))?);
+    assert!(rt; has_heads(alloc, 2, Ok(()))?);
+    Ok(())
 }

@@ -1,0 +1,5 @@
+use Rattle.std.proofs.Common.{◌≡◌}
+use Rattle.el_store_tests.proofs.row_tests.edit_all.Given as goal
+
+abbrev pub invariant-loop : goal.invariant-loop
+invariant-loop l = l.txn.rows.ghost_name ≡ l.fn.txn.rows.ghost_name
