@@ -38,8 +38,8 @@ fn prepared_of(alloc: Global, block: &Block) -> Result<Prepared, Fail>
     }
 }
 
-/// How a block of these transactions is answered, which is put into the rows.
-pub fn put<R: Rows>(
+// How a block of these transactions is answered, which is put into the rows.
+fn put<R: Rows>(
     alloc: Global,
     txn: &mut Txn<'_, R>,
     height: u32,
@@ -56,8 +56,8 @@ pub fn put<R: Rows>(
     Ok(connect(txn, &prepared, PLACE))
 }
 
-/// The coinbase of that height, which pays the script of 101.
-pub fn coinbase_block(alloc: Global, height: u32) -> Result<Vec<Tx>, Fail>
+// The coinbase of that height, which pays the script of 101.
+fn coinbase_block(alloc: Global, height: u32) -> Result<Vec<Tx>, Fail>
     ensures { IfOk result (λ v. (1 ≤ length v.items) × AllByRecursion HasEncoding v.items) }
 {
     let mut txs = Vec::new(alloc);
@@ -65,8 +65,8 @@ pub fn coinbase_block(alloc: Global, height: u32) -> Result<Vec<Tx>, Fail>
     Ok(txs)
 }
 
-/// A coinbase, and a transaction that spends these outpoints and pays these values to these scripts.
-pub fn spending_block(
+// A coinbase, and a transaction that spends these outpoints and pays these values to these scripts.
+fn spending_block(
     alloc: Global,
     height: u32,
     from: &[Outpoint],
@@ -80,6 +80,40 @@ pub fn spending_block(
     let mut txs = coinbase_block(alloc, height)?;
     txs.push(spend(alloc, from, to)?)?;
     Ok(txs)
+}
+
+/// How a block of a coinbase alone is answered, which is put into the rows. The coinbase is that of another
+/// height, where this is given.
+pub fn put_coinbase<R: Rows>(
+    alloc: Global,
+    txn: &mut Txn<'_, R>,
+    height: u32,
+    made: u32,
+) -> Result<Result<(), ConnectFault>, Fail>
+    requires live { R.is_live txn.old.rows.now }
+    requires early { height ≤ 4000000 }
+    ensures { txn.new.rows.ghost_name ≡ txn.old.rows.ghost_name }
+{
+    let txs = coinbase_block(alloc, made)?;
+    put(alloc, txn, height, txs)
+}
+
+/// How a block at height 1 is answered, whose second transaction spends these outpoints and pays these values
+/// to these scripts.
+pub fn put_spending<R: Rows>(
+    alloc: Global,
+    txn: &mut Txn<'_, R>,
+    from: &[Outpoint],
+    to: &[(u64, u32)],
+) -> Result<Result<(), ConnectFault>, Fail>
+    requires live { R.is_live txn.old.rows.now }
+    requires inputs { 1 ≤ length from.now }
+    requires outputs { 1 ≤ length to.now }
+    requires money { given to.now ≤ max_money }
+    ensures { txn.new.rows.ghost_name ≡ txn.old.rows.ghost_name }
+{
+    let txs = spending_block(alloc, 1, from, to)?;
+    put(alloc, txn, 1, txs)
 }
 
 /// The first output of the coinbase of that height.

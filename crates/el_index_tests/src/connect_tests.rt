@@ -3,7 +3,8 @@
 ghost use Rattle.std.specs.Prelude.{◌≡◌, ◌≤◌, ◌<◌, length};
 ghost use Rattle.el_tx.specs.Encoding.{max_money};
 
-use crate::blocks_put::{PLACE, coin_of, coinbase_block, put, spending_block};
+use crate::blocks_put::{PLACE, coin_of, put_coinbase, put_spending};
+use crate::fixtures::row_at;
 use el_base::sha256;
 use el_chain::ConnectFault;
 use el_gen::locking_script;
@@ -13,22 +14,6 @@ use el_tx::Outpoint;
 use std::alloc::Global;
 use std::process::Abort;
 use std::test::Fail;
-
-// A row's bytes.
-fn bytes<A: Abort, const N: usize>(
-    rt: &A,
-    txn: &mut Txn<'_, VecRows>,
-    table: Table,
-    i: u64,
-) -> Result<[u8; N], Fail>
-    ensures { txn.new.rows.ghost_name ≡ txn.old.rows.ghost_name }
-{
-    let mut bytes = [0; N];
-    assert!(rt; i < txn.count(table));
-    assert!(rt; table.size() == N);
-    txn.get(table, i, &mut bytes)?;
-    Ok(bytes)
-}
 
 // The outputs of the chain below. The last coinbase buries the one before, which has the same txid; the first
 // with that txid was spent.
@@ -69,20 +54,16 @@ const BLOCKS: [(u64, u32, u64); 4] = [
     (4, 1, 15_000_000_000),
 ];
 
-// The four blocks, each of which is put.
+// The four blocks, each of which is put. The last two have the first coinbase.
 fn put_chain<A: Abort>(rt: &A, alloc: Global, txn: &mut Txn<'_, VecRows>) -> Result<(), Fail>
     ensures { txn.new.rows.ghost_name ≡ txn.old.rows.ghost_name }
 {
     let coin = coin_of(alloc, 0)?;
-    let first = coinbase_block(alloc, 0)?;
-    assert!(rt; put(alloc, txn, 0, first)? == Ok(()));
     let to = [(2_500_000_000, 101), (2_500_000_000, 100)];
-    let second = spending_block(alloc, 1, &[coin], &to)?;
-    assert!(rt; put(alloc, txn, 1, second)? == Ok(()));
-    let third = coinbase_block(alloc, 0)?;
-    assert!(rt; put(alloc, txn, 2, third)? == Ok(()));
-    let fourth = coinbase_block(alloc, 0)?;
-    assert!(rt; put(alloc, txn, 3, fourth)? == Ok(()));
+    assert!(rt; put_coinbase(alloc, txn, 0, 0)? == Ok(()));
+    assert!(rt; put_spending(alloc, txn, &[coin], &to)? == Ok(()));
+    assert!(rt; put_coinbase(alloc, txn, 2, 0)? == Ok(()));
+    assert!(rt; put_coinbase(alloc, txn, 3, 0)? == Ok(()));
     Ok(())
 }
 
@@ -91,7 +72,7 @@ fn compare_outs<A: Abort>(rt: &A, txn: &mut Txn<'_, VecRows>) -> Result<(), Fail
 {
     assert!(rt; txn.count(Table::Outs) == 6);
     for (i, want) in OUTS.iter().enumerate() {
-        let row = bytes::<A, 21>(rt, txn, Table::Outs, i as u64)?;
+        let row = row_at::<21>(txn, Table::Outs, i as u64)?;
         let r = OutRow::read(&row);
         assert!(rt; (r.tx, r.value, r.script, r.state) == *want);
     }
@@ -103,7 +84,7 @@ fn compare_txs<A: Abort>(rt: &A, txn: &mut Txn<'_, VecRows>) -> Result<(), Fail>
 {
     assert!(rt; txn.count(Table::Txs) == 5);
     for (i, want) in TXS.iter().enumerate() {
-        let row = bytes::<A, 68>(rt, txn, Table::Txs, i as u64)?;
+        let row = row_at::<68>(txn, Table::Txs, i as u64)?;
         let r = TxRow::read(&row);
         let is = (
             r.height,
@@ -125,7 +106,7 @@ fn compare_entries<A: Abort>(rt: &A, txn: &mut Txn<'_, VecRows>) -> Result<(), F
 {
     assert!(rt; txn.count(Table::Entries) == 6);
     for (i, want) in ENTRIES.iter().enumerate() {
-        let row = bytes::<A, 12>(rt, txn, Table::Entries, i as u64)?;
+        let row = row_at::<12>(txn, Table::Entries, i as u64)?;
         let r = EntryRow::read(&row);
         assert!(rt; (r.tx, r.script, r.before) == *want);
     }
@@ -137,7 +118,7 @@ fn compare_blocks<A: Abort>(rt: &A, txn: &mut Txn<'_, VecRows>) -> Result<(), Fa
 {
     assert!(rt; txn.count(Table::Blocks) == 4);
     for (i, want) in BLOCKS.iter().enumerate() {
-        let row = bytes::<A, 112>(rt, txn, Table::Blocks, i as u64)?;
+        let row = row_at::<112>(txn, Table::Blocks, i as u64)?;
         let r = BlockRow::read(&row);
         assert!(rt; (r.first_tx, r.txs, r.sum) == *want);
         assert!(rt; r.place == PLACE);
@@ -145,44 +126,63 @@ fn compare_blocks<A: Abort>(rt: &A, txn: &mut Txn<'_, VecRows>) -> Result<(), Fa
     Ok(())
 }
 
-// The one input, and the two scripts: entries, last entry, balance.
+// Whether the script of that number is the generator's other one, with that last entry, so many entries and
+// that balance.
+fn has_script(
+    alloc: Global,
+    txn: &mut Txn<'_, VecRows>,
+    n: u64,
+    made: u32,
+    wanted: (Option<u64>, u64, u64),
+) -> Result<bool, Fail>
+    ensures { txn.new.rows.ghost_name ≡ txn.old.rows.ghost_name }
+{
+    let r = ScriptRow::read(&row_at::<52>(txn, Table::Scripts, n)?);
+    let script = locking_script(alloc, made)?;
+    let hash = sha256(script.as_slice());
+    Ok(r.script == hash && (r.last, r.entries, r.balance) == wanted)
+}
+
+// The one input, and the two scripts.
 fn compare_scripts<A: Abort>(rt: &A, alloc: Global, txn: &mut Txn<'_, VecRows>) -> Result<(), Fail>
     ensures { txn.new.rows.ghost_name ≡ txn.old.rows.ghost_name }
 {
-    assert!(rt; txn.count(Table::Ins) == 1);
-    let input = bytes::<A, 4>(rt, txn, Table::Ins, 0)?;
-    assert!(rt; InRow::read(&input).out == 0);
-    assert!(rt; txn.count(Table::Scripts) == 2);
-    let row = bytes::<A, 52>(rt, txn, Table::Scripts, 0)?;
-    let r = ScriptRow::read(&row);
-    assert!(rt; r.script == sha256(locking_script(alloc, 101)?.as_slice()));
-    assert!(rt; (r.last, r.entries, r.balance) == (Some(5), 5, 12_500_000_000));
-    let row = bytes::<A, 52>(rt, txn, Table::Scripts, 1)?;
-    let r = ScriptRow::read(&row);
-    assert!(rt; r.script == sha256(locking_script(alloc, 100)?.as_slice()));
-    assert!(rt; (r.last, r.entries, r.balance) == (Some(3), 1, 2_500_000_000));
+    let counts = [txn.count(Table::Ins), txn.count(Table::Scripts)];
+    assert!(rt; counts == [1, 2]);
+    let input = InRow::read(&row_at::<4>(txn, Table::Ins, 0)?);
+    assert!(rt; input.out == 0);
+    let first = (Some(5), 5, 12_500_000_000);
+    assert!(rt; has_script(alloc, txn, 0, 101, first)?);
+    let second = (Some(3), 1, 2_500_000_000);
+    assert!(rt; has_script(alloc, txn, 1, 100, second)?);
     Ok(())
+}
+
+// All rows are as by hand.
+fn compare<A: Abort>(rt: &A, alloc: Global, txn: &mut Txn<'_, VecRows>) -> Result<(), Fail>
+    ensures { txn.new.rows.ghost_name ≡ txn.old.rows.ghost_name }
+{
+    let heads = [txn.count(Table::TxHeads), txn.count(Table::ScriptHeads)];
+    assert!(rt; heads == [65536, 65536]);
+    compare_blocks(rt, txn)?;
+    compare_txs(rt, txn)?;
+    compare_outs(rt, txn)?;
+    compare_entries(rt, txn)?;
+    compare_scripts(rt, alloc, txn)
 }
 
 fn small_chain<A: Abort>(rt: &A, alloc: Global) -> Result<(), Fail> {
     let mut rows = VecRows::new(alloc);
     let mut txn = Txn::new(alloc, &mut rows);
     put_chain(rt, alloc, &mut txn)?;
-    assert!(rt; txn.count(Table::TxHeads) == 65536);
-    assert!(rt; txn.count(Table::ScriptHeads) == 65536);
-    compare_blocks(rt, &mut txn)?;
-    compare_txs(rt, &mut txn)?;
-    compare_outs(rt, &mut txn)?;
-    compare_entries(rt, &mut txn)?;
-    compare_scripts(rt, alloc, &mut txn)
+    compare(rt, alloc, &mut txn)
 }
 
 // Rows with the first block.
 fn first_rows(alloc: Global) -> Result<VecRows, Fail> {
     let mut rows = VecRows::new(alloc);
     let mut txn = Txn::new(alloc, &mut rows);
-    let first = coinbase_block(alloc, 0)?;
-    let _ = put(alloc, &mut txn, 0, first)?;
+    let _ = put_coinbase(alloc, &mut txn, 0, 0)?;
     let sealed = txn.seal()?;
     rows.commit(&sealed)?;
     Ok(rows)
@@ -199,27 +199,38 @@ fn answer(
     requires money { value ≤ max_money }
 {
     let mut txn = Txn::new(alloc, rows);
-    let second = spending_block(alloc, 1, from, &[(value, 7)])?;
-    put(alloc, &mut txn, 1, second)
+    put_spending(alloc, &mut txn, from, &[(value, 7)])
+}
+
+// A coin of the block before, one of the block itself, and one that isn't there.
+fn check_coins<A: Abort>(rt: &A, alloc: Global, rows: &mut VecRows) -> Result<(), Fail> {
+    let coin = coin_of(alloc, 0)?;
+    let own = coin_of(alloc, 1)?;
+    let none = coin_of(alloc, 9)?;
+    let missing = Err(ConnectFault::MissingCoin { tx: 1, input: 0 });
+    assert!(rt; answer(alloc, rows, &[coin], 1)? == Ok(()));
+    assert!(rt; answer(alloc, rows, &[own], 1)? == Ok(()));
+    assert!(rt; answer(alloc, rows, &[none], 1)? == missing);
+    Ok(())
+}
+
+// All money is made out of one coin; a coin that is spent twice is told before.
+fn check_money<A: Abort>(rt: &A, alloc: Global, rows: &mut VecRows) -> Result<(), Fail> {
+    let coin = coin_of(alloc, 0)?;
+    let most = 2_100_000_000_000_000;
+    let second = Err(ConnectFault::MissingCoin { tx: 1, input: 1 });
+    let money = Err(ConnectFault::Money {
+        supply: 2_100_005_000_000_000,
+    });
+    assert!(rt; answer(alloc, rows, &[coin, coin], most)? == second);
+    assert!(rt; answer(alloc, rows, &[coin], most)? == money);
+    Ok(())
 }
 
 fn faults<A: Abort>(rt: &A, alloc: Global) -> Result<(), Fail> {
     let mut rows = first_rows(alloc)?;
-    let coin = coin_of(alloc, 0)?;
-    let own = coin_of(alloc, 1)?;
-    let none = coin_of(alloc, 9)?;
-    let most = 2_100_000_000_000_000;
-    let first = Err(ConnectFault::MissingCoin { tx: 1, input: 0 });
-    let second = Err(ConnectFault::MissingCoin { tx: 1, input: 1 });
-    assert!(rt; answer(alloc, &mut rows, &[coin], 1)? == Ok(()));
-    assert!(rt; answer(alloc, &mut rows, &[own], 1)? == Ok(()));
-    assert!(rt; answer(alloc, &mut rows, &[none], 1)? == first);
-    assert!(rt; answer(alloc, &mut rows, &[coin, coin], most)? == second);
-    let money = ConnectFault::Money {
-        supply: 2_100_005_000_000_000,
-    };
-    assert!(rt; answer(alloc, &mut rows, &[coin], most)? == Err(money));
-    Ok(())
+    check_coins(rt, alloc, &mut rows)?;
+    check_money(rt, alloc, &mut rows)
 }
 
 /// All of them.

@@ -3,9 +3,12 @@ ghost use Rattle.std.specs.Prelude.{◌≡◌, ◌<◌, ◌^◌};
 ghost use Rattle.el_row_formats.specs.RowBytes.{FitsBlockRow, FitsTxRow};
 
 use el_base::Hash32;
+use el_chain::ConnectFault;
 use el_outside::Place;
 use el_row_formats::{BlockRow, Table, TxRow};
-use el_rows::{Rows, Txn};
+use el_rows::{Rows, Txn, VecRows};
+use el_script::touch;
+use el_spend::{add_out, spend};
 use el_tx::Outpoint;
 use std::test::Fail;
 
@@ -62,6 +65,40 @@ pub fn block_row(first_tx: u64, txs: u32, sum: u64) -> BlockRow
     }
 }
 
+/// The bytes of a transaction's row, with that link to the next as it is written: the number and 1, or 0 for
+/// none. Its other fields are 0.
+pub fn tx_bytes(k: u8, next: u8) -> [u8; 68] {
+    let mut row = [0; 68];
+    row[0] = k;
+    row[31] = 9;
+    row[64] = next;
+    row
+}
+
+/// The table of that number is full.
+pub fn full(table: u8) -> ConnectFault {
+    ConnectFault::Full {
+        table,
+        rows: 4_294_967_295,
+    }
+}
+
+/// The bytes of the row of that number, which the table has.
+pub fn row_at<const N: usize>(
+    txn: &mut Txn<'_, VecRows>,
+    table: Table,
+    n: u64,
+) -> Result<[u8; N], Fail>
+    ensures { txn.new.rows.ghost_name ≡ txn.old.rows.ghost_name }
+{
+    if n >= txn.count(table) || table.size() != N {
+        return Err(Fail::new("no such row"));
+    }
+    let mut bytes = [0; N];
+    txn.get(table, n, &mut bytes)?;
+    Ok(bytes)
+}
+
 /// One block more.
 pub fn add_block<R: Rows>(txn: &mut Txn<'_, R>, row: &BlockRow) -> Result<(), Fail>
     requires { FitsBlockRow row.now }
@@ -81,5 +118,36 @@ pub fn add_heads<R: Rows>(txn: &mut Txn<'_, R>, count: u64) -> Result<(), Fail>
         txn.append(Table::TxHeads, &[0; 4])?;
         txn.append(Table::ScriptHeads, &[0; 4])?;
     }
+    Ok(())
+}
+
+/// The transaction of that number has one output more, of that index, value and script hash.
+pub fn fund(
+    txn: &mut Txn<'_, VecRows>,
+    tx: u64,
+    index: u32,
+    value: u64,
+    script: u8,
+) -> Result<(), Fail>
+    requires few { tx < 2 ^ 32 }
+    ensures { txn.new.rows.ghost_name ≡ txn.old.rows.ghost_name }
+{
+    let number = touch(txn, &hash(script), tx)?;
+    if number >= txn.count(Table::Scripts) {
+        return Err(Fail::new("no such script"));
+    }
+    add_out(txn, tx, index, value, number)?;
+    Ok(())
+}
+
+/// The transaction of that number spends the output of that txid and index, of that script hash.
+pub fn take(txn: &mut Txn<'_, VecRows>, tx: u64, k: u8, index: u32, script: u8) -> Result<(), Fail>
+    requires few { tx < 2 ^ 32 }
+    ensures { txn.new.rows.ghost_name ≡ txn.old.rows.ghost_name }
+{
+    if spend(txn, &outpoint(k, index), tx)?.is_none() {
+        return Err(Fail::new("nothing was spent"));
+    }
+    touch(txn, &hash(script), tx)?;
     Ok(())
 }

@@ -3,8 +3,9 @@ ghost use Rattle.std.specs.Prelude.{◌≡◌, ◌≤◌, length};
 ghost use Rattle.el_tx.specs.Encoding.{max_money};
 ghost use Rattle.el_gen.specs.Generated.{given};
 
-use crate::blocks_put::{coin_of, coinbase_block, put, spending_block};
+use crate::blocks_put::{coin_of, put_coinbase, put_spending};
 use crate::failing_rows::FailingRows;
+use crate::fixtures::full;
 use el_chain::ConnectFault;
 use el_rows::Txn;
 use el_tx::Outpoint;
@@ -24,9 +25,8 @@ fn answer(
     requires outputs { 1 ≤ length to.now }
     requires money { given to.now ≤ max_money }
 {
-    let txs = spending_block(alloc, 1, from, to)?;
     let mut txn = Txn::new(alloc, &mut rows);
-    put(alloc, &mut txn, 1, txs)
+    put_spending(alloc, &mut txn, from, to)
 }
 
 // A store of one block whose table of that number has room for so many rows more.
@@ -34,15 +34,12 @@ fn store(table: u8, left: u64) -> FailingRows {
     FailingRows::of_a_block(5_000_000_000).with_room(table, left)
 }
 
-fn two(table: u8, left: u64, other: u8, other_left: u64) -> FailingRows {
-    store(table, left).with_room(other, other_left)
-}
-
-fn full_fault(table: u8) -> Result<(), ConnectFault> {
-    Err(ConnectFault::Full {
-        table,
-        rows: 4_294_967_295,
-    })
+// One whose device fails.
+fn failing_store() -> FailingRows {
+    FailingRows {
+        left: 0,
+        ..store(1, 0)
+    }
 }
 
 fn at_the_limit<A: Abort>(rt: &A, alloc: Global) -> Result<(), Fail> {
@@ -50,28 +47,47 @@ fn at_the_limit<A: Abort>(rt: &A, alloc: Global) -> Result<(), Fail> {
     let none = coin_of(alloc, 9)?;
     let to = [(1, 7)];
     let second = Err(ConnectFault::MissingCoin { tx: 1, input: 1 });
-    let failing = FailingRows {
-        left: 0,
-        ..store(1, 0)
-    };
-    assert!(rt; answer(alloc, store(1, 0), &[none], &to)? == full_fault(1));
-    assert!(rt; answer(alloc, store(5, 0), &[own], &to)? == full_fault(5));
+    let failed = Err(ConnectFault::DiskFailed);
+    assert!(rt; answer(alloc, store(1, 0), &[none], &to)? == Err(full(1)));
+    assert!(rt; answer(alloc, store(5, 0), &[own], &to)? == Err(full(5)));
     assert!(rt; answer(alloc, store(5, 0), &[own, none], &to)? == second);
-    assert!(rt; answer(alloc, failing, &[own], &to)? == Err(ConnectFault::DiskFailed));
+    assert!(rt; answer(alloc, failing_store(), &[own], &to)? == failed);
     Ok(())
 }
 
+// Two tables by their numbers, each with its room, the script that is paid, and the table that is full.
+type Limit = ([(u8, u64); 2], u32, Option<u8>);
+
 // The coinbase takes a place for its script hash, and one for its entry.
+const LIMITS: [Limit; 6] = [
+    ([(6, 1), (6, 1)], 7, Some(6)),
+    ([(8, 1), (8, 1)], 101, Some(8)),
+    ([(8, 1), (6, 1)], 7, Some(6)),
+    ([(6, 2), (8, 2)], 7, Some(8)),
+    ([(6, 2), (8, 3)], 7, None),
+    ([(6, 1), (8, 2)], 101, None),
+];
+
+// How the block is answered that spends the coin and pays twice to the script.
+fn answer_at(
+    alloc: Global,
+    limit: &Limit,
+    coin: Outpoint,
+) -> Result<Result<(), ConnectFault>, Fail> {
+    let [(one, left), (other, other_left)] = limit.0;
+    let rows = store(one, left).with_room(other, other_left);
+    answer(alloc, rows, &[coin], &[(1, limit.1), (2, limit.1)])
+}
+
 fn scripts_at_the_limit<A: Abort>(rt: &A, alloc: Global) -> Result<(), Fail> {
-    let own = [coin_of(alloc, 1)?];
-    let new = [(1, 7), (2, 7)];
-    let old = [(1, 101), (2, 101)];
-    assert!(rt; answer(alloc, store(6, 1), &own, &new)? == full_fault(6));
-    assert!(rt; answer(alloc, store(8, 1), &own, &old)? == full_fault(8));
-    assert!(rt; answer(alloc, two(8, 1, 6, 1), &own, &new)? == full_fault(6));
-    assert!(rt; answer(alloc, two(6, 2, 8, 2), &own, &new)? == full_fault(8));
-    assert!(rt; answer(alloc, two(6, 2, 8, 3), &own, &new)? == Ok(()));
-    assert!(rt; answer(alloc, two(6, 1, 8, 2), &own, &old)? == Ok(()));
+    let own = coin_of(alloc, 1)?;
+    for limit in &LIMITS {
+        let wanted = match limit.2 {
+            Some(table) => Err(full(table)),
+            None => Ok(()),
+        };
+        assert!(rt; answer_at(alloc, limit, own)? == wanted);
+    }
     Ok(())
 }
 
@@ -99,9 +115,8 @@ fn same_txid<A: Abort>(rt: &A, alloc: Global) -> Result<(), Fail> {
     let money = Err(ConnectFault::Money {
         supply: 2_100_005_000_000_000,
     });
-    for (height, wanted) in [(1, Ok(())), (1, full_fault(2)), (2, money)] {
-        let txs = coinbase_block(alloc, height)?;
-        assert!(rt; put(alloc, &mut txn, height, txs)? == wanted);
+    for (height, wanted) in [(1, Ok(())), (1, Err(full(2))), (2, money)] {
+        assert!(rt; put_coinbase(alloc, &mut txn, height, height)? == wanted);
     }
     Ok(())
 }

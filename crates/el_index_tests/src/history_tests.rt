@@ -3,7 +3,7 @@
 ghost use Rattle.std.specs.Prelude.{◌≡◌, ◌<◌, ◌^◌};
 
 use crate::failing_rows::FailingRows;
-use crate::fixtures::{add_heads, hash, outpoint, tx_row};
+use crate::fixtures::{add_heads, fund, hash, outpoint, take, tx_row};
 use el_base::Hash32;
 use el_chain::{Coin, Entry};
 use el_model::QueryFault;
@@ -11,8 +11,6 @@ use el_position::add_tx;
 use el_queries::{balance, history, unspent};
 use el_row_formats::{EntryRow, ScriptRow, Table};
 use el_rows::{Rows, Txn, VecRows};
-use el_script::touch;
-use el_spend::{add_out, spend};
 use std::alloc::Global;
 use std::process::Abort;
 use std::test::Fail;
@@ -44,35 +42,29 @@ const CHAIN: [Made; 3] = [
     (12, 2, &[(11, 1, 3)], &[(25, 2), (5, 1), (6, 1)]),
 ];
 
-// Inputs come before outputs, as where a block is connected.
 fn add_inputs(txn: &mut Txn<'_, VecRows>, n: u64, spent: &[(u8, u32, u8)]) -> Result<(), Fail>
     requires few { n < 2 ^ 32 }
     ensures { txn.new.rows.ghost_name ≡ txn.old.rows.ghost_name }
 {
     for (k, index, script) in spent {
-        spend(txn, &outpoint(*k, *index), n)?;
-        touch(txn, &hash(*script), n)?;
+        take(txn, n, *k, *index, *script)?;
     }
     Ok(())
 }
 
-fn add_output(
-    txn: &mut Txn<'_, VecRows>,
-    n: u64,
-    index: u32,
-    value: u64,
-    script: u8,
-) -> Result<(), Fail>
+fn add_outputs(txn: &mut Txn<'_, VecRows>, n: u64, made: &[(u64, u8)]) -> Result<(), Fail>
     requires few { n < 2 ^ 32 }
     ensures { txn.new.rows.ghost_name ≡ txn.old.rows.ghost_name }
 {
-    let number = touch(txn, &hash(script), n)?;
-    if number < 4_294_967_295 {
-        add_out(txn, n, index, value, number)?;
+    let mut index = 0u32;
+    for (value, script) in made {
+        fund(txn, n, index, *value, *script)?;
+        index = index.saturating_add(1);
     }
     Ok(())
 }
 
+// Inputs come before outputs, as where a block is connected.
 fn add_made(txn: &mut Txn<'_, VecRows>, made: &Made) -> Result<(), Fail>
     ensures { txn.new.rows.ghost_name ≡ txn.old.rows.ghost_name }
 {
@@ -83,12 +75,7 @@ fn add_made(txn: &mut Txn<'_, VecRows>, made: &Made) -> Result<(), Fail>
         return Err(Fail::new("too many outputs"));
     };
     add_tx(txn, &tx_row(made.0, made.1, 81, first, outputs))?;
-    let mut index = 0u32;
-    for (value, script) in made.3 {
-        add_output(txn, n, index, *value, *script)?;
-        index = index.saturating_add(1);
-    }
-    Ok(())
+    add_outputs(txn, n, made.3)
 }
 
 // What is found of a script hash.
@@ -161,11 +148,18 @@ fn by_hand<A: Abort>(rt: &A, alloc: Global) -> Result<(), Fail> {
     let mut txn = Txn::new(alloc, &mut rows);
     // where there is nothing, nothing is found
     compare(rt, alloc, &mut txn, &none_of(1))?;
-    add_heads(&mut txn, 2)?;
-    for made in &CHAIN {
-        add_made(&mut txn, made)?;
-    }
+    add_chain(&mut txn)?;
     compare_all(rt, alloc, &mut txn)
+}
+
+fn add_chain(txn: &mut Txn<'_, VecRows>) -> Result<(), Fail>
+    ensures { txn.new.rows.ghost_name ≡ txn.old.rows.ghost_name }
+{
+    add_heads(txn, 2)?;
+    for made in &CHAIN {
+        add_made(txn, made)?;
+    }
+    Ok(())
 }
 
 // A script in the one bucket whose link is to itself, as is that of its entry.
@@ -176,7 +170,7 @@ fn add_rounds<R: Rows>(txn: &mut Txn<'_, R>, tx: u64) -> Result<(), Fail>
     txn.append(Table::ScriptHeads, &[1, 0, 0, 0])?;
     let mut bytes = [0; 52];
     let row = ScriptRow {
-        script: Hash32([1; 32]),
+        script: hash(1),
         next: Some(0),
         last: Some(0),
         entries: 1,
@@ -195,51 +189,76 @@ fn add_rounds<R: Rows>(txn: &mut Txn<'_, R>, tx: u64) -> Result<(), Fail>
     Ok(())
 }
 
+// What is found of the script 1, and that nothing is of another.
+fn compare_both<A: Abort>(
+    rt: &A,
+    alloc: Global,
+    txn: &mut Txn<'_, VecRows>,
+    entries: &[Entry],
+) -> Result<(), Fail>
+    ensures { txn.new.rows.ghost_name ≡ txn.old.rows.ghost_name }
+{
+    let first = Wanted {
+        entries,
+        balance: 8,
+        ..none_of(1)
+    };
+    compare(rt, alloc, txn, &first)?;
+    compare(rt, alloc, txn, &none_of(2))
+}
+
+// The entry's transaction isn't there, and then it is, but its outputs aren't.
 fn no_chain<A: Abort>(rt: &A, alloc: Global) -> Result<(), Fail> {
     let mut rows = VecRows::new(alloc);
     let mut txn = Txn::new(alloc, &mut rows);
     add_rounds(&mut txn, 0)?;
-    let there = Hash32([1; 32]);
-    let other = Hash32([2; 32]);
-    // its transaction isn't there
-    assert!(rt; history(alloc, &mut txn, &there)?.is_empty());
-    assert!(rt; unspent(alloc, &mut txn, &there)?.is_empty());
-    assert!(rt; history(alloc, &mut txn, &other)?.is_empty());
-    assert!(rt; balance(&mut txn, &there) == Ok(8));
-    assert!(rt; balance(&mut txn, &other) == Ok(0));
-    // and then it is, but its outputs aren't
+    compare_both(rt, alloc, &mut txn, &[])?;
     let mut bytes = [0; 68];
     tx_row(7, 4, 81, 6, 9).write(&mut bytes);
     txn.append(Table::Txs, &bytes)?;
-    let found = history(alloc, &mut txn, &there)?;
-    assert!(rt; found.as_slice() == [entry(4, 7)].as_slice());
-    assert!(rt; unspent(alloc, &mut txn, &there)?.is_empty());
-    Ok(())
+    compare_both(rt, alloc, &mut txn, &[entry(4, 7)])
+}
+
+// The script hash of rows of ones.
+const OF_ONES: Hash32 = Hash32([1; 32]);
+
+fn balance_fails(alloc: Global, left: u64) -> bool {
+    let mut rows = FailingRows::of_ones(left);
+    let mut txn = Txn::new(alloc, &mut rows);
+    balance(&mut txn, &OF_ONES).is_err()
+}
+
+fn history_fails(alloc: Global, left: u64) -> bool {
+    let mut rows = FailingRows::of_ones(left);
+    let mut txn = Txn::new(alloc, &mut rows);
+    matches!(
+        history(alloc, &mut txn, &OF_ONES),
+        Err(QueryFault::DiskFailed)
+    )
+}
+
+fn unspent_fails(alloc: Global, left: u64) -> bool {
+    let mut rows = FailingRows::of_ones(left);
+    let mut txn = Txn::new(alloc, &mut rows);
+    matches!(
+        unspent(alloc, &mut txn, &OF_ONES),
+        Err(QueryFault::DiskFailed)
+    )
 }
 
 // The head, the script, its entry, the transaction and an output are read, in this order.
-fn failing<A: Abort>(rt: &A, alloc: Global) -> Result<(), Fail> {
-    let script = Hash32([1; 32]);
+fn failing<A: Abort>(rt: &A, alloc: Global) {
     for left in 0..5 {
-        let mut rows = FailingRows::of_ones(left);
-        let mut txn = Txn::new(alloc, &mut rows);
-        let found = balance(&mut txn, &script);
-        assert!(rt; found.is_err() == (left < 2));
-        let mut rows = FailingRows::of_ones(left);
-        let mut txn = Txn::new(alloc, &mut rows);
-        let found = history(alloc, &mut txn, &script);
-        assert!(rt; matches!(found, Err(QueryFault::DiskFailed)) == (left < 4));
-        let mut rows = FailingRows::of_ones(left);
-        let mut txn = Txn::new(alloc, &mut rows);
-        let found = unspent(alloc, &mut txn, &script);
-        assert!(rt; matches!(found, Err(QueryFault::DiskFailed)));
+        assert!(rt; balance_fails(alloc, left) == (left < 2));
+        assert!(rt; history_fails(alloc, left) == (left < 4));
+        assert!(rt; unspent_fails(alloc, left));
     }
-    Ok(())
 }
 
 /// All of them.
 pub fn all<A: Abort>(rt: &A, alloc: Global) -> Result<(), Fail> {
     by_hand(rt, alloc)?;
     no_chain(rt, alloc)?;
-    failing(rt, alloc)
+    failing(rt, alloc);
+    Ok(())
 }

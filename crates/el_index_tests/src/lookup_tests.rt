@@ -56,7 +56,7 @@ fn block(h: usize, first_tx: u64, txs: u32) -> Result<BlockRow, Fail>
     })
 }
 
-fn add_script<R: Rows>(txn: &mut Txn<'_, R>, k: u8) -> Result<(), Fail>
+fn add_script(txn: &mut Txn<'_, VecRows>, k: u8) -> Result<(), Fail>
     ensures { txn.new.rows.ghost_name ≡ txn.old.rows.ghost_name }
 {
     let row = ScriptRow {
@@ -72,15 +72,24 @@ fn add_script<R: Rows>(txn: &mut Txn<'_, R>, k: u8) -> Result<(), Fail>
     Ok(())
 }
 
-// Seven buckets of transactions, the script hashes 100 and 101, and two blocks, of one transaction and three.
-fn begin<R: Rows>(txn: &mut Txn<'_, R>) -> Result<(), Fail>
+// Two blocks, of one transaction and three.
+fn add_blocks(txn: &mut Txn<'_, VecRows>) -> Result<(), Fail>
+    ensures { txn.new.rows.ghost_name ≡ txn.old.rows.ghost_name }
+{
+    let first = block(0, 0, 1)?;
+    add_block(txn, &first)?;
+    let second = block(1, 1, 3)?;
+    add_block(txn, &second)
+}
+
+// Seven buckets of transactions, the script hashes 100 and 101, and the blocks.
+fn begin(txn: &mut Txn<'_, VecRows>) -> Result<(), Fail>
     ensures { txn.new.rows.ghost_name ≡ txn.old.rows.ghost_name }
 {
     add_heads(txn, 7)?;
     add_script(txn, 100)?;
     add_script(txn, 101)?;
-    add_block(txn, &block(0, 0, 1)?)?;
-    add_block(txn, &block(1, 1, 3)?)
+    add_blocks(txn)
 }
 
 // A transaction with one output more: txid, height, first byte, value and script of the output.
@@ -109,31 +118,65 @@ fn fill<A: Abort>(rt: &A, txn: &mut Txn<'_, VecRows>) -> Result<(), Fail>
     Ok(())
 }
 
+fn is_shown(hash: &Hash32, shown: &str) -> bool {
+    Hash32::from_shown(shown) == Ok(*hash)
+}
+
 // Whether the first blocks have these hashes.
 fn are_shown(found: &[Hash32]) -> bool {
-    for (hash, shown) in found.iter().zip(SHOWN) {
-        if Hash32::from_shown(shown) != Ok(*hash) {
-            return false;
-        }
+    let mut same = true;
+    for (hash, shown) in found.iter().zip(SHOWN.iter()) {
+        same = same && is_shown(hash, shown);
     }
-    true
+    same
+}
+
+// Whether the block of that height is there, has its header and place, and it and those before have their
+// hashes.
+fn has_block(alloc: Global, txn: &mut Txn<'_, VecRows>, h: u32) -> Result<bool, Fail>
+    requires there { h < 2 }
+    ensures { txn.new.rows.ghost_name ≡ txn.old.rows.ghost_name }
+{
+    if u64::from(h) >= txn.count(Table::Blocks) {
+        return Ok(false);
+    }
+    let wanted = header_of(HEADERS[h as usize])?;
+    let is_same = header(txn, h) == Ok(wanted) && place(txn, h) == Ok(PLACES[h as usize]);
+    let found = hashes(alloc, txn, h)?;
+    Ok(is_same && are_shown(found.as_slice()) && found.len() == h as usize + 1)
+}
+
+// The txids of the block of that height, which is there.
+fn txids_at(alloc: Global, txn: &mut Txn<'_, VecRows>, h: u32) -> Result<Vec<Hash32>, Fail>
+    ensures { txn.new.rows.ghost_name ≡ txn.old.rows.ghost_name }
+{
+    if u64::from(h) >= txn.count(Table::Blocks) {
+        return Err(Fail::new("no such block"));
+    }
+    let txids = block_txids(alloc, txn, h)?;
+    Ok(txids)
+}
+
+fn has_txids(
+    alloc: Global,
+    txn: &mut Txn<'_, VecRows>,
+    h: u32,
+    wanted: &[Hash32],
+) -> Result<bool, Fail>
+    ensures { txn.new.rows.ghost_name ≡ txn.old.rows.ghost_name }
+{
+    let found = txids_at(alloc, txn, h)?;
+    Ok(found.as_slice() == wanted)
 }
 
 fn check_blocks<A: Abort>(rt: &A, alloc: Global, txn: &mut Txn<'_, VecRows>) -> Result<(), Fail>
     ensures { txn.new.rows.ghost_name ≡ txn.old.rows.ghost_name }
 {
-    for h in 0..2u32 {
-        assert!(rt; u64::from(h) < txn.count(Table::Blocks));
-        assert!(rt; header(txn, h)? == header_of(HEADERS[h as usize])?);
-        assert!(rt; place(txn, h) == Ok(PLACES[h as usize]));
-        let found = hashes(alloc, txn, h)?;
-        assert!(rt; are_shown(found.as_slice()) && found.len() == h as usize + 1);
-    }
+    assert!(rt; has_block(alloc, txn, 0)?);
+    assert!(rt; has_block(alloc, txn, 1)?);
     assert!(rt; txn.count(Table::Blocks) == 2);
-    let ids = block_txids(alloc, txn, 0)?;
-    assert!(rt; ids.as_slice() == [hash(1)].as_slice());
-    let ids = block_txids(alloc, txn, 1)?;
-    assert!(rt; ids.as_slice() == [hash(1), hash(8), hash(2)].as_slice());
+    assert!(rt; has_txids(alloc, txn, 0, &[hash(1)])?);
+    assert!(rt; has_txids(alloc, txn, 1, &[hash(1), hash(8), hash(2)])?);
     Ok(())
 }
 
@@ -150,7 +193,7 @@ const SPOTS: [(u8, Option<(u32, u32)>); 5] = [
 fn check_spots<A: Abort>(rt: &A, txn: &mut Txn<'_, VecRows>)
     ensures { txn.new.rows.ghost_name ≡ txn.old.rows.ghost_name }
 {
-    for (k, at) in SPOTS {
+    for (k, at) in &SPOTS {
         let spot = at.map(|(pos, start)| Spot {
             height: 1,
             pos,
@@ -158,7 +201,7 @@ fn check_spots<A: Abort>(rt: &A, txn: &mut Txn<'_, VecRows>)
             start,
             len: 60,
         });
-        assert!(rt; find_tx(txn, &hash(k)) == Ok(spot));
+        assert!(rt; find_tx(txn, &hash(*k)) == Ok(spot));
     }
 }
 
@@ -173,32 +216,45 @@ const OUTPUTS: [Known; 5] = [
     (15, 0, None, None),
 ];
 
+// Whether the output has that coin, or was spent by that.
+fn is_known(txn: &mut Txn<'_, VecRows>, known: &Known) -> bool
+    ensures { txn.new.rows.ghost_name ≡ txn.old.rows.ghost_name }
+{
+    let o = outpoint(known.0, known.1);
+    let unspent = known.2.map(|(value, script)| Coin {
+        outpoint: o,
+        value,
+        script: hash(script),
+        height: 1,
+    });
+    let spent = known.3.map(|by| Entry {
+        height: 1,
+        txid: hash(by),
+    });
+    coin(txn, &o) == Ok(unspent) && spender(txn, &o) == Ok(spent)
+}
+
 fn check_outputs<A: Abort>(rt: &A, txn: &mut Txn<'_, VecRows>)
     ensures { txn.new.rows.ghost_name ≡ txn.old.rows.ghost_name }
 {
-    for (k, index, unspent, spent) in OUTPUTS {
-        let o = outpoint(k, index);
-        let known = unspent.map(|(value, script)| Coin {
-            outpoint: o,
-            value,
-            script: hash(script),
-            height: 1,
-        });
-        assert!(rt; coin(txn, &o) == Ok(known));
-        let entry = spent.map(|by| Entry {
-            height: 1,
-            txid: hash(by),
-        });
-        assert!(rt; spender(txn, &o) == Ok(entry));
+    for known in &OUTPUTS {
+        assert!(rt; is_known(txn, known));
     }
+}
+
+// Where there are no rows nothing is found.
+fn find_nothing<A: Abort>(rt: &A, txn: &mut Txn<'_, VecRows>)
+    ensures { txn.new.rows.ghost_name ≡ txn.old.rows.ghost_name }
+{
+    assert!(rt; find_tx(txn, &hash(1)) == Ok(None));
+    assert!(rt; coin(txn, &outpoint(1, 0)) == Ok(None));
+    assert!(rt; spender(txn, &outpoint(1, 0)) == Ok(None));
 }
 
 fn look_up<A: Abort>(rt: &A, alloc: Global) -> Result<(), Fail> {
     let mut rows = VecRows::new(alloc);
     let mut txn = Txn::new(alloc, &mut rows);
-    assert!(rt; find_tx(&mut txn, &hash(1)) == Ok(None));
-    assert!(rt; coin(&mut txn, &outpoint(1, 0)) == Ok(None));
-    assert!(rt; spender(&mut txn, &outpoint(1, 0)) == Ok(None));
+    find_nothing(rt, &mut txn);
     fill(rt, &mut txn)?;
     check_blocks(rt, alloc, &mut txn)?;
     check_spots(rt, &mut txn);
@@ -233,7 +289,7 @@ fn state(spent: bool) -> State
     }
 }
 
-fn odd_rows<R: Rows>(txn: &mut Txn<'_, R>, odd: &Odd) -> Result<(), Fail>
+fn add_odd(txn: &mut Txn<'_, VecRows>, odd: &Odd) -> Result<(), Fail>
     ensures { txn.new.rows.ghost_name ≡ txn.old.rows.ghost_name }
 {
     txn.append(Table::TxHeads, &[1, 0, 0, 0])?;
@@ -243,10 +299,10 @@ fn odd_rows<R: Rows>(txn: &mut Txn<'_, R>, odd: &Odd) -> Result<(), Fail>
     let mut bytes = [0; 68];
     tx_row(1, odd.1, 81, 0, 1).write(&mut bytes);
     txn.append(Table::Txs, &bytes)?;
-    Ok(())
+    add_odd_output(txn, odd.2)
 }
 
-fn odd_output<R: Rows>(txn: &mut Txn<'_, R>, odd: (u32, u32, bool)) -> Result<(), Fail>
+fn add_odd_output(txn: &mut Txn<'_, VecRows>, odd: (u32, u32, bool)) -> Result<(), Fail>
     ensures { txn.new.rows.ghost_name ≡ txn.old.rows.ghost_name }
 {
     let row = OutRow {
@@ -261,20 +317,33 @@ fn odd_output<R: Rows>(txn: &mut Txn<'_, R>, odd: (u32, u32, bool)) -> Result<()
     Ok(())
 }
 
+fn check_found<A: Abort>(
+    rt: &A,
+    alloc: Global,
+    txn: &mut Txn<'_, VecRows>,
+    odd: &Odd,
+) -> Result<(), Fail>
+    ensures { txn.new.rows.ghost_name ≡ txn.old.rows.ghost_name }
+{
+    let ids = txids_at(alloc, txn, 0)?;
+    assert!(rt; ids.len() == odd.3);
+    let pos = match find_tx(txn, &hash(1))? {
+        Some(spot) => Some(spot.pos),
+        None => None,
+    };
+    assert!(rt; pos == odd.4);
+    let found = coin(txn, &outpoint(1, 0))?;
+    assert!(rt; found.is_some() == odd.5);
+    assert!(rt; spender(txn, &outpoint(1, 0)) == Ok(None));
+    Ok(())
+}
+
 fn check_odd<A: Abort>(rt: &A, alloc: Global, odd: &Odd) -> Result<(), Fail> {
     let mut rows = VecRows::new(alloc);
     let mut txn = Txn::new(alloc, &mut rows);
-    odd_rows(&mut txn, odd)?;
-    odd_output(&mut txn, odd.2)?;
+    add_odd(&mut txn, odd)?;
     assert!(rt; txn.count(Table::Blocks) == 1);
-    let ids = block_txids(alloc, &mut txn, 0)?;
-    assert!(rt; ids.len() == odd.3);
-    let spot = find_tx(&mut txn, &hash(1))?;
-    assert!(rt; spot.map(|s| s.pos) == odd.4);
-    let found = coin(&mut txn, &outpoint(1, 0))?;
-    assert!(rt; found.is_some() == odd.5);
-    assert!(rt; spender(&mut txn, &outpoint(1, 0)) == Ok(None));
-    Ok(())
+    check_found(rt, alloc, &mut txn, odd)
 }
 
 fn all_odd<A: Abort>(rt: &A, alloc: Global) -> Result<(), Fail> {
@@ -284,24 +353,32 @@ fn all_odd<A: Abort>(rt: &A, alloc: Global) -> Result<(), Fail> {
     Ok(())
 }
 
-// The block 7 is there, but not its row.
-fn failing_blocks<A: Abort>(rt: &A, alloc: Global) {
-    let mut rows = FailingRows::full(0);
-    let mut txn = Txn::new(alloc, &mut rows);
+// The block 7 is there, but not its row: its header and place can't be read.
+fn failing_blocks<A: Abort>(rt: &A, txn: &mut Txn<'_, FailingRows>)
+    ensures { txn.new.rows.ghost_name ≡ txn.old.rows.ghost_name }
+{
+    assert!(rt; 7 < txn.count(Table::Blocks));
+    assert!(rt; header(txn, 7) == Err(DiskFailed));
+    assert!(rt; 7 < txn.count(Table::Blocks));
+    assert!(rt; place(txn, 7) == Err(DiskFailed));
+}
+
+// Nor can its hash and the txids.
+fn failing_lists<A: Abort>(rt: &A, alloc: Global, txn: &mut Txn<'_, FailingRows>)
+    ensures { txn.new.rows.ghost_name ≡ txn.old.rows.ghost_name }
+{
     let fault = QueryFault::DiskFailed;
     assert!(rt; 7 < txn.count(Table::Blocks));
-    assert!(rt; header(&mut txn, 7) == Err(DiskFailed));
+    assert!(rt; matches!(hashes(alloc, txn, 7), Err(f) if f == fault));
     assert!(rt; 7 < txn.count(Table::Blocks));
-    assert!(rt; place(&mut txn, 7) == Err(DiskFailed));
-    assert!(rt; 7 < txn.count(Table::Blocks));
-    assert!(rt; matches!(hashes(alloc, &mut txn, 7), Err(f) if f == fault));
-    assert!(rt; 7 < txn.count(Table::Blocks));
-    assert!(rt; matches!(block_txids(alloc, &mut txn, 7), Err(f) if f == fault));
+    assert!(rt; matches!(block_txids(alloc, txn, 7), Err(f) if f == fault));
 }
 
 fn failing<A: Abort>(rt: &A, alloc: Global) {
     let mut rows = FailingRows::full(0);
     let mut txn = Txn::new(alloc, &mut rows);
+    failing_blocks(rt, &mut txn);
+    failing_lists(rt, alloc, &mut txn);
     assert!(rt; find_tx(&mut txn, &hash(1)) == Err(DiskFailed));
     assert!(rt; coin(&mut txn, &outpoint(1, 0)) == Err(DiskFailed));
     assert!(rt; spender(&mut txn, &outpoint(1, 0)) == Err(DiskFailed));
@@ -311,7 +388,6 @@ fn failing<A: Abort>(rt: &A, alloc: Global) {
 pub fn all<A: Abort>(rt: &A, alloc: Global) -> Result<(), Fail> {
     look_up(rt, alloc)?;
     all_odd(rt, alloc)?;
-    failing_blocks(rt, alloc);
     failing(rt, alloc);
     Ok(())
 }

@@ -3,7 +3,7 @@ ghost use Rattle.std.specs.Prelude.{◌≡◌, ◌<◌, ◌^◌, ◌+◌, max, m
 ghost use Rattle.el_row_formats.specs.RowBytes.{link_number, FitsTxRow};
 
 use crate::failing_rows::FailingRows;
-use crate::fixtures::{add_heads, hash};
+use crate::fixtures::{add_heads, full, hash, tx_bytes};
 use el_chain::ConnectFault;
 use el_outside::DiskFailed;
 use el_position::{add_tx, newest, take_back_tx};
@@ -45,15 +45,42 @@ fn last_place(list: &[u8], k: u8) -> Option<u64> {
     found
 }
 
-// The newest of each txid is that of the list.
-fn compare<A: Abort>(rt: &A, txn: &mut Txn<'_, VecRows>, list: &[u8]) -> Result<(), Fail>
+// Whether there are so many transactions as the list has, and the newest of each txid is the list's.
+fn is_as(txn: &mut Txn<'_, VecRows>, list: &[u8]) -> bool
     ensures { txn.new.rows.ghost_name ≡ txn.old.rows.ghost_name }
 {
-    assert_eq!(rt; txn.count(Table::Txs), list.len() as u64);
     for k in 0..=255 {
-        assert!(rt; newest(txn, &hash(k)) == Ok(last_place(list, k)));
+        if newest(txn, &hash(k)) != Ok(last_place(list, k)) {
+            return false;
+        }
+    }
+    txn.count(Table::Txs) == list.len() as u64
+}
+
+// Three hundred transactions more.
+fn add_long<A: Abort>(rt: &A, txn: &mut Txn<'_, VecRows>, list: &mut Vec<u8>) -> Result<(), Fail>
+    ensures { txn.new.rows.ghost_name ≡ txn.old.rows.ghost_name }
+{
+    for i in 0..300 {
+        let k = (i * 7 % 211) as u8;
+        assert!(rt; add_tx(txn, &tx(k, LINK)) == Ok(i));
+        list.push(k)?;
+        assert!(rt; newest(txn, &hash(k)) == Ok(Some(i)));
+        assert!(rt; i % 20 != 0 || is_as(txn, list));
     }
     Ok(())
+}
+
+// One step back more than there are transactions.
+fn take_back_long<A: Abort>(rt: &A, txn: &mut Txn<'_, VecRows>, list: &mut Vec<u8>)
+    ensures { txn.new.rows.ghost_name ≡ txn.old.rows.ghost_name }
+{
+    for i in 0..301 {
+        assert!(rt; take_back_tx(txn) == Ok(()));
+        let k = list.pop().unwrap_or(0);
+        assert!(rt; newest(txn, &hash(k)) == Ok(last_place(list, k)));
+        assert!(rt; i % 20 != 0 || is_as(txn, list));
+    }
 }
 
 fn long_run<A: Abort>(rt: &A, alloc: Global) -> Result<(), Fail> {
@@ -61,33 +88,9 @@ fn long_run<A: Abort>(rt: &A, alloc: Global) -> Result<(), Fail> {
     let mut txn = Txn::new(alloc, &mut rows);
     add_heads(&mut txn, 7)?;
     let mut list = Vec::new(alloc);
-    for i in 0..300 {
-        let k = (i * 7 % 211) as u8;
-        assert!(rt; add_tx(&mut txn, &tx(k, LINK)) == Ok(i));
-        list.push(k)?;
-        assert!(rt; newest(&mut txn, &hash(k)) == Ok(Some(i)));
-        if i % 20 == 0 {
-            compare(rt, &mut txn, &list)?;
-        }
-    }
-    for i in 0..301 {
-        assert!(rt; take_back_tx(&mut txn) == Ok(()));
-        let k = list.pop().unwrap_or(0);
-        assert!(rt; newest(&mut txn, &hash(k)) == Ok(last_place(&list, k)));
-        if i % 20 == 0 {
-            compare(rt, &mut txn, &list)?;
-        }
-    }
+    add_long(rt, &mut txn, &mut list)?;
+    take_back_long(rt, &mut txn, &mut list);
     Ok(())
-}
-
-// A row's bytes, with that link to the next as it is written: the number and 1, or 0 for none.
-fn row_bytes(k: u8, next: u8) -> [u8; 68] {
-    let mut row = [0; 68];
-    row[0] = k;
-    row[31] = 9;
-    row[64] = next;
-    row
 }
 
 // Rows that stand for nothing: the written links of the rows 0 and 1, of those numbers; the one head; the
@@ -118,19 +121,36 @@ const ODD: [Odd; 6] = [
     ([0, 1], [255; 4], [None, None, None], [Some(0), None]),
 ];
 
+// Whether the newest transactions of 0, 1 and so on are these.
+fn are_newest(txn: &mut Txn<'_, VecRows>, wanted: &[Option<u64>]) -> bool
+    ensures { txn.new.rows.ghost_name ≡ txn.old.rows.ghost_name }
+{
+    let mut k = 0u8;
+    let mut same = true;
+    for number in wanted {
+        let found = newest(txn, &hash(k));
+        same = same && found == Ok(*number);
+        k = k.saturating_add(1);
+    }
+    same
+}
+
+fn add_odd(txn: &mut Txn<'_, VecRows>, odd: &Odd) -> Result<(), Fail>
+    ensures { txn.new.rows.ghost_name ≡ txn.old.rows.ghost_name }
+{
+    txn.append(Table::Txs, &tx_bytes(0, odd.0[0]))?;
+    txn.append(Table::Txs, &tx_bytes(1, odd.0[1]))?;
+    txn.append(Table::TxHeads, &odd.1)?;
+    Ok(())
+}
+
 fn check_odd<A: Abort>(rt: &A, alloc: Global, odd: &Odd) -> Result<(), Fail> {
     let mut rows = VecRows::new(alloc);
     let mut txn = Txn::new(alloc, &mut rows);
-    txn.append(Table::Txs, &row_bytes(0, odd.0[0]))?;
-    txn.append(Table::Txs, &row_bytes(1, odd.0[1]))?;
-    txn.append(Table::TxHeads, &odd.1)?;
-    for k in 0..3 {
-        assert!(rt; newest(&mut txn, &hash(k)) == Ok(odd.2[k as usize]));
-    }
+    add_odd(&mut txn, odd)?;
+    assert!(rt; are_newest(&mut txn, &odd.2));
     assert!(rt; take_back_tx(&mut txn) == Ok(()));
-    for k in 0..2 {
-        assert!(rt; newest(&mut txn, &hash(k)) == Ok(odd.3[k as usize]));
-    }
+    assert!(rt; are_newest(&mut txn, &odd.3));
     Ok(())
 }
 
@@ -146,9 +166,9 @@ fn no_heads<A: Abort>(rt: &A, alloc: Global) -> Result<(), Fail> {
     let mut txn = Txn::new(alloc, &mut rows);
     assert!(rt; add_tx(&mut txn, &tx(5, None)) == Ok(0));
     assert!(rt; newest(&mut txn, &hash(5)) == Ok(None));
-    for left in [0, 0] {
+    for _ in 0..2 {
         assert!(rt; take_back_tx(&mut txn) == Ok(()));
-        assert!(rt; txn.count(Table::Txs) == left);
+        assert!(rt; txn.count(Table::Txs) == 0);
     }
     Ok(())
 }
@@ -156,11 +176,7 @@ fn no_heads<A: Abort>(rt: &A, alloc: Global) -> Result<(), Fail> {
 fn at_the_limit<A: Abort>(rt: &A, alloc: Global) -> Result<(), Fail> {
     let mut rows = FailingRows::full(u64::MAX);
     let mut txn = Txn::new(alloc, &mut rows);
-    let fault = ConnectFault::Full {
-        table: 2,
-        rows: 4_294_967_295,
-    };
-    assert!(rt; add_tx(&mut txn, &tx(1, None)) == Err(fault));
+    assert!(rt; add_tx(&mut txn, &tx(1, None)) == Err(full(2)));
     assert!(rt; take_back_tx(&mut txn) == Ok(()));
     assert!(rt; add_tx(&mut txn, &tx(1, None)) == Ok(4_294_967_294));
     Ok(())

@@ -2,7 +2,7 @@
 ghost use Rattle.std.specs.Prelude.{◌≡◌, max, min};
 
 use crate::failing_rows::FailingRows;
-use crate::fixtures::{add_heads, hash};
+use crate::fixtures::{add_heads, full, hash, row_at};
 use el_base::Hash32;
 use el_chain::ConnectFault;
 use el_outside::DiskFailed;
@@ -13,33 +13,51 @@ use std::alloc::Global;
 use std::process::Abort;
 use std::test::Fail;
 
-// The row of a script: its link to the next, its last entry, and how many entries it has.
-fn script_at(
+// A script's link to the next, its last entry, and how many entries it has.
+type Script = (Option<u64>, Option<u64>, u64);
+
+// An entry's transaction, its script, and the entry before.
+type Entry = (u64, u64, Option<u64>);
+
+// Whether there are so many scripts and entries, and the script of that number has that row, or none.
+fn has(
     txn: &mut Txn<'_, VecRows>,
+    counts: [u64; 2],
     n: u64,
-) -> Result<Option<(Option<u64>, Option<u64>, u64)>, Fail>
+    wanted: Option<Script>,
+) -> Result<bool, Fail>
     ensures { txn.new.rows.ghost_name ≡ txn.old.rows.ghost_name }
 {
-    if n >= txn.count(Table::Scripts) {
-        return Ok(None);
+    if [txn.count(Table::Scripts), txn.count(Table::Entries)] != counts {
+        return Ok(false);
     }
-    let mut bytes = [0; 52];
-    txn.get(Table::Scripts, n, &mut bytes)?;
-    let row = ScriptRow::read(&bytes);
-    Ok(Some((row.next, row.last, row.entries)))
+    if n >= txn.count(Table::Scripts) {
+        return Ok(wanted.is_none());
+    }
+    let row = ScriptRow::read(&row_at::<52>(txn, Table::Scripts, n)?);
+    Ok(wanted == Some((row.next, row.last, row.entries)))
 }
 
-// The row of an entry: its transaction, its script, and the entry before.
-fn entry_at(txn: &mut Txn<'_, VecRows>, n: u64) -> Result<Option<(u64, u64, Option<u64>)>, Fail>
+// Whether the entry of that number is there, and is that.
+fn has_entry(txn: &mut Txn<'_, VecRows>, n: u64, wanted: Entry) -> Result<bool, Fail>
     ensures { txn.new.rows.ghost_name ≡ txn.old.rows.ghost_name }
 {
-    if n >= txn.count(Table::Entries) {
-        return Ok(None);
+    let row = EntryRow::read(&row_at::<12>(txn, Table::Entries, n)?);
+    Ok((row.tx, row.script, row.before) == wanted)
+}
+
+// Whether the scripts from that one on have these numbers, or none.
+fn are_found(txn: &mut Txn<'_, VecRows>, first: u8, numbers: &[Option<u64>]) -> bool
+    ensures { txn.new.rows.ghost_name ≡ txn.old.rows.ghost_name }
+{
+    let mut k = first;
+    let mut same = true;
+    for number in numbers {
+        let found = find_script(txn, &hash(k));
+        same = same && found == Ok(*number);
+        k = k.saturating_add(1);
     }
-    let mut bytes = [0; 12];
-    txn.get(Table::Entries, n, &mut bytes)?;
-    let row = EntryRow::read(&bytes);
-    Ok(Some((row.tx, row.script, row.before)))
+    same
 }
 
 // Touches the script by that number where this is asked and it is there, and else by its script hash. It
@@ -62,7 +80,7 @@ fn touch_by(
 
 // Touches in two buckets: the script, the transaction, the number that is answered, how many scripts and
 // entries there are after it, and the script's row.
-type Touched = (u8, u32, u64, [u64; 2], (Option<u64>, Option<u64>, u64));
+type Touched = (u8, u32, u64, [u64; 2], Script);
 
 const TOUCHES: [Touched; 8] = [
     (1, 0, 0, [1, 1], (None, Some(0), 1)),
@@ -80,7 +98,7 @@ const TOUCHES: [Touched; 8] = [
 ];
 
 // The entries after them.
-const ENTRIES: [(u64, u64, Option<u64>); 5] = [
+const ENTRIES: [Entry; 5] = [
     (0, 0, None),
     (0, 1, None),
     (1, 0, Some(0)),
@@ -90,11 +108,7 @@ const ENTRIES: [(u64, u64, Option<u64>); 5] = [
 
 // Steps back: how many scripts and entries are left, the numbers of the scripts 1, 2 and 3, and the row of
 // the first.
-type Back = (
-    [u64; 2],
-    [Option<u64>; 3],
-    Option<(Option<u64>, Option<u64>, u64)>,
-);
+type Back = ([u64; 2], [Option<u64>; 3], Option<Script>);
 
 const BACK: [Back; 6] = [
     (
@@ -109,28 +123,44 @@ const BACK: [Back; 6] = [
     ([0, 0], [None, None, None], None),
 ];
 
+fn touch_all<A: Abort>(rt: &A, txn: &mut Txn<'_, VecRows>, by_number: bool) -> Result<(), Fail>
+    ensures { txn.new.rows.ghost_name ≡ txn.old.rows.ghost_name }
+{
+    for (k, tx, number, counts, row) in &TOUCHES {
+        let touched = touch_by(txn, by_number, *k, *number, *tx);
+        assert!(rt; touched == Ok(*number));
+        assert!(rt; has(txn, *counts, *number, Some(*row))?);
+    }
+    Ok(())
+}
+
+fn check_entries<A: Abort>(rt: &A, txn: &mut Txn<'_, VecRows>) -> Result<(), Fail>
+    ensures { txn.new.rows.ghost_name ≡ txn.old.rows.ghost_name }
+{
+    for (n, entry) in ENTRIES.iter().enumerate() {
+        assert!(rt; has_entry(txn, n as u64, *entry)?);
+    }
+    Ok(())
+}
+
+fn take_back_all<A: Abort>(rt: &A, txn: &mut Txn<'_, VecRows>) -> Result<(), Fail>
+    ensures { txn.new.rows.ghost_name ≡ txn.old.rows.ghost_name }
+{
+    for (counts, numbers, first) in &BACK {
+        assert!(rt; take_back_entry(txn) == Ok(()));
+        assert!(rt; are_found(txn, 1, numbers));
+        assert!(rt; has(txn, *counts, 0, *first)?);
+    }
+    Ok(())
+}
+
 fn touch_and_back<A: Abort>(rt: &A, alloc: Global, by_number: bool) -> Result<(), Fail> {
     let mut rows = VecRows::new(alloc);
     let mut txn = Txn::new(alloc, &mut rows);
     add_heads(&mut txn, 2)?;
-    for (k, tx, number, counts, row) in &TOUCHES {
-        let touched = touch_by(&mut txn, by_number, *k, *number, *tx);
-        assert!(rt; touched == Ok(*number));
-        assert!(rt; [txn.count(Table::Scripts), txn.count(Table::Entries)] == *counts);
-        assert!(rt; script_at(&mut txn, *number)? == Some(*row));
-    }
-    for (n, entry) in ENTRIES.iter().enumerate() {
-        assert!(rt; entry_at(&mut txn, n as u64)? == Some(*entry));
-    }
-    for (counts, numbers, first) in &BACK {
-        assert!(rt; take_back_entry(&mut txn) == Ok(()));
-        assert!(rt; [txn.count(Table::Scripts), txn.count(Table::Entries)] == *counts);
-        assert!(rt; find_script(&mut txn, &hash(1)) == Ok(numbers[0]));
-        assert!(rt; find_script(&mut txn, &hash(2)) == Ok(numbers[1]));
-        assert!(rt; find_script(&mut txn, &hash(3)) == Ok(numbers[2]));
-        assert!(rt; script_at(&mut txn, 0)? == *first);
-    }
-    Ok(())
+    touch_all(rt, &mut txn, by_number)?;
+    check_entries(rt, &mut txn)?;
+    take_back_all(rt, &mut txn)
 }
 
 // Touches and steps back as plain lists have them.
@@ -141,12 +171,13 @@ struct Plain {
 }
 
 fn place(scripts: &[u8], k: u8) -> Option<u64> {
+    let mut found = None;
     for (i, x) in scripts.iter().enumerate() {
-        if *x == k {
-            return Some(i as u64);
+        if *x == k && found.is_none() {
+            found = Some(i as u64);
         }
     }
-    None
+    found
 }
 
 fn last_tx(entries: &[(u8, u64)], k: u8) -> Option<u64> {
@@ -178,16 +209,44 @@ fn back_plain(plain: &mut Plain) {
     }
 }
 
-// The counts and the number of each script are those of the lists.
-fn compare<A: Abort>(rt: &A, txn: &mut Txn<'_, VecRows>, plain: &Plain) -> Result<(), Fail>
+// Whether the counts and the number of each script are those of the lists.
+fn is_as(txn: &mut Txn<'_, VecRows>, plain: &Plain) -> bool
     ensures { txn.new.rows.ghost_name ≡ txn.old.rows.ghost_name }
 {
-    assert_eq!(rt; txn.count(Table::Scripts), plain.scripts.len() as u64);
-    assert_eq!(rt; txn.count(Table::Entries), plain.entries.len() as u64);
     for k in 0..64 {
-        assert!(rt; find_script(txn, &hash(k)) == Ok(place(&plain.scripts, k)));
+        if find_script(txn, &hash(k)) != Ok(place(&plain.scripts, k)) {
+            return false;
+        }
+    }
+    let counts = [plain.scripts.len() as u64, plain.entries.len() as u64];
+    [txn.count(Table::Scripts), txn.count(Table::Entries)] == counts
+}
+
+// Three hundred touches.
+fn touch_long<A: Abort>(rt: &A, txn: &mut Txn<'_, VecRows>, plain: &mut Plain) -> Result<(), Fail>
+    ensures { txn.new.rows.ghost_name ≡ txn.old.rows.ghost_name }
+{
+    for i in 0..300u32 {
+        let k = (i / 2 * 7 % 61) as u8;
+        let tx = i / 5;
+        let last = place(&plain.scripts, k).unwrap_or(u64::MAX);
+        let number = touch_by(txn, i % 3 == 0, k, last, tx);
+        touch_plain(plain, k, u64::from(tx))?;
+        assert!(rt; number.ok() == place(&plain.scripts, k));
+        assert!(rt; is_as(txn, plain));
     }
     Ok(())
+}
+
+// So many steps back.
+fn take_back_long<A: Abort>(rt: &A, txn: &mut Txn<'_, VecRows>, plain: &mut Plain)
+    ensures { txn.new.rows.ghost_name ≡ txn.old.rows.ghost_name }
+{
+    for _ in 0..200 {
+        assert!(rt; take_back_entry(txn) == Ok(()));
+        back_plain(plain);
+        assert!(rt; is_as(txn, plain));
+    }
 }
 
 fn long_run<A: Abort>(rt: &A, alloc: Global) -> Result<(), Fail> {
@@ -198,21 +257,9 @@ fn long_run<A: Abort>(rt: &A, alloc: Global) -> Result<(), Fail> {
         scripts: Vec::new(alloc),
         entries: Vec::new(alloc),
     };
-    for i in 0..300u32 {
-        let k = (i / 2 * 7 % 61) as u8;
-        let tx = i / 5;
-        let last = place(&plain.scripts, k).unwrap_or(u64::MAX);
-        let number = touch_by(&mut txn, i % 3 == 0, k, last, tx);
-        touch_plain(&mut plain, k, u64::from(tx))?;
-        assert!(rt; number.ok() == place(&plain.scripts, k));
-        compare(rt, &mut txn, &plain)?;
-    }
-    for _ in 0..200 {
-        assert!(rt; take_back_entry(&mut txn) == Ok(()));
-        back_plain(&mut plain);
-        compare(rt, &mut txn, &plain)?;
-    }
-    assert_eq!(rt; plain.entries.len(), 0);
+    touch_long(rt, &mut txn, &mut plain)?;
+    take_back_long(rt, &mut txn, &mut plain);
+    assert!(rt; plain.entries.is_empty());
     Ok(())
 }
 
@@ -225,13 +272,8 @@ type Odd = ([(u8, u8, u32); 2], u8, [(u8, u8, u8); 2]);
 // step back, and script 1's row.
 type Answers = (
     [Option<u64>; 2],
-    (
-        u64,
-        (Option<u64>, Option<u64>, u64),
-        (u64, u64, Option<u64>),
-        [u64; 2],
-    ),
-    ([u64; 2], Option<(Option<u64>, Option<u64>, u64)>),
+    (u64, Script, Entry, [u64; 2]),
+    ([u64; 2], Option<Script>),
 );
 
 const ODD: [(Odd, Answers); 6] = [
@@ -318,6 +360,47 @@ fn entry_bytes(row: (u8, u8, u8)) -> [u8; 12] {
     [row.0, 0, 0, 0, row.1, 0, 0, 0, row.2, 0, 0, 0]
 }
 
+fn add_odd(txn: &mut Txn<'_, VecRows>, odd: &Odd) -> Result<(), Fail>
+    ensures { txn.new.rows.ghost_name ≡ txn.old.rows.ghost_name }
+{
+    txn.append(Table::Scripts, &script_bytes(0, odd.0[0]))?;
+    txn.append(Table::Scripts, &script_bytes(1, odd.0[1]))?;
+    txn.append(Table::ScriptHeads, &[odd.1, 0, 0, 0])?;
+    txn.append(Table::Entries, &entry_bytes(odd.2[0]))?;
+    txn.append(Table::Entries, &entry_bytes(odd.2[1]))?;
+    Ok(())
+}
+
+// Script 1 is touched by transaction 5.
+fn check_touched<A: Abort>(
+    rt: &A,
+    txn: &mut Txn<'_, VecRows>,
+    touched: (u64, Script, Entry, [u64; 2]),
+    by_number: bool,
+) -> Result<(), Fail>
+    ensures { txn.new.rows.ghost_name ≡ txn.old.rows.ghost_name }
+{
+    let (number, row, entry, counts) = touched;
+    assert!(rt; touch_by(txn, by_number, 1, number, 5) == Ok(number));
+    assert!(rt; has(txn, counts, number, Some(row))?);
+    assert!(rt; has_entry(txn, counts[1].saturating_sub(1), entry)?);
+    Ok(())
+}
+
+// A step is taken back.
+fn check_back<A: Abort>(
+    rt: &A,
+    txn: &mut Txn<'_, VecRows>,
+    counts: [u64; 2],
+    row: Option<Script>,
+) -> Result<(), Fail>
+    ensures { txn.new.rows.ghost_name ≡ txn.old.rows.ghost_name }
+{
+    assert!(rt; take_back_entry(txn) == Ok(()));
+    assert!(rt; has(txn, counts, 1, row)?);
+    Ok(())
+}
+
 fn check_odd<A: Abort>(
     rt: &A,
     alloc: Global,
@@ -327,23 +410,10 @@ fn check_odd<A: Abort>(
 ) -> Result<(), Fail> {
     let mut rows = VecRows::new(alloc);
     let mut txn = Txn::new(alloc, &mut rows);
-    txn.append(Table::Scripts, &script_bytes(0, odd.0[0]))?;
-    txn.append(Table::Scripts, &script_bytes(1, odd.0[1]))?;
-    txn.append(Table::ScriptHeads, &[odd.1, 0, 0, 0])?;
-    txn.append(Table::Entries, &entry_bytes(odd.2[0]))?;
-    txn.append(Table::Entries, &entry_bytes(odd.2[1]))?;
-    assert!(rt; find_script(&mut txn, &hash(0)) == Ok(answers.0[0]));
-    assert!(rt; find_script(&mut txn, &hash(1)) == Ok(answers.0[1]));
-    let (number, row, entry, counts) = answers.1;
-    assert!(rt; touch_by(&mut txn, by_number, 1, number, 5) == Ok(number));
-    assert!(rt; [txn.count(Table::Scripts), txn.count(Table::Entries)] == counts);
-    assert!(rt; script_at(&mut txn, number)? == Some(row));
-    assert!(rt; entry_at(&mut txn, counts[1].saturating_sub(1))? == Some(entry));
-    let (counts, row) = answers.2;
-    assert!(rt; take_back_entry(&mut txn) == Ok(()));
-    assert!(rt; [txn.count(Table::Scripts), txn.count(Table::Entries)] == counts);
-    assert!(rt; script_at(&mut txn, 1)? == row);
-    Ok(())
+    add_odd(&mut txn, odd)?;
+    assert!(rt; are_found(&mut txn, 0, &answers.0));
+    check_touched(rt, &mut txn, answers.1, by_number)?;
+    check_back(rt, &mut txn, answers.2.0, answers.2.1)
 }
 
 fn odd_rows<A: Abort>(rt: &A, alloc: Global) -> Result<(), Fail> {
@@ -369,25 +439,18 @@ fn no_heads<A: Abort>(rt: &A, alloc: Global) -> Result<(), Fail> {
     Ok(())
 }
 
-fn full_fault(table: u8) -> ConnectFault {
-    ConnectFault::Full {
-        table,
-        rows: 4_294_967_295,
-    }
-}
-
 fn at_the_limit<A: Abort>(rt: &A, alloc: Global) -> Result<(), Fail> {
     let mut rows = FailingRows::full(u64::MAX);
     let mut txn = Txn::new(alloc, &mut rows);
     let script = Hash32([7; 32]);
-    assert!(rt; touch(&mut txn, &script, 5) == Err(full_fault(6)));
+    assert!(rt; touch(&mut txn, &script, 5) == Err(full(6)));
     assert!(rt; 7 < txn.count(Table::Scripts));
-    assert!(rt; touch_number(&mut txn, 7, 5) == Err(full_fault(8)));
+    assert!(rt; touch_number(&mut txn, 7, 5) == Err(full(8)));
     assert!(rt; take_back_entry(&mut txn) == Ok(()));
     assert!(rt; touch(&mut txn, &script, 5) == Ok(4_294_967_294));
     let left = txn.count(Table::Scripts).min(4_294_967_294);
     txn.shrink(Table::Scripts, left);
-    assert!(rt; touch(&mut txn, &script, 5) == Err(full_fault(8)));
+    assert!(rt; touch(&mut txn, &script, 5) == Err(full(8)));
     Ok(())
 }
 

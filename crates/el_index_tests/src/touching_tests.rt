@@ -3,22 +3,19 @@
 ghost use Rattle.std.specs.Prelude.{◌≡◌};
 
 use crate::failing_rows::FailingRows;
-use crate::fixtures::{add_block, add_heads, block_row, hash, outpoint, tx_row};
+use crate::fixtures::{add_block, add_heads, block_row, fund, hash, take, tx_row};
 use el_chain::Touched;
 use el_model::QueryFault;
 use el_position::add_tx;
 use el_queries::touch_last;
 use el_row_formats::Table;
 use el_rows::{Txn, VecRows};
-use el_script::touch;
-use el_spend::{add_out, spend};
-use el_tx::Outpoint;
 use std::alloc::Global;
 use std::process::Abort;
 use std::test::Fail;
 
 // A step of a chain.
-#[derive(Clone, Copy, Debug, PartialEq, Eq)]
+#[derive(Clone, Copy)]
 enum Step {
     // the next transaction spends the output of that txid and index, of that script hash
     Spend(u8, u32, u8),
@@ -65,51 +62,24 @@ const CHAIN: [Step; 27] = [
     Step::Block(0b1000_0000),
 ];
 
-fn fund<A: Abort>(rt: &A, txn: &mut Txn<'_, VecRows>, index: u32, k: u8) -> Result<(), Fail>
-    ensures { txn.new.rows.ghost_name ≡ txn.old.rows.ghost_name }
-{
-    let last = txn.count(Table::Txs).saturating_sub(1);
-    let script = match touch(txn, &hash(k), last) {
-        Ok(script) => script,
-        Err(_) => return Err(Fail::new("the call failed")),
-    };
-    assert!(rt; script < txn.count(Table::Scripts));
-    assert!(rt; add_out(txn, last, index, 50, script) == Ok(()));
-    Ok(())
-}
-
-fn take(txn: &mut Txn<'_, VecRows>, o: &Outpoint, k: u8) -> Result<(), Fail>
-    ensures { txn.new.rows.ghost_name ≡ txn.old.rows.ghost_name }
-{
-    let next = txn.count(Table::Txs);
-    match spend(txn, o, next) {
-        Ok(Some(_)) => {}
-        _ => return Err(Fail::new("nothing was spent")),
+// Whether these script hashes were touched, and no others: bit k says whether the script hash k was.
+fn are_touched(touched: &Touched, wanted: u32) -> bool {
+    let mut bits = wanted;
+    let mut same = true;
+    for k in 0..8 {
+        same = same && touched.has(&hash(k)) == (bits % 2 == 1);
+        bits /= 2;
     }
-    match touch(txn, &hash(k), next) {
-        Ok(_) => Ok(()),
-        Err(_) => Err(Fail::new("the call failed")),
-    }
+    same && touched.list().len() == wanted.count_ones() as usize
 }
 
 // The last block touches exactly these script hashes.
-fn check_last<A: Abort>(
-    rt: &A,
-    alloc: Global,
-    txn: &mut Txn<'_, VecRows>,
-    wanted: u32,
-) -> Result<(), Fail>
+fn check_last<A: Abort>(rt: &A, alloc: Global, txn: &mut Txn<'_, VecRows>, wanted: u32)
     ensures { txn.new.rows.ghost_name ≡ txn.old.rows.ghost_name }
 {
     let mut touched = Touched::new(alloc);
     assert!(rt; touch_last(txn, &mut touched) == Ok(()));
-    let mut bits = wanted;
-    for k in 0..8 {
-        assert!(rt; touched.has(&hash(k)) == (bits % 2 == 1));
-        bits /= 2;
-    }
-    assert!(rt; touched.list().len() == wanted.count_ones() as usize);
-    Ok(())
+    assert!(rt; are_touched(&touched, wanted));
 }
 
 // Takes the step, and answers the number of the first transaction after it that is in no block.
@@ -122,19 +92,18 @@ fn take_step<A: Abort>(
 ) -> Result<u64, Fail>
     ensures { txn.new.rows.ghost_name ≡ txn.old.rows.ghost_name }
 {
+    let txs = txn.count(Table::Txs);
     match step {
-        Step::Spend(k, index, script) => {
-            take(txn, &outpoint(k, index), script)?;
-        }
+        Step::Spend(k, index, script) => take(txn, txs, k, index, script)?,
         Step::Tx(k, outs) => {
             let row = tx_row(k, 7, 81, txn.count(Table::Outs), outs);
             assert!(rt; add_tx(txn, &row).is_ok());
         }
-        Step::Out(index, script) => fund(rt, txn, index, script)?,
+        Step::Out(index, script) => fund(txn, txs.saturating_sub(1), index, 50, script)?,
         Step::Block(wanted) => {
             add_block(txn, &block_row(first.min(4_294_967_295), 1, 0))?;
-            check_last(rt, alloc, txn, wanted)?;
-            return Ok(txn.count(Table::Txs));
+            check_last(rt, alloc, txn, wanted);
+            return Ok(txs);
         }
     }
     Ok(first)
@@ -145,8 +114,8 @@ fn build<A: Abort>(rt: &A, alloc: Global) -> Result<(), Fail> {
     let mut txn = Txn::new(alloc, &mut rows);
     add_heads(&mut txn, 7)?;
     let mut first = 0;
-    for step in CHAIN {
-        first = take_step(rt, alloc, &mut txn, step, first)?;
+    for step in &CHAIN {
+        first = take_step(rt, alloc, &mut txn, *step, first)?;
     }
     Ok(())
 }
@@ -154,47 +123,61 @@ fn build<A: Abort>(rt: &A, alloc: Global) -> Result<(), Fail> {
 // Rows that stand for nothing, of which each touches nothing: the last block's first transaction; the
 // transaction and the script of an entry, where no script is there; how many outputs a transaction has whose
 // link leads to itself.
-const ODD: [(u8, [u8; 2], u8); 4] = [
+type Odd = (u8, [u8; 2], u8);
+
+const ODD: [Odd; 4] = [
     (0, [0, 0], 1),
     (0, [5, 255], 255),
     (1, [0, 0], 9),
     (255, [255, 255], 0),
 ];
 
+fn add_odd(txn: &mut Txn<'_, VecRows>, odd: &Odd) -> Result<(), Fail>
+    ensures { txn.new.rows.ghost_name ≡ txn.old.rows.ghost_name }
+{
+    add_heads(txn, 7)?;
+    add_block(txn, &block_row(u64::from(odd.0), 1, 0))?;
+    let mut bytes = [0; 12];
+    bytes[0] = odd.1[0];
+    bytes[4] = odd.1[1];
+    txn.append(Table::Entries, &bytes)?;
+    let mut bytes = [0; 68];
+    bytes[51] = odd.2;
+    bytes[60] = 1;
+    txn.append(Table::Txs, &bytes)?;
+    Ok(())
+}
+
+// Where there are no blocks nothing is touched either.
+fn check_odd<A: Abort>(rt: &A, alloc: Global, odd: &Odd) -> Result<(), Fail> {
+    let mut rows = VecRows::new(alloc);
+    let mut txn = Txn::new(alloc, &mut rows);
+    check_last(rt, alloc, &mut txn, 0);
+    add_odd(&mut txn, odd)?;
+    check_last(rt, alloc, &mut txn, 0);
+    Ok(())
+}
+
 fn odd_rows<A: Abort>(rt: &A, alloc: Global) -> Result<(), Fail> {
-    for (first, entry, outs) in ODD {
-        let mut rows = VecRows::new(alloc);
-        let mut txn = Txn::new(alloc, &mut rows);
-        // No blocks.
-        check_last(rt, alloc, &mut txn, 0)?;
-        add_heads(&mut txn, 7)?;
-        add_block(&mut txn, &block_row(u64::from(first), 1, 0))?;
-        let mut bytes = [0; 12];
-        bytes[0] = entry[0];
-        bytes[4] = entry[1];
-        txn.append(Table::Entries, &bytes)?;
-        let mut bytes = [0; 68];
-        bytes[51] = outs;
-        bytes[60] = 1;
-        txn.append(Table::Txs, &bytes)?;
-        check_last(rt, alloc, &mut txn, 0)?;
+    for odd in &ODD {
+        check_odd(rt, alloc, odd)?;
     }
     Ok(())
 }
 
-fn failing<A: Abort>(rt: &A, alloc: Global) -> Result<(), Fail> {
+fn failing<A: Abort>(rt: &A, alloc: Global) {
     for left in 0..4 {
         let mut rows = FailingRows::full(left);
         let mut txn = Txn::new(alloc, &mut rows);
         let mut touched = Touched::new(alloc);
         assert!(rt; touch_last(&mut txn, &mut touched) == Err(QueryFault::DiskFailed));
     }
-    Ok(())
 }
 
 /// All of them.
 pub fn all<A: Abort>(rt: &A, alloc: Global) -> Result<(), Fail> {
     build(rt, alloc)?;
     odd_rows(rt, alloc)?;
-    failing(rt, alloc)
+    failing(rt, alloc);
+    Ok(())
 }

@@ -3,12 +3,10 @@
 ghost use Rattle.std.specs.Prelude.{◌≡◌, ◌<◌, ◌^◌, length};
 ghost use Rattle.el_row_formats.specs.RowBytes.{FitsTxRow};
 
-use crate::fixtures::{add_block, add_heads, block_row, hash, outpoint, tx_row};
+use crate::fixtures::{add_block, add_heads, block_row, fund, take, tx_row};
 use el_position::add_tx;
 use el_row_formats::{Table, TxRow};
 use el_rows::{Txn, VecRows};
-use el_script::touch;
-use el_spend::{add_out, spend};
 use el_undo::disconnect;
 use std::alloc::Global;
 use std::process::Abort;
@@ -19,17 +17,27 @@ fn tx(k: u8, first_out: u64, outs: u32, first_in: u64, ins: u32) -> TxRow
     requires first { first_in < 2 ^ 32 }
     ensures { FitsTxRow result }
 {
-    TxRow {
-        first_in,
-        ins,
-        ..tx_row(k, 7, 81, first_out, outs)
+    let mut row = tx_row(k, 7, 81, first_out, outs);
+    row.first_in = first_in;
+    row.ins = ins;
+    row
+}
+
+// The transaction of that number has an output of each value and script hash.
+fn add_outs(txn: &mut Txn<'_, VecRows>, number: u64, outs: &[(u64, u8)]) -> Result<(), Fail>
+    requires number { number < 2 ^ 32 }
+    requires outs { length outs.now < 2 ^ 32 }
+    ensures { txn.new.rows.ghost_name ≡ txn.old.rows.ghost_name }
+{
+    for (index, (value, script)) in outs.iter().enumerate() {
+        fund(txn, number, index as u32, *value, *script)?;
     }
+    Ok(())
 }
 
 // The next transaction has that txid, spends output 0 of the other one, if there is one, of that script hash,
 // and makes an output of each value and script hash.
-fn put_tx<A: Abort>(
-    rt: &A,
+fn put_tx(
     txn: &mut Txn<'_, VecRows>,
     k: u8,
     spent: Option<(u8, u8)>,
@@ -39,36 +47,30 @@ fn put_tx<A: Abort>(
     ensures { txn.new.rows.ghost_name ≡ txn.old.rows.ghost_name }
 {
     let number = txn.count(Table::Txs);
-    let mut ins = 0;
     let row_in = txn.count(Table::Ins);
-    if let Some((other, owner)) = spent {
-        assert!(rt; spend(txn, &outpoint(other, 0), number)?.is_some());
-        touch(txn, &hash(owner), number)?;
-        ins = 1;
+    if let Some((other, script)) = spent {
+        take(txn, number, other, 0, script)?;
     }
+    let ins = u32::from(spent.is_some());
     let row = tx(k, txn.count(Table::Outs), outs.len() as u32, row_in, ins);
     add_tx(txn, &row)?;
-    for (index, (value, owner)) in outs.iter().enumerate() {
-        let script = touch(txn, &hash(*owner), number)?;
-        assert!(rt; script < txn.count(Table::Scripts));
-        add_out(txn, number, index as u32, *value, script)?;
-    }
-    Ok(())
+    add_outs(txn, number, outs)
 }
 
-// All rows of a table, one after the other.
-fn rows_of(alloc: Global, txn: &mut Txn<'_, VecRows>, table: Table) -> Result<Vec<u8>, Fail>
+// Adds all rows of a table to the bytes, one after the other.
+fn add_rows_of(txn: &mut Txn<'_, VecRows>, table: Table, all: &mut Vec<u8>) -> Result<(), Fail>
     ensures { txn.new.rows.ghost_name ≡ txn.old.rows.ghost_name }
 {
-    let mut all = Vec::new(alloc);
     for i in 0..txn.count(table) {
-        let mut row = vec![in alloc; 0u8; table.size()]?;
-        if i < txn.count(table) {
-            txn.get(table, i, row.as_mut_slice())?;
+        if i >= txn.count(table) {
+            return Err(Fail::new("no such row"));
         }
-        all.extend_from_slice(row.as_slice())?;
+        let mut bytes = [0; 112];
+        let row = &mut bytes[..table.size()];
+        txn.get(table, i, row)?;
+        all.extend_from_slice(row)?;
     }
-    Ok(all)
+    Ok(())
 }
 
 // The rows of all tables.
@@ -77,37 +79,70 @@ fn all_rows(alloc: Global, txn: &mut Txn<'_, VecRows>) -> Result<Vec<u8>, Fail>
 {
     let mut all = Vec::new(alloc);
     for table in Table::ALL {
-        let rows = rows_of(alloc, txn, table)?;
-        all.extend_from_slice(rows.as_slice())?;
+        add_rows_of(txn, table, &mut all)?;
     }
     Ok(all)
 }
 
-// Block 0 has a coinbase. Block 1 has its like, which buries its output, and a transaction that spends the
-// later one and pays its owner and another. Taken back, block by block, the rows are those before.
-fn two_blocks<A: Abort>(rt: &A, alloc: Global) -> Result<(), Fail> {
-    let mut rows = VecRows::new(alloc);
-    let mut txn = Txn::new(alloc, &mut rows);
-    add_heads(&mut txn, 7)?;
-    put_tx(rt, &mut txn, 1, None, &[(50, 11)])?;
-    add_block(&mut txn, &block_row(0, 1, 0))?;
-    let first = all_rows(alloc, &mut txn)?;
-    put_tx(rt, &mut txn, 1, None, &[(50, 11)])?;
-    put_tx(rt, &mut txn, 2, Some((1, 11)), &[(20, 11), (30, 12)])?;
-    add_block(&mut txn, &block_row(1, 2, 0))?;
-    assert!(rt; disconnect(&mut txn) == Ok(()));
-    assert!(rt; all_rows(alloc, &mut txn)? == first);
-    assert!(rt; disconnect(&mut txn) == Ok(()));
-    assert!(rt; all_rows(alloc, &mut txn)?.is_empty());
-    assert!(rt; disconnect(&mut txn) == Ok(()));
+// Whether these are the rows of all tables.
+fn has_rows(alloc: Global, txn: &mut Txn<'_, VecRows>, wanted: &[u8]) -> Result<bool, Fail>
+    ensures { txn.new.rows.ghost_name ≡ txn.old.rows.ghost_name }
+{
+    let found = all_rows(alloc, txn)?;
+    Ok(found.as_slice() == wanted)
+}
+
+// Both blocks are taken back. Before the second there were these rows.
+fn take_back_both<A: Abort>(
+    rt: &A,
+    alloc: Global,
+    txn: &mut Txn<'_, VecRows>,
+    first: &[u8],
+) -> Result<(), Fail>
+    ensures { txn.new.rows.ghost_name ≡ txn.old.rows.ghost_name }
+{
+    assert!(rt; disconnect(txn) == Ok(()));
+    assert!(rt; has_rows(alloc, txn, first)?);
+    assert!(rt; disconnect(txn) == Ok(()));
+    assert!(rt; has_rows(alloc, txn, &[])?);
+    assert!(rt; disconnect(txn) == Ok(()));
     Ok(())
 }
 
-// One row in each table, of bytes that stand for nothing, is taken away with the block, or left.
-fn odd_rows<A: Abort>(rt: &A, alloc: Global) -> Result<(), Fail> {
+// A block of a coinbase.
+fn put_first(txn: &mut Txn<'_, VecRows>) -> Result<(), Fail>
+    ensures { txn.new.rows.ghost_name ≡ txn.old.rows.ghost_name }
+{
+    add_heads(txn, 7)?;
+    put_tx(txn, 1, None, &[(50, 11)])?;
+    add_block(txn, &block_row(0, 1, 0))
+}
+
+// A block of the same coinbase, and of a transaction that spends it and pays its owner and another.
+fn put_second(txn: &mut Txn<'_, VecRows>) -> Result<(), Fail>
+    ensures { txn.new.rows.ghost_name ≡ txn.old.rows.ghost_name }
+{
+    put_tx(txn, 1, None, &[(50, 11)])?;
+    put_tx(txn, 2, Some((1, 11)), &[(20, 11), (30, 12)])?;
+    add_block(txn, &block_row(1, 2, 0))
+}
+
+// Block 0 has a coinbase. Block 1 has its like, which buries its output, and spends the later one. Taken back,
+// block by block, the rows are those before.
+fn two_blocks<A: Abort>(rt: &A, alloc: Global) -> Result<(), Fail> {
     let mut rows = VecRows::new(alloc);
     let mut txn = Txn::new(alloc, &mut rows);
-    add_heads(&mut txn, 7)?;
+    put_first(&mut txn)?;
+    let first = all_rows(alloc, &mut txn)?;
+    put_second(&mut txn)?;
+    take_back_both(rt, alloc, &mut txn, &first)
+}
+
+// One row in each table, of bytes that stand for nothing.
+fn add_odd(txn: &mut Txn<'_, VecRows>) -> Result<(), Fail>
+    ensures { txn.new.rows.ghost_name ≡ txn.old.rows.ghost_name }
+{
+    add_heads(txn, 7)?;
     let mut row = [0; 68];
     tx(5, 4_000_000_000, 3, 4_000_000_000, 3).write(&mut row);
     txn.append(Table::Txs, &row)?;
@@ -115,7 +150,14 @@ fn odd_rows<A: Abort>(rt: &A, alloc: Global) -> Result<(), Fail> {
     txn.append(Table::Ins, &[200; 4])?;
     txn.append(Table::Scripts, &[1; 52])?;
     txn.append(Table::Entries, &[0; 12])?;
-    add_block(&mut txn, &block_row(7, 3, 0))?;
+    add_block(txn, &block_row(7, 3, 0))
+}
+
+// They are taken away with the block, or left.
+fn odd_rows<A: Abort>(rt: &A, alloc: Global) -> Result<(), Fail> {
+    let mut rows = VecRows::new(alloc);
+    let mut txn = Txn::new(alloc, &mut rows);
+    add_odd(&mut txn)?;
     assert!(rt; disconnect(&mut txn) == Ok(()));
     assert!(rt; txn.count(Table::Blocks) == 0);
     assert!(rt; txn.count(Table::Txs) == 0);

@@ -248,11 +248,11 @@ fn have<R: Abort>(
     rt: &R,
     alloc: Global,
     index: &mut Index<VecRows>,
-    case: Case,
+    case: &Case,
 ) -> Result<(), Fail> {
     let ids = txids_of(alloc, &TXS)?;
     for wanted in case.has {
-        has(rt, alloc, index, *wanted, ids.as_slice())?;
+        has(rt, alloc, index, wanted, ids.as_slice())?;
     }
     are_no_coins(rt, index, case.no_coins, ids.as_slice())
 }
@@ -271,19 +271,30 @@ fn rows_are_of<R: Abort>(
     same_rows(rt, &mut rows, &mut wanted)
 }
 
-// Makes the move, and looks at what it leaves.
-fn leads<R: Abort>(rt: &R, alloc: Global, case: Case, files: &mut Files) -> Result<(), Fail> {
-    let mut index = built(alloc, case.from, files)?;
-    let moved = go(alloc, &mut index, case.back, case.forward, files)?;
+// Makes the move, and looks at where it leads.
+fn moves<R: Abort>(
+    rt: &R,
+    alloc: Global,
+    index: &mut Index<VecRows>,
+    case: &Case,
+    files: &mut Files,
+) -> Result<(), Fail> {
+    let moved = go(alloc, index, case.back, case.forward, files)?;
     led_to(rt, &moved, case.to, files)?;
-    touches(rt, alloc, &moved, case.touched)?;
+    touches(rt, alloc, &moved, case.touched)
+}
+
+// Makes the move, and looks at what it leaves.
+fn leads<R: Abort>(rt: &R, alloc: Global, case: &Case, files: &mut Files) -> Result<(), Fail> {
+    let mut index = built(alloc, case.from, files)?;
+    moves(rt, alloc, &mut index, case, files)?;
     have(rt, alloc, &mut index, case)?;
     rows_are_of(rt, alloc, index, case.to, files)
 }
 
 fn all_cases<R: Abort>(rt: &R, alloc: Global) -> Result<(), Fail> {
     let mut files = laid_out(alloc, &TXS, &BLOCKS)?;
-    for case in CASES {
+    for case in &CASES {
         leads(rt, alloc, case, &mut files)?;
     }
     Ok(())
@@ -302,6 +313,30 @@ const TWO: Held = Held {
     coins: &[(0, 5_000_000_000), (1, 5_000_000_000)],
 };
 
+// Puts in 102 blocks of a coinbase.
+fn put_all<G: Ledger>(alloc: Global, ledger: &mut G, files: &mut Files) -> Result<(), Fail>
+    requires live { G.is_live ledger.old }
+    ensures live { OnOk result (G.is_live ledger.new) }
+{
+    let all = numbers(alloc, 0, 102)?;
+    put_in(alloc, ledger, all.as_slice(), files)
+}
+
+// Takes a hundred back.
+fn take_back<R: Abort, G: Ledger>(
+    rt: &R,
+    alloc: Global,
+    ledger: &mut G,
+    files: &mut Files,
+) -> Result<(), Fail>
+    requires live { G.is_live ledger.old }
+    ensures live { OnOk result (G.is_live ledger.new) }
+{
+    let moved = go(alloc, ledger, 100, &[], files)?;
+    led_to(rt, &moved, &[0, 1], files)?;
+    touches(rt, alloc, &moved, &[101])
+}
+
 // Puts in 102 blocks of a coinbase, and takes a hundred back.
 fn takes_back<R: Abort, G: Ledger>(
     rt: &R,
@@ -312,13 +347,10 @@ fn takes_back<R: Abort, G: Ledger>(
     requires live { G.is_live ledger.old }
     ensures live { OnOk result (G.is_live ledger.new) }
 {
-    let all = numbers(alloc, 0, 102)?;
-    put_in(alloc, ledger, all.as_slice(), files)?;
-    let moved = go(alloc, ledger, 100, &[], files)?;
-    led_to(rt, &moved, &[0, 1], files)?;
-    touches(rt, alloc, &moved, &[101])?;
+    put_all(alloc, ledger, files)?;
+    take_back(rt, alloc, ledger, files)?;
     let ids = txids_of(alloc, &TXS)?;
-    has(rt, alloc, ledger, TWO, ids.as_slice())
+    has(rt, alloc, ledger, &TWO, ids.as_slice())
 }
 
 fn a_hundred<R: Abort>(rt: &R, alloc: Global) -> Result<(), Fail> {

@@ -388,7 +388,11 @@ pub fn led_to<R: Abort>(
     };
     let hash = hash_of(files.records.as_slice(), *last)?;
     assert!(rt; moved.tip == Some(hash));
-    assert!(rt; moved.height.map(|h| h as usize + 1) == Some(numbers.len()));
+    let count = match moved.height {
+        Some(top) => top as usize + 1,
+        None => 0,
+    };
+    assert!(rt; count == numbers.len());
     Ok(())
 }
 
@@ -414,7 +418,7 @@ pub fn touches<R: Abort>(
     moved: &Moved,
     scripts: &[u32],
 ) -> Result<(), Fail> {
-    assert_eq!(rt; moved.touched.list().len(), scripts.len());
+    assert!(rt; moved.touched.list().len() == scripts.len());
     for k in scripts {
         let hash = script_hash(alloc, *k)?;
         assert!(rt; moved.touched.has(&hash), "script {k}");
@@ -429,7 +433,7 @@ fn are_entries<R: Abort>(
     wanted: &[(u32, usize)],
     ids: &[Hash32],
 ) -> Result<(), Fail> {
-    assert_eq!(rt; found.len(), wanted.len());
+    assert!(rt; found.len() == wanted.len());
     for (number, (height, tx)) in wanted.iter().enumerate() {
         let Some(txid) = ids.get(*tx) else {
             return Err(Fail::new("no such transaction"));
@@ -445,11 +449,43 @@ fn are_entries<R: Abort>(
 
 // These are the coins, by their heights and values.
 fn are_coins<R: Abort>(rt: &R, found: &[Coin], wanted: &[(u32, u64)]) {
-    assert_eq!(rt; found.len(), wanted.len());
+    assert!(rt; found.len() == wanted.len());
     for (number, coin) in found.iter().enumerate() {
         let shown = (coin.height, coin.value);
         assert!(rt; wanted.get(number) == Some(&shown), "coin {number}");
     }
+}
+
+// The script of that hash has that history.
+fn has_history<R: Abort, G: Ledger>(
+    rt: &R,
+    alloc: Global,
+    ledger: &mut G,
+    hash: &Hash32,
+    wanted: &[(u32, usize)],
+    ids: &[Hash32],
+) -> Result<(), Fail>
+    requires live { G.is_live ledger.old }
+    ensures live { OnOk result (G.is_live ledger.new) }
+{
+    let entries = ledger.history(alloc, hash)?;
+    are_entries(rt, entries.as_slice(), wanted, ids)
+}
+
+// The script of that hash has these coins.
+fn has_coins<R: Abort, G: Ledger>(
+    rt: &R,
+    alloc: Global,
+    ledger: &mut G,
+    hash: &Hash32,
+    wanted: &[(u32, u64)],
+) -> Result<(), Fail>
+    requires live { G.is_live ledger.old }
+    ensures live { OnOk result (G.is_live ledger.new) }
+{
+    let coins = ledger.unspent(alloc, hash)?;
+    are_coins(rt, coins.as_slice(), wanted);
+    Ok(())
 }
 
 /// The script has that. The transactions have these txids.
@@ -457,18 +493,17 @@ pub fn has<R: Abort, G: Ledger>(
     rt: &R,
     alloc: Global,
     ledger: &mut G,
-    wanted: Held,
+    wanted: &Held,
     ids: &[Hash32],
 ) -> Result<(), Fail>
     requires live { G.is_live ledger.old }
     ensures live { OnOk result (G.is_live ledger.new) }
 {
     let hash = script_hash(alloc, wanted.script)?;
-    let entries = ledger.history(alloc, &hash)?;
-    are_entries(rt, entries.as_slice(), wanted.entries, ids)?;
-    let coins = ledger.unspent(alloc, &hash)?;
-    are_coins(rt, coins.as_slice(), wanted.coins);
-    assert_eq!(rt; ledger.balance(&hash)?, wanted.balance);
+    has_history(rt, alloc, ledger, &hash, wanted.entries, ids)?;
+    has_coins(rt, alloc, ledger, &hash, wanted.coins)?;
+    let balance = ledger.balance(&hash)?;
+    assert!(rt; balance == wanted.balance, "balance of {}", wanted.script);
     Ok(())
 }
 
@@ -498,9 +533,8 @@ fn same_table<R: Abort>(
     table: Table,
 ) -> Result<(), Fail> {
     let count = one.count(table);
-    assert_eq!(rt;
-        count,
-        other.count(table),
+    assert!(rt;
+        count == other.count(table),
         "rows of table {}",
         table.number()
     );

@@ -9,7 +9,7 @@ ghost use Rattle.el_tx.specs.Encoding.{HasEncoding};
 
 use crate::laid::{Files, answer, files_of, go, numbers, opened, record_of, script_hash};
 use el_base::Hash32;
-use el_chain::{ConnectFault, MAX_FORWARD, MoveFault};
+use el_chain::{ConnectFault, MAX_FORWARD, MoveFault, Moved};
 use el_gen::{coinbase, spend};
 use el_index::Index;
 use el_model::Ledger;
@@ -86,13 +86,25 @@ struct Both {
     files: Files,
 }
 
-// No blocks.
-fn begin(alloc: Global, files: Files) -> Result<Both, Fail> {
+// No blocks. The files have so many, of which the last spends a coin that isn't there, where this is wanted.
+fn begin(alloc: Global, count: u32, missing: bool) -> Result<Both, Fail>
+    requires { count ≤ 4000 }
+{
+    let files = blocks(alloc, count, missing)?;
     Ok(Both {
         index: opened(alloc, VecRows::new(alloc))?,
         plain: PlainLedger::new(alloc),
         files,
     })
+}
+
+// Whether both moves led to the same block, and touched the same scripts.
+fn are_same(moved: &Moved, wanted: &Moved) -> bool {
+    let mut same = moved.height == wanted.height && moved.tip == wanted.tip;
+    for script in wanted.touched.list() {
+        same = same && moved.touched.has(script);
+    }
+    same && moved.touched.list().len() == wanted.touched.list().len()
 }
 
 // Puts the blocks of these numbers into both, which answer the same.
@@ -104,25 +116,36 @@ fn both_go<R: Abort>(
 ) -> Result<(), Fail> {
     let moved = go(alloc, &mut both.index, 0, numbers, &mut both.files)?;
     let wanted = go(alloc, &mut both.plain, 0, numbers, &mut both.files)?;
-    assert!(rt; moved.height == wanted.height && moved.tip == wanted.tip);
-    assert_eq!(rt; moved.touched.list().len(), wanted.touched.list().len());
-    for script in wanted.touched.list() {
-        assert!(rt; moved.touched.has(script));
-    }
+    assert!(rt; are_same(&moved, &wanted));
     Ok(())
+}
+
+// Whether both say the same history of the script hash.
+fn is_same_history(alloc: Global, both: &mut Both, hash: &Hash32) -> Result<bool, Fail> {
+    let found = both.index.history(alloc, hash)?;
+    let wanted = both.plain.history(alloc, hash)?;
+    Ok(found.as_slice() == wanted.as_slice())
+}
+
+// Whether both say the same coins of the script hash.
+fn are_same_coins(alloc: Global, both: &mut Both, hash: &Hash32) -> Result<bool, Fail> {
+    let found = both.index.unspent(alloc, hash)?;
+    let wanted = both.plain.unspent(alloc, hash)?;
+    Ok(found.as_slice() == wanted.as_slice())
+}
+
+// Whether both say the same balance of the script hash.
+fn is_same_balance(both: &mut Both, hash: &Hash32) -> Result<bool, Fail> {
+    let found = both.index.balance(hash)?;
+    Ok(found == both.plain.balance(hash)?)
 }
 
 // Both say the same of the script.
 fn compare_script<R: Abort>(rt: &R, alloc: Global, both: &mut Both, k: u32) -> Result<(), Fail> {
     let hash = script_hash(alloc, k)?;
-    let found = both.index.history(alloc, &hash)?;
-    let wanted = both.plain.history(alloc, &hash)?;
-    assert!(rt; found.as_slice() == wanted.as_slice(), "history of {k}");
-    let found = both.index.unspent(alloc, &hash)?;
-    let wanted = both.plain.unspent(alloc, &hash)?;
-    assert!(rt; found.as_slice() == wanted.as_slice(), "unspent of {k}");
-    let found = both.index.balance(&hash)?;
-    assert_eq!(rt; found, both.plain.balance(&hash)?, "balance of {k}");
+    assert!(rt; is_same_history(alloc, both, &hash)?, "history of {k}");
+    assert!(rt; are_same_coins(alloc, both, &hash)?, "unspent of {k}");
+    assert!(rt; is_same_balance(both, &hash)?, "balance of {k}");
     Ok(())
 }
 
@@ -136,18 +159,32 @@ fn compare_scripts<R: Abort>(rt: &R, alloc: Global, both: &mut Both) -> Result<(
     Ok(())
 }
 
-// Both say the same of a transaction and its first output.
-fn compare_tx<R: Abort>(rt: &R, both: &mut Both, txid: &Hash32) -> Result<(), Fail> {
+// Whether both say that there is the transaction, and the same of where it stands.
+fn is_same_place(both: &mut Both, txid: &Hash32) -> Result<bool, Fail> {
     let found = both.index.find_tx(txid)?;
-    assert!(rt; found.is_some() && found == both.plain.find_tx(txid)?);
-    let first = Outpoint {
-        txid: *txid,
-        index: 0,
-    };
-    let found = both.index.coin(&first)?;
-    assert!(rt; found == both.plain.coin(&first)?);
-    let found = both.index.spender(&first)?;
-    assert!(rt; found == both.plain.spender(&first)?);
+    Ok(found.is_some() && found == both.plain.find_tx(txid)?)
+}
+
+// Whether both say the same of the coin, and of what spent it.
+fn is_same_output(both: &mut Both, outpoint: &Outpoint) -> Result<bool, Fail> {
+    let coin = both.index.coin(outpoint)?;
+    if coin != both.plain.coin(outpoint)? {
+        return Ok(false);
+    }
+    let entry = both.index.spender(outpoint)?;
+    Ok(entry == both.plain.spender(outpoint)?)
+}
+
+// Both say the same of transactions and of their first outputs.
+fn compare_txs<R: Abort>(rt: &R, both: &mut Both, txids: &[Hash32]) -> Result<(), Fail> {
+    for txid in txids {
+        let first = Outpoint {
+            txid: *txid,
+            index: 0,
+        };
+        assert!(rt; is_same_place(both, txid)?);
+        assert!(rt; is_same_output(both, &first)?);
+    }
     Ok(())
 }
 
@@ -163,39 +200,76 @@ fn are_within(both: &Both, h: u32) -> bool
     }
 }
 
-// Both say the same of the block of that height and of its transactions.
-fn compare_block<R: Abort>(rt: &R, alloc: Global, both: &mut Both, h: u32) -> Result<(), Fail> {
+// Whether both say the same header and place of the block of that height.
+fn is_same_block(both: &mut Both, h: u32) -> Result<bool, Fail> {
     if !are_within(both, h) {
         return Err(Fail::new("no such block"));
     }
-    let found = both.index.header(h)?;
-    assert!(rt; found == both.plain.header(h)?);
-    let found = both.index.place(h)?;
-    assert!(rt; found == both.plain.place(h)?);
+    let header = both.index.header(h)?;
+    if header != both.plain.header(h)? {
+        return Ok(false);
+    }
+    let place = both.index.place(h)?;
+    Ok(place == both.plain.place(h)?)
+}
+
+// Whether both say the same hashes up to that height.
+fn are_same_hashes(alloc: Global, both: &mut Both, h: u32) -> Result<bool, Fail> {
+    if !are_within(both, h) {
+        return Err(Fail::new("no such block"));
+    }
     let found = both.index.hashes(alloc, h)?;
-    assert!(rt; found.as_slice() == both.plain.hashes(alloc, h)?.as_slice());
+    let wanted = both.plain.hashes(alloc, h)?;
+    Ok(found.as_slice() == wanted.as_slice())
+}
+
+// The txids of the block of that height, of which both say the same.
+fn txids_of_both(alloc: Global, both: &mut Both, h: u32) -> Result<Vec<Hash32>, Fail> {
+    if !are_within(both, h) {
+        return Err(Fail::new("no such block"));
+    }
     let found = both.index.block_txids(alloc, h)?;
-    assert!(rt; found.as_slice() == both.plain.block_txids(alloc, h)?.as_slice());
-    for txid in found.as_slice() {
-        compare_tx(rt, both, txid)?;
+    let wanted = both.plain.block_txids(alloc, h)?;
+    if found.as_slice() != wanted.as_slice() {
+        return Err(Fail::new("other txids"));
+    }
+    Ok(found)
+}
+
+// Both say the same of the block of that height and of its transactions.
+fn compare_block<R: Abort>(rt: &R, alloc: Global, both: &mut Both, h: u32) -> Result<(), Fail> {
+    assert!(rt; is_same_block(both, h)?);
+    assert!(rt; are_same_hashes(alloc, both, h)?);
+    let txids = txids_of_both(alloc, both, h)?;
+    compare_txs(rt, both, txids.as_slice())
+}
+
+const HEIGHTS: [u32; 6] = [0, 1, 7, 100, 198, 199];
+
+// Both say the same of the blocks of these heights.
+fn compare_blocks<R: Abort>(rt: &R, alloc: Global, both: &mut Both) -> Result<(), Fail> {
+    for h in &HEIGHTS {
+        compare_block(rt, alloc, both, *h)?;
+    }
+    Ok(())
+}
+
+// Puts the first blocks, so many, into both, as many in a move as it may have.
+fn go_all<R: Abort>(rt: &R, alloc: Global, both: &mut Both, count: usize) -> Result<(), Fail> {
+    let all = numbers(alloc, 0, count)?;
+    for some in all.as_slice().chunks(MAX_FORWARD) {
+        both_go(rt, alloc, both, some)?;
+        compare_scripts(rt, alloc, both)?;
     }
     Ok(())
 }
 
 fn goes_beside<R: Abort>(rt: &R, alloc: Global) -> Result<(), Fail> {
-    let files = blocks(alloc, 200, false)?;
-    let mut both = begin(alloc, files)?;
+    let mut both = begin(alloc, 200, false)?;
     compare_scripts(rt, alloc, &mut both)?;
-    let all = numbers(alloc, 0, 200)?;
-    for some in all.as_slice().chunks(MAX_FORWARD) {
-        both_go(rt, alloc, &mut both, some)?;
-        compare_scripts(rt, alloc, &mut both)?;
-    }
+    go_all(rt, alloc, &mut both, 200)?;
     assert!(rt; both.index.height() == Some(199));
-    for h in [0, 1, 7, 100, 198, 199] {
-        compare_block(rt, alloc, &mut both, h)?;
-    }
-    Ok(())
+    compare_blocks(rt, alloc, &mut both)
 }
 
 #[test]
@@ -203,17 +277,21 @@ fn is_as_the_plain_ledger(rt: HostRuntime) -> Result<(), Fail> {
     goes_beside(&rt, rt.alloc())
 }
 
-fn stays<R: Abort>(rt: &R, alloc: Global) -> Result<(), Fail> {
-    let files = blocks(alloc, 10, true)?;
-    let mut both = begin(alloc, files)?;
-    both_go(rt, alloc, &mut both, &[0, 1, 2, 3, 4])?;
+// Whether the move that puts in the last five of ten blocks is refused for the missing coin.
+fn is_refused(alloc: Global, both: &mut Both) -> Result<bool, Fail> {
     let more = [5, 6, 7, 8, 9];
-    let found = answer(alloc, &mut both.index, 0, &more, &mut both.files)?;
     let wanted = ConnectFault::MissingCoin { tx: 1, input: 0 };
+    let found = answer(alloc, &mut both.index, 0, &more, &mut both.files)?;
     match found {
-        Err(MoveFault::Refused { fault, .. }) => assert!(rt; fault == wanted),
-        _ => return Err(Fail::new("not refused")),
+        Err(MoveFault::Refused { fault, .. }) => Ok(fault == wanted),
+        _ => Ok(false),
     }
+}
+
+fn stays<R: Abort>(rt: &R, alloc: Global) -> Result<(), Fail> {
+    let mut both = begin(alloc, 10, true)?;
+    both_go(rt, alloc, &mut both, &[0, 1, 2, 3, 4])?;
+    assert!(rt; is_refused(alloc, &mut both)?);
     compare_scripts(rt, alloc, &mut both)
 }
 
@@ -237,27 +315,42 @@ fn filled(alloc: Global, byte: u8) -> Result<VecRows, Fail> {
     Ok(rows)
 }
 
-// Asks the index of the hash, whatever it answers.
-fn asks(alloc: Global, index: &mut Index<VecRows>, hash: &Hash32) -> Result<(), Fail> {
-    let first = Outpoint {
-        txid: *hash,
-        index: 0,
-    };
-    let _entries = index.history(alloc, hash)?;
-    let _coins = index.unspent(alloc, hash)?;
-    let _sum = index.balance(hash)?;
-    let _spot = index.find_tx(hash)?;
-    let _coin = index.coin(&first)?;
-    let _entry = index.spender(&first)?;
+// Asks the index of the script hash, whatever it answers.
+fn asks_script(alloc: Global, index: &mut Index<VecRows>, hash: &Hash32) -> Result<(), Fail> {
+    let _ = index.history(alloc, hash)?;
+    let _ = index.unspent(alloc, hash)?;
+    let _ = index.balance(hash)?;
     Ok(())
 }
 
+// Asks the index of the transaction and its first output, whatever it answers.
+fn asks_tx(index: &mut Index<VecRows>, txid: &Hash32) -> Result<(), Fail> {
+    let first = Outpoint {
+        txid: *txid,
+        index: 0,
+    };
+    let _ = index.find_tx(txid)?;
+    let _ = index.coin(&first)?;
+    let _ = index.spender(&first)?;
+    Ok(())
+}
+
+// All of whose rows' bytes are that one.
+fn asks_filled<R: Abort>(rt: &R, alloc: Global, byte: u8) -> Result<(), Fail> {
+    let mut index = opened(alloc, filled(alloc, byte)?)?;
+    let hash = Hash32([byte; 32]);
+    assert!(rt; index.height() == Some(2));
+    asks_script(alloc, &mut index, &hash)?;
+    asks_tx(&mut index, &hash)?;
+    assert!(rt; index.into_rows().count(Table::Blocks) == 3);
+    Ok(())
+}
+
+const BYTES: [u8; 4] = [0, 1, 2, 255];
+
 fn asks_nothing<R: Abort>(rt: &R, alloc: Global) -> Result<(), Fail> {
-    for byte in [0, 1, 2, 255] {
-        let mut index = opened(alloc, filled(alloc, byte)?)?;
-        assert!(rt; index.height() == Some(2));
-        asks(alloc, &mut index, &Hash32([byte; 32]))?;
-        assert_eq!(rt; index.into_rows().count(Table::Blocks), 3);
+    for byte in &BYTES {
+        asks_filled(rt, alloc, *byte)?;
     }
     Ok(())
 }

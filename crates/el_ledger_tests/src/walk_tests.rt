@@ -3,6 +3,7 @@
 ghost use Rattle.std.specs.Prelude.{◌≡◌, ◌<◌};
 
 use crate::laid::{Files, Laid, Made, built, go, laid_out, led_to, opened, same_rows};
+use el_base::Hash32;
 use el_chain::Moved;
 use el_index::Index;
 use el_model::Ledger;
@@ -140,30 +141,40 @@ fn walk_to(
     go(alloc, index, back, &to[same..], files)
 }
 
+// Makes the move from the blocks of the one numbers to those of the others. It answers the tip and the height.
+fn led<R: Abort>(
+    rt: &R,
+    alloc: Global,
+    index: &mut Index<VecRows>,
+    way: (&[usize], &[usize]),
+    files: &mut Files,
+) -> Result<(Option<Hash32>, Option<u32>), Fail> {
+    let moved = walk_to(alloc, index, way.0, way.1, files)?;
+    led_to(rt, &moved, way.1, files)?;
+    Ok((moved.tip, moved.height))
+}
+
 // Makes the move, looks at the rows, and opens an index over them.
 fn step_to<R: Abort>(
     rt: &R,
     alloc: Global,
-    index: Index<VecRows>,
+    mut index: Index<VecRows>,
     way: (&[usize], &[usize]),
     kept: &mut Vec<Option<VecRows>>,
     files: &mut Files,
 ) -> Result<Index<VecRows>, Fail> {
-    let (from, to) = way;
-    let mut index = index;
-    let moved = walk_to(alloc, &mut index, from, to, files)?;
-    led_to(rt, &moved, to, files)?;
+    let (tip, height) = led(rt, alloc, &mut index, way, files)?;
     let mut rows = index.into_rows();
-    rows_are_of(rt, alloc, &mut rows, to, kept, files)?;
+    rows_are_of(rt, alloc, &mut rows, way.1, kept, files)?;
     let index = opened(alloc, rows)?;
-    assert!(rt; index.tip() == moved.tip && index.height() == moved.height);
+    assert!(rt; index.tip() == tip && index.height() == height);
     Ok(index)
 }
 
 // No rows yet, for each block.
 fn none_kept(alloc: Global) -> Result<Vec<Option<VecRows>>, Fail> {
     let mut kept = Vec::new(alloc);
-    for _ in BLOCKS {
+    for _ in 0..BLOCKS.len() {
         kept.push(None)?;
     }
     Ok(kept)

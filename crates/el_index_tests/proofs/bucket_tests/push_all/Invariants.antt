@@ -3,6 +3,3 @@ use Rattle.el_index_tests.proofs.bucket_tests.push_all.Given as goal
 
 abbrev pub invariant-loop-k : goal.invariant-loop-k
 invariant-loop-k g l = l.txn.rows.ghost_name ≡ l.fn.txn.rows.ghost_name
-
-abbrev pub invariant-loop-k-2 : goal.invariant-loop-k-2
-invariant-loop-k-2 g l = l.txn.rows.ghost_name ≡ l.fn.txn.rows.ghost_name

@@ -1,5 +1,5 @@
 use Rattle.std.proofs.Common.{◌≡◌}
 use Rattle.el_index_tests.proofs.lookup_tests.check_outputs.Given as goal
 
-abbrev pub invariant-loop-k : goal.invariant-loop-k
-invariant-loop-k g l = l.txn.rows.ghost_name ≡ l.fn.txn.rows.ghost_name
+abbrev pub invariant-loop-known : goal.invariant-loop-known
+invariant-loop-known g l = l.txn.rows.ghost_name ≡ l.fn.txn.rows.ghost_name

@@ -1,5 +1,5 @@
 use Rattle.std.proofs.Common.{◌≡◌}
-use Rattle.el_index_tests.proofs.undo_tests.rows_of.Given as goal
+use Rattle.el_index_tests.proofs.spend_tests.has_states.Given as goal
 
 abbrev pub invariant-loop-i : goal.invariant-loop-i
 invariant-loop-i l = l.txn.rows.ghost_name ≡ l.fn.txn.rows.ghost_name

@@ -1,5 +1,5 @@
 use Rattle.std.proofs.Common.{◌≡◌}
-use Rattle.el_index_tests.proofs.script_tests.compare.Given as goal
+use Rattle.el_index_tests.proofs.bucket_tests.find_all.Given as goal
 
 abbrev pub invariant-loop-k : goal.invariant-loop-k
 invariant-loop-k g l = l.txn.rows.ghost_name ≡ l.fn.txn.rows.ghost_name

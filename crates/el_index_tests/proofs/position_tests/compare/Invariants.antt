@@ -1,5 +1,0 @@
-use Rattle.std.proofs.Common.{◌≡◌}
-use Rattle.el_index_tests.proofs.position_tests.compare.Given as goal
-
-abbrev pub invariant-loop-k : goal.invariant-loop-k
-invariant-loop-k g l = l.txn.rows.ghost_name ≡ l.fn.txn.rows.ghost_name

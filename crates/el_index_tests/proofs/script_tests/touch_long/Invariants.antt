@@ -1,0 +1,5 @@
+use Rattle.std.proofs.Common.{◌≡◌}
+use Rattle.el_index_tests.proofs.script_tests.touch_long.Given as goal
+
+abbrev pub invariant-loop-i : goal.invariant-loop-i
+invariant-loop-i g l = l.txn.rows.ghost_name ≡ l.fn.txn.rows.ghost_name
