@@ -1,11 +1,11 @@
 use Rattle.std.proofs.Common.{ap}
-use Rattle.el_headers.proofs.OnePath.{if_ok_map}
+use Rattle.std.proofs.lemmas.Result.{IfOk-weaker}
 use Rattle.el_mem_disk.specs.Disks.{DiskState}
 use Rattle.electrum_serve.proofs.MemLives.{crash_reads, crash_images}
 use Rattle.electrum_serve.proofs.tests.one_life.after_crash.Goals as goal
 
 pub returns : goal.returns
-returns c = if_ok_map c.crashed.result _ _ (λ next is.
+returns c = IfOk-weaker c.crashed.result _ _ (λ next is.
     let files = ap (λ (s : DiskState). s.files) is in
     record {
       reads = crash_reads c.args.disk.now next c.as_slice.result.now files next.sound;
