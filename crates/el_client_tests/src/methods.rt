@@ -1,17 +1,14 @@
 // The methods over Bitcoin's first blocks and a third one. Headers and transactions are Bitcoin's own;
 // hashes, branches and statuses were computed by another program from the rules.
-ghost use Rattle.std.specs.Prelude.{◌≡◌, IsTrue};
-ghost use Rattle.el_chain.specs.Chains.{tip};
-
-use el_base::{Bytes, Hash32};
-use el_block::{Block, decode_block};
+use crate::pool::names_tip;
+use el_base::Bytes;
+use el_block::decode_block;
 use el_chain::Node;
 use el_fakes::MemArchive;
 use el_gen::{BLOCK_1, GENESIS};
 use el_headers::HeaderTree;
 use el_mempool::PoolLimits;
 use el_methods::Holdings;
-use el_model::Ledger;
 use el_outside::Place;
 use el_plain::PlainLedger;
 use el_pool::Pool;
@@ -52,7 +49,7 @@ pub enum Told {
 pub type Row = (&'static str, &'static str, Told);
 
 // What is answered over no blocks.
-const NO_BLOCKS: [Row; 8] = [
+const NO_BLOCKS: &[Row] = &[
     (
         "blockchain.headers.subscribe",
         "[]",
@@ -92,7 +89,7 @@ const NO_BLOCKS: [Row; 8] = [
 ];
 
 // What is answered over Bitcoin's first block.
-const ONE_BLOCK: [Row; 6] = [
+const ONE_BLOCK: &[Row] = &[
     (
         "blockchain.transaction.id_from_pos",
         "[0,0]",
@@ -129,7 +126,7 @@ const ONE_BLOCK: [Row; 6] = [
 ];
 
 // What is answered over Bitcoin's first two blocks.
-const TWO_BLOCKS: [Row; 24] = [
+const TWO_BLOCKS: &[Row] = &[
     (
         "blockchain.block.header",
         "[0]",
@@ -286,7 +283,7 @@ const TWO_BLOCKS: [Row; 24] = [
 ];
 
 // What is answered over these and a block of three transactions.
-const THREE_BLOCKS: [Row; 10] = [
+const THREE_BLOCKS: &[Row] = &[
     (
         "blockchain.transaction.id_from_pos",
         "[2,2,true]",
@@ -377,41 +374,38 @@ pub struct World {
     pub session: Session,
 }
 
-// Whether a block names the ledger's last one, or zeros where there is none.
-pub fn names_tip(block: &Block, ledger: &PlainLedger) -> bool
-    ensures { IsTrue result → block.now.header.previous ≡ tip ledger.now }
-{
-    match ledger.tip() {
-        Some(hash) => block.header.previous == hash,
-        None => block.header.previous == Hash32([0; 32]),
-    }
+// Where a record of so many bytes stands at the end of the file.
+fn place_behind(file: &Bytes, len: usize) -> Option<Place> {
+    Some(Place {
+        file: 0,
+        offset: file.len() as u64,
+        len: u32::try_from(len).ok()?,
+    })
 }
 
 // Adds the record of a block at the end of the file, and tells where it stands.
 fn add_record(file: &mut Bytes, block: &[u8]) -> Option<Place> {
-    let place = Place {
-        file: 0,
-        offset: file.len() as u64,
-        len: u32::try_from(block.len()).ok()?,
-    };
+    let place = place_behind(file, block.len())?;
     file.extend(MAGIC.as_slice()).ok()?;
     file.extend(place.len.to_le_bytes().as_slice()).ok()?;
     file.extend(block).ok()?;
     Some(place)
 }
 
+// A ledger, the headers of its blocks, and the block file.
+#[derive(Drop)]
+struct Blocks {
+    ledger: PlainLedger,
+    tree: HeaderTree,
+    file: Bytes,
+}
+
 // Adds the block of these bytes after the last.
-fn add_block(
-    alloc: Global,
-    ledger: &mut PlainLedger,
-    tree: &mut HeaderTree,
-    file: &mut Bytes,
-    bytes: &[u8],
-) -> bool {
+fn add_block(alloc: Global, blocks: &mut Blocks, bytes: &[u8]) -> bool {
     let Ok(block) = decode_block(alloc, bytes) else {
         return false;
     };
-    let Some(place) = add_record(file, bytes) else {
+    let Some(place) = add_record(&mut blocks.file, bytes) else {
         return false;
     };
     let node = Node {
@@ -419,35 +413,60 @@ fn add_block(
         header: block.header,
         place,
     };
-    names_tip(&block, ledger) && tree.add(node).is_ok() && ledger.extend(block, place).is_ok()
+    names_tip(&block, &blocks.ledger)
+        && blocks.tree.add(node).is_ok()
+        && blocks.ledger.extend(block, place).is_ok()
+}
+
+// Adds the blocks of these bytes, one after the other.
+fn add_blocks(alloc: Global, blocks: &mut Blocks, list: &[Bytes]) -> bool {
+    for bytes in list {
+        if !add_block(alloc, blocks, bytes.as_slice()) {
+            return false;
+        }
+    }
+    true
+}
+
+// The blocks of these bytes; None where they are no chain.
+fn blocks_of(alloc: Global, list: &[Bytes]) -> Option<Blocks> {
+    let mut blocks = Blocks {
+        ledger: PlainLedger::new(alloc),
+        tree: HeaderTree::new(alloc),
+        file: Bytes::new(alloc),
+    };
+    if add_blocks(alloc, &mut blocks, list) {
+        Some(blocks)
+    } else {
+        None
+    }
+}
+
+// Block files of one file, of which the call with that number fails.
+fn archive_of(alloc: Global, file: Bytes, failing: u64) -> Option<MemArchive> {
+    let mut files = Vec::new(alloc);
+    files.push(file).ok()?;
+    let failing = Vec::from_slice(alloc, &[failing]).ok()?;
+    Some(MemArchive::new(files, failing))
 }
 
 /// The bytes of these hex digits; None where they are none.
 pub fn decoded(alloc: Global, texts: &[&str]) -> Option<Vec<Bytes>> {
     let mut list = Vec::new(alloc);
     for digits in texts {
-        list.push(Bytes::from_vec(hex::decode(alloc, *digits).ok()?))
-            .ok()?;
+        let bytes = hex::decode(alloc, *digits).ok()?;
+        list.push(Bytes::from_vec(bytes)).ok()?;
     }
     Some(list)
 }
 
 /// The world of the blocks of these bytes, of whose block files the call with that number fails; None where
 /// they are no chain.
-pub fn world_of(alloc: Global, blocks: &[Bytes], failing: u64) -> Option<World> {
-    let mut ledger = PlainLedger::new(alloc);
-    let mut tree = HeaderTree::new(alloc);
-    let mut file = Bytes::new(alloc);
-    for block in blocks {
-        if !add_block(alloc, &mut ledger, &mut tree, &mut file, block.as_slice()) {
-            return None;
-        }
-    }
-    let mut files = Vec::new(alloc);
-    files.push(file).ok()?;
+pub fn world_of(alloc: Global, list: &[Bytes], failing: u64) -> Option<World> {
+    let Blocks { ledger, tree, file } = blocks_of(alloc, list)?;
     Some(World {
         ledger,
-        archive: MemArchive::new(files, Vec::from_slice(alloc, &[failing]).ok()?),
+        archive: archive_of(alloc, file, failing)?,
         holdings: Holdings {
             tree,
             magic: MAGIC,
@@ -459,6 +478,12 @@ pub fn world_of(alloc: Global, blocks: &[Bytes], failing: u64) -> Option<World> 
             subs: Subs::new(alloc),
         },
     })
+}
+
+/// The world of the blocks of these hex digits, of whose block files the call with that number fails.
+pub fn world_over(alloc: Global, blocks: &[&str], failing: u64) -> Option<World> {
+    let list = decoded(alloc, blocks)?;
+    world_of(alloc, list.as_slice(), failing)
 }
 
 /// What comes of a line; None where memory runs out.
@@ -474,76 +499,101 @@ pub fn reply(alloc: Global, world: &mut World, line: &[u8]) -> Option<LineReply>
     .ok()
 }
 
-/// Whether the client is sent this message for the line, none if it is empty, and whether it is then closed.
-pub fn says(alloc: Global, world: &mut World, line: &[u8], wanted: &[u8], closes: bool) -> bool {
-    let Some(reply) = reply(alloc, world, line) else {
-        return false;
-    };
-    let same = match &reply.text {
+/// The message to a line; None where there is none.
+pub fn text_of(alloc: Global, world: &mut World, line: &[u8]) -> Option<Bytes> {
+    reply(alloc, world, line)?.text
+}
+
+// Whether this is the message, none if it is empty.
+fn is_text(text: &Option<Bytes>, wanted: &[u8]) -> bool {
+    match text {
         Some(text) => text.as_slice() == wanted,
         None => wanted.is_empty(),
-    };
-    same && reply.closes == closes
+    }
+}
+
+/// Whether the client is sent this message for the line, none if it is empty, and whether it is then closed.
+pub fn says(alloc: Global, world: &mut World, line: &[u8], wanted: &[u8], closes: bool) -> bool {
+    match reply(alloc, world, line) {
+        Some(reply) => is_text(&reply.text, wanted) && reply.closes == closes,
+        None => false,
+    }
+}
+
+/// Adds the texts, one after the other.
+pub fn push_all(text: &mut String, parts: &[&str]) -> Option<()> {
+    for part in parts {
+        text.push_str(*part).ok()?;
+    }
+    Some(())
+}
+
+/// The texts, one after the other.
+pub fn joined(alloc: Global, parts: &[&str]) -> Option<String> {
+    let mut text = String::new(alloc);
+    push_all(&mut text, parts)?;
+    Some(text)
 }
 
 /// The request of a method with this id and these parameters.
 pub fn request(alloc: Global, id: u32, method: &str, params: &str) -> Option<String> {
-    let mut line = String::new(alloc);
-    line.push_str("{\"id\":").ok()?;
-    line.push_str(&id.to_string(alloc).ok()?).ok()?;
-    line.push_str(",\"method\":\"").ok()?;
-    line.push_str(method).ok()?;
-    line.push_str("\",\"params\":").ok()?;
-    line.push_str(params).ok()?;
-    line.push_str("}").ok()?;
-    Some(line)
-}
-
-// The message with a result.
-fn result_text(alloc: Global, found: &str) -> Option<String> {
-    let mut text = String::new(alloc);
-    text.push_str("{\"id\":1,\"jsonrpc\":\"2.0\",\"result\":")
-        .ok()?;
-    text.push_str(found).ok()?;
-    text.push_str("}\n").ok()?;
-    Some(text)
+    let id = id.to_string(alloc).ok()?;
+    let front = "{\"id\":";
+    let method_follows = ",\"method\":\"";
+    let parts = [
+        front,
+        id.as_str(),
+        method_follows,
+        method,
+        "\",\"params\":",
+        params,
+        "}",
+    ];
+    joined(alloc, parts.as_slice())
 }
 
 // The message with an error.
 fn error_text(alloc: Global, code: i32, message: &str) -> Option<String> {
-    let mut text = String::new(alloc);
-    text.push_str("{\"error\":{\"code\":").ok()?;
-    text.push_str(&code.to_string(alloc).ok()?).ok()?;
-    text.push_str(",\"message\":\"").ok()?;
-    text.push_str(message).ok()?;
-    text.push_str("\"},\"id\":1,\"jsonrpc\":\"2.0\"}\n").ok()?;
-    Some(text)
+    let code = code.to_string(alloc).ok()?;
+    let front = "{\"error\":{\"code\":";
+    let end = "\"},\"id\":1,\"jsonrpc\":\"2.0\"}\n";
+    joined(
+        alloc,
+        &[front, code.as_str(), ",\"message\":\"", message, end],
+    )
 }
 
 fn message(alloc: Global, told: Told) -> Option<String> {
     match told {
-        Told::Gives(found) => result_text(alloc, found),
+        Told::Gives(found) => joined(
+            alloc,
+            &["{\"id\":1,\"jsonrpc\":\"2.0\",\"result\":", found, "}\n"],
+        ),
         Told::Refuses(code, message) => error_text(alloc, code, message),
     }
 }
 
+// Whether the client is told so for the line.
+fn tells_line(alloc: Global, world: &mut World, line: &[u8], told: Told) -> bool {
+    match message(alloc, told) {
+        Some(wanted) => says(alloc, world, line, wanted.as_bytes(), false),
+        None => false,
+    }
+}
+
 /// Whether the client is told so.
-pub fn tells(alloc: Global, world: &mut World, row: Row) -> bool {
-    let (method, params, told) = row;
-    let Some(line) = request(alloc, 1, method, params) else {
-        return false;
-    };
-    let Some(wanted) = message(alloc, told) else {
-        return false;
-    };
-    says(alloc, world, line.as_bytes(), wanted.as_bytes(), false)
+pub fn tells(alloc: Global, world: &mut World, row: &Row) -> bool {
+    match request(alloc, 1, row.0, row.1) {
+        Some(line) => tells_line(alloc, world, line.as_bytes(), row.2),
+        None => false,
+    }
 }
 
 // How many of the rows, in order, are told so in the world.
 pub fn told_in(alloc: Global, world: &mut World, rows: &[Row]) -> usize {
     let mut told = 0usize;
     for row in rows {
-        if tells(alloc, world, *row) {
+        if tells(alloc, world, row) {
             told = told.saturating_add(1);
         }
     }
@@ -552,26 +602,26 @@ pub fn told_in(alloc: Global, world: &mut World, rows: &[Row]) -> usize {
 
 // How many of the rows, in order, are told so over the blocks.
 fn told_rows(alloc: Global, blocks: &[&str], rows: &[Row]) -> usize {
-    let Some(blocks) = decoded(alloc, blocks) else {
-        return 0;
-    };
-    let Some(mut world) = world_of(alloc, blocks.as_slice(), 0) else {
-        return 0;
-    };
-    told_in(alloc, &mut world, rows)
+    match world_over(alloc, blocks, 0) {
+        Some(mut world) => told_in(alloc, &mut world, rows),
+        None => 0,
+    }
 }
 
 #[test]
 fn answers_over_no_blocks_and_one(rt: HostRuntime) -> Result<(), Fail> {
-    assert!(rt; told_rows(rt.alloc(), &[], &NO_BLOCKS) == NO_BLOCKS.len());
-    assert!(rt; told_rows(rt.alloc(), &[GENESIS], &ONE_BLOCK) == ONE_BLOCK.len());
+    assert!(rt; told_rows(rt.alloc(), &[], NO_BLOCKS) == NO_BLOCKS.len());
+    assert!(rt; told_rows(rt.alloc(), &[GENESIS], ONE_BLOCK) == ONE_BLOCK.len());
     Ok(())
 }
 
+const TWO: &[&str] = &[GENESIS, BLOCK_1];
+
+const THREE: &[&str] = &[GENESIS, BLOCK_1, THIRD];
+
 #[test]
 fn answers_over_two_blocks_and_three(rt: HostRuntime) -> Result<(), Fail> {
-    let three = [GENESIS, BLOCK_1, THIRD];
-    assert!(rt; told_rows(rt.alloc(), &three[..2], &TWO_BLOCKS) == TWO_BLOCKS.len());
-    assert!(rt; told_rows(rt.alloc(), &three, &THREE_BLOCKS) == THREE_BLOCKS.len());
+    assert!(rt; told_rows(rt.alloc(), TWO, TWO_BLOCKS) == TWO_BLOCKS.len());
+    assert!(rt; told_rows(rt.alloc(), THREE, THREE_BLOCKS) == THREE_BLOCKS.len());
     Ok(())
 }

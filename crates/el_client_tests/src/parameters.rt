@@ -1,6 +1,7 @@
 // The parameters of each method: too few, too many, each of another kind, null, and by an unknown name. Which
 // value is of which kind was written out by hand from Electrum Protocol 1.4.
-use crate::methods::{reply, request, world_of};
+use crate::methods::{joined, push_all, request, text_of, world_of};
+use el_base::Bytes;
 use std::alloc::Global;
 use std::test::Fail;
 
@@ -25,7 +26,7 @@ type Row = (
 
 const SOME_HASH: &str = "\"4a5e1e4baab89f3a32518a88c31bc87f618f76673e2cc77ab2127b7afdeda33b\"";
 
-const METHODS: [Row; 22] = [
+const METHODS: &[Row] = &[
     (
         "server.version",
         &[
@@ -123,7 +124,7 @@ const METHODS: [Row; 22] = [
 ];
 
 // A value, and the kinds that it is of.
-const VALUES: [(&str, &[Kind]); 19] = [
+const VALUES: &[(&str, &[Kind])] = &[
     ("null", &[]),
     ("true", &[Kind::Flag]),
     ("7", &[Kind::Number]),
@@ -151,25 +152,67 @@ const VALUES: [(&str, &[Kind]); 19] = [
 const INVALID: &[u8] =
     b"{\"error\":{\"code\":-32602,\"message\":\"invalid params\"},\"id\":1,\"jsonrpc\":\"2.0\"}\n";
 
+// The message to a new client's line; None where there is none.
+fn told_new(alloc: Global, line: &[u8]) -> Option<Bytes> {
+    match world_of(alloc, &[], 0) {
+        Some(mut world) => text_of(alloc, &mut world, line),
+        None => None,
+    }
+}
+
+// Whether a new client's line is refused for its parameters; None where there is no answer.
+fn is_line_refused(alloc: Global, line: &[u8]) -> Option<bool> {
+    match told_new(alloc, line) {
+        Some(text) => Some(text.as_slice() == INVALID),
+        None => None,
+    }
+}
+
 // Whether a new client's request with these parameters is refused for them; None where there is no answer.
 fn is_refused(alloc: Global, method: &str, params: &str) -> Option<bool> {
-    let mut world = world_of(alloc, &[], 0)?;
-    let line = request(alloc, 1, method, params)?;
-    let reply = reply(alloc, &mut world, line.as_bytes())?;
-    Some(reply.text?.as_slice() == INVALID)
+    match request(alloc, 1, method, params) {
+        Some(line) => is_line_refused(alloc, line.as_bytes()),
+        None => None,
+    }
 }
 
 // Adds a parameter, by its name if there is one.
 fn add(out: &mut String, name: Option<&str>, value: &str) -> Option<()> {
-    if out.len() > 1 {
-        out.push_str(",").ok()?;
+    let comma = if out.len() > 1 { "," } else { "" };
+    match name {
+        Some(name) => push_all(out, &[comma, "\"", name, "\":", value]),
+        None => push_all(out, &[comma, value]),
     }
-    if let Some(name) = name {
-        out.push_str("\"").ok()?;
-        out.push_str(name).ok()?;
-        out.push_str("\":").ok()?;
+}
+
+// What stands before parameters, and after them.
+fn brackets(by_name: bool) -> (&'static str, &'static str) {
+    if by_name { ("{", "}") } else { ("[", "]") }
+}
+
+// The value of the parameter with that number: its own, or the one that is given in its place.
+fn value_at<'x>(number: usize, own: &'x str, changed: Option<(usize, &'x str)>) -> &'x str {
+    match changed {
+        Some((n, other)) => { if n == number { other } else { own } }
+        None => own,
     }
-    out.push_str(value).ok()
+}
+
+// Adds the first so many parameters.
+fn add_first(
+    out: &mut String,
+    row: &Row,
+    count: usize,
+    by_name: bool,
+    changed: Option<(usize, &str)>,
+) -> Option<()> {
+    for (i, (name, own, _)) in row.1.iter().enumerate() {
+        if i < count {
+            let name = if by_name { Some(*name) } else { None };
+            add(out, name, value_at(i, *own, changed))?;
+        }
+    }
+    Some(())
 }
 
 // The first so many parameters of a method, by place or by name, of which the one with that number has this
@@ -181,16 +224,10 @@ fn given(
     by_name: bool,
     changed: Option<(usize, &str)>,
 ) -> Option<String> {
-    let mut out = String::new(alloc);
-    out.push_str(if by_name { "{" } else { "[" }).ok()?;
-    for (i, (name, value, _)) in row.1.iter().take(count).enumerate() {
-        let value = match changed {
-            Some((n, other)) if n == i => other,
-            _ => *value,
-        };
-        add(&mut out, if by_name { Some(*name) } else { None }, value)?;
-    }
-    out.push_str(if by_name { "}" } else { "]" }).ok()?;
+    let (front, back) = brackets(by_name);
+    let mut out = joined(alloc, &[front])?;
+    add_first(&mut out, row, count, by_name, changed)?;
+    push_all(&mut out, &[back])?;
     Some(out)
 }
 
@@ -214,39 +251,34 @@ fn count_is_kept(alloc: Global, row: &Row, by_name: bool) -> bool {
 
 #[test]
 fn too_few_parameters(rt: HostRuntime) -> Result<(), Fail> {
-    for row in METHODS {
-        assert!(rt; count_is_kept(rt.alloc(), &row, false), "{}", row.0);
-        assert!(rt; count_is_kept(rt.alloc(), &row, true), "{}", row.0);
+    for row in METHODS.iter() {
+        assert!(rt; count_is_kept(rt.alloc(), row, false), "{}", row.0);
+        assert!(rt; count_is_kept(rt.alloc(), row, true), "{}", row.0);
     }
     Ok(())
 }
 
 // All parameters of a method and one more, by place or by a name that is unknown.
 fn one_more(alloc: Global, row: &Row, by_name: bool) -> Option<String> {
-    let mut out = given(alloc, row, row.1.len(), by_name, None)?;
-    out.pop();
-    add(
-        &mut out,
-        if by_name { Some("heigth") } else { None },
-        "null",
-    )?;
-    out.push_str(if by_name { "}" } else { "]" }).ok()?;
+    let (front, back) = brackets(by_name);
+    let name = if by_name { Some("heigth") } else { None };
+    let mut out = joined(alloc, &[front])?;
+    add_first(&mut out, row, row.1.len(), by_name, None)?;
+    add(&mut out, name, "null")?;
+    push_all(&mut out, &[back])?;
     Some(out)
+}
+
+// Whether one more is refused.
+fn refuses_more(alloc: Global, row: &Row, by_name: bool) -> bool {
+    is_as_wanted(alloc, row, one_more(alloc, row, by_name), true)
 }
 
 #[test]
 fn too_many_parameters_and_unknown_names(rt: HostRuntime) -> Result<(), Fail> {
-    for row in METHODS {
-        assert!(rt;
-            is_as_wanted(rt.alloc(), &row, one_more(rt.alloc(), &row, false), true),
-            "{}",
-            row.0
-        );
-        assert!(rt;
-            is_as_wanted(rt.alloc(), &row, one_more(rt.alloc(), &row, true), true),
-            "{}",
-            row.0
-        );
+    for row in METHODS.iter() {
+        assert!(rt; refuses_more(rt.alloc(), row, false), "{}", row.0);
+        assert!(rt; refuses_more(rt.alloc(), row, true), "{}", row.0);
     }
     Ok(())
 }
@@ -262,9 +294,9 @@ fn is_among(kind: Kind, kinds: &[Kind]) -> bool {
 // Whether the parameter with that number is refused exactly where it isn't of its kind.
 fn kind_is_kept(alloc: Global, row: &Row, number: usize, kind: Kind, by_name: bool) -> bool {
     let mut kept = true;
-    for (value, kinds) in VALUES {
-        let params = given(alloc, row, row.1.len(), by_name, Some((number, value)));
-        kept = is_as_wanted(alloc, row, params, !is_among(kind, kinds)) && kept;
+    for (value, kinds) in VALUES.iter() {
+        let params = given(alloc, row, row.1.len(), by_name, Some((number, *value)));
+        kept = is_as_wanted(alloc, row, params, !is_among(kind, *kinds)) && kept;
     }
     kept
 }
@@ -280,9 +312,9 @@ fn kinds_are_kept(alloc: Global, row: &Row, by_name: bool) -> bool {
 
 #[test]
 fn parameters_of_other_kinds(rt: HostRuntime) -> Result<(), Fail> {
-    for row in METHODS {
-        assert!(rt; kinds_are_kept(rt.alloc(), &row, false), "{}", row.0);
-        assert!(rt; kinds_are_kept(rt.alloc(), &row, true), "{}", row.0);
+    for row in METHODS.iter() {
+        assert!(rt; kinds_are_kept(rt.alloc(), row, false), "{}", row.0);
+        assert!(rt; kinds_are_kept(rt.alloc(), row, true), "{}", row.0);
     }
     Ok(())
 }

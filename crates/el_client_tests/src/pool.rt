@@ -1,13 +1,15 @@
 // What no contract says of the set: that its calls succeed where memory is ample, over a chain of one block
 // or two and with a few transactions. Hashes are as users see them; another program computed them from the
 // rules.
-ghost use Rattle.std.specs.Prelude.{◌≤◌, IfSome};
+ghost use Rattle.std.specs.Prelude.{◌≡◌, ◌≤◌, IfOk, IfSome, IsTrue};
+ghost use Rattle.std.specs.List.{AllByRecursion};
 ghost use Rattle.el_tx.specs.Encoding.{HasEncoding};
+ghost use Rattle.el_block.specs.Blocks.{HasBlockEncoding};
+ghost use Rattle.el_chain.specs.Chains.{tip};
 
-use crate::methods::names_tip;
 use crate::views::hash;
 use el_base::{Bytes, Hash32, OutOfMemory};
-use el_block::decode_block;
+use el_block::{Block, decode_block};
 use el_chain::Touched;
 use el_gen::{block, block_bytes, coinbase, spend};
 use el_mempool::{Held, PoolFault, PoolLimits, Source};
@@ -50,11 +52,11 @@ const PLACE: Place = Place {
     len: 200,
 };
 
-// A set over a ledger.
+/// A set over a ledger.
 #[derive(Drop)]
-struct World {
-    ledger: PlainLedger,
-    pool: Pool,
+pub struct World {
+    pub ledger: PlainLedger,
+    pub pool: Pool,
 }
 
 fn output(txid: &str) -> Outpoint {
@@ -128,23 +130,44 @@ fn child(alloc: Global) -> Bytes {
     paying(alloc, &[output(PARENT)], COIN, 2)
 }
 
-// The bytes of the block of a coinbase and one more transaction.
-fn block_after(
+/// The block of a coinbase and one more transaction.
+pub fn block_after(
     alloc: Global,
     before: Hash32,
     height: u32,
     more: Option<Tx>,
-) -> Result<Bytes, OutOfMemory>
+) -> Result<Block, OutOfMemory>
     requires early { height ≤ 4000000 }
     requires encoded { IfSome more HasEncoding }
+    ensures { IfOk result (λ b. AllByRecursion HasEncoding b.txs) }
 {
     let mut txs = Vec::new(alloc);
     txs.push(coinbase(alloc, height, 0, 101)?)?;
     if let Some(tx) = more {
         txs.push(tx)?;
     }
-    let made = block(alloc, before, height, 0, txs)?;
-    block_bytes(alloc, &made)
+    block(alloc, before, height, 0, txs)
+}
+
+// The block, as its bytes are read.
+fn read_after(alloc: Global, before: Hash32, height: u32, more: Option<Tx>) -> Option<Block>
+    requires early { height ≤ 4000000 }
+    requires encoded { IfSome more HasEncoding }
+    ensures { IfSome result HasBlockEncoding }
+{
+    let made = block_after(alloc, before, height, more).ok()?;
+    let bytes = block_bytes(alloc, &made).ok()?;
+    decode_block(alloc, bytes.as_slice()).ok()
+}
+
+// Whether a block names the ledger's last one, or zeros where there is none.
+pub fn names_tip(block: &Block, ledger: &PlainLedger) -> bool
+    ensures { IsTrue result → block.now.header.previous ≡ tip ledger.now }
+{
+    match ledger.tip() {
+        Some(hash) => block.header.previous == hash,
+        None => block.header.previous == Hash32([0; 32]),
+    }
 }
 
 fn tip_hash(ledger: &PlainLedger) -> Hash32 {
@@ -159,16 +182,10 @@ pub fn extend(alloc: Global, ledger: &mut PlainLedger, height: u32, more: Option
     requires early { height ≤ 4000000 }
     requires encoded { IfSome more HasEncoding }
 {
-    let Ok(bytes) = block_after(alloc, tip_hash(ledger), height, more) else {
-        return false;
-    };
-    let Ok(block) = decode_block(alloc, bytes.as_slice()) else {
-        return false;
-    };
-    if !names_tip(&block, ledger) {
-        return false;
+    match read_after(alloc, tip_hash(ledger), height, more) {
+        Some(block) => names_tip(&block, ledger) && ledger.extend(block, PLACE).is_ok(),
+        None => false,
     }
-    ledger.extend(block, PLACE).is_ok()
 }
 
 // A ledger of the first block.
@@ -237,103 +254,169 @@ fn lacks_parent(pool: &Pool) -> bool {
     pool.find(&hash(PARENT)).is_none() && pool.spender(&output(COINBASE)).is_none()
 }
 
-// Refused with nothing kept: no whole transaction, a coinbase's form, too much given, one coin taken twice.
-fn refuses_alone<R: Abort>(rt: &R, alloc: Global, world: &mut World) {
-    assert!(rt; refuses(world, Bytes::new(alloc), PoolFault::Bad));
-    assert!(rt; refuses(world, first_coinbase(alloc), PoolFault::CoinbaseForm));
-    let coin = output(COINBASE);
+// Whether too much given is refused.
+fn refuses_more(alloc: Global, world: &mut World) -> bool {
     let refusal = PoolFault::Overspends {
         taken: COIN,
         given: COIN + 1,
     };
-    assert!(rt; refuses(world, paying(alloc, &[coin], COIN + 1, 1), refusal));
-    let refusal = PoolFault::Conflict {
-        outpoint: coin,
-        txid: hash(TWICE),
-    };
-    assert!(rt; refuses(world, paying(alloc, &[coin, coin], COIN, 1), refusal));
+    refuses(
+        world,
+        paying(alloc, &[output(COINBASE)], COIN + 1, 1),
+        refusal,
+    )
 }
 
-// Refused beside the parent, where no more is to be kept: it again, another that takes its coin, its child,
-// and one that takes no coin.
-fn refuses_beside<R: Abort>(rt: &R, alloc: Global, world: &mut World) {
-    assert!(rt; refuses(world, parent(alloc), PoolFault::Known));
-    let coin = output(COINBASE);
+// Whether this transaction is refused, which takes the coin, and a coin of the one with that txid again.
+fn refuses_again(world: &mut World, bytes: Bytes, txid: &str) -> bool {
     let refusal = PoolFault::Conflict {
-        outpoint: coin,
-        txid: hash(PARENT),
+        outpoint: output(COINBASE),
+        txid: hash(txid),
     };
-    assert!(rt; refuses(world, paying(alloc, &[coin], 1, 3), refusal));
+    refuses(world, bytes, refusal)
+}
+
+// A transaction that takes one coin twice, and another than the parent that takes its coin.
+fn twice(alloc: Global) -> Bytes {
+    let from = [output(COINBASE), output(COINBASE)];
+    paying(alloc, from.as_slice(), COIN, 1)
+}
+
+fn other(alloc: Global) -> Bytes {
+    paying(alloc, &[output(COINBASE)], 1, 3)
+}
+
+// Whether these are refused with nothing kept: no whole transaction, a coinbase's form, too much given, one
+// coin taken twice.
+fn refuses_alone(alloc: Global, world: &mut World) -> bool {
+    refuses(world, Bytes::new(alloc), PoolFault::Bad)
+        && refuses(world, first_coinbase(alloc), PoolFault::CoinbaseForm)
+        && refuses_more(alloc, world)
+        && refuses_again(world, twice(alloc), TWICE)
+}
+
+// Whether the child is refused beside the parent, where no more is to be kept.
+fn refuses_child(alloc: Global, world: &mut World) -> bool {
     let refusal = PoolFault::Full {
         count: 1,
         bytes: 65,
     };
-    assert!(rt; refuses(world, child(alloc), refusal));
-    let nowhere = output(NOTHING);
-    let refusal = PoolFault::Missing { outpoint: nowhere };
-    assert!(rt; refuses(world, paying(alloc, &[coin, nowhere], 1, 3), refusal));
+    refuses(world, child(alloc), refusal)
 }
 
-fn room_for_one<R: Abort>(rt: &R, alloc: Global) {
+// Whether a transaction is refused that takes a coin that isn't there.
+fn refuses_missing(alloc: Global, world: &mut World) -> bool {
+    let refusal = PoolFault::Missing {
+        outpoint: output(NOTHING),
+    };
+    let from = [output(COINBASE), output(NOTHING)];
+    refuses(world, paying(alloc, from.as_slice(), 1, 3), refusal)
+}
+
+// Whether these are refused beside the parent: it again, another that takes its coin, its child, and one that
+// takes no coin.
+fn refuses_beside(alloc: Global, world: &mut World) -> bool {
+    refuses(world, parent(alloc), PoolFault::Known)
+        && refuses_again(world, other(alloc), PARENT)
+        && refuses_child(alloc, world)
+        && refuses_missing(alloc, world)
+}
+
+// Whether the parent is dropped once, and nothing is then kept.
+fn drops_parent(pool: &mut Pool) -> bool {
+    drops(pool, PARENT, &[SCRIPT_1, SCRIPT_101])
+        && matches!(pool.drop_tx(&hash(PARENT)), Ok(None))
+        && lacks_parent(pool)
+}
+
+fn joins_parent(alloc: Global, world: &mut World) -> bool {
+    joins(world, parent(alloc), PARENT, &[SCRIPT_1, SCRIPT_101])
+}
+
+fn joins_child(alloc: Global, world: &mut World) -> bool {
+    joins(world, child(alloc), CHILD, &[SCRIPT_1, SCRIPT_2])
+}
+
+// A set that may keep so many, over a ledger of the first block.
+fn begun(alloc: Global, count: u64) -> World {
     let limits = PoolLimits {
-        count: 1,
+        count,
         bytes: 1_000,
     };
-    let mut world = World {
+    World {
         ledger: first_ledger(alloc),
         pool: Pool::new(alloc, limits),
-    };
-    refuses_alone(rt, alloc, &mut world);
-    assert!(rt; joins(&mut world, parent(alloc), PARENT, &[SCRIPT_1, SCRIPT_101]));
-    refuses_beside(rt, alloc, &mut world);
-    assert!(rt; drops(&mut world.pool, PARENT, &[SCRIPT_1, SCRIPT_101]));
-    assert!(rt; matches!(world.pool.drop_tx(&hash(PARENT)), Ok(None)));
-    assert!(rt; lacks_parent(&world.pool));
+    }
 }
 
-// The parent and its child come, and the parent is dropped, with its child.
-fn drops_both<R: Abort>(rt: &R, alloc: Global, world: &mut World) {
-    assert!(rt; joins(world, parent(alloc), PARENT, &[SCRIPT_1, SCRIPT_101]));
-    assert!(rt; joins(world, child(alloc), CHILD, &[SCRIPT_1, SCRIPT_2]));
-    assert!(rt; drops(&mut world.pool, PARENT, &[SCRIPT_1, SCRIPT_2, SCRIPT_101]));
-    assert!(rt; lacks_parent(&world.pool));
-    assert!(rt; world.pool.find(&hash(CHILD)).is_none());
+fn keeps_one<R: Abort>(rt: &R, alloc: Global, world: &mut World) {
+    assert!(rt; refuses_alone(alloc, world));
+    assert!(rt; joins_parent(alloc, world));
+    assert!(rt; refuses_beside(alloc, world));
+    assert!(rt; drops_parent(&mut world.pool));
 }
 
-// They come again; then a block with the parent comes.
-fn confirms_parent<R: Abort>(rt: &R, alloc: Global, world: &mut World) {
-    assert!(rt; joins(world, parent(alloc), PARENT, &[SCRIPT_1, SCRIPT_101]));
-    assert!(rt; joins(world, child(alloc), CHILD, &[SCRIPT_1, SCRIPT_2]));
-    assert!(rt; keeps_child(alloc, &world.pool, -1));
-    assert!(rt; world.pool.spender(&output(COINBASE)) == Some(hash(PARENT)));
+fn lacks_child(pool: &Pool) -> bool {
+    pool.find(&hash(CHILD)).is_none()
+}
+
+// Whether the parent and its child come, and the parent is dropped, with its child.
+fn drops_both(alloc: Global, world: &mut World) -> bool {
+    joins_parent(alloc, world)
+        && joins_child(alloc, world)
+        && drops(&mut world.pool, PARENT, &[SCRIPT_1, SCRIPT_2, SCRIPT_101])
+        && lacks_parent(&world.pool)
+        && lacks_child(&world.pool)
+}
+
+// Whether they come, the child after the parent.
+fn keeps_both(alloc: Global, world: &mut World) -> bool {
+    joins_parent(alloc, world)
+        && joins_child(alloc, world)
+        && keeps_child(alloc, &world.pool, -1)
+        && world.pool.spender(&output(COINBASE)) == Some(hash(PARENT))
+}
+
+// A block with the parent comes.
+fn extend_by_parent(alloc: Global, world: &mut World) -> bool {
     let more = spending(alloc, &[output(COINBASE)], COIN, 1);
-    assert!(rt; extend(alloc, &mut world.ledger, 1, more));
-    assert!(rt; moves(world, &[SCRIPT_1, SCRIPT_2, SCRIPT_101]));
-    assert!(rt; keeps_child(alloc, &world.pool, 0));
-    assert!(rt; lacks_parent(&world.pool));
-    assert!(rt; refuses(world, parent(alloc), PoolFault::Confirmed));
+    extend(alloc, &mut world.ledger, 1, more)
 }
 
-fn room_for_all<R: Abort>(rt: &R, alloc: Global) {
-    let limits = PoolLimits {
-        count: 10,
-        bytes: 1_000,
-    };
-    let mut world = World {
-        ledger: first_ledger(alloc),
-        pool: Pool::new(alloc, limits),
-    };
-    drops_both(rt, alloc, &mut world);
-    confirms_parent(rt, alloc, &mut world);
-    // The block is taken back, and nothing gives the coin that the child takes.
+// Whether a block with the parent comes, and the child alone is kept.
+fn confirms_parent(alloc: Global, world: &mut World) -> bool {
+    extend_by_parent(alloc, world)
+        && moves(world, &[SCRIPT_1, SCRIPT_2, SCRIPT_101])
+        && keeps_child(alloc, &world.pool, 0)
+        && lacks_parent(&world.pool)
+        && refuses(world, parent(alloc), PoolFault::Confirmed)
+}
+
+// Whether the block is taken back, and nothing gives the coin that the child takes.
+fn takes_back(alloc: Global, world: &mut World) -> bool {
     world.ledger = first_ledger(alloc);
-    assert!(rt; moves(&mut world, &[SCRIPT_1, SCRIPT_2]));
-    assert!(rt; world.pool.find(&hash(CHILD)).is_none());
+    moves(world, &[SCRIPT_1, SCRIPT_2]) && lacks_child(&world.pool)
+}
+
+fn keeps_all<R: Abort>(rt: &R, alloc: Global, world: &mut World) {
+    assert!(rt; drops_both(alloc, world));
+    assert!(rt; keeps_both(alloc, world));
+    assert!(rt; confirms_parent(alloc, world));
+    assert!(rt; takes_back(alloc, world));
+}
+
+// A set that may keep so many, one or all.
+fn keeps<R: Abort>(rt: &R, alloc: Global, count: u64) {
+    let mut world = begun(alloc, count);
+    if count == 1 {
+        keeps_one(rt, alloc, &mut world);
+    } else {
+        keeps_all(rt, alloc, &mut world);
+    }
 }
 
 #[test]
 fn joins_moves_and_goes(rt: HostRuntime) {
-    let alloc = rt.alloc();
-    room_for_one(&rt, alloc);
-    room_for_all(&rt, alloc);
+    keeps(&rt, rt.alloc(), 1);
+    keeps(&rt, rt.alloc(), 10);
 }

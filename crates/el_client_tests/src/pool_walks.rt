@@ -1,10 +1,10 @@
 // Random tables: transactions come, are dropped, and blocks come and go, and after each step what the set
 // tells is what a plain list tells that is sifted anew and walked from its start for each question.
-ghost use Rattle.std.specs.Prelude.{◌≤◌, IfSome};
+ghost use Rattle.std.specs.Prelude.{◌≤◌, length, IfSome};
 ghost use Rattle.el_tx.specs.Encoding.{HasEncoding};
 
 use crate::pool::{coinbase_id, encoded, extend};
-use el_base::{Hash32, OutOfMemory, sha256};
+use el_base::{Bytes, Hash32, OutOfMemory, sha256};
 use el_chain::{Coin, Touched};
 use el_gen::spend;
 use el_mempool::{Held, PoolEntry, PoolLimits};
@@ -16,7 +16,7 @@ use std::alloc::Global;
 use std::process::Abort;
 
 // Transactions pay to the scripts of 0 to 4, coinbases to that of 101.
-const SCRIPTS: [u32; 6] = [0, 1, 2, 3, 4, 101];
+const SCRIPTS: &[u32] = &[0, 1, 2, 3, 4, 101];
 
 // A transaction of one or two inputs and one or two outputs.
 #[derive(Clone, Copy)]
@@ -87,10 +87,17 @@ fn takes(made: &Made, outpoint: &Outpoint) -> bool {
     made.first == *outpoint || made.second == Some(*outpoint)
 }
 
+fn also_held(made: &Made) -> Option<Held> {
+    match made.also {
+        Some(to) => Some(held(to)),
+        None => None,
+    }
+}
+
 fn output_at(made: &Made, index: u32) -> Option<Held> {
     match index {
         0 => Some(held(made.to)),
-        1 => made.also.map(held),
+        1 => also_held(made),
         _ => None,
     }
 }
@@ -174,6 +181,14 @@ fn may_join(ledger: &mut PlainLedger, all: &[Made], list: &[usize], made: &Made)
     }
 }
 
+// Whether the one at that place may join.
+fn joins_at(ledger: &mut PlainLedger, all: &[Made], list: &[usize], place: usize) -> bool {
+    match all.get(place) {
+        Some(made) => may_join(ledger, all, list, made),
+        None => false,
+    }
+}
+
 // Those of the list that are kept over the ledger's chain.
 fn sifted(
     alloc: Global,
@@ -183,11 +198,7 @@ fn sifted(
 ) -> Result<Vec<usize>, OutOfMemory> {
     let mut kept = Vec::new(alloc);
     for place in list {
-        let joins = match all.get(*place) {
-            Some(made) => may_join(ledger, all, kept.as_slice(), made),
-            None => false,
-        };
-        if joins {
+        if joins_at(ledger, all, kept.as_slice(), *place) {
             kept.push(*place)?;
         }
     }
@@ -334,40 +345,76 @@ fn seen_at(pool: &Pool, script: &Hash32) -> Result<Seen, OutOfMemory> {
 
 fn all_seen(alloc: Global, pool: &Pool) -> Result<Vec<Seen>, OutOfMemory> {
     let mut seen = Vec::new(alloc);
-    for k in SCRIPTS {
-        seen.push(seen_at(pool, &script_hash(k))?)?;
+    for k in SCRIPTS.iter() {
+        seen.push(seen_at(pool, &script_hash(*k))?)?;
     }
     Ok(seen)
 }
 
+// Whether what is seen is what the plain list tells.
+fn is_right(walk: &mut Walk, now: &Seen, script: &Hash32) -> bool {
+    entries_agree(walk, now.entries.as_slice(), script)
+        && outs_agree(walk, now.outs.as_slice(), script)
+}
+
+fn differ(before: &Seen, now: &Seen) -> bool {
+    before.entries.as_slice() != now.entries.as_slice()
+        || before.outs.as_slice() != now.outs.as_slice()
+}
+
+// Whether what is seen is right, and differs from before exactly where the script hash is touched.
+fn is_touched_so(
+    walk: &mut Walk,
+    before: &Seen,
+    now: &Seen,
+    touched: &Touched,
+    script: &Hash32,
+) -> bool {
+    is_right(walk, now, script) && differ(before, now) == touched.has(script)
+}
+
 // The set tells what the plain list tells, and just the script hashes are touched at which that differs from
 // before.
-fn agrees_at(walk: &mut Walk, before: &Seen, touched: &Touched, k: u32) -> Option<usize> {
+fn agrees_at(walk: &mut Walk, before: &Seen, touched: &Touched, k: u32) -> bool {
     let script = script_hash(k);
-    let Ok(now) = seen_at(&walk.pool, &script) else {
-        return None;
-    };
-    let (entries, outs) = (now.entries.as_slice(), now.outs.as_slice());
-    let right = entries_agree(walk, entries, &script) && outs_agree(walk, outs, &script);
-    let differs = before.entries.as_slice() != entries || before.outs.as_slice() != outs;
-    if !right || differs != touched.has(&script) {
-        return None;
+    match seen_at(&walk.pool, &script) {
+        Ok(now) => is_touched_so(walk, before, &now, touched, &script),
+        Err(_) => false,
     }
-    Some(if differs { 1 } else { 0 })
+}
+
+// How many of the scripts are touched.
+fn count_of(touched: &Touched) -> usize {
+    let mut count = 0usize;
+    for k in SCRIPTS.iter() {
+        if touched.has(&script_hash(*k)) {
+            count = count.saturating_add(1);
+        }
+    }
+    count
 }
 
 fn agrees(walk: &mut Walk, before: &[Seen], touched: &Touched) -> bool {
-    let mut changed = 0usize;
-    for (number, k) in SCRIPTS.iter().enumerate() {
-        let Some(was) = before.get(number) else {
+    for (was, k) in before.iter().zip(SCRIPTS) {
+        if !agrees_at(walk, was, touched, *k) {
             return false;
-        };
-        match agrees_at(walk, was, touched, *k) {
-            Some(more) => changed = changed.saturating_add(more),
-            None => return false,
         }
     }
-    changed == touched.list().len()
+    before.len() == SCRIPTS.len() && count_of(touched) == touched.list().len()
+}
+
+// The transaction that takes these coins and gives to these scripts; none where memory runs out.
+fn built(alloc: Global, from: &[Outpoint], made: &Made) -> Option<Tx>
+    requires some { 1 ≤ length from.now }
+    requires few { made.now.to.0 ≤ 50000000000 }
+    ensures { IfSome result HasEncoding }
+{
+    let built = match made.also {
+        Some(also) if also.0 > 50_000_000_000 => return None,
+        Some(also) => spend(alloc, from, [made.to, also].as_slice()),
+        None => spend(alloc, from, [made.to].as_slice()),
+    };
+    built.ok()
 }
 
 // The transaction's bytes; none where memory runs out or it gives too much.
@@ -377,43 +424,35 @@ fn made_tx(alloc: Global, made: &Made) -> Option<Tx>
     if made.to.0 > 50_000_000_000 {
         return None;
     }
-    let built = match (made.second, made.also) {
-        (None, None) => spend(alloc, [made.first].as_slice(), [made.to].as_slice()),
-        (Some(second), None) => spend(alloc, [made.first, second].as_slice(), [made.to].as_slice()),
-        (None, Some(also)) => {
-            if also.0 > 50_000_000_000 {
-                return None;
-            }
-            spend(alloc, [made.first].as_slice(), [made.to, also].as_slice())
-        }
-        (Some(second), Some(also)) => {
-            if also.0 > 50_000_000_000 {
-                return None;
-            }
-            spend(
-                alloc,
-                [made.first, second].as_slice(),
-                [made.to, also].as_slice(),
-            )
-        }
-    };
-    built.ok()
+    match made.second {
+        Some(second) => built(alloc, [made.first, second].as_slice(), made),
+        None => built(alloc, [made.first].as_slice(), made),
+    }
+}
+
+// An output of a coinbase.
+fn some_coinbase(walk: &mut Walk) -> Outpoint {
+    Outpoint {
+        txid: coinbase_id(walk.alloc, random_number(walk, 6)),
+        index: 0,
+    }
+}
+
+// One of those that were made, or none.
+fn some_made(walk: &mut Walk) -> Option<Made> {
+    let count = walk.all.len() as u64 + 4;
+    let number = random(&mut walk.seed, count);
+    walk.all.as_slice().get(number as usize).copied()
 }
 
 // An output of a coinbase or of a transaction that was made.
 fn some_output(walk: &mut Walk) -> Outpoint {
-    let count = walk.all.len() as u64 + 4;
-    let number = random(&mut walk.seed, count);
-    let made = walk.all.as_slice().get(number as usize).copied();
-    match made {
+    match some_made(walk) {
         Some(made) => Outpoint {
             txid: made.txid,
             index: random_number(walk, 2),
         },
-        None => Outpoint {
-            txid: coinbase_id(walk.alloc, random_number(walk, 6)),
-            index: 0,
-        },
+        None => some_coinbase(walk),
     }
 }
 
@@ -421,77 +460,120 @@ fn some_script(walk: &mut Walk) -> u32 {
     random_number(walk, 5)
 }
 
-// A new transaction: it gives what it takes or a little less, and now and then too much.
-fn make(walk: &mut Walk) -> Option<Made> {
-    let first = some_output(walk);
-    let second = if random(&mut walk.seed, 3) == 0 {
+// Now and then an output.
+fn some_second(walk: &mut Walk) -> Option<Outpoint> {
+    if random(&mut walk.seed, 3) == 0 {
         Some(some_output(walk))
     } else {
         None
-    };
-    let nothing = Made {
+    }
+}
+
+// One that takes so and gives nothing.
+fn taking(walk: &mut Walk) -> Made {
+    Made {
         txid: Hash32([0; 32]),
-        first,
-        second,
+        first: some_output(walk),
+        second: some_second(walk),
         to: (0, some_script(walk)),
         also: None,
-    };
-    let sum = taken(
-        &mut walk.ledger,
-        walk.all.as_slice(),
-        walk.kept.as_slice(),
-        &nothing,
-    )
-    .unwrap_or(9);
-    let all = in_64_bits(sum)
+    }
+}
+
+// What it may give: what it takes or a little less, and now and then too much.
+fn some_sum(walk: &mut Walk, made: &Made) -> u64 {
+    let all = walk.all.as_slice();
+    let sum = taken(&mut walk.ledger, all, walk.kept.as_slice(), made).unwrap_or(9);
+    in_64_bits(sum)
         .saturating_add(random(&mut walk.seed, 6))
-        .saturating_sub(4);
-    let half = random(&mut walk.seed, all.saturating_add(1));
-    let also = if random(&mut walk.seed, 2) == 0 {
-        Some((all.saturating_sub(half), some_script(walk)))
+        .saturating_sub(4)
+}
+
+// It gives the sum, now and then in two parts.
+fn giving(walk: &mut Walk, made: Made, sum: u64) -> Made {
+    let half = random(&mut walk.seed, sum.saturating_add(1));
+    let script = made.to.1;
+    if random(&mut walk.seed, 2) == 0 {
+        Made {
+            to: (half, script),
+            also: Some((sum.saturating_sub(half), some_script(walk))),
+            ..made
+        }
     } else {
-        None
-    };
-    let to = (if also.is_some() { half } else { all }, nothing.to.1);
-    let mut made = Made {
-        to,
-        also,
-        ..nothing
-    };
-    let tx = made_tx(walk.alloc, &made)?;
-    made.txid = txid(walk.alloc, &tx).ok()?;
-    Some(made)
+        Made {
+            to: (sum, script),
+            ..made
+        }
+    }
 }
 
-fn push_made(walk: &mut Walk, made: Made) -> Option<usize> {
+// It with its txid.
+fn named_so(alloc: Global, made: Made) -> Option<Made> {
+    let tx = made_tx(alloc, &made)?;
+    let txid = txid(alloc, &tx).ok()?;
+    Some(Made { txid, ..made })
+}
+
+// A new transaction.
+fn make(walk: &mut Walk) -> Option<Made> {
+    let nothing = taking(walk);
+    let sum = some_sum(walk, &nothing);
+    let made = giving(walk, nothing, sum);
+    named_so(walk.alloc, made)
+}
+
+// Whether it joins the plain list.
+fn joins(walk: &mut Walk, made: &Made) -> bool {
+    let (all, list) = (walk.all.as_slice(), walk.kept.as_slice());
+    may_join(&mut walk.ledger, all, list, made) && !is_listed(all, list, &made.txid)
+}
+
+// Adds it to those that were made, and to the plain list.
+fn keep_made(walk: &mut Walk, made: &Made) -> bool {
     let place = walk.all.len();
-    walk.all.push(made).ok()?;
-    Some(place)
+    walk.all.push(*made).is_ok() && walk.kept.push(place).is_ok()
 }
 
-// A new transaction comes: it joins both lists or neither.
+// Whether the set keeps it, and the plain list with it is what the set then is.
+fn is_kept(walk: &mut Walk, before: &[Seen], made: &Made, bytes: &[u8]) -> bool {
+    match walk.pool.add(&mut walk.ledger, bytes) {
+        Ok((id, touched)) => {
+            id == made.txid && keep_made(walk, made) && agrees(walk, before, &touched)
+        }
+        Err(_) => false,
+    }
+}
+
+// Whether the set refuses it, and nothing changes.
+fn is_refused(walk: &mut Walk, before: &[Seen], made: &Made, bytes: &[u8]) -> bool {
+    walk.pool.add(&mut walk.ledger, bytes).is_err()
+        && walk.all.push(*made).is_ok()
+        && agrees(walk, before, &Touched::new(walk.alloc))
+}
+
+// The bytes of a transaction, if it can be made.
+fn bytes_of(alloc: Global, made: &Made) -> Option<Bytes> {
+    let tx = made_tx(alloc, made)?;
+    Some(encoded(alloc, &tx))
+}
+
+// Whether a new transaction joins both lists or neither.
+fn joins_both(walk: &mut Walk, before: &[Seen], made: &Made, bytes: &[u8]) -> bool {
+    if joins(walk, made) {
+        is_kept(walk, before, made, bytes)
+    } else {
+        is_refused(walk, before, made, bytes)
+    }
+}
+
+// A new transaction comes, if one can be made.
 fn comes(walk: &mut Walk, before: &[Seen]) -> bool {
     let Some(made) = make(walk) else {
         return true;
     };
-    let Some(tx) = made_tx(walk.alloc, &made) else {
-        return true;
-    };
-    let bytes = encoded(walk.alloc, &tx);
-    let all = walk.all.as_slice();
-    let list = walk.kept.as_slice();
-    let joins = may_join(&mut walk.ledger, all, list, &made) && !is_listed(all, list, &made.txid);
-    let Some(place) = push_made(walk, made) else {
-        return false;
-    };
-    match walk.pool.add(&mut walk.ledger, bytes.as_slice()) {
-        Ok((id, touched)) => {
-            joins
-                && id == made.txid
-                && walk.kept.push(place).is_ok()
-                && agrees(walk, before, &touched)
-        }
-        Err(_) => !joins && agrees(walk, before, &Touched::new(walk.alloc)),
+    match bytes_of(walk.alloc, &made) {
+        Some(bytes) => joins_both(walk, before, &made, bytes.as_slice()),
+        None => true,
     }
 }
 
@@ -511,30 +593,31 @@ fn sift_list(walk: &mut Walk) -> bool {
     }
 }
 
-fn without(alloc: Global, list: &[usize], number: usize) -> Result<Vec<usize>, OutOfMemory> {
-    let mut rest = Vec::new(alloc);
-    for (place, one) in list.iter().enumerate() {
-        if place != number {
-            rest.push(*one)?;
-        }
+// The plain list is without that one.
+fn leave_out(walk: &mut Walk, number: usize) {
+    if number < walk.kept.len() {
+        walk.kept.remove(number);
     }
-    Ok(rest)
+}
+
+// Whether the set drops it, with all that spend it, as the plain list does.
+fn drops_from_both(walk: &mut Walk, before: &[Seen], txid: &Hash32) -> bool {
+    match walk.pool.drop_tx(txid) {
+        Ok(Some(touched)) => sift_list(walk) && agrees(walk, before, &touched),
+        _ => false,
+    }
 }
 
 // One of the kept ones is dropped, with all that spend it.
 fn drops(walk: &mut Walk, before: &[Seen]) -> bool {
     let count = walk.kept.len() as u64;
     let number = random(&mut walk.seed, count) as usize;
-    let Some(made) = made_at(walk, number) else {
-        return matches!(walk.pool.drop_tx(&Hash32([0; 32])), Ok(None));
-    };
-    let Ok(rest) = without(walk.alloc, walk.kept.as_slice(), number) else {
-        return false;
-    };
-    walk.kept = rest;
-    match walk.pool.drop_tx(&made.txid) {
-        Ok(Some(touched)) => sift_list(walk) && agrees(walk, before, &touched),
-        _ => false,
+    match made_at(walk, number) {
+        Some(made) => {
+            leave_out(walk, number);
+            drops_from_both(walk, before, &made.txid)
+        }
+        None => matches!(walk.pool.drop_tx(&Hash32([0; 32])), Ok(None)),
     }
 }
 
@@ -575,68 +658,106 @@ fn some_block(walk: &mut Walk) -> Option<usize> {
     }
 }
 
-// A block comes, or one goes, and now and then another comes in its place.
-fn moves(walk: &mut Walk, before: &[Seen]) -> bool {
+// The ledger of the blocks as they are.
+fn build_ledger(walk: &mut Walk) {
+    walk.ledger = ledger_of(walk.alloc, walk.all.as_slice(), walk.blocks.as_slice());
+}
+
+// Adds a block.
+fn add_block(walk: &mut Walk) -> bool {
+    let place = some_block(walk);
+    if walk.blocks.push(place).is_err() {
+        return false;
+    }
+    build_ledger(walk);
+    true
+}
+
+// Takes a block back where there are some, and chance will have it.
+fn takes_back(walk: &mut Walk) -> bool {
     let back = walk.blocks.len() > 4 && random(&mut walk.seed, 3) == 0;
     if back {
         walk.blocks.pop();
-        walk.ledger = ledger_of(walk.alloc, walk.all.as_slice(), walk.blocks.as_slice());
+        build_ledger(walk);
     }
-    if !back || random(&mut walk.seed, 2) == 0 {
-        let place = some_block(walk);
-        if walk.blocks.push(place).is_err() {
-            return false;
-        }
-        walk.ledger = ledger_of(walk.alloc, walk.all.as_slice(), walk.blocks.as_slice());
+    back
+}
+
+// Whether both lists are the same after a move.
+fn moves_both(walk: &mut Walk, before: &[Seen]) -> bool {
+    match walk.pool.after_move(&mut walk.ledger) {
+        Ok(touched) => sift_list(walk) && agrees(walk, before, &touched),
+        Err(_) => false,
     }
-    let Ok(touched) = walk.pool.after_move(&mut walk.ledger) else {
-        return false;
-    };
-    sift_list(walk) && agrees(walk, before, &touched)
+}
+
+// A block comes, or one goes, and now and then another comes in its place.
+fn moves(walk: &mut Walk, before: &[Seen]) -> bool {
+    let comes = !takes_back(walk) || random(&mut walk.seed, 2) == 0;
+    (!comes || add_block(walk)) && moves_both(walk, before)
+}
+
+// A step that chance names, over what was seen before.
+fn some_step(walk: &mut Walk, before: &[Seen]) -> bool {
+    match random(&mut walk.seed, 8) {
+        0 => drops(walk, before),
+        1 | 2 => moves(walk, before),
+        _ => comes(walk, before),
+    }
 }
 
 fn steps_once(walk: &mut Walk) -> bool {
-    let Ok(before) = all_seen(walk.alloc, &walk.pool) else {
-        return false;
-    };
-    match random(&mut walk.seed, 8) {
-        0 => drops(walk, before.as_slice()),
-        1 | 2 => moves(walk, before.as_slice()),
-        _ => comes(walk, before.as_slice()),
+    match all_seen(walk.alloc, &walk.pool) {
+        Ok(before) => some_step(walk, before.as_slice()),
+        Err(_) => false,
     }
 }
 
-fn start(alloc: Global, seed: u64) -> Result<Walk, OutOfMemory> {
-    let mut blocks = Vec::new(alloc);
-    for _ in 0..4u32 {
-        blocks.push(None)?;
-    }
+// A walk over no blocks.
+fn start(alloc: Global, seed: u64) -> Walk {
     let limits = PoolLimits {
         count: 1_000,
         bytes: 1_000_000,
     };
-    Ok(Walk {
+    Walk {
         alloc,
         seed,
         pool: Pool::new(alloc, limits),
-        ledger: ledger_of(alloc, [].as_slice(), blocks.as_slice()),
-        blocks,
+        ledger: PlainLedger::new(alloc),
+        blocks: Vec::new(alloc),
         all: Vec::new(alloc),
         kept: Vec::new(alloc),
-    })
+    }
+}
+
+// Four blocks of a coinbase each come.
+fn begins(walk: &mut Walk) -> bool {
+    for _ in 0..4u32 {
+        if walk.blocks.push(None).is_err() {
+            return false;
+        }
+    }
+    build_ledger(walk);
+    true
 }
 
 // How many steps went as they should, of so many.
-fn walks(alloc: Global, seed: u64, count: u32) -> u32 {
-    let Ok(mut walk) = start(alloc, seed) else {
-        return 0;
-    };
+fn steps(walk: &mut Walk, count: u32) -> u32 {
     for number in 0..count {
-        if !steps_once(&mut walk) {
+        if !steps_once(walk) {
             return number;
         }
     }
     count
+}
+
+fn walks(alloc: Global, seed: u64, count: u32) -> u32 {
+    let mut walk = start(alloc, seed);
+    if begins(&mut walk) {
+        steps(&mut walk, count)
+    } else {
+        0
+    }
 }
 
 #[test]

@@ -1,6 +1,6 @@
 // What a client is told of its subscriptions as transactions come to the unconfirmed set, and of a new tip.
 // The statuses were computed by another program from their texts; the header is Bitcoin's own.
-use crate::methods::{decoded, world_of};
+use crate::methods::{self, world_over};
 use crate::views::{SCRIPT_100, SCRIPT_101, SCRIPT_EMPTY, again, hash, part, told, two_blocks};
 use el_base::{Bytes, Hash32};
 use el_chain::Touched;
@@ -28,14 +28,9 @@ const AFTER_101: &str = "cbf378a6ffa94909985aa750685853e0237de34f677c9596150d32d
 // Subscriptions to three script hashes, of which the last has none, each told its status with nothing kept.
 fn three(alloc: Global) -> Subs {
     let mut subs = Subs::new(alloc);
-    let rows = [
-        (SCRIPT_101, Some(told(BEFORE_101))),
-        (SCRIPT_EMPTY, None),
-        (SCRIPT_100, Some(told(BEFORE_100))),
-    ];
-    for (script, status) in rows {
-        let _ = subs.subscribe(hash(script), status);
-    }
+    let _ = subs.subscribe(hash(SCRIPT_101), Some(told(BEFORE_101)));
+    let _ = subs.subscribe(hash(SCRIPT_EMPTY), None);
+    let _ = subs.subscribe(hash(SCRIPT_100), Some(told(BEFORE_100)));
     subs
 }
 
@@ -48,10 +43,10 @@ struct World {
 }
 
 fn begun(alloc: Global) -> World {
-    let (ledger, pool) = two_blocks(alloc);
+    let over = two_blocks(alloc);
     World {
-        ledger,
-        pool,
+        ledger: over.ledger,
+        pool: over.pool,
         subs: three(alloc),
     }
 }
@@ -81,13 +76,17 @@ fn tells(
     }
 }
 
+fn tells_part(alloc: Global, world: &mut World, touched: &Touched) -> bool {
+    let rows = [(hash(SCRIPT_101), Some(told(PART_101)))];
+    tells(alloc, world, touched, rows.as_slice()) && tells(alloc, world, touched, &[])
+}
+
 fn tells_once(alloc: Global) -> bool {
     let mut world = begun(alloc);
-    let Some(touched) = touched_by(&mut world, part(alloc).as_slice()) else {
-        return false;
-    };
-    let rows = [(hash(SCRIPT_101), Some(told(PART_101)))];
-    tells(alloc, &mut world, &touched, rows.as_slice()) && tells(alloc, &mut world, &touched, &[])
+    match touched_by(&mut world, part(alloc).as_slice()) {
+        Some(touched) => tells_part(alloc, &mut world, &touched),
+        None => false,
+    }
 }
 
 // One status changes, and is told once.
@@ -97,17 +96,26 @@ fn told_once(rt: HostRuntime) -> Result<(), Fail> {
     Ok(())
 }
 
-fn tells_in_order(alloc: Global) -> bool {
-    let mut world = begun(alloc);
-    let first = touched_by(&mut world, part(alloc).as_slice());
-    let Some(touched) = touched_by(&mut world, again(alloc).as_slice()) else {
-        return false;
-    };
+fn tells_two(alloc: Global, world: &mut World, touched: &Touched) -> bool {
     let rows = [
         (hash(SCRIPT_101), Some(told(AFTER_101))),
         (hash(SCRIPT_100), Some(told(AFTER_100))),
     ];
-    first.is_some() && tells(alloc, &mut world, &touched, rows.as_slice())
+    tells(alloc, world, touched, rows.as_slice())
+}
+
+// What the second transaction touches once the first one is kept.
+fn touched_by_both(alloc: Global, world: &mut World) -> Option<Touched> {
+    touched_by(world, part(alloc).as_slice())?;
+    touched_by(world, again(alloc).as_slice())
+}
+
+fn tells_in_order(alloc: Global) -> bool {
+    let mut world = begun(alloc);
+    match touched_by_both(alloc, &mut world) {
+        Some(touched) => tells_two(alloc, &mut world, &touched),
+        None => false,
+    }
 }
 
 // Two change, and are told in order of subscription.
@@ -118,7 +126,7 @@ fn told_in_order(rt: HostRuntime) -> Result<(), Fail> {
 }
 
 // The lines about both.
-const SCRIPT_LINES: [&[u8]; 2] = [
+const SCRIPT_LINES: &[&[u8]] = &[
     b"{\"jsonrpc\":\"2.0\",\"method\":\"blockchain.scripthash.subscribe\",\"params\":[\"87db42382cbedc175498\
       6e8d2b98ed07381d67e43bebb313f331acc40b7cecbb\",\"cbf378a6ffa94909985aa750685853e0237de34f677c9596150d\
       32dc4fbf7fea\"]}\n",
@@ -128,7 +136,7 @@ const SCRIPT_LINES: [&[u8]; 2] = [
 ];
 
 // The line about the header of Bitcoin's second block.
-const TIP_LINE: [&[u8]; 1] = [
+const TIP_LINE: &[&[u8]] = &[
     b"{\"jsonrpc\":\"2.0\",\"method\":\"blockchain.headers.subscribe\",\"params\":[\
       {\"height\":1,\"hex\":\"010000006fe28c0ab6f1b372c1a6a246ae63f74f931e8365e15a089c68d6190000000000982051\
       fd1e4ba744bbbe680e1fee14677ba1a3c3540bf7b1cdb606e857233e0e61bc6649ffff001d01e36299\"}]}\n",
@@ -162,27 +170,35 @@ fn notifies(
     }
 }
 
-fn notifies_of_scripts(alloc: Global) -> bool {
-    let mut world = begun(alloc);
-    let first = touched_by(&mut world, part(alloc).as_slice());
-    let Some(touched) = touched_by(&mut world, again(alloc).as_slice()) else {
-        return false;
-    };
+// Whether a client with the world's subscriptions alone is told these lines.
+fn notifies_subscribed(alloc: Global, world: World, touched: &Touched, wanted: &[&[u8]]) -> bool {
+    let World {
+        mut ledger,
+        pool,
+        subs,
+    } = world;
     let mut session = Session {
         version: None,
         headers: false,
-        subs: world.subs,
+        subs,
     };
-    first.is_some()
-        && notifies(
-            alloc,
-            &mut session,
-            &mut world.ledger,
-            &world.pool,
-            &touched,
-            &None,
-            &SCRIPT_LINES,
-        )
+    notifies(
+        alloc,
+        &mut session,
+        &mut ledger,
+        &pool,
+        touched,
+        &None,
+        wanted,
+    )
+}
+
+fn notifies_of_scripts(alloc: Global) -> bool {
+    let mut world = begun(alloc);
+    match touched_by_both(alloc, &mut world) {
+        Some(touched) => notifies_subscribed(alloc, world, &touched, SCRIPT_LINES),
+        None => false,
+    }
 }
 
 // A client that doesn't subscribe to headers is told of its script hashes alone, in whole lines.
@@ -192,36 +208,42 @@ fn lines_of_script_hashes(rt: HostRuntime) -> Result<(), Fail> {
     Ok(())
 }
 
-fn notifies_of_the_tip(alloc: Global) -> Option<bool> {
-    let blocks = decoded(alloc, &[GENESIS, BLOCK_1])?;
-    let mut world = world_of(alloc, blocks.as_slice(), 0)?;
-    world.session.headers = true;
+// Whether the client is told these lines where nothing is touched.
+fn notifies_of_none(
+    alloc: Global,
+    world: &mut methods::World,
+    before: &Option<Hash32>,
+    wanted: &[&[u8]],
+) -> bool {
     let touched = Touched::new(alloc);
-    let first = notifies(
+    notifies(
         alloc,
         &mut world.session,
         &mut world.ledger,
         &world.holdings.pool,
         &touched,
-        &None,
-        &TIP_LINE,
-    );
-    let now = world.ledger.tip();
-    let again = notifies(
-        alloc,
-        &mut world.session,
-        &mut world.ledger,
-        &world.holdings.pool,
-        &touched,
-        &now,
-        &[],
-    );
-    Some(first && again)
+        before,
+        wanted,
+    )
+}
+
+fn notifies_once(alloc: Global, world: &mut methods::World) -> bool {
+    world.session.headers = true;
+    let is_first = notifies_of_none(alloc, world, &None, TIP_LINE);
+    let tip = world.ledger.tip();
+    is_first && notifies_of_none(alloc, world, &tip, &[])
+}
+
+fn notifies_of_the_tip(alloc: Global) -> bool {
+    match world_over(alloc, &[GENESIS, BLOCK_1], 0) {
+        Some(mut world) => notifies_once(alloc, &mut world),
+        None => false,
+    }
 }
 
 // A client that subscribes to headers is told of a new tip once.
 #[test]
 fn line_of_the_tip(rt: HostRuntime) -> Result<(), Fail> {
-    assert!(rt; notifies_of_the_tip(rt.alloc()) == Some(true));
+    assert!(rt; notifies_of_the_tip(rt.alloc()));
     Ok(())
 }

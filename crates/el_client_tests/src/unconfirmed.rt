@@ -1,7 +1,8 @@
 // The methods over Bitcoin's first two blocks and two unconfirmed transactions: one takes the coin of the
 // second block, and its child gives a part back to the same script. Hashes and statuses were computed by
 // another program from the rules.
-use crate::methods::{Row, Told, World, decoded, says, tells, told_in, world_of};
+use crate::methods::{Row, Told, World, decoded, says, told_in, world_over};
+use el_base::Bytes;
 use el_gen::{BLOCK_1, GENESIS};
 use std::alloc::Global;
 use std::test::Fail;
@@ -15,7 +16,7 @@ const CHILD: &str =
          000000000200ca9a3b00000000050404040404e0d96aee0000000005040505050500000000";
 
 // What is answered with both.
-const BOTH: [Row; 11] = [
+const BOTH: &[Row] = &[
     (
         "blockchain.scripthash.get_mempool",
         "[\"f920cac42bc46be378dfe9bf01f71929de2f963228d3620e6d4b3fedde53c1c3\"]",
@@ -103,38 +104,58 @@ const ONE_FAILS: &[u8] =
       0000000000000200ca9a3b00000000050404040404e0d96aee0000000005040505050500000000\"},\
       {\"error\":{\"code\":4,\"message\":\"block files failed\"},\"id\":2,\"jsonrpc\":\"2.0\"}]\n";
 
-// The world of the two blocks and both transactions, of whose block files the call with that number fails.
-fn with_both(alloc: Global, failing: u64) -> Option<World> {
-    let blocks = decoded(alloc, &[GENESIS, BLOCK_1])?;
-    let mut world = world_of(alloc, blocks.as_slice(), failing)?;
-    for bytes in decoded(alloc, &[PARENT, CHILD])? {
-        world
-            .holdings
-            .pool
-            .add(&mut world.ledger, bytes.as_slice())
-            .ok()?;
+// Adds a transaction to what is kept.
+fn keep(world: &mut World, bytes: &[u8]) -> bool {
+    world.holdings.pool.add(&mut world.ledger, bytes).is_ok()
+}
+
+// Adds these, one after the other.
+fn keep_all(world: &mut World, list: &[Bytes]) -> bool {
+    for bytes in list {
+        if !keep(world, bytes.as_slice()) {
+            return false;
+        }
     }
-    Some(world)
+    true
+}
+
+// Adds both transactions.
+fn keeps_both(alloc: Global, world: &mut World) -> bool {
+    match decoded(alloc, &[PARENT, CHILD]) {
+        Some(list) => keep_all(world, list.as_slice()),
+        None => false,
+    }
+}
+
+// How many of the rows, in order, are told so in the world with both.
+fn told_with_both(alloc: Global, world: &mut World, rows: &[Row]) -> usize {
+    if keeps_both(alloc, world) {
+        told_in(alloc, world, rows)
+    } else {
+        0
+    }
 }
 
 // How many of the rows, in order, are told so.
 fn told_rows(alloc: Global, rows: &[Row]) -> usize {
-    let Some(mut world) = with_both(alloc, 0) else {
-        return 0;
-    };
-    told_in(alloc, &mut world, rows)
+    match world_over(alloc, &[GENESIS, BLOCK_1], 0) {
+        Some(mut world) => told_with_both(alloc, &mut world, rows),
+        None => 0,
+    }
 }
 
 #[test]
 fn answers_over_a_set(rt: HostRuntime) -> Result<(), Fail> {
-    assert!(rt; told_rows(rt.alloc(), &BOTH) == BOTH.len());
+    assert!(rt; told_rows(rt.alloc(), BOTH) == BOTH.len());
     Ok(())
 }
 
 // Whether the batch is answered so where the block files fail.
 fn one_fails(alloc: Global) -> bool {
-    match with_both(alloc, 1) {
-        Some(mut world) => says(alloc, &mut world, TWO, ONE_FAILS, false),
+    match world_over(alloc, &[GENESIS, BLOCK_1], 1) {
+        Some(mut world) => {
+            keeps_both(alloc, &mut world) && says(alloc, &mut world, TWO, ONE_FAILS, false)
+        }
         None => false,
     }
 }

@@ -4,7 +4,7 @@
 ghost use Rattle.std.specs.Prelude.{IfSome};
 ghost use Rattle.el_tx.specs.Encoding.{HasEncoding};
 
-use crate::pool::{encoded, extend};
+use crate::pool::{World, encoded, extend};
 use el_base::{Bytes, Hash32};
 use el_chain::{Coin, Entry};
 use el_gen::spend;
@@ -15,6 +15,7 @@ use el_status::StatusHash;
 use el_tx::{Outpoint, Tx};
 use el_view::{Balance, view_balance, view_status, view_unspent};
 use std::alloc::Global;
+use std::process::Abort;
 use std::test::Fail;
 
 const GENESIS_ID: &str = "4a5e1e4baab89f3a32518a88c31bc87f618f76673e2cc77ab2127b7afdeda33b";
@@ -56,7 +57,7 @@ type Row = (
     &'static str,
 );
 
-const STATUSES: [Row; 4] = [
+const STATUSES: &[Row] = &[
     (
         &[(GENESIS_ID, 0)],
         &[],
@@ -94,7 +95,7 @@ pub fn told(digits: &str) -> Hash32 {
     hash
 }
 
-fn hashes_so(row: Row) -> bool {
+fn hashes_so(row: &Row) -> bool {
     let mut status = StatusHash::new();
     for (id, height) in row.0 {
         status.confirmed(&Entry {
@@ -114,8 +115,8 @@ fn hashes_so(row: Row) -> bool {
 
 #[test]
 fn statuses(rt: HostRuntime) -> Result<(), Fail> {
-    for row in STATUSES {
-        assert!(rt; hashes_so(row));
+    for row in STATUSES.iter() {
+        assert!(rt; hashes_so(row), "{}", row.2);
     }
     assert!(rt; StatusHash::new().finish().is_none());
     Ok(())
@@ -160,25 +161,14 @@ pub fn again(alloc: Global) -> Bytes {
 }
 
 // A ledger of the two blocks, and a set of nothing.
-pub fn two_blocks(alloc: Global) -> (PlainLedger, Pool) {
+pub fn two_blocks(alloc: Global) -> World {
     let mut ledger = PlainLedger::new(alloc);
     extend(alloc, &mut ledger, 0, None);
     extend(alloc, &mut ledger, 1, halves(alloc));
-    (ledger, Pool::new(alloc, LIMITS))
-}
-
-fn holds(
-    ledger: &mut PlainLedger,
-    pool: &Pool,
-    script: &str,
-    confirmed: u64,
-    unconfirmed: i64,
-) -> bool {
-    let wanted = Balance {
-        confirmed,
-        unconfirmed,
-    };
-    view_balance(ledger, pool, &hash(script)) == Ok(wanted)
+    World {
+        ledger,
+        pool: Pool::new(alloc, LIMITS),
+    }
 }
 
 fn coin(id: &str, index: u32, value: u64, height: u32) -> Coin {
@@ -191,93 +181,85 @@ fn coin(id: &str, index: u32, value: u64, height: u32) -> Coin {
 }
 
 // The unspent outputs of the script of 101 are these.
-fn lists(alloc: Global, ledger: &mut PlainLedger, pool: &Pool, coins: &[Coin]) -> bool {
-    match view_unspent(alloc, ledger, pool, &hash(SCRIPT_101)) {
+fn lists(alloc: Global, world: &mut World, coins: &[Coin]) -> bool {
+    match view_unspent(alloc, &mut world.ledger, &world.pool, &hash(SCRIPT_101)) {
         Ok(found) => found.as_slice() == coins,
         Err(_) => false,
     }
 }
 
-fn has_status(
-    alloc: Global,
-    ledger: &mut PlainLedger,
-    pool: &Pool,
-    script: &str,
-    digits: &str,
-) -> bool {
-    view_status(alloc, ledger, pool, &hash(script)) == Ok(Some(told(digits)))
+fn holds(world: &mut World, script: &str, confirmed: u64, unconfirmed: i64) -> bool {
+    let wanted = Balance {
+        confirmed,
+        unconfirmed,
+    };
+    view_balance(&mut world.ledger, &world.pool, &hash(script)) == Ok(wanted)
 }
 
-// Nothing is kept: three entries, of which the one that funds and spends the script stands once.
-#[test]
-fn of_a_chain(rt: HostRuntime) -> Result<(), Fail> {
-    let alloc = rt.alloc();
-    let (mut ledger, pool) = two_blocks(alloc);
-    let status = "97a7bd82e8ee88d94e6bb4daba9d53e5512c76c8d15423fe66e2b4e3b28d03bc";
-    assert!(rt; has_status(alloc, &mut ledger, &pool, SCRIPT_101, status));
-    assert!(rt; holds(&mut ledger, &pool, SCRIPT_101, 7_500_000_000, 0));
+fn has_status(alloc: Global, world: &mut World, script: &str, wanted: Option<Hash32>) -> bool {
+    view_status(alloc, &mut world.ledger, &world.pool, &hash(script)) == Ok(wanted)
+}
+
+// Whether the coins of the two blocks are listed.
+fn lists_chain(alloc: Global, world: &mut World) -> bool {
     let coins = [
         coin(SECOND, 0, 5_000_000_000, 1),
         coin(HALVES, 0, 2_500_000_000, 1),
     ];
-    assert!(rt; lists(alloc, &mut ledger, &pool, coins.as_slice()));
-    Ok(())
+    lists(alloc, world, coins.as_slice())
+}
+
+// Nothing is kept: three entries, of which the one that funds and spends the script stands once.
+fn tells_chain<R: Abort>(rt: &R, alloc: Global, world: &mut World) {
+    let status = "97a7bd82e8ee88d94e6bb4daba9d53e5512c76c8d15423fe66e2b4e3b28d03bc";
+    assert!(rt; has_status(alloc, world, SCRIPT_101, Some(told(status))));
+    assert!(rt; holds(world, SCRIPT_101, 7_500_000_000, 0));
+    assert!(rt; lists_chain(alloc, world));
 }
 
 // Nothing ever named the empty script.
-#[test]
-fn of_no_history(rt: HostRuntime) -> Result<(), Fail> {
-    let alloc = rt.alloc();
-    let (mut ledger, pool) = two_blocks(alloc);
-    let empty = hash(SCRIPT_EMPTY);
-    assert!(rt; view_status(alloc, &mut ledger, &pool, &empty) == Ok(None));
-    assert!(rt; holds(&mut ledger, &pool, SCRIPT_EMPTY, 0, 0));
-    Ok(())
+fn tells_nothing<R: Abort>(rt: &R, alloc: Global, world: &mut World) {
+    assert!(rt; has_status(alloc, world, SCRIPT_EMPTY, None));
+    assert!(rt; holds(world, SCRIPT_EMPTY, 0, 0));
+}
+
+// Whether a transaction is kept.
+fn keeps(world: &mut World, bytes: Bytes) -> bool {
+    world.pool.add(&mut world.ledger, bytes.as_slice()).is_ok()
 }
 
 // One is kept, and then both.
-#[test]
-fn over_a_set(rt: HostRuntime) -> Result<(), Fail> {
-    let alloc = rt.alloc();
-    let (mut ledger, mut pool) = two_blocks(alloc);
-    assert!(rt; pool.add(&mut ledger, part(alloc).as_slice()).is_ok());
-    assert!(rt;
-        holds(
-            &mut ledger,
-            &pool,
-            SCRIPT_101,
-            7_500_000_000,
-            -1_500_000_000
-        )
-    );
-    assert!(rt; pool.add(&mut ledger, again(alloc).as_slice()).is_ok());
-    assert!(rt; holds(&mut ledger, &pool, SCRIPT_101, 7_500_000_000, 900_000_000));
-    assert!(rt;
-        holds(
-            &mut ledger,
-            &pool,
-            SCRIPT_100,
-            2_500_000_000,
-            -2_500_000_000
-        )
-    );
-    Ok(())
+fn holds_both<R: Abort>(rt: &R, alloc: Global, world: &mut World) {
+    assert!(rt; keeps(world, part(alloc)));
+    assert!(rt; holds(world, SCRIPT_101, 7_500_000_000, -1_500_000_000));
+    assert!(rt; keeps(world, again(alloc)));
+    assert!(rt; holds(world, SCRIPT_101, 7_500_000_000, 900_000_000));
+    assert!(rt; holds(world, SCRIPT_100, 2_500_000_000, -2_500_000_000));
 }
 
-#[test]
-fn listed_over_a_set(rt: HostRuntime) -> Result<(), Fail> {
-    let alloc = rt.alloc();
-    let (mut ledger, mut pool) = two_blocks(alloc);
-    assert!(rt; pool.add(&mut ledger, part(alloc).as_slice()).is_ok());
-    assert!(rt; pool.add(&mut ledger, again(alloc).as_slice()).is_ok());
+// Whether the coins with both kept are listed.
+fn lists_kept(alloc: Global, world: &mut World) -> bool {
     let coins = [
         coin(SECOND, 0, 5_000_000_000, 1),
         coin(AGAIN, 0, 3_400_000_000, 0),
     ];
-    assert!(rt; lists(alloc, &mut ledger, &pool, coins.as_slice()));
+    lists(alloc, world, coins.as_slice())
+}
+
+// Both are kept.
+fn lists_both<R: Abort>(rt: &R, alloc: Global, world: &mut World) {
+    assert!(rt; lists_kept(alloc, world));
     let status = "cbf378a6ffa94909985aa750685853e0237de34f677c9596150d32dc4fbf7fea";
-    assert!(rt; has_status(alloc, &mut ledger, &pool, SCRIPT_101, status));
+    assert!(rt; has_status(alloc, world, SCRIPT_101, Some(told(status))));
     let status = "2c2a50297b1a63c7e5d576957592150459df740222105f6ab80d22111cffef89";
-    assert!(rt; has_status(alloc, &mut ledger, &pool, SCRIPT_100, status));
-    Ok(())
+    assert!(rt; has_status(alloc, world, SCRIPT_100, Some(told(status))));
+}
+
+#[test]
+fn over_a_chain_and_a_set(rt: HostRuntime) {
+    let mut world = two_blocks(rt.alloc());
+    tells_chain(&rt, rt.alloc(), &mut world);
+    tells_nothing(&rt, rt.alloc(), &mut world);
+    holds_both(&rt, rt.alloc(), &mut world);
+    lists_both(&rt, rt.alloc(), &mut world);
 }
