@@ -127,8 +127,8 @@ fn put_second(txn: &mut Txn<'_, VecRows>) -> Result<(), Fail>
     add_block(txn, &block_row(1, 2, 0))
 }
 
-// Block 0 has a coinbase. Block 1 has its like, which buries its output, and spends the later one. Taken back,
-// block by block, the rows are those before.
+// Block 0 has a coinbase. Block 1 has its like, which buries its output, and spends the later one. Taken
+// back, block by block, the rows are those before.
 fn two_blocks<A: Abort>(rt: &A, alloc: Global) -> Result<(), Fail> {
     let mut rows = VecRows::new(alloc);
     let mut txn = Txn::new(alloc, &mut rows);

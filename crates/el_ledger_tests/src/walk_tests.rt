@@ -141,7 +141,8 @@ fn walk_to(
     go(alloc, index, back, &to[same..], files)
 }
 
-// Makes the move from the blocks of the one numbers to those of the others. It answers the tip and the height.
+// Makes the move from the blocks of the one numbers to those of the others. It answers the tip and the
+// height.
 fn led<R: Abort>(
     rt: &R,
     alloc: Global,
