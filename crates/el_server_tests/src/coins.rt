@@ -29,7 +29,7 @@ enum Spent {
 type Made = (Option<usize>, u8, u8, Spent);
 
 // Z is the first block. On it are D1, E1 and V1, and on V1 is V2. E1 and V2 have the coinbase of Z again.
-const BLOCKS: [Made; 5] = [
+const BLOCKS: &[Made] = &[
     (None, 0, 0, Spent::Kept),
     (Some(0), 1, 1, Spent::Halves),
     (Some(0), 1, 0, Spent::Kept),
@@ -60,15 +60,22 @@ fn spending(alloc: Global, coin: Outpoint, spent: Spent) -> Result<Option<Tx>, F
     }
 }
 
+// The transaction that makes this of the first block's coin, if there is one.
+fn made_of_coin(alloc: Global, spent: Spent) -> Result<Option<Tx>, Fail>
+    ensures { IfOk result (λ found. IfSome found HasEncoding) }
+{
+    let (_, coin) = first_coin(alloc)?;
+    spending(alloc, coin, spent)
+}
+
 // The transactions of a block.
 fn txs_of(alloc: Global, made: Made) -> Result<Vec<Tx>, Fail>
     ensures some { IfOk result (λ txs. 1 ≤ length txs.items) }
     ensures encoded { IfOk result (λ txs. AllByRecursion HasEncoding txs.items) }
 {
     let (_, _, of_coinbase, spent) = made;
-    let (_, coin) = first_coin(alloc)?;
     let mut txs = one(alloc, coinbase(alloc, u32::from(of_coinbase), 0, 101)?)?;
-    if let Some(tx) = spending(alloc, coin, spent)? {
+    if let Some(tx) = made_of_coin(alloc, spent)? {
         txs.push(tx)?;
     }
     Ok(txs)
@@ -91,14 +98,25 @@ fn hash_at(hashes: &[Hash32], number: Option<usize>) -> Hash32 {
     }
 }
 
+// Adds the record of that block, and answers its hash.
+fn add_made(
+    alloc: Global,
+    previous: Hash32,
+    made: Made,
+    file: &mut Vec<u8>,
+) -> Result<Hash32, Fail> {
+    let block = block_of(alloc, previous, made)?;
+    add_record(block_bytes(alloc, &block)?.as_slice(), file)?;
+    Ok(block_hash(&encode_header(&block.header)))
+}
+
 /// The file of the blocks of the table.
 pub(crate) fn coins_file(alloc: Global) -> Result<Vec<u8>, Fail> {
     let mut file = Vec::new(alloc);
     let mut hashes = Vec::new(alloc);
-    for made in BLOCKS {
-        let block = block_of(alloc, hash_at(hashes.as_slice(), made.0), made)?;
-        add_record(block_bytes(alloc, &block)?.as_slice(), &mut file)?;
-        hashes.push(block_hash(&encode_header(&block.header)))?;
+    for made in BLOCKS.iter() {
+        let previous = hash_at(hashes.as_slice(), made.0);
+        hashes.push(add_made(alloc, previous, *made, &mut file)?)?;
     }
     Ok(file)
 }
@@ -108,7 +126,7 @@ type Case = (&'static [Step<'static>], &'static str);
 
 const ASKS: Step<'static> = Says(1, "{asks-all}\n");
 
-const CASES: [Case; 3] = [
+const CASES: &[Case] = &[
     // a transaction that takes from a script and gives to it stands once in its history
     (
         &[
@@ -194,8 +212,11 @@ const CASES: [Case; 3] = [
 #[test]
 fn coins_and_histories(rt: HostRuntime) -> Result<(), Fail> {
     let file = coins_file(rt.alloc())?;
-    for (run, wanted) in CASES {
-        assert!(rt; says(rt.alloc(), file.as_slice(), run, wanted)?, "{wanted}");
+    for (run, wanted) in CASES.iter() {
+        assert!(rt;
+            says(rt.alloc(), file.as_slice(), *run, *wanted)?,
+            "{wanted}"
+        );
     }
     Ok(())
 }

@@ -5,6 +5,7 @@ use crate::server::Step::{Forget, Opens, Says};
 use crate::server::{Step, index_of, play, spelled};
 use el_mempool::PoolLimits;
 use std::alloc::Global;
+use std::mem::replace;
 use std::test::Fail;
 
 // All that is said is kept.
@@ -13,36 +14,40 @@ const LIMITS: PoolLimits = PoolLimits {
     bytes: 1_000,
 };
 
-// A life over these rows of which these calls of the device fail: what is shown, and the rows.
+// What is shown in a life over these rows of which these calls of the device fail.
 pub(crate) fn live(
     alloc: Global,
-    rows: FailingRows,
+    rows: &mut FailingRows,
     failing: &[u64],
     file: &[u8],
     steps: &[Step<'_>],
-) -> Result<(Vec<u8>, FailingRows), Fail> {
-    let mut rows = rows;
-    rows.fail_at(Vec::from_slice(alloc, failing)?);
-    let (shown, ledger) = play(alloc, index_of(alloc, rows)?, LIMITS, file, steps)?;
-    Ok((shown, ledger.into_rows()))
+) -> Result<Vec<u8>, Fail> {
+    let failing = Vec::from_slice(alloc, failing)?;
+    let mut kept = replace(rows, FailingRows::new(alloc));
+    kept.fail_at(failing);
+    let (shown, ledger) = play(alloc, index_of(alloc, kept)?, LIMITS, file, steps)?;
+    *rows = ledger.into_rows();
+    Ok(shown)
 }
 
-// How often the device is called in a life in which none fails, and the rows.
+// How often the device is called in a life in which none fails.
 pub(crate) fn calls_of(
     alloc: Global,
-    rows: FailingRows,
+    rows: &mut FailingRows,
     file: &[u8],
     steps: &[Step<'_>],
-) -> Result<(u64, FailingRows), Fail> {
-    let (_, rows) = live(alloc, rows, &[], file, steps)?;
-    Ok((rows.counts().0.min(10_000), rows))
+) -> Result<u64, Fail> {
+    live(alloc, rows, &[], file, steps)?;
+    Ok(rows.counts().0.min(10_000))
 }
 
 const VERSION: Step<'static> = Says(1, "{asks}server.version{with}]}\n");
 
 // What a client asks over the first block and D1; what it is answered where the device fails, and where it
 // doesn't.
-const REQUESTS: [(&str, &str, &str); 12] = [
+type Request = (&'static str, &'static str, &'static str);
+
+const REQUESTS: &[Request] = &[
     (
         "{asks}blockchain.block.header{with}1]}\n",
         "{failed}\n",
@@ -107,14 +112,12 @@ const REQUESTS: [(&str, &str, &str); 12] = [
 ];
 
 // A client comes and agrees on a version.
-const BEGINS: [Step<'static>; 5] = [TELLS, Says(0, "tip {d1}\n"), Forget, Opens(1), VERSION];
+const BEGINS: &[Step<'static>] = &[TELLS, Says(0, "tip {d1}\n"), Forget, Opens(1), VERSION];
 
 // The steps in which a client then asks this so many times, and of its version again.
 fn asking<'x>(alloc: Global, ask: &'x str, times: u64) -> Result<Vec<Step<'x>>, Fail> {
     let mut steps = Vec::new(alloc);
-    for step in BEGINS {
-        steps.push(step)?;
-    }
+    steps.extend_from_slice(BEGINS)?;
     for _ in 0..times {
         steps.push(Says(1, ask))?;
     }
@@ -145,31 +148,69 @@ fn each_in_turn(alloc: Global, before: u64, calls: u64) -> Result<Vec<u64>, Fail
     Ok(failing)
 }
 
+// What is shown where the question is asked over and over: each of its calls fails once, and then none.
+fn asked_in_turn(
+    alloc: Global,
+    rows: &mut FailingRows,
+    file: &[u8],
+    ask: &str,
+    before: u64,
+    calls: u64,
+) -> Result<Vec<u8>, Fail> {
+    let failing = each_in_turn(alloc, before, calls)?;
+    let steps = asking(alloc, ask, calls.saturating_add(1))?;
+    live(alloc, rows, failing.as_slice(), file, steps.as_slice())
+}
+
+// How often a client's question calls the device, which was called so often before it.
+fn calls_to_answer(
+    alloc: Global,
+    rows: &mut FailingRows,
+    file: &[u8],
+    ask: &str,
+    before: u64,
+) -> Result<u64, Fail> {
+    let steps = asking(alloc, ask, 1)?;
+    let after = calls_of(alloc, rows, file, steps.as_slice())?;
+    Ok(after.saturating_sub(before))
+}
+
+// Whether each call of the question that fails is told, and the question is answered where none does; the
+// device was called so often before it.
+fn is_told(
+    alloc: Global,
+    rows: &mut FailingRows,
+    file: &[u8],
+    request: &Request,
+    before: u64,
+) -> Result<bool, Fail> {
+    let (ask, failed, reply) = *request;
+    let calls = calls_to_answer(alloc, rows, file, ask, before)?;
+    let shown = asked_in_turn(alloc, rows, file, ask, before, calls)?;
+    let wanted = answers(alloc, failed, calls, reply)?;
+    Ok(0 < calls && rows.counts().1 == calls && shown.as_slice() == wanted.as_bytes())
+}
+
 #[test]
 fn each_read_of_a_request(rt: HostRuntime) -> Result<(), Fail> {
     let alloc = rt.alloc();
     let file = coins_file(alloc)?;
-    let file = file.as_slice();
-    let (_, rows) = live(alloc, FailingRows::new(alloc), &[], file, BEGINS.as_slice())?;
-    let (before, rows) = calls_of(alloc, rows, file, BEGINS.as_slice())?;
-    let mut rows = rows;
-    for (ask, failed, reply) in REQUESTS {
-        let (after, kept) = calls_of(alloc, rows, file, asking(alloc, ask, 1)?.as_slice())?;
-        let calls = after.saturating_sub(before);
-        let failing = each_in_turn(alloc, before, calls)?;
-        let steps = asking(alloc, ask, calls.saturating_add(1))?;
-        let (shown, kept) = live(alloc, kept, failing.as_slice(), file, steps.as_slice())?;
-        assert!(rt; 0 < calls && kept.counts().1 == calls, "{ask}");
-        let wanted = answers(alloc, failed, calls, reply)?;
-        assert!(rt; shown.as_slice() == wanted.as_bytes(), "{ask}");
-        rows = kept;
+    let mut rows = FailingRows::new(alloc);
+    live(alloc, &mut rows, &[], file.as_slice(), BEGINS)?;
+    let before = calls_of(alloc, &mut rows, file.as_slice(), BEGINS)?;
+    for request in REQUESTS.iter() {
+        assert!(rt;
+            is_told(alloc, &mut rows, file.as_slice(), request, before)?,
+            "{}",
+            request.0
+        );
     }
     Ok(())
 }
 
 // What the node says, and then the line in which the device fails; and what a client is answered of the
 // scripts of 101 and 1 over what is left of it, before the line and after it.
-const STOPS: [[&str; 5]; 5] = [
+const STOPS: &[[&str; 5]] = &[
     ["tip {z}\n", "tx P\n", "tx Q\n", AT_Z, AT_Z],
     // one is in the block, and its child is kept
     [
@@ -204,7 +245,7 @@ const STOPS: [[&str; 5]; 5] = [
     ],
 ];
 
-const ASKS: [Step<'static>; 2] = [
+const ASKS: &[Step<'static>] = &[
     Opens(1),
     Says(1, "{asks-balance}{101}{asked}\n{asks-balance}{1}{asked}\n"),
 ];
@@ -220,56 +261,133 @@ const AT_V2: &str =
     "{result}{balance}10000000000{of-it}0}}\n{result}{balance}5000000000{of-it}0}}\n";
 
 // What a client is answered over what is left of these rows, none of whose calls fails any more.
-fn left(alloc: Global, rows: FailingRows) -> Result<(Vec<u8>, FailingRows), Fail> {
-    live(alloc, rows, &[], b"", ASKS.as_slice())
+fn left(alloc: Global, rows: &mut FailingRows) -> Result<Vec<u8>, Fail> {
+    live(alloc, rows, &[], b"", ASKS)
+}
+
+// What the node says over a file before a line, and that with the line.
+#[derive(Clone, Copy)]
+struct Line<'x> {
+    file: &'x [u8],
+    before: [Step<'x>; 3],
+    whole: [Step<'x>; 4],
+}
+
+fn line_of<'x>(file: &'x [u8], before: &'x str, line: &'x str) -> Line<'x> {
+    Line {
+        file,
+        before: [TELLS, Says(0, before), Forget],
+        whole: [TELLS, Says(0, before), Forget, Says(0, line)],
+    }
+}
+
+// What the line is answered, and what a client is answered before it and after it.
+#[derive(Drop)]
+struct Texts {
+    answer: String,
+    old: String,
+    new: String,
+}
+
+fn texts_of(alloc: Global, answer: &str, old: &str, new: &str) -> Result<Texts, Fail> {
+    Ok(Texts {
+        answer: spelled(alloc, answer)?,
+        old: spelled(alloc, old)?,
+        new: spelled(alloc, new)?,
+    })
+}
+
+// How often the device is called before the line, over rows that have the old chain before and after that.
+fn calls_before(alloc: Global, rows: &mut FailingRows, line: &Line<'_>) -> Result<u64, Fail> {
+    live(alloc, rows, &[], line.file, line.before.as_slice())?;
+    calls_of(alloc, rows, line.file, line.before.as_slice())
+}
+
+// How often it is called up to the line's end where no call fails; 0 where the line is answered otherwise, or
+// leaves another chain.
+fn calls_to_end(
+    alloc: Global,
+    rows: &mut FailingRows,
+    line: &Line<'_>,
+    texts: &Texts,
+) -> Result<u64, Fail> {
+    let shown = live(alloc, rows, &[], line.file, line.whole.as_slice())?;
+    let calls = rows.counts().0.min(10_000);
+    let found = left(alloc, rows)?;
+    if shown.as_slice() == texts.answer.as_bytes() && found.as_slice() == texts.new.as_bytes() {
+        Ok(calls)
+    } else {
+        Ok(0)
+    }
+}
+
+// What is left of the old chain where this call of the line fails, by which the server stops; None where it
+// doesn't.
+fn left_by(
+    alloc: Global,
+    rows: &mut FailingRows,
+    line: &Line<'_>,
+    call: u64,
+) -> Result<Option<Vec<u8>>, Fail> {
+    // the rows have the old chain before the life
+    live(alloc, rows, &[], line.file, line.before.as_slice())?;
+    let shown = live(alloc, rows, &[call], line.file, line.whole.as_slice())?;
+    if rows.counts().1 != 1 || shown.as_slice() != b"stopped by the disk\n".as_slice() {
+        return Ok(None);
+    }
+    Ok(Some(left(alloc, rows)?))
+}
+
+// Whether each of these calls that fails stops the server, and leaves the old chain up to some call and from
+// then on the new one.
+fn stops_between(
+    alloc: Global,
+    rows: &mut FailingRows,
+    line: &Line<'_>,
+    texts: &Texts,
+    calls: (u64, u64),
+) -> Result<bool, Fail> {
+    let mut is_new = false;
+    for call in calls.0.saturating_add(1)..=calls.1 {
+        let Some(found) = left_by(alloc, rows, line, call)? else {
+            return Ok(false);
+        };
+        is_new = is_new || found.as_slice() != texts.old.as_bytes();
+        if is_new && found.as_slice() != texts.new.as_bytes() {
+            return Ok(false);
+        }
+    }
+    Ok(true)
 }
 
 // Whether each call of a line that fails stops the server, and leaves the old chain up to some call and from
 // then on the new one, which also is what a line leaves in which no call fails.
-fn stops_anywhere(alloc: Global, file: &[u8], stop: [&str; 5]) -> Result<bool, Fail> {
-    let [before, line, answer, old, new] = stop;
-    let (old, new) = (spelled(alloc, old)?, spelled(alloc, new)?);
-    let begins = [TELLS, Says(0, before), Forget];
-    let steps = [TELLS, Says(0, before), Forget, Says(0, line)];
-    let rows = FailingRows::new(alloc);
-    // the rows have the old chain before each life
-    let (_, rows) = live(alloc, rows, &[], file, begins.as_slice())?;
-    let (from, rows) = calls_of(alloc, rows, file, begins.as_slice())?;
-    let (shown, rows) = live(alloc, rows, &[], file, steps.as_slice())?;
-    let (to, _) = rows.counts();
-    let (found, mut rows) = left(alloc, rows)?;
-    if shown.as_slice() != spelled(alloc, answer)?.as_bytes()
-        || found.as_slice() != new.as_bytes()
-    {
-        return Ok(false);
-    }
-    let mut is_new = false;
-    for call in from.saturating_add(1)..=to.min(10_000) {
-        let (_, kept) = live(alloc, rows, &[], file, begins.as_slice())?;
-        let (shown, kept) = live(alloc, kept, &[call], file, steps.as_slice())?;
-        let (_, faults) = kept.counts();
-        let (found, kept) = left(alloc, kept)?;
-        is_new = is_new || found.as_slice() != old.as_bytes();
-        let wanted = if is_new {
-            new.as_bytes()
-        } else {
-            old.as_bytes()
-        };
-        let is_stopped = faults == 1 && shown.as_slice() == b"stopped by the disk\n".as_slice();
-        if !is_stopped || found.as_slice() != wanted {
-            return Ok(false);
-        }
-        rows = kept;
-    }
-    Ok(from < to)
+fn stops_anywhere(
+    alloc: Global,
+    rows: &mut FailingRows,
+    file: &[u8],
+    stop: &[&str; 5],
+) -> Result<bool, Fail> {
+    let [before, said, answer, old, new] = *stop;
+    let line = line_of(file, before, said);
+    let texts = texts_of(alloc, answer, old, new)?;
+    let from = calls_before(alloc, rows, &line)?;
+    let to = calls_to_end(alloc, rows, &line, &texts)?;
+    Ok(from < to && stops_between(alloc, rows, &line, &texts, (from, to))?)
 }
 
 #[test]
 fn each_call_of_a_line(rt: HostRuntime) -> Result<(), Fail> {
     let alloc = rt.alloc();
     let file = coins_file(alloc)?;
-    for stop in STOPS {
-        assert!(rt; stops_anywhere(alloc, file.as_slice(), stop)?, "{stop:?}");
+    for stop in STOPS.iter() {
+        let mut rows = FailingRows::new(alloc);
+        assert!(rt;
+            stops_anywhere(alloc, &mut rows, file.as_slice(), stop)?,
+            "{}{}",
+            stop[0],
+            stop[1]
+        );
     }
     Ok(())
 }

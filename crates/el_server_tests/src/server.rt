@@ -27,6 +27,7 @@ use el_sync::StepFault;
 use el_tx::{Outpoint, Tx, block_hash, encode_header, encode_tx, txid};
 use itoa::Buffer;
 use std::alloc::Global;
+use std::process::Abort;
 use std::test::Fail;
 
 // Hashes that another program computed: of the blocks of heights 0, 1, 15, 16 and 101 that `chain_file`
@@ -122,44 +123,49 @@ pub(crate) enum Step<'a> {
 pub(crate) fn spelled(alloc: Global, text: &str) -> Result<String, Fail> {
     let mut whole = String::new(alloc);
     for letter in text.chars() {
-        match letter {
-            'A' => whole.push_str(FIRST)?,
-            'B' => whole.push_str(BLOCK_1_HASH)?,
-            'C' => whole.push_str(SECOND)?,
-            'D' => whole.push_str(GENESIS.get(162..).unwrap_or(""))?,
-            'E' => whole.push_str(EMPTY_SCRIPT_HASH)?,
-            'G' => whole.push_str(GENESIS_HASH)?,
-            'H' => whole.push_str(HEADER_0)?,
-            'J' => whole.push_str(HEADER_1)?,
-            'L' => whole.push_str(LAST_OF_MANY)?,
-            'O' => whole.push_str(OTHER_FIRST)?,
-            'R' => whole.push_str(HEADERS_ROOT)?,
-            'S' => whole.push_str(GENESIS_SCRIPT_HASH)?,
-            'U' => whole.push_str(UNKNOWN)?,
-            'X' => whole.push_str(GENESIS_TXID)?,
-            'Y' => whole.push_str(LAST_BUT_ONE)?,
-            'Z' => whole.push_str(LAST)?,
-            'F' | 'I' | 'K' | 'M' | 'P' | 'Q' | 'V' | 'W' => whole.push_str(transaction_of(
-                letter,
-            ))?,
-            other => whole.push(other)?,
+        match meant(letter) {
+            Some(hash) => whole.push_str(hash)?,
+            None => whole.push(letter)?,
         }
     }
     named(alloc, whole.as_str())
 }
 
-// What a letter stands for that names a transaction or a txid.
-fn transaction_of(letter: char) -> &'static str {
+// What a letter stands for, if it stands for something.
+fn meant(letter: char) -> Option<&'static str> {
     match letter {
-        'F' => COINBASE_FORM,
-        'I' => ONES,
-        'K' => CHILD,
-        'M' => SPENDING_NOTHING,
-        'P' => PARENT,
-        'Q' => PARENT_TXID,
-        'V' => GIVING_TOO_MUCH,
-        'W' => OTHER_SPEND,
-        _ => "",
+        'A' => Some(FIRST),
+        'B' => Some(BLOCK_1_HASH),
+        'C' => Some(SECOND),
+        'D' => GENESIS.get(162..),
+        'E' => Some(EMPTY_SCRIPT_HASH),
+        'G' => Some(GENESIS_HASH),
+        'H' => Some(HEADER_0),
+        'J' => Some(HEADER_1),
+        'L' => Some(LAST_OF_MANY),
+        'O' => Some(OTHER_FIRST),
+        'R' => Some(HEADERS_ROOT),
+        'S' => Some(GENESIS_SCRIPT_HASH),
+        'U' => Some(UNKNOWN),
+        'X' => Some(GENESIS_TXID),
+        'Y' => Some(LAST_BUT_ONE),
+        'Z' => Some(LAST),
+        _ => transaction_of(letter),
+    }
+}
+
+// What a letter stands for that names a transaction or a txid.
+fn transaction_of(letter: char) -> Option<&'static str> {
+    match letter {
+        'F' => Some(COINBASE_FORM),
+        'I' => Some(ONES),
+        'K' => Some(CHILD),
+        'M' => Some(SPENDING_NOTHING),
+        'P' => Some(PARENT),
+        'Q' => Some(PARENT_TXID),
+        'V' => Some(GIVING_TOO_MUCH),
+        'W' => Some(OTHER_SPEND),
+        _ => None,
     }
 }
 
@@ -184,12 +190,18 @@ fn show_peer(p: Peer, shown: &mut Vec<u8>) -> Result<(), Fail> {
     Ok(())
 }
 
-// Adds what a turn sends, and why it closes, each after its client but where that is the first.
-fn show(outs: &Outs, shown: &mut Vec<u8>) -> Result<(), Fail> {
+// Adds what is sent, each after its client but where that is the first.
+fn show_sends(outs: &Outs, shown: &mut Vec<u8>) -> Result<(), Fail> {
     for (p, text) in outs.sends.as_slice() {
         show_peer(*p, shown)?;
         shown.extend_from_slice(text.as_slice())?;
     }
+    Ok(())
+}
+
+// Adds what a turn sends, and why it closes a client.
+fn show(outs: &Outs, shown: &mut Vec<u8>) -> Result<(), Fail> {
+    show_sends(outs, shown)?;
     if let Some((p, why)) = outs.close {
         show_peer(p, shown)?;
         shown.extend_from_slice(word_of(why).as_bytes())?;
@@ -322,6 +334,7 @@ fn begun(alloc: Global, ledger: Tested, limits: PoolLimits, file: &[u8]) -> Resu
     ensures idle { IfOk result (λ run. IsIdle run.server) }
     ensures numbers { IfOk result (λ run. AreUpTo run.last run.server.clients) }
 {
+    let archive = archive_of(alloc, file, 0)?;
     let holdings = Holdings {
         tree: HeaderTree::new(alloc),
         magic: MAGIC,
@@ -329,10 +342,24 @@ fn begun(alloc: Global, ledger: Tested, limits: PoolLimits, file: &[u8]) -> Resu
     };
     Ok(Run {
         server: Server::new(alloc, ledger, holdings),
-        archive: archive_of(alloc, file, 0)?,
+        archive,
         last: 0,
         shown: Vec::new(alloc),
     })
+}
+
+// Makes these steps, and shows why the server stops, if it does.
+fn play_all(alloc: Global, file: &[u8], run: &mut Run, steps: &[Step<'_>]) -> Result<(), Fail>
+    requires idle { IsIdle run.old.server }
+    requires numbers { AreUpTo run.old.last run.old.server.clients }
+{
+    for step in steps {
+        if let Some(fault) = make_step(alloc, file, run, *step)? {
+            run.shown.extend_from_slice(stop_word(fault).as_bytes())?;
+            return Ok(());
+        }
+    }
+    Ok(())
 }
 
 // Makes these steps over this ledger, and answers what was shown, where a server that stops is shown too, and
@@ -345,12 +372,7 @@ pub(crate) fn play(
     steps: &[Step<'_>],
 ) -> Result<(Vec<u8>, Tested), Fail> {
     let mut run = begun(alloc, ledger, limits, file)?;
-    for step in steps {
-        if let Some(fault) = make_step(alloc, file, &mut run, *step)? {
-            run.shown.extend_from_slice(stop_word(fault).as_bytes())?;
-            break;
-        }
-    }
+    play_all(alloc, file, &mut run, steps)?;
     Ok((run.shown, run.server.into_ledger()))
 }
 
@@ -370,17 +392,26 @@ pub(crate) fn add_record(text: &[u8], file: &mut Vec<u8>) -> Result<(), Fail> {
     Ok(())
 }
 
+// Adds the record of a block with these hex digits.
+fn add_digits(alloc: Global, digits: &str, file: &mut Vec<u8>) -> Result<(), Fail> {
+    let text = hex::decode(alloc, digits)?;
+    add_record(text.as_slice(), file)
+}
+
+// Adds Bitcoin's first two blocks, with other bytes between and after them, and the second block once more.
+fn add_first(alloc: Global, file: &mut Vec<u8>) -> Result<(), Fail> {
+    add_digits(alloc, GENESIS, file)?;
+    file.extend_from_slice(&[0xaa, 0xbb, 0xcc])?;
+    add_digits(alloc, BLOCK_1, file)?;
+    file.extend_from_slice(&[0; 100])?;
+    add_digits(alloc, BLOCK_1, file)
+}
+
 // Bitcoin's first two blocks as a node may have stored them, with other bytes between and after them, and the
 // first bytes of the second block once more.
 pub(crate) fn first_file(alloc: Global) -> Result<Vec<u8>, Fail> {
-    let first = hex::decode(alloc, GENESIS)?;
-    let second = hex::decode(alloc, BLOCK_1)?;
     let mut file = Vec::new(alloc);
-    add_record(first.as_slice(), &mut file)?;
-    file.extend_from_slice(&[0xaa, 0xbb, 0xcc])?;
-    add_record(second.as_slice(), &mut file)?;
-    file.extend_from_slice(&[0; 100])?;
-    add_record(second.as_slice(), &mut file)?;
+    add_first(alloc, &mut file)?;
     file.truncate(677);
     Ok(file)
 }
@@ -403,7 +434,7 @@ fn shows(
 // has.
 type Case = (&'static [Step<'static>], &'static str, Option<u32>);
 
-const NODE_LINES: [Case; 10] = [
+const NODE_LINES: &[Case] = &[
     (&[Step::Says(0, "block 0 0\n")], "block G\n", None),
     (
         &[Step::Says(0, "block 0 0\nblock 00 0\n")],
@@ -440,7 +471,7 @@ const NODE_LINES: [Case; 10] = [
 ];
 
 // Block files that fail or change.
-const FAILING_FILES: [Case; 4] = [
+const FAILING_FILES: &[Case] = &[
     (
         &[Step::Fails, Step::Says(0, "block 0 0\ntip G\n")],
         "refused archive\nrefused unknown G\n",
@@ -475,22 +506,26 @@ const FAILING_FILES: [Case; 4] = [
     ),
 ];
 
-#[test]
-fn answers_to_node_lines(rt: HostRuntime) -> Result<(), Fail> {
-    let file = first_file(rt.alloc())?;
-    for (run, wanted, height) in NODE_LINES {
+// Whether each case of a table shows its text over the file of the first two blocks.
+fn all_show<R: Abort>(rt: &R, alloc: Global, cases: &[Case]) -> Result<(), Fail> {
+    let file = first_file(alloc)?;
+    for (run, wanted, height) in cases {
         assert!(rt;
-            shows(rt.alloc(), file.as_slice(), run, wanted, height)?,
-            "{wanted}"
-        );
-    }
-    for (run, wanted, height) in FAILING_FILES {
-        assert!(rt;
-            shows(rt.alloc(), file.as_slice(), run, wanted, height)?,
+            shows(alloc, file.as_slice(), *run, *wanted, *height)?,
             "{wanted}"
         );
     }
     Ok(())
+}
+
+#[test]
+fn answers_to_node_lines(rt: HostRuntime) -> Result<(), Fail> {
+    all_show(&rt, rt.alloc(), NODE_LINES)
+}
+
+#[test]
+fn block_files_that_fail_or_change(rt: HostRuntime) -> Result<(), Fail> {
+    all_show(&rt, rt.alloc(), FAILING_FILES)
 }
 
 pub(crate) fn one(alloc: Global, tx: Tx) -> Result<Vec<Tx>, Fail>
@@ -510,6 +545,21 @@ fn coinbase_block(alloc: Global, previous: Hash32, height: u32, branch: u8) -> R
     Ok(block(alloc, previous, height, branch, txs)?)
 }
 
+// Adds the record of a block of a coinbase alone, and answers the block's hash.
+fn add_block(
+    alloc: Global,
+    previous: Hash32,
+    height: u32,
+    branch: u8,
+    file: &mut Vec<u8>,
+) -> Result<Hash32, Fail>
+    requires { height ≤ 4000000 }
+{
+    let made = coinbase_block(alloc, previous, height, branch)?;
+    add_record(block_bytes(alloc, &made)?.as_slice(), file)?;
+    Ok(block_hash(&encode_header(&made.header)))
+}
+
 // The records of so many blocks, each on the one before, and of another block without one before it.
 fn chain_file(alloc: Global, count: u32) -> Result<Vec<u8>, Fail>
     requires { count ≤ 1000 }
@@ -517,12 +567,9 @@ fn chain_file(alloc: Global, count: u32) -> Result<Vec<u8>, Fail>
     let mut file = Vec::new(alloc);
     let mut previous = ZERO;
     for height in 0..count {
-        let made = coinbase_block(alloc, previous, height, 0)?;
-        add_record(block_bytes(alloc, &made)?.as_slice(), &mut file)?;
-        previous = block_hash(&encode_header(&made.header));
+        previous = add_block(alloc, previous, height, 0, &mut file)?;
     }
-    let other = coinbase_block(alloc, ZERO, 0, 1)?;
-    add_record(block_bytes(alloc, &other)?.as_slice(), &mut file)?;
+    add_block(alloc, ZERO, 0, 1, &mut file)?;
     Ok(file)
 }
 
@@ -550,39 +597,51 @@ fn moves<'x>(
     shows(alloc, file, run.as_slice(), answers, Some(height))
 }
 
-#[test]
-fn tips_move_the_ledger(rt: HostRuntime) -> Result<(), Fail> {
-    let file = chain_file(rt.alloc(), 17)?;
-    let lines = telling_lines(rt.alloc(), 17)?;
-    for (said, height) in [
-        (("tip Z\n", "at Y 15\nat Z 16\n"), 16),
-        (("tip Z\ntip Z\n", "at Y 15\nat Z 16\nat Z 16\n"), 16),
-        (("tip A\ntip Z\n", "at A 0\nat Z 16\n"), 16),
-        (("tip Y\ntip A\n", "at Y 15\nat A 0\n"), 0),
-        (("tip Z\ntip Y\n", "at Y 15\nat Z 16\nat Y 15\n"), 15),
-        (
-            (
-                "block 0 2720\ntip A\nblock 0 0\n",
-                "refused genesis O\nat A 0\nblock A\n",
-            ),
-            0,
-        ),
-    ] {
+// What the node says of tips, what it is answered, and the height that the ledger then has.
+type Tips = (&'static str, &'static str, u32);
+
+// Whether each row of a table holds after these lines over the file.
+fn all_move<R: Abort>(
+    rt: &R,
+    alloc: Global,
+    file: &[u8],
+    before: &str,
+    rows: &[Tips],
+) -> Result<(), Fail> {
+    for (said, answers, height) in rows {
         assert!(rt;
-            moves(
-                rt.alloc(),
-                file.as_slice(),
-                lines.as_str(),
-                said.0,
-                said.1,
-                height
-            )?,
-            "{}",
-            said.1
+            moves(alloc, file, before, *said, *answers, *height)?,
+            "{answers}"
         );
     }
     Ok(())
 }
+
+const SEVENTEEN: &[Tips] = &[
+    ("tip Z\n", "at Y 15\nat Z 16\n", 16),
+    ("tip Z\ntip Z\n", "at Y 15\nat Z 16\nat Z 16\n", 16),
+    ("tip A\ntip Z\n", "at A 0\nat Z 16\n", 16),
+    ("tip Y\ntip A\n", "at Y 15\nat A 0\n", 0),
+    ("tip Z\ntip Y\n", "at Y 15\nat Z 16\nat Y 15\n", 15),
+    (
+        "block 0 2720\ntip A\nblock 0 0\n",
+        "refused genesis O\nat A 0\nblock A\n",
+        0,
+    ),
+];
+
+#[test]
+fn tips_move_the_ledger(rt: HostRuntime) -> Result<(), Fail> {
+    let file = chain_file(rt.alloc(), 17)?;
+    let lines = telling_lines(rt.alloc(), 17)?;
+    all_move(&rt, rt.alloc(), file.as_slice(), lines.as_str(), SEVENTEEN)
+}
+
+const A_HUNDRED: &[Tips] = &[
+    ("tip C\n", "at C 1\n", 1),
+    ("tip A\n", "refused deep 101\n", 101),
+    ("tip C\ntip Y\n", "at C 1\nat Y 15\n", 15),
+];
 
 // A hundred blocks are taken back in one move, and no more.
 #[test]
@@ -590,25 +649,7 @@ fn tips_take_a_hundred_back(rt: HostRuntime) -> Result<(), Fail> {
     let file = chain_file(rt.alloc(), 102)?;
     let mut lines = telling_lines(rt.alloc(), 102)?;
     lines.push_str("tip L\n")?;
-    for (said, height) in [
-        (("tip C\n", "at C 1\n"), 1),
-        (("tip A\n", "refused deep 101\n"), 101),
-        (("tip C\ntip Y\n", "at C 1\nat Y 15\n"), 15),
-    ] {
-        assert!(rt;
-            moves(
-                rt.alloc(),
-                file.as_slice(),
-                lines.as_str(),
-                said.0,
-                said.1,
-                height
-            )?,
-            "{}",
-            said.1
-        );
-    }
-    Ok(())
+    all_move(&rt, rt.alloc(), file.as_slice(), lines.as_str(), A_HUNDRED)
 }
 
 // The bytes of the parts.
@@ -629,43 +670,47 @@ pub(crate) fn first_coin(alloc: Global) -> Result<(Tx, Outpoint), Fail>
     Ok((tx, Outpoint { txid, index: 0 }))
 }
 
+// Whether the node is told that the block of the file with this hash is bad, by this word.
+fn shows_bad(alloc: Global, file: &[u8], hash: &str, word: &str) -> Result<bool, Fail> {
+    let said = format!(in alloc; "block 0 0\ntip {hash}\n")?;
+    let wanted = format!(in alloc; "block {hash}\nrefused bad {hash} {word}\n")?;
+    let run = [Step::Says(0, said.as_str())];
+    shows(alloc, file, run.as_slice(), wanted.as_str(), None)
+}
+
 // Whether the node is told that the block with these bytes and this hash is bad, by this word.
 fn is_bad(alloc: Global, text: &[u8], hash: &str, word: &str) -> Result<bool, Fail> {
     let mut file = Vec::new(alloc);
     add_record(text, &mut file)?;
-    let said = format!(in alloc; "block 0 0\ntip {hash}\n")?;
-    let wanted = format!(in alloc; "block {hash}\nrefused bad {hash} {word}\n")?;
-    shows(
-        alloc,
-        file.as_slice(),
-        &[Step::Says(0, said.as_str())],
-        wanted.as_str(),
-        None,
-    )
+    shows_bad(alloc, file.as_slice(), hash, word)
 }
 
 // The header of the first block, its coinbase, and a transaction that spends that.
 #[derive(Drop)]
 struct Pieces {
     header: [u8; 80],
-    first: Vec<u8>,
-    later: Vec<u8>,
+    first: Bytes,
+    later: Bytes,
 }
 
 // The bytes of the first coin's spending.
-fn later_bytes(alloc: Global, coin: Outpoint) -> Result<Vec<u8>, Fail> {
+fn later_bytes(alloc: Global, coin: Outpoint) -> Result<Bytes, Fail> {
     let spent = spend(alloc, [coin].as_slice(), [(5_000_000_000, 1)].as_slice())?;
-    let bytes = encode_tx(alloc, &spent)?;
-    Ok(Vec::from_slice(alloc, bytes.as_slice())?)
+    Ok(encode_tx(alloc, &spent)?)
+}
+
+// The first block's header.
+fn first_header(alloc: Global) -> Result<[u8; 80], Fail> {
+    let made = coinbase_block(alloc, ZERO, 0, 0)?;
+    Ok(encode_header(&made.header))
 }
 
 fn make_pieces(alloc: Global) -> Result<Pieces, Fail> {
-    let made = coinbase_block(alloc, ZERO, 0, 0)?;
+    let header = first_header(alloc)?;
     let (tx, coin) = first_coin(alloc)?;
-    let first = encode_tx(alloc, &tx)?;
     Ok(Pieces {
-        header: encode_header(&made.header),
-        first: Vec::from_slice(alloc, first.as_slice())?,
+        header,
+        first: encode_tx(alloc, &tx)?,
         later: later_bytes(alloc, coin)?,
     })
 }
@@ -675,6 +720,14 @@ fn make_pieces(alloc: Global) -> Result<Pieces, Fail> {
 fn is_no_block(alloc: Global, parts: &[&[u8]], word: &str) -> Result<bool, Fail> {
     let text = listed(alloc, parts)?;
     is_bad(alloc, text.as_slice(), FIRST, word)
+}
+
+// Whether the node is told so of each of these.
+fn are_no_blocks<R: Abort>(rt: &R, alloc: Global, table: &[(&[&[u8]], &str)]) -> Result<(), Fail> {
+    for (parts, word) in table {
+        assert!(rt; is_no_block(alloc, *parts, *word)?, "{word}");
+    }
+    Ok(())
 }
 
 // Under the header of the first block other bytes than its own.
@@ -694,10 +747,7 @@ fn bytes_that_are_no_block(rt: HostRuntime) -> Result<(), Fail> {
         (&[header, &[3], first, later, later], "repeated"),
         (&[header, &[2], first, later], "merkle"),
     ];
-    for (parts, word) in table {
-        assert!(rt; is_no_block(rt.alloc(), parts, word)?, "{word}");
-    }
-    Ok(())
+    are_no_blocks(&rt, rt.alloc(), table.as_slice())
 }
 
 // The bytes of the first block of these transactions.
@@ -709,28 +759,42 @@ fn made(alloc: Global, txs: Vec<Tx>) -> Result<Bytes, Fail>
     Ok(block_bytes(alloc, &made)?)
 }
 
-// A block of which a transaction takes an output that isn't there.
-fn taking_no_coin(alloc: Global) -> Result<Bytes, Fail> {
-    let (first, Outpoint { txid, .. }) = first_coin(alloc)?;
-    let absent = Outpoint { txid, index: 1 };
+// A coinbase and one transaction more that takes these coins and gives a satoshi.
+fn taking(alloc: Global, first: Tx, coins: &[Outpoint]) -> Result<Bytes, Fail>
+    requires some { 1 ≤ length coins.now }
+    requires encoded { HasEncoding first }
+{
     let mut txs = one(alloc, first)?;
-    txs.push(spend(alloc, [absent].as_slice(), [(1, 1)].as_slice())?)?;
+    txs.push(spend(alloc, coins, [(1, 1)].as_slice())?)?;
     made(alloc, txs)
 }
 
-// A block after which there are more than 21 million bitcoin, by one satoshi.
-fn making_money(alloc: Global) -> Result<Bytes, Fail> {
-    let (first, coin) = first_coin(alloc)?;
+// A block of which a transaction takes an output that isn't there.
+fn taking_no_coin(alloc: Global) -> Result<Bytes, Fail> {
+    let (first, Outpoint { txid, .. }) = first_coin(alloc)?;
+    taking(alloc, first, [Outpoint { txid, index: 1 }].as_slice())
+}
+
+// Two transactions: one takes the coin, and the other gives more than 21 million bitcoin, by one satoshi, for
+// what that gives.
+fn money_from(alloc: Global, coin: Outpoint) -> Result<(Tx, Tx), Fail>
+    ensures first { IfOk result (λ made. HasEncoding made.0) }
+    ensures second { IfOk result (λ made. HasEncoding made.1) }
+{
     let halves = spend(alloc, [coin].as_slice(), [(1, 1), (1, 2)].as_slice())?;
     let half = Outpoint {
         txid: txid(alloc, &halves)?,
         index: 0,
     };
-    let all = spend(
-        alloc,
-        [half].as_slice(),
-        [(2_100_000_000_000_000, 1)].as_slice(),
-    )?;
+    let to = [(2_100_000_000_000_000, 1)];
+    let all = spend(alloc, [half].as_slice(), to.as_slice())?;
+    Ok((halves, all))
+}
+
+// A block after which there are more than 21 million bitcoin, by one satoshi.
+fn making_money(alloc: Global) -> Result<Bytes, Fail> {
+    let (first, coin) = first_coin(alloc)?;
+    let (halves, all) = money_from(alloc, coin)?;
     let mut txs = one(alloc, first)?;
     txs.push(halves)?;
     txs.push(all)?;
@@ -741,9 +805,7 @@ fn making_money(alloc: Global) -> Result<Bytes, Fail> {
 fn heavy(alloc: Global) -> Result<Bytes, Fail> {
     let (first, coin) = first_coin(alloc)?;
     let coins = vec![in alloc; coin; 25_000]?;
-    let mut txs = one(alloc, first)?;
-    txs.push(spend(alloc, coins.as_slice(), [(1, 1)].as_slice())?)?;
-    made(alloc, txs)
+    taking(alloc, first, coins.as_slice())
 }
 
 // Whether the node is told by this word that the block is bad.
@@ -797,7 +859,7 @@ const NO_JSON: &str =
 const TOLD: Step<'static> = Step::Says(0, "block 0 0\ntip G\n");
 
 // What a client says, and what is answered.
-const CLIENT_LINES: [(&[Step<'static>], &str); 11] = [
+const CLIENT_LINES: &[(&[Step<'static>], &str)] = &[
     // no blocks
     (
         &[
@@ -878,7 +940,7 @@ const CLIENT_LINES: [(&[Step<'static>], &str); 11] = [
 pub(crate) const BOTH_TOLD: Step<'static> = Step::Says(0, "block 0 0\nblock 0 296\ntip B\n");
 
 // What a client asks over Bitcoin's first two blocks, or over none, and what it is answered.
-const REQUESTS: [(&str, &str); 9] = [
+const REQUESTS: &[(&str, &str)] = &[
     (
         "{\"id\":1,\"method\":\"blockchain.transaction.id_from_pos\",\"params\":[0,0]}\n",
         "{\"id\":1,\"jsonrpc\":\"2.0\",\"result\":\"X\"}\n",
@@ -947,19 +1009,27 @@ pub(crate) fn says(
 #[test]
 fn client_lines(rt: HostRuntime) -> Result<(), Fail> {
     let file = first_file(rt.alloc())?;
-    for (run, wanted) in CLIENT_LINES {
-        assert!(rt; says(rt.alloc(), file.as_slice(), run, wanted)?, "{wanted}");
+    for (run, wanted) in CLIENT_LINES.iter() {
+        assert!(rt;
+            says(rt.alloc(), file.as_slice(), *run, *wanted)?,
+            "{wanted}"
+        );
     }
     Ok(())
+}
+
+// Whether a client is answered so over Bitcoin's first two blocks.
+fn is_answered(alloc: Global, file: &[u8], asks: &str, wanted: &str) -> Result<bool, Fail> {
+    let run = [BOTH_TOLD, Step::Forget, Step::Opens(1), Step::Says(1, asks)];
+    says(alloc, file, run.as_slice(), wanted)
 }
 
 #[test]
 fn requests_over_two_blocks(rt: HostRuntime) -> Result<(), Fail> {
     let file = first_file(rt.alloc())?;
-    for (asks, wanted) in REQUESTS {
-        let run = [BOTH_TOLD, Step::Forget, Step::Opens(1), Step::Says(1, asks)];
+    for (asks, wanted) in REQUESTS.iter() {
         assert!(rt;
-            says(rt.alloc(), file.as_slice(), run.as_slice(), wanted)?,
+            is_answered(rt.alloc(), file.as_slice(), *asks, *wanted)?,
             "{wanted}"
         );
     }
@@ -968,40 +1038,30 @@ fn requests_over_two_blocks(rt: HostRuntime) -> Result<(), Fail> {
 
 // What is said of unconfirmed transactions over the first block that `chain_file` makes, one of which is kept
 // at most, and what is answered.
-const SETS: [(&str, &str); 3] = [
+const SETS: &[Tips] = &[
     (
         "tx 00\ntx F\ntx V\ntx P\ntx P\ntx W\ntx K\ntx M\n",
         "refused form\nrefused coinbase\nrefused overspends 5000000000 5000000001\ntx Q\nrefused known Q\n\
          refused conflict Q\nrefused full 1 65\nrefused missing I 0\n",
+        0,
     ),
     (
         "drop Q\ntx P\ndrop Q\ndrop Q\ntx W\n",
         "refused absent Q\ntx Q\ngone Q\nrefused absent Q\n\
          tx 8381ab3257eb066d810edafa4f0fcbdd94366bf75393f25e4743354d6c686ded\n",
+        0,
     ),
     (
         "tx P\ntip U\ntx P\n",
         "tx Q\nrefused unknown U\nrefused known Q\n",
+        0,
     ),
 ];
 
 #[test]
 fn sets_of_one_transaction(rt: HostRuntime) -> Result<(), Fail> {
     let file = chain_file(rt.alloc(), 1)?;
-    for (said, wanted) in SETS {
-        assert!(rt;
-            moves(
-                rt.alloc(),
-                file.as_slice(),
-                "block 0 0\ntip A\n",
-                said,
-                wanted,
-                0
-            )?,
-            "{wanted}"
-        );
-    }
-    Ok(())
+    all_move(&rt, rt.alloc(), file.as_slice(), "block 0 0\ntip A\n", SETS)
 }
 
 // So many bytes without byte 10.
@@ -1013,16 +1073,17 @@ fn long_text(alloc: Global, len: usize) -> Result<String, Fail> {
     Ok(text)
 }
 
+// Whether this is shown where a client says the text and then its end.
+fn ends<'a>(alloc: Global, text: &'a str, end: &'a str, wanted: &str) -> Result<bool, Fail> {
+    let run = [Step::Opens(1), Step::Says(1, text), Step::Says(1, end)];
+    says(alloc, b"", run.as_slice(), wanted)
+}
+
 #[test]
 fn lines_round_the_limit(rt: HostRuntime) -> Result<(), Fail> {
     let text = long_text(rt.alloc(), LINE_LIMIT)?;
-    for (end, wanted) in [("\n", NO_JSON), ("x", "long\n"), ("x\n{}\n", "long\n")] {
-        let run = [
-            Step::Opens(1),
-            Step::Says(1, text.as_str()),
-            Step::Says(1, end),
-        ];
-        assert!(rt; says(rt.alloc(), b"", run.as_slice(), wanted)?, "{wanted}");
-    }
+    assert!(rt; ends(rt.alloc(), text.as_str(), "\n", NO_JSON)?);
+    assert!(rt; ends(rt.alloc(), text.as_str(), "x", "long\n")?);
+    assert!(rt; ends(rt.alloc(), text.as_str(), "x\n{}\n", "long\n")?);
     Ok(())
 }

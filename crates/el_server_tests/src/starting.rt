@@ -34,60 +34,83 @@ const AFTER: (&str, &str) = (
      {\"error\":{\"code\":1,\"message\":\"version already agreed\"},\"id\":48,\"jsonrpc\":\"2.0\"}\n",
 );
 
-// Adds the number in its decimal digits, below 100.
-fn push_number(alloc: Global, text: &mut String, n: u32) -> Result<(), Fail> {
-    let digits = n.to_string(alloc)?;
-    text.push_str(digits.as_str())?;
+// Adds the texts, one after the other.
+fn push_all(text: &mut String, parts: &[&str]) -> Result<(), Fail> {
+    for part in parts {
+        text.push_str(*part)?;
+    }
     Ok(())
 }
 
-// Adds the hash of the locking script of that number, as it is shown.
-fn push_script(alloc: Global, text: &mut String, k: u32) -> Result<(), Fail> {
+// The hash of the locking script of that number, as it is shown.
+fn script_of(alloc: Global, k: u32) -> Result<[u8; 64], Fail> {
     let script = locking_script(alloc, k)?;
-    for digit in sha256(script.as_slice()).shown() {
+    Ok(sha256(script.as_slice()).shown())
+}
+
+// Adds it.
+fn push_script(alloc: Global, text: &mut String, k: u32) -> Result<(), Fail> {
+    for digit in script_of(alloc, k)? {
         text.push(char::from(digit))?;
     }
     Ok(())
 }
 
-// The subscription to the script of that number, which nobody used, and what it is answered.
-fn subscribe(alloc: Global, asks: &mut String, wanted: &mut String, k: u32) -> Result<(), Fail> {
-    let id = k.saturating_add(4);
-    asks.push_str("{\"id\":")?;
-    push_number(alloc, asks, id)?;
-    asks.push_str(",\"method\":\"blockchain.scripthash.subscribe\",\"params\":[\"")?;
-    push_script(alloc, asks, k)?;
-    asks.push_str("\"]}\n")?;
-    wanted.push_str("{\"id\":")?;
-    push_number(alloc, wanted, id)?;
-    wanted.push_str(",\"jsonrpc\":\"2.0\",\"result\":null}\n")?;
+// Adds the id of the subscription to the script of that number.
+fn push_id(alloc: Global, text: &mut String, k: u32) -> Result<(), Fail> {
+    let digits = k.saturating_add(4).to_string(alloc)?;
+    push_all(text, &["{\"id\":", digits.as_str()])
+}
+
+// Adds the subscription to the script of that number, which nobody used.
+fn push_asked(alloc: Global, text: &mut String, k: u32) -> Result<(), Fail> {
+    push_id(alloc, text, k)?;
+    text.push_str(",\"method\":\"blockchain.scripthash.subscribe\",\"params\":[\"")?;
+    push_script(alloc, text, k)?;
+    text.push_str("\"]}\n")?;
     Ok(())
 }
 
-// All that it asks, and all that it is answered.
-fn wallet(alloc: Global) -> Result<(String, String), Fail> {
-    let mut asks = String::from_str(alloc, BEFORE.0)?;
-    let mut wanted = String::from_str(alloc, BEFORE.1)?;
+// Adds what that is answered.
+fn push_answered(alloc: Global, text: &mut String, k: u32) -> Result<(), Fail> {
+    push_id(alloc, text, k)?;
+    text.push_str(",\"jsonrpc\":\"2.0\",\"result\":null}\n")?;
+    Ok(())
+}
+
+// All that it asks.
+fn asked(alloc: Global) -> Result<String, Fail> {
+    let mut text = String::from_str(alloc, BEFORE.0)?;
     for k in 0..40 {
-        subscribe(alloc, &mut asks, &mut wanted, k)?;
+        push_asked(alloc, &mut text, k)?;
     }
-    asks.push_str(AFTER.0)?;
-    wanted.push_str(AFTER.1)?;
-    Ok((asks, wanted))
+    text.push_str(AFTER.0)?;
+    Ok(text)
+}
+
+// All that it is answered.
+fn answered(alloc: Global) -> Result<String, Fail> {
+    let mut text = String::from_str(alloc, BEFORE.1)?;
+    for k in 0..40 {
+        push_answered(alloc, &mut text, k)?;
+    }
+    text.push_str(AFTER.1)?;
+    Ok(text)
+}
+
+// Whether a wallet is answered so.
+fn is_served(alloc: Global, asks: &str, wanted: &str) -> Result<bool, Fail> {
+    let file = first_file(alloc)?;
+    let run = [BOTH_TOLD, Step::Forget, Step::Opens(1), Step::Says(1, asks)];
+    says(alloc, file.as_slice(), run.as_slice(), wanted)
 }
 
 #[test]
 fn a_wallet_starts(rt: HostRuntime) -> Result<(), Fail> {
-    let file = first_file(rt.alloc())?;
-    let (asks, wanted) = wallet(rt.alloc())?;
-    let run = [
-        BOTH_TOLD,
-        Step::Forget,
-        Step::Opens(1),
-        Step::Says(1, asks.as_str()),
-    ];
+    let asks = asked(rt.alloc())?;
+    let wanted = answered(rt.alloc())?;
     assert!(rt;
-        says(rt.alloc(), file.as_slice(), run.as_slice(), wanted.as_str())?,
+        is_served(rt.alloc(), asks.as_str(), wanted.as_str())?,
         "{wanted}"
     );
     Ok(())

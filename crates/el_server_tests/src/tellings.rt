@@ -7,23 +7,30 @@ use crate::server::{Step, says, spelled};
 use std::alloc::Global;
 use std::test::Fail;
 
-// Clients come and go where 256 may be there.
-#[test]
-fn clients_round_the_limit(rt: HostRuntime) -> Result<(), Fail> {
-    let mut steps = Vec::new(rt.alloc());
+// What happens once 257 clients came.
+const LATER: &[Step<'static>] = &[
+    Says(257, "{}\n"),
+    Says(256, "{}\n"),
+    Gone(1),
+    Opens(258),
+    Opens(259),
+    Says(258, "{}\n"),
+];
+
+// 257 clients come, and then this happens.
+fn many(alloc: Global) -> Result<Vec<Step<'static>>, Fail> {
+    let mut steps = Vec::new(alloc);
     for p in 1..=257u32 {
         steps.push(Opens(p))?;
     }
-    for step in [
-        Says(257, "{}\n"),
-        Says(256, "{}\n"),
-        Gone(1),
-        Opens(258),
-        Opens(259),
-        Says(258, "{}\n"),
-    ] {
-        steps.push(step)?;
-    }
+    steps.extend_from_slice(LATER)?;
+    Ok(steps)
+}
+
+// Clients come and go where 256 may be there.
+#[test]
+fn clients_round_the_limit(rt: HostRuntime) -> Result<(), Fail> {
+    let steps = many(rt.alloc())?;
     let wanted = "257 clients\n256 {invalid}\n259 clients\n258 {invalid}\n";
     assert!(rt; says(rt.alloc(), b"", steps.as_slice(), wanted)?);
     Ok(())
@@ -33,16 +40,21 @@ fn clients_round_the_limit(rt: HostRuntime) -> Result<(), Fail> {
 const FRONT: &str = "{\"method\":\"blockchain.scripthash.subscribe\",\"params\":[\"\
                      00000000000000000000000000000000000000000000000000000000000";
 
+// Adds a subscription to the script hash of that number.
+fn push_one(alloc: Global, text: &mut String, n: u32) -> Result<(), Fail> {
+    let digits = n.to_string(alloc)?;
+    text.push_str(FRONT)?;
+    text.push_str(digits.as_str())?;
+    text.push_str("\"]}")?;
+    Ok(())
+}
+
 // A batch of subscriptions that ask for no reply, to the script hashes from one number up to another.
 fn batch(alloc: Global, from: u32, to: u32) -> Result<String, Fail> {
-    let mut text = String::new(alloc);
-    text.push_str("[")?;
+    let mut text = String::from_str(alloc, "[")?;
     for n in from..to {
-        if n > from {
-            text.push_str(",")?;
-        }
-        text.push_str(FRONT)?;
-        text.push_str(format!(in alloc; "{n}\"]}}")?.as_str())?;
+        text.push_str(if n > from { "," } else { "" })?;
+        push_one(alloc, &mut text, n)?;
     }
     text.push_str("]\n")?;
     Ok(text)
@@ -50,7 +62,7 @@ fn batch(alloc: Global, from: u32, to: u32) -> Result<String, Fail> {
 
 // What a client with 49,999 subscriptions says and the node after it: one more is held, and another one
 // isn't, which is told by nothing.
-const LAST: [Step<'static>; 5] = [
+const LAST: &[Step<'static>] = &[
     Says(
         1,
         "{subscribes}0000000000000000000000000000000000000000000000000000000000059999{asked}\n",
@@ -64,26 +76,40 @@ const LAST: [Step<'static>; 5] = [
     Says(1, "{subscribes}{101}{asked}\n"),
 ];
 
-#[test]
-fn subscriptions_round_the_limit(rt: HostRuntime) -> Result<(), Fail> {
-    let alloc = rt.alloc();
+// Ten batches of 49,999 subscriptions together.
+fn batches(alloc: Global) -> Result<Vec<String>, Fail> {
     let mut lines = Vec::new(alloc);
     for group in 0..10u32 {
         let from = 10_000 + 5_000 * group;
         lines.push(batch(alloc, from, (from + 5_000).min(59_999))?)?;
     }
+    Ok(lines)
+}
+
+// A client comes and says these lines, and then the last of it happens.
+fn holding<'x>(alloc: Global, lines: &'x [String]) -> Result<Vec<Step<'x>>, Fail> {
     let mut steps = Vec::new(alloc);
     steps.push(Opens(1))?;
-    for line in &lines {
+    for line in lines.iter() {
         steps.push(Spells(1, line.as_str()))?;
     }
-    for step in LAST {
-        steps.push(step)?;
-    }
+    steps.extend_from_slice(LAST)?;
+    Ok(steps)
+}
+
+// Whether this is shown where a client says these lines before.
+fn shows_after(alloc: Global, lines: &[String], wanted: &str) -> Result<bool, Fail> {
+    let file = coins_file(alloc)?;
+    let steps = holding(alloc, lines)?;
+    says(alloc, file.as_slice(), steps.as_slice(), wanted)
+}
+
+#[test]
+fn subscriptions_round_the_limit(rt: HostRuntime) -> Result<(), Fail> {
+    let lines = batches(rt.alloc())?;
     let wanted =
         "{result}null}\n{too-many}\n{result}null}\nblock {z}\nat {z} 0\ntx Q\n{too-many}\n";
-    let file = coins_file(alloc)?;
-    assert!(rt; says(alloc, file.as_slice(), steps.as_slice(), wanted)?);
+    assert!(rt; shows_after(rt.alloc(), lines.as_slice(), wanted)?);
     Ok(())
 }
 
@@ -118,7 +144,7 @@ const SUBSCRIBED: [Step<'static>; 9] = [
     Forget,
 ];
 
-const TELLINGS: [Telling; 2] = [
+const TELLINGS: &[Telling] = &[
     Telling {
         lines: Both {
             first: "tx P\n",
@@ -188,22 +214,39 @@ fn steps_of(telling: &Telling) -> [Step<'static>; 11] {
     ]
 }
 
-// What is shown where the client of that number, from 1 on, is closed while it is told of the first line; 0
-// for none.
-fn shown_without(alloc: Global, telling: &Telling, closed: usize) -> Result<String, Fail> {
-    let mut text = String::from_str(alloc, telling.answers.first)?;
+// Adds what the clients are told of the first line; the one of that number, from 1 on, is closed, and none
+// for 0.
+fn push_first(telling: &Telling, closed: usize, text: &mut String) -> Result<(), Fail> {
     for (place, told) in telling.told.iter().enumerate() {
         let is_closed = closed.checked_sub(1) == Some(place);
         let closing = ["disk\n", "2 disk\n", "3 disk\n"][place % 3];
         text.push_str(if is_closed { closing } else { told.first })?;
     }
-    text.push_str(telling.answers.second)?;
+    Ok(())
+}
+
+// Adds what the clients but that one are told of the second line.
+fn push_second(telling: &Telling, closed: usize, text: &mut String) -> Result<(), Fail> {
     for (place, told) in telling.told.iter().enumerate() {
-        if closed.checked_sub(1) != Some(place) {
-            text.push_str(told.second)?;
-        }
+        let is_closed = closed.checked_sub(1) == Some(place);
+        text.push_str(if is_closed { "" } else { told.second })?;
     }
+    Ok(())
+}
+
+// What is shown where the client of that number, from 1 on, is closed while it is told of the first line; 0
+// for none.
+fn shown_without(alloc: Global, telling: &Telling, closed: usize) -> Result<String, Fail> {
+    let mut text = String::from_str(alloc, telling.answers.first)?;
+    push_first(telling, closed, &mut text)?;
+    text.push_str(telling.answers.second)?;
+    push_second(telling, closed, &mut text)?;
     spelled(alloc, text.as_str())
+}
+
+// Whether that is shown.
+fn is_without(alloc: Global, telling: &Telling, closed: usize, shown: &[u8]) -> Result<bool, Fail> {
+    Ok(shown == shown_without(alloc, telling, closed)?.as_bytes())
 }
 
 // What of a run is shown: 0 where the server stopped, the number of the client that was closed, from 1 on,
@@ -213,49 +256,90 @@ fn closed_in(alloc: Global, telling: &Telling, shown: &[u8]) -> Result<usize, Fa
         return Ok(0);
     }
     for closed in 1..=3 {
-        if shown == shown_without(alloc, telling, closed)?.as_bytes() {
+        if is_without(alloc, telling, closed, shown)? {
             return Ok(closed);
         }
     }
     Ok(4)
 }
 
-// Whether each call that fails in the first line stops the server up to some call, from then on closes the
-// first client, then the second, then the third, and nothing else; the others are told of both lines.
-fn is_told(alloc: Global, file: &[u8], telling: &Telling) -> Result<bool, Fail> {
+// What the node says first.
+const BEGINS: &[Step<'static>] = &[TELLS, Says(0, "tip {z}\n")];
+
+// What is shown in a life of these steps of which these calls fail, over rows that have the first block alone
+// before it.
+fn over_one_block(
+    alloc: Global,
+    rows: &mut FailingRows,
+    failing: &[u64],
+    file: &[u8],
+    steps: &[Step<'_>],
+) -> Result<Vec<u8>, Fail> {
+    live(alloc, rows, &[], file, BEGINS)?;
+    live(alloc, rows, failing, file, steps)
+}
+
+// How often the device is called before the last of these steps, over rows that have the first block alone,
+// and with it.
+fn calls_round(
+    alloc: Global,
+    rows: &mut FailingRows,
+    file: &[u8],
+    before: &[Step<'_>],
+    whole: &[Step<'_>],
+) -> Result<(u64, u64), Fail> {
+    live(alloc, rows, &[], file, BEGINS)?;
+    let from = calls_of(alloc, rows, file, before)?;
+    Ok((from, calls_of(alloc, rows, file, whole)?))
+}
+
+// Whether each of these calls that fails stops the server up to some call, from then on closes the first
+// client, then the second, then the third, and nothing else; the others are told of both lines.
+fn closes_in_turn(
+    alloc: Global,
+    rows: &mut FailingRows,
+    file: &[u8],
+    telling: &Telling,
+    calls: (u64, u64),
+) -> Result<bool, Fail> {
     let steps = steps_of(telling);
-    let begins = [TELLS, Says(0, "tip {z}\n")];
-    let rows = FailingRows::new(alloc);
-    let (_, rows) = live(alloc, rows, &[], file, begins.as_slice())?;
-    let (from, rows) = calls_of(alloc, rows, file, &steps[..9])?;
-    let begun = steps.get(..10).unwrap_or(steps.as_slice());
-    let (to, rows) = calls_of(alloc, rows, file, begun)?;
-    let (_, rows) = live(alloc, rows, &[], file, begins.as_slice())?;
-    let (shown, mut rows) = live(alloc, rows, &[], file, steps.as_slice())?;
-    if shown.as_slice() != shown_without(alloc, telling, 0)?.as_bytes() {
-        return Ok(false);
-    }
     let mut last = 0usize;
-    for call in from.saturating_add(1)..=to {
-        // the rows have the first block alone before each life
-        let (_, kept) = live(alloc, rows, &[], file, begins.as_slice())?;
-        let (shown, kept) = live(alloc, kept, &[call], file, steps.as_slice())?;
+    for call in calls.0.saturating_add(1)..=calls.1 {
+        let shown = over_one_block(alloc, rows, &[call], file, steps.as_slice())?;
         let closed = closed_in(alloc, telling, shown.as_slice())?;
-        if kept.counts().1 != 1 || closed < last || closed > last.saturating_add(1) {
+        if rows.counts().1 != 1 || closed < last || closed > last.saturating_add(1) {
             return Ok(false);
         }
         last = closed;
-        rows = kept;
     }
     Ok(last == 3)
 }
 
+// Whether all are told of both lines where no call fails, and each call that fails in the first line has its
+// effect alone.
+fn is_told(
+    alloc: Global,
+    rows: &mut FailingRows,
+    file: &[u8],
+    telling: &Telling,
+) -> Result<bool, Fail> {
+    let steps = steps_of(telling);
+    let calls = calls_round(alloc, rows, file, &steps[..9], &steps[..10])?;
+    let shown = over_one_block(alloc, rows, &[], file, steps.as_slice())?;
+    Ok(
+        is_without(alloc, telling, 0, shown.as_slice())?
+            && closes_in_turn(alloc, rows, file, telling, calls)?,
+    )
+}
+
 #[test]
 fn each_call_of_a_telling(rt: HostRuntime) -> Result<(), Fail> {
-    let file = coins_file(rt.alloc())?;
-    for telling in &TELLINGS {
+    let alloc = rt.alloc();
+    let file = coins_file(alloc)?;
+    for telling in TELLINGS.iter() {
+        let mut rows = FailingRows::new(alloc);
         assert!(rt;
-            is_told(rt.alloc(), file.as_slice(), telling)?,
+            is_told(alloc, &mut rows, file.as_slice(), telling)?,
             "{}",
             telling.lines.first
         );
@@ -265,7 +349,7 @@ fn each_call_of_a_telling(rt: HostRuntime) -> Result<(), Fail> {
 
 // What a client says over the first block, and then asks; what the node says then; and what is shown from the
 // question on where a call of the question fails, and where none does.
-const SESSIONS: [[&str; 5]; 3] = [
+const SESSIONS: &[[&str; 5]] = &[
     // a script hash isn't held
     [
         "{subscribes}{1}{asked}\n",
@@ -295,10 +379,45 @@ const SESSIONS: [[&str; 5]; 3] = [
     ],
 ];
 
+// Whether each of these calls that fails has this shown.
+fn each_shows(
+    alloc: Global,
+    rows: &mut FailingRows,
+    file: &[u8],
+    steps: &[Step<'_>],
+    calls: (u64, u64),
+    wanted: &str,
+) -> Result<bool, Fail> {
+    let wanted = spelled(alloc, wanted)?;
+    let mut is_shown = true;
+    for call in calls.0.saturating_add(1)..=calls.1 {
+        let shown = over_one_block(alloc, rows, &[call], file, steps)?;
+        is_shown = is_shown && shown.as_slice() == wanted.as_bytes();
+    }
+    Ok(is_shown)
+}
+
+// Whether this is shown where no call fails.
+fn shows_sound(
+    alloc: Global,
+    rows: &mut FailingRows,
+    file: &[u8],
+    steps: &[Step<'_>],
+    wanted: &str,
+) -> Result<bool, Fail> {
+    let wanted = spelled(alloc, wanted)?;
+    let shown = live(alloc, rows, &[], file, steps)?;
+    Ok(shown.as_slice() == wanted.as_bytes())
+}
+
 // Whether a session stays as it was at each call of the question that fails.
-fn stays(alloc: Global, file: &[u8], session: [&str; 5]) -> Result<bool, Fail> {
-    let [before, asks, line, failed, sound] = session;
-    let (failed, sound) = (spelled(alloc, failed)?, spelled(alloc, sound)?);
+fn stays(
+    alloc: Global,
+    rows: &mut FailingRows,
+    file: &[u8],
+    session: &[&str; 5],
+) -> Result<bool, Fail> {
+    let [before, asks, line, failed, sound] = *session;
     let steps = [
         TELLS,
         Says(0, "tip {z}\n"),
@@ -308,26 +427,24 @@ fn stays(alloc: Global, file: &[u8], session: [&str; 5]) -> Result<bool, Fail> {
         Says(1, asks),
         Says(0, line),
     ];
-    let rows = FailingRows::new(alloc);
-    let (_, rows) = live(alloc, rows, &[], file, &steps[..2])?;
-    let (from, rows) = calls_of(alloc, rows, file, &steps[..5])?;
-    let (to, rows) = calls_of(alloc, rows, file, &steps[..6])?;
-    let (shown, mut rows) = live(alloc, rows, &[], file, steps.as_slice())?;
-    let mut is_kept = from < to && shown.as_slice() == sound.as_bytes();
-    for call in from.saturating_add(1)..=to {
-        let (_, kept) = live(alloc, rows, &[], file, &steps[..2])?;
-        let (shown, kept) = live(alloc, kept, &[call], file, steps.as_slice())?;
-        is_kept = is_kept && shown.as_slice() == failed.as_bytes();
-        rows = kept;
-    }
-    Ok(is_kept)
+    let calls = calls_round(alloc, rows, file, &steps[..5], &steps[..6])?;
+    let is_sound = shows_sound(alloc, rows, file, steps.as_slice(), sound)?;
+    let is_kept = each_shows(alloc, rows, file, steps.as_slice(), calls, failed)?;
+    Ok(calls.0 < calls.1 && is_sound && is_kept)
 }
 
 #[test]
 fn each_read_of_a_subscription(rt: HostRuntime) -> Result<(), Fail> {
-    let file = coins_file(rt.alloc())?;
-    for session in SESSIONS {
-        assert!(rt; stays(rt.alloc(), file.as_slice(), session)?, "{session:?}");
+    let alloc = rt.alloc();
+    let file = coins_file(alloc)?;
+    for session in SESSIONS.iter() {
+        let mut rows = FailingRows::new(alloc);
+        assert!(rt;
+            stays(alloc, &mut rows, file.as_slice(), session)?,
+            "{}{}",
+            session[0],
+            session[1]
+        );
     }
     Ok(())
 }

@@ -1,5 +1,5 @@
 use Rattle.el_core.specs.State.{AreUpTo, IsIdle}
-use Rattle.el_server_tests.proofs.server.play.Given as goal
+use Rattle.el_server_tests.proofs.server.play_all.Given as goal
 
 abbrev pub invariant-loop-step : goal.invariant-loop-step
 invariant-loop-step l = record {
