@@ -59,16 +59,20 @@ pub(super) fn add_record(
     file.extend(block)
 }
 
+// Adds a part to a file.
+fn add_part(alloc: Global, file: &mut Bytes, part: Part) -> Result<(), Fail> {
+    match part {
+        Part::Block(digits) => add_record(file, MAIN, hex::decode(alloc, digits)?.as_slice())?,
+        Part::Between(digits) => file.extend(hex::decode(alloc, digits)?.as_slice())?,
+    }
+    Ok(())
+}
+
 // A file of these parts.
 fn file_of(alloc: Global, parts: &[Part]) -> Result<Bytes, Fail> {
     let mut file = Bytes::new(alloc);
     for part in parts {
-        match *part {
-            Part::Block(digits) => {
-                add_record(&mut file, MAIN, hex::decode(alloc, digits)?.as_slice())?;
-            }
-            Part::Between(digits) => file.extend(hex::decode(alloc, digits)?.as_slice())?,
-        }
+        add_part(alloc, &mut file, *part)?;
     }
     Ok(file)
 }
@@ -141,27 +145,47 @@ fn alone(alloc: Global, block: &Block) -> Result<Bytes, OutOfMemory>
     Ok(file)
 }
 
+// The file of the second block.
+fn second_alone(alloc: Global) -> Result<Bytes, OutOfMemory> {
+    let first = block_at(alloc, ZERO, 0, 0)?;
+    alone(alloc, &block_at(alloc, hash_of(&first), 1, 0)?)
+}
+
+// The file of the first block of that branch.
+fn first_alone(alloc: Global, branch: u8) -> Result<Bytes, OutOfMemory> {
+    alone(alloc, &block_at(alloc, ZERO, 0, branch)?)
+}
+
+// Three files, in this order.
+fn three(alloc: Global, a: Bytes, b: Bytes, c: Bytes) -> Result<Vec<Bytes>, OutOfMemory> {
+    let mut files = only(alloc, a)?;
+    files.push(b)?;
+    files.push(c)?;
+    Ok(files)
+}
+
 // The second block, an empty file, and the first block.
 fn apart(alloc: Global) -> Result<Vec<Bytes>, OutOfMemory> {
-    let first = block_at(alloc, ZERO, 0, 0)?;
-    let second = block_at(alloc, hash_of(&first), 1, 0)?;
-    let mut files = only(alloc, alone(alloc, &second)?)?;
-    files.push(Bytes::new(alloc))?;
-    files.push(alone(alloc, &first)?)?;
-    Ok(files)
+    let second = second_alone(alloc)?;
+    let first = first_alone(alloc, 0)?;
+    three(alloc, second, Bytes::new(alloc), first)
+}
+
+// Two second blocks after the one with this hash, and one after none.
+fn later_blocks(alloc: Global, first: Hash32) -> Result<Bytes, OutOfMemory> {
+    let mut file = Bytes::new(alloc);
+    add_branch(alloc, &mut file, first, 1, 2, 0)?;
+    add_branch(alloc, &mut file, first, 1, 2, 1)?;
+    add_branch(alloc, &mut file, Hash32([0x33; 32]), 1, 2, 2)?;
+    Ok(file)
 }
 
 // Two first blocks; two second blocks after one of them, and one after none.
 fn others(alloc: Global) -> Result<Vec<Bytes>, OutOfMemory> {
     let (first, last) = branch(alloc, 1)?;
-    let mut later = alone(alloc, &block_at(alloc, last, 1, 0)?)?;
-    add_block(alloc, &mut later, &block_at(alloc, last, 1, 1)?)?;
-    let lost = block_at(alloc, Hash32([0x33; 32]), 1, 2)?;
-    add_block(alloc, &mut later, &lost)?;
-    let mut files = only(alloc, first)?;
-    files.push(alone(alloc, &block_at(alloc, ZERO, 0, 1)?)?)?;
-    files.push(later)?;
-    Ok(files)
+    let other = first_alone(alloc, 1)?;
+    let later = later_blocks(alloc, last)?;
+    three(alloc, first, other, later)
 }
 
 // Sixteen good blocks, and one with another Merkle root.
@@ -187,17 +211,21 @@ pub(super) fn only(alloc: Global, file: Bytes) -> Result<Vec<Bytes>, OutOfMemory
     Ok(files)
 }
 
+// The file that was made, alone.
+fn only_made(alloc: Global, file: Result<Bytes, OutOfMemory>) -> Result<Vec<Bytes>, Fail> {
+    Ok(only(alloc, file?)?)
+}
+
 // The files of a call.
 pub(super) fn files_of(alloc: Global, files: Files) -> Result<Vec<Bytes>, Fail> {
-    let made = match files {
-        Files::Parts(parts) => only(alloc, file_of(alloc, parts)?)?,
-        Files::Branch(count) => only(alloc, branch(alloc, count.min(17))?.0)?,
-        Files::Apart => apart(alloc)?,
-        Files::Others => others(alloc)?,
-        Files::Late => only(alloc, late(alloc)?)?,
-        Files::Forks => only(alloc, forks(alloc)?)?,
-        Files::Deep => only(alloc, deep(alloc)?)?,
-        Files::Foreign => only(alloc, foreign(alloc)?)?,
-    };
-    Ok(made)
+    match files {
+        Files::Parts(parts) => Ok(only(alloc, file_of(alloc, parts)?)?),
+        Files::Branch(count) => Ok(only(alloc, branch(alloc, count.min(17))?.0)?),
+        Files::Apart => Ok(apart(alloc)?),
+        Files::Others => Ok(others(alloc)?),
+        Files::Late => only_made(alloc, late(alloc)),
+        Files::Forks => only_made(alloc, forks(alloc)),
+        Files::Deep => only_made(alloc, deep(alloc)),
+        Files::Foreign => Ok(only(alloc, foreign(alloc)?)?),
+    }
 }

@@ -39,6 +39,19 @@ pub(super) fn say(
     Ok(())
 }
 
+// Adds a step, with what its names stand for, and bytes in pieces of that length.
+fn add(alloc: Global, all: &mut Vec<Coming>, step: Step<'_>, piece: usize) -> Result<(), AllocError>
+    requires { 0 < piece }
+{
+    match step {
+        Step::Opens(p) => all.push(Coming::Opened(p))?,
+        Step::Says(p, text) => say(alloc, all, p, named(alloc, text)?.as_bytes(), piece)?,
+        Step::Leaves(p) => all.push(Coming::Closed(p))?,
+        Step::Waits => all.push(Coming::Quiet)?,
+    }
+    Ok(())
+}
+
 // The steps, with what their names stand for, and all bytes in pieces of that length.
 pub(super) fn coming(
     alloc: Global,
@@ -49,14 +62,7 @@ pub(super) fn coming(
 {
     let mut all = Vec::new(alloc);
     for step in steps {
-        match *step {
-            Step::Opens(p) => all.push(Coming::Opened(p))?,
-            Step::Says(p, text) => {
-                say(alloc, &mut all, p, named(alloc, text)?.as_bytes(), piece)?;
-            }
-            Step::Leaves(p) => all.push(Coming::Closed(p))?,
-            Step::Waits => all.push(Coming::Quiet)?,
-        }
+        add(alloc, &mut all, *step, piece)?;
     }
     Ok(all)
 }

@@ -1,12 +1,15 @@
 // Calls of `serve`.
 use crate::serving::serve;
 use crate::status::Status;
-use crate::tests::bringing::transcript;
+use crate::tests::block_files::{Files, files_of};
+use crate::tests::bringing::{Step, coming, transcript};
+use crate::tests::names::named;
 use el_base::Bytes;
 use el_fakes::{Coming, MemArchive, MemLink, SteadyArchive, SteadyLink};
 use el_mem_disk::{FailingCalls, MemDisk, Residue};
 use el_outside::{Archive, Disk, Link};
 use std::alloc::{AllocError, Global};
+use std::process::Abort;
 use std::test::Fail;
 
 pub(super) const SERVE: &str =
@@ -70,6 +73,16 @@ pub(super) fn serve_over<A: Archive, K: Link>(
     Ok(status)
 }
 
+// These files, of which no call fails.
+pub(super) fn steady_archive(alloc: Global, files: Files) -> Result<SteadyArchive, Fail> {
+    Ok(SteadyArchive::new(files_of(alloc, files)?).ok_or("no such files")?)
+}
+
+// A link of which no call fails, over which this comes.
+pub(super) fn steady_link(alloc: Global, steps: &[Step<'_>]) -> Result<SteadyLink, Fail> {
+    Ok(SteadyLink::new(alloc, coming(alloc, steps, 1_000)?)?)
+}
+
 // How a call over devices of which no call fails ends, and what is sent and closed.
 pub(super) fn call_steady(
     alloc: Global,
@@ -81,6 +94,44 @@ pub(super) fn call_steady(
     let mut link = SteadyLink::new(alloc, coming)?;
     let status = serve_over(alloc, words, &mut archive, &mut link, TURNS)?;
     Ok((status, transcript(alloc, link.sent(), link.closed())?))
+}
+
+// Asserts that this was sent and closed. What was wanted may have names.
+pub(super) fn assert_sent<A: Abort>(
+    rt: &A,
+    alloc: Global,
+    found: &str,
+    wanted: &str,
+) -> Result<(), AllocError> {
+    let wanted = named(alloc, wanted)?;
+    assert_eq!(rt; found, wanted.as_str());
+    Ok(())
+}
+
+// Asserts that a call ended so, and what was sent and closed.
+pub(super) fn assert_ended<A: Abort>(
+    rt: &A,
+    alloc: Global,
+    found: (Status, &str),
+    wanted: (Status, &str),
+) -> Result<(), AllocError> {
+    assert_eq!(rt; found.0, wanted.0);
+    assert_sent(rt, alloc, found.1, wanted.1)
+}
+
+// Asserts how a call ends that has these files, in which this comes and nothing fails, and what is sent.
+pub(super) fn assert_sends<A: Abort>(
+    rt: &A,
+    alloc: Global,
+    words: &str,
+    files: Files,
+    steps: &[Step<'_>],
+    wanted: (Status, &str),
+) -> Result<(), Fail> {
+    let files = files_of(alloc, files)?;
+    let (status, text) = call_steady(alloc, words, files, coming(alloc, steps, 1_000)?)?;
+    assert_ended(rt, alloc, (status, text.as_str()), wanted)?;
+    Ok(())
 }
 
 // Which call of each device fails, from 1 on, and 0 for none; and how many calls of `next` may be made.
@@ -112,6 +163,42 @@ pub(super) struct Counted {
     pub(super) disk: MemDisk,
 }
 
+// A link over which this comes, and of which these calls fail.
+fn failing_link(alloc: Global, coming: Vec<Coming>, fails: Failing) -> Result<MemLink, Fail> {
+    let nexts = Vec::from_slice(alloc, &[fails.next])?;
+    let sends = Vec::from_slice(alloc, &[fails.send])?;
+    Ok(MemLink::new(alloc, coming, nexts, sends)?)
+}
+
+// A disk of which this call fails, with empty files.
+fn failing_disk(alloc: Global, call: u64) -> Result<MemDisk, AllocError> {
+    let failing = FailingCalls {
+        listed: Vec::from_slice(alloc, &[call])?,
+        ..failing_from(alloc, None)
+    };
+    Ok(MemDisk::new(alloc, failing))
+}
+
+// A call over these devices.
+fn call_over(
+    alloc: Global,
+    words: &str,
+    disk: MemDisk,
+    archive: &mut MemArchive,
+    link: &mut MemLink,
+    turns: u64,
+) -> Result<Counted, Fail> {
+    let (status, disk) = serve_on(alloc, words, disk, archive, link, turns)?;
+    let text = transcript(alloc, link.sent(), link.closed())?;
+    Ok(Counted {
+        status,
+        text,
+        archive_calls: archive.calls(),
+        faults: (archive.faults(), link.faults()),
+        disk,
+    })
+}
+
 // A call over devices of which these calls fail.
 pub(super) fn call_failing(
     alloc: Global,
@@ -121,20 +208,7 @@ pub(super) fn call_failing(
     fails: Failing,
 ) -> Result<Counted, Fail> {
     let mut archive = MemArchive::new(files, Vec::from_slice(alloc, &[fails.archive])?);
-    let nexts = Vec::from_slice(alloc, &[fails.next])?;
-    let sends = Vec::from_slice(alloc, &[fails.send])?;
-    let mut link = MemLink::new(alloc, coming, nexts, sends)?;
-    let failing = FailingCalls {
-        listed: Vec::from_slice(alloc, &[fails.disk])?,
-        ..failing_from(alloc, None)
-    };
-    let disk = MemDisk::new(alloc, failing);
-    let (status, disk) = serve_on(alloc, words, disk, &mut archive, &mut link, fails.turns)?;
-    Ok(Counted {
-        status,
-        text: transcript(alloc, link.sent(), link.closed())?,
-        archive_calls: archive.calls(),
-        faults: (archive.faults(), link.faults()),
-        disk,
-    })
+    let mut link = failing_link(alloc, coming, fails)?;
+    let disk = failing_disk(alloc, fails.disk)?;
+    call_over(alloc, words, disk, &mut archive, &mut link, fails.turns)
 }

@@ -2,13 +2,15 @@
 ghost use Rattle.std.specs.Prelude.{◌≡◌, ◌+◌, [], refl};
 
 use crate::status::Status;
-use crate::tests::block_files::{Files, branch, files_of, only};
+use crate::tests::block_files::{Files, branch, files_of};
 use crate::tests::bringing::Step::Says;
-use crate::tests::bringing::{coming, transcript};
-use crate::tests::calls::{NONE_FAILS, SERVE, TURNS, call_failing, serve_over};
+use crate::tests::bringing::transcript;
+use crate::tests::calls::{
+    NONE_FAILS, SERVE, TURNS, assert_ended, call_failing, serve_over, steady_link,
+};
 use crate::tests::names::named;
-use el_base::{Bytes, GhostCount};
-use el_fakes::{Later, MemArchive, SteadyLink, fill};
+use el_base::GhostCount;
+use el_fakes::{Later, MemArchive, fill};
 use el_outside::{Archive, ArchiveFailed};
 use std::alloc::Global;
 use std::test::Fail;
@@ -79,47 +81,68 @@ fn calls_of_scan(alloc: Global) -> Result<u64, Fail> {
     Ok(found.archive_calls)
 }
 
-// What the node says, and what it is answered, over a file whose second block was found.
-fn answers_after_change(alloc: Global, after: Vec<u8>, lines: &str) -> Result<String, Fail> {
-    let mut archive = ChangingFile {
-        before: branch(alloc, 2)?.0.into_vec(),
+// The file of the two first blocks.
+fn two_blocks(alloc: Global) -> Result<Vec<u8>, Fail> {
+    let (file, _) = branch(alloc, 2)?;
+    Ok(file.into_vec())
+}
+
+// The file of the two first blocks, which has other bytes after the scan.
+fn changing(alloc: Global, after: Vec<u8>) -> Result<ChangingFile, Fail> {
+    let before = two_blocks(alloc)?;
+    Ok(ChangingFile {
+        before,
         after,
         calls_before: calls_of_scan(alloc)?,
         calls: 0,
         made: GhostCount::new(),
-    };
-    let mut link = SteadyLink::new(alloc, coming(alloc, [Says(0, lines)].as_slice(), 1_000)?)?;
+    })
+}
+
+// What the node says, and what it is answered, over a file whose second block was found.
+fn answers_after_change(alloc: Global, after: Vec<u8>, lines: &str) -> Result<String, Fail> {
+    let mut archive = changing(alloc, after)?;
+    let mut link = steady_link(alloc, [Says(0, lines)].as_slice())?;
     let _status = serve_over(alloc, SERVE, &mut archive, &mut link, TURNS)?;
     transcript(alloc, link.sent(), link.closed())
 }
 
+// Which byte changes, how many are left, and the answer. The second block's record begins at place 160.
+const CHANGES: &[(usize, usize, &str)] = &[
+    // no change
+    (400, 400, "0 at {a1} 1\n"),
+    // in the version, and in the last byte of the header
+    (168, 400, "0 refused changed {a1}\n"),
+    (247, 400, "0 refused changed {a1}\n"),
+    // after the header
+    (248, 400, "0 refused bad {a1} empty\n"),
+    // too few bytes
+    (400, 318, "0 refused changed {a1}\n"),
+    (400, 100, "0 refused changed {a0}\n"),
+];
+
+// The two first blocks with that byte changed, and so many bytes.
+fn changed(alloc: Global, place: usize, len: usize) -> Result<Vec<u8>, Fail> {
+    let mut bytes = two_blocks(alloc)?;
+    if let Some(byte) = bytes.get_mut(place) {
+        *byte ^= 1;
+    }
+    bytes.truncate(len);
+    Ok(bytes)
+}
+
+// Whether the node is answered so over a file that changes so.
+fn is_answered(alloc: Global, place: usize, len: usize, want: &str) -> Result<bool, Fail> {
+    let after = changed(alloc, place, len)?;
+    let found = answers_after_change(alloc, after, "tip {a1}\n")?;
+    Ok(found.as_str() == named(alloc, want)?.as_str())
+}
+
 #[test]
 fn a_file_that_changes(rt: HostRuntime) -> Result<(), Fail> {
-    let alloc = rt.alloc();
-    // the second block's record begins at place 160; which byte changes, how many are left, the answer
-    for (place, len, want) in [
-        // no change
-        (400, 400, "0 at {a1} 1\n"),
-        // in the version, and in the last byte of the header
-        (168, 400, "0 refused changed {a1}\n"),
-        (247, 400, "0 refused changed {a1}\n"),
-        // after the header
-        (248, 400, "0 refused bad {a1} empty\n"),
-        // too few bytes
-        (400, 318, "0 refused changed {a1}\n"),
-        (400, 100, "0 refused changed {a0}\n"),
-    ] {
-        let mut after = branch(alloc, 2)?.0.into_vec();
-        if let Some(byte) = after.get_mut(place) {
-            *byte ^= 1;
-        }
-        after.truncate(len);
-        let found = answers_after_change(alloc, after, "tip {a1}\n")?;
-        assert_eq!(rt;
-            found.as_str(),
-            named(alloc, want)?.as_str(),
-            "{place} {len}"
-        );
+    for (place, len, want) in CHANGES {
+        let is_answered = is_answered(rt.alloc(), *place, *len, want)?;
+        assert!(rt; is_answered, "{place} {len}");
     }
     Ok(())
 }
@@ -131,8 +154,8 @@ fn growing(alloc: Global) -> Result<MemArchive, Fail> {
         file: 0,
         from: 160,
     }];
-    let files = only(alloc, branch(alloc, 2)?.0)?;
     let later = Vec::from_slice(alloc, later.as_slice())?;
+    let files = files_of(alloc, Files::Branch(2))?;
     Ok(MemArchive::growing(files, later, Vec::new(alloc)))
 }
 
@@ -142,12 +165,11 @@ fn a_file_that_grows(rt: HostRuntime) -> Result<(), Fail> {
     let mut archive = growing(alloc)?;
     let given = "tip {a1}\nblock 0 160\nblock 0 160\ntip {a1}\n";
     let want = "0 refused unknown {a1}\n0 block {a1}\n0 block {a1}\n0 at {a1} 1\n";
-    let steps = coming(alloc, [Says(0, given)].as_slice(), 1_000)?;
-    let mut link = SteadyLink::new(alloc, steps)?;
+    let mut link = steady_link(alloc, [Says(0, given)].as_slice())?;
     let status = serve_over(alloc, SERVE, &mut archive, &mut link, TURNS)?;
+    assert!(rt; archive.faults() == 0);
     let found = transcript(alloc, link.sent(), link.closed())?;
-    assert_eq!(rt; found.as_str(), named(alloc, want)?.as_str());
-    assert_eq!(rt; status, Status::Ended);
-    assert_eq!(rt; archive.faults(), 0);
+    let wanted = (Status::Ended, want);
+    assert_ended(&rt, alloc, (status, found.as_str()), wanted)?;
     Ok(())
 }

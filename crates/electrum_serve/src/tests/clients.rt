@@ -3,8 +3,7 @@ use crate::status::Status;
 use crate::tests::block_files::{Files, files_of};
 use crate::tests::bringing::Step::{Leaves, Opens, Says};
 use crate::tests::bringing::{Step, coming, say};
-use crate::tests::calls::{Failing, NONE_FAILS, SERVE, call_failing, call_steady};
-use crate::tests::names::named;
+use crate::tests::calls::{Failing, NONE_FAILS, SERVE, assert_ended, call_failing, call_steady};
 use el_fakes::Coming;
 use std::alloc::Global;
 use std::test::Fail;
@@ -23,7 +22,7 @@ const STEPS: &[Step<'static>] = &[
 ];
 
 // How the run ends where this call of `send` fails, and what is sent and closed.
-const ENDINGS: [(u64, Status, &str); 4] = [
+const ENDINGS: &[(u64, Status, &str)] = &[
     (
         0,
         Status::Ended,
@@ -47,31 +46,41 @@ const ENDINGS: [(u64, Status, &str); 4] = [
     ),
 ];
 
+// How the run ends where this call of `send` fails, and what is sent and closed.
+fn run(alloc: Global, send: u64) -> Result<(Status, String), Fail> {
+    let steps = coming(alloc, STEPS, 1_000)?;
+    let fails = Failing { send, ..NONE_FAILS };
+    let files = files_of(alloc, Files::Branch(2))?;
+    let found = call_failing(alloc, SERVE, files, steps, fails)?;
+    Ok((found.status, found.text))
+}
+
 #[test]
 fn clients_are_told_in_their_order(rt: HostRuntime) -> Result<(), Fail> {
-    let alloc = rt.alloc();
     for (send, status, want) in ENDINGS {
-        let steps = coming(alloc, STEPS, 1_000)?;
-        let fails = Failing { send, ..NONE_FAILS };
-        let files = files_of(alloc, Files::Branch(2))?;
-        let found = call_failing(alloc, SERVE, files, steps, fails)?;
-        assert_eq!(rt; found.text.as_str(), named(alloc, want)?.as_str());
-        assert_eq!(rt; found.status, status);
+        let (ended, text) = run(rt.alloc(), *send)?;
+        assert_ended(&rt, rt.alloc(), (ended, text.as_str()), (*status, *want))?;
     }
     Ok(())
+}
+
+// So many clients come.
+fn openings(alloc: Global, count: u32) -> Result<Vec<Coming>, Fail> {
+    let mut steps = Vec::new(alloc);
+    for p in 1..=count {
+        steps.push(Coming::Opened(p))?;
+    }
+    Ok(steps)
 }
 
 #[test]
 fn one_client_more_than_may_be(rt: HostRuntime) -> Result<(), Fail> {
     let alloc = rt.alloc();
-    let mut steps = Vec::new(alloc);
-    for p in 1..=257u32 {
-        steps.push(Coming::Opened(p))?;
-    }
+    let steps = openings(alloc, 257)?;
     let files = files_of(alloc, Files::Branch(1))?;
     let (status, text) = call_steady(alloc, SERVE, files, steps)?;
-    assert_eq!(rt; text.as_str(), "closed 257 Clients\n");
-    assert_eq!(rt; status, Status::Ended);
+    let wanted = (Status::Ended, "closed 257 Clients\n");
+    assert_ended(&rt, alloc, (status, text.as_str()), wanted)?;
     Ok(())
 }
 
@@ -79,16 +88,21 @@ fn one_client_more_than_may_be(rt: HostRuntime) -> Result<(), Fail> {
 const SUBSCRIBES: &str = "{\"method\":\"blockchain.scripthash.subscribe\",\"params\":[\"\
                           00000000000000000000000000000000000000000000000000000000000";
 
+// Adds the subscription to the script hash of this number of five digits.
+fn subscribe(alloc: Global, text: &mut String, n: u32) -> Result<(), Fail> {
+    text.push_str(SUBSCRIBES)?;
+    text.push_str(format!(in alloc; "{n}\"]}}")?.as_str())?;
+    Ok(())
+}
+
 // A batch of these, to the script hashes from one number of five digits up to another one.
 fn batch(alloc: Global, from: u32, to: u32) -> Result<String, Fail> {
-    let mut text = String::new(alloc);
-    text.push_str("[")?;
+    let mut text = String::from_str(alloc, "[")?;
     for n in from..to {
         if n > from {
             text.push_str(",")?;
         }
-        text.push_str(SUBSCRIBES)?;
-        text.push_str(format!(in alloc; "{n}\"]}}")?.as_str())?;
+        subscribe(alloc, &mut text, n)?;
     }
     text.push_str("]\n")?;
     Ok(text)
@@ -112,9 +126,8 @@ const LAST_SENT: &str =
     "1 {null}\n1 {too-many}\n1 {null}\n0 at {a1} 1\n1 {tells}{script1}{now}{status1}{told}\n\
      1 {gives}{status1}{given}\n1 {too-many}\n";
 
-#[test]
-fn one_subscription_more_than_may_be(rt: HostRuntime) -> Result<(), Fail> {
-    let alloc = rt.alloc();
+// A client subscribes to 49,999 script hashes.
+fn subscribed(alloc: Global) -> Result<Vec<Coming>, Fail> {
     let mut steps = Vec::new(alloc);
     steps.push(Coming::Opened(1))?;
     for group in 0..10u32 {
@@ -122,12 +135,25 @@ fn one_subscription_more_than_may_be(rt: HostRuntime) -> Result<(), Fail> {
         let text = batch(alloc, from, (from + 5_000).min(59_999))?;
         say(alloc, &mut steps, 1, text.as_bytes(), 65_000)?;
     }
+    Ok(steps)
+}
+
+// These subscriptions, and the steps after them.
+fn nearly_full(alloc: Global) -> Result<Vec<Coming>, Fail> {
+    let mut steps = subscribed(alloc)?;
     for step in coming(alloc, LAST, 1_000)? {
         steps.push(step)?;
     }
+    Ok(steps)
+}
+
+#[test]
+fn one_subscription_more_than_may_be(rt: HostRuntime) -> Result<(), Fail> {
+    let alloc = rt.alloc();
+    let steps = nearly_full(alloc)?;
     let files = files_of(alloc, Files::Branch(2))?;
     let (status, text) = call_steady(alloc, SERVE, files, steps)?;
-    assert_eq!(rt; text.as_str(), named(alloc, LAST_SENT)?.as_str());
-    assert_eq!(rt; status, Status::Ended);
+    let wanted = (Status::Ended, LAST_SENT);
+    assert_ended(&rt, alloc, (status, text.as_str()), wanted)?;
     Ok(())
 }

@@ -4,7 +4,10 @@ use crate::tests::block_files::Part::{Between, Block};
 use crate::tests::block_files::{Files, files_of};
 use crate::tests::bringing::Step::{Leaves, Opens, Says, Waits};
 use crate::tests::bringing::{Step, coming, say};
-use crate::tests::calls::{Failing, NONE_FAILS, ONCE, ONCE_MAIN, SERVE, call_failing, call_steady};
+use crate::tests::calls::{
+    Failing, NONE_FAILS, ONCE, ONCE_MAIN, SERVE, assert_ended, assert_sends, call_failing,
+    call_steady,
+};
 use crate::tests::names::named;
 use el_fakes::Coming;
 use el_gen::{BLOCK_1, GENESIS, HEADER_0};
@@ -12,41 +15,47 @@ use el_outside::Peer;
 use std::alloc::{AllocError, Global};
 use std::test::Fail;
 
+// Words of no call.
+const OTHER_WORDS: &[&str] = &[
+    "",
+    "serve --blocks a",
+    "once --network main --blocks",
+    "once --network=main --blocks a",
+    "once --blocks -a --network main",
+    "once --blocks a --network signet",
+    "once --blocks a --network main --blocks a",
+    "serve --blocks a --blocks b --network main --client-port 1 --node-port 2",
+    "serve --blocks a --index b --network main --node-port 2 --client-port 1 --index b",
+    "serve --blocks a --index b --network main --client-port 1 --node-port 2 --pool-count 0",
+    "serve --blocks a --index b --network main --client-port 1 --node-port 2 --pool-count 1000001",
+    "serve --blocks a --index b --network main --client-port 1 --node-port 2 --pool-bytes 300000001",
+    "serve --blocks --index b --network main --client-port 1 --node-port 2",
+    "serve --blocks a --index -b --network main --client-port 1 --node-port 2",
+    "serve --blocks a --index b --network Main --client-port 1 --node-port 2",
+    "serve --blocks a --index b --network main --client-port 1 --node-port 01",
+    "serve --blocks a --index b --network main --client-port 0 --node-port 2",
+    "serve --blocks a --index b --network main --client-port 1 --node-port 65536",
+    "serve --blocks a --index b --network main --client-port 1 --node-port +2",
+    "serve --blocks a --index b --network main --client-port 00000000001 --node-port 2",
+    "serve --blocks a --index b --network main --client-port 1",
+    "serve --blocks a --index b --network main --client-port 1 --node-port 2 --",
+    "check-chain 1",
+];
+
+// Whether a call with these words ends at once.
+fn is_refused(alloc: Global, words: &str) -> Result<bool, Fail> {
+    let steps = [Opens(1), Says(1, "{}\n"), Says(0, "x\n")];
+    let steps = coming(alloc, steps.as_slice(), 1_000)?;
+    let files = files_of(alloc, Files::Branch(1))?;
+    let found = call_failing(alloc, words, files, steps, NONE_FAILS)?;
+    let is_silent = found.text.as_str() == "" && found.archive_calls == 0;
+    Ok(is_silent && found.status == Status::Usage)
+}
+
 #[test]
 fn other_words(rt: HostRuntime) -> Result<(), Fail> {
-    let alloc = rt.alloc();
-    for words in [
-        "",
-        "serve --blocks a",
-        "once --network main --blocks",
-        "once --network=main --blocks a",
-        "once --blocks -a --network main",
-        "once --blocks a --network signet",
-        "once --blocks a --network main --blocks a",
-        "serve --blocks a --blocks b --network main --client-port 1 --node-port 2",
-        "serve --blocks a --index b --network main --node-port 2 --client-port 1 --index b",
-        "serve --blocks a --index b --network main --client-port 1 --node-port 2 --pool-count 0",
-        "serve --blocks a --index b --network main --client-port 1 --node-port 2 --pool-count 1000001",
-        "serve --blocks a --index b --network main --client-port 1 --node-port 2 --pool-bytes 300000001",
-        "serve --blocks --index b --network main --client-port 1 --node-port 2",
-        "serve --blocks a --index -b --network main --client-port 1 --node-port 2",
-        "serve --blocks a --index b --network Main --client-port 1 --node-port 2",
-        "serve --blocks a --index b --network main --client-port 1 --node-port 01",
-        "serve --blocks a --index b --network main --client-port 0 --node-port 2",
-        "serve --blocks a --index b --network main --client-port 1 --node-port 65536",
-        "serve --blocks a --index b --network main --client-port 1 --node-port +2",
-        "serve --blocks a --index b --network main --client-port 00000000001 --node-port 2",
-        "serve --blocks a --index b --network main --client-port 1",
-        "serve --blocks a --index b --network main --client-port 1 --node-port 2 --",
-        "check-chain 1",
-    ] {
-        let files = files_of(alloc, Files::Branch(1))?;
-        let steps = [Opens(1), Says(1, "{}\n"), Says(0, "x\n")];
-        let steps = coming(alloc, steps.as_slice(), 1_000)?;
-        let found = call_failing(alloc, words, files, steps, NONE_FAILS)?;
-        assert_eq!(rt; found.status, Status::Usage, "{words}");
-        assert_eq!(rt; found.text.as_str(), "");
-        assert_eq!(rt; found.archive_calls, 0);
+    for words in OTHER_WORDS {
+        assert!(rt; is_refused(rt.alloc(), words)?, "{words}");
     }
     Ok(())
 }
@@ -66,7 +75,7 @@ const NODE_LEAVES: &[Step<'static>] = &[Opens(1), Leaves(0), Says(1, "{}\n")];
 const CLIENT_LEAVES: &[Step<'static>] = &[Opens(1), Says(1, "{}\n"), Leaves(1)];
 
 // What comes, how many calls of `next` may be made; how the run ends, and what is sent.
-const TURNS: [(&[Step<'static>], u64, Status, &str); 10] = [
+const TURNS: &[(&[Step<'static>], u64, Status, &str)] = &[
     (&[], 1, Status::Ended, ""),
     (&[], 0, Status::TurnsSpent, ""),
     (QUIET, 3, Status::TurnsSpent, ""),
@@ -79,20 +88,31 @@ const TURNS: [(&[Step<'static>], u64, Status, &str); 10] = [
     (CLIENT_LEAVES, 4, Status::Ended, "1 {invalid}\n"),
 ];
 
+// Whether a call of which so many turns may be made ends so and sends this, and nothing fails.
+fn ends_after(
+    alloc: Global,
+    words: &str,
+    steps: &[Step<'static>],
+    turns: u64,
+    wanted: (Status, &str),
+) -> Result<bool, Fail> {
+    let steps = coming(alloc, steps, 1_000)?;
+    let files = files_of(alloc, Files::Branch(1))?;
+    let fails = Failing {
+        turns,
+        ..NONE_FAILS
+    };
+    let found = call_failing(alloc, words, files, steps, fails)?;
+    let is_sent = found.text.as_str() == named(alloc, wanted.1)?.as_str();
+    Ok(is_sent && found.status == wanted.0 && found.faults == (0, 0))
+}
+
 #[test]
 fn turns_that_end(rt: HostRuntime) -> Result<(), Fail> {
-    let alloc = rt.alloc();
     for (steps, turns, status, sent) in TURNS {
         for words in [SERVE, ONCE] {
-            let files = files_of(alloc, Files::Branch(1))?;
-            let fails = Failing {
-                turns,
-                ..NONE_FAILS
-            };
-            let found = call_failing(alloc, words, files, coming(alloc, steps, 1_000)?, fails)?;
-            assert_eq!(rt; found.status, status, "{turns} {words}");
-            assert_eq!(rt; found.text.as_str(), named(alloc, sent)?.as_str());
-            assert_eq!(rt; found.faults, (0, 0));
+            let has_ended = ends_after(rt.alloc(), words, steps, *turns, (*status, *sent))?;
+            assert!(rt; has_ended, "{turns} {words}");
         }
     }
     Ok(())
@@ -100,7 +120,7 @@ fn turns_that_end(rt: HostRuntime) -> Result<(), Fail> {
 
 // A peer that leaves: what comes; which send fails, since the peer is gone by then, and 0 for none; how the
 // run ends, and what is sent and closed.
-const LEAVING: [(&[Step<'static>], u64, Status, &str); 7] = [
+const LEAVING: &[(&[Step<'static>], u64, Status, &str)] = &[
     // the node at rest, and in a line
     (
         &[Opens(1), Says(0, "tip {a0}\n"), Leaves(0), Says(1, "{}\n")],
@@ -153,21 +173,26 @@ const LEAVING: [(&[Step<'static>], u64, Status, &str); 7] = [
     ),
 ];
 
+// How the run ends where this send fails, and what is sent and closed.
+fn leave(alloc: Global, steps: &[Step<'static>], send: u64) -> Result<(Status, String), Fail> {
+    let steps = coming(alloc, steps, 1_000)?;
+    let files = files_of(alloc, Files::Branch(1))?;
+    let fails = Failing { send, ..NONE_FAILS };
+    let found = call_failing(alloc, SERVE, files, steps, fails)?;
+    Ok((found.status, found.text))
+}
+
 #[test]
 fn peers_that_leave(rt: HostRuntime) -> Result<(), Fail> {
-    let alloc = rt.alloc();
     for (steps, send, status, sent) in LEAVING {
-        let files = files_of(alloc, Files::Branch(1))?;
-        let fails = Failing { send, ..NONE_FAILS };
-        let found = call_failing(alloc, SERVE, files, coming(alloc, steps, 1_000)?, fails)?;
-        assert_eq!(rt; found.text.as_str(), named(alloc, sent)?.as_str());
-        assert_eq!(rt; found.status, status);
+        let (ended, text) = leave(rt.alloc(), steps, *send)?;
+        assert_ended(&rt, rt.alloc(), (ended, text.as_str()), (*status, *sent))?;
     }
     Ok(())
 }
 
 // The words, the files, and how the call ends.
-const CHAINS: [(&str, Files, Status); 11] = [
+const CHAINS: &[(&str, Files, Status)] = &[
     (ONCE_MAIN, Files::Parts(&[Block(BLOCK_1)]), Status::BadChain),
     (
         ONCE_MAIN,
@@ -221,21 +246,24 @@ const CHAINS: [(&str, Files, Status); 11] = [
 
 #[test]
 fn files_and_their_chains(rt: HostRuntime) -> Result<(), Fail> {
-    let alloc = rt.alloc();
     for (words, files, status) in CHAINS {
-        let steps = coming(alloc, [Opens(1)].as_slice(), 1_000)?;
-        let (ended, text) = call_steady(alloc, words, files_of(alloc, files)?, steps)?;
-        assert_eq!(rt; ended, status);
-        assert_eq!(rt; text.as_str(), "");
+        let wanted = (*status, "");
+        assert_sends(&rt, rt.alloc(), words, *files, &[Opens(1)], wanted)?;
     }
     Ok(())
 }
 
 // A line of so many bytes, ended, between two short ones, and the start of a fourth one.
-fn long_line(alloc: Global, peer: Peer, len: usize) -> Result<Vec<Coming>, AllocError> {
+fn long_text(alloc: Global, len: usize) -> Result<Vec<u8>, AllocError> {
     let mut text = Vec::from_slice(alloc, b"{}\n")?;
     text.resize(len.saturating_add(3), b'x')?;
     text.extend_from_slice(b"\n{}\nopen")?;
+    Ok(text)
+}
+
+// The first client comes, and the peer says that text.
+fn long_line(alloc: Global, peer: Peer, len: usize) -> Result<Vec<Coming>, AllocError> {
+    let text = long_text(alloc, len)?;
     let mut steps = Vec::new(alloc);
     steps.push(Coming::Opened(1))?;
     say(alloc, &mut steps, peer, text.as_slice(), 65_536)?;
@@ -251,26 +279,25 @@ const ANSWERS: &str = "0 refused line\n0 refused line\n0 refused line\n";
 const TOO_LONG: &str = "0 refused line\n0 refused long 8000100\n0 refused line\n";
 
 // The words, whose line it is, how many bytes it has; what is sent, and who is closed.
-const LENGTHS: [(&str, Peer, usize, &str); 4] = [
+const LENGTHS: &[(&str, Peer, usize, &str)] = &[
     (ONCE, 1, 1_000_000, REPLIES),
     (SERVE, 1, 1_000_001, LONG),
     (SERVE, 0, 8_000_100, ANSWERS),
     (SERVE, 0, 8_000_101, TOO_LONG),
 ];
 
+// How a call ends in which that line comes, and what is sent and closed.
+fn hear(alloc: Global, words: &str, peer: Peer, len: usize) -> Result<(Status, String), Fail> {
+    let steps = long_line(alloc, peer, len)?;
+    call_steady(alloc, words, files_of(alloc, Files::Branch(1))?, steps)
+}
+
 #[test]
 fn longest_lines(rt: HostRuntime) -> Result<(), Fail> {
-    let alloc = rt.alloc();
     for (words, peer, len, want) in LENGTHS {
-        let files = files_of(alloc, Files::Branch(1))?;
-        let steps = long_line(alloc, peer, len)?;
-        let (status, text) = call_steady(alloc, words, files, steps)?;
-        assert_eq!(rt; status, Status::Ended);
-        assert_eq!(rt;
-            text.as_str(),
-            named(alloc, want)?.as_str(),
-            "{words} {len}"
-        );
+        let (status, text) = hear(rt.alloc(), words, *peer, *len)?;
+        let wanted = (Status::Ended, *want);
+        assert_ended(&rt, rt.alloc(), (status, text.as_str()), wanted)?;
     }
     Ok(())
 }

@@ -101,7 +101,7 @@ const TOLD: Run = Run {
     before: &[0, 0, 0, 0, 1, 3, 6, 8, 17, 17, 22, 25],
 };
 
-const RUNS: [&Run; 2] = [&ASKING, &TOLD];
+const RUNS: &[&Run] = &[&ASKING, &TOLD];
 
 // What is sent where a call of the block files fails: in the first tip line, in the second, and in the
 // request of a transaction; and which chain the run then leaves.
@@ -122,7 +122,7 @@ const REQUEST_FAILS: &str = "0 at {z-0} 0\n0 tx {halves-txid}\n0 tx {child-txid}
                              1 {lists}{child-waits-later}{listed}\n0 gone {child-txid}\n\
                              0 refused absent {child-txid}\n";
 
-const ARCHIVE_FAILS: [(Status, &str, usize); 4] = [
+const ARCHIVE_FAILS: &[(Status, &str, usize)] = &[
     (Status::ArchiveFailed, "", 0),
     (Status::Ended, FIRST_FAILS, 2),
     (Status::Ended, SECOND_FAILS, 1),
@@ -132,7 +132,7 @@ const ARCHIVE_FAILS: [(Status, &str, usize); 4] = [
 const ASKS: &str = "tip {z-a2}\ntip {z-0}\n";
 
 // What an index alone answers that has no chain, that of the first tip line and that of the second.
-const CHAINS: [&str; 3] = [
+const CHAINS: &[&str] = &[
     "0 refused unknown {z-a2}\n0 refused unknown {z-0}\n",
     "0 refused unknown {z-a2}\n0 at {z-0} 0\n",
     "0 at {z-a2} 2\n0 at {z-0} 0\n",
@@ -175,6 +175,11 @@ fn chain_on(alloc: Global, disk: MemDisk) -> Result<usize, Fail> {
     Err(Fail::new("another chain"))
 }
 
+// How many calls of the archive, of the link and of the disk failed.
+fn faults_of(found: &Counted) -> (u64, u64, u64) {
+    (found.faults.0, found.faults.1, found.disk.faults())
+}
+
 // Whether the run ended so, had sent this, and left the chain of that number.
 fn is_ended(
     alloc: Global,
@@ -187,6 +192,23 @@ fn is_ended(
     Ok(chain_on(alloc, found.disk)? == chain && is_sent)
 }
 
+// Whether the run ends before that arrival, which fails, and has sent so many messages.
+fn ends_at_arrival(alloc: Global, run: &Run, next: u64, count: usize) -> Result<bool, Fail> {
+    let text = front(alloc, run, count)?;
+    let found = played(alloc, run, Failing { next, ..NONE_FAILS })?;
+    let has_failed = faults_of(&found) == (0, 1, 0);
+    let chain = chains_in(run, count);
+    let is_ended = is_ended(alloc, found, Status::LinkFailed, text.as_str(), chain)?;
+    Ok(has_failed && is_ended)
+}
+
+// Whether the run sends all where no call fails.
+fn ends_well(alloc: Global, run: &Run) -> Result<bool, Fail> {
+    let text = front(alloc, run, run.sent.len())?;
+    let found = played(alloc, run, NONE_FAILS)?;
+    is_ended(alloc, found, Status::Ended, text.as_str(), 2)
+}
+
 #[test]
 fn each_arrival_with_a_set(rt: HostRuntime) -> Result<(), Fail> {
     let alloc = rt.alloc();
@@ -194,16 +216,9 @@ fn each_arrival_with_a_set(rt: HostRuntime) -> Result<(), Fail> {
         let mut next = 0u64;
         for count in tried.before {
             next = next.saturating_add(1);
-            let found = played(alloc, tried, Failing { next, ..NONE_FAILS })?;
-            assert_eq!(rt; (found.faults, found.disk.faults()), ((0, 1), 0));
-            let text = front(alloc, tried, *count)?;
-            let chain = chains_in(tried, *count);
-            let is_ended = is_ended(alloc, found, Status::LinkFailed, text.as_str(), chain)?;
-            assert!(rt; is_ended, "{next}");
+            assert!(rt; ends_at_arrival(alloc, tried, next, *count)?, "{next}");
         }
-        let text = front(alloc, tried, tried.sent.len())?;
-        let found = played(alloc, tried, NONE_FAILS)?;
-        assert!(rt; is_ended(alloc, found, Status::Ended, text.as_str(), 2)?);
+        assert!(rt; ends_well(alloc, tried)?);
     }
     Ok(())
 }
@@ -216,40 +231,95 @@ fn peer_of(line: &str) -> &str {
     }
 }
 
-// What is sent where the sends to that client fail from this message on, and the client is closed.
-fn without(alloc: Global, run: &Run, from: usize, peer: &str) -> Result<String, Fail> {
-    let mut all = front(alloc, run, from)?;
+// Adds the messages of a run from one on that aren't that client's.
+fn add_others(
+    alloc: Global,
+    all: &mut String,
+    run: &Run,
+    from: usize,
+    peer: &str,
+) -> Result<(), Fail> {
     for line in run.sent.iter().skip(from) {
         if peer_of(*line) != peer {
             all.push_str(named(alloc, *line)?.as_str())?;
         }
     }
+    Ok(())
+}
+
+// What is sent where the sends to that client fail from this message on, and the client is closed.
+fn without(alloc: Global, run: &Run, from: usize, peer: &str) -> Result<String, Fail> {
+    let mut all = front(alloc, run, from)?;
+    add_others(alloc, &mut all, run, from, peer)?;
     all.push_str(format!(in alloc; "closed {peer} Gone\n")?.as_str())?;
     Ok(all)
 }
 
+// How the run ends where the send of that message to this peer fails, what is sent, and the chain that is
+// left. One that couldn't be told is there.
+fn wanted_after_send(
+    alloc: Global,
+    run: &Run,
+    sent: usize,
+    peer: &str,
+) -> Result<(Status, String, usize), Fail> {
+    if peer == "0" {
+        let text = front(alloc, run, sent)?;
+        let chain = chains_in(run, sent.saturating_add(1));
+        return Ok((Status::LinkFailed, text, chain));
+    }
+    Ok((Status::Ended, without(alloc, run, sent, peer)?, 2))
+}
+
+// Whether the run ends so where the send of that message to this peer fails.
+fn ends_at_send(alloc: Global, run: &Run, sent: usize, peer: &str) -> Result<bool, Fail> {
+    let (status, text, chain) = wanted_after_send(alloc, run, sent, peer)?;
+    let send = (sent as u64).saturating_add(1);
+    let found = played(alloc, run, Failing { send, ..NONE_FAILS })?;
+    let has_failed = faults_of(&found) == (0, 1, 0);
+    let is_ended = is_ended(alloc, found, status, text.as_str(), chain)?;
+    Ok(has_failed && is_ended)
+}
+
 #[test]
 fn each_send_with_a_set(rt: HostRuntime) -> Result<(), Fail> {
-    let alloc = rt.alloc();
     for tried in RUNS {
-        let mut send = 0u64;
         for (sent, line) in tried.sent.iter().enumerate() {
-            send = send.saturating_add(1);
-            let found = played(alloc, tried, Failing { send, ..NONE_FAILS })?;
-            assert_eq!(rt; (found.faults, found.disk.faults()), ((0, 1), 0));
-            let peer = peer_of(*line);
-            // a chain that couldn't be told is there
-            let (status, text, chain) = if peer == "0" {
-                let chain = chains_in(tried, sent.saturating_add(1));
-                (Status::LinkFailed, front(alloc, tried, sent)?, chain)
-            } else {
-                (Status::Ended, without(alloc, tried, sent, peer)?, 2)
-            };
-            let is_ended = is_ended(alloc, found, status, text.as_str(), chain)?;
-            assert!(rt; is_ended, "{send}");
+            let is_ended = ends_at_send(rt.alloc(), tried, sent, peer_of(*line))?;
+            assert!(rt; is_ended, "{sent}");
         }
     }
     Ok(())
+}
+
+// The place of the text among those of runs of which a call of the archive fails: this place, or the next
+// one.
+fn place_of(alloc: Global, text: &str, place: usize) -> Result<usize, Fail> {
+    let wanted = ARCHIVE_FAILS.get(place).ok_or("no such text")?;
+    if text == named(alloc, wanted.1)?.as_str() {
+        return Ok(place);
+    }
+    Ok(place.saturating_add(1))
+}
+
+// Whether the run ended as the one at that place.
+fn is_ended_at(alloc: Global, found: Counted, place: usize) -> Result<bool, Fail> {
+    let (status, text, chain) = ARCHIVE_FAILS.get(place).copied().ok_or("no such text")?;
+    let text = named(alloc, text)?;
+    is_ended(alloc, found, status, text.as_str(), chain)
+}
+
+// Whether a run of which that call of the archive fails ends so, and its place. The one before had this place
+// or the one before it: calls of the opening come first, then those of each line.
+fn ends_at_call(alloc: Global, archive: u64, place: usize) -> Result<(bool, usize), Fail> {
+    let fails = Failing {
+        archive,
+        ..NONE_FAILS
+    };
+    let found = played(alloc, &ASKING, fails)?;
+    let has_failed = faults_of(&found) == (1, 0, 0);
+    let place = place_of(alloc, found.text.as_str(), place)?;
+    Ok((is_ended_at(alloc, found, place)? && has_failed, place))
 }
 
 #[test]
@@ -258,23 +328,11 @@ fn each_call_of_the_archive_with_a_set(rt: HostRuntime) -> Result<(), Fail> {
     let all = played(alloc, &ASKING, NONE_FAILS)?.archive_calls.min(1_000);
     let mut place = 0usize;
     for archive in 1..=all {
-        let fails = Failing {
-            archive,
-            ..NONE_FAILS
-        };
-        let found = played(alloc, &ASKING, fails)?;
-        assert_eq!(rt; (found.faults, found.disk.faults()), ((1, 0), 0));
-        // calls of the opening come first, then those of each line
-        let mut wanted = ARCHIVE_FAILS.get(place).copied().ok_or("no such text")?;
-        if found.text.as_str() != named(alloc, wanted.1)?.as_str() {
-            place = place.saturating_add(1);
-            wanted = ARCHIVE_FAILS.get(place).copied().ok_or("no such text")?;
-        }
-        let (status, text, chain) = wanted;
-        let is_ended = is_ended(alloc, found, status, named(alloc, text)?.as_str(), chain)?;
+        let (is_ended, next) = ends_at_call(alloc, archive, place)?;
         assert!(rt; is_ended, "{archive}");
+        place = next;
     }
-    assert_eq!(rt; place, 3);
+    assert!(rt; place == 3);
     Ok(())
 }
 
@@ -290,29 +348,59 @@ fn before_chain(run: &Run, told: usize) -> usize {
     count
 }
 
+// How many chains were told where that call of the disk fails, and the chain that is left; nothing, if the
+// run doesn't end as one whose tip line fails before its answer is sent.
+fn left_by(alloc: Global, run: &Run, disk: u64) -> Result<Option<(usize, usize)>, Fail> {
+    let found = played(alloc, run, Failing { disk, ..NONE_FAILS })?;
+    let has_failed = faults_of(&found) == (0, 0, 1) && found.status == Status::DiskFailed;
+    let told = if found.text.as_str() == "" { 0 } else { 1 };
+    let text = front(alloc, run, before_chain(run, told))?;
+    let is_sent = found.text.as_str() == text.as_str();
+    let chain = chain_on(alloc, found.disk)?;
+    if has_failed && is_sent {
+        return Ok(Some((told, chain)));
+    }
+    Ok(None)
+}
+
+// How many calls of the disk leave each chain, where one chain was told less and where it was told.
+type Counts = [[u64; 3]; 2];
+
+// One more call of those that leave that chain.
+fn add_one(counts: &mut Counts, told: usize, chain: usize) {
+    if let Some(row) = counts.get_mut(told) {
+        if let Some(count) = row.get_mut(chain) {
+            *count = count.saturating_add(1);
+        }
+    }
+}
+
+// Whether each chain is left by some call, also the one that was in flight, and no other.
+fn are_all_left(counts: Counts) -> bool {
+    let [[none, first_flew, late], [early, first, second_flew]] = counts;
+    let is_some_left = 0 < none && 0 < first_flew && 0 < first && 0 < second_flew;
+    is_some_left && early == 0 && late == 0
+}
+
+// What each call of the disk leaves, up to the first at which the run doesn't end as it must.
+fn count_all(alloc: Global, run: &Run) -> Result<(Counts, Option<u64>), Fail> {
+    let all = played(alloc, run, NONE_FAILS)?.disk.calls().min(1_000);
+    let mut counts = [[0u64; 3]; 2];
+    for disk in 1..=all {
+        match left_by(alloc, run, disk)? {
+            Some((told, chain)) => add_one(&mut counts, told, chain),
+            None => return Ok((counts, Some(disk))),
+        }
+    }
+    Ok((counts, None))
+}
+
 #[test]
 fn each_call_of_the_disk_with_a_set(rt: HostRuntime) -> Result<(), Fail> {
-    let alloc = rt.alloc();
     for tried in RUNS {
-        let all = played(alloc, tried, NONE_FAILS)?.disk.calls().min(1_000);
-        let mut counts = [[0u64; 3]; 2];
-        for disk in 1..=all {
-            let found = played(alloc, tried, Failing { disk, ..NONE_FAILS })?;
-            assert_eq!(rt; (found.faults, found.disk.faults()), ((0, 0), 1));
-            assert_eq!(rt; found.status, Status::DiskFailed);
-            // a tip line fails before its answer is sent
-            let told = if found.text.as_str() == "" { 0 } else { 1 };
-            let text = front(alloc, tried, before_chain(tried, told))?;
-            assert_eq!(rt; found.text.as_str(), text.as_str(), "{disk}");
-            let chain = chain_on(alloc, found.disk)?;
-            if let Some(count) = counts[told].get_mut(chain) {
-                *count = count.saturating_add(1);
-            }
-        }
-        // each chain is left by some call, also the one that was in flight, and no other
-        let [[none, first_flew, late], [early, first, second_flew]] = counts;
-        assert!(rt; 0 < none && 0 < first_flew && 0 < first && 0 < second_flew);
-        assert_eq!(rt; (early, late), (0, 0));
+        let (counts, wrong) = count_all(rt.alloc(), tried)?;
+        assert_eq!(rt; wrong, None);
+        assert!(rt; are_all_left(counts));
     }
     Ok(())
 }

@@ -26,7 +26,7 @@ type Made = (Option<usize>, u8, u8, Pays);
 
 // Z is the first block. Of three branches on it one has A1 and A2, one B1, B2 and B3, and one C1, C2 and C3;
 // the same transaction stands in A1, B2 and C1. D1 and E1, on Z too, have another one each.
-const FORKS: [Made; 11] = [
+const FORKS: &[Made] = &[
     (None, 0, 0, Pays::Nowhere),
     (Some(0), 1, 0, Pays::Halves(1)),
     (Some(1), 2, 0, Pays::Nowhere),
@@ -63,14 +63,22 @@ fn whole(alloc: Global, k: u32) -> Result<Tx, OutOfMemory>
     spend(alloc, [coin].as_slice(), [(5_000_000_000, k)].as_slice())
 }
 
+// The coinbase of a block.
+fn coinbase_of(alloc: Global, made: Made) -> Result<Vec<Tx>, OutOfMemory>
+    ensures some { IfOk result (λ txs. 1 ≤ length txs.items) }
+    ensures encoded { IfOk result (λ txs. AllByRecursion HasEncoding txs.items) }
+{
+    let (_, height, branch, _) = made;
+    one(alloc, coinbase(alloc, u32::from(height), branch, 101)?)
+}
+
 // The transactions of a block.
 fn txs_of(alloc: Global, made: Made) -> Result<Vec<Tx>, OutOfMemory>
     ensures some { IfOk result (λ txs. 1 ≤ length txs.items) }
     ensures encoded { IfOk result (λ txs. AllByRecursion HasEncoding txs.items) }
 {
-    let (_, height, branch, pays) = made;
-    let mut txs = one(alloc, coinbase(alloc, u32::from(height), branch, 101)?)?;
-    match pays {
+    let mut txs = coinbase_of(alloc, made)?;
+    match made.3 {
         Pays::Nowhere => {}
         Pays::Halves(k) => txs.push(halves(alloc, k)?)?,
         Pays::Whole(k) => txs.push(whole(alloc, k)?)?,
@@ -100,15 +108,25 @@ fn hash_at(hashes: &[Hash32], number: Option<usize>) -> Hash32 {
     }
 }
 
+// Adds the block after its parent, whose hash is among these, to a file, and answers its hash.
+fn add_made(
+    alloc: Global,
+    file: &mut Bytes,
+    hashes: &[Hash32],
+    made: Made,
+) -> Result<Hash32, OutOfMemory> {
+    let block = block_of(alloc, hash_at(hashes, made.0), made)?;
+    add_block(alloc, file, &block)?;
+    Ok(hash_of(&block))
+}
+
 // The file of the blocks of the table.
 pub(super) fn forks(alloc: Global) -> Result<Bytes, OutOfMemory> {
     let mut file = Bytes::new(alloc);
     let mut hashes = Vec::new(alloc);
     for made in FORKS {
-        let previous = hash_at(hashes.as_slice(), made.0);
-        let block = block_of(alloc, previous, made)?;
-        add_block(alloc, &mut file, &block)?;
-        hashes.push(hash_of(&block))?;
+        let hash = add_made(alloc, &mut file, hashes.as_slice(), *made)?;
+        hashes.push(hash)?;
     }
     Ok(file)
 }

@@ -3,12 +3,10 @@ use crate::file::read_chain;
 use crate::starting::serve_index;
 use crate::status::Status;
 use crate::tests::block_files::Part::Block;
-use crate::tests::block_files::{Files, MAIN, REGTEST, files_of};
+use crate::tests::block_files::{Files, MAIN, REGTEST};
 use crate::tests::bringing::Step::{Opens, Says};
-use crate::tests::bringing::{Step, coming, transcript};
-use crate::tests::calls::TURNS;
-use crate::tests::names::named;
-use el_fakes::{SteadyArchive, SteadyLink};
+use crate::tests::bringing::{Step, transcript};
+use crate::tests::calls::{TURNS, assert_ended, steady_archive, steady_link};
 use el_gen::{BLOCK_1, GENESIS};
 use el_plain::PlainLedger;
 use el_words::greatest_limits;
@@ -17,8 +15,7 @@ use std::test::Fail;
 
 // A ledger with the first blocks of the first branch.
 fn ledger_of(alloc: Global, count: u32) -> Result<PlainLedger, Fail> {
-    let files = files_of(alloc, Files::Branch(count))?;
-    let mut archive = SteadyArchive::new(files).ok_or("no such files")?;
+    let mut archive = steady_archive(alloc, Files::Branch(count))?;
     match read_chain(alloc, &mut archive, REGTEST) {
         Ok((_, chain)) => Ok(PlainLedger::over(chain)),
         Err(_) => Err(Fail::new("no chain")),
@@ -34,8 +31,8 @@ fn call(
     steps: &[Step<'_>],
 ) -> Result<(Status, String), Fail> {
     let ledger = ledger_of(alloc, count)?;
-    let mut archive = SteadyArchive::new(files_of(alloc, files)?).ok_or("no such files")?;
-    let mut link = SteadyLink::new(alloc, coming(alloc, steps, 1_000)?)?;
+    let mut archive = steady_archive(alloc, files)?;
+    let mut link = steady_link(alloc, steps)?;
     let (status, _) = serve_index(
         alloc,
         ledger,
@@ -57,7 +54,7 @@ const TIP: &[Step<'static>] = &[
 const NEXT: &[Step<'static>] = &[Says(0, "tip {a16}\n")];
 
 // How many blocks the ledger has; the files and their magic; what comes; how the call ends, and what is sent.
-const CALLS: [(u32, Files, [u8; 4], &[Step<'static>], Status, &str); 8] = [
+const CALLS: &[(u32, Files, [u8; 4], &[Step<'static>], Status, &str)] = &[
     // the index alone leads there and answers
     (
         2,
@@ -131,11 +128,9 @@ const CALLS: [(u32, Files, [u8; 4], &[Step<'static>], Status, &str); 8] = [
 
 #[test]
 fn an_index_that_has_blocks(rt: HostRuntime) -> Result<(), Fail> {
-    let alloc = rt.alloc();
     for (count, files, magic, steps, status, text) in CALLS {
-        let found = call(alloc, count, files, magic, steps)?;
-        assert_eq!(rt; found.0, status, "{count} {text}");
-        assert_eq!(rt; found.1.as_str(), named(alloc, text)?.as_str());
+        let (ended, sent) = call(rt.alloc(), *count, *files, *magic, steps)?;
+        assert_ended(&rt, rt.alloc(), (ended, sent.as_str()), (*status, *text))?;
     }
     Ok(())
 }

@@ -1,14 +1,13 @@
 // Moves between branches, over the index on a disk.
 use crate::status::Status;
-use crate::tests::block_files::{Files, files_of};
+use crate::tests::block_files::Files;
+use crate::tests::bringing::Step;
 use crate::tests::bringing::Step::{Opens, Says};
-use crate::tests::bringing::{Step, coming};
-use crate::tests::calls::{SERVE, call_steady};
-use crate::tests::names::named;
+use crate::tests::calls::{SERVE, assert_sends};
 use std::test::Fail;
 
 // The files, what comes, and what is sent.
-const MOVES: [(Files, &[Step<'static>], &str); 3] = [
+const MOVES: &[(Files, &[Step<'static>], &str)] = &[
     // a spend is in the first block of one branch, and in the second of the other
     (
         Files::Forks,
@@ -62,12 +61,9 @@ const MOVES: [(Files, &[Step<'static>], &str); 3] = [
 
 #[test]
 fn moves_between_branches(rt: HostRuntime) -> Result<(), Fail> {
-    let alloc = rt.alloc();
     for (files, steps, sent) in MOVES {
-        let steps = coming(alloc, steps, 1_000)?;
-        let (status, text) = call_steady(alloc, SERVE, files_of(alloc, files)?, steps)?;
-        assert_eq!(rt; text.as_str(), named(alloc, sent)?.as_str());
-        assert_eq!(rt; status, Status::Ended);
+        let wanted = (Status::Ended, *sent);
+        assert_sends(&rt, rt.alloc(), SERVE, *files, steps, wanted)?;
     }
     Ok(())
 }

@@ -3,11 +3,10 @@ ghost use Rattle.std.specs.Prelude.{IfOk};
 ghost use Rattle.electrum_serve.specs.Lives.{IsLeftBy};
 
 use crate::status::Status;
-use crate::tests::block_files::{Files, files_of};
-use crate::tests::bringing::{Step, coming, transcript};
-use crate::tests::calls::{TURNS, failing_from, serve_on};
+use crate::tests::block_files::Files;
+use crate::tests::bringing::{Step, transcript};
+use crate::tests::calls::{TURNS, failing_from, serve_on, steady_archive, steady_link};
 use el_base::OutOfMemory;
-use el_fakes::{SteadyArchive, SteadyLink};
 use el_journal::JOURNAL;
 use el_mem_disk::MemDisk;
 use el_outside::Disk;
@@ -33,8 +32,8 @@ pub(super) fn live(
     files: Files,
     steps: &[Step<'_>],
 ) -> Result<Life, Fail> {
-    let mut archive = SteadyArchive::new(files_of(alloc, files)?).ok_or("no such files")?;
-    let mut link = SteadyLink::new(alloc, coming(alloc, steps, 1_000)?)?;
+    let mut archive = steady_archive(alloc, files)?;
+    let mut link = steady_link(alloc, steps)?;
     let (status, disk) = serve_on(alloc, words, disk, &mut archive, &mut link, TURNS)?;
     let text = transcript(alloc, link.sent(), link.closed())?;
     Ok(Life { status, text, disk })

@@ -6,7 +6,7 @@ ghost use Rattle.el_tx.specs.Encoding.{HasEncoding};
 use crate::status::Status;
 use crate::tests::block_files::{REGTEST, add_record, branch, one, only};
 use crate::tests::bringing::say;
-use crate::tests::calls::{SERVE, call_steady};
+use crate::tests::calls::{SERVE, assert_ended, call_steady};
 use crate::tests::names::named;
 use el_base::{Bytes, Hash32, OutOfMemory};
 use el_gen::{block, block_bytes, coinbase, spend};
@@ -16,7 +16,7 @@ use std::test::Fail;
 
 // Blocks at height 1 that are refused, with the nonces 10, 11 and so on: the word for what is wrong, and the
 // block's hash.
-const BLOCKS: [&str; 11] = [
+const BLOCKS: &[&str] = &[
     "count 918555625282e1fe0a50ae4645fd74956353d10db497d50ece8d7a4cd957eb62",
     "empty 8465c9a218e83324a6c16d5e838a371b1a133f25fe5e6996fb6d7e6f5ce1282e",
     "tx 21123ee4a2fd14e7660e52affc7c5afbd977285d94c868194a2bfed840f2855d",
@@ -54,6 +54,50 @@ fn with_coinbase(alloc: Global, branch: u8, tx: Tx) -> Result<Vec<Tx>, OutOfMemo
     Ok(txs)
 }
 
+// The coinbase, and the same transaction twice.
+fn repeated(alloc: Global, branch: u8, coin: Outpoint) -> Result<Vec<Tx>, OutOfMemory>
+    ensures some { IfOk result (λ txs. 1 ≤ length txs.items) }
+    ensures encoded { IfOk result (λ txs. AllByRecursion HasEncoding txs.items) }
+{
+    let mut txs = with_coinbase(alloc, branch, spent(alloc, coin)?)?;
+    txs.push(spent(alloc, coin)?)?;
+    Ok(txs)
+}
+
+// A transaction of a million bytes.
+fn heavy(alloc: Global, coin: Outpoint) -> Result<Tx, OutOfMemory>
+    ensures { IfOk result HasEncoding }
+{
+    let coins = vec![in alloc; coin; 24_500]?;
+    spend(alloc, coins.as_slice(), [(0, 0)].as_slice())
+}
+
+// A transaction that spends a coin that never was.
+fn missing(alloc: Global) -> Result<Tx, OutOfMemory>
+    ensures { IfOk result HasEncoding }
+{
+    let txid = Hash32([0x11; 32]);
+    spent(alloc, Outpoint { txid, index: 0 })
+}
+
+// The transaction beside the coinbase in the block with that nonce, where there is one.
+fn tx_of(alloc: Global, nonce: u8, coin: Outpoint) -> Result<Tx, OutOfMemory>
+    ensures { IfOk result HasEncoding }
+{
+    match nonce {
+        // another coinbase
+        15 => coinbase(alloc, 1, 16, 1),
+        18 => heavy(alloc, coin),
+        19 => missing(alloc),
+        // more money than there can be
+        20 => {
+            let all = [(2_100_000_000_000_000, 2)];
+            spend(alloc, [coin].as_slice(), all.as_slice())
+        }
+        _ => spent(alloc, coin),
+    }
+}
+
 // The transactions of the block with that nonce.
 fn txs_of(alloc: Global, nonce: u8) -> Result<Vec<Tx>, OutOfMemory>
     ensures some { IfOk result (λ txs. 1 ≤ length txs.items) }
@@ -61,31 +105,10 @@ fn txs_of(alloc: Global, nonce: u8) -> Result<Vec<Tx>, OutOfMemory>
 {
     let coin = first_coin(alloc)?;
     match nonce {
-        // no coinbase, two, and the same transaction twice
+        // no coinbase
         14 => one(alloc, spent(alloc, coin)?),
-        15 => with_coinbase(alloc, nonce, coinbase(alloc, 1, 16, 1)?),
-        16 => {
-            let mut txs = with_coinbase(alloc, nonce, spent(alloc, coin)?)?;
-            txs.push(spent(alloc, coin)?)?;
-            Ok(txs)
-        }
-        // a transaction of a million bytes
-        18 => {
-            let coins = vec![in alloc; coin; 24_500]?;
-            let tx = spend(alloc, coins.as_slice(), [(0, 0)].as_slice())?;
-            with_coinbase(alloc, nonce, tx)
-        }
-        // a coin that never was, and more money than there can be
-        19 => {
-            let txid = Hash32([0x11; 32]);
-            with_coinbase(alloc, nonce, spent(alloc, Outpoint { txid, index: 0 })?)
-        }
-        20 => {
-            let all = [(2_100_000_000_000_000, 2)];
-            let tx = spend(alloc, [coin].as_slice(), all.as_slice())?;
-            with_coinbase(alloc, nonce, tx)
-        }
-        _ => with_coinbase(alloc, nonce, spent(alloc, coin)?),
+        16 => repeated(alloc, nonce, coin),
+        _ => with_coinbase(alloc, nonce, tx_of(alloc, nonce, coin)?),
     }
 }
 
@@ -125,22 +148,41 @@ fn file(alloc: Global) -> Result<Bytes, OutOfMemory> {
     Ok(file)
 }
 
+// What the node says: each block's hash, between two others.
+fn given(alloc: Global) -> Result<String, Fail> {
+    let mut all = named(alloc, "tip {a0}\n")?;
+    for line in BLOCKS {
+        let (_, hash) = line.split_once(' ').ok_or("no blank")?;
+        all.push_str(format!(in alloc; "tip {hash}\n")?.as_str())?;
+    }
+    all.push_str(named(alloc, "tip {a0}\n")?.as_str())?;
+    Ok(all)
+}
+
+// What it is answered.
+fn wanted(alloc: Global) -> Result<String, Fail> {
+    let mut all = named(alloc, "0 at {a0} 0\n")?;
+    for line in BLOCKS {
+        let (word, hash) = line.split_once(' ').ok_or("no blank")?;
+        all.push_str(format!(in alloc; "0 refused bad {hash} {word}\n")?.as_str())?;
+    }
+    all.push_str(named(alloc, "0 at {a0} 0\n")?.as_str())?;
+    Ok(all)
+}
+
+// How the call ends, and what is sent.
+fn run(alloc: Global) -> Result<(Status, String), Fail> {
+    let mut steps = Vec::new(alloc);
+    say(alloc, &mut steps, 0, given(alloc)?.as_bytes(), 10_000)?;
+    call_steady(alloc, SERVE, only(alloc, file(alloc)?)?, steps)
+}
+
 #[test]
 fn each_word_for_a_bad_block(rt: HostRuntime) -> Result<(), Fail> {
     let alloc = rt.alloc();
-    let mut given = named(alloc, "tip {a0}\n")?;
-    let mut want = named(alloc, "0 at {a0} 0\n")?;
-    for line in BLOCKS {
-        let (word, hash) = line.split_once(' ').ok_or("no blank")?;
-        given.push_str(format!(in alloc; "tip {hash}\n")?.as_str())?;
-        want.push_str(format!(in alloc; "0 refused bad {hash} {word}\n")?.as_str())?;
-    }
-    given.push_str(named(alloc, "tip {a0}\n")?.as_str())?;
-    want.push_str(named(alloc, "0 at {a0} 0\n")?.as_str())?;
-    let mut steps = Vec::new(alloc);
-    say(alloc, &mut steps, 0, given.as_bytes(), 10_000)?;
-    let (status, text) = call_steady(alloc, SERVE, only(alloc, file(alloc)?)?, steps)?;
-    assert_eq!(rt; text.as_str(), want.as_str());
-    assert_eq!(rt; status, Status::Ended);
+    let wanted = wanted(alloc)?;
+    let (status, text) = run(alloc)?;
+    let wanted = (Status::Ended, wanted.as_str());
+    assert_ended(&rt, alloc, (status, text.as_str()), wanted)?;
     Ok(())
 }

@@ -3,9 +3,9 @@ use crate::status::Status;
 use crate::tests::block_files::Files;
 use crate::tests::bringing::Step;
 use crate::tests::bringing::Step::{Opens, Says};
-use crate::tests::calls::{SERVE, SERVE_MAIN, fresh_disk};
-use crate::tests::names::named;
-use crate::tests::one_life::{NO_FILES, live};
+use crate::tests::calls::{SERVE, SERVE_MAIN, assert_ended, assert_sent, fresh_disk};
+use crate::tests::one_life::{Life, NO_FILES, live};
+use el_mem_disk::MemDisk;
 use std::alloc::Global;
 use std::test::Fail;
 
@@ -34,7 +34,7 @@ struct Lives {
     kept: &'static str,
 }
 
-const LIVES: [Lives; 4] = [
+const LIVES: &[Lives] = &[
     // another network's words
     Lives {
         files: Files::Branch(1),
@@ -79,30 +79,31 @@ const LIVES: [Lives; 4] = [
     },
 ];
 
+// The disk after the first life, in which the node says this.
+fn first_life(alloc: Global, files: Files, said: &str) -> Result<MemDisk, Fail> {
+    let steps = [Says(0, said)];
+    let life = live(alloc, SERVE, fresh_disk(alloc), files, steps.as_slice())?;
+    Ok(life.disk)
+}
+
 // How the second life ends, and what is sent; and what is sent in the third one.
 fn run(alloc: Global, lives: &Lives) -> Result<(Status, String, String), Fail> {
-    let first = [Says(0, lives.first)];
-    let life = live(
-        alloc,
-        SERVE,
-        fresh_disk(alloc),
-        lives.files,
-        first.as_slice(),
-    )?;
+    let disk = first_life(alloc, lives.files, lives.first)?;
     let (files, steps) = lives.second;
-    let second = live(alloc, lives.words, life.disk, files, steps)?;
-    let third = live(alloc, SERVE, second.disk, NO_FILES, first.as_slice())?;
-    Ok((second.status, second.text, third.text))
+    let Life { status, text, disk } = live(alloc, lives.words, disk, files, steps)?;
+    let asks = [Says(0, lives.first)];
+    let third = live(alloc, SERVE, disk, NO_FILES, asks.as_slice())?;
+    Ok((status, text, third.text))
 }
 
 #[test]
 fn an_index_of_an_earlier_life(rt: HostRuntime) -> Result<(), Fail> {
     let alloc = rt.alloc();
-    for lives in &LIVES {
+    for lives in LIVES {
         let (status, sent, kept) = run(alloc, lives)?;
-        assert_eq!(rt; status, lives.status);
-        assert_eq!(rt; sent.as_str(), named(alloc, lives.sent)?.as_str());
-        assert_eq!(rt; kept.as_str(), named(alloc, lives.kept)?.as_str());
+        let wanted = (lives.status, lives.sent);
+        assert_ended(&rt, alloc, (status, sent.as_str()), wanted)?;
+        assert_sent(&rt, alloc, kept.as_str(), lives.kept)?;
     }
     Ok(())
 }

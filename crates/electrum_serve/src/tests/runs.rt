@@ -1,10 +1,12 @@
 // What a node and clients are answered.
+ghost use Rattle.std.specs.Prelude.{◌<◌};
+
 use crate::status::Status;
 use crate::tests::block_files::Part::{Between, Block};
 use crate::tests::block_files::{Files, Part, files_of};
 use crate::tests::bringing::Step::{Leaves, Opens, Says, Waits};
 use crate::tests::bringing::{Step, coming, say};
-use crate::tests::calls::{ONCE, ONCE_MAIN, SERVE, SERVE_MAIN, call_steady};
+use crate::tests::calls::{ONCE, ONCE_MAIN, SERVE, SERVE_MAIN, assert_ended, call_steady};
 use crate::tests::names::named;
 use el_fakes::Coming;
 use el_gen::{BLOCK_1, GENESIS};
@@ -36,7 +38,7 @@ const EXAMPLE: [Part; 4] = [
 ];
 
 // The words, the files, what comes, and what is sent and closed.
-const RUNS: [(&str, Files, &[Step<'static>], &str); 17] = [
+const RUNS: &[(&str, Files, &[Step<'static>], &str)] = &[
     (
         SERVE_MAIN,
         Files::Parts(&EXAMPLE),
@@ -221,29 +223,36 @@ const RUNS: [(&str, Files, &[Step<'static>], &str); 17] = [
     ),
 ];
 
-// How the run ends, and what is sent and closed, where all bytes come one by one, or each step's together.
+// How the run ends, and what is sent and closed, where all bytes come in pieces of that length.
 fn run(
     alloc: Global,
     words: &str,
     files: Files,
     steps: &[Step<'static>],
-    one_by_one: bool,
-) -> Result<(Status, String), Fail> {
-    let piece = if one_by_one { 1 } else { 1_000 };
+    piece: usize,
+) -> Result<(Status, String), Fail>
+    requires { 0 < piece }
+{
     let steps = coming(alloc, steps, piece)?;
     call_steady(alloc, words, files_of(alloc, files)?, steps)
 }
 
 #[test]
-fn answers_whole_and_byte_by_byte(rt: HostRuntime) -> Result<(), Fail> {
-    let alloc = rt.alloc();
+fn answers_whole(rt: HostRuntime) -> Result<(), Fail> {
     for (words, files, steps, want) in RUNS {
-        let want = named(alloc, want)?;
-        for one_by_one in [false, true] {
-            let (status, text) = run(alloc, words, files, steps, one_by_one)?;
-            assert_eq!(rt; text.as_str(), want.as_str());
-            assert_eq!(rt; status, Status::Ended);
-        }
+        let (status, text) = run(rt.alloc(), words, *files, steps, 1_000)?;
+        let wanted = (Status::Ended, *want);
+        assert_ended(&rt, rt.alloc(), (status, text.as_str()), wanted)?;
+    }
+    Ok(())
+}
+
+#[test]
+fn answers_byte_by_byte(rt: HostRuntime) -> Result<(), Fail> {
+    for (words, files, steps, want) in RUNS {
+        let (status, text) = run(rt.alloc(), words, *files, steps, 1)?;
+        let wanted = (Status::Ended, *want);
+        assert_ended(&rt, rt.alloc(), (status, text.as_str()), wanted)?;
     }
     Ok(())
 }
@@ -271,23 +280,31 @@ fn in_order(alloc: Global, order: &str, cuts: (usize, usize)) -> Result<String, 
     Ok(call_steady(alloc, SERVE, files, steps)?.1)
 }
 
+const TIP_FIRST: &str = "0 at {a1} 1\n1 {lists}{entry1}{listed}\n";
+
+const TIP_LAST: &str = "1 {none}\n0 at {a1} 1\n";
+
+// Orders, and what is sent.
+const ORDERS: &[(&str, &str)] = &[
+    ("nncc", TIP_FIRST),
+    ("ncnc", TIP_FIRST),
+    ("cnnc", TIP_FIRST),
+    ("nccn", TIP_LAST),
+    ("cncn", TIP_LAST),
+    ("ccnn", TIP_LAST),
+];
+
+// Places of the cuts.
+const CUTS: &[(usize, usize)] = &[(1, 131), (4, 66), (35, 1), (68, 131)];
+
 #[test]
 fn two_pieces_in_each_order(rt: HostRuntime) -> Result<(), Fail> {
     let alloc = rt.alloc();
-    let after = "0 at {a1} 1\n1 {lists}{entry1}{listed}\n";
-    let before = "1 {none}\n0 at {a1} 1\n";
-    for (order, want) in [
-        ("nncc", after),
-        ("ncnc", after),
-        ("cnnc", after),
-        ("nccn", before),
-        ("cncn", before),
-        ("ccnn", before),
-    ] {
+    for (order, want) in ORDERS {
         let want = named(alloc, want)?;
-        for cuts in [(1, 131), (4, 66), (35, 1), (68, 131)] {
-            let text = in_order(alloc, order, cuts)?;
-            assert_eq!(rt; text.as_str(), want.as_str(), "{order} {cuts:?}");
+        for cuts in CUTS {
+            let text = in_order(alloc, order, *cuts)?;
+            assert!(rt; text.as_str() == want.as_str(), "{order} {cuts:?}");
         }
     }
     Ok(())

@@ -117,18 +117,18 @@ fn is_ended(
     Ok(life.status == status && life.text.as_str() == named(alloc, told)?.as_str())
 }
 
-// Whether the disk has the new chain, or the old one where the new one was not told.
-fn has_either(alloc: Global, moving: &Moving, disk: MemDisk, told: bool) -> Result<bool, Fail> {
-    let life = live(
-        alloc,
-        SERVE,
-        disk,
-        NO_FILES,
-        [Says(0, moving.asks)].as_slice(),
-    )?;
+// Whether that life tells the new chain, or the old one where the new one was not told.
+fn tells_either(alloc: Global, moving: &Moving, life: &Life, told: bool) -> Result<bool, Fail> {
     let is_new = life.text.as_str() == named(alloc, moving.new)?.as_str();
     let is_old = life.text.as_str() == named(alloc, moving.old)?.as_str();
     Ok(life.status == Status::Ended && (is_new || is_old && !told))
+}
+
+// Whether the disk has the new chain, or the old one where the new one was not told.
+fn has_either(alloc: Global, moving: &Moving, disk: MemDisk, told: bool) -> Result<bool, Fail> {
+    let steps = [Says(0, moving.asks)];
+    let life = live(alloc, SERVE, disk, NO_FILES, steps.as_slice())?;
+    tells_either(alloc, moving, &life, told)
 }
 
 // Whether a crash leaves one of the two chains, in so many images.
@@ -148,11 +148,36 @@ fn leaves_either(
     Ok(true)
 }
 
-// Whether a crash leaves the old chain in one image and the new one in another.
-fn leaves_both(alloc: Global, moving: &Moving, disk: &MemDisk) -> Result<bool, Fail> {
-    let closed = after_crash(alloc, disk, 0, None)?;
-    let open = after_crash(alloc, disk, 1, None)?;
-    Ok(!has_either(alloc, moving, closed, true)? && has_either(alloc, moving, open, true)?)
+// Whether a crash leaves the new chain in that image.
+fn leaves_new(alloc: Global, moving: &Moving, disk: &MemDisk, image: u64) -> Result<bool, Fail> {
+    let left = after_crash(alloc, disk, image, None)?;
+    has_either(alloc, moving, left, true)
+}
+
+// Whether a crash leaves the old chain in one image and the new one in another, where this call of the second
+// life's disk and all after it fail.
+fn leaves_both(alloc: Global, moving: &Moving, disk: &MemDisk, call: u64) -> Result<bool, Fail> {
+    let life = second_life(alloc, moving, disk, Some(call))?;
+    let is_closed = !leaves_new(alloc, moving, &life.disk, 0)?;
+    Ok(is_closed && leaves_new(alloc, moving, &life.disk, 1)?)
+}
+
+// Whether the second life ends as it must where its disk fails at this call of so many, the last of which
+// tells the move, and a crash then leaves one of the two chains. The opening has so many calls, and writes
+// nothing, so that all images are one.
+fn is_stopped(
+    alloc: Global,
+    moving: &Moving,
+    disk: &MemDisk,
+    call: u64,
+    counts: (u64, u64),
+) -> Result<bool, Fail> {
+    let (opening, calls) = counts;
+    let life = second_life(alloc, moving, disk, Some(call))?;
+    let told = calls < call;
+    let images = if call <= opening { 1 } else { IMAGE_COUNT };
+    let is_ended = is_ended(alloc, moving, &life, !told, opening < call)?;
+    Ok(is_ended && leaves_either(alloc, moving, &life.disk, told, images)?)
 }
 
 #[test]
@@ -161,22 +186,32 @@ fn an_extension_stopped_at_each_call(rt: HostRuntime) -> Result<(), Fail> {
     let disk = first_life(alloc, &EXTENDED)?;
     let calls = calls_of(alloc, &EXTENDED, &disk)?;
     // the last call brings the gate of the move's commit to the disk
-    let life = second_life(alloc, &EXTENDED, &disk, Some(calls))?;
-    assert!(rt; leaves_both(alloc, &EXTENDED, &life.disk)?);
+    assert!(rt; leaves_both(alloc, &EXTENDED, &disk, calls)?);
     for call in 1..=calls.saturating_add(1) {
-        let life = second_life(alloc, &EXTENDED, &disk, Some(call))?;
-        let told = calls < call;
-        assert!(rt; is_ended(alloc, &EXTENDED, &life, !told, true)?, "{call}");
-        // the opening writes nothing, so that all images are one
-        let images = if call <= calls / 2 { 1 } else { IMAGE_COUNT };
-        let is_left = leaves_either(alloc, &EXTENDED, &life.disk, told, images)?;
-        assert!(rt; is_left, "{call}");
+        let is_stopped = is_stopped(alloc, &EXTENDED, &disk, call, (calls / 2, calls))?;
+        assert!(rt; is_stopped, "{call}");
     }
     Ok(())
 }
 
 // How many calls an opening of two entries makes.
 const OPENING: u64 = 9;
+
+// Whether an opening of the disk that is stopped, if it is, and a crash leave one of the two chains.
+fn opens_to_one(
+    alloc: Global,
+    moving: &Moving,
+    disk: MemDisk,
+    told: bool,
+    image: u64,
+) -> Result<bool, Fail> {
+    let stopped = live(alloc, SERVE, disk, NO_FILES, &[])?;
+    if stopped.status == Status::Ended {
+        return Ok(true);
+    }
+    let left = after_crash(alloc, &stopped.disk, image, None)?;
+    has_either(alloc, moving, left, told)
+}
 
 // Whether a crash, in an image that is another one for each call, and then an opening that is stopped at each
 // of its calls leave one of the two chains.
@@ -190,16 +225,26 @@ fn opens_to_either(
     for stop in 1..=OPENING {
         let image = image.saturating_add(stop);
         let left = after_crash(alloc, disk, image, Some(stop))?;
-        let stopped = live(alloc, SERVE, left, NO_FILES, &[])?;
-        if stopped.status == Status::Ended {
-            continue;
-        }
-        let left = after_crash(alloc, &stopped.disk, image.saturating_add(stop), None)?;
-        if !has_either(alloc, moving, left, told)? {
+        if !opens_to_one(alloc, moving, left, told, image.saturating_add(stop))? {
             return Ok(false);
         }
     }
     Ok(true)
+}
+
+// Whether the second life ends as it must where its disk fails at this call of so many, and a crash and an
+// opening that is stopped then leave one of the two chains.
+fn is_stopped_twice(
+    alloc: Global,
+    moving: &Moving,
+    disk: &MemDisk,
+    call: u64,
+    calls: u64,
+) -> Result<bool, Fail> {
+    let life = second_life(alloc, moving, disk, Some(call))?;
+    let told = calls < call;
+    let is_ended = is_ended(alloc, moving, &life, !told, true)?;
+    Ok(is_ended && opens_to_either(alloc, moving, &life.disk, told, call)?)
 }
 
 // The first call of the second life at which a stop isn't as it must be, in the first half of its calls or in
@@ -214,10 +259,7 @@ fn first_wrong(alloc: Global, moving: &Moving, is_late: bool) -> Result<Option<u
         (1, half)
     };
     for call in from..=to {
-        let life = second_life(alloc, moving, &disk, Some(call))?;
-        let told = calls < call;
-        let is_ended = is_ended(alloc, moving, &life, !told, true)?;
-        if !is_ended || !opens_to_either(alloc, moving, &life.disk, told, call)? {
+        if !is_stopped_twice(alloc, moving, &disk, call, calls)? {
             return Ok(Some(call));
         }
     }
@@ -250,13 +292,8 @@ fn a_move_with_a_set_stopped_at_each_call(rt: HostRuntime) -> Result<(), Fail> {
     let calls = calls_of(alloc, &SIFTED, &disk)?;
     assert!(rt; 0 < opening && opening < calls);
     for call in 1..=calls.saturating_add(1) {
-        let life = second_life(alloc, &SIFTED, &disk, Some(call))?;
-        let told = calls < call;
-        let is_ended = is_ended(alloc, &SIFTED, &life, !told, opening < call)?;
-        assert!(rt; is_ended, "{call}");
-        let images = if call <= opening { 1 } else { IMAGE_COUNT };
-        let is_left = leaves_either(alloc, &SIFTED, &life.disk, told, images)?;
-        assert!(rt; is_left, "{call}");
+        let is_stopped = is_stopped(alloc, &SIFTED, &disk, call, (opening, calls))?;
+        assert!(rt; is_stopped, "{call}");
     }
     Ok(())
 }

@@ -1,16 +1,15 @@
 // What a client is told without having asked, over blocks that part and spend.
 use crate::status::Status;
-use crate::tests::block_files::{Files, files_of};
+use crate::tests::block_files::Files;
+use crate::tests::bringing::Step;
 use crate::tests::bringing::Step::{Opens, Says};
-use crate::tests::bringing::{Step, coming};
-use crate::tests::calls::{SERVE, call_steady};
-use crate::tests::names::named;
+use crate::tests::calls::{SERVE, assert_sends};
 use std::test::Fail;
 
 const SUBSCRIBES: Step<'static> = Says(1, "{heads}\n{subscribes}{script1}{asked}\n");
 
 // What comes, and what is sent.
-const RUNS: [(&[Step<'static>], &str); 4] = [
+const RUNS: &[(&[Step<'static>], &str)] = &[
     // a transaction is at another height on the other branch
     (
         &[
@@ -80,12 +79,9 @@ const RUNS: [(&[Step<'static>], &str); 4] = [
 
 #[test]
 fn what_a_client_is_told(rt: HostRuntime) -> Result<(), Fail> {
-    let alloc = rt.alloc();
     for (steps, sent) in RUNS {
-        let steps = coming(alloc, steps, 1_000)?;
-        let (status, text) = call_steady(alloc, SERVE, files_of(alloc, Files::Forks)?, steps)?;
-        assert_eq!(rt; text.as_str(), named(alloc, sent)?.as_str());
-        assert_eq!(rt; status, Status::Ended);
+        let wanted = (Status::Ended, *sent);
+        assert_sends(&rt, rt.alloc(), SERVE, Files::Forks, steps, wanted)?;
     }
     Ok(())
 }

@@ -1,10 +1,9 @@
 // What the node tells of unconfirmed transactions, and what clients see of them.
 use crate::status::Status;
-use crate::tests::block_files::{Files, files_of};
+use crate::tests::block_files::Files;
+use crate::tests::bringing::Step;
 use crate::tests::bringing::Step::{Opens, Says};
-use crate::tests::bringing::{Step, coming};
-use crate::tests::calls::{SERVE, call_steady};
-use crate::tests::names::named;
+use crate::tests::calls::{SERVE, assert_sends};
 use std::test::Fail;
 
 // Words by which one transaction is kept at most.
@@ -18,7 +17,7 @@ const ASKS: Step<'static> = Says(
 );
 
 // The words, what comes, and what is sent.
-const RUNS: [(&str, &[Step<'static>], &str); 3] = [
+const RUNS: &[(&str, &[Step<'static>], &str)] = &[
     // a child is seen with its parent, which a block then has, and goes where another spend of the coin
     // comes; the client is told of that
     (
@@ -75,13 +74,9 @@ const RUNS: [(&str, &[Step<'static>], &str); 3] = [
 
 #[test]
 fn unconfirmed_transactions(rt: HostRuntime) -> Result<(), Fail> {
-    let alloc = rt.alloc();
     for (words, steps, sent) in RUNS {
-        let steps = coming(alloc, steps, 1_000)?;
-        let files = files_of(alloc, Files::Forks)?;
-        let (status, text) = call_steady(alloc, words, files, steps)?;
-        assert_eq!(rt; text.as_str(), named(alloc, sent)?.as_str());
-        assert_eq!(rt; status, Status::Ended);
+        let wanted = (Status::Ended, *sent);
+        assert_sends(&rt, rt.alloc(), words, Files::Forks, steps, wanted)?;
     }
     Ok(())
 }
