@@ -1,5 +1,5 @@
 -- Heads and rows of buckets, as their bytes read.
-use Rattle.std.proofs.Common.{◌≡◌, ℕ, zero, suc, ◌+◌, ◌<◌, Bool, List, [], ◌∷◌, ◌++◌, set, length, map, take, get_or, Option, None, Some, refl, ap, sym, ◌∙◌, arith, if◌then◌else◌, mod-lt, ◌*◌}
+use Rattle.std.proofs.Common.{◌≡◌, ℕ, ◌+◌, ◌<◌, Bool, List, [], ◌∷◌, length, map, take, get_or, Option, None, Some, refl, ap, sym, ◌∙◌, arith, if◌then◌else◌, mod-lt, ◌*◌}
 use Rattle.std.specs.List.{AllByRecursion}
 use Rattle.std.proofs.lemmas.List.{get_or-map, take-map, length-map, length-take-le}
 use Rattle.std.proofs.lemmas.Bool.{lt-ltb}
@@ -8,8 +8,7 @@ use Rattle.el_chain.specs.Chains.{zero_hash}
 use Rattle.el_tables.specs.ChainLists.{ListedBlock}
 use Rattle.el_tables.specs.Lists.{ListedTx, Lists}
 use Rattle.el_tables.specs.Tables as typed
-use Rattle.el_tables.specs.Tables.{HeadCounts, bucket_in, greatest, greatest_from, rows_from, heads, tx_row, script_row}
-use Rattle.el_tables.specs.Disconnecting.{but_last, last}
+use Rattle.el_tables.specs.Tables.{HeadCounts, bucket_in, greatest, rows_from, heads, tx_row, script_row}
 use Rattle.el_tables.specs.Edits as edit
 use Rattle.el_tables.proofs.RowLists.{head_is, rows_at, length_rows}
 use Rattle.el_tables.proofs.Tables.{length_heads}

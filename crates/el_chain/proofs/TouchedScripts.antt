@@ -1,7 +1,6 @@
 -- Script hashes, each once.
 use Rattle.std.proofs.Common.{◌≡◌, ◌≢◌, true, false, List, [], ◌∷◌, ap, sym, ◌∙◌, true≢false}
 use Rattle.std.proofs.lemmas.Slice.Eq.{bytes_eq-Decides}
-use Rattle.std.specs.Str.{bytes_eq}
 use Rattle.std.specs.List.{AllByRecursion, IsDistinct}
 use Rattle.el_base.specs.declared.hash.Hash32.{Hash32}
 use Rattle.el_block.specs.Blocks.{AllDiffer}

@@ -1,13 +1,9 @@
 -- Moves: some last blocks are taken back, and others are put in their place.
-use Rattle.std.specs.Prelude.{◌≡◌, ◌⊎◌, ℕ, ◌+◌, ◌-◌, ◌≤◌, List, [], ◌∷◌, ◌++◌, length, take, map, Option, None, Some, option_map, slice_get, ⊤}
+use Rattle.std.specs.Prelude.{◌≡◌, ◌⊎◌, ℕ, ◌+◌, ◌-◌, ◌≤◌, List, [], ◌∷◌, ◌++◌, length, take, map, Option, Some, ⊤}
 use Rattle.std.specs.List.{AllByRecursion}
 use Rattle.el_base.specs.declared.hash.Hash32.{Hash32}
-use Rattle.el_tx.specs.Headers.{header_encoding}
 use Rattle.el_block.specs.declared.block.Block.{Block}
-use Rattle.el_chain.specs.declared.placed.Placed.{Placed}
 use Rattle.el_chain.specs.declared.node.Node.{Node}
-use Rattle.el_block.specs.declared.fault.BlockFault.{BlockFault}
-use Rattle.el_chain.specs.declared.fault.ConnectFault.{ConnectFault}
 use Rattle.el_chain.specs.declared.moves.Plan.{Plan}
 use Rattle.el_chain.specs.declared.moves.MoveFault.{MoveFault}
 use Rattle.el_chain.specs.declared.moves.MoveFault.TheVariants as stop
@@ -17,7 +13,7 @@ use Rattle.el_chain.specs.Chains.{Chain, tip}
 use Rattle.el_block.specs.BlockFaults.{FirstBlockFault}
 use Rattle.el_chain.specs.Headers.{AreLinked}
 use Rattle.el_chain.specs.Records.{IsBlockOf, IsOtherBlock}
-use Rattle.el_chain.specs.Faults.{IsNext, AreNext, fault}
+use Rattle.el_chain.specs.Faults.{AreNext, fault}
 use Rattle.el_chain.specs.Records.{IsNode, block_at}
 
 -- the bytes that stand at the node's place, where the files have these

@@ -1,11 +1,9 @@
 -- Drafts of chains, block by block.
-use Rattle.std.proofs.Common.{◌≡◌, ℕ, ◌+◌, ◌≤◌, List, [], ◌∷◌, ◌++◌, length, None, ◌∙◌, append-nil, length-append, arith}
-use Rattle.std.specs.List.{AllByRecursion}
+use Rattle.std.proofs.Common.{◌≡◌, ◌+◌, ◌≤◌, [], ◌∷◌, ◌++◌, length, None, ◌∙◌, length-append, arith}
 use Rattle.el_tx.specs.Encoding.{max_money, counted}
 use Rattle.el_block.specs.declared.block.Block.{Block}
 use Rattle.el_chain.specs.declared.placed.Placed.{Placed}
 use Rattle.el_coins.specs.declared.coins.CoinTable.{CoinTable}
-use Rattle.el_chain.specs.declared.node.Node.{Node}
 use Rattle.el_block.specs.declared.fault.BlockFault.TheVariants as block
 use Rattle.el_block.specs.Blocks.{EncodesBlock, HasBlockEncoding, HasOneCoinbase}
 use Rattle.el_chain.specs.Chains.{Chain, tip}
@@ -18,9 +16,6 @@ use Rattle.el_chain.specs.History.{positions, block_positions}
 use Rattle.el_coins.specs.declared.tally.Tally.{Tally}
 use Rattle.el_coins.specs.Tallies.{IsTally, AreFew}
 use Rattle.el_chain.proofs.Tallies.{positions_more}
-use Rattle.el_chain.specs.Headers.{AreLinked}
-use Rattle.el_chain.specs.Moves.{AreOf}
-use Rattle.el_chain.specs.Records.{IsNode}
 use Rattle.el_chain.proofs.GoodChains.{next_more, coins_more, has_room}
 use Rattle.el_coins.proofs.GoodChains.{over_begins}
 

@@ -1,6 +1,6 @@
 -- Rows by their numbers, and a row of a block more.
-use Rattle.std.proofs.Common.{◌≡◌, ◌≢◌, ℕ, ◌+◌, ◌-◌, ◌<◌, ◌≤◌, List, [], ◌∷◌, ◌++◌, length, map, take, get_or, slice_get, Option, None, Some, option_map, refl, ap, sym, subst, ◌∙◌, arith, replicate}
-use Rattle.std.proofs.lemmas.List.{get_or_at, get_or-map, map-append, length-map}
+use Rattle.std.proofs.Common.{◌≡◌, ℕ, ◌+◌, List, [], ◌∷◌, ◌++◌, length, take, slice_get, Some, option_map, ap, sym, subst, ◌∙◌, arith}
+use Rattle.std.proofs.lemmas.List.{get_or_at, get_or-map, map-append}
 use Rattle.el_base.specs.declared.hash.Hash32.{Hash32}
 use Rattle.el_chain.specs.Chains.{zero_hash}
 use Rattle.el_chain.specs.Headers.{same_hash}
@@ -12,7 +12,7 @@ use Rattle.el_tables.proofs.TxEdits.{newest_is}
 use Rattle.el_tables.proofs.OutEdits.{script_is}
 use Rattle.el_rows.specs.Changes.{OnTable}
 use Rattle.el_row_formats.specs.Tables as held
-use Rattle.el_row_formats.specs.RowBytes.{block_row_bytes, out_row_bytes, in_row_bytes, tx_row_bytes, FitsBlockRow, FitsInRow, FitsOutRow, FitsTxRow}
+use Rattle.el_row_formats.specs.RowBytes.{block_row_bytes, FitsBlockRow}
 use Rattle.el_row_formats.specs.declared.table.Table.{Table}
 use Rattle.el_row_formats.specs.declared.table.Table.TheVariants as table
 use Rattle.el_row_formats.specs.declared.block_row.BlockRow.{BlockRow}

@@ -6,7 +6,7 @@ use Rattle.std.proofs.Math.Nat.{mul-le-mul_left, mul-le-mul_right, suc-mul}
 use Rattle.el_outside.specs.Devices.{Device}
 use Rattle.el_lines.proofs.Cuts.{either}
 use Rattle.el_world.specs.Side.{Side}
-use Rattle.el_core.specs.State.{State, ClientState, IsIdle, is_numbered, waiting, work, work_of_node, work_of_client, work_of_clients, work_of_speaker, work_of_surplus, work_of_peers}
+use Rattle.el_core.specs.State.{State, ClientState, IsIdle, is_numbered, waiting, work, work_of_node, work_of_client, work_of_clients, work_of_speaker, work_of_peers}
 use Rattle.el_core.specs.Arrivals.{gone_from, kept_clients, kept_speaker}
 use Rattle.el_lines.specs.LineStates.{held}
 use Rattle.el_core.specs.within.Clients.{TellsAt, IsFirstWaiting, all_wait, replaced, IsPlace, ClientTurn, TurnsAt, SpeakerSteps, steps, speaker_after, PeersTurn, has_turn}

@@ -1,7 +1,5 @@
 -- Messages to one client.
-use Rattle.std.proofs.Common.{◌≡◌, ℕ, List, [], ◌∷◌, ◌++◌, length, map, None, refl, ap, ◌∙◌, sym, subst, arith}
-use Rattle.std.specs.Vec.Iter.{into_iter_items, into_iter_len}
-use Rattle.el_base.specs.declared.hash.Hash32.{Hash32}
+use Rattle.std.proofs.Common.{◌≡◌, ℕ, List, [], ◌∷◌, ◌++◌, length, map, refl, ap, ◌∙◌, sym, arith}
 use Rattle.el_outside.specs.Trace.{Message}
 use Rattle.el_core.specs.Turn.{messages_of}
 

@@ -18,7 +18,7 @@ use Rattle.el_subs.specs.Told as status_told
 use Rattle.el_subs.specs.Told.{status}
 use Rattle.el_world.specs.Side.{Side}
 use Rattle.el_world.specs.World as model
-use Rattle.el_world.specs.World.{World, Session, Event, IsStill, AllTold, joins, says, orders, leaves, Takes, Outs, Comes, outs_of_reply, after_reply, with_session, nothing, closes_long, closes_memory, closes_surplus, is_client, is_peer, without_client, line_limit}
+use Rattle.el_world.specs.World.{World, Session, Event, IsStill, AllTold, joins, says, orders, leaves, Takes, Outs, Comes, outs_of_reply, after_reply, nothing, closes_long, closes_memory, closes_surplus, is_client, is_peer, without_client, line_limit}
 use Rattle.el_world.specs.Run as run
 use Rattle.el_world.specs.Run.{OneTurn, Turns}
 use Rattle.el_lines.specs.LineStates.{LineState, IsAt}

@@ -18,11 +18,11 @@ use Rattle.el_mempool.specs.Refusals.{is_kept}
 use Rattle.el_lines.proofs.Cuts.{either}
 use Rattle.el_mempool.specs.Standing.{PoolState}
 use Rattle.el_world.specs.NodeSteps.{Leads}
-use Rattle.el_world.specs.Flights.{IsFirstMove, IsUnderWay, before as not_moved, in_move}
+use Rattle.el_world.specs.Flights.{IsFirstMove, before as not_moved, in_move}
 use Rattle.el_world.specs.Plans.{back_of, rest_of, plan_of}
 use Rattle.el_world.specs.Side as side_of
-use Rattle.el_world.specs.Side.{Side, GoesAlong, IsSaid, Looks, Moving, Orders, OrdersLine, Tips, Adds, Drops}
-use Rattle.el_sync.specs.Steps.{FailsBy, by_memory, untold, StopsAt}
+use Rattle.el_world.specs.Side.{Side, IsSaid, Looks, Moving, Orders, OrdersLine, Tips, Adds, Drops}
+use Rattle.el_sync.specs.Steps.{by_memory, untold, StopsAt}
 use Rattle.el_sync.specs.declared.fault.StepFault.TheVariants as fault
 
 -- the chain is as it was, or the target of the move

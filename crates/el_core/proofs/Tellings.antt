@@ -1,14 +1,13 @@
 -- What clients were told: statuses of script hashes that weren't touched since.
 use Rattle.std.proofs.Common.{◌≡◌, ◌||◌, inl, inr, ℕ, zero, suc, Bool, true, false, not, List, [], ◌∷◌, map, filter, find, take, slice_get, Option, Some, None, refl, sym, ap, ◌∙◌, subst, true≢false}
-use Rattle.std.specs.List.{AllByRecursion, AllZip, list_any}
+use Rattle.std.specs.List.{AllByRecursion, AllZip}
 use Rattle.std.proofs.lemmas.Slice.Eq.{bytes_eq-Decides}
 use Rattle.el_base.specs.declared.hash.Hash32.{Hash32}
 use Rattle.el_chain.specs.Chains.{Chain}
 use Rattle.el_sessions.specs.declared.session.Session as known
 use Rattle.el_sessions.specs.Sessions.{Subscription, is_subscribed, is_to}
 use Rattle.el_subs.specs.Told as status_told
-use Rattle.el_subs.specs.Told.{status, is_touched, IsTold, OthersTold, marked}
-use Rattle.el_touched.specs.Untouched.{LooksSame, is_among}
+use Rattle.el_subs.specs.Told.{status, OthersTold, marked}
 use Rattle.el_lines.proofs.Cuts.{either}
 use Rattle.el_world.specs.NodeSteps.{Touches}
 use Rattle.el_world.specs.Side.{Side}
@@ -16,7 +15,7 @@ use Rattle.el_world.specs.World.{Session, Event, is_peer}
 use Rattle.el_core.specs.State.{ClientState, IsSession, IsUntouched, NoneWaits, Tellings, waiting}
 use Rattle.el_core.specs.within.Clients.{replaced}
 use Rattle.el_core.specs.within.Touching.{is_held, CoversAll}
-use Rattle.el_core.proofs.Places.{IfThere, no_some, same_some, all_at, all_map, all_mapped, all_filter, all_replaced}
+use Rattle.el_core.proofs.Places.{IfThere, no_some, same_some, all_map, all_mapped, all_filter, all_replaced}
 
 -- ---- who waits
 

@@ -1,7 +1,6 @@
 -- The telling of a client.
-use Rattle.std.proofs.Common.{◌≡◌, inl, inr, ℕ, zero, suc, Bool, true, false, List, [], ◌∷◌, ◌++◌, map, take, find, slice_get, Option, Some, None, refl, sym, ap, ◌∙◌, subst, true≢false}
+use Rattle.std.proofs.Common.{◌≡◌, inl, inr, ℕ, zero, suc, true, false, List, [], ◌∷◌, map, take, find, slice_get, Option, Some, None, refl, sym, ap, ◌∙◌, subst, true≢false}
 use Rattle.std.specs.List.{AllByRecursion, AllZip}
-use Rattle.el_base.specs.declared.hash.Hash32.{Hash32}
 use Rattle.el_outside.specs.declared.archive.Archive as archive
 use Rattle.el_outside.specs.Counts.{RoseBy}
 use Rattle.el_outside.specs.Devices as device
@@ -22,9 +21,8 @@ use Rattle.el_world.specs.World.{World, Session, Event, IsStill, Outs, closes_di
 use Rattle.el_world.specs.World as model
 use Rattle.el_world.specs.Run as run
 use Rattle.el_world.specs.Run.{OneTurn}
-use Rattle.el_core.specs.State.{State, ClientState, IsSession, IsUntouched, SessionsAre, NoneWaits, AllVoid, Stands, waiting}
+use Rattle.el_core.specs.State.{State, ClientState, IsSession, IsUntouched, SessionsAre, NoneWaits, AllVoid, Stands}
 use Rattle.el_core.specs.Turn.{TookTurn, GoesTo}
-use Rattle.el_core.specs.within.Answering.{Lost}
 use Rattle.el_core.specs.within.Clients.{TellTurn, tells, fails, starves, TellsAt, IsToTell, IsFirstWaiting, told_client, replaced}
 use Rattle.el_core.proofs.Losing.{lost_of}
 use Rattle.el_core.proofs.Peers.{at_replaced}

@@ -1,7 +1,7 @@
 -- Turns of the server, over the states between its parts.
 use Rattle.std.proofs.Common.{◌≡◌, ℕ, true, false, List, [], ◌∷◌, ◌++◌, map, Option, Some, None, refl, ap, sym, ◌∙◌, subst}
 use Rattle.std.specs.Prelude.{IfSome, IfNone}
-use Rattle.std.specs.List.{AllByRecursion, AllZip}
+use Rattle.std.specs.List.{AllZip}
 use Rattle.el_base.specs.declared.hash.Hash32.{Hash32}
 use Rattle.el_outside.specs.declared.archive.Archive as archive
 use Rattle.el_outside.specs.Files.{AllGrow}
@@ -14,7 +14,7 @@ use Rattle.el_model.specs.LedgerCalls.{Asked, failed_calls}
 use Rattle.el_model.specs.Queries.{tip_of}
 use Rattle.el_lines.specs.Lines.{LineEvent}
 use Rattle.el_mempool.specs.Standing.{StandsFor}
-use Rattle.el_world.specs.NodeSteps.{IsAt, Leads, SetStands}
+use Rattle.el_world.specs.NodeSteps.{IsAt, Leads}
 use Rattle.el_world.specs.Side.{Side, Moving, OrdersLine}
 use Rattle.el_world.specs.World.{World, Session, Event, orders, IsStill, AllTold, begun, is_peer}
 use Rattle.el_world.specs.Run as run

@@ -1,15 +1,12 @@
 -- Heads of records, of which a piece of a file has the bytes.
-use Rattle.std.proofs.Common.{◌≡◌, ℕ, ◌+◌, ◌-◌, ◌<◌, ◌≤◌, List, length, take, drop, refl, sym, ap, ◌∙◌, arith, Bool, true, false, ◌&&◌, if◌then◌else◌, IsTrue, nat_le}
+use Rattle.std.proofs.Common.{◌≡◌, ℕ, ◌+◌, ◌<◌, ◌≤◌, List, length, take, drop, refl, sym, ap, ◌∙◌, arith}
 use Rattle.std.specs.Prelude.{Option, None, Some, option_map, IfSome}
-use Rattle.std.specs.Str.{bytes_eq}
 use Rattle.el_base.specs.Hashing.{sha256d}
-use Rattle.std.proofs.lemmas.Bool.{leb-true}
-use Rattle.std.proofs.lemmas.List.{take-take, drop-take}
 use Rattle.el_base.specs.declared.hash.Hash32.{Hash32}
 use Rattle.el_tx.specs.Headers.{header_of, header_encoding}
 use Rattle.el_tx.specs.declared.types.Header.{Header}
 use Rattle.el_block.specs.Blocks.{block_hash}
-use Rattle.el_chain.specs.Records.{size_field, record_size, node_of, node_at, IsNode}
+use Rattle.el_chain.specs.Records.{record_size, node_of, node_at, IsNode}
 use Rattle.el_block.specs.declared.limits.TheConstants.{MAX_BLOCK_WEIGHT}
 use Rattle.el_chain.specs.declared.limits.TheConstants.{MIN_BLOCK_SIZE}
 use Rattle.el_chain.specs.declared.node.Node.{Node}

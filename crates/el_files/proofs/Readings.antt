@@ -1,7 +1,6 @@
 -- What is read by a place.
-use Rattle.std.proofs.Common.{◌≡◌, ℕ, ◌-◌, min, List, length, take, drop, sym, ap, ◌∙◌, length-drop, Result, Ok, Err}
-use Rattle.std.specs.Prelude.{Option, None, Some, IfOk}
-use Rattle.std.proofs.lemmas.List.{take_min}
+use Rattle.std.proofs.Common.{◌≡◌, ℕ, List, length, ap, Result, Ok}
+use Rattle.std.specs.Prelude.{Option, None, Some}
 use Rattle.el_base.specs.declared.hash.Hash32.{Hash32}
 use Rattle.el_tx.specs.declared.types.Tx.{Tx}
 use Rattle.el_tx.specs.declared.fault.TxFault.{TxFault}

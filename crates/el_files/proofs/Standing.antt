@@ -1,18 +1,10 @@
 -- Records that stand in a file, which may have grown since.
-use Rattle.std.proofs.Common.{◌≡◌, ℕ, zero, suc, ◌+◌, ◌<◌, ◌≤◌, ◌^◌, List, [], ◌∷◌, ◌++◌, length, take, drop, refl, sym, ap, ◌∙◌, arith, length-drop}
+use Rattle.std.proofs.Common.{◌≡◌, ℕ, zero, suc, ◌+◌, List, [], ◌∷◌, drop, refl, sym, ap, ◌∙◌}
 use Rattle.std.specs.Prelude.{Option, None, Some, option_map, option_to_list}
-use Rattle.std.specs.Int.{w32, to_le_bytes, cast_signed, cast_unsigned}
 use Rattle.std.specs.List.{AllByRecursion}
-use Rattle.std.proofs.lemmas.List.{take-append-drop, drop-drop, drop-append-le, take-append-le, take-take, length-take-le}
-use Rattle.el_base.specs.Left.{AreBytes}
-use Rattle.el_base.proofs.ByteLemmas.{front_bytes, below_4, bytes_after as bytes_left}
-use Rattle.std.proofs.lemmas.Int.{of_z-to_z}
+use Rattle.std.proofs.lemmas.List.{drop-drop}
 use Rattle.el_base.proofs.Lists.{all_append}
-use Rattle.el_outside.specs.Files.{Grows}
-use Rattle.el_outside.specs.declared.archive.Place.{Place}
-use Rattle.el_tx.specs.Headers.{header_of, header_encoding, number_from}
-use Rattle.el_tx.proofs.HeaderLemmas.{number_in_front, six_fields}
-use Rattle.el_chain.specs.Records.{node_of, records_from, records, bytes_after, block_at, IsBlockOf}
+use Rattle.el_chain.specs.Records.{node_of, records_from, records, bytes_after}
 use Rattle.el_chain.specs.declared.node.Node.{Node}
 use Rattle.el_chain.specs.Records.{IsRecordIn}
 pub use Rattle.el_chain.proofs.RecordBytes.{size_here, node_here, stands_within, block_stays}

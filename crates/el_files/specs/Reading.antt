@@ -1,5 +1,5 @@
 -- What is read of the block files by a place, and when it isn't what was found there before.
-use Rattle.std.specs.Prelude.{◌≡◌, ℕ, ◌+◌, List, length, take, drop, Option, None, Some, Result, Ok, Err}
+use Rattle.std.specs.Prelude.{◌≡◌, ℕ, ◌+◌, List, length, take, drop, Option, None, Some}
 use Rattle.el_base.specs.declared.hash.Hash32.{Hash32}
 use Rattle.el_tx.specs.Encoding.{Encodes}
 use Rattle.el_tx.specs.Hashing.{txid}

@@ -1,5 +1,5 @@
 -- What an append leaves at each moment.
-use Rattle.std.proofs.Common.{◌≡◌, inl, inr, ℕ, suc, ◌+◌, ◌≤◌, List, [], ◌∷◌, ◌++◌, length, refl, sym, ◌∙◌, ap, subst, arith, length-append}
+use Rattle.std.proofs.Common.{◌≡◌, inl, ℕ, ◌+◌, ◌≤◌, List, [], ◌∷◌, ◌++◌, length, sym, ◌∙◌, ap, subst, arith, length-append}
 use Rattle.el_outside.specs.declared.disk.Disk as disk
 use Rattle.el_outside.specs.Disk.{Image, OnDisk, over, Torn}
 use Rattle.el_outside.specs.Moments.{LeftNow}

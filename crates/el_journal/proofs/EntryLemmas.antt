@@ -5,9 +5,8 @@ use Rattle.std.proofs.lemmas.List.{take_at, drop_at, take_more, take-append-drop
 use Rattle.std.proofs.lemmas.Nat.{from_le_bytes-to_le_bytes_8}
 use Rattle.std.specs.Int.{w64, to_le_bytes, from_le_bytes}
 use Rattle.el_base.proofs.Lists.{same_cut}
-use Rattle.el_journal.specs.declared.mark.Mark.{Mark}
 use Rattle.el_journal.specs.Entries.{entry_bytes, journal_bytes, EndsAfter, HasEntries, IsBad, SameJournal}
-use Rattle.el_journal.specs.Journals.{IsMark, HasEither}
+use Rattle.el_journal.specs.Journals.{HasEither}
 use Rattle.el_journal.specs.within.Body.{body, eight_bytes}
 
 -- ---- sizes and places

@@ -1,5 +1,5 @@
 -- Calls that leave a ledger as it was.
-use Rattle.std.proofs.Common.{◌≡◌, ℕ, Option, refl, ◌∙◌}
+use Rattle.std.proofs.Common.{ℕ, Option, refl, ◌∙◌}
 use Rattle.el_base.specs.declared.hash.Hash32.{Hash32}
 use Rattle.el_outside.specs.Moments.{LeavesOnly}
 use Rattle.el_outside.proofs.Moments.{no_call, no_more_joined, still_only}

@@ -1,5 +1,5 @@
 -- Moves, one after the other, as a server makes them, what is told of each, and what a crash may then leave.
-use Rattle.std.specs.Prelude.{◌≡◌, ◌≢◌, ◌⊎◌, ◌≤◌, ℕ, List, [], ◌∷◌, ◌++◌, take, length, slice_get, Option, None, Some, ⊤}
+use Rattle.std.specs.Prelude.{◌≡◌, ◌≢◌, ◌⊎◌, ◌≤◌, ℕ, List, [], ◌∷◌, ◌++◌, take, length, slice_get, Some, ⊤}
 use Rattle.el_base.specs.declared.hash.Hash32.{Hash32}
 use Rattle.el_chain.specs.declared.moves.Plan.{Plan}
 use Rattle.el_chain.specs.declared.moves.MoveFault.{MoveFault}

@@ -1,7 +1,7 @@
 -- How calls on open files join.
-use Rattle.std.proofs.Common.{◌≡◌, ◌≢◌, inl, inr, ⊎_elim, ℕ, ◌<◌, ◌≤◌, List, refl, ◌∙◌, ap, arith}
-use Rattle.el_outside.specs.Disk.{Image, OnFile, Follows, NothingNew}
-use Rattle.el_outside.specs.Moments.{Elapses, LeftNow, Passes}
+use Rattle.std.proofs.Common.{inl, inr, ⊎_elim, ℕ, ◌<◌, ◌≤◌, List, refl, ◌∙◌, ap, arith}
+use Rattle.el_outside.specs.Disk.{Image, NothingNew}
+use Rattle.el_outside.specs.Moments.{LeftNow, Passes}
 use Rattle.el_open_files.specs.Calls.{Lasts, Idle, Changes, Settles}
 
 module _ {D : Type 0} (seen : D → Image) (moment : D → ℕ) (left_since : D → ℕ → Image → Type 0) (is_named : D → ℕ → Type 0) where

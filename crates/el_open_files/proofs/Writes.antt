@@ -1,5 +1,5 @@
 -- Bytes that are written in parts.
-use Rattle.std.proofs.Common.{◌≡◌, ⊎_elim, inl, inr, ◌∙◌, ◌≤◌, ◌<◌, ◌+◌, ◌-◌, min, max, ℕ, List, [], ◌++◌, length, take, drop, refl, ap, sym, arith, length-append, length-drop, append_assoc, append-nil}
+use Rattle.std.proofs.Common.{◌≡◌, ⊎_elim, inl, inr, ◌∙◌, ◌≤◌, ◌+◌, ◌-◌, ℕ, List, ◌++◌, length, take, drop, ap, sym, arith, length-append, append_assoc, append-nil}
 use Rattle.std.proofs.lemmas.List.{length-take-le, take_all, take_at, drop_at, drop-drop, take-append-drop}
 use Rattle.std.proofs.Math.Seq.{take-add}
 use Rattle.el_outside.specs.Disk.{over, Torn, Cut}

@@ -1,5 +1,5 @@
 -- The coins of a script among the outputs of its entries' transactions.
-use Rattle.std.proofs.Common.{◌≡◌, inl, inr, ℕ, zero, suc, ◌+◌, ◌<◌, ◌≤◌, ◌==◌, ◌&&◌, true, false, List, [], ◌∷◌, ◌++◌, length, map, filter, flat_map, take, drop, min, reverse, get_or, slice_get, Some, refl, ap, ap₂, sym, subst, ◌∙◌, append_assoc, arith, length-append, eqb-true}
+use Rattle.std.proofs.Common.{◌≡◌, inl, inr, ℕ, zero, suc, ◌+◌, ◌<◌, ◌≤◌, ◌==◌, ◌&&◌, true, List, [], ◌∷◌, ◌++◌, length, map, filter, flat_map, take, drop, reverse, get_or, slice_get, refl, ap, ap₂, sym, subst, ◌∙◌, append_assoc, arith, length-append, eqb-true}
 use Rattle.std.proofs.lemmas.Bool.{cases_Bool, cases_lt, and_left}
 use Rattle.std.proofs.lemmas.List.{map-append, get_or_at, length-map, reverse-append, drop_at, take_at}
 use Rattle.std.proofs.Math.Seq.{drop-cons}

@@ -1,28 +1,25 @@
 -- The script of a hash, and what stands where there is none.
-use Rattle.std.proofs.Common.{◌≡◌, inl, inr, ℕ, zero, suc, ◌<◌, ◌==◌, ◌&&◌, Bool, true, false, List, [], ◌∷◌, length, filter, get_or, take, Option, None, Some, option_map, slice_get, refl, ap, sym, subst, ◌∙◌, arith, ne_eqb}
-use Rattle.std.proofs.lemmas.Bool.{cases_lt, or_parts, and_left, lt-ltb, le-ltb}
-use Rattle.std.proofs.lemmas.List.{length-take-le}
+use Rattle.std.proofs.Common.{◌≡◌, ℕ, ◌==◌, ◌&&◌, Bool, true, false, List, [], ◌∷◌, length, filter, Option, None, Some, option_map, refl, ap, sym, subst, ◌∙◌, arith, ne_eqb}
+use Rattle.std.proofs.lemmas.Bool.{or_parts, and_left}
 use Rattle.std.specs.List.{list_any}
 use Rattle.el_base.specs.declared.hash.Hash32.{Hash32}
-use Rattle.el_chain.specs.Chains.{Chain, zero_hash}
+use Rattle.el_chain.specs.Chains.{Chain}
 use Rattle.el_chain.specs.RowCounts.{has_script}
 use Rattle.el_tables.specs.ChainLists.{lists, listed_blocks}
 use Rattle.el_tables.specs.Edits as edit
 use Rattle.el_tables.specs.Fits.{Fits, OutsWithin}
 use Rattle.el_tables.specs.Lists.{ListedOut, Lists, script_number, is_of_script, is_unspent, balance_of}
 use Rattle.el_tables.specs.Tables as typed
-use Rattle.el_tables.specs.Tables.{HeadCounts, format_1, rows_from, script_row, tables_of}
+use Rattle.el_tables.specs.Tables.{HeadCounts, format_1, script_row, tables_of}
 use Rattle.el_tables.proofs.FitLemmas.{new_has_no_entry}
-use Rattle.el_tables.proofs.RowLists.{length_rows, rows_at}
 use Rattle.el_tables.proofs.Scripts.{number_next}
 use Rattle.el_tables.proofs.Tables.{same_tables, tables_stand}
 use Rattle.el_row_formats.specs.Tables as held
 use Rattle.el_row_formats.specs.declared.script_row.ScriptRow.{ScriptRow}
-use Rattle.el_buckets.specs.Buckets.{newest_of, below, bucket_head}
+use Rattle.el_buckets.specs.Buckets.{newest_of, below}
 use Rattle.el_schema.specs.Rows.{Encode, script_fields}
 use Rattle.el_buckets.proofs.Heads.{below_all}
 use Rattle.el_script.proofs.Causes.{newest_none, newest_some}
-use Rattle.el_schema.proofs.Rows.{found_at, found_within}
 use Rattle.el_schema.specs.Standing.{StandFor, HoldChain, heads_in}
 use Rattle.el_script.specs.declared.lookup.FoundScript.{FoundScript}
 use Rattle.el_script.specs.Found.{HasHeads, script_in}

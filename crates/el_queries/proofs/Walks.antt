@@ -1,7 +1,6 @@
 -- Walks over rows: along the last entries, and along numbers; and what single rows tell.
 use Rattle.std.proofs.Common.{◌≡◌, ◌⊎◌, inl, inr, ℕ, zero, suc, ◌+◌, ◌-◌, ◌<◌, ◌≤◌, Bool, true, false, ◌&&◌, ◌||◌, List, [], ◌∷◌, ◌++◌, length, take, get_or, slice_get, map, not, cond, min, is_some, Option, None, Some, option_map, option_and_then, refl, ap, ap₂, sym, subst, ◌∙◌, arith, eq-eqb, ne_eqb, ◌==◌}
 use Rattle.std.proofs.lemmas.Bool.{cases_lt}
-use Rattle.std.proofs.lemmas.List.{length-map}
 use Rattle.std.specs.List.{list_any, AllByRecursion}
 use Rattle.std.specs.Option.{option_map_or, option_or}
 use Rattle.el_base.specs.declared.hash.Hash32.{Hash32}
@@ -13,20 +12,18 @@ use Rattle.el_tables.specs.Disconnecting.{last, is_buried_by}
 use Rattle.el_tables.specs.Lists.{ListedTx, ListedOut, ListedEntry, Lists, State, has_output, output_number}
 use Rattle.el_tables.specs.Lists.State.{Unspent, Spent, Buried}
 use Rattle.el_tables.specs.Queries.{outs_at}
-use Rattle.el_tables.specs.Tables.{HeadCounts, rows_from, script_row, entry_row, tx_row, numbers_from, greatest}
+use Rattle.el_tables.specs.Tables.{rows_from, script_row, entry_row, tx_row, numbers_from, greatest}
 use Rattle.el_tables.proofs.Found.{none_named}
-use Rattle.el_tables.proofs.RowLists.{length_rows}
 use Rattle.el_tables.proofs.TxEdits.{newest_is}
 use Rattle.el_row_formats.specs.Tables as held
 use Rattle.el_row_formats.specs.declared.table.Table.TheVariants as table
-use Rattle.el_row_formats.specs.RowBytes.{entry_row_bytes}
 use Rattle.el_row_formats.specs.declared.block_row.BlockRow.{BlockRow}
 use Rattle.el_row_formats.specs.declared.tx_row.TxRow.{TxRow}
 use Rattle.el_row_formats.specs.declared.script_row.ScriptRow.{ScriptRow}
 use Rattle.el_row_formats.specs.declared.entry_row.EntryRow.{EntryRow}
 use Rattle.el_row_formats.specs.declared.out_row.OutRow.{OutRow}
 use Rattle.el_row_formats.specs.declared.out_row.State.TheVariants as out
-use Rattle.el_schema.specs.Rows.{Hold, block_fields, tx_fields, script_fields, entry_fields, out_fields, state_fields}
+use Rattle.el_schema.specs.Rows.{block_fields, tx_fields, script_fields, entry_fields, out_fields, state_fields}
 use Rattle.el_schema.proofs.Rows.{get_past}
 use Rattle.el_spend.specs.Outputs.{output_at}
 use Rattle.el_spend.specs.declared.lookup.NamedOutput.{NamedOutput}

@@ -7,7 +7,7 @@ use Rattle.el_json.specs.Lines.{line_says}
 use Rattle.el_json.specs.declared.request.Request.{Request}
 use Rattle.el_json.specs.declared.request.Item.{Item}
 use Rattle.el_json.specs.declared.request.Envelope.{Envelope}
-use Rattle.el_json.specs.declared.request.Envelope.TheVariants.{One, Batch}
+use Rattle.el_json.specs.declared.request.Envelope.TheVariants.{Batch}
 use Rattle.el_json.specs.declared.request.LineFault.{LineFault}
 use Rattle.el_json.specs.declared.request.LineFault.TheVariants as fault
 use Rattle.el_calls.specs.declared.refusal.Refusal.{Refusal}

@@ -1,8 +1,8 @@
 -- Keys that follow one another.
-use Rattle.std.proofs.Common.{◌≡◌, ◌≤◌, ◌⊎◌, inl, inr, ◌<◌, ◌+◌, ℕ, zero, suc, List, [], ◌∷◌, Bool, true, false, ◌&&◌, ◌||◌, Some, None, Option, refl, ap, sym, ◌∙◌, arith, subst, ⊎_elim, length, unwrap_or, get_or, take, drop, ◌*◌, ◌-◌}
+use Rattle.std.proofs.Common.{◌≡◌, ◌≤◌, ◌⊎◌, inl, inr, ◌<◌, ◌+◌, ℕ, zero, suc, List, [], ◌∷◌, Bool, true, false, ◌&&◌, ◌||◌, Some, None, Option, refl, ap, sym, ◌∙◌, arith, subst, ⊎_elim, length, unwrap_or, take, drop, ◌*◌, ◌-◌}
 use Rattle.std.specs.Prelude.{is_some, nat_lt, slice_get, option_map, IfSome}
 use Rattle.std.proofs.lemmas.List.{length-map, take_all}
-use Rattle.std.proofs.lemmas.Option.{slice_get_read, slice_get_within}
+use Rattle.std.proofs.lemmas.Option.{slice_get_within}
 use Rattle.std.specs.List.{AllByRecursion}
 use Rattle.std.specs.List.Sorted.{IsStrictlySortedBy}
 use Rattle.std.specs.BTreeMap.{is_at}

@@ -1,7 +1,7 @@
 -- Rows of bytes that are those of tables: reading one, and changing one table.
-use Rattle.std.proofs.Common.{◌≡◌, ◌≢◌, ℕ, zero, suc, ◌+◌, ◌<◌, ◌≤◌, ◌^◌, List, [], ◌∷◌, ◌++◌, set, length, map, take, get_or, slice_get, None, Some, option_map, Result, Ok, Err, OnOk, refl, ap, sym, subst, ◌∙◌, arith}
+use Rattle.std.proofs.Common.{◌≡◌, ◌≢◌, ℕ, zero, suc, ◌<◌, ◌≤◌, List, [], ◌∷◌, set, length, map, get_or, slice_get, None, Some, option_map, Result, Ok, Err, OnOk, refl, ap, sym, subst, ◌∙◌, arith}
 use Rattle.std.specs.List.{AllByRecursion}
-use Rattle.std.proofs.lemmas.List.{map-append, map-set, take-map, length-map}
+use Rattle.std.proofs.lemmas.List.{map-set, length-map}
 use Rattle.el_tables.specs.Lists.{ListedOut, ListedTx}
 use Rattle.el_tables.specs.Tables as typed
 use Rattle.el_rows.specs.Changes.{OnTable}

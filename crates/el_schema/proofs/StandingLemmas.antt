@@ -1,15 +1,14 @@
 -- Which rows stand for a chain.
-use Rattle.std.proofs.Common.{◌≡◌, ◌∙◌, sym, ap, subst}
+use Rattle.std.proofs.Common.{◌∙◌, sym, ap, subst}
 use Rattle.el_chain.specs.Chains.{Chain}
 use Rattle.el_chain.specs.Faults.{IsGood}
-use Rattle.el_tables.specs.ChainLists.{ListedBlock, lists, listed_blocks}
-use Rattle.el_tables.specs.Lists.{Lists}
+use Rattle.el_tables.specs.ChainLists.{lists, listed_blocks}
 use Rattle.el_tables.specs.Tables as typed
-use Rattle.el_tables.specs.Tables.{HeadCounts, Stands, format_1, tables_of}
+use Rattle.el_tables.specs.Tables.{format_1, tables_of}
 use Rattle.el_tables.proofs.Tables.{same_tables, tables_stand}
 use Rattle.el_row_formats.specs.Tables as held
 use Rattle.el_rows.specs.Reads.{Same}
-use Rattle.el_schema.specs.Rows.{Encode, Hold, bytes_of}
+use Rattle.el_schema.specs.Rows.{Encode, bytes_of}
 use Rattle.el_schema.specs.Standing.{StandFor, HoldChain, heads_in}
 
 pub holds : (rows : held.Tables) (chain : Chain) → StandFor rows chain → IsGood chain × HoldChain rows chain

@@ -1,5 +1,4 @@
 -- Rows of bytes that stand for a chain.
-use Rattle.std.specs.Prelude.{◌≡◌}
 use Rattle.el_chain.specs.Chains.{Chain}
 use Rattle.el_tables.specs.ChainLists.{lists, listed_blocks}
 use Rattle.el_tables.specs.Tables as typed

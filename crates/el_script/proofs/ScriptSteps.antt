@@ -1,5 +1,5 @@
 -- Rows of bytes under one entry more or less, and under one script more or less.
-use Rattle.std.proofs.Common.{◌≡◌, inl, inr, ℕ, zero, suc, ◌+◌, ◌-◌, ◌<◌, ◌≤◌, ◌^◌, ◌==◌, Bool, true, false, List, [], ◌∷◌, ◌++◌, length, map, set, take, get_or, min, filter, Option, None, Some, option_map, is_none, refl, ap, ap₂, sym, subst, ◌∙◌, arith}
+use Rattle.std.proofs.Common.{◌≡◌, inl, inr, ℕ, zero, suc, ◌+◌, ◌-◌, ◌<◌, ◌≤◌, ◌^◌, ◌==◌, Bool, true, false, List, [], ◌∷◌, ◌++◌, length, map, set, take, get_or, min, filter, Option, None, Some, refl, ap, ap₂, sym, subst, ◌∙◌, arith}
 use Rattle.std.specs.List.{AllByRecursion}
 use Rattle.std.proofs.lemmas.Bool.{cases_lt, cases_eq}
 use Rattle.std.proofs.lemmas.List.{length-map, map-append, map-set, take-map, get_or-map, length-take-le}
@@ -11,7 +11,7 @@ use Rattle.el_tables.specs.Disconnecting.{but_last, last, take_back_entry, witho
 use Rattle.el_tables.specs.Fits.{Fits, IsNumbered}
 use Rattle.el_tables.specs.Lists.{ListedEntry, Lists, add_entry, script_number, is_of_script, is_tx, last_tx_of}
 use Rattle.el_tables.specs.Tables as typed
-use Rattle.el_tables.specs.Tables.{HeadCounts, tables_of, bucket_in, greatest, heads, rows_from, script_row, entry_row}
+use Rattle.el_tables.specs.Tables.{HeadCounts, tables_of, bucket_in, greatest, heads, script_row, entry_row}
 use Rattle.el_tables.specs.Edits as edit
 use Rattle.el_tables.proofs.FitLemmas.{touch_new_fits, take_back_entry_fits}
 use Rattle.el_tables.proofs.RowLists.{head_is, length_rows, rows_at}

@@ -13,16 +13,15 @@ use Rattle.el_tables.specs.Tables.{greatest, rows_from, tx_row}
 use Rattle.el_tables.proofs.Names.{named_more}
 use Rattle.el_tables.proofs.OlderWalks.{greatest_more, has_txid}
 use Rattle.el_tables.proofs.Outputs.{from_front}
-use Rattle.el_tables.proofs.RowLists.{length_rows, rows_at}
 use Rattle.el_tables.proofs.Scripts.{hash_gives}
 use Rattle.el_tables.proofs.TxEdits.{newest_is}
 use Rattle.el_row_formats.specs.declared.tx_row.TxRow.{TxRow}
 use Rattle.el_schema.specs.Rows.{tx_fields}
 use Rattle.el_buckets.specs.Buckets.{below as if_less}
-use Rattle.el_schema.proofs.Held.{no_tx, no_tx_row}
+use Rattle.el_schema.proofs.Held.{no_tx}
 use Rattle.el_buckets.proofs.Heads.{below_all}
 use Rattle.el_buckets.proofs.Walks.{Passes, end_of, end_within, greatest_passes, greatest_at, up_to, fewer_rows, rows_within}
-use Rattle.el_schema.proofs.Rows.{found_at, found_within, listed_row, row_within}
+use Rattle.el_schema.proofs.Rows.{listed_row, row_within}
 
 -- 1. The output's number, by the greatest transaction that has it
 

@@ -1,5 +1,5 @@
 -- What a step does to the sums: what the crate of outputs needs for running balances, and `connect` for the sum of all coins.
-use Rattle.std.proofs.Common.{◌≡◌, inl, inr, ◌≤◌, ◌==◌, Bool, if◌then◌else◌, ◌&&◌, ℕ, zero, suc, ◌+◌, true, false, List, [], ◌∷◌, ◌++◌, refl, arith, eq-eqb, ne_eqb, ◌<◌, ◌^◌}
+use Rattle.std.proofs.Common.{◌≡◌, ◌≤◌, ◌==◌, Bool, if◌then◌else◌, ◌&&◌, ℕ, zero, suc, ◌+◌, true, false, List, [], ◌∷◌, ◌++◌, refl, arith, eq-eqb, ne_eqb, ◌<◌, ◌^◌}
 use Rattle.el_tables.specs.Lists.{ListedOut, State, is_unspent, unspent_at, with_state, script_at, held, balance_of, unspent_sum}
 
 -- the value of the output of that number

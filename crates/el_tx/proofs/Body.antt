@@ -14,7 +14,7 @@ use Rattle.el_tx.specs.declared.types.TxIn.{TxIn}
 use Rattle.el_tx.specs.declared.types.TxOut.{TxOut}
 use Rattle.el_tx.specs.declared.types.Tx.{Tx}
 use Rattle.el_tx.specs.Encoding.{some_witness, sized, counted, input_encoding, output_encoding, stack_encoding, body_encoding, Countable, IsItem, IsInput, IsLawful}
-use Rattle.el_tx.specs.FirstFault.{After, FaultInField, FaultHere, FaultInNumber, FaultInCounted, in_number, after_number, FaultInSized, FaultAmong, FaultInInput, FaultInOutput, FaultInInputs, FaultInOutputs, FaultInBody, in_inputs, in_outputs, FaultInStack, FaultInStacks, IsStack, AreOutputs}
+use Rattle.el_tx.specs.FirstFault.{After, FaultHere, FaultInCounted, in_number, after_number, FaultInSized, FaultAmong, FaultInInputs, FaultInOutputs, FaultInBody, in_inputs, in_outputs, FaultInStack, FaultInStacks, IsStack, AreOutputs}
 use Rattle.el_tx.specs.FirstFault as first_fault
 use Rattle.el_tx.specs.within.Reading.{count_at, inputs_at, outputs_at, items_at, stack_at, stacks_at, witnesses_at, some_inputs_at, some_outputs_at, body_at}
 use Rattle.el_tx.proofs.Passed.{Passed, Took, Took-then, middle, Passed-front, Passed-back, none_passed, after, stand, stand_passed, Sound, err, done, step, weaker, guarded, either}

@@ -13,7 +13,7 @@ use Rattle.el_tx.specs.declared.fault.TxFault.TheVariants as fault
 use Rattle.el_tx.specs.declared.types.Tx.{Tx}
 use Rattle.el_tx.specs.Encoding.{counted, input_encoding, output_encoding, stripped_encoding, witness_encoding, IsLawful, Encodes, stripped, with_witness, HasEncoding}
 use Rattle.el_tx.specs.Hashing.{full_encoding}
-use Rattle.el_tx.specs.FirstFault.{FaultInStrippedForm, FaultInWitnessForm, FaultAfterVersion, HasNoMarker, FirstFault}
+use Rattle.el_tx.specs.FirstFault.{FaultInWitnessForm, FaultAfterVersion, HasNoMarker, FirstFault}
 use Rattle.el_tx.specs.FirstFault as first_fault
 use Rattle.el_tx.specs.within.Reading.{Answers, form_at, stripped_at, witnessed_at, version_at, tx_at}
 use Rattle.el_tx.proofs.Passed.{Passed, Took, Took-then, middle, Passed-then, Passed-front, Passed-back, after, stand, stand_passed, Sound, ok, err, step, weaker}

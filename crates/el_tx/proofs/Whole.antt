@@ -17,7 +17,7 @@ use Rattle.el_tx.specs.declared.types.TxIn.{TxIn}
 use Rattle.el_tx.specs.declared.types.TxOut.{TxOut}
 use Rattle.el_tx.specs.declared.types.Tx.{Tx}
 use Rattle.el_tx.specs.Encoding.{some_witness, stack_encoding, body_encoding, has_witness, IsInput, IsLawful}
-use Rattle.el_tx.specs.FirstFault.{After, FaultInField, FaultHere, FaultInBody, FaultInStacks, FaultInStrippedForm, FaultInWitnessForm, FaultAfterVersion, FaultInFlag, HasNoMarker, FirstFault}
+use Rattle.el_tx.specs.FirstFault.{After, FaultInField, FaultHere, FaultInStacks, FaultInStrippedForm, FaultInWitnessForm, FaultAfterVersion, FaultInFlag, HasNoMarker, FirstFault}
 use Rattle.el_tx.specs.FirstFault as first_fault
 use Rattle.el_tx.specs.within.Reading.{bytes_at, number_at, witnesses_at, body_at, version_at, flag_at, is_marked, form_at, stripped_at, witnessed_at}
 use Rattle.el_tx.proofs.Passed.{Passed, Took, Took-then, middle, Passed-then, Passed-front, Passed-back, after, stand, stand_passed, Sound, ok, err, done, step, weaker, either}

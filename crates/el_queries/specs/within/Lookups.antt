@@ -1,5 +1,5 @@
 -- What rows tell that were found.
-use Rattle.std.specs.Prelude.{ℕ, ◌-◌, Option, option_and_then, get_or}
+use Rattle.std.specs.Prelude.{◌-◌, Option, option_and_then, get_or}
 use Rattle.el_chain.specs.Chains.{zero_hash}
 use Rattle.el_chain.specs.declared.coin.Coin.{Coin}
 use Rattle.el_chain.specs.declared.node.Spot.{Spot}

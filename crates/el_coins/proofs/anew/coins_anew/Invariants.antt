@@ -1,4 +1,3 @@
-use Rattle.std.proofs.Common.{◌≡◌, []}
 use Rattle.el_coins.proofs.CoinsAgain.{GoesAnew}
 use Rattle.el_coins.proofs.anew.coins_anew.Given as goal
 

@@ -1,4 +1,4 @@
-use Rattle.std.proofs.Common.{rules, ◌≡◌, ℕ, ◌+◌, ◌∙◌, ap, arith, []}
+use Rattle.std.proofs.Common.{rules, ◌≡◌, ◌∙◌, ap, arith, []}
 use Rattle.indexmap.specs.IndexMap.{values}
 use Rattle.el_coins.specs.within.Balances.{own_values}
 use Rattle.el_coins.proofs.BalanceLemmas.{held, within}

@@ -1,4 +1,4 @@
-use Rattle.std.proofs.Common.{rules, ap, ◌∙◌, ◌||◌, Bool, List, ℕ}
+use Rattle.std.proofs.Common.{rules, ap, ◌∙◌, ◌||◌, Bool}
 use Rattle.std.specs.Str.{bytes_eq}
 use Rattle.el_tx.specs.declared.types.TxOut.{TxOut}
 use Rattle.el_chain.specs.Coins.{script_hash_of}

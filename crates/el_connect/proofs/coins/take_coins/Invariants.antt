@@ -1,4 +1,4 @@
-use Rattle.std.proofs.Common.{◌≡◌, ◌≤◌, ◌<◌, List, drop}
+use Rattle.std.proofs.Common.{◌≡◌, ◌<◌, List, drop}
 use Rattle.el_rows.specs.Transaction.{tables_in}
 use Rattle.el_rows.proofs.TransactionLemmas.{EditedSoFar}
 use Rattle.el_row_formats.specs.declared.table.Table.TheVariants as table

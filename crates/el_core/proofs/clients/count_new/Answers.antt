@@ -1,4 +1,4 @@
-use Rattle.std.proofs.Common.{length, refl, subst, List, ap, ◌<◌, ◌≡◌, ◌∙◌}
+use Rattle.std.proofs.Common.{length, refl, subst, List, ap, ◌<◌, ◌∙◌}
 use Rattle.std.proofs.lemmas.Option.{slice_get_read}
 use Rattle.el_sessions.specs.Sessions.{Subscription}
 use Rattle.el_core.specs.State.{ClientState}

@@ -1,4 +1,4 @@
-use Rattle.std.proofs.Common.{◌≡◌, ◌≤◌, ℕ, List, ◌+◌, length, arith, refl, sym, ap, ◌∙◌, Err}
+use Rattle.std.proofs.Common.{◌≡◌, ℕ, List, ◌+◌, length, arith, refl, sym, ap, ◌∙◌, Err}
 use Rattle.std.proofs.lemmas.Result.{err_from_is_err_and}
 use Rattle.el_outside.proofs.Traces.{grows_none, grows_more}
 use Rattle.el_outside.proofs.Calls.{has_more, has_then, reads_failed, reads_ok}

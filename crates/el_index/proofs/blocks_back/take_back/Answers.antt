@@ -1,4 +1,4 @@
-use Rattle.std.proofs.Common.{◌+◌, ◌-◌, length, drop, ◌∙◌, refl, arith}
+use Rattle.std.proofs.Common.{◌+◌, ◌-◌, length, drop, arith}
 use Rattle.el_rows.proofs.TransactionLemmas.{as_edited, more_edits, nothing}
 use Rattle.el_chain.specs.Moves.{shorter}
 use Rattle.el_index.proofs.Touchings.{added_none, added_before, last_is, none_taken, none_gone}

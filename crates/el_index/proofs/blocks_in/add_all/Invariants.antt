@@ -1,4 +1,4 @@
-use Rattle.std.proofs.Common.{◌≡◌, ◌≤◌, ◌+◌, length}
+use Rattle.std.proofs.Common.{◌≡◌, ◌+◌, length}
 use Rattle.el_chain.specs.Chains.{Chain, tip}
 use Rattle.el_chain.specs.Headers.{AreLinked}
 use Rattle.el_row_formats.specs.declared.table.Table.TheVariants as table

@@ -1,4 +1,4 @@
-use Rattle.std.proofs.Common.{◌+◌, ◌≤◌, ℕ, List, length, arith}
+use Rattle.std.proofs.Common.{◌+◌, ◌≤◌, length, arith}
 use Rattle.el_journal.specs.declared.mark.TheConstants.{JOURNAL}
 use Rattle.el_journal.specs.within.Body.{body}
 use Rattle.el_journal.proofs.Appends.{end_inside, stage_leaves, gate_leaves, ready_after}

@@ -1,4 +1,4 @@
-use Rattle.std.proofs.Common.{◌≡◌, ◌⊎◌, inl, inr, ℕ, List, subst, refl, ap, sym, ◌∙◌, arith, ◌^◌, ◌<◌, length}
+use Rattle.std.proofs.Common.{◌≡◌, ◌⊎◌, inl, inr, ℕ, List, subst, refl, ap, arith, ◌^◌, ◌<◌, length}
 use Rattle.el_journal.specs.declared.fault.JournalFault.{JournalFault}
 use Rattle.el_journal.specs.declared.fault.JournalFault.TheVariants as fault
 use Rattle.el_journal.specs.declared.mark.TheConstants.{JOURNAL}

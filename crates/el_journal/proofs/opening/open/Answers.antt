@@ -1,7 +1,6 @@
-use Rattle.std.proofs.Common.{◌≡◌, ◌<◌, ◌≤◌, inr, inl, ℕ, List, [], length, ap, sym, ◌∙◌, subst, refl, arith}
+use Rattle.std.proofs.Common.{◌≡◌, ◌<◌, inr, inl, ℕ, List, [], length, ap, sym, ◌∙◌, subst, refl, arith}
 use Rattle.std.proofs.lemmas.Result.{IfOk-weaker}
 use Rattle.el_outside.specs.Disk.{Image}
-use Rattle.el_journal.specs.declared.mark.Mark.{Mark}
 use Rattle.el_journal.specs.declared.mark.TheConstants.{JOURNAL}
 use Rattle.el_journal.specs.Entries.{EndsAfter, HasEntries}
 use Rattle.el_journal.specs.within.Gates.{IsAfter}

@@ -1,4 +1,4 @@
-use Rattle.std.proofs.Common.{◌≡◌, ◌+◌, ◌-◌, ◌<◌, ◌≤◌, ℕ, List, length, drop, ap, sym, ◌∙◌, subst, refl, arith}
+use Rattle.std.proofs.Common.{◌≡◌, ◌+◌, ◌-◌, ◌<◌, ℕ, List, length, drop, ap, sym, ◌∙◌, subst, refl, arith}
 use Rattle.el_outside.specs.Disk.{Image}
 use Rattle.el_journal.specs.declared.gate.Gate.{Gate}
 use Rattle.el_journal.specs.declared.gate.Gate.TheVariants as gate

@@ -1,4 +1,4 @@
-use Rattle.std.proofs.Common.{◌≡◌, ◌<◌, ℕ, List, length, ap, sym, ◌∙◌, subst, arith, refl}
+use Rattle.std.proofs.Common.{◌<◌, ℕ, List, length, ap, sym, ◌∙◌, subst, arith, refl}
 use Rattle.el_outside.specs.Disk.{Image}
 use Rattle.el_journal.specs.declared.mark.TheConstants.{JOURNAL}
 use Rattle.el_journal.specs.Entries.{EndsAfter}

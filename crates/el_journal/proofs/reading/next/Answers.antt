@@ -1,4 +1,4 @@
-use Rattle.std.proofs.Common.{◌≡◌, ◌++◌, ◌∷◌, ◌+◌, ℕ, suc, List, [], length, get_or, drop, sym, ◌∙◌}
+use Rattle.std.proofs.Common.{◌++◌, ◌∷◌, ◌+◌, ℕ, suc, List, [], length, get_or, drop, sym, ◌∙◌}
 use Rattle.std.proofs.lemmas.Result.{err_from_is_err_and}
 use Rattle.el_journal.specs.declared.mark.TheConstants.{JOURNAL}
 use Rattle.el_journal.specs.Entries.{journal_bytes}

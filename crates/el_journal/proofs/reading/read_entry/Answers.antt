@@ -1,8 +1,8 @@
-use Rattle.std.proofs.Common.{◌≡◌, ◌<◌, ◌≤◌, ◌+◌, ◌-◌, ◌++◌, ◌∷◌, ℕ, suc, List, [], length, min, take, drop, get_or, ap, sym, ◌∙◌, subst, refl, arith}
+use Rattle.std.proofs.Common.{◌≡◌, ◌+◌, ◌-◌, ◌++◌, ◌∷◌, ℕ, suc, List, [], length, min, take, drop, get_or, ap, sym, ◌∙◌, arith}
 use Rattle.std.proofs.lemmas.Result.{err_from_is_err_and}
 use Rattle.el_outside.specs.Disk.{Image}
 use Rattle.el_journal.specs.declared.mark.TheConstants.{JOURNAL}
-use Rattle.el_journal.specs.Entries.{journal_bytes, EndsAfter}
+use Rattle.el_journal.specs.Entries.{journal_bytes}
 use Rattle.el_journal.proofs.Readings.{entry_at, entry_read, items_read}
 use Rattle.el_journal.proofs.Steps.{one_read, read_more}
 use Rattle.el_journal.proofs.reading.read_entry.Goals as goal

@@ -1,5 +1,5 @@
 use Rattle.std.proofs.Common.{◌≤◌, length, subst, sym}
-use Rattle.el_outside.specs.Disk.{Image, Torn, Cut}
+use Rattle.el_outside.specs.Disk.{Image, Torn}
 use Rattle.el_open_files.proofs.Held.{open_at}
 use Rattle.el_open_files.proofs.Runs.{changes_after}
 use Rattle.el_open_files.proofs.calls.write_to.Goals as goal

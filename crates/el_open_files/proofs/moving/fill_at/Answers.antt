@@ -1,4 +1,4 @@
-use Rattle.std.proofs.Common.{◌≡◌, length, arith, ◌∙◌, ◌-◌, ap}
+use Rattle.std.proofs.Common.{length, arith, ◌∙◌, ◌-◌, ap}
 use Rattle.el_outside.specs.Disk.{Image}
 use borrow.Rule.Slice.PartMut.{same_len_mid}
 use Rattle.el_open_files.proofs.Fronts.{front_kept, front_more, length_rest, same_grows}

@@ -1,4 +1,4 @@
-use Rattle.std.proofs.Common.{◌≡◌, length, arith, ◌∙◌, ◌-◌, ◌+◌, ap, sym, take, drop, length-drop, rules}
+use Rattle.std.proofs.Common.{◌≡◌, length, arith, ◌∙◌, ◌-◌, ap, take, drop, length-drop, rules}
 use Rattle.el_outside.specs.Disk.{Image, Torn}
 use Rattle.el_open_files.proofs.Fronts.{length_rest}
 use Rattle.el_open_files.proofs.Runs.{changes_more}

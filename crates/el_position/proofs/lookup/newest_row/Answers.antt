@@ -1,10 +1,9 @@
-use Rattle.std.proofs.Common.{◌≡◌, ◌<◌, ◌^◌, ℕ, Option, Some, option_map, slice_get, ap, sym, subst, ◌∙◌, arith}
+use Rattle.std.proofs.Common.{◌≡◌, ◌<◌, ◌^◌, ℕ, Option, Some, option_map, slice_get, sym, subst, ◌∙◌, arith}
 use Rattle.el_row_formats.specs.RowBytes.{tx_row_bytes, FitsTxRow, link_number}
 use Rattle.el_row_formats.specs.declared.table.Table.TheVariants as table
 use Rattle.el_rows.specs.Transaction.{tables_in}
 use Rattle.el_schema.specs.Rows.{tx_fields}
 use Rattle.el_schema.proofs.Rows.{read_at}
-use Rattle.el_position.specs.Numbered.{number_of}
 use Rattle.el_position.specs.declared.lookup.NumberedTx.{NumberedTx}
 use Rattle.el_position.proofs.TxSteps.{newest_listed}
 use Rattle.el_position.proofs.lookup.newest_row.Goals as goal

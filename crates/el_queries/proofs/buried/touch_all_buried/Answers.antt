@@ -1,4 +1,4 @@
-use Rattle.std.proofs.Common.{◌<◌, ◌≤◌, length, sym, subst, ◌∙◌, arith}
+use Rattle.std.proofs.Common.{◌<◌, ◌≤◌, length, sym, subst, arith}
 use Rattle.el_rows.specs.Transaction.{tables_in}
 use Rattle.el_rows.proofs.TransactionLemmas.{more}
 use Rattle.el_schema.specs.Rows.{Hold}

@@ -1,4 +1,4 @@
-use Rattle.std.proofs.Common.{◌≡◌, ◌<◌, ◌+◌, ◌||◌, ◌++◌, ◌∷◌, [], Bool, Some, length, ap, sym, subst, ◌∙◌, arith, length-append}
+use Rattle.std.proofs.Common.{◌≡◌, ◌+◌, ◌||◌, ◌++◌, ◌∷◌, [], Bool, Some, length, ap, sym, subst, ◌∙◌, arith, length-append}
 use Rattle.std.specs.List.{list_any}
 use Rattle.el_chain.specs.Headers.{same_hash}
 use Rattle.el_chain.specs.History.{positions}
@@ -9,7 +9,6 @@ use Rattle.el_schema.specs.Standing.{heads_in}
 use Rattle.el_schema.proofs.Held.{count_entries}
 use Rattle.el_schema.proofs.StandingLemmas.{holds}
 use Rattle.el_schema.proofs.Rows.{on_success}
-use Rattle.el_queries.specs.TouchedBy.{touched_in}
 use Rattle.el_queries.proofs.BlockTouches.{last_told, last_first, some_heads, TellsLast, none_first, all_told}
 use Rattle.el_queries.proofs.touching.touch_last.Goals as goal
 

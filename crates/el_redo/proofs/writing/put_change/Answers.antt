@@ -1,6 +1,6 @@
-use Rattle.std.proofs.Common.{◌≡◌, ◌∷◌, [], ◌++◌, ℕ, List, get_or, length, ap, ◌∙◌, rules}
-use Rattle.std.specs.Int.{w64, to_le_bytes}
-use Rattle.el_row_formats.specs.Tables.{key, number_of}
+use Rattle.std.proofs.Common.{◌≡◌, ◌∷◌, ◌++◌, ℕ, List, length, ap, ◌∙◌, rules}
+use Rattle.std.specs.Int.{to_le_bytes}
+use Rattle.el_row_formats.specs.Tables.{key}
 use Rattle.el_redo.proofs.BodyLemmas.{change_put, eight_are}
 use Rattle.el_redo.proofs.writing.put_change.Goals as goal
 

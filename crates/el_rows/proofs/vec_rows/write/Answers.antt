@@ -1,4 +1,4 @@
-use Rattle.std.proofs.Common.{arith, ◌∙◌}
+use Rattle.std.proofs.Common.{◌∙◌}
 use Rattle.el_rows.proofs.InMemoryLemmas.{run_in}
 use Rattle.el_rows.proofs.vec_rows.write.Goals as goal
 

@@ -1,9 +1,8 @@
-use Rattle.std.proofs.Common.{◌≡◌, ◌<◌, ◌+◌, ℕ, List, length, refl, ap, sym, subst, ◌∙◌, arith}
+use Rattle.std.proofs.Common.{◌≡◌, ◌<◌, ◌+◌, ℕ, length, refl, ap, subst, ◌∙◌, arith}
 use Rattle.std.proofs.Math.ListN.{set, length-set}
 use Rattle.el_row_formats.proofs.Keys.{index_within}
 use Rattle.el_row_formats.specs.Tables.{index_of, size_of, row_at}
 use Rattle.el_rows.specs.within.InMemory.{AreWriting}
-use Rattle.el_rows.specs.within.SizedRows.{SizedRows}
 use Rattle.el_rows.proofs.InMemoryLemmas.{set_row, set_long, write_more}
 use Rattle.el_rows.proofs.vec_rows.write_rows.Goals as goal
 

@@ -1,9 +1,9 @@
-use Rattle.std.proofs.Common.{◌≡◌, ◌<◌, ◌≤◌, ◌+◌, Some, None, ap, sym, ◌∙◌, arith, inl, inr, length}
+use Rattle.std.proofs.Common.{◌≡◌, Some, None, sym, ◌∙◌, arith, inl, inr, length}
 use Rattle.el_row_formats.specs.RowBytes.{script_row_bytes, FitsScriptRow}
 use Rattle.el_row_formats.specs.declared.table.Table.TheVariants as table
-use Rattle.el_rows.specs.Transaction.{tables_in, reads_in}
+use Rattle.el_rows.specs.Transaction.{tables_in}
 use Rattle.el_tables.specs.Tables.{tables_of}
-use Rattle.el_buckets.specs.Buckets.{newest_of, bucket_size}
+use Rattle.el_buckets.specs.Buckets.{newest_of}
 use Rattle.el_schema.specs.Rows.{script_fields}
 use Rattle.el_schema.proofs.Held.{count_script_heads}
 use Rattle.el_schema.proofs.Rows.{read_at}

@@ -1,10 +1,10 @@
-use Rattle.std.proofs.Common.{Err, false, drop, refl, sym, ap, ◌∙◌, arith}
+use Rattle.std.proofs.Common.{Err, false, drop, refl, sym, ap, ◌∙◌}
 use Rattle.std.proofs.lemmas.Result.{err_from_is_err_and, IfOk-weaker}
 use Rattle.el_lines.specs.NodeAnswers.{deep_refused}
 use Rattle.el_world.specs.Plans.{plan_of}
 use Rattle.el_world.specs.Side.{deep, there}
 use Rattle.el_sync.proofs.Led.{along_moves, answered, asked_stops, if_err_map, leads_as, leads_on, memory_of, path_move, starved_still, step_asked, stops_as, stops_on}
-use Rattle.el_model.proofs.LedgerMoves.{asked_moved, asked_none}
+use Rattle.el_model.proofs.LedgerMoves.{asked_moved}
 use Rattle.el_sync.proofs.Compared.{drop_linked, path_linked, rest_fits, at_is}
 use Rattle.el_outside.proofs.Traces.{all_grow_none}
 use Rattle.el_sync.proofs.orders.move_along.Goals as goal

@@ -1,9 +1,9 @@
 use Rattle.std.proofs.Common.{Err, false, refl, ◌∙◌}
-use Rattle.std.proofs.lemmas.Result.{err_from_is_err_and, IfOk-weaker}
+use Rattle.std.proofs.lemmas.Result.{IfOk-weaker}
 use Rattle.el_world.specs.Side.{Tips, along, unconnected, unknown}
 use Rattle.el_sync.proofs.RowsRead.{unread_tip}
 use Rattle.el_model.proofs.LedgerMoves.{asked_moved, asked_none}
-use Rattle.el_sync.proofs.Led.{answered, if_err_map, leads_as, memory_of, starved_still, step_asked, stops_as}
+use Rattle.el_sync.proofs.Led.{answered, if_err_map, leads_as, starved_still, step_asked, stops_as}
 use Rattle.el_sync.specs.declared.fault.StepFault.TheVariants as fault
 use Rattle.el_sync.specs.declared.moving.Step.{Step}
 use Rattle.el_outside.proofs.Traces.{all_grow_none}

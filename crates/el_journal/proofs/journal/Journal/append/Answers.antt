@@ -1,4 +1,4 @@
-use Rattle.std.proofs.Common.{◌≡◌, ℕ, List, sym, subst, refl}
+use Rattle.std.proofs.Common.{sym, subst, refl}
 use Rattle.el_journal.specs.Journals.{JournalState, Holds, OnlyJournal, HasEither}
 use Rattle.el_journal.proofs.Holding.{ready_of, held_more}
 use Rattle.el_journal.proofs.journal.Journal.append.Goals as goal

@@ -1,4 +1,4 @@
-use Rattle.std.proofs.Common.{List, length, drop, ◌++◌, ◌-◌, ap, ◌∙◌}
+use Rattle.std.proofs.Common.{length, drop, ◌++◌, ◌-◌, ap, ◌∙◌}
 use Rattle.el_chain.specs.Chains.{Chain}
 use Rattle.el_chain.specs.Coins.{coins}
 use Rattle.el_chain.specs.Moves.{shorter}

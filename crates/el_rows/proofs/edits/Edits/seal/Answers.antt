@@ -3,7 +3,7 @@ use Rattle.std.specs.Prelude.{is_some, nat_lt}
 use Rattle.std.proofs.lemmas.Result.{IfOk-weaker}
 use Rattle.el_row_formats.specs.declared.table.Table.{Table}
 use Rattle.el_rows.specs.Changes.{Edited, Update, IsMadeFrom, changed_at, count_at}
-use Rattle.el_rows.specs.within.EditedTables.{all_changes, all_tables, keys_over, listed_changes, AreShown}
+use Rattle.el_rows.specs.within.EditedTables.{all_tables, keys_over, listed_changes}
 use Rattle.el_rows.proofs.SealedLemmas.{has_key, made, listed_shown, are_shown}
 use Rattle.el_rows.proofs.edits.Edits.seal.Goals as goal
 

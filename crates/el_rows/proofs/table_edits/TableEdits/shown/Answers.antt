@@ -1,6 +1,5 @@
 use Rattle.std.proofs.Common.{◌≡◌, ◌+◌, ◌++◌, ◌-◌, ℕ, List, arith, subst, sym}
 use Rattle.std.specs.List.{range_with_len}
-use Rattle.std.specs.List.Sorted.{IsStrictlyIncreasing}
 use Rattle.std.proofs.lemmas.Result.{IfOk-weaker}
 use Rattle.el_rows.proofs.ShownLemmas.{AreShownTo, changed_to, range_to, shown_all}
 use Rattle.el_rows.proofs.table_edits.TableEdits.shown.Goals as goal

@@ -1,6 +1,5 @@
 use Rattle.std.proofs.Common.{ℕ, length, ap, refl, ◌∙◌}
 use Rattle.el_row_formats.specs.declared.table.Table.{Table}
-use Rattle.el_rows.specs.Reads.{OnlyRead}
 use Rattle.el_row_formats.specs.Tables.{tables_of}
 use Rattle.el_server_tests.specs.declared.failing_rows.FailingRows.{FailingRows}
 use Rattle.el_server_tests.proofs.failing_rows.FailingRowsRows.commit.Goals as goal
