@@ -34,12 +34,12 @@ fn three(alloc: Global) -> Subs {
     subs
 }
 
-// A client's subscriptions over a ledger and a set.
+// A client over a ledger and a set.
 #[derive(Drop)]
 struct World {
     ledger: PlainLedger,
     pool: Pool,
-    subs: Subs,
+    session: Session,
 }
 
 fn begun(alloc: Global) -> World {
@@ -47,7 +47,11 @@ fn begun(alloc: Global) -> World {
     World {
         ledger: over.ledger,
         pool: over.pool,
-        subs: three(alloc),
+        session: Session {
+            version: None,
+            headers: false,
+            subs: three(alloc),
+        },
     }
 }
 
@@ -66,7 +70,7 @@ fn tells(
 ) -> bool {
     match tell(
         alloc,
-        &mut world.subs,
+        &mut world.session.subs,
         &mut world.ledger,
         &world.pool,
         touched,
@@ -81,12 +85,16 @@ fn tells_part(alloc: Global, world: &mut World, touched: &Touched) -> bool {
     tells(alloc, world, touched, rows.as_slice()) && tells(alloc, world, touched, &[])
 }
 
-fn tells_once(alloc: Global) -> bool {
-    let mut world = begun(alloc);
-    match touched_by(&mut world, part(alloc).as_slice()) {
-        Some(touched) => tells_part(alloc, &mut world, &touched),
+fn tells_first(alloc: Global, world: &mut World) -> bool {
+    match touched_by(world, part(alloc).as_slice()) {
+        Some(touched) => tells_part(alloc, world, &touched),
         None => false,
     }
+}
+
+fn tells_once(alloc: Global) -> bool {
+    let mut world = begun(alloc);
+    tells_first(alloc, &mut world)
 }
 
 // One status changes, and is told once.
@@ -110,12 +118,16 @@ fn touched_by_both(alloc: Global, world: &mut World) -> Option<Touched> {
     touched_by(world, again(alloc).as_slice())
 }
 
-fn tells_in_order(alloc: Global) -> bool {
-    let mut world = begun(alloc);
-    match touched_by_both(alloc, &mut world) {
-        Some(touched) => tells_two(alloc, &mut world, &touched),
+fn tells_second(alloc: Global, world: &mut World) -> bool {
+    match touched_by_both(alloc, world) {
+        Some(touched) => tells_two(alloc, world, &touched),
         None => false,
     }
+}
+
+fn tells_in_order(alloc: Global) -> bool {
+    let mut world = begun(alloc);
+    tells_second(alloc, &mut world)
 }
 
 // Two change, and are told in order of subscription.
@@ -170,35 +182,34 @@ fn notifies(
     }
 }
 
-// Whether a client with the world's subscriptions alone is told these lines.
-fn notifies_subscribed(alloc: Global, world: World, touched: &Touched, wanted: &[&[u8]]) -> bool {
-    let World {
-        mut ledger,
-        pool,
-        subs,
-    } = world;
-    let mut session = Session {
-        version: None,
-        headers: false,
-        subs,
-    };
+// Whether the client is told these lines.
+fn notifies_subscribed(
+    alloc: Global,
+    world: &mut World,
+    touched: &Touched,
+    wanted: &[&[u8]],
+) -> bool {
     notifies(
         alloc,
-        &mut session,
-        &mut ledger,
-        &pool,
+        &mut world.session,
+        &mut world.ledger,
+        &world.pool,
         touched,
         &None,
         wanted,
     )
 }
 
-fn notifies_of_scripts(alloc: Global) -> bool {
-    let mut world = begun(alloc);
-    match touched_by_both(alloc, &mut world) {
+fn notifies_second(alloc: Global, world: &mut World) -> bool {
+    match touched_by_both(alloc, world) {
         Some(touched) => notifies_subscribed(alloc, world, &touched, SCRIPT_LINES),
         None => false,
     }
+}
+
+fn notifies_of_scripts(alloc: Global) -> bool {
+    let mut world = begun(alloc);
+    notifies_second(alloc, &mut world)
 }
 
 // A client that doesn't subscribe to headers is told of its script hashes alone, in whole lines.

@@ -29,7 +29,9 @@ pub fn append_three<R: Rows>(txn: &mut Txn<'_, R>) -> Result<(), Fail>
 }
 
 // The edits that BODY spells.
-fn sealed(alloc: Global, rows: &mut VecRows) -> Result<Sealed, Fail> {
+fn sealed<R: Rows>(alloc: Global, rows: &mut R) -> Result<Sealed, Fail>
+    requires live { R.is_live rows.old }
+{
     let mut txn = Txn::new(alloc, rows);
     append_three(&mut txn)?;
     Ok(txn.seal()?)
@@ -59,7 +61,9 @@ pub fn edit_three<R: Rows>(txn: &mut Txn<'_, R>) -> Result<(), Fail>
 }
 
 // What this store, which has one head and two inputs, makes of these edits.
-fn second(alloc: Global, rows: &mut VecRows) -> Result<Sealed, Fail> {
+fn second<R: Rows>(alloc: Global, rows: &mut R) -> Result<Sealed, Fail>
+    requires live { R.is_live rows.old }
+{
     let mut txn = Txn::new(alloc, rows);
     edit_three(&mut txn)?;
     Ok(txn.seal()?)
