@@ -59,7 +59,7 @@ fn place_of(map: &IndexMap<Hash32, Option<Hash32>>, s: &Hash32) -> Option<usize>
     map.get_index_of(s)
 }
 
-// Keeps what was told, in the place of the script hash or as the last.
+// Keeps what was told, in the place of the script hash or as the last, which alone takes memory.
 fn keep(
     map: &mut IndexMap<Hash32, Option<Hash32>>,
     s: Hash32,
@@ -67,6 +67,7 @@ fn keep(
 ) -> Result<(), OutOfMemory>
     ensures ok { OnOk result (map.new.entries ≡ subscribed s told map.old.entries) }
     ensures err { OnErr result (map.new.entries ≡ map.old.entries) }
+    ensures new { OnErr result (is_subscribed s map.old.entries ≡ false) }
 {
     map.insert(s, told)?;
     Ok(())
@@ -100,14 +101,17 @@ impl Subs {
     ///
     /// # Errors
     ///
-    /// `SubsFault::TooMany` exactly where it is new and `SUBSCRIPTION_LIMIT` are held.
+    /// `SubsFault::TooMany` exactly where it is new and `SUBSCRIPTION_LIMIT` are held, and `Memory` where it is
+    /// new, fewer are held, and memory runs out.
     pub fn subscribe(&mut self, s: Hash32, told: Option<Hash32>) -> Result<(), SubsFault>
         ensures ok { OnOk result (self.new ≡ subscribed s told self.old) }
         ensures err { OnErr result (self.new ≡ self.old) }
         ensures room { OnOk result ((is_subscribed s self.old ≡ false)
             → length self.old < SUBSCRIPTION_LIMIT) }
+        ensures new { OnErr result (is_subscribed s self.old ≡ false) }
         ensures full { IfErr result (λ e. (held : ℕ) → e ≡ fault.TooMany held
-            → (held ≡ length self.old) × (SUBSCRIPTION_LIMIT ≤ held) × (is_subscribed s self.old ≡ false)) }
+            → (held ≡ length self.old) × (SUBSCRIPTION_LIMIT ≤ held)) }
+        ensures memory { IfErr result (λ e. e ≡ fault.Memory → length self.old < SUBSCRIPTION_LIMIT) }
     {
         let held = self.held();
         if held >= SUBSCRIPTION_LIMIT && !self.holds(&s) {
