@@ -4,6 +4,7 @@ use Rattle.el_outside.specs.declared.link.Arrival.{Arrival}
 use Rattle.el_outside.specs.declared.link.Arrival.TheVariants as arrival
 use Rattle.el_outside.specs.declared.link.LinkFailed.{LinkFailed}
 use Rattle.std.specs.Option.{option_map_or}
+use Rattle.el_sockets.specs.declared.sockets.Ports.{Ports}
 use Rattle.el_net.specs.declared.masks.Mask.{Mask}
 use Rattle.el_net.specs.Masks.{unmasked}
 
@@ -21,6 +22,13 @@ read_with mask bytes = unmasked (option_map_or (λ (m : Mask). m.bytes) mask [])
 
 -- a link: the last client that came, or 0, how often `next` was called, and how often a call has failed
 pub record LinkCounts : Type 0 where
+  pub last : ℕ
+  pub calls : ℕ
+  pub faults : ℕ
+
+-- sockets as a link: the ports that were asked for, and the same
+pub record LinkOverPorts : Type 0 where
+  pub asked : Ports
   pub last : ℕ
   pub calls : ℕ
   pub faults : ℕ

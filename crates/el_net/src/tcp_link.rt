@@ -4,7 +4,7 @@ ghost use Rattle.el_outside.specs.Counts.{RoseBy};
 
 use el_base::OutOfMemory;
 use el_outside::{Arrival, Link, LinkFailed, Peer, SendFault, Why};
-use el_sockets::{Room, Sockets};
+use el_sockets::{Ports, Room, Sockets};
 use std::alloc::Global;
 use std::io;
 use std::io::ErrorKind;
@@ -12,10 +12,11 @@ use std::marker::Model;
 use std::net::Net;
 
 /// Two ports on 127.0.0.1: one for clients, at most 257 at once, and one for the node. No call waits for a
-/// peer that is slow. Where a port can't be had, each call fails. It tells no content: contracts see the last
-/// client's number and the counts.
+/// peer that is slow. Where a port can't be had, each call fails. It tells no content: contracts see the ports
+/// that were asked for, the last client's number and the counts.
 #[derive(Drop)]
 pub struct TcpLink {
+    asked: Ports,
     sockets: Option<Sockets>,
     last: Peer,
     calls: u64,
@@ -23,26 +24,27 @@ pub struct TcpLink {
 }
 
 impl Model for TcpLink {
-    ghost use Rattle.el_net.specs.Devices.{LinkCounts};
+    ghost use Rattle.el_net.specs.Devices.{LinkOverPorts};
 
-    ghost Value = { LinkCounts };
+    ghost Value = { LinkOverPorts };
 
-    ghost view = { λ link. record { last = link.last; calls = link.calls; faults = link.faults } };
+    ghost view = { λ link. record {
+      asked = link.asked;
+      last = link.last;
+      calls = link.calls;
+      faults = link.faults;
+    } };
 }
 
 impl TcpLink {
     /// Opens the two ports, with room for the peers.
-    pub fn new<N: Net>(
-        net: &N,
-        alloc: Global,
-        client_port: u16,
-        node_port: u16,
-    ) -> Result<TcpLink, OutOfMemory>
-        ensures { IfOk result (λ link. link ≡ record { last = 0; calls = 0; faults = 0 }) }
+    pub fn new<N: Net>(net: &N, alloc: Global, ports: Ports) -> Result<TcpLink, OutOfMemory>
+        ensures { IfOk result (λ link. link ≡ record { asked = ports; last = 0; calls = 0; faults = 0 }) }
     {
         let room = Room::new(alloc)?;
-        let sockets = Sockets::new(net, room, client_port, node_port).ok();
+        let sockets = Sockets::new(net, room, ports).ok();
         Ok(TcpLink {
+            asked: ports,
             sockets,
             last: 0,
             calls: 0,
@@ -50,8 +52,8 @@ impl TcpLink {
         })
     }
 
-    /// The numbers of the clients' port and of the node's, where they could be had.
-    pub fn ports(&self) -> io::Result<(u16, u16)> {
+    /// The numbers that the two ports have, where they could be had.
+    pub fn ports(&self) -> io::Result<Ports> {
         match &self.sockets {
             Some(sockets) => sockets.ports(),
             None => Err(io::Error::from(ErrorKind::NotConnected)),

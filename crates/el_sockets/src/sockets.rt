@@ -31,6 +31,15 @@ const PLACES: usize = PEER_PLACES + 2;
 /// How long a pass waits for a socket to be ready, in milliseconds.
 const WAIT: u64 = 1_000;
 
+/// The numbers of the two ports, of which 0 stands for any that is free.
+#[derive(Clone, Copy, Debug, PartialEq, Eq)]
+pub struct Ports {
+    /// That of the clients.
+    pub clients: u16,
+    /// That of the node.
+    pub node: u16,
+}
+
 /// Room for the peers and for what the system tells of them, taken before a port is opened.
 #[derive(Drop)]
 pub struct Room {
@@ -69,20 +78,12 @@ pub struct Sockets {
 
 impl Sockets {
     /// Opens the two ports.
-    pub fn new<N: Net>(
-        net: &N,
-        room: Room,
-        client_port: u16,
-        node_port: u16,
-    ) -> io::Result<Sockets> {
+    pub fn new<N: Net>(net: &N, room: Room, ports: Ports) -> io::Result<Sockets> {
         let poll = Poll::new(net)?;
-        let client_listener = Listener::new(
-            net,
-            poll.registry(),
-            Token(CLIENT_LISTENER),
-            client_port,
-        )?;
-        let node_listener = Listener::new(net, poll.registry(), Token(NODE_LISTENER), node_port)?;
+        let clients = Token(CLIENT_LISTENER);
+        let node = Token(NODE_LISTENER);
+        let client_listener = Listener::new(net, poll.registry(), clients, ports.clients)?;
+        let node_listener = Listener::new(net, poll.registry(), node, ports.node)?;
         Ok(Sockets {
             poll,
             room,
@@ -92,9 +93,12 @@ impl Sockets {
         })
     }
 
-    /// The numbers of the clients' port and of the node's.
-    pub fn ports(&self) -> io::Result<(u16, u16)> {
-        Ok((self.client_listener.port()?, self.node_listener.port()?))
+    /// The numbers that the two ports have.
+    pub fn ports(&self) -> io::Result<Ports> {
+        Ok(Ports {
+            clients: self.client_listener.port()?,
+            node: self.node_listener.port()?,
+        })
     }
 
     /// What comes next. It ends the pass that was begun, and then makes a whole one, which waits for a socket

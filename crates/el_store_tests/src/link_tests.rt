@@ -3,6 +3,7 @@ ghost use Rattle.std.specs.Prelude.{◌≡◌, length};
 
 use el_net::TcpLink;
 use el_outside::{Arrival, BUFFER_SIZE, Link, Peer, SendFault, Why};
+use el_sockets::Ports;
 use std::io;
 use std::io::{Read, Write};
 use std::net::{Ipv4Addr, Shutdown, SocketAddr, TcpStream};
@@ -121,12 +122,18 @@ fn serves_a_node(
     has_one_node(node, other, link, buf)
 }
 
+// Any ports that are free.
+const ANY_PORTS: Ports = Ports {
+    clients: 0,
+    node: 0,
+};
+
 #[test]
 fn sockets_bring_what_was_sent(rt: HostRuntime) -> Result<(), Fail> {
     let mut buf = [0u8; BUFFER_SIZE];
-    let mut link = TcpLink::new(&rt, rt.alloc(), 0, 0)?;
-    let (clients, nodes) = link.ports()?;
-    assert!(rt; serves_clients(&rt, clients, &mut link, &mut buf)?);
-    assert!(rt; serves_a_node(&rt, nodes, &mut link, &mut buf)?);
+    let mut link = TcpLink::new(&rt, rt.alloc(), ANY_PORTS)?;
+    let ports = link.ports()?;
+    assert!(rt; serves_clients(&rt, ports.clients, &mut link, &mut buf)?);
+    assert!(rt; serves_a_node(&rt, ports.node, &mut link, &mut buf)?);
     Ok(())
 }

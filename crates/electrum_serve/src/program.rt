@@ -3,7 +3,7 @@ ghost use Rattle.std.specs.Prelude.{◌≡◌, ◌-◌, ◌^◌, drop, IfOk};
 ghost use Rattle.std.specs.Process.{exit_status};
 ghost use Rattle.el_words.specs.Words.{texts};
 ghost use Rattle.el_words.specs.Commands.{IsNoCommand};
-ghost use Rattle.electrum_serve.specs.within.Devices.{folder_of, index_of, IsServeCommand, IsOnceCommand};
+ghost use Rattle.electrum_serve.specs.within.Devices.{folder_of, index_of, ports_of, IsServeCommand, IsOnceCommand};
 ghost use Rattle.electrum_serve.specs.Calls.{Call};
 ghost use Rattle.electrum_serve.specs.IndexDisks.{IsCall};
 ghost use Rattle.electrum_serve.specs.Statuses.{code_of};
@@ -17,6 +17,7 @@ use el_net::{
 };
 use el_open_files::FileDisk;
 use el_outside::{Disk, Link};
+use el_sockets::Ports;
 use el_words::{Command, read_words};
 use std::alloc::Global;
 use std::process::ExitCode;
@@ -106,7 +107,7 @@ fn tell_start(rt: &HostRuntime, command: &Command, link: &TcpLink) {
             network,
             ..
         },
-        Ok((client_port, node_port)),
+        Ok(Ports { clients, node }),
     ) = (command, link.ports())
     {
         let network = network.name();
@@ -114,7 +115,7 @@ fn tell_start(rt: &HostRuntime, command: &Command, link: &TcpLink) {
         let index = index.as_str();
         let _ = eprint!(rt;
             "electrum_serve: serving {network}, blocks {blocks}, index {index}, \
-             clients on port {client_port}, node on port {node_port}\n"
+             clients on port {clients}, node on port {node}\n"
         );
     }
 }
@@ -130,7 +131,8 @@ fn serve_command(
         × IsCall ⟦<FileDisk<IndexFolder<HostRuntime>> as Disk>⟧
         ⟦<BlockFiles<BlockFolder<HostRuntime>> as el_outside::Archive>⟧ ⟦<TcpLink as Link>⟧ c
         × (c.words ≡ texts words.now) × (c.turns ≡ 2 ^ 64 - 1) × (c.before.disk.files ≡ index_of command.now)
-        × (c.before.files.folder ≡ folder_of command.now) × (c.status ≡ status)) }
+        × (c.before.files.folder ≡ folder_of command.now) × (c.before.link.asked ≡ ports_of command.now)
+        × (c.status ≡ status)) }
     ensures once { IsOnceCommand command.now → IfOk result (λ status. (c : Call _ _ _)
         × IsCall ⟦<NoDisk as Disk>⟧ ⟦<BlockFiles<BlockFolder<HostRuntime>> as el_outside::Archive>⟧
         ⟦<StandardLink<HostRuntime> as Link>⟧ c
@@ -146,7 +148,11 @@ fn serve_command(
             ..
         } => {
             let disk = disk_of(rt.clone()?, rt.alloc(), command)?;
-            let mut link = TcpLink::new(rt, rt.alloc(), *client_port, *node_port)?;
+            let ports = Ports {
+                clients: *client_port,
+                node: *node_port,
+            };
+            let mut link = TcpLink::new(rt, rt.alloc(), ports)?;
             tell_start(rt, command, &link);
             serve_over(rt, words, command, disk, &mut link)
         }

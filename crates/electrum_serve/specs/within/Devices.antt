@@ -2,6 +2,7 @@
 use Rattle.std.specs.Prelude.{ℕ, List, []}
 use Rattle.el_words.specs.declared.words.Command.{Command}
 use Rattle.el_words.specs.declared.words.Command.TheVariants as command
+use Rattle.el_sockets.specs.declared.sockets.Ports.{Ports}
 
 -- the folder of block files that a command asks for
 abbrev pub folder_of : Command → List ℕ
@@ -13,12 +14,18 @@ abbrev pub index_of : Command → List ℕ
 index_of (command.Serve blocks index network client_port node_port limits) = index
 index_of (command.Once blocks network) = []
 
+-- the ports that a command asks for; `once` asks for none
+abbrev pub ports_of : Command → Ports
+ports_of (command.Serve blocks index network client_port node_port limits) =
+    record { clients = client_port; node = node_port }
+ports_of (command.Once blocks network) = record { clients = 0; node = 0 }
+
 -- the command is that of `serve`
 abbrev pub IsServeCommand : Command → Type 0
 IsServeCommand (command.Serve blocks index network client_port node_port limits) = Unit {0}
 IsServeCommand (command.Once blocks network) = ⊥
 
--- that of `once`
+-- the command is that of `once`
 abbrev pub IsOnceCommand : Command → Type 0
 IsOnceCommand (command.Serve blocks index network client_port node_port limits) = ⊥
 IsOnceCommand (command.Once blocks network) = Unit {0}
