@@ -1,6 +1,6 @@
 -- What a table and a ledger say of outpoints, and calls of a ledger one after the other.
 use Rattle.std.proofs.Common.{◌≡◌, ℕ, ◌+◌, ◌<◌, Bool, true, false, ◌||◌, refl, List, [], ◌∷◌, ◌++◌, length, drop, get_or, Option, None, Some, inl, inr, ap, sym, ◌∙◌, append_assoc}
-use Rattle.std.proofs.lemmas.Bool.{cases_Bool}
+use Rattle.std.proofs.lemmas.Bool.{cases_Bool, true≢false}
 use Rattle.std.specs.Prelude.{slice_get, option_map, option_and_then}
 use Rattle.std.proofs.lemmas.List.Folds.{list_any-append}
 use Rattle.std.specs.List.{list_any}
@@ -11,19 +11,19 @@ use Rattle.el_tx.specs.declared.types.Outpoint.{Outpoint}
 use Rattle.el_tx.specs.declared.types.TxIn.{TxIn}
 use Rattle.el_tx.specs.declared.types.Tx.{Tx}
 use Rattle.el_tx.specs.Hashing.{txid}
-use Rattle.el_chain.specs.declared.coin.Coin.{Coin}
 use Rattle.el_chain.specs.Chains.{Chain}
 use Rattle.el_chain.specs.Headers.{same_hash}
-use Rattle.el_model.specs.Queries.{coin_of}
 use Rattle.el_mempool.specs.declared.held.Held.{Held}
 use Rattle.el_mempool.specs.declared.held.Source.{Source}
 use Rattle.el_mempool.specs.declared.held.KeptTx.{KeptTx}
 use Rattle.el_mempool.specs.declared.fault.PoolFault.TheVariants as refusal
 use Rattle.el_kept.specs.declared.table.Table.{Table}
-use Rattle.el_mempool.specs.Sift.{coin_held, coin_named, output_among, named, is_confirmed, may_join}
+use Rattle.el_mempool.specs.Sift.{coin_named, output_among, named, is_confirmed, may_join}
 use Rattle.el_mempool.specs.Refusals.{missing}
-use Rattle.el_mempool.specs.Standing.{source_at, sources}
+use Rattle.el_mempool.specs.Standing.{source_at, sources, StandsFor}
 use Rattle.el_kept.specs.Tables.{by_txid}
+use Rattle.el_pool.specs.declared.asking.FoundOutput.{FoundOutput}
+use Rattle.el_pool.specs.within.Renewal.{found_by, AreUnspent}
 use Rattle.el_pool.specs.within.Tables.{IsOver, output_at, is_output_at}
 use Rattle.el_mempool.proofs.Sifting.{joins_of}
 use Rattle.el_mempool.proofs.Confirmed.{hash_same, unconfirmed_none}
@@ -40,9 +40,6 @@ output_is t chain kept o h =
     ap (option_and_then (λ (k : KeptTx). slice_get k.outputs o.index)) (found_standing o.txid t.kept.entries h.table.right h.table.once ∙ ap (by_txid o.txid) (h.table.are ∙ h.stands.are))
     ∙ held_is o chain kept kept (apart_from kept h.stands.once)
 
-pub named_coin : (chain : Chain) (kept : List Tx) (o : Outpoint) (c : Coin) (found : Option Coin) → found ≡ coin_of chain o → found ≡ Some c → Some (coin_held c) ≡ named chain kept o
-named_coin chain kept o c found is some = ap (λ x. option_or (option_map coin_held x) (output_among o kept)) (sym some ∙ is)
-
 -- an output of a kept one is no coin of the chain
 pub kept_unspent : (chain : Chain) (o : Outpoint) (v : Held) (ts : List Tx) → AreFresh chain ts → output_among o ts ≡ Some v → coin_named chain o ≡ None
 kept_unspent chain o v [] fresh h = absurd (cc)
@@ -54,16 +51,32 @@ kept_unspent chain o v (t ∷ ts) fresh h = elim (cases_Bool (same_hash (txid t)
 abbrev LookedUp : Table → Outpoint → Option Held → Type 0
 LookedUp t o out = out ≡ option_and_then (λ (k : KeptTx). slice_get k.outputs o.index) (option_flatten (get same_hash t.kept o.txid))
 
-pub named_output : (t : Table) (chain : Chain) (kept : List Tx) (o : Outpoint) (out : Option Held) (v : Held) → IsOver t chain kept → LookedUp t o out → out ≡ Some v → Some v ≡ named chain kept o
-named_output t chain kept o out v h says some =
-    let among : output_among o kept ≡ Some v = sym (output_is t chain kept o h) ∙ sym says ∙ some in
-    let none = kept_unspent chain o v kept (fresh_from chain [] kept (joins_of (may_join chain) kept h.stands.sifted)) among in
-    sym (ap (λ x. option_or x (output_among o kept)) none ∙ among)
+pub unspent_of : (chain : Chain) (kept : List Tx) (entries : List KeptTx) → StandsFor entries chain kept → AreUnspent chain kept
+unspent_of chain kept entries h o some = by (output_among o kept) refl some
+  where
+    by : (x : Option Held) → output_among o kept ≡ x → is_some x ≡ true → coin_named chain o ≡ None
+    by None e bad = absurd (true≢false (sym bad))
+    by (Some v) e some = kept_unspent chain o v kept (fresh_from chain [] kept (joins_of (may_join chain) kept h.sifted)) e
 
-pub named_none : (t : Table) (chain : Chain) (kept : List Tx) (o : Outpoint) (found : Option Coin) (out : Option Held) → IsOver t chain kept → found ≡ coin_of chain o → found ≡ None
-    → LookedUp t o out → out ≡ None → None ≡ named chain kept o
-named_none t chain kept o found out h is none says gone =
-    sym gone ∙ says ∙ output_is t chain kept o h ∙ ap (λ x. option_or (option_map coin_held x) (output_among o kept)) (sym none ∙ is)
+-- a coin of the chain stands before an output of a kept one, and none is both
+pub held_found : (left : Option Held) (chain : Chain) (kept : List Tx) (o : Outpoint) (found : Option FoundOutput) → left ≡ output_among o kept
+    → (is_some (output_among o kept) ≡ true → coin_named chain o ≡ None) → found ≡ found_by left (coin_named chain o) → option_map (λ (n : FoundOutput). n.held) found ≡ named chain kept o
+held_found left chain kept o found same unspent is =
+    ap (option_map (λ (n : FoundOutput). n.held)) (is ∙ ap (λ x. found_by x (coin_named chain o)) same) ∙ by (output_among o kept) (coin_named chain o) unspent
+  where
+    by : (x c : Option Held) → (is_some x ≡ true → c ≡ None) → option_map (λ (n : FoundOutput). n.held) (found_by x c) ≡ option_or c x
+    by (Some h) None f = refl
+    by (Some h) (Some c) f = absurd (cc_none c (f refl))
+      where
+        cc_none : (v : Held) → Some v ≡ None → ⊥
+        cc_none v e = cc
+    by None (Some c) f = refl
+    by None None f = refl
+
+pub named_by : (t : Table) (chain : Chain) (kept : List Tx) (o : Outpoint) (out : Option Held) (found : Option FoundOutput) → IsOver t chain kept
+    → LookedUp t o out → found ≡ found_by out (coin_named chain o) → option_map (λ (n : FoundOutput). n.held) found ≡ named chain kept o
+named_by t chain kept o out found h says is =
+    held_found out chain kept o found (says ∙ output_is t chain kept o h) (unspent_of chain kept h.entries h.stands o) is
 
 -- ---- inputs one after the other
 

@@ -1,6 +1,6 @@
 -- Which of some txids a chain has.
-use Rattle.std.proofs.Common.{◌≡◌, true, false, Bool, ◌&&◌, ◌||◌, List, [], ◌∷◌, ◌++◌, map, Option, None, Some, ℕ, zero, suc, ◌+◌, ◌<◌, ◌≤◌, length, drop, get_or, refl, ap, sym, ◌∙◌, append_assoc, append-nil, arith, subst}
-use Rattle.std.proofs.lemmas.List.{drop_more}
+use Rattle.std.proofs.Common.{◌≡◌, true, false, Bool, ◌&&◌, ◌||◌, List, [], ◌∷◌, ◌++◌, map, Option, None, Some, ℕ, ◌+◌, ◌<◌, ◌≤◌, length, drop, get_or, refl, ap, sym, ◌∙◌, append_assoc, append-nil, subst}
+use Rattle.std.proofs.lemmas.List.{drop_all, drop_more}
 use Rattle.std.specs.Prelude.{option_to_list, Result, Ok, Err, IfOk}
 use Rattle.el_model.specs.declared.fault.QueryFault.{QueryFault}
 use Rattle.std.specs.List.Sorted.{IsPermutation}
@@ -121,12 +121,6 @@ next_asked chain x ids i d old now lt is h =
 pub all_over : (chain : Chain) (x : Hash32) (ids : List Hash32) (i : ℕ) (found : List Hash32) → length ids ≤ i
     → (has found x || (is_confirmed chain x && has (drop i ids) x)) ≡ (is_confirmed chain x && has ids x) → has found x ≡ (is_confirmed chain x && has ids x)
 all_over chain x ids i found le h = all_asked chain x found (drop i ids) ids (drop_all i ids le) h
-  where
-    drop_all : (i : ℕ) (xs : List Hash32) → length xs ≤ i → drop i xs ≡ []
-    drop_all zero [] le = refl
-    drop_all zero (y ∷ ys) le = absurd (omega arith)
-    drop_all (suc i) [] le = refl
-    drop_all (suc i) (y ∷ ys) le = drop_all i ys (omega arith)
 
 pub if_told : (chain : Chain) (r : Result (List Hash32) QueryFault) (slice ids : List Hash32) (ks : List KeptTx) → slice ≡ ids
     → ((x : Hash32) → has ids x ≡ has (map (λ (k : KeptTx). k.txid) ks) x)

@@ -4,7 +4,7 @@ use Rattle.std.proofs.lemmas.Bool.{and_left, and_from, or_parts, true≢false}
 use Rattle.std.proofs.lemmas.List.Folds.{list_any-append}
 use Rattle.std.specs.List.{AllByRecursion, list_any}
 use Rattle.std.specs.Prelude.{option_map, option_to_list, nat_lt, IfNone}
-use Rattle.std.specs.Option.{option_or, is_some}
+use Rattle.std.specs.Option.{is_some}
 use Rattle.std.proofs.lemmas.List.{drop_more}
 use Rattle.el_base.specs.declared.hash.Hash32.{Hash32}
 use Rattle.el_tx.specs.declared.types.Outpoint.{Outpoint}
@@ -67,21 +67,6 @@ any_more kept found s any b is so_far =
     by false false = refl
 
 -- ---- what a look-up finds
-
--- a coin of the chain stands before an output of a kept one, and none is both
-pub held_found : (left : Option Held) (chain : Chain) (kept : List Tx) (o : Outpoint) (found : Option FoundOutput) → left ≡ output_among o kept
-    → (is_some (output_among o kept) ≡ true → coin_named chain o ≡ None) → found ≡ found_by left (coin_named chain o) → option_map (λ (n : FoundOutput). n.held) found ≡ named chain kept o
-held_found left chain kept o found same unspent is =
-    ap (option_map (λ (n : FoundOutput). n.held)) (is ∙ ap (λ x. found_by x (coin_named chain o)) same) ∙ by (output_among o kept) (coin_named chain o) unspent
-  where
-    by : (x c : Option Held) → (is_some x ≡ true → c ≡ None) → option_map (λ (n : FoundOutput). n.held) (found_by x c) ≡ option_or c x
-    by (Some h) None f = refl
-    by (Some h) (Some c) f = absurd (cc_none c (f refl))
-      where
-        cc_none : (v : Held) → Some v ≡ None → ⊥
-        cc_none v e = cc
-    by None (Some c) f = refl
-    by None None f = refl
 
 pub kept_found : (left : Option Held) (chain : Chain) (kept : List Tx) (o : Outpoint) (found : Option FoundOutput) (n : FoundOutput) → left ≡ output_among o kept
     → found ≡ found_by left (coin_named chain o) → found ≡ Some n → n.is_kept ≡ is_some (output_among o kept)

@@ -43,7 +43,7 @@ use Rattle.el_kept.proofs.Slots.{Slot}
 use Rattle.el_kept.proofs.Retaken.{off_one, told_one, id_same}
 use Rattle.el_pool.specs.within.Tables.{total_sources}
 use Rattle.el_pool.specs.within.Renewal.{each_free, AreUnspent, IsLeft, IsNext, IsKeptOn, IsSifted, takes_of, settled}
-use Rattle.el_pool.proofs.Asked.{kept_unspent}
+use Rattle.el_pool.proofs.Asked.{kept_unspent, unspent_of}
 use Rattle.el_pool.proofs.Refusing.{fee_is}
 
 -- ---- one of them
@@ -290,13 +290,6 @@ rest_but g ts t h = filter-append (λ (u : Tx). not (g (txid u))) ts (t ∷ []) 
 abbrev pub StepsOf : Chain → Chain → List Tx → List Hash32 → List Hash32 → List Takes → List Takes → List Hash32 → List Hash32 → KeptTx → Type 0
 StepsOf before chain all gone gone_now changed now touched touched_now k =
     (kept : List Tx) (t : Tx) → IsNext before all kept gone t k → AreUnspent chain kept → IsSifted before chain all kept t gone gone_now changed now touched touched_now
-
-unspent_of : (chain : Chain) (kept : List Tx) (entries : List KeptTx) → StandsFor entries chain kept → AreUnspent chain kept
-unspent_of chain kept entries h o some = by (output_among o kept) refl some
-  where
-    by : (x : Option Held) → output_among o kept ≡ x → is_some x ≡ true → coin_named chain o ≡ None
-    by None e bad = absurd (true≢false (sym bad))
-    by (Some v) e some = kept_unspent chain o v kept (fresh_from chain [] kept (joins_of (may_join chain) kept h.sifted)) e
 
 pub one_left : (before chain : Chain) (all : List Tx) (gone gone_now : List Hash32) (changed now : List Takes) (touched touched_now : List Hash32) (k : KeptTx) (ks : List KeptTx)
     → AreLeft before chain all gone changed touched (k ∷ ks) → StepsOf before chain all gone gone_now changed now touched touched_now k → AreLeft before chain all gone_now now touched_now ks

@@ -9,6 +9,7 @@ ghost use Rattle.el_mempool.specs.Sift as spec;
 ghost use Rattle.el_mempool.specs.Refusals.{missing};
 ghost use Rattle.el_mempool.specs.Standing.{sources};
 ghost use Rattle.el_pool.specs.declared.asking.FoundOutput as found_shape;
+ghost use Rattle.el_pool.specs.within.Renewal.{found_by};
 ghost use Rattle.el_pool.specs.within.Tables.{IsOver, output_at, flag_by};
 
 use el_kept::{Table, output_in};
@@ -36,6 +37,39 @@ pub struct Taken {
     pub flag: i8,
 }
 
+/// What an outpoint names: this output of a kept transaction, or else a coin of the ledger's chain. A kept
+/// transaction isn't in the chain, so its outputs are no coins there.
+pub fn output_or_coin<G: Ledger>(
+    output: Option<Held>,
+    ledger: &mut G,
+    outpoint: &Outpoint,
+) -> Result<Option<FoundOutput>, DiskFailed>
+    requires live { G.is_live ledger.old }
+    ensures found { (chain : Chain) → G.stands ledger.old chain
+        → IfOk result (λ found. found ≡ found_by output (spec.coin_named chain outpoint.now)) }
+    ensures kept { IfOk result (λ found. IfSome found (λ n. n.is_kept ≡ is_some output)) }
+    ensures quiet { Quiet G.is_live G.height G.tip G.buckets G.stands G.tells_crash
+        G.moment G.left_since ledger.old ledger.new }
+    ensures cause { HasCause (G.faults ledger.old) (G.faults ledger.new) result }
+{
+    if let Some(held) = output {
+        return Ok(Some(FoundOutput {
+            held,
+            is_kept: true,
+        }));
+    }
+    match ledger.coin(outpoint)? {
+        Some(coin) => Ok(Some(FoundOutput {
+            held: Held {
+                value: coin.value,
+                script: coin.script,
+            },
+            is_kept: false,
+        })),
+        None => Ok(None),
+    }
+}
+
 /// What the outpoint names: a coin of the ledger's chain, or else an output of a kept transaction.
 pub fn named<G: Ledger>(
     table: &Table,
@@ -52,23 +86,7 @@ pub fn named<G: Ledger>(
         G.moment G.left_since ledger.old ledger.new }
     ensures cause { HasCause (G.faults ledger.old) (G.faults ledger.new) result }
 {
-    // A kept transaction isn't in the chain, so its outputs are no coins there.
-    if let Some(held) = output_in(table, outpoint) {
-        return Ok(Some(FoundOutput {
-            held,
-            is_kept: true,
-        }));
-    }
-    match ledger.coin(outpoint)? {
-        Some(coin) => Ok(Some(FoundOutput {
-            held: Held {
-                value: coin.value,
-                script: coin.script,
-            },
-            is_kept: false,
-        })),
-        None => Ok(None),
-    }
+    output_or_coin(output_in(table, outpoint), ledger, outpoint)
 }
 
 /// Whether it was so, or is so of one more. Takes no memory.

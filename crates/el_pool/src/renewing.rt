@@ -10,7 +10,7 @@ ghost use Rattle.el_mempool.specs.Unconfirmed.{flag};
 ghost use Rattle.el_pool.specs.within.Tables.{IsOver};
 ghost use Rattle.el_pool.specs.within.Renewal as renewal;
 
-use crate::asking::{FoundOutput, Taken, any_with, flag_of};
+use crate::asking::{FoundOutput, Taken, any_with, flag_of, output_or_coin};
 use crate::room::{held_in, taken_by};
 use el_chain::Touched;
 use el_kept::{Table, output_in};
@@ -57,22 +57,8 @@ fn named_again<G: Ledger>(
         G.moment G.left_since ledger.old ledger.new }
     ensures cause { HasCause (G.faults ledger.old) (G.faults ledger.new) result }
 {
-    if let Some(held) = output_left(table, gone, any, outpoint) {
-        return Ok(Some(FoundOutput {
-            held,
-            is_kept: true,
-        }));
-    }
-    match ledger.coin(outpoint)? {
-        Some(coin) => Ok(Some(FoundOutput {
-            held: Held {
-                value: coin.value,
-                script: coin.script,
-            },
-            is_kept: false,
-        })),
-        None => Ok(None),
-    }
+    let left = output_left(table, gone, any, outpoint);
+    output_or_coin(left, ledger, outpoint)
 }
 
 // The inputs with what they now take; None where one takes nothing.
