@@ -14,7 +14,7 @@ ghost use Rattle.el_core.specs.within.Watching.{Counts, CountsFew, HasMore};
 use crate::client::{Client, client_turn, closing};
 use crate::out::Outs;
 use crate::telling::tell_turn;
-use crate::watching::{Watched, count_from, is_counted, uncount};
+use crate::watching::Watched;
 use el_base::{Hash32, OutOfMemory};
 use el_chain::Touched;
 use el_methods::Holdings;
@@ -59,7 +59,7 @@ fn take_out(list: &mut Vec<Client>, watched: &mut Watched, i: usize, few: usize)
     ensures gone { list.new.items ≡ replaced i None list.old.items }
     ensures counts { Counts watched.new list.new.items }
 {
-    uncount(watched, list[i].subs(), few);
+    watched.uncount(list[i].subs(), few);
     list.remove(i);
 }
 
@@ -73,7 +73,7 @@ fn count_new(list: &mut Vec<Client>, watched: &mut Watched, i: usize, known: usi
     ensures more { result ≡ false → HasMore i known list.old.items }
     ensures counts { Counts watched.new list.new.items }
 {
-    match count_from(watched, list[i].subs(), known) {
+    match watched.count_from(list[i].subs(), known) {
         Ok(()) => true,
         Err(few) => {
             take_out(list, watched, i, few);
@@ -140,7 +140,7 @@ impl Clients {
     pub fn hold(&self, script_hash: &Hash32) -> bool
         ensures { result ≡ is_held self.now script_hash.now }
     {
-        is_counted(&self.watched, script_hash)
+        self.watched.counts(script_hash)
     }
 
     /// All are to be told of a line of the node.

@@ -30,29 +30,11 @@ impl Model for Watched {
     ghost invariant = { λ w. NoneIdle w.map.entries };
 }
 
-impl Watched {
-    /// Nobody subscribes to anything. Takes no memory.
-    pub fn new(alloc: Global) -> Watched
-        ensures { result ≡ [] }
-    {
-        Watched {
-            map: IndexMap::new(alloc),
-        }
-    }
-}
-
 // How many subscribe to the script hash.
 fn count_of(map: &IndexMap<Hash32, usize>, s: &Hash32) -> usize
     ensures { result ≡ counted map.now.entries s.now }
 {
     map.get(s).copied().unwrap_or(0)
-}
-
-/// Whether someone subscribes to the script hash.
-pub fn is_counted(watched: &Watched, s: &Hash32) -> bool
-    ensures { result ≡ nat_lt 0 (counted watched.now s.now) }
-{
-    count_of(&watched.map, s) > 0
 }
 
 // So many subscribe to the script hash. Fails only where memory runs out, and nobody did.
@@ -74,86 +56,104 @@ fn drop_count(map: &mut IndexMap<Hash32, usize>, s: &Hash32)
     map.swap_remove(s);
 }
 
-// One more subscribes to the script hash. Fails only where memory runs out, or where as many do as can be
-// counted; nothing has then changed.
-fn count_up(watched: &mut Watched, s: Hash32) -> Result<(), OutOfMemory>
-    ensures ok { OnOk result ((t : shape.Hash32) → counted watched.new t
-        ≡ counted watched.old t + times t (s ∷ [])) }
-    ensures err { OnErr result (watched.new ≡ watched.old) }
-{
-    let count = count_of(&watched.map, &s);
-    if count >= usize::MAX {
-        return Err(OutOfMemory);
+impl Watched {
+    /// Nobody subscribes to anything. Takes no memory.
+    pub fn new(alloc: Global) -> Watched
+        ensures { result ≡ [] }
+    {
+        Watched {
+            map: IndexMap::new(alloc),
+        }
     }
-    set_count(&mut watched.map, s, count + 1)?;
-    Ok(())
-}
 
-// One less subscribes to the script hash, which is taken out with the last. Takes no memory.
-fn count_down(watched: &mut Watched, s: &Hash32)
-    ensures { (t : shape.Hash32) → counted watched.new t
-        ≡ counted watched.old t - times t (s.now ∷ []) }
-{
-    let count = count_of(&watched.map, s);
-    if count > 1 {
-        // It is there, so that this can't fail.
-        let _ = set_count(&mut watched.map, *s, count - 1);
-    } else {
-        drop_count(&mut watched.map, s);
+    /// Whether someone subscribes to the script hash.
+    pub fn counts(&self, s: &Hash32) -> bool
+        ensures { result ≡ nat_lt 0 (counted self.now s.now) }
+    {
+        count_of(&self.map, s) > 0
     }
-}
 
-// Counts the subscription of that number, if there is one.
-fn count_one(watched: &mut Watched, subs: &Subs, number: usize) -> Result<(), OutOfMemory>
-    ensures ok { OnOk result ((t : shape.Hash32) → counted watched.new t
-        + times t (drop (number + 1) (keys_of subs.now))
-        ≡ counted watched.old t + times t (drop number (keys_of subs.now))) }
-    ensures err { OnErr result (watched.new ≡ watched.old) }
-{
-    match subs.at(number) {
-        Some(sub) => count_up(watched, sub.0),
-        None => Ok(()),
+    // One more subscribes to the script hash. Fails only where memory runs out, or where as many do as can be
+    // counted; nothing has then changed.
+    fn count_up(&mut self, s: Hash32) -> Result<(), OutOfMemory>
+        ensures ok { OnOk result ((t : shape.Hash32) → counted self.new t
+            ≡ counted self.old t + times t (s ∷ [])) }
+        ensures err { OnErr result (self.new ≡ self.old) }
+    {
+        let count = count_of(&self.map, &s);
+        if count >= usize::MAX {
+            return Err(OutOfMemory);
+        }
+        set_count(&mut self.map, s, count + 1)?;
+        Ok(())
     }
-}
 
-// Counts the subscription of that number no more, where those before it aren't counted any more.
-fn uncount_one(watched: &mut Watched, subs: &Subs, number: usize)
-    ensures { (t : shape.Hash32) (all : ℕ) → counted watched.old t
-        ≡ all - times t (take number (keys_of subs.now)) → counted watched.new t
-        ≡ all - times t (take (number + 1) (keys_of subs.now)) }
-{
-    if let Some(sub) = subs.at(number) {
-        count_down(watched, &sub.0);
+    // One less subscribes to the script hash, which is taken out with the last. Takes no memory.
+    fn count_down(&mut self, s: &Hash32)
+        ensures { (t : shape.Hash32) → counted self.new t
+            ≡ counted self.old t - times t (s.now ∷ []) }
+    {
+        let count = count_of(&self.map, s);
+        if count > 1 {
+            // It is there, so that this can't fail.
+            let _ = set_count(&mut self.map, *s, count - 1);
+        } else {
+            drop_count(&mut self.map, s);
+        }
     }
-}
 
-/// Counts a client's subscriptions from that number on, in order.
-///
-/// # Errors
-///
-/// Where memory runs out, the number of the first that wasn't counted.
-pub fn count_from(watched: &mut Watched, subs: &Subs, known: usize) -> Result<(), usize>
-    ensures ok { OnOk result ((t : shape.Hash32) → counted watched.new t
-        ≡ counted watched.old t + times t (drop known (keys_of subs.now))) }
-    ensures err { IfErr result (λ n. (t : shape.Hash32) → counted watched.new t
-        + times t (drop n (keys_of subs.now))
-        ≡ counted watched.old t + times t (drop known (keys_of subs.now))) }
-    ensures more { OnErr result (known < length subs.now) }
-{
-    for number in known..subs.held() {
-        let Ok(()) = count_one(watched, subs, number) else {
-            return Err(number);
-        };
+    // Counts the subscription of that number, if there is one.
+    fn count_one(&mut self, subs: &Subs, number: usize) -> Result<(), OutOfMemory>
+        ensures ok { OnOk result ((t : shape.Hash32) → counted self.new t
+            + times t (drop (number + 1) (keys_of subs.now))
+            ≡ counted self.old t + times t (drop number (keys_of subs.now))) }
+        ensures err { OnErr result (self.new ≡ self.old) }
+    {
+        match subs.at(number) {
+            Some(sub) => self.count_up(sub.0),
+            None => Ok(()),
+        }
     }
-    Ok(())
-}
 
-/// Counts the first subscriptions of a client no more, as many as this. Takes no memory.
-pub fn uncount(watched: &mut Watched, subs: &Subs, few: usize)
-    ensures { (t : shape.Hash32) → counted watched.new t
-        ≡ counted watched.old t - times t (take few (keys_of subs.now)) }
-{
-    for number in 0..few {
-        uncount_one(watched, subs, number);
+    // Counts the subscription of that number no more, where those before it aren't counted any more.
+    fn uncount_one(&mut self, subs: &Subs, number: usize)
+        ensures { (t : shape.Hash32) (all : ℕ) → counted self.old t
+            ≡ all - times t (take number (keys_of subs.now)) → counted self.new t
+            ≡ all - times t (take (number + 1) (keys_of subs.now)) }
+    {
+        if let Some(sub) = subs.at(number) {
+            self.count_down(&sub.0);
+        }
+    }
+
+    /// Counts a client's subscriptions from that number on, in order.
+    ///
+    /// # Errors
+    ///
+    /// Where memory runs out, the number of the first that wasn't counted.
+    pub fn count_from(&mut self, subs: &Subs, known: usize) -> Result<(), usize>
+        ensures ok { OnOk result ((t : shape.Hash32) → counted self.new t
+            ≡ counted self.old t + times t (drop known (keys_of subs.now))) }
+        ensures err { IfErr result (λ n. (t : shape.Hash32) → counted self.new t
+            + times t (drop n (keys_of subs.now))
+            ≡ counted self.old t + times t (drop known (keys_of subs.now))) }
+        ensures more { OnErr result (known < length subs.now) }
+    {
+        for number in known..subs.held() {
+            let Ok(()) = self.count_one(subs, number) else {
+                return Err(number);
+            };
+        }
+        Ok(())
+    }
+
+    /// Counts the first subscriptions of a client no more, as many as this. Takes no memory.
+    pub fn uncount(&mut self, subs: &Subs, few: usize)
+        ensures { (t : shape.Hash32) → counted self.new t
+            ≡ counted self.old t - times t (take few (keys_of subs.now)) }
+    {
+        for number in 0..few {
+            self.uncount_one(subs, number);
+        }
     }
 }

@@ -8,13 +8,13 @@ use Rattle.el_core.proofs.clients.count_new.Goals as goal
 pub take_out-requires-clause-few : goal.take_out-requires-clause-few
 take_out-requires-clause-few c =
     let items = c.args.list.now.items in
-    few_reached c.args.watched.now c.count_from.new.watched items c.args.i c.args.known c.in-Err.few c.index.result.now (slice_get_read items (length items) c.args.i c.index.result.now refl c.requires.inside c.index.ensures)
+    few_reached c.args.watched.now c.count_from.new.self items c.args.i c.args.known c.in-Err.few c.index.result.now (slice_get_read items (length items) c.args.i c.index.result.now refl c.requires.inside c.index.ensures)
     c.requires.few (λ t. rw c.subs.ensures at (c.in-Err.ensures.err t))
 
 pub returns-in-Ok-clause-counts : goal.returns-in-Ok-clause-counts
 returns-in-Ok-clause-counts c =
     let items = c.args.list.now.items in
-    few_counted c.args.watched.now c.count_from.new.watched items c.args.i c.args.known c.index.result.now (slice_get_read items (length items) c.args.i c.index.result.now refl c.requires.inside c.index.ensures)
+    few_counted c.args.watched.now c.count_from.new.self items c.args.i c.args.known c.index.result.now (slice_get_read items (length items) c.args.i c.index.result.now refl c.requires.inside c.index.ensures)
     c.requires.few (λ t. rw c.subs.ensures at (c.in-Ok.ensures.ok t))
 
 pub returns-in-Err-clause-more : goal.returns-in-Err-clause-more

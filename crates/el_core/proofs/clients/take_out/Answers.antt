@@ -10,5 +10,5 @@ returns-clause-gone c = c.remove.ensures.items ∙ remove_is_replaced c.args.lis
 pub returns-clause-counts : goal.returns-clause-counts
 returns-clause-counts c =
     let items = c.args.list.now.items in
-    few_gone c.args.watched.now c.uncount.new.watched items c.remove.new.self.items c.args.i c.args.few c.index.result.now (slice_get_read items (length items) c.args.i c.index.result.now refl c.requires.inside c.index.ensures)
+    few_gone c.args.watched.now c.uncount.new.self items c.remove.new.self.items c.args.i c.args.few c.index.result.now (slice_get_read items (length items) c.args.i c.index.result.now refl c.requires.inside c.index.ensures)
     c.requires.few (λ t. rw c.subs.ensures at (c.uncount.ensures t)) (c.remove.ensures.items ∙ remove_is_replaced items c.args.i)
