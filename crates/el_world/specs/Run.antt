@@ -2,9 +2,9 @@
 -- A failed call of the link closes a client as gone, or stops the run; one of the block files is answered to
 -- the node or to a client; one of the index's device is answered to a client, closes one that was to be told,
 -- or stops the run. Where no memory is found for the reply to a client, it is closed for that. The room for
--- an error to a client, or for an answer to the node, is there before a device is asked; only a batch may
--- find no memory once an element of it was told of a failure, and the sift after a later move, for which the
--- block files failed: then the run stops.
+-- an error to a client, or for an answer to the node, is there before a device is asked, but in two cases. A
+-- batch of which an element was told of a failure may find no memory later: its client is closed. The sift
+-- after a later move, for which the block files failed, may find none: the run stops.
 use Rattle.std.specs.Prelude.{◌≡◌, ◌⊎◌, ℕ, ◌==◌, List, [], ◌∷◌, ◌++◌, filter, true, not, if◌then◌else◌, Option, Some, None}
 use Rattle.std.specs.Option.{option_to_list}
 use Rattle.el_outside.specs.Devices.{Device, link, archive, disk}
