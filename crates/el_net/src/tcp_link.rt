@@ -12,8 +12,8 @@ use std::marker::Model;
 use std::net::Net;
 
 /// Two ports on 127.0.0.1: one for clients, at most 257 at once, and one for the node. No call waits for a
-/// peer that is slow. Where a port can't be had, each call fails. It tells no content: contracts see the ports
-/// that were asked for, the last client's number and the counts.
+/// peer that is slow. Where a port can't be had, each call fails. It tells no content: contracts see the
+/// ports that were asked for, the last client's number and the counts.
 #[derive(Drop)]
 pub struct TcpLink {
     asked: Ports,

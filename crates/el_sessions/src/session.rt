@@ -101,8 +101,8 @@ impl Subs {
     ///
     /// # Errors
     ///
-    /// `SubsFault::TooMany` exactly where it is new and `SUBSCRIPTION_LIMIT` are held, and `Memory` where it is
-    /// new, fewer are held, and memory runs out.
+    /// `SubsFault::TooMany` exactly where it is new and `SUBSCRIPTION_LIMIT` are held, and `Memory` where it
+    /// is new, fewer are held, and memory runs out.
     pub fn subscribe(&mut self, s: Hash32, told: Option<Hash32>) -> Result<(), SubsFault>
         ensures ok { OnOk result (self.new ≡ subscribed s told self.old) }
         ensures err { OnErr result (self.new ≡ self.old) }
