@@ -26,7 +26,8 @@ pub record LinkCounts : Type 0 where
   pub calls : ℕ
   pub faults : ℕ
 
--- sockets as a link: the ports that were asked for, and the same
+-- a link over sockets: the ports that were asked for, the last client that came, or 0, how often `next` was
+-- called, and how often a call has failed
 pub record LinkOverPorts : Type 0 where
   pub asked : Ports
   pub last : ℕ
