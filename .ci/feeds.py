@@ -1,16 +1,20 @@
 #!/usr/bin/env python3
-"""Runs the feeder of examples/ against the built program, over sockets and folders that grow.
+"""Runs the feeder of examples/ against the built program, over sockets and block files made ahead.
 
 usage: .ci/feeds.py [PASSED FAILED]
 
-The blocks are those that examples/regtest.py makes; a client asks for balances after each step, whose values are worked out
-from what the blocks were made to pay. The last line is 'N passed, M failed', with the given counts added.
+The blocks are those that examples/regtest.py makes, which takes room for the files ahead, in zeros, as a node does, and
+writes over them; a node's JSON-RPC is stood in for. A client asks for balances after each step, whose values are worked out
+from what the blocks were made to pay. The last line is 'N passed, M failed', with the given counts added; where the program
+isn't built no case passes.
 """
 
+import base64
 import hashlib
 import http.server
 import json
 import os
+import re
 import shutil
 import socket
 import subprocess
@@ -22,6 +26,9 @@ import time
 TOP = os.path.dirname(os.path.dirname(os.path.abspath(__file__)))
 PROGRAM = os.path.join(TOP, "crates", "electrum_serve", "out", "electrum_serve")
 EXAMPLES = os.path.join(TOP, "examples")
+
+sys.path.insert(0, EXAMPLES)
+from regtest import double_sha256, transaction  # noqa: E402
 
 COIN = 5_000_000_000
 OPEN_SCRIPT, OWN_SCRIPT = "51", "52"
@@ -44,15 +51,15 @@ class Room:
 
     def __init__(self, folder):
         self.blocks, self.index = os.path.join(folder, "blocks"), os.path.join(folder, "index")
-        self.cookie = os.path.join(folder, "cookie")
+        self.cookie, self.told = os.path.join(folder, "cookie"), os.path.join(folder, "told")
         os.mkdir(self.index)
         self.clients, self.node = free_port(), free_port()
         self.server, self.feeder = None, None
 
-    def make(self, *words):
+    def make(self, *words, blocks=None):
         """What examples/regtest.py prints."""
         made = subprocess.run(
-            [sys.executable, os.path.join(EXAMPLES, "regtest.py"), "--blocks", self.blocks, *map(str, words)],
+            [sys.executable, os.path.join(EXAMPLES, "regtest.py"), "--blocks", blocks or self.blocks, *map(str, words)],
             stdout=subprocess.PIPE, check=True, timeout=60)
         return made.stdout.decode().split()
 
@@ -69,11 +76,25 @@ class Room:
         self.server.wait(10)
         self.server = None
 
-    def follow(self, *words):
+    def follow(self, *words, port=None):
         """Starts the feeder."""
-        self.feeder = subprocess.Popen(
-            [sys.executable, os.path.join(EXAMPLES, "follow.py"), "--blocks", self.blocks, "--network", "regtest",
-             "--port", str(self.node), "--pause", "0.2", *words], stderr=subprocess.DEVNULL)
+        words = ["--blocks", self.blocks, "--network", "regtest", "--port", str(port or self.node), "--pause", "0.2", *words]
+        with open(self.told, "wb") as it:
+            self.feeder = subprocess.Popen([sys.executable, os.path.join(EXAMPLES, "follow.py"), *words], stderr=it)
+
+    def says(self, *words):
+        """The lines of the feeder that have one of these words."""
+        with open(self.told, encoding="utf-8") as it:
+            return [line for line in it.read().splitlines() if any(word in line for word in words)]
+
+    def comes_to_say(self, *words):
+        """How many lines of the feeder have one of these words, once there is one."""
+        wanted_in_time(lambda: bool(self.says(*words)), True)
+        return len(self.says(*words))
+
+    def runs(self):
+        """Whether both still run, and the feeder has told of no fault of its own."""
+        return [self.server.poll(), self.feeder.poll(), self.says("Traceback", "Error:")]
 
     def leave(self):
         """Stops the feeder, and says how the server then ends."""
@@ -139,36 +160,41 @@ class Room:
         return wanted_in_time(lambda: self.balance(OWN_SCRIPT), wanted)
 
 
-class NodeRpc(threading.Thread):
-    """A stand-in for a node's JSON-RPC: a best block, and unconfirmed transactions by txid."""
+class NodeRpc:
+    """A stand-in for a node's JSON-RPC: a best block, and unconfirmed transactions by txid. It can stop and start again, with
+    another cookie, and reply in ways in which a node does that isn't well."""
 
     def __init__(self, cookie):
-        super().__init__(daemon=True)
-        self.best, self.pool = None, {}
-        with open(cookie, "w", encoding="ascii") as it:
-            it.write("__cookie__:00ff")
-        node = self
+        self.best, self.pool, self.fault = None, {}, None
+        self.cookie, self.secret, self.starts, self.port, self.http = cookie, b"", 0, 0, None
+        self.lock, self.most = threading.Lock(), 0
 
-        class Answers(http.server.BaseHTTPRequestHandler):
-            """One POST, of a list of calls."""
+    @property
+    def url(self):
+        return f"http://127.0.0.1:{self.port}"
 
-            def do_POST(self):
-                """Answers them."""
-                asked = json.loads(self.rfile.read(int(self.headers["Content-Length"])))
-                text = json.dumps([{"id": c["id"], "result": node.result(c["method"], c["params"])} for c in asked])
-                self.send_response(200)
-                self.send_header("Content-Length", str(len(text)))
-                self.end_headers()
-                self.wfile.write(text.encode())
+    def start(self):
+        """Starts it, where it was before."""
+        self.starts += 1
+        self.secret = f"__cookie__:{self.starts:064x}".encode()
+        self.http = http.server.ThreadingHTTPServer(("127.0.0.1", self.port), answers_of(self))
+        self.http.daemon_threads = True
+        self.port = self.http.server_address[1]
+        threading.Thread(target=self.http.serve_forever, args=[0.05], daemon=True).start()
+        with open(self.cookie, "wb") as it:
+            it.write(self.secret)
 
-            def log_message(self, *_):
-                """Says nothing."""
+    def stop(self):
+        """Stops it; its cookie goes with it."""
+        self.http.shutdown()
+        self.http.server_close()
+        os.remove(self.cookie)
 
-        self.http = http.server.ThreadingHTTPServer(("127.0.0.1", 0), Answers)
-        self.url = f"http://127.0.0.1:{self.http.server_address[1]}"
-
-    def run(self):
-        self.http.serve_forever(0.05)
+    def become(self, best, *texts):
+        """At one moment the best block is this one, and the unconfirmed transactions are these, in that order."""
+        pool = {txid_of(text): text for text in texts}
+        with self.lock:
+            self.best, self.pool = best, pool
 
     def result(self, method, params):
         """What a call gives."""
@@ -178,6 +204,45 @@ class NodeRpc(threading.Thread):
             return list(self.pool)
         return self.pool.get(params[0])
 
+    def reply(self, calls):
+        """The reply to a list of calls."""
+        self.most = max(self.most, len(calls))
+        if self.fault == "warms up":
+            error = {"code": -28, "message": "Loading block index"}
+            return [{"id": c["id"], "result": None, "error": error} for c in calls]
+        if self.fault == "odd":
+            return {"result": "none of what was asked for"}
+        with self.lock:
+            return [{"id": c["id"], "result": self.result(c["method"], c["params"]), "error": None} for c in calls]
+
+
+def answers_of(node):
+    """What answers for a stand-in."""
+
+    class Answers(http.server.BaseHTTPRequestHandler):
+        """One POST, of a list of calls."""
+
+        def do_POST(self):
+            """Answers them, or not quite."""
+            calls = json.loads(self.rfile.read(int(self.headers["Content-Length"])))
+            text = json.dumps(node.reply(calls)).encode()
+            if self.headers["Authorization"] != "Basic " + base64.b64encode(node.secret).decode():
+                return self.send_error(401)
+            if node.fault == "busy":
+                return self.send_error(503, "Work queue depth exceeded")
+            if node.fault == "slow":
+                wanted_in_time(lambda: node.fault, None)
+            self.send_response(200)
+            self.send_header("Content-Length", str(len(text)))
+            self.end_headers()
+            self.wfile.write(text[:len(text) // 2] if node.fault == "cut" else text)
+            return None
+
+        def log_message(self, *_):
+            """Says nothing."""
+
+    return Answers
+
 
 def txid_of(text):
     """The txid of a transaction without witnesses, as it is shown."""
@@ -186,8 +251,8 @@ def txid_of(text):
 
 
 def wanted_in_time(look, wanted):
-    """What a look gives, at the latest after ten seconds."""
-    for _ in range(100):
+    """What a look gives, at the latest after thirty seconds."""
+    for _ in range(300):
         found = look()
         if found == wanted:
             break
@@ -195,15 +260,75 @@ def wanted_in_time(look, wanted):
     return found
 
 
-def follows_a_folder_that_grows(room):
-    """Blocks come while server and feeder run; when the feeder leaves, the server ends."""
-    room.make("grow", 40)
+def follows_files_made_ahead(room, *mask):
+    """Blocks are written into files that are made ahead, while server and feeder run; when the feeder leaves, the server
+    ends."""
+    room.make("grow", 40, *mask)
     room.start()
     room.follow()
-    seen = [room.comes_to(40), room.balance(OPEN_SCRIPT)]
-    room.make("grow", 2, "--pay", OWN_SCRIPT)
-    seen += [room.comes_to(42), room.balance(OWN_SCRIPT), room.leave()]
-    return seen, [40, (40 * COIN, 0), 42, (2 * COIN, 0), 0]
+    seen = [os.path.getsize(os.path.join(room.blocks, "blk00000.dat")), room.comes_to(40), room.balance(OPEN_SCRIPT)]
+    for height in (41, 42):
+        room.make("grow", 1, "--pay", OWN_SCRIPT)
+        seen += [room.comes_to(height)]
+    seen += [room.balance(OWN_SCRIPT), room.leave()]
+    return seen, [16 << 20, 40, (40 * COIN, 0), 41, 42, (2 * COIN, 0), 0]
+
+
+def follows_masked_files_made_ahead(room):
+    """The blocks are masked, and the zeros made ahead are not."""
+    return follows_files_made_ahead(room, "--mask")
+
+
+def follows_the_next_file(room):
+    """A node cuts off what it made ahead of a file, and goes on in the next one; then it writes into the first one again."""
+    room.make("grow", 3)
+    room.start()
+    room.follow()
+    seen = [room.comes_to(3)]
+    shutil.copytree(room.blocks, room.blocks + ".more")
+    room.make("grow", 2, blocks=room.blocks + ".more")
+    first, second = (os.path.join(room.blocks, name) for name in ("blk00000.dat", "blk00001.dat"))
+    with open(first, "r+b") as it, open(os.path.join(room.blocks + ".more", "blk00000.dat"), "rb") as more:
+        end = len(it.read().rstrip(b"\0")) + 4
+        it.truncate(end)
+        more.seek(end)
+        fourth = more.read(8)
+        fourth += more.read(int.from_bytes(fourth[4:], "little"))
+        fifth = more.read()
+    with open(second, "wb") as it:
+        it.write(fifth)
+    time.sleep(1)
+    seen += [room.height()]
+    with open(first, "r+b") as it:
+        os.posix_fallocate(it.fileno(), end, 16 << 20)
+        os.pwrite(it.fileno(), fourth, end)
+    return seen + [room.comes_to(5), room.runs()], [3, 3, 5, [None, None, []]]
+
+
+def waits_for_a_block_that_is_cut(room, *mask):
+    """A node is stopped in the writing of a block, while the feeder runs and before it starts; then it writes another one, or
+    that one, in its place."""
+    room.make("grow", 3, *mask)
+    room.start()
+    room.follow()
+    seen = [room.comes_to(3)]
+    room.make("grow", 1, "--part", 150)
+    time.sleep(1)
+    seen += [room.height(), room.runs()]
+    room.make("grow", 1, "--pay", OWN_SCRIPT)
+    seen += [room.comes_to(4), room.balance(OWN_SCRIPT)]
+    room.make("grow", 1, "--part", 120)
+    room.leave()
+    room.start()
+    room.follow()
+    seen += [room.comes_to_say("at block"), room.height()]
+    room.make("grow", 1)
+    return seen + [room.comes_to(5), room.runs()], [3, 3, [None, None, []], 4, (COIN, 0), 1, 4, 5, [None, None, []]]
+
+
+def waits_for_a_masked_block_that_is_cut(room):
+    """The files are masked."""
+    return waits_for_a_block_that_is_cut(room, "--mask")
 
 
 def follows_a_reorganisation(room):
@@ -229,61 +354,279 @@ def goes_on_after_each_side_stopped(room):
     room.start()
     seen += [room.comes_to(23), room.leave()]
     room.start()
-    seen += [room.height()]
+    seen += [wanted_in_time(room.height, 23)]
     room.make("grow", 1)
     room.follow()
     seen += [room.comes_to(24), room.balance(OPEN_SCRIPT)]
     return seen, [20, 23, 0, 23, 24, (24 * COIN, 0)]
 
 
-def follows_masked_files(room):
-    """The block files are masked."""
-    room.make("grow", 18, "--mask")
+def notices_at_once_that_the_server_stopped(room):
+    """The server is killed and started again while no block comes. It is told what is unconfirmed once more."""
+    rpc = at_a_node(room, 3)
+    text, = room.make("spend", 2, "--pay", OWN_SCRIPT)
+    rpc.become(rpc.best, text)
+    seen = [room.comes_to_hold((0, COIN))]
+    room.kill()
+    seen += [room.comes_to_say("waiting for the server"), len(room.says("going on"))]
+    room.start()
+    seen += [room.comes_to_hold((0, COIN)), room.comes_to_say("going on with the server")]
+    return seen + [len(room.says("waiting")), room.runs()], [(0, COIN), 1, 0, (0, COIN), 1, 1, [None, None, []]]
+
+
+def waits_where_another_feeder_is(room):
+    """A second feeder comes while one is there, and takes its place when the server, which that one ended, is there again."""
+    room.make("grow", 2)
     room.start()
     room.follow()
-    return [room.comes_to(18), room.balance(OPEN_SCRIPT)], [18, (18 * COIN, 0)]
+    seen, first = [room.comes_to(2)], room.feeder
+    room.follow()
+    seen += [room.comes_to_say("waiting for the server"), len(room.says("going on"))]
+    first.kill()
+    first.wait(10)
+    seen += [room.ended()]
+    room.start()
+    room.make("grow", 1)
+    return seen + [room.comes_to(3), len(room.says("waiting")), room.runs()], [2, 1, 0, 0, 3, 1, [None, None, []]]
+
+
+def at_a_node(room, count, *words):
+    """The stand-in of a node with so many blocks, and server and feeder at the last of them."""
+    best, height = room.make("grow", count)
+    rpc = NodeRpc(room.cookie)
+    rpc.start()
+    rpc.best = best
+    room.start()
+    room.follow("--rpc", rpc.url, "--cookie", room.cookie, *words)
+    room.comes_to(int(height))
+    return rpc
+
+
+def follows_a_node_over_files_made_ahead(room):
+    """The node's JSON-RPC names the best block. It isn't the one with the most work, as where the node finds fault with it."""
+    rpc = at_a_node(room, 4)
+    rpc.best, _ = room.make("grow", 1, "--pay", OWN_SCRIPT)
+    seen = [room.comes_to(5), room.balance(OWN_SCRIPT)]
+    room.make("grow", 2)
+    time.sleep(1)
+    return seen + [room.height(), room.runs()], [5, (COIN, 0), 5, [None, None, []]]
 
 
 def tells_unconfirmed_transactions(room):
     """A node's JSON-RPC names the best block and the unconfirmed transactions."""
-    first, _ = room.make("grow", 4)
+    rpc = at_a_node(room, 4)
     text, = room.make("spend", 2, "--pay", OWN_SCRIPT)
-    rpc = NodeRpc(room.cookie)
-    rpc.start()
-    rpc.best = first
-    room.start()
-    room.follow("--rpc", rpc.url, "--cookie", room.cookie)
-    seen = [room.comes_to(4), room.balance(OWN_SCRIPT)]
-    rpc.pool = {txid_of(text): text}
+    seen = [room.balance(OWN_SCRIPT)]
+    rpc.become(rpc.best, text)
     seen += [room.comes_to_hold((0, COIN)), room.balance(OPEN_SCRIPT)]
-    rpc.pool = {}
+    rpc.become(rpc.best)
     seen += [room.comes_to_hold((0, 0))]
-    rpc.pool = {txid_of(text): text}
+    rpc.become(rpc.best, text)
     seen += [room.comes_to_hold((0, COIN))]
     second, _ = room.make("grow", 1, "--confirm", text)
-    rpc.pool, rpc.best = {}, second
+    rpc.become(second)
     seen += [room.comes_to_hold((COIN, 0)), room.balance(OPEN_SCRIPT)]
-    rpc.http.shutdown()
-    return seen, [4, (0, 0), (0, COIN), (4 * COIN, -COIN), (0, 0), (0, COIN), (COIN, 0), (4 * COIN, 0)]
+    return seen, [(0, 0), (0, COIN), (4 * COIN, -COIN), (0, 0), (0, COIN), (COIN, 0), (4 * COIN, 0)]
+
+
+def spend_of(text, output, value, script):
+    """A transaction that spends an output of that one, in hex."""
+    outpoint = double_sha256(bytes.fromhex(text)) + output.to_bytes(4, "little")
+    return transaction([(outpoint, b"")], [(value, bytes.fromhex(script))]).hex()
+
+
+def tells_children_after_their_parents(room):
+    """A node names a chain of unconfirmed transactions from its end to its start, as the feeder comes. A block has the first
+    two; then another branch, without them, overtakes it, and the node has them again."""
+    room.make("grow", 4)
+    texts = room.make("spend", 2, "--pay", OPEN_SCRIPT)
+    for i in range(1, 5):
+        texts += [spend_of(texts[-1], 0, COIN - i, OWN_SCRIPT if i == 4 else OPEN_SCRIPT)]
+    rpc = NodeRpc(room.cookie)
+    rpc.start()
+    rpc.become(room.make("grow", 1)[0], *texts[::-1])
+    room.start()
+    room.follow("--rpc", rpc.url, "--cookie", room.cookie)
+    seen = [room.comes_to_hold((0, COIN - 4))]
+    best, _ = room.make("grow", 1, "--confirm", texts[0], "--confirm", texts[1])
+    rpc.become(best, *texts[:1:-1])
+    seen += [room.comes_to(6), room.comes_to_hold((0, COIN - 4)), room.balance(OPEN_SCRIPT)]
+    best, _ = room.make("grow", 2, "--back", 1)
+    rpc.become(best, *texts[::-1])
+    seen += [room.comes_to(7), room.comes_to_hold((0, COIN - 4)), room.balance(OPEN_SCRIPT)]
+    rpc.become(best, *texts[:4])
+    seen += [room.comes_to_hold((0, 0)), room.balance(OPEN_SCRIPT), room.runs()]
+    return seen, [
+        (0, COIN - 4), 6, (0, COIN - 4), (6 * COIN - 1, 1 - COIN), 7, (0, COIN - 4), (7 * COIN, -COIN),
+        (0, 0), (7 * COIN, -3), [None, None, []]]
+
+
+def drops_what_is_replaced(room):
+    """The node has another transaction in the place of one, with what spent it gone."""
+    rpc = at_a_node(room, 4)
+    text, = room.make("spend", 2, "--pay", OPEN_SCRIPT)
+    other, = room.make("spend", 2, "--pay", OWN_SCRIPT)
+    rpc.become(rpc.best, spend_of(text, 0, COIN - 1, OWN_SCRIPT), text)
+    seen = [room.comes_to_hold((0, COIN - 1))]
+    rpc.become(rpc.best, other)
+    return seen + [room.comes_to_hold((0, COIN)), room.runs()], [(0, COIN - 1), (0, COIN), [None, None, []]]
+
+
+def tells_50000_in_a_minute(room):
+    """Half of them spend the other half, and are named first."""
+    half, least = 25_000, 100_000
+    room.make("grow", 4)
+    paid, = room.make("spend", 1)
+    outpoint = double_sha256(bytes.fromhex(paid)) + bytes(4)
+    fan = transaction([(outpoint, b"")], [(least, b"\x51")] * half).hex()
+    parents = [spend_of(fan, i, least, OPEN_SCRIPT) for i in range(half)]
+    children = [spend_of(text, 0, least, OWN_SCRIPT) for text in parents]
+    rpc = NodeRpc(room.cookie)
+    rpc.start()
+    with open(os.path.join(os.path.dirname(room.blocks), "fan"), "w", encoding="ascii") as it:
+        it.write(fan)
+    rpc.become(room.make("grow", 1, "--confirm", paid, "--confirm", "@" + it.name)[0], *children, *parents)
+    room.start()
+    began = time.monotonic()
+    room.follow("--rpc", rpc.url, "--cookie", room.cookie)
+    seen = [room.comes_to(5)]
+    while room.feeder.poll() is None and time.monotonic() - began < 60 and room.balance(OWN_SCRIPT)[1] < half * least:
+        time.sleep(0.5)
+    took = time.monotonic() - began
+    seen += [room.balance(OWN_SCRIPT), took < 60, rpc.most]
+    print(f"feeds: {2 * half} unconfirmed transactions told in {took:.0f} s")
+    rpc.become(rpc.best, *parents, *children[:100])
+    return seen + [room.comes_to_hold((0, 100 * least)), room.runs()], [
+        5, (0, half * least), True, 100, (0, 100 * least), [None, None, []]]
+
+
+def waits_for_a_node_that_stopped(room):
+    """The node stops, with its cookie, and comes again with another one. The server stays, with what it was told; one line tells
+    that it is waited for, and one that it is there again."""
+    rpc = at_a_node(room, 3)
+    text, = room.make("spend", 2, "--pay", OWN_SCRIPT)
+    rpc.become(rpc.best, text)
+    seen = [room.comes_to_hold((0, COIN))]
+    rpc.stop()
+    seen += [room.comes_to_say("waiting for the node"), len(room.says("going on"))]
+    best, _ = room.make("grow", 1)
+    time.sleep(1)
+    seen += [room.height(), room.balance(OWN_SCRIPT), room.runs()]
+    rpc.start()
+    rpc.best = best
+    seen += [room.comes_to(4), room.balance(OWN_SCRIPT), room.comes_to_say("going on with the node")]
+    return seen + [len(room.says("waiting")), room.runs()], [
+        (0, COIN), 1, 0, 3, (0, COIN), [None, None, []], 4, (0, COIN), 1, 1, [None, None, []]]
+
+
+def waits_for_a_node_that_is_not_there_yet(room):
+    """The node starts after the feeder, and so does the server."""
+    best, _ = room.make("grow", 3)
+    rpc = NodeRpc(room.cookie)
+    rpc.start()
+    rpc.best = best
+    rpc.stop()
+    room.follow("--rpc", rpc.url, "--cookie", room.cookie)
+    seen = [room.comes_to_say("waiting for the server")]
+    room.start()
+    seen += [room.comes_to_say("waiting for the node")]
+    rpc.start()
+    return seen + [room.comes_to(3), len(room.says("going on")), room.runs()], [1, 1, 3, 2, [None, None, []]]
+
+
+def waits_for_a_node_that_is_not_well(room):
+    """Its replies are cut, none that was asked for, refused, late, or tell that it warms up."""
+    rpc = at_a_node(room, 3)
+    text, = room.make("spend", 2, "--pay", OWN_SCRIPT)
+    seen = []
+    for number, fault in enumerate(("cut", "odd", "busy", "warms up", "slow"), 1):
+        rpc.fault = fault
+        seen += [wanted_in_time(lambda: len(room.says("waiting")), number), len(room.says("going on")) + 1]
+        rpc.become(rpc.best, *[] if rpc.pool else [text])
+        rpc.fault = None
+        seen += [room.comes_to_hold((0, COIN if rpc.pool else 0))]
+        seen += [wanted_in_time(lambda: len(room.says("going on")), number)]
+    wanted = [it for i in range(1, 6) for it in (i, i, (0, COIN * (i % 2)), i)]
+    return seen + [room.runs()], wanted + [[None, None, []]]
+
+
+def waits_for_the_node_s_cookie(room):
+    """The cookie isn't the node's; then it is."""
+    rpc = at_a_node(room, 2)
+    secret, rpc.secret = rpc.secret, b"another"
+    seen = [room.comes_to_say("waiting for the node")]
+    rpc.best, _ = room.make("grow", 1)
+    rpc.secret = secret
+    return seen + [room.comes_to(3), len(room.says("going on")), room.runs()], [1, 3, 1, [None, None, []]]
+
+
+def waits_for_block_files_that_are_away(room):
+    """The folder goes, as where its disk isn't there, and comes again."""
+    room.make("grow", 2)
+    room.start()
+    room.follow()
+    seen = [room.comes_to(2)]
+    os.rename(room.blocks, room.blocks + ".away")
+    seen += [room.comes_to_say("waiting for the block files")]
+    os.rename(room.blocks + ".away", room.blocks)
+    room.make("grow", 1)
+    return seen + [room.comes_to(3), len(room.says("going on")), room.runs()], [2, 1, 3, 1, [None, None, []]]
+
+
+def tells_how_far_it_is(room):
+    """A line, whenever so many seconds went by, has the height, how many blocks come a second, and the time that is left."""
+    room.make("grow", 200)
+    room.start()
+    room.follow("--once", "--every", "0")
+    seen = [room.feeder.wait(30), room.ended()]
+    line = re.compile(r"follow: height (\d+) of 200, \d+ blocks a second, \d+:\d\d:\d\d left")
+    heights = [int(it.group(1)) for it in map(line.fullmatch, room.says("blocks a second")) if it]
+    return seen + [heights[:2], heights[-1]], [0, 0, [31, 47], 191]
 
 
 def gives_up_where_it_is_refused(room):
-    """A branch takes back more than a hundred blocks."""
+    """A branch takes back more than a hundred blocks. The feeder says what is to be done, and the server ends."""
     room.make("grow", 101)
     room.start()
     room.follow()
     seen = [room.comes_to(101)]
     room.make("grow", 102, "--back", 101)
-    return seen + [room.feeder.wait(30), room.ended()], [101, 1, 0]
+    seen += [room.feeder.wait(30), room.ended(), len(room.says("refused deep 101", "the server with it"))]
+    return seen + [len(room.says("empty the folder of its index")), room.says("Traceback")], [101, 1, 0, 2, 1, []]
+
+
+def gives_up_at_another_port(room):
+    """The port is the one for clients."""
+    room.make("grow", 1)
+    room.start()
+    wanted_in_time(lambda: room.ask("server.ping"), None)
+    room.follow(port=room.clients)
+    return [room.feeder.wait(30), len(room.says("isn't the server's port for the node")), room.says("Traceback")], [1, 1, []]
 
 
 CASES = [
-    follows_a_folder_that_grows,
+    follows_files_made_ahead,
+    follows_masked_files_made_ahead,
+    follows_the_next_file,
+    waits_for_a_block_that_is_cut,
+    waits_for_a_masked_block_that_is_cut,
     follows_a_reorganisation,
     goes_on_after_each_side_stopped,
-    follows_masked_files,
+    notices_at_once_that_the_server_stopped,
+    waits_where_another_feeder_is,
+    follows_a_node_over_files_made_ahead,
     tells_unconfirmed_transactions,
+    tells_children_after_their_parents,
+    drops_what_is_replaced,
+    tells_50000_in_a_minute,
+    waits_for_a_node_that_stopped,
+    waits_for_a_node_that_is_not_there_yet,
+    waits_for_a_node_that_is_not_well,
+    waits_for_the_node_s_cookie,
+    waits_for_block_files_that_are_away,
+    tells_how_far_it_is,
     gives_up_where_it_is_refused,
+    gives_up_at_another_port,
 ]
 
 
@@ -315,7 +658,8 @@ def main(given):
                 failed += 1
         print(f"feeds: {len(CASES)} cases of the feeder and the built program")
     else:
-        print("feeds: skipped: the program was not built")
+        failed += len(CASES)
+        print(f"feeds: FAILED: the program was not built: there is no {PROGRAM}")
     print(f"{passed} passed, {failed} failed")
     return 1 if failed else 0
 

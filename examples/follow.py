@@ -6,39 +6,55 @@ usage: follow.py --blocks DIR --network NET --port N [--rpc URL --cookie FILE] [
 It reads the node's block files (also masked ones) and writes nothing. Of all blocks that it has found it takes the one with
 the most work behind it as the tip, or with --rpc the node's own best block, and asks the server to go there. With --rpc it
 also tells the unconfirmed transactions that the node has, and those that it no longer has. With --once it ends when the
-server has come as far as the block files; else it goes on until it is stopped.
+server has come as far as the block files; else it goes on until it is stopped, which is safe at any moment.
 
-It is no part of what is proved: the server believes none of its lines, but looks at the block files itself.
+Where the node, its block files or the server aren't as they have to be, it waits: a line on standard error tells when it
+begins to, and one when it goes on. It ends, with status 1 and a line that says what to do, only where the server refuses
+what it can't be led past. The server ends when its node leaves, so it ends with this program.
+
+It is no part of what is proved. Of blocks the server believes nothing but the place: it reads them itself. Which of them is
+the tip, and which transactions are unconfirmed, it takes from these lines. So the server's port for the node is to be kept
+to oneself: whoever reaches it first leads the server to any block of the block files, whatever its work, tells it
+unconfirmed transactions that nobody signed, and ends the server when it leaves.
 """
 
 import argparse
-import base64
-import hashlib
-import json
 import os
+import re
+import select
 import socket
 import sys
+import threading
 import time
-import urllib.error
-import urllib.request
 
-MAGICS = {"main": "f9beb4d9", "testnet3": "0b110907", "regtest": "fabfb5da"}
-ZERO = bytes(32)
-SMALLEST, LARGEST = 81, 4_000_000
+from block_files import MAGICS, BlockFiles, Headers, double_sha256, inner, is_whole, shown
+from node_rpc import NODE, Away, Node
+from unconfirmed import Unconfirmed
+
+# Lines that are sent before their answers are read, and about how many bytes of them.
+MANY, MUCH = 500, 1_000_000
+# Seconds after which it is told that something is waited for that should be quick.
+SLOW = 5
+AT = re.compile(r"at ([0-9a-f]{64}) (\d+)")
+URL = re.compile(r"http://([^/:@]+):(\d{1,5})/?")
+REFUSED = re.compile(r"refused (\w+)(?: ([0-9a-f]{64}))?.*")
+SERVER, FILES = "the server", "the block files"
+
+# What to do where the server can't be led past its refusal, by the word behind `refused`.
+REMEDIES = {
+    "deep": "an index goes back 100 blocks at most: stop the server, empty the folder of its index, and start both again",
+    "bad": "the block is whole in the block files and can't stand on the chain: let the node check its blocks (bitcoind's "
+           "-reindex), and start both again",
+    "changed": "the node has written its block files anew: start the server and this program again, and the server looks at "
+               "all of them",
+    "unknown": "the server doesn't find blocks that are in the block files: it has to have the same --blocks and --network, "
+               "and to be started after the node has made its files; start both again",
+}
+REMEDIES["unconnected"] = REMEDIES["unknown"]
 
 
 class Refused(Exception):
     """The server refuses what it can't be led past."""
-
-
-def double_sha256(data):
-    """The hash of blocks and transactions."""
-    return hashlib.sha256(hashlib.sha256(data).digest()).digest()
-
-
-def shown(hash_bytes):
-    """A hash as it is shown: its bytes from the last to the first, in hex."""
-    return hash_bytes[::-1].hex()
 
 
 def say(text):
@@ -46,149 +62,45 @@ def say(text):
     print("follow: " + text, file=sys.stderr, flush=True)
 
 
-def work_of(bits):
-    """How many hashes a block with these bits took on average (Bitcoin Core, GetBlockProof)."""
-    size, mantissa = bits >> 24, bits & 0x7FFFFF
-    target = mantissa << 8 * (size - 3) if size > 3 else mantissa >> 8 * (3 - size)
-    return 0 if target <= 0 or bits & 0x800000 else (1 << 256) // (target + 1)
-
-
-class BlockFiles:
-    """The records of a folder of block files, in the order in which they are met."""
-
-    def __init__(self, folder, magic):
-        self.folder, self.magic = folder, magic
-        self.next, self.sizes = {}, {}
-        self.mask = self.mask_of(os.path.join(folder, "xor.dat"))
-
-    @staticmethod
-    def mask_of(path):
-        """The eight bytes by which a node masks its block files; zeros where it doesn't."""
-        try:
-            with open(path, "rb") as it:
-                mask = it.read()
-        except FileNotFoundError:
-            return bytes(8)
-        if len(mask) != 8:
-            raise SystemExit(f"follow: {path} has {len(mask)} bytes and not 8")
-        return mask
-
-    def path(self, number):
-        return os.path.join(self.folder, f"blk{number:05}.dat")
-
-    def read(self, number, place):
-        """The bytes of a block file from that place on, unmasked."""
-        with open(self.path(number), "rb") as it:
-            it.seek(place)
-            data = it.read()
-        if not any(self.mask):
-            return data
-        turn = place % 8
-        mask = (self.mask[turn:] + self.mask[:turn]) * (len(data) // 8 + 1)
-        return (int.from_bytes(data, "big") ^ int.from_bytes(mask[:len(data)], "big")).to_bytes(len(data), "big")
-
-    def new_records(self):
-        """The file, the place and the header of each record that came since the last call."""
-        number = 0
-        while os.path.exists(self.path(number)):
-            last = not os.path.exists(self.path(number + 1))
-            size = os.path.getsize(self.path(number))
-            if size != self.sizes.get(number) or not last:
-                yield from self.records_in(number, last)
-                self.sizes[number] = size
-            number += 1
-
-    def records_in(self, number, last):
-        """Those of one file; where it is the last one, a record that isn't whole yet is waited for."""
-        start = self.next.get(number, 0)
-        if start is None:
-            return
-        data = self.read(number, start)
-        at = 0
-        while True:
-            at = data.find(self.magic, at)
-            if at < 0 or at + 8 > len(data):
-                break
-            size = int.from_bytes(data[at + 4:at + 8], "little")
-            if not SMALLEST <= size <= LARGEST:
-                at += 1
-            elif at + 8 + size > len(data):
-                if last:
-                    break
-                at += 1
-            else:
-                yield number, start + at, data[at + 8:at + 88]
-                at += 8 + size
-        if not last:
-            self.next[number] = None
-        elif at >= 0:
-            self.next[number] = start + at
-        else:
-            self.next[number] = start + max(0, len(data) - 3)
-
-
-class Headers:
-    """The tree of the headers that were found, and the one with the most work behind it."""
+class Waits:
+    """What is waited for: one line when that begins, and one when it ends."""
 
     def __init__(self):
-        self.nodes = {}
-        self.waiting = {}
-        self.best = None
+        self.since = {}
 
-    def add(self, number, place, header):
-        """One record; its hash, or None where it was known."""
-        name = double_sha256(header)
-        if name in self.nodes:
-            return None
-        before = header[4:36]
-        self.nodes[name] = [before, number, place, work_of(int.from_bytes(header[72:76], "little")), None, None]
-        ready = [name]
-        while ready:
-            name = ready.pop()
-            node = self.nodes[name]
-            parent = self.nodes.get(node[0])
-            if node[0] == ZERO:
-                node[4], node[5] = 0, node[3]
-            elif parent is not None and parent[4] is not None:
-                node[4], node[5] = parent[4] + 1, parent[5] + node[3]
-            else:
-                self.waiting.setdefault(node[0], []).append(name)
-                continue
-            if self.best is None or node[5] > self.nodes[self.best][5]:
-                self.best = name
-            ready += self.waiting.pop(name, [])
-        return name
+    def begin(self, what, why):
+        if what not in self.since:
+            self.since[what] = time.monotonic()
+            say(f"waiting for {what}: {why}")
 
-    def height(self, name):
-        """The height of a block, where all before it were found."""
-        node = self.nodes.get(name)
-        return None if node is None else node[4]
-
-    def path_back(self, name):
-        """The blocks from this one back to the first."""
-        while name in self.nodes:
-            yield name
-            name = self.nodes[name][0]
+    def end(self, what):
+        if what in self.since:
+            say(f"going on with {what}, after {time.monotonic() - self.since.pop(what):.0f} s")
 
 
 class Server:
-    """The server's port for the node."""
+    """The server's port for the node. Where its connection ends, each call says so by `Away`."""
 
-    def __init__(self, port):
-        self.port, self.socket, self.held = port, None, b""
+    def __init__(self, port, waits):
+        self.port, self.waits, self.socket, self.held = port, waits, None, b""
 
     def connect(self):
-        """Waits until the server is there."""
-        told = False
+        """Connects once the server is there, and waits until it answers."""
         while self.socket is None:
             try:
                 self.socket = socket.create_connection(("127.0.0.1", self.port))
-                self.held = b""
-            except OSError:
-                if not told:
-                    say(f"waiting for the server on port {self.port}")
-                told = True
-                time.sleep(1)
+            except OSError as error:
+                self.waits.begin(SERVER, f"port {self.port} of 127.0.0.1: {error.strerror or error}")
+                time.sleep(0.5)
+        self.socket.setsockopt(socket.IPPROTO_TCP, socket.TCP_NODELAY, 1)
+        self.held = b""
+        self.send("?")
+        if not select.select([self.socket], [], [], SLOW)[0]:
+            self.waits.begin(SERVER, "it doesn't answer yet, as where it still opens its index or looks at the block files")
+        answer = self.answer("at its start, as where another program speaks to it already")
+        if answer != "refused line":
+            raise Refused(f"port {self.port} isn't the server's port for the node: it answers {answer[:60]!r}")
+        self.waits.end(SERVER)
 
     def close(self):
         if self.socket is not None:
@@ -196,171 +108,221 @@ class Server:
         self.socket = None
 
     def send(self, *lines):
-        self.socket.sendall("".join(line + "\n" for line in lines).encode())
+        try:
+            self.socket.sendall("".join(line + "\n" for line in lines).encode())
+        except OSError as error:
+            raise Away(SERVER, f"its connection ends: {error.strerror or error}") from error
 
-    def answer(self):
+    def receive(self, when=""):
+        """Takes what came, and waits for it where nothing did."""
+        try:
+            more = self.socket.recv(1 << 16)
+        except OSError as error:
+            raise Away(SERVER, f"its connection ends: {error.strerror or error}") from error
+        if not more:
+            raise Away(SERVER, f"it has closed the connection {when}".rstrip())
+        self.held += more
+
+    def answer(self, when=""):
         """The next line that it sends."""
         while b"\n" not in self.held:
-            more = self.socket.recv(65536)
-            if not more:
-                raise ConnectionError("the server has closed the connection")
-            self.held += more
+            self.receive(when)
         line, self.held = self.held.split(b"\n", 1)
-        return line.decode()
+        return line.decode(errors="replace")
 
     def ask(self, line):
         self.send(line)
         return self.answer()
 
+    def ask_all(self, lines):
+        """Each of these lines with its answer. Some are sent ahead of the answers."""
+        some, size = [], 0
+        for line in lines:
+            some.append(line)
+            size += len(line)
+            if len(some) == MANY or size > MUCH:
+                yield from self.ask_some(some)
+                some, size = [], 0
+        if some:
+            yield from self.ask_some(some)
 
-class Node:
-    """The JSON-RPC of a node."""
+    def ask_some(self, lines):
+        self.send(*lines)
+        for line in lines:
+            yield line, self.answer()
 
-    def __init__(self, url, cookie):
-        self.url, self.cookie = url, cookie
+    def watch(self, others, seconds):
+        """Waits for one of these sockets so long, and notices where the server's connection ends meanwhile."""
+        ready = select.select([self.socket, *others], [], [], seconds)[0]
+        if self.socket in ready:
+            self.receive()
+            raise Refused(f"the server sends what nobody asked for: {self.held[:60]!r}")
+        return ready
 
-    def call(self, *calls):
-        """The results of these calls, each a method and its parameters; None for one that failed."""
-        with open(self.cookie, "rb") as it:
-            secret = base64.b64encode(it.read().strip()).decode()
-        body = [{"jsonrpc": "1.0", "id": i, "method": c[0], "params": list(c[1:])} for i, c in enumerate(calls)]
-        ask = urllib.request.Request(
-            self.url, json.dumps(body).encode(),
-            {"Content-Type": "application/json", "Authorization": "Basic " + secret})
-        with urllib.request.urlopen(ask, timeout=60) as reply:
-            found = {r["id"]: r.get("result") for r in json.load(reply)}
-        return [found.get(i) for i in range(len(calls))]
+    def beside(self, what, work, *words):
+        """What this gives with these words, done in a thread while the server's connection is watched. It may be slow."""
+        mine, others = socket.socketpair()
+        found = []
 
-    def best(self):
-        """The hash of its best block, in inner order."""
-        name = self.call(("getbestblockhash",))[0]
-        return None if name is None else bytes.fromhex(name)[::-1]
+        def run():
+            with others:
+                try:
+                    found.append((work(*words), None))
+                except Exception as error:
+                    found.append((None, error))
 
-    def unconfirmed(self):
-        """The txids of its unconfirmed transactions, as they are shown."""
-        return self.call(("getrawmempool",))[0] or []
+        threading.Thread(target=run, daemon=True).start()
+        with mine:
+            while not self.watch([mine], SLOW):
+                self.waits.begin(what, f"it hasn't answered for {SLOW} seconds")
+        result, error = found[0]
+        if error is not None:
+            raise error
+        return result
 
-    def transactions(self, txids):
-        """The hex of those that it still has, by txid."""
-        found = {}
-        for start in range(0, len(txids), 100):
-            some = txids[start:start + 100]
-            found.update(zip(some, self.call(*[("getrawtransaction", t) for t in some])))
-        return {t: h for t, h in found.items() if h}
+
+class Progress:
+    """How far a long way is: a line every few seconds, with the time that is left by the bytes of the blocks that are."""
+
+    def __init__(self, headers, name, every):
+        self.headers, self.name, self.every = headers, name, every
+        self.started, self.told, self.first, self.sizes = time.monotonic(), time.monotonic(), None, []
+
+    def bytes_up_to(self):
+        """By height, how many bytes the blocks up to there have."""
+        sizes, total = [block.size for _, block in self.headers.path_back(self.name)][::-1], 0
+        for height, size in enumerate(sizes):
+            total += size
+            sizes[height] = total
+        return sizes
+
+    def show(self, height):
+        """The server has come to this height."""
+        now = time.monotonic()
+        if self.first is None:
+            self.first, self.started = height, now
+        if now - self.told < self.every or height == self.first:
+            return
+        self.told, self.sizes = now, self.sizes or self.bytes_up_to()
+        goal, took = len(self.sizes) - 1, now - self.started
+        if self.first < height <= goal:
+            done = self.sizes[height] - self.sizes[self.first]
+            left = int((self.sizes[goal] - self.sizes[height]) * took / done)
+            say(f"height {height} of {goal}, {(height - self.first) / max(took, 1e-3):.0f} blocks a second, "
+                f"{left // 3600}:{left // 60 % 60:02}:{left % 60:02} left")
 
 
 class Follower:
     """What the server was told, and what it is to be told next."""
 
-    def __init__(self, files, server, node):
-        self.files, self.server, self.node = files, server, node
-        self.headers = Headers()
-        self.at, self.told, self.fresh = None, set(), []
+    def __init__(self, files, server, node, every):
+        self.files, self.server, self.node, self.every = files, server, node, every
+        self.headers, self.waits = Headers(), server.waits
+        self.at, self.fresh = None, []
+        self.unconfirmed = Unconfirmed(server, node, say)
+
+    def begin(self):
+        """The server is a new one, which was told nothing."""
+        self.at, self.fresh = None, []
+        self.unconfirmed.begin()
 
     def look(self):
         """Reads what came to the block files."""
-        for number, place, header in self.files.new_records():
-            name = self.headers.add(number, place, header)
-            if name is not None:
-                self.fresh.append(f"block {number} {place}")
+        try:
+            for record in self.files.new_records():
+                self.headers.add(record)
+                if self.at is not None:
+                    self.fresh.append(f"block {record.number} {record.place}")
+        except OSError as error:
+            raise Away(FILES, str(error)) from error
 
-    def tip(self):
-        """The block to lead the server to: the node's, if it is found, or the one with the most work."""
-        if self.node is not None:
-            name = self.node.best()
-            return name if name is not None and self.headers.height(name) is not None else None
-        return self.headers.best
+    def goal(self):
+        """The block to lead the server to: the node's, or the one with the most work; None where there is no block."""
+        if self.node is None:
+            self.look()
+            return self.headers.best
+        name = self.server.beside(NODE, self.node.best)
+        self.look()
+        if self.headers.height(name) is None:
+            raise Away(FILES, f"the node's best block {shown(name)} isn't in {self.files.folder}")
+        return name
 
     def tell_blocks(self, lines):
         """Tells places of the block files. The server looks there itself."""
-        for start in range(0, len(lines), 500):
-            some = lines[start:start + 500]
-            self.server.send(*some)
-            for line in some:
-                answer = self.server.answer()
-                if not answer.startswith("block "):
-                    raise Refused(f"{line}: {answer}")
+        answers = list(self.server.ask_all(lines))
+        for line, answer in answers:
+            if answer == "refused place":
+                self.files.look_anew(int(line.split()[1]))
+        if any(answer == "refused archive" for _, answer in answers):
+            raise Away(FILES, "the server can't read them")
 
     def places_back(self, name, most):
         """The lines of the last blocks up to this one, the earliest first."""
         lines = []
-        for block in self.headers.path_back(name):
+        for _, block in self.headers.path_back(name):
             if len(lines) == most:
                 break
-            node = self.headers.nodes[block]
-            lines.append(f"block {node[1]} {node[2]}")
+            lines.append(f"block {block.number} {block.place}")
         return lines[::-1]
 
     def lead(self, name):
         """Leads the server to that block, and shows how far it is."""
-        goal, started, first = self.headers.height(name), time.monotonic(), None
+        goal, progress = self.headers.height(name), Progress(self.headers, name, self.every)
         missing = iter((100, 10_000, goal + 1))
         answer = self.server.ask("tip " + shown(name))
         while answer != f"at {shown(name)} {goal}":
-            words = answer.split()
-            if answer.startswith(("refused unknown", "refused unconnected")):
-                most = next(missing, None)
-                if most is None:
-                    raise Refused(answer)
-                self.tell_blocks(self.places_back(name, most))
-                answer = self.server.ask("tip " + shown(name))
-            elif words[0] == "at":
-                height = int(words[2])
-                first = height if first is None else first
-                self.show(height, goal, (height - first) / max(time.monotonic() - started, 1e-3))
+            at = AT.fullmatch(answer)
+            if at:
+                progress.show(int(at.group(2)))
                 answer = self.server.answer()
-            else:
-                raise Refused(answer)
-        if first is not None and sys.stderr.isatty():
-            print(file=sys.stderr)
+                continue
+            most = next(missing, None) if answer.startswith(("refused unknown", "refused unconnected")) else None
+            if most is None:
+                self.refuse(answer)
+            self.tell_blocks(self.places_back(name, most))
+            answer = self.server.ask("tip " + shown(name))
+        self.unconfirmed.moved(self.at is not None and not self.headers.is_before(self.at, name))
         self.at = name
         say(f"at block {shown(name)}, height {goal}")
 
-    @staticmethod
-    def show(height, goal, rate):
-        """One line of progress, over the one before where that is a terminal."""
-        text = f"follow: height {height} of {goal}, {rate:.0f} blocks a second"
-        if sys.stderr.isatty():
-            print("\r" + text + " " * 8, end="", file=sys.stderr, flush=True)
-        elif height % 1600 < 16:
-            print(text, file=sys.stderr, flush=True)
+    def refuse(self, answer):
+        """Waits or ends for what a `tip` line was answered."""
+        refused = REFUSED.fullmatch(answer)
+        kind, name = refused.groups() if refused else (None, None)
+        if kind == "archive":
+            raise Away(FILES, "the server can't read them")
+        if kind in ("bad", "changed") and name and not self.is_there(inner(name)):
+            raise Away(FILES, f"block {name} isn't whole in them")
+        raise Refused(f"the server answers {answer[:100]!r}: {REMEDIES.get(kind, 'it is another program than it should be')}")
 
-    def tell_unconfirmed(self):
-        """Tells which unconfirmed transactions came and went since the last time."""
-        now = self.node.unconfirmed()
-        for txid in self.told - set(now):
-            self.server.ask("drop " + txid)
-        self.told &= set(now)
-        wanted = [t for t in now if t not in self.told]
-        found, left = self.node.transactions(wanted), wanted
-        while left:
-            again = []
-            for txid in left:
-                if txid not in found:
-                    continue
-                answer = self.server.ask("tx " + found[txid])
-                if answer.startswith("refused missing"):
-                    again.append(txid)
-                elif answer.startswith(("tx ", "refused known", "refused confirmed")):
-                    self.told.add(txid)
-                else:
-                    say(f"{txid}: {answer}")
-            if len(again) == len(left):
-                break
-            left = again
+    def is_there(self, name):
+        """Whether that block stands whole where it was found. Where it doesn't stand there its file is looked at anew."""
+        block = self.headers.blocks.get(name)
+        if block is None:
+            return True
+        try:
+            found = self.files.block(block.number, block.place)
+        except OSError as error:
+            raise Away(FILES, str(error)) from error
+        if found is None or double_sha256(found[:80]) != name:
+            self.files.look_anew(block.number)
+            return False
+        return is_whole(found)
 
     def turn(self):
         """One look at the node; whether the server is where the block files are."""
-        self.look()
+        name = self.goal()
         if self.fresh and self.at is not None:
             self.tell_blocks(self.fresh)
         self.fresh = []
-        name = self.tip()
         if name is not None and name != self.at:
+            self.waits.end(NODE)
             self.lead(name)
+        self.waits.end(FILES)
         if self.node is not None and self.at is not None:
-            self.tell_unconfirmed()
-        return name is not None and name == self.at
+            self.unconfirmed.tell(self.at)
+        self.waits.end(NODE)
+        return name is not None
 
 
 def words():
@@ -372,39 +334,55 @@ def words():
     reader.add_argument("--rpc", help="the node's JSON-RPC, as http://127.0.0.1:8332")
     reader.add_argument("--cookie", help="the node's file .cookie")
     reader.add_argument("--once", action="store_true", help="end when the server has come as far")
-    reader.add_argument("--pause", type=float, default=2.0, help="seconds between two looks at the node")
+    reader.add_argument("--pause", type=float, default=2.0, help="seconds between two looks at the node (2)")
+    reader.add_argument("--every", type=float, default=5.0, help="seconds between two lines of a long way (5)")
     given = reader.parse_args()
     if bool(given.rpc) != bool(given.cookie):
         reader.error("--rpc and --cookie go together")
+    if given.rpc and not URL.fullmatch(given.rpc):
+        reader.error("--rpc is a URL as http://127.0.0.1:8332")
     if not os.path.isdir(given.blocks):
         reader.error(f"{given.blocks} is no folder")
     return given
 
 
-def main():
-    given = words()
-    files = BlockFiles(given.blocks, bytes.fromhex(MAGICS[given.network]))
-    server = Server(given.port)
-    node = Node(given.rpc, given.cookie) if given.rpc else None
-    follower = Follower(files, server, node)
-    follower.look()
-    say(f"{len(follower.headers.nodes)} blocks in {given.blocks}")
+def follow(follower, server, given):
+    """Goes on until it is stopped, or with --once until the server has come as far."""
+    is_pause = False
     while True:
         try:
             if server.socket is None:
                 server.connect()
-                follower.at, follower.told = None, set()
+                follower.begin()
+            elif is_pause:
+                server.watch([], given.pause)
+            is_pause = True
             if follower.turn() and given.once:
                 return 0
+        except Away as away:
+            server.waits.begin(away.what, away.why)
+            if away.what == SERVER:
+                server.close()
+                time.sleep(min(given.pause, 0.5))
         except Refused as refused:
-            say(f"the server refuses: {refused}")
+            say(str(refused))
+            say("this ends, and the server with it")
             return 1
-        except urllib.error.URLError as error:
-            say(f"the node doesn't answer: {error.reason}")
-        except (ConnectionError, OSError) as error:
-            say(f"the server is gone: {error}")
-            server.close()
-        time.sleep(given.pause)
+
+
+def main():
+    given = words()
+    waits = Waits()
+    files = BlockFiles(given.blocks, bytes.fromhex(MAGICS[given.network]))
+    server = Server(given.port, waits)
+    node = Node(*URL.fullmatch(given.rpc).groups(), given.cookie) if given.rpc else None
+    follower = Follower(files, server, node, given.every)
+    try:
+        follower.look()
+        say(f"{len(follower.headers.blocks)} blocks in {given.blocks}")
+    except Away as away:
+        waits.begin(away.what, away.why)
+    return follow(follower, server, given)
 
 
 if __name__ == "__main__":

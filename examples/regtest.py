@@ -1,14 +1,17 @@
 #!/usr/bin/env python3
 """Makes block files of a regtest chain, with real proof of work, to try the server with no node.
 
-usage: regtest.py --blocks DIR grow N [--pay SCRIPT] [--back K] [--confirm HEX] [--mask]
+usage: regtest.py --blocks DIR grow N [--pay SCRIPT] [--back K] [--confirm HEX] [--part K] [--mask]
        regtest.py --blocks DIR spend HEIGHT --pay SCRIPT
 
 `grow` adds N blocks to the chain, whose coinbases pay to SCRIPT, a locking script in hex (51, which anyone may spend, where
 none is given). With --back K they stand on the block K below the tip instead: a branch, which is the chain once it is
-longer. --confirm puts a transaction into the first of them. --mask makes a new folder's files masked. `spend` prints a
-transaction, in hex, that spends the coinbase of that height, where it paid to 51, into SCRIPT. The first block is that of
-Bitcoin's regtest.
+longer. --confirm puts a transaction, in hex or in hex in @FILE, into the first of them. --mask makes a new folder's files masked. With --part K only the
+first K bytes of the last one's record are written, as where a node is stopped in a write; the next call writes over them.
+`spend` prints a transaction, in hex, that spends the coinbase of that height, where it paid to 51, into SCRIPT. The first
+block is that of Bitcoin's regtest.
+
+As a node does, it takes room for the block file ahead, in zeros, and writes over them.
 """
 
 import argparse
@@ -16,9 +19,11 @@ import os
 import struct
 import sys
 
-from follow import MAGICS, ZERO, BlockFiles, Headers, double_sha256, shown
+from block_files import MAGICS, ZERO, BlockFiles, Headers, double_sha256, merkle_root, shown
 
 MAGIC = bytes.fromhex(MAGICS["regtest"])
+# The steps in which room is taken ahead.
+AHEAD = 16 << 20
 BITS = 0x207FFFFF
 TARGET = 0x7FFFFF << 8 * (0x20 - 3)
 SUBSIDY = 5_000_000_000
@@ -57,15 +62,6 @@ def coinbase(height, branch, script):
     return transaction([(ZERO + b"\xff\xff\xff\xff", start)], [(SUBSIDY, script)])
 
 
-def merkle_root(hashes):
-    """The Merkle root of these hashes."""
-    while len(hashes) > 1:
-        if len(hashes) % 2:
-            hashes = hashes + hashes[-1:]
-        hashes = [double_sha256(a + b) for a, b in zip(hashes[::2], hashes[1::2])]
-    return hashes[0]
-
-
 def block(before, height, transactions):
     """A block with proof of work."""
     start = struct.pack("<i", 4) + before + merkle_root([double_sha256(t) for t in transactions])
@@ -86,47 +82,61 @@ class Chain:
             with open(os.path.join(folder, "xor.dat"), "wb") as it:
                 it.write(bytes.fromhex("a5c30f69125ae178"))
         self.files, self.headers = BlockFiles(folder, MAGIC), Headers()
-        if not os.path.exists(self.path):
+        self.end = 0
+        self.look()
+        if self.headers.best is None:
             self.append(FIRST)
-        for number, place, header in self.files.new_records():
-            self.headers.add(number, place, header)
+            self.look()
 
-    def append(self, bytes_of_block):
-        """Adds a record to the first file."""
+    def look(self):
+        """Reads what stands in the folder."""
+        for record in self.files.new_records():
+            self.headers.add(record)
+            self.end = record.after()
+
+    def append(self, bytes_of_block, part=None):
+        """Writes a record behind the last one, or the first part of it alone."""
         record = MAGIC + struct.pack("<I", len(bytes_of_block)) + bytes_of_block
-        place = os.path.getsize(self.path) if os.path.exists(self.path) else 0
-        mask = self.files.mask
-        masked = bytes(b ^ mask[(place + i) % 8] for i, b in enumerate(record))
-        with open(self.path, "ab") as it:
-            it.write(masked)
+        with open(os.open(self.path, os.O_RDWR | os.O_CREAT, 0o644), "r+b") as it:
+            room = -(-(self.end + len(record)) // AHEAD) * AHEAD
+            if room > os.fstat(it.fileno()).st_size:
+                os.posix_fallocate(it.fileno(), 0, room)
+            os.pwrite(it.fileno(), self.files.unmasked(record, self.end)[:part], self.end)
+        if part is None:
+            self.end += len(record)
 
     def back(self, count):
         """The block so many below the tip, with its height."""
         name = self.headers.best
         for _ in range(count):
-            name = self.headers.nodes[name][0]
+            name = self.headers.blocks[name].before
         return name, self.headers.height(name)
 
-    def grow(self, count, script, back, confirmed):
-        """Adds blocks on the block so many below the tip, the first with these transactions."""
+    def grow(self, count, script, back, confirmed, part=None):
+        """Adds blocks on the block so many below the tip, the first with these transactions; the last may be cut."""
         name, height = self.back(back)
         for i in range(count):
             height += 1
-            mark = struct.pack("<I", len(self.headers.nodes) + i)
+            mark = struct.pack("<I", len(self.headers.blocks) + i)
             made = block(name, height, [coinbase(height, mark, script), *confirmed])
-            self.append(made)
+            self.append(made, part if i == count - 1 else None)
             name, confirmed = double_sha256(made[:80]), []
         return name, height
 
     def coinbase_of(self, height):
         """The coinbase of a height."""
-        for name in self.headers.path_back(self.headers.best):
-            node = self.headers.nodes[name]
-            if node[4] == height:
-                data = self.files.read(node[1], node[2])
-                size = int.from_bytes(data[4:8], "little")
-                return data[8 + 81:8 + size]
+        for _, found in self.headers.path_back(self.headers.best):
+            if found.height == height:
+                return self.files.block(found.number, found.place)[81:]
         raise SystemExit(f"regtest: no block of height {height}")
+
+
+def hex_of(text):
+    """The bytes of a hex text, or of the one in @FILE."""
+    if text.startswith("@"):
+        with open(text[1:], encoding="ascii") as it:
+            text = it.read()
+    return bytes.fromhex(text)
 
 
 def words():
@@ -138,7 +148,8 @@ def words():
     grow.add_argument("count", type=int)
     grow.add_argument("--pay", default="51", help="a locking script in hex")
     grow.add_argument("--back", type=int, default=0, help="on the block so many below the tip")
-    grow.add_argument("--confirm", action="append", default=[], help="a transaction in hex")
+    grow.add_argument("--confirm", action="append", default=[], help="a transaction in hex, or @FILE")
+    grow.add_argument("--part", type=int, help="write so many bytes of the last one's record alone")
     grow.add_argument("--mask", action="store_true", help="mask a new folder's files")
     spend = commands.add_parser("spend", help="print a transaction that spends a coinbase")
     spend.add_argument("height", type=int)
@@ -151,7 +162,7 @@ def main():
     chain = Chain(given.blocks, given.command == "grow" and given.mask)
     script = bytes.fromhex(given.pay)
     if given.command == "grow":
-        name, height = chain.grow(given.count, script, given.back, [bytes.fromhex(t) for t in given.confirm])
+        name, height = chain.grow(given.count, script, given.back, [hex_of(t) for t in given.confirm], given.part)
         print(f"{shown(name)} {height}")
     else:
         paid = double_sha256(chain.coinbase_of(given.height))
