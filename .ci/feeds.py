@@ -161,8 +161,8 @@ class Room:
 
 
 class NodeRpc:
-    """A stand-in for a node's JSON-RPC: a best block, and unconfirmed transactions by txid. It can stop and start again, with
-    another cookie, and reply in ways in which a node does that isn't well."""
+    """A stand-in for a node's JSON-RPC: a best block, and unconfirmed transactions by txid. It can stop and start again,
+    with another cookie, and reply as a node does that isn't well."""
 
     def __init__(self, cookie):
         self.best, self.pool, self.fault = None, {}, None
@@ -306,8 +306,8 @@ def follows_the_next_file(room):
 
 
 def waits_for_a_block_that_is_cut(room, *mask):
-    """A node is stopped in the writing of a block, while the feeder runs and before it starts; then it writes another one, or
-    that one, in its place."""
+    """A node is stopped in the writing of a block, while the feeder runs and before it starts; then it writes another one,
+    or that one, in its place."""
     room.make("grow", 3, *mask)
     room.start()
     room.follow()
@@ -375,7 +375,7 @@ def notices_at_once_that_the_server_stopped(room):
 
 
 def waits_where_another_feeder_is(room):
-    """A second feeder comes while one is there, and takes its place when the server, which that one ended, is there again."""
+    """A second feeder comes while one is there, and takes its place when the server is there again, which that one ended."""
     room.make("grow", 2)
     room.start()
     room.follow()
@@ -403,7 +403,7 @@ def at_a_node(room, count, *words):
 
 
 def follows_a_node_over_files_made_ahead(room):
-    """The node's JSON-RPC names the best block. It isn't the one with the most work, as where the node finds fault with it."""
+    """The node's JSON-RPC names the best block, which isn't the one with the most work, as where the node finds fault."""
     rpc = at_a_node(room, 4)
     rpc.best, _ = room.make("grow", 1, "--pay", OWN_SCRIPT)
     seen = [room.comes_to(5), room.balance(OWN_SCRIPT)]
@@ -462,47 +462,55 @@ def tells_children_after_their_parents(room):
 
 
 def drops_what_is_replaced(room):
-    """The node has another transaction in the place of one, with what spent it gone."""
+    """The node has another transaction in the place of one, with what spent that one gone. A block has the first one; then
+    another branch, without it, overtakes it, and the node has the other one again."""
     rpc = at_a_node(room, 4)
     text, = room.make("spend", 2, "--pay", OPEN_SCRIPT)
     other, = room.make("spend", 2, "--pay", OWN_SCRIPT)
     rpc.become(rpc.best, spend_of(text, 0, COIN - 1, OWN_SCRIPT), text)
     seen = [room.comes_to_hold((0, COIN - 1))]
     rpc.become(rpc.best, other)
-    return seen + [room.comes_to_hold((0, COIN)), room.runs()], [(0, COIN - 1), (0, COIN), [None, None, []]]
+    seen += [room.comes_to_hold((0, COIN)), room.balance(OPEN_SCRIPT)]
+    rpc.become(room.make("grow", 1, "--confirm", text)[0])
+    seen += [room.comes_to(5), room.comes_to_hold((0, 0)), room.balance(OPEN_SCRIPT)]
+    rpc.become(room.make("grow", 2, "--back", 1)[0], other)
+    seen += [room.comes_to(6), room.comes_to_hold((0, COIN)), room.runs()]
+    return seen, [
+        (0, COIN - 1), (0, COIN), (4 * COIN, -COIN), 5, (0, 0), (5 * COIN, 0), 6, (0, COIN), [None, None, []]]
 
 
 def tells_50000_in_a_minute(room):
-    """Half of them spend the other half, and are named first."""
-    half, least = 25_000, 100_000
+    """They are chains of 25, and the node names each from its end to its start."""
+    count, length, value = 2_000, 25, 100_000
     room.make("grow", 4)
     paid, = room.make("spend", 1)
-    outpoint = double_sha256(bytes.fromhex(paid)) + bytes(4)
-    fan = transaction([(outpoint, b"")], [(least, b"\x51")] * half).hex()
-    parents = [spend_of(fan, i, least, OPEN_SCRIPT) for i in range(half)]
-    children = [spend_of(text, 0, least, OWN_SCRIPT) for text in parents]
+    fan = transaction([(double_sha256(bytes.fromhex(paid)) + bytes(4), b"")], [(value, b"\x51")] * count).hex()
+    rows = [[spend_of(fan, i, value, OPEN_SCRIPT) for i in range(count)]]
+    for i in range(1, length):
+        rows.append([spend_of(text, 0, value, OWN_SCRIPT if i == length - 1 else OPEN_SCRIPT) for text in rows[-1]])
+    texts = [text for row in rows[::-1] for text in row]
     rpc = NodeRpc(room.cookie)
     rpc.start()
     with open(os.path.join(os.path.dirname(room.blocks), "fan"), "w", encoding="ascii") as it:
         it.write(fan)
-    rpc.become(room.make("grow", 1, "--confirm", paid, "--confirm", "@" + it.name)[0], *children, *parents)
+    rpc.become(room.make("grow", 1, "--confirm", paid, "--confirm", "@" + it.name)[0], *texts)
     room.start()
     began = time.monotonic()
     room.follow("--rpc", rpc.url, "--cookie", room.cookie)
     seen = [room.comes_to(5)]
-    while room.feeder.poll() is None and time.monotonic() - began < 60 and room.balance(OWN_SCRIPT)[1] < half * least:
+    while time.monotonic() - began < 60 and room.balance(OWN_SCRIPT)[1] < count * value:
         time.sleep(0.5)
-    took = time.monotonic() - began
-    seen += [room.balance(OWN_SCRIPT), took < 60, rpc.most]
-    print(f"feeds: {2 * half} unconfirmed transactions told in {took:.0f} s")
-    rpc.become(rpc.best, *parents, *children[:100])
-    return seen + [room.comes_to_hold((0, 100 * least)), room.runs()], [
-        5, (0, half * least), True, 100, (0, 100 * least), [None, None, []]]
+    print(f"feeds: {room.balance(OWN_SCRIPT)[1] * length // value} unconfirmed transactions told in "
+          f"{time.monotonic() - began:.0f} s")
+    seen += [room.balance(OWN_SCRIPT), rpc.most]
+    rpc.become(rpc.best, *texts[100:])
+    return seen + [room.comes_to_hold((0, (count - 100) * value)), room.runs()], [
+        5, (0, count * value), 100, (0, (count - 100) * value), [None, None, []]]
 
 
 def waits_for_a_node_that_stopped(room):
-    """The node stops, with its cookie, and comes again with another one. The server stays, with what it was told; one line tells
-    that it is waited for, and one that it is there again."""
+    """The node stops, with its cookie, and comes again with another one. The server stays, with what it was told; one line
+    tells that it is waited for, and one that it is there again."""
     rpc = at_a_node(room, 3)
     text, = room.make("spend", 2, "--pay", OWN_SCRIPT)
     rpc.become(rpc.best, text)

@@ -161,20 +161,22 @@ class Server:
 
     def beside(self, what, work, *words):
         """What this gives with these words, done in a thread while the server's connection is watched. It may be slow."""
-        mine, others = socket.socketpair()
+        mine, others = os.pipe()
         found = []
 
         def run():
-            with others:
-                try:
-                    found.append((work(*words), None))
-                except Exception as error:
-                    found.append((None, error))
+            try:
+                found.append((work(*words), None))
+            except Exception as error:
+                found.append((None, error))
+            os.close(others)
 
         threading.Thread(target=run, daemon=True).start()
-        with mine:
+        try:
             while not self.watch([mine], SLOW):
                 self.waits.begin(what, f"it hasn't answered for {SLOW} seconds")
+        finally:
+            os.close(mine)
         result, error = found[0]
         if error is not None:
             raise error
@@ -293,7 +295,7 @@ class Follower:
             raise Away(FILES, "the server can't read them")
         if kind in ("bad", "changed") and name and not self.is_there(inner(name)):
             raise Away(FILES, f"block {name} isn't whole in them")
-        raise Refused(f"the server answers {answer[:100]!r}: {REMEDIES.get(kind, 'it is another program than it should be')}")
+        raise Refused(f"the server answers {answer[:100]!r}: {REMEDIES.get(kind, 'it is another program')}")
 
     def is_there(self, name):
         """Whether that block stands whole where it was found. Where it doesn't stand there its file is looked at anew."""

@@ -6,10 +6,10 @@ usage: regtest.py --blocks DIR grow N [--pay SCRIPT] [--back K] [--confirm HEX] 
 
 `grow` adds N blocks to the chain, whose coinbases pay to SCRIPT, a locking script in hex (51, which anyone may spend, where
 none is given). With --back K they stand on the block K below the tip instead: a branch, which is the chain once it is
-longer. --confirm puts a transaction, in hex or in hex in @FILE, into the first of them. --mask makes a new folder's files masked. With --part K only the
-first K bytes of the last one's record are written, as where a node is stopped in a write; the next call writes over them.
-`spend` prints a transaction, in hex, that spends the coinbase of that height, where it paid to 51, into SCRIPT. The first
-block is that of Bitcoin's regtest.
+longer. --confirm puts a transaction, in hex or as @FILE with its hex, into the first of them. --mask makes a new folder's
+files masked. With --part K only the first K bytes of the last one's record are written, as where a node is stopped in a
+write; the next call writes over them. `spend` prints a transaction, in hex, that spends the coinbase of that height, where
+it paid to 51, into SCRIPT. The first block is that of Bitcoin's regtest.
 
 As a node does, it takes room for the block file ahead, in zeros, and writes over them.
 """
