@@ -28,7 +28,7 @@ PROGRAM = os.path.join(TOP, "crates", "electrum_serve", "out", "electrum_serve")
 EXAMPLES = os.path.join(TOP, "examples")
 
 sys.path.insert(0, EXAMPLES)
-from regtest import double_sha256, transaction  # noqa: E402
+from regtest import MAGIC, Chain, double_sha256, transaction  # noqa: E402
 
 COIN = 5_000_000_000
 OPEN_SCRIPT, OWN_SCRIPT = "51", "52"
@@ -279,23 +279,31 @@ def follows_masked_files_made_ahead(room):
     return follows_files_made_ahead(room, "--mask")
 
 
+def to_come(room, count):
+    """The place where the next block of the first file will stand, and the bytes of so many records to come."""
+    shutil.copytree(room.blocks, room.blocks + ".more")
+    chain, records = Chain(room.blocks + ".more", False), []
+    end = chain.end
+    for _ in range(count):
+        place = chain.end
+        chain.grow(1, bytes.fromhex(OPEN_SCRIPT), 0, [])
+        chain.look()
+        made = chain.files.block(0, place)
+        records.append(MAGIC + len(made).to_bytes(4, "little") + made)
+    return end, records
+
+
 def follows_the_next_file(room):
     """A node cuts off what it made ahead of a file, and goes on in the next one; then it writes into the first one again."""
     room.make("grow", 3)
     room.start()
     room.follow()
     seen = [room.comes_to(3)]
-    shutil.copytree(room.blocks, room.blocks + ".more")
-    room.make("grow", 2, blocks=room.blocks + ".more")
     first, second = (os.path.join(room.blocks, name) for name in ("blk00000.dat", "blk00001.dat"))
-    with open(first, "r+b") as it, open(os.path.join(room.blocks + ".more", "blk00000.dat"), "rb") as more:
-        end = len(it.read().rstrip(b"\0")) + 4
-        it.truncate(end)
-        more.seek(end)
-        fourth = more.read(8)
-        fourth += more.read(int.from_bytes(fourth[4:], "little"))
-        fifth = more.read()
+    end, (fourth, fifth) = to_come(room, 2)
+    os.truncate(first, end)
     with open(second, "wb") as it:
+        os.posix_fallocate(it.fileno(), 0, 16 << 20)
         it.write(fifth)
     time.sleep(1)
     seen += [room.height()]
@@ -303,6 +311,22 @@ def follows_the_next_file(room):
         os.posix_fallocate(it.fileno(), end, 16 << 20)
         os.pwrite(it.fileno(), fourth, end)
     return seen + [room.comes_to(5), room.runs()], [3, 3, 5, [None, None, []]]
+
+
+def follows_a_block_behind_a_gap(room):
+    """Zeros stand before the next block, in the same step of the room made ahead and behind it; then the one after it comes
+    before them, and then the node writes over what stands there."""
+    room.make("grow", 3)
+    room.start()
+    room.follow()
+    seen = [room.comes_to(3)]
+    end, records = to_come(room, 4)
+    with open(os.path.join(room.blocks, "blk00000.dat"), "r+b") as it:
+        os.posix_fallocate(it.fileno(), 0, 32 << 20)
+        for record, place in zip(records, (end + (3 << 20) + 5, 17 << 20, end, end)):
+            os.pwrite(it.fileno(), record, place)
+            seen += [room.comes_to(seen[-1] + 1)]
+    return seen + [room.runs()], [3, 4, 5, 6, 7, [None, None, []]]
 
 
 def waits_for_a_block_that_is_cut(room, *mask):
@@ -482,21 +506,17 @@ def drops_what_is_replaced(room):
 def tells_50000_in_a_minute(room):
     """They are chains of 25, and the node names each from its end to its start."""
     count, length, value = 2_000, 25, 100_000
-    room.make("grow", 4)
+    rpc = at_a_node(room, 4)
     paid, = room.make("spend", 1)
     fan = transaction([(double_sha256(bytes.fromhex(paid)) + bytes(4), b"")], [(value, b"\x51")] * count).hex()
     rows = [[spend_of(fan, i, value, OPEN_SCRIPT) for i in range(count)]]
     for i in range(1, length):
         rows.append([spend_of(text, 0, value, OWN_SCRIPT if i == length - 1 else OPEN_SCRIPT) for text in rows[-1]])
     texts = [text for row in rows[::-1] for text in row]
-    rpc = NodeRpc(room.cookie)
-    rpc.start()
     with open(os.path.join(os.path.dirname(room.blocks), "fan"), "w", encoding="ascii") as it:
         it.write(fan)
     rpc.become(room.make("grow", 1, "--confirm", paid, "--confirm", "@" + it.name)[0], *texts)
-    room.start()
     began = time.monotonic()
-    room.follow("--rpc", rpc.url, "--cookie", room.cookie)
     seen = [room.comes_to(5)]
     while time.monotonic() - began < 60 and room.balance(OWN_SCRIPT)[1] < count * value:
         time.sleep(0.5)
@@ -616,6 +636,7 @@ CASES = [
     follows_files_made_ahead,
     follows_masked_files_made_ahead,
     follows_the_next_file,
+    follows_a_block_behind_a_gap,
     waits_for_a_block_that_is_cut,
     waits_for_a_masked_block_that_is_cut,
     follows_a_reorganisation,

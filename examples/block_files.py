@@ -1,6 +1,6 @@
 """A Bitcoin node's block files: the records in them whose blocks are whole, and the tree of their headers.
 
-A node takes room for its files ahead, in zeros, and writes blocks over them; so a file's size tells nothing, and zeros are no
+A node takes room for its files ahead, in zeros, and writes blocks over them: a file's size tells nothing, and zeros are no
 end. A record's head may stand before its block does. Masked files are read without their mask; zeros made ahead have none.
 """
 
@@ -135,10 +135,8 @@ class BlockFile:
     """How far one block file was read."""
 
     def __init__(self):
-        # The place where the last record ended, and that record's place and head.
-        self.end, self.last = 0, None
-        # Its size and its time of writing when all of it was looked at.
-        self.stamp = None
+        # The place where the last record ended; the file's size and its time of writing when all of it was looked at.
+        self.end, self.stamp = 0, None
 
 
 class BlockFiles:
@@ -146,7 +144,7 @@ class BlockFiles:
 
     def __init__(self, folder, magic):
         self.folder, self.magic = folder, magic
-        self.files, self.mask, self.first_look = {}, bytes(8), True
+        self.files, self.mask = {}, bytes(8)
 
     def path(self, number):
         return os.path.join(self.folder, f"blk{number:05}.dat")
@@ -166,7 +164,7 @@ class BlockFiles:
         if len(mask) != 8:
             raise OSError(f"xor.dat has {len(mask)} bytes and not 8")
         if mask != self.mask:
-            self.files, self.mask, self.first_look = {}, mask, True
+            self.files, self.mask = {}, mask
 
     def unmasked(self, data, place):
         """Bytes that stand at a place of a file, without the mask."""
@@ -196,34 +194,38 @@ class BlockFiles:
         numbers = self.numbers()
         for number in numbers:
             yield from self.records_in(number, number == numbers[-1])
-        self.first_look = False
 
     def records_in(self, number, newest):
-        """Those of one file."""
+        """Those of one file. Where it was written and nothing came to its end, a node that had stopped may have begun again
+        before it, and all of it is looked at."""
         file = self.files.setdefault(number, BlockFile())
         status = os.stat(self.path(number))
         stamp = status.st_size, status.st_mtime_ns
         if stamp == file.stamp and status.st_size <= file.end:
             return
+        was_written = stamp != file.stamp
         with open(self.path(number), "rb") as it:
-            if file.last is not None and self.read(it, file.last[0], HEAD) != file.last[1]:
-                file.end = 0
-            yield from self.records_from(it, number, status.st_size, stamp != file.stamp, newest)
+            records = self.records_from(it, number, file.end, was_written, newest)
+            if was_written and not records:
+                records = self.records_from(it, number, 0, True, newest)
+        if records:
+            file.end = records[-1].after()
         file.stamp = stamp if status.st_mtime < time.time() - FRESH else None
+        yield from records
 
-    def records_from(self, it, number, size, all_of_it, newest):
-        """Those after the place where the last one ended: of all the rest, or only where they stand there."""
-        file = self.files[number]
-        place = file.end
+    def records_from(self, it, number, place, all_of_it, newest):
+        """Those from that place on: of all the rest, or only where they follow there one on the other."""
+        size, from_start, found = os.fstat(it.fileno()).st_size, place == 0, []
         while place is not None:
             record = self.record_at(it, number, place, size)
             if record is None:
                 place = self.next_magic(it, place + 1, size) if all_of_it else None
                 continue
             place = record.after()
-            if self.stands_whole(it, record, size, newest):
-                file.end, file.last = place, (record.place, self.read(it, record.place, HEAD))
-                yield record
+            is_followed = from_start and self.is_followed(it, record, size, newest)
+            if is_followed or is_whole(self.read(it, record.place + 8, record.size)):
+                found.append(record)
+        return found
 
     def record_at(self, it, number, place, size):
         """The record at a place of a file of that size; None where none stands there."""
@@ -233,13 +235,10 @@ class BlockFiles:
             return None
         return Record(number, place, length, head[8:]) if place + 8 + length <= size else None
 
-    def stands_whole(self, it, record, size, newest):
-        """Whether all bytes of the record's block are there. A first look reads no block behind which the node wrote on."""
+    def is_followed(self, it, record, size, newest):
+        """Whether the node wrote on behind the record, which then is whole: no block is read for that."""
         after = record.after()
-        if self.first_look:
-            if self.read(it, after, 4) == self.magic or (after == size and not newest):
-                return True
-        return is_whole(self.read(it, record.place + 8, record.size))
+        return self.read(it, after, 4) == self.magic or (after == size and not newest)
 
     def next_magic(self, it, place, size):
         """The first place from this one on where the magic stands; None where it doesn't."""
@@ -274,18 +273,20 @@ class Headers:
         self.blocks, self.waiting, self.best = {}, {}, None
 
     def add(self, record):
-        """Takes one record in. A block that was known stands at the new place from now on."""
+        """Takes one record in, and tells whether it wasn't there before. A known block stands at the new place then."""
         name = double_sha256(record.header)
         known = self.blocks.get(name)
         if known is not None:
+            is_new = (known.number, known.place) != (record.number, record.place)
             known.number, known.place = record.number, record.place
-            return
+            return is_new
         self.blocks[name] = Block(record)
         ready = [name]
         while ready:
             name = ready.pop()
             if self.connect(name):
                 ready += self.waiting.pop(name, [])
+        return True
 
     def connect(self, name):
         """Gives a block its height, where that of the one before it is known; else it waits."""

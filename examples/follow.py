@@ -232,8 +232,7 @@ class Follower:
         """Reads what came to the block files."""
         try:
             for record in self.files.new_records():
-                self.headers.add(record)
-                if self.at is not None:
+                if self.headers.add(record) and self.at is not None:
                     self.fresh.append(f"block {record.number} {record.place}")
         except OSError as error:
             raise Away(FILES, str(error)) from error
@@ -275,6 +274,7 @@ class Follower:
         while answer != f"at {shown(name)} {goal}":
             at = AT.fullmatch(answer)
             if at:
+                self.arrive(inner(at.group(1)))
                 progress.show(int(at.group(2)))
                 answer = self.server.answer()
                 continue
@@ -283,9 +283,14 @@ class Follower:
                 self.refuse(answer)
             self.tell_blocks(self.places_back(name, most))
             answer = self.server.ask("tip " + shown(name))
-        self.unconfirmed.moved(self.at is not None and not self.headers.is_before(self.at, name))
-        self.at = name
+        self.arrive(name)
         say(f"at block {shown(name)}, height {goal}")
+
+    def arrive(self, name):
+        """The server's chain ends in this block."""
+        if name != self.at:
+            self.unconfirmed.moved(self.at is not None and not self.headers.is_before(self.at, name))
+            self.at = name
 
     def refuse(self, answer):
         """Waits or ends for what a `tip` line was answered."""
