@@ -49,8 +49,10 @@ class Node:
             connection.request("POST", "/", text.encode(), headers)
             reply = connection.getresponse()
             found = reply.read()
-        except (OSError, OverflowError, ValueError, http.client.HTTPException) as error:
-            raise away(f"{type(error).__name__}: {error}") from error
+        except OSError as error:
+            raise away(str(error.strerror or error)) from error
+        except (OverflowError, ValueError, http.client.HTTPException) as error:
+            raise away(f"its reply is no whole one ({type(error).__name__})") from error
         finally:
             connection.close()
         if reply.status == 401:
