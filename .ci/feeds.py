@@ -487,20 +487,23 @@ def tells_children_after_their_parents(room):
 
 def drops_what_is_replaced(room):
     """The node has another transaction in the place of one, with what spent that one gone. A block has the first one; then
-    another branch, without it, overtakes it, and the node has the other one again."""
+    another branch, without it, overtakes it, and the node has the other one again, and not two that it had all the time."""
     rpc = at_a_node(room, 4)
     text, = room.make("spend", 2, "--pay", OPEN_SCRIPT)
     other, = room.make("spend", 2, "--pay", OWN_SCRIPT)
-    rpc.become(rpc.best, spend_of(text, 0, COIN - 1, OWN_SCRIPT), text)
-    seen = [room.comes_to_hold((0, COIN - 1))]
-    rpc.become(rpc.best, other)
-    seen += [room.comes_to_hold((0, COIN)), room.balance(OPEN_SCRIPT)]
-    rpc.become(room.make("grow", 1, "--confirm", text)[0])
-    seen += [room.comes_to(5), room.comes_to_hold((0, 0)), room.balance(OPEN_SCRIPT)]
+    both = room.make("spend", 3, "--pay", OPEN_SCRIPT)
+    both += [spend_of(both[0], 0, COIN - 7, OWN_SCRIPT)]
+    rpc.become(rpc.best, spend_of(text, 0, COIN - 1, OWN_SCRIPT), text, *both)
+    seen = [room.comes_to_hold((0, 2 * COIN - 8))]
+    rpc.become(rpc.best, other, *both)
+    seen += [room.comes_to_hold((0, 2 * COIN - 7)), room.balance(OPEN_SCRIPT)]
+    rpc.become(room.make("grow", 1, "--confirm", text)[0], *both)
+    seen += [room.comes_to(5), room.comes_to_hold((0, COIN - 7)), room.balance(OPEN_SCRIPT)]
     rpc.become(room.make("grow", 2, "--back", 1)[0], other)
     seen += [room.comes_to(6), room.comes_to_hold((0, COIN)), room.runs()]
     return seen, [
-        (0, COIN - 1), (0, COIN), (4 * COIN, -COIN), 5, (0, 0), (5 * COIN, 0), 6, (0, COIN), [None, None, []]]
+        (0, 2 * COIN - 8), (0, 2 * COIN - 7), (4 * COIN, -2 * COIN), 5, (0, COIN - 7), (5 * COIN, -COIN),
+        6, (0, COIN), [None, None, []]]
 
 
 def tells_50000_in_a_minute(room):

@@ -43,8 +43,8 @@ SERVER, FILES = "the server", "the block files"
 # What to do where the server can't be led past its refusal, by the word behind `refused`.
 REMEDIES = {
     "deep": "an index goes back 100 blocks at most: stop the server, empty the folder of its index, and start both again",
-    "bad": "the block is whole in the block files and can't stand on the chain: let the node check its blocks (bitcoind's "
-           "-reindex), and start both again",
+    "bad": "the block is whole in the block files and can't stand on the chain: start the server and this program again; "
+           "where it comes again, let the node check its blocks first (bitcoind's -reindex)",
     "changed": "the node has written its block files anew: start the server and this program again, and the server looks at "
                "all of them",
     "unknown": "the server doesn't find blocks that are in the block files: it has to have the same --blocks and --network, "
@@ -346,8 +346,11 @@ def words():
     given = reader.parse_args()
     if bool(given.rpc) != bool(given.cookie):
         reader.error("--rpc and --cookie go together")
-    if given.rpc and not URL.fullmatch(given.rpc):
+    url = URL.fullmatch(given.rpc or "")
+    if given.rpc and not (url and 0 < int(url.group(2)) < 65536):
         reader.error("--rpc is a URL as http://127.0.0.1:8332")
+    if not 0 < given.port < 65536 or not 0 <= given.pause <= 3600:
+        reader.error("--port is from 1 to 65535, --pause from 0 to 3600")
     if not os.path.isdir(given.blocks):
         reader.error(f"{given.blocks} is no folder")
     return given

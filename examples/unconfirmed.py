@@ -50,14 +50,15 @@ class Unconfirmed:
 
     def begin(self):
         """The server knows none."""
-        # Those that it keeps; those that it refused, with its answer; whether it keeps as many as it may.
-        self.told, self.refused, self.is_full = set(), {}, False
+        # Those that it may keep, and of them those that it surely does; those that it refused, with its answer; whether it
+        # keeps as many as it may.
+        self.told, self.kept, self.refused, self.is_full = set(), set(), {}, False
 
     def moved(self, back):
         """The server's chain is another one, for which blocks were taken back or not. What those blocks had is unconfirmed
         again, and the server doesn't keep it any more."""
         if back:
-            self.told = set()
+            self.kept = set()
         self.refused, self.is_full = {}, False
 
     def tell(self, tip):
@@ -69,11 +70,11 @@ class Unconfirmed:
         self.drop(self.told - here)
         self.refused = {txid: answer for txid, answer in self.refused.items() if txid in here and not self.may_stand(answer)}
         if not self.is_full:
-            self.add([txid for txid in txids if txid not in self.told and txid not in self.refused])
+            self.add([txid for txid in txids if txid not in self.kept and txid not in self.refused])
 
     def may_stand(self, answer):
         """Whether what it was refused for as missing was told since."""
-        return answer.startswith("refused missing ") and answer.split()[2] in self.told
+        return answer.startswith("refused missing ") and answer.split()[2] in self.kept
 
     def drop(self, txids):
         """Tells that the node no longer has these."""
@@ -81,6 +82,7 @@ class Unconfirmed:
             self.is_full = False
         if txids:
             self.told -= txids
+            self.kept -= txids
             self.refused = {}
 
     def add(self, txids):
@@ -95,12 +97,13 @@ class Unconfirmed:
             if self.is_full:
                 return
         if len(txids) >= WORTH_A_LINE:
-            self.say(f"{len(self.told)} unconfirmed transactions told")
+            self.say(f"{len(self.kept)} unconfirmed transactions told")
 
     def take(self, txid, answer):
         """What the server answers to one."""
         if answer.startswith(("tx ", "refused known", "refused confirmed")):
             self.told.add(txid)
+            self.kept.add(txid)
             return
         if answer.startswith("refused full") and not self.is_full:
             self.is_full = True
