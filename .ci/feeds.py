@@ -27,6 +27,7 @@ TOP = os.path.dirname(os.path.dirname(os.path.abspath(__file__)))
 PROGRAM = os.path.join(TOP, "crates", "electrum_serve", "out", "electrum_serve")
 EXAMPLES = os.path.join(TOP, "examples")
 
+sys.dont_write_bytecode = True
 sys.path.insert(0, EXAMPLES)
 from regtest import MAGIC, Chain, double_sha256, transaction  # noqa: E402
 
@@ -426,14 +427,20 @@ def at_a_node(room, count, *words):
     return rpc
 
 
-def follows_a_node_over_files_made_ahead(room):
+def follows_a_node_over_files_made_ahead(room, before=0):
     """The node's JSON-RPC names the best block, which isn't the one with the most work, as where the node finds fault."""
     rpc = at_a_node(room, 4)
     rpc.best, _ = room.make("grow", 1, "--pay", OWN_SCRIPT)
-    seen = [room.comes_to(5), room.balance(OWN_SCRIPT)]
+    seen = [room.comes_to(before + 5), room.balance(OWN_SCRIPT)]
     room.make("grow", 2)
     time.sleep(1)
-    return seen + [room.height(), room.runs()], [5, (COIN, 0), 5, [None, None, []]]
+    return seen + [room.height(), room.runs()], [before + 5, (COIN, 0), before + 5, [None, None, []]]
+
+
+def follows_a_node_over_masked_files(room):
+    """They are masked."""
+    room.make("grow", 2, "--mask")
+    return follows_a_node_over_files_made_ahead(room, 2)
 
 
 def tells_unconfirmed_transactions(room):
@@ -647,6 +654,7 @@ CASES = [
     notices_at_once_that_the_server_stopped,
     waits_where_another_feeder_is,
     follows_a_node_over_files_made_ahead,
+    follows_a_node_over_masked_files,
     tells_unconfirmed_transactions,
     tells_children_after_their_parents,
     drops_what_is_replaced,

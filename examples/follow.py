@@ -27,6 +27,8 @@ import sys
 import threading
 import time
 
+# It writes nothing, also not what Python makes of the modules beside it.
+sys.dont_write_bytecode = True
 from block_files import MAGICS, BlockFiles, Headers, double_sha256, inner, is_whole, shown
 from node_rpc import NODE, Away, Node
 from unconfirmed import Unconfirmed

@@ -19,6 +19,8 @@ import os
 import struct
 import sys
 
+# Nothing is written beside this file.
+sys.dont_write_bytecode = True
 from block_files import MAGICS, ZERO, BlockFiles, Headers, double_sha256, merkle_root, shown
 
 MAGIC = bytes.fromhex(MAGICS["regtest"])
