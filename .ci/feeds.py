@@ -393,10 +393,11 @@ def notices_at_once_that_the_server_stopped(room):
     rpc.become(rpc.best, text)
     seen = [room.comes_to_hold((0, COIN))]
     room.kill()
-    seen += [room.comes_to_say("waiting for the server"), len(room.says("going on"))]
+    began = time.monotonic()
+    seen += [room.comes_to_say("waiting for the server"), time.monotonic() - began < 5, len(room.says("going on"))]
     room.start()
     seen += [room.comes_to_hold((0, COIN)), room.comes_to_say("going on with the server")]
-    return seen + [len(room.says("waiting")), room.runs()], [(0, COIN), 1, 0, (0, COIN), 1, 1, [None, None, []]]
+    return seen + [len(room.says("waiting")), room.runs()], [(0, COIN), 1, True, 0, (0, COIN), 1, 1, [None, None, []]]
 
 
 def waits_where_another_feeder_is(room):
