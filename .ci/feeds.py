@@ -65,11 +65,12 @@ class Room:
         return made.stdout.decode().split()
 
     def start(self):
-        """Starts the server."""
+        """Starts the server, and waits until it answers."""
         words = [
             "serve", "--blocks", self.blocks, "--index", self.index, "--network", "regtest",
             "--client-port", str(self.clients), "--node-port", str(self.node)]
         self.server = subprocess.Popen([PROGRAM, *words], stdout=subprocess.DEVNULL, stderr=subprocess.DEVNULL)
+        self.height()
 
     def kill(self):
         """Kills the server."""
@@ -120,7 +121,7 @@ class Room:
     def ask(self, method, *params):
         """What the server answers a client, who comes again where another one is still there."""
         line = json.dumps({"id": 1, "method": method, "params": list(params)}).encode() + b"\n"
-        for _ in range(100):
+        for _ in range(300):
             held = self.answer(line)
             if held.endswith(b"\n"):
                 reply = json.loads(held)
