@@ -515,6 +515,15 @@ def drops_what_is_replaced(room):
         6, (0, COIN), [None, None, []]]
 
 
+def processor_time(room):
+    """Seconds of a processor that server, feeder and this program took, which is more than what it takes on a free machine."""
+    took = time.process_time()
+    for it in (room.server, room.feeder):
+        with open(f"/proc/{it.pid}/stat", encoding="ascii") as stat:
+            took += sum(map(int, stat.read().rsplit(")", 1)[1].split()[11:13])) / os.sysconf("SC_CLK_TCK")
+    return took
+
+
 def tells_50000_in_a_minute(room):
     """They are chains of 25, and the node names each from its end to its start."""
     count, length, value = 2_000, 25, 100_000
@@ -528,12 +537,13 @@ def tells_50000_in_a_minute(room):
     with open(os.path.join(os.path.dirname(room.blocks), "fan"), "w", encoding="ascii") as it:
         it.write(fan)
     rpc.become(room.make("grow", 1, "--confirm", paid, "--confirm", "@" + it.name)[0], *texts)
-    began = time.monotonic()
+    began, before = time.monotonic(), processor_time(room)
     seen = [room.comes_to(5)]
-    while time.monotonic() - began < 60 and room.balance(OWN_SCRIPT)[1] < count * value:
+    while processor_time(room) - before < 60 and time.monotonic() - began < 150 and (
+            room.balance(OWN_SCRIPT)[1] < count * value):
         time.sleep(0.5)
     print(f"feeds: {room.balance(OWN_SCRIPT)[1] * length // value} unconfirmed transactions told in "
-          f"{time.monotonic() - began:.0f} s")
+          f"{time.monotonic() - began:.0f} s, {processor_time(room) - before:.0f} s of a processor")
     seen += [room.balance(OWN_SCRIPT), rpc.most]
     rpc.become(rpc.best, *texts[100:])
     return seen + [room.comes_to_hold((0, (count - 100) * value)), room.runs()], [
