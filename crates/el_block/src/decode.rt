@@ -4,7 +4,6 @@ ghost use Rattle.el_base.specs.Compact.{compact, FirstCompactFault};
 ghost use Rattle.el_base.specs.declared.compact.CompactFault.{CompactFault};
 ghost use Rattle.el_tx.specs.Encoding.{HasEncoding};
 ghost use Rattle.el_tx.specs.Headers.{header_encoding, IsHeader};
-ghost use Rattle.el_tx.specs.Hashing as hashing;
 ghost use Rattle.el_tx.specs.Hashing.{full_encoding};
 ghost use Rattle.el_tx.specs.FirstFault.{FirstFault};
 ghost use Rattle.el_tx.specs.declared.fault.TxFault.{TxFault};
@@ -17,7 +16,7 @@ ghost use Rattle.el_block.specs.declared.fault.BlockFault.{BlockFault};
 use crate::block::Block;
 use crate::block_view::{BlockView, own_block};
 use crate::fault::BlockFault;
-use crate::hashing::txid_of;
+use crate::hashing::txids_of;
 use crate::rules::keep_rules;
 use el_base::{Cursor, Hash32, Listed, read_compact};
 use el_tx::{Header, TxFault, TxView, decode_header, view_tx};
@@ -65,23 +64,17 @@ fn in_block(index: usize, fault: TxFault) -> BlockFault
     }
 }
 
-// The transaction in front, which has this index in its block, its txid, and what stands after it.
-fn next_tx(
-    alloc: Global,
-    index: usize,
-    bytes: &[u8],
-) -> Result<(TxView<'_>, Hash32, &[u8]), BlockFault>
+// The transaction in front, which has this index in its block, and what stands after it.
+fn next_tx(alloc: Global, index: usize, bytes: &[u8]) -> Result<(TxView<'_>, &[u8]), BlockFault>
     ensures encoded { IfOk result (λ r. HasEncoding r.0) }
-    ensures hashed { IfOk result (λ r. r.1 ≡ hashing.txid r.0) }
-    ensures read { IfOk result (λ r. bytes.now ≡ full_encoding r.0 ++ r.2.now) }
+    ensures read { IfOk result (λ r. bytes.now ≡ full_encoding r.0 ++ r.1.now) }
     ensures fault { IfErr result (λ e. (e ≡ BlockFault.Memory)
         ⊎ ((found : TxFault) × FirstFault bytes.now found × (e ≡ BlockFault.Tx index found))) }
 {
     match view_tx(alloc, bytes) {
         Ok((tx, size)) => {
-            let (front, rest) = bytes.split_at(size);
-            let id = txid_of(&tx, front);
-            Ok((tx, id, rest))
+            let (_, rest) = bytes.split_at(size);
+            Ok((tx, rest))
         }
         Err(fault) => Err(in_block(index, fault)),
     }
@@ -97,46 +90,42 @@ fn room(n: u64, bytes: usize) -> usize
     if n < most as u64 { n as usize } else { most }
 }
 
-// So many transactions, their txids, and what stands after them.
-fn read_txs(
-    alloc: Global,
-    n: u64,
-    bytes: &[u8],
-) -> Result<(Listed<TxView<'_>>, Listed<Hash32>, &[u8]), BlockFault>
-    ensures read { IfOk result (λ r. AreTxs bytes.now n r.0 r.2.now) }
-    ensures hashed { IfOk result (λ r. r.1 ≡ txids r.0) }
+// So many transactions, and what stands after them.
+fn read_txs(alloc: Global, n: u64, bytes: &[u8]) -> Result<(Listed<TxView<'_>>, &[u8]), BlockFault>
+    ensures read { IfOk result (λ r. AreTxs bytes.now n r.0 r.1.now) }
     ensures fault { IfErr result (λ e. (e ≡ BlockFault.Memory) ⊎ FaultInTxs n bytes.now e) }
 {
-    let room = room(n, bytes.len());
-    let mut txs = Listed::from_vec(Vec::with_capacity(alloc, room)?);
-    let mut hashes = Listed::from_vec(Vec::with_capacity(alloc, room)?);
+    let mut txs = Listed::from_vec(Vec::with_capacity(alloc, room(n, bytes.len()))?);
     let mut rest = bytes;
     for _ in 0..n {
-        let (tx, id, after) = next_tx(alloc, txs.len(), rest)?;
+        let (tx, after) = next_tx(alloc, txs.len(), rest)?;
         txs.push(tx)?;
-        hashes.push(id)?;
         rest = after;
     }
-    Ok((txs, hashes, rest))
+    Ok((txs, rest))
 }
 
-// The block that all the bytes are, whatever it means, and its txids.
-fn whole_block(alloc: Global, bytes: &[u8]) -> Result<(BlockView<'_>, Listed<Hash32>), BlockFault>
-    ensures some { IfOk result (λ r. 1 ≤ length r.0.txs) }
-    ensures read { IfOk result (λ r. IsBlockEncoding bytes.now r.0) }
-    ensures hashed { IfOk result (λ r. r.1 ≡ txids r.0.txs) }
+/// Reads the form of a block: header, number of transactions, each transaction, and nothing after. What the
+/// transactions mean together is not looked at, and nothing is hashed: `keep_rules` looks at the rest.
+///
+/// # Errors
+///
+/// The first fault of form, in the order of `decode_block`, whose first faults these are.
+pub fn view_form(alloc: Global, bytes: &[u8]) -> Result<BlockView<'_>, BlockFault>
+    ensures some { IfOk result (λ b. 1 ≤ length b.txs) }
+    ensures read { IfOk result (λ b. IsBlockEncoding bytes.now b) }
     ensures fault { IfErr result (λ e. (e ≡ BlockFault.Memory) ⊎ FirstBlockFault bytes.now e) }
 {
     let mut c = Cursor::new(bytes);
     let header = header_of(&mut c)?;
     let n = count_of(&mut c)?;
-    let (txs, hashes, rest) = read_txs(alloc, n, c.rest())?;
+    let (txs, rest) = read_txs(alloc, n, c.rest())?;
     if !rest.is_empty() {
         return Err(BlockFault::Trailing {
             place: bytes.len() - rest.len(),
         });
     }
-    Ok((BlockView::new(header, txs), hashes))
+    Ok(BlockView::new(header, txs))
 }
 
 /// Reads a block as `decode_with_txids` does, but leaves its scripts and witnesses where they stand in the
@@ -161,7 +150,8 @@ pub fn view_with_txids(
     ensures first_fault { result ≢ Err BlockFault.Memory → (e : BlockFault) → FirstBlockFault bytes.now e
         → result ≡ Err e }
 {
-    let (block, hashes) = whole_block(alloc, bytes)?;
+    let block = view_form(alloc, bytes)?;
+    let hashes = txids_of(alloc, bytes, &block)?;
     keep_rules(alloc, &block, hashes.as_slice())?;
     Ok((block, hashes))
 }

@@ -16,10 +16,12 @@ use el_gen::{
     BLOCK_1, BLOCK_1_HASH, BLOCK_1_SCRIPT_HASH, BLOCK_1_TXID, GENESIS, GENESIS_HASH,
     GENESIS_SCRIPT_HASH, GENESIS_TXID, HEADER_0, HEADER_1, OP_1_SCRIPT_HASH,
 };
-use el_prepare::{PreparedTx, prepare_one};
+use el_outside::NoPace;
+use el_prepare::{Prepared, PreparedTx, prepare, prepare_one};
 use el_tx::{Outpoint, block_hash, encode_header};
 use std::alloc::Global;
 use std::test::Fail;
+use std::thread::Threads;
 
 // What is known of a block from outside: its header and, as users see them, its hash, the hash before it and
 // its Merkle root, how many bytes and transactions it has, and its last transaction.
@@ -163,8 +165,7 @@ fn is_last(tx: &PreparedTx, last: &Last) -> Result<bool, Fail> {
 }
 
 // Whether what an index wants of it is as it is known.
-fn is_prepared(alloc: Global, bytes: &[u8], known: &Known) -> Result<bool, Fail> {
-    let prepared = prepare_one(alloc, bytes)?;
+fn is_prepared(prepared: &Prepared, bytes: &[u8], known: &Known) -> Result<bool, Fail> {
     let alike = shown_is(prepared.hash, known.hash)
         && bytes.starts_with(prepared.header.as_slice())
         && (prepared.len, prepared.txs.len()) == (known.len, known.txs);
@@ -172,6 +173,18 @@ fn is_prepared(alloc: Global, bytes: &[u8], known: &Known) -> Result<bool, Fail>
         Some(tx) => Ok(alike && is_last(tx, &known.last)?),
         None => Ok(false),
     }
+}
+
+// Whether it is so by one piece and by several.
+fn is_prepared_twice<W: Threads + Sync>(
+    rt: &W,
+    alloc: Global,
+    bytes: &[u8],
+    known: &Known,
+) -> Result<bool, Fail> {
+    let whole = prepare_one(alloc, bytes)?;
+    let pieces = prepare(rt, alloc, bytes, &NoPace)?;
+    Ok(is_prepared(&whole, bytes, known)? && is_prepared(&pieces, bytes, known)?)
 }
 
 #[test]
@@ -195,7 +208,7 @@ fn blocks(rt: HostRuntime) -> Result<(), Fail> {
             known.hash
         );
         assert!(rt;
-            is_prepared(alloc, bytes.as_slice(), &known)?,
+            is_prepared_twice(&rt, alloc, bytes.as_slice(), &known)?,
             "of {}",
             known.hash
         );

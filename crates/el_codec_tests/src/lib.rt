@@ -17,6 +17,8 @@ mod json;
 #[cfg(test)]
 mod merkle;
 #[cfg(test)]
+mod pieces;
+#[cfg(test)]
 mod printed;
 #[cfg(test)]
 mod refused;

@@ -1,4 +1,4 @@
-// Blocks that are refused, and for which fault: `decode_block` and `prepare_one` tell the same.
+// Blocks that are refused, and for which fault: `decode_block`, `prepare_one` and `prepare` tell the same.
 use crate::digits::{
     AFTER_ROOT, BEFORE_ROOT, COIN, INPUTS_1, LOCK, OUTPUTS_1, ROOT_COIN_A_SHOWN, SIGNED_A, SPEND_A,
     SPEND_B, VERSION, bytes_of,
@@ -6,10 +6,12 @@ use crate::digits::{
 use el_base::{CompactFault, Hash32};
 use el_block::{BlockFault, decode_block};
 use el_gen::{BLOCK_1, BLOCK_1_TXID};
-use el_prepare::prepare_one;
+use el_outside::NoPace;
+use el_prepare::{prepare, prepare_one};
 use el_tx::TxFault;
 use std::alloc::Global;
 use std::test::Fail;
+use std::thread::Threads;
 
 // No transactions here have this root.
 const NO_ROOT: &str = "0000000000000000000000000000000000000000000000000000000000000000";
@@ -61,12 +63,20 @@ const BROKEN_RULES: [(&str, [&str; 5], BlockFault); 8] = [
 ];
 
 // Whether the bytes are refused for this fault, or read where there is none.
-fn is_met(alloc: Global, bytes: &[u8], fault: Option<BlockFault>) -> bool {
-    decode_block(alloc, bytes).err() == fault && prepare_one(alloc, bytes).err() == fault
+fn is_met<W: Threads + Sync>(
+    rt: &W,
+    alloc: Global,
+    bytes: &[u8],
+    fault: Option<BlockFault>,
+) -> bool {
+    decode_block(alloc, bytes).err() == fault
+        && prepare_one(alloc, bytes).err() == fault
+        && prepare(rt, alloc, bytes, &NoPace).err() == fault
 }
 
 // The same of a block with this root and what stands after its header.
-fn is_met_after(
+fn is_met_after<W: Threads + Sync>(
+    rt: &W,
     alloc: Global,
     root: &str,
     parts: [&str; 5],
@@ -75,7 +85,7 @@ fn is_met_after(
     let [count, a, b, c, d] = parts;
     let parts = [BEFORE_ROOT, root, AFTER_ROOT, count, a, b, c, d];
     let bytes = bytes_of(alloc, parts.as_slice())?;
-    Ok(is_met(alloc, bytes.as_slice(), fault))
+    Ok(is_met(rt, alloc, bytes.as_slice(), fault))
 }
 
 // The header names a root of zeros.
@@ -90,13 +100,13 @@ fn bad_merkle(shown: &str) -> Result<BlockFault, Fail> {
 fn refuses_rules(rt: HostRuntime) -> Result<(), Fail> {
     for (name, parts, fault) in BROKEN_RULES {
         assert!(rt;
-            is_met_after(rt.alloc(), NO_ROOT, parts, Some(fault))?,
+            is_met_after(&rt, rt.alloc(), NO_ROOT, parts, Some(fault))?,
             "{name}"
         );
     }
     let two = ["02", COIN, SIGNED_A, "", ""];
     let fault = bad_merkle(ROOT_COIN_A_SHOWN)?;
-    assert!(rt; is_met_after(rt.alloc(), NO_ROOT, two, Some(fault))?);
+    assert!(rt; is_met_after(&rt, rt.alloc(), NO_ROOT, two, Some(fault))?);
     Ok(())
 }
 
@@ -118,28 +128,34 @@ fn refuses_the_rest(rt: HostRuntime) -> Result<(), Fail> {
         ("a byte after", money, most, "0000000000", Some(after)),
     ] {
         let parts = ["01", VERSION, INPUTS_1, outputs, last];
-        assert!(rt; is_met_after(rt.alloc(), root, parts, fault)?, "{name}");
+        assert!(rt;
+            is_met_after(&rt, rt.alloc(), root, parts, fault)?,
+            "{name}"
+        );
     }
     Ok(())
 }
 
 // Whether that many bytes of a block are refused: below 80 as too short for a header, and at 80 for want of
 // the number of transactions; never as out of memory.
-fn is_front(alloc: Global, front: &[u8]) -> bool {
+fn is_front<W: Threads + Sync>(rt: &W, alloc: Global, front: &[u8]) -> bool {
     let found = decode_block(alloc, front).err();
     let number = CompactFault::Short { place: 80 };
     found.is_some()
         && found != Some(BlockFault::Memory)
         && (found == Some(BlockFault::Short)) == (front.len() < 80)
         && (found == Some(BlockFault::Count(number))) == (front.len() == 80)
-        && prepare_one(alloc, front).err() == found
+        && is_met(rt, alloc, front, found)
 }
 
 #[test]
 fn refuses_each_front(rt: HostRuntime) -> Result<(), Fail> {
     let bytes = hex::decode(rt.alloc(), BLOCK_1)?;
     for size in 0..bytes.len() {
-        assert!(rt; is_front(rt.alloc(), &bytes[..size]), "of {size} bytes");
+        assert!(rt;
+            is_front(&rt, rt.alloc(), &bytes[..size]),
+            "of {size} bytes"
+        );
     }
     Ok(())
 }
@@ -177,7 +193,7 @@ fn weighs(rt: HostRuntime) -> Result<(), Fail> {
         let front = [BEFORE_ROOT, root, AFTER_ROOT, "01", version, INPUTS_1, size];
         let bytes = long_block(rt.alloc(), front.as_slice(), zeros, last)?;
         assert!(rt;
-            is_met(rt.alloc(), bytes.as_slice(), fault),
+            is_met(&rt, rt.alloc(), bytes.as_slice(), fault),
             "of {zeros} zeros"
         );
     }

@@ -1,5 +1,5 @@
 //! Block files and a link in memory, which tell all their content. Each comes in two forms: one whose chosen
-//! calls fail, and one that never fails.
+//! calls fail, and one that never fails. And a pace under which two pieces of work meet.
 #![tactic(auto)]
 
 mod archive;
@@ -9,6 +9,7 @@ mod growth;
 mod heard;
 mod kept;
 mod link;
+mod meet_pace;
 mod peers;
 mod steady_archive;
 mod steady_link;
@@ -20,5 +21,6 @@ pub use fronts::{fill, is_listed};
 pub use growth::Later;
 pub use kept::{Closed, Sent};
 pub use link::MemLink;
+pub use meet_pace::MeetPace;
 pub use steady_archive::SteadyArchive;
 pub use steady_link::SteadyLink;

@@ -1,4 +1,5 @@
-//! What lies outside the program: the node's block files, the disk of the index, and the link to clients.
+//! What lies outside the program: the node's block files, the disk of the index, and the link to clients; and
+//! what is told as pieces of work begin that may run side by side.
 #![tactic(auto)]
 
 mod archive;
@@ -6,6 +7,7 @@ mod disk;
 mod disk_laws;
 mod laws;
 mod link;
+mod pace;
 
 pub use archive::{Archive, ArchiveFailed, MOST_FILES, Place, SIZE_LIMIT};
 pub use disk::{Disk, DiskFailed};
@@ -15,4 +17,5 @@ pub use disk_laws::{
     syncs_settle, written_ranges_hold_any_bytes,
 };
 pub use laws::{counts_add_up, traces_join};
-pub use link::{Arrival, BUFFER_SIZE, Link, LinkFailed, Peer, SendFault, Why};
+pub use link::{Arrival, BUFFER_SIZE, CLIENT_LIMIT, Link, LinkFailed, Peer, SendFault, Why};
+pub use pace::{NoPace, Pace};

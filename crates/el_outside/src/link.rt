@@ -6,6 +6,9 @@ ghost use Rattle.el_outside.specs.Trace.{Trace, GoesOn, with_bytes, IsNextArriva
 /// The size of the buffer that `Link::next` fills, in bytes.
 pub const BUFFER_SIZE: usize = 65_536;
 
+/// How many clients may be connected at once. A link opens one more, which is then closed.
+pub const CLIENT_LIMIT: usize = 256;
+
 /// A peer's number: 0 is the node, clients are 1 and up. No number is used twice.
 pub type Peer = u32;
 

@@ -1,1 +1,3 @@
 pub mod PreparedLemmas
+pub mod PieceLemmas
+pub mod BatchLemmas

@@ -1,8 +1,11 @@
-//! What an index wants of a block, computed once from its bytes alone.
+//! What an index wants of a block, computed once from its bytes alone; of several blocks, side by side.
 #![tactic(auto)]
 
-mod prepare;
+mod batch;
+mod block;
+mod pieces;
 mod prepared;
 
-pub use prepare::prepare_one;
+pub use batch::{prepare_all, prepare_batch};
+pub use block::{prepare, prepare_one};
 pub use prepared::{Prepared, PreparedTx};
