@@ -19,6 +19,10 @@ two_digits n = last_digit (n / 10) ∷ last_digit n ∷ []
 abbrev pub index_path : List ℕ → ℕ → List ℕ
 index_path folder n = folder ++ (codes "/" ++ (two_digits n ++ codes ".idx"))
 
+-- the path of the lock of an index's folder
+abbrev pub lock_path : List ℕ → List ℕ
+lock_path folder = folder ++ codes "/lock"
+
 -- the name of a block file, as Bitcoin Core gives it: `blk00000.dat` and on
 abbrev pub file_name : ℕ → List ℕ
 file_name n = codes "blk" ++ (five_digits n ++ codes ".dat")

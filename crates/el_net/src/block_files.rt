@@ -6,6 +6,7 @@ ghost use Rattle.el_net.specs.Devices.{BlocksOf, read_with};
 ghost use Rattle.el_open_files.specs.Calls.{IsFront};
 ghost use Rattle.el_net.specs.Masks.{unmasked};
 
+use crate::block_failure::{BlockFailure, BlockPart};
 use crate::block_folder::BlockFolder;
 use crate::folder::Folder;
 use crate::masks::{Mask, unmask};
@@ -27,6 +28,8 @@ pub struct BlockFiles<F: Folder> {
     mask: Option<Mask>,
     made: GhostCount,
     faults: u64,
+    // The last call that failed; where the mask can't be had, why. No clause speaks of it.
+    failure: Option<BlockFailure>,
 }
 
 impl<F: Folder> Model for BlockFiles<F> {
@@ -40,6 +43,26 @@ impl<F: Folder> Model for BlockFiles<F> {
       made = files.made;
       faults = files.faults;
     } };
+}
+
+// What is kept of failures: where the mask can't be had, why, and else the last.
+fn kept(
+    mask: Option<Mask>,
+    before: Option<BlockFailure>,
+    last: BlockFailure,
+) -> Option<BlockFailure> {
+    match mask {
+        Some(_) => Some(last),
+        None => before,
+    }
+}
+
+// Why a size can't be told: the call's failure, or else that the file is too large.
+fn why_no_size(found: io::Result<u64>) -> io::Error {
+    match found {
+        Ok(_) => io::Error::from(ErrorKind::FileTooLarge),
+        Err(error) => error,
+    }
 }
 
 // The file, if it is there; a failure where the folder isn't.
@@ -108,7 +131,9 @@ impl<R: Files<File = File> + AllocGlobal + Clone + Drop> BlockFiles<BlockFolder<
     {
         let folder = BlockFolder::new(rt, alloc, folder)?;
         let mask = folder.mask(alloc)?;
-        Ok(BlockFiles::over(folder, mask))
+        let mut files = BlockFiles::over(folder, mask.ok());
+        files.failure = mask.err();
+        Ok(files)
     }
 }
 
@@ -122,7 +147,20 @@ impl<F: Folder + Drop> BlockFiles<F> {
             mask,
             made: GhostCount::new(),
             faults: 0,
+            failure: None,
         }
+    }
+
+    /// The folder.
+    pub fn folder(&self) -> &F
+        ensures { result.now ≡ self.now.folder }
+    {
+        &self.folder
+    }
+
+    /// The last call that failed; where the mask can't be had, why.
+    pub fn failure(&self) -> Option<BlockFailure> {
+        self.failure
     }
 
     // One call more.
@@ -132,13 +170,14 @@ impl<F: Folder + Drop> BlockFiles<F> {
         self.made.tick();
     }
 
-    // A failure, which is counted.
-    fn fault(&mut self) -> ArchiveFailed
+    // A failure, which is counted and kept.
+    fn fault(&mut self, part: BlockPart, error: io::Error) -> ArchiveFailed
         ensures counted { RoseBy self.old.faults self.new.faults 1 }
         ensures folder { self.new.folder ≡ self.old.folder }
         ensures mask { self.new.mask ≡ self.old.mask }
         ensures made { self.new.made ≡ self.old.made }
     {
+        self.failure = kept(self.mask, self.failure, BlockFailure { part, error });
         self.faults = self.faults.saturating_add(1);
         ArchiveFailed
     }
@@ -218,15 +257,16 @@ impl<F: Folder + Drop> Archive for BlockFiles<F> {
         self.count_call();
         match self.count() {
             Ok(n) => Ok(n),
-            Err(_) => Err(self.fault()),
+            Err(error) => Err(self.fault(BlockPart::Folder, error)),
         }
     }
 
     fn size(&mut self, file: u32) -> Result<u64, ArchiveFailed> {
         self.count_call();
-        match self.size_of(file) {
+        let found = self.size_of(file);
+        match found {
             Ok(n) if n < SIZE_LIMIT => Ok(n),
-            _ => Err(self.fault()),
+            _ => Err(self.fault(BlockPart::File(file), why_no_size(found))),
         }
     }
 
@@ -234,7 +274,7 @@ impl<F: Folder + Drop> Archive for BlockFiles<F> {
         self.count_call();
         match self.read_from(file, at, buf) {
             Ok(n) => Ok(n),
-            Err(_) => Err(self.fault()),
+            Err(error) => Err(self.fault(BlockPart::File(file), error)),
         }
     }
 }

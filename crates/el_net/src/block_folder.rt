@@ -2,6 +2,7 @@
 ghost use Rattle.std.specs.Prelude.{◌≡◌, ◌+◌, ◌≤◌, ◌++◌, length, IfOk, string_bytes, string_len, string_capacity};
 ghost use Rattle.el_net.specs.Paths.{five_digits, file_path};
 
+use crate::block_failure::{BlockFailure, BlockPart};
 use crate::file_names::file_number;
 use crate::folder::Folder;
 use crate::masks::{Mask, NO_MASK, mask_of};
@@ -93,6 +94,13 @@ impl<R: Files<File = File> + AllocGlobal + Clone + Drop> BlockFolder<R> {
         Ok(BlockFolder { rt, folder, path })
     }
 
+    /// The folder's path.
+    pub fn folder(&self) -> &str
+        ensures { result.now ≡ self.now }
+    {
+        self.folder.as_str()
+    }
+
     // A failure where the folder isn't there.
     fn find(&self) -> io::Result<()> {
         if metadata(&self.rt, self.folder.as_str())?.is_dir() {
@@ -102,23 +110,41 @@ impl<R: Files<File = File> + AllocGlobal + Clone + Drop> BlockFolder<R> {
         }
     }
 
-    /// The mask of its files, by `xor.dat`: one that changes no byte where that isn't there. None where it
-    /// hasn't eight bytes, or can't be read, or the folder isn't there.
-    pub fn mask(&self, alloc: Global) -> Result<Option<Mask>, OutOfMemory> {
+    /// The mask of its files, by `xor.dat`: one that changes no byte where that isn't there. A failure where
+    /// it hasn't eight bytes, or can't be read, or the folder isn't there.
+    pub fn mask(&self, alloc: Global) -> Result<Result<Mask, BlockFailure>, OutOfMemory> {
         let mut path = String::with_capacity(alloc, self.folder.len() + 8)?;
         put_text(&mut path, self.folder.as_str());
         put_text(&mut path, "/xor.dat");
-        Ok(self.read_mask(path.as_str()).unwrap_or(None))
+        Ok(self.find_mask(path.as_str()))
     }
 
-    fn read_mask(&self, path: &str) -> io::Result<Option<Mask>> {
-        self.find()?;
+    fn find_mask(&self, path: &str) -> Result<Mask, BlockFailure> {
+        if let Err(error) = self.find() {
+            return Err(BlockFailure {
+                part: BlockPart::Folder,
+                error,
+            });
+        }
+        match self.read_mask(path) {
+            Ok(mask) => Ok(mask),
+            Err(error) => Err(BlockFailure {
+                part: BlockPart::Mask,
+                error,
+            }),
+        }
+    }
+
+    fn read_mask(&self, path: &str) -> io::Result<Mask> {
         let Some(file) = found(reading().open(&self.rt, path))? else {
-            return Ok(Some(NO_MASK));
+            return Ok(NO_MASK);
         };
         let mut bytes = [0u8; 9];
         let n = read_at(&file, 0, &mut bytes)?;
-        Ok(mask_of(&bytes[..n]))
+        match mask_of(&bytes[..n]) {
+            Some(mask) => Ok(mask),
+            None => Err(io::Error::new(ErrorKind::InvalidData, "it hasn't eight bytes")),
+        }
     }
 }
 

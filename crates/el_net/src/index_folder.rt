@@ -1,6 +1,6 @@
 // A real folder of the files of an index.
 ghost use Rattle.std.specs.Prelude.{◌≡◌, ◌+◌, ◌≤◌, ◌++◌, [], length, IfOk, string_bytes, string_len, string_capacity};
-ghost use Rattle.el_net.specs.Paths.{index_path};
+ghost use Rattle.el_net.specs.Paths.{index_path, lock_path};
 
 use crate::paths::{put_digit, put_text};
 use crate::reading::found;
@@ -13,15 +13,21 @@ use std::marker::Model;
 use std::os::unix::fs::FileExt;
 use std::rt::Files;
 
-/// The files of an index in a folder: file N, below 100, has the name `NN.idx`, in two digits. Where the
-/// folder can't be had, each call that opens fails. What real files hold is beyond any contract: contracts
-/// see the folder's path.
+/// The files of an index in a folder: file N, below 100, has the name `NN.idx`, in two digits. The first call
+/// that opens one locks the folder by the file `lock` beside them, which is none of theirs, and the system
+/// unlocks it when this is let go or the program ends, however it ends. Where the folder can't be had, or
+/// another program holds it, each call that opens fails. What real files hold is beyond any contract:
+/// contracts see the folder's path.
 #[derive(Drop)]
 pub struct IndexFolder<R: Files<File = File>> {
     rt: R,
     folder: String,
     // The path of the file that was opened last, in room that fits any file's.
     path: String,
+    // The lock's file, once the folder is locked.
+    lock: Option<File>,
+    // Why the folder couldn't be locked. No clause speaks of it.
+    refusal: Option<io::Error>,
 }
 
 impl<R: Files<File = File>> Model for IndexFolder<R> {
@@ -48,11 +54,29 @@ fn put_path(path: &mut String, folder: &str, file: u32)
     put_text(path, ".idx");
 }
 
+// Makes the path that of the folder's lock. It takes no memory, since the room is there.
+fn put_lock_path(path: &mut String, folder: &str)
+    requires { length folder.now + 7 ≤ string_capacity path.old }
+    ensures path { string_bytes path.new ≡ lock_path folder.now }
+    ensures room { string_capacity path.old ≤ string_capacity path.new }
+{
+    path.clear();
+    put_text(path, folder);
+    put_text(path, "/lock");
+}
+
 // Options of a file that is read and written.
 fn writing() -> OpenOptions {
     let mut options = OpenOptions::new();
     options.read(true);
     options.write(true);
+    options
+}
+
+// Options of a file that is read and written, and made if it isn't there.
+fn making() -> OpenOptions {
+    let mut options = writing();
+    options.create(true);
     options
 }
 
@@ -76,7 +100,56 @@ impl<R: Files<File = File> + Drop> IndexFolder<R> {
     {
         let path = String::with_capacity(alloc, folder.len() + 7)?;
         let folder = String::from_str(alloc, folder)?;
-        Ok(IndexFolder { rt, folder, path })
+        Ok(IndexFolder {
+            rt,
+            folder,
+            path,
+            lock: None,
+            refusal: None,
+        })
+    }
+
+    /// The folder's path.
+    pub fn folder(&self) -> &str
+        ensures { result.now ≡ self.now }
+    {
+        self.folder.as_str()
+    }
+
+    /// Why the folder couldn't be locked: `WouldBlock` where another program holds it.
+    pub fn refusal(&self) -> Option<io::Error> {
+        self.refusal
+    }
+
+    // Locks the folder, unless it is locked.
+    fn hold(&mut self) -> io::Result<()>
+        ensures { self.new ≡ self.old }
+    {
+        if self.lock.is_some() {
+            return Ok(());
+        }
+        match self.lock_file() {
+            Ok(file) => {
+                self.lock = Some(file);
+                Ok(())
+            }
+            Err(error) => {
+                self.refusal = Some(error);
+                Err(error)
+            }
+        }
+    }
+
+    // The lock's file, which is made if it isn't there, and locked.
+    fn lock_file(&mut self) -> io::Result<File>
+        ensures { self.new ≡ self.old }
+    {
+        put_lock_path(&mut self.path, self.folder.as_str());
+        let file = making().open(&self.rt, self.path.as_str())?;
+        match file.try_lock() {
+            Ok(()) => Ok(file),
+            Err(error) => Err(io::Error::from(error)),
+        }
     }
 }
 
@@ -108,15 +181,15 @@ impl<R: Files<File = File> + Drop> OpenFiles for IndexFolder<R> {
     fn begin(&mut self) {}
 
     fn open(&mut self, file: u32) -> io::Result<Option<File>> {
+        self.hold()?;
         put_path(&mut self.path, self.folder.as_str(), file);
         found(writing().open(&self.rt, self.path.as_str()))
     }
 
     fn create(&mut self, file: u32) -> io::Result<File> {
+        self.hold()?;
         put_path(&mut self.path, self.folder.as_str(), file);
-        let mut options = writing();
-        options.create(true);
-        options.open(&self.rt, self.path.as_str())
+        making().open(&self.rt, self.path.as_str())
     }
 
     fn sync_folder(&mut self) -> io::Result<()> {

@@ -4,6 +4,7 @@
 #![tactic(auto)]
 
 mod archive_folder;
+mod block_failure;
 mod block_files;
 mod block_folder;
 mod file_names;
@@ -17,6 +18,7 @@ mod standard_link;
 mod tcp_link;
 
 pub use archive_folder::ArchiveFolder;
+pub use block_failure::{BlockFailure, BlockPart};
 pub use block_files::BlockFiles;
 pub use block_folder::BlockFolder;
 pub use folder::Folder;

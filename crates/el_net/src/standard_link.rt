@@ -21,6 +21,8 @@ pub struct StandardLink<R: Input + Print + Drop> {
     is_closed: bool,
     calls: u64,
     faults: u64,
+    // Why the last read failed, if it did. No clause speaks of it.
+    failure: Option<io::Error>,
 }
 
 impl<R: Input + Print + Drop> Model for StandardLink<R> {
@@ -55,7 +57,13 @@ impl<R: Input + Print + Drop> StandardLink<R> {
             is_closed: false,
             calls: 0,
             faults: 0,
+            failure: None,
         }
+    }
+
+    /// What the system said where the last read failed.
+    pub fn failure(&self) -> Option<io::Error> {
+        self.failure
     }
 
     // Reads what has come, waiting for it.
@@ -104,7 +112,9 @@ impl<R: Input + Print + Drop> StandardLink<R> {
         ensures lawful { IfOk result (λ arrival. IsNextArrival self.old.last arrival self.new.last) }
         ensures cause { HasCause self.old.faults self.new.faults result }
     {
-        let arrival = arrival_of(self.read(buf), self.is_closed);
+        let read = self.read(buf);
+        self.failure = read.err();
+        let arrival = arrival_of(read, self.is_closed);
         if arrival.is_err() {
             self.count_fault();
         }

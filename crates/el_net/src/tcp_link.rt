@@ -1,29 +1,41 @@
 // Sockets as a link with the node and clients.
-ghost use Rattle.std.specs.Prelude.{◌≡◌, IfOk, []};
+ghost use Rattle.std.specs.Prelude.{◌≡◌, length, IfOk, []};
 ghost use Rattle.el_outside.specs.Counts.{RoseBy};
+ghost use Rattle.el_sockets.specs.Arrivals.{IsNextAfter};
 
 use el_base::OutOfMemory;
-use el_outside::{Arrival, Link, LinkFailed, Peer, SendFault, Why};
-use el_sockets::{Ports, Room, Sockets};
+use el_outside::{Arrival, BUFFER_SIZE, Link, LinkFailed, Peer, SendFault, Why};
+use el_sockets::{Ports, Room, SocketFailure, SocketPart, Sockets};
 use std::alloc::Global;
 use std::io;
-use std::io::ErrorKind;
+use std::io::{Eprint, ErrorKind};
 use std::marker::Model;
 use std::net::Net;
 
-/// Two ports on 127.0.0.1: one for clients, at most 257 at once, and one for the node. No call waits for a
-/// peer that is slow. Where a port can't be had, each call fails. It tells no content: contracts see the
-/// ports that were asked for, the last client's number and the counts.
+/// The node's number.
+const NODE: Peer = 0;
+
+/// Two ports on 127.0.0.1: one for clients, at most 257 at once, and one for the node. The first call of
+/// `next` opens them, so that nobody waits at a port before anyone is served there, and tells so on standard
+/// error. No call waits for a peer that is slow. Where a port can't be had, each call fails. It tells no
+/// content: contracts see the ports that were asked for, the last client's number and the counts.
 #[derive(Drop)]
-pub struct TcpLink {
+pub struct TcpLink<R: Net + Eprint + Drop> {
+    rt: R,
     asked: Ports,
+    // What is told once the ports are open.
+    opening: String,
+    // Room for the peers, until the ports are opened.
+    room: Option<Room>,
     sockets: Option<Sockets>,
     last: Peer,
     calls: u64,
     faults: u64,
+    // The last failure that ends a run. No clause speaks of it.
+    failure: Option<SocketFailure>,
 }
 
-impl Model for TcpLink {
+impl<R: Net + Eprint + Drop> Model for TcpLink<R> {
     ghost use Rattle.el_net.specs.Devices.{LinkOverPorts};
 
     ghost Value = { LinkOverPorts };
@@ -36,23 +48,45 @@ impl Model for TcpLink {
     } };
 }
 
-impl TcpLink {
-    /// Opens the two ports, with room for the peers.
-    pub fn new<N: Net>(net: &N, alloc: Global, ports: Ports) -> Result<TcpLink, OutOfMemory>
+impl<R: Net + Eprint + Drop> TcpLink<R> {
+    /// The two ports, which aren't open yet, and room for the peers. The text is what is told on standard
+    /// error once they are.
+    pub fn new(
+        rt: R,
+        alloc: Global,
+        ports: Ports,
+        opening: String,
+    ) -> Result<TcpLink<R>, OutOfMemory>
         ensures { IfOk result (λ link. link ≡ record { asked = ports; last = 0; calls = 0; faults = 0 }) }
     {
         let room = Room::new(alloc)?;
-        let sockets = Sockets::new(net, room, ports).ok();
         Ok(TcpLink {
+            rt,
             asked: ports,
-            sockets,
+            opening,
+            room: Some(room),
+            sockets: None,
             last: 0,
             calls: 0,
             faults: 0,
+            failure: None,
         })
     }
 
-    /// The numbers that the two ports have, where they could be had.
+    /// The ports that were asked for.
+    pub fn asked(&self) -> Ports
+        ensures { result ≡ self.now.asked }
+    {
+        self.asked
+    }
+
+    /// The last failure that ends a run: of the ports, of the watch over all sockets, or of a message to the
+    /// node.
+    pub fn failure(&self) -> Option<SocketFailure> {
+        self.failure
+    }
+
+    /// The numbers that the two ports have, where they are open.
     pub fn ports(&self) -> io::Result<Ports> {
         match &self.sockets {
             Some(sockets) => sockets.ports(),
@@ -77,9 +111,59 @@ impl TcpLink {
     {
         self.faults = self.faults.saturating_add(1);
     }
+
+    // Opens the ports where that wasn't tried yet.
+    fn open(&mut self)
+        ensures { self.new ≡ self.old }
+    {
+        if let Some(room) = self.room.take() {
+            match Sockets::new(&self.rt, room, self.asked) {
+                Ok(sockets) => {
+                    self.sockets = Some(sockets);
+                    let _ = self.rt.eprint(self.opening.as_str());
+                }
+                Err(failure) => self.failure = Some(failure),
+            }
+        }
+    }
+
+    // What comes over the open ports.
+    fn hear(&mut self, buf: &mut [u8]) -> Result<Arrival, LinkFailed>
+        requires { length buf.old ≡ BUFFER_SIZE }
+        ensures same { self.new ≡ self.old }
+        ensures lawful { IfOk result (λ arrival. IsNextAfter self.old.last arrival) }
+    {
+        let Some(sockets) = &mut self.sockets else {
+            return Err(LinkFailed);
+        };
+        match sockets.hear(self.last, buf) {
+            Ok(arrival) => Ok(arrival),
+            Err(error) => {
+                self.failure = Some(SocketFailure {
+                    part: SocketPart::Watch,
+                    error: Some(error),
+                });
+                Err(LinkFailed)
+            }
+        }
+    }
+
+    // Keeps that a message to the node couldn't be sent.
+    fn keep_refusal(&mut self)
+        ensures { self.new ≡ self.old }
+    {
+        let error = match &self.sockets {
+            Some(sockets) => sockets.node_refusal(),
+            None => None,
+        };
+        self.failure = Some(SocketFailure {
+            part: SocketPart::Node,
+            error,
+        });
+    }
 }
 
-impl Link for TcpLink {
+impl<R: Net + Eprint + Drop> Link for TcpLink<R> {
     ghost tells = { ⊥ };
 
     ghost trace = { λ link. record { arrivals = []; messages = []; closings = [] } };
@@ -94,20 +178,17 @@ impl Link for TcpLink {
 
     fn next(&mut self, buf: &mut [u8]) -> Result<Arrival, LinkFailed> {
         self.count_call();
-        let heard = match &mut self.sockets {
-            Some(sockets) => sockets.hear(self.last, buf),
-            None => Err(io::Error::from(ErrorKind::NotConnected)),
-        };
-        match heard {
+        self.open();
+        match self.hear(buf) {
             Ok(arrival) => {
                 if let Arrival::Opened(p) = arrival {
                     self.last = p;
                 }
                 Ok(arrival)
             }
-            Err(_) => {
+            Err(failed) => {
                 self.count_fault();
-                Err(LinkFailed)
+                Err(failed)
             }
         }
     }
@@ -119,6 +200,9 @@ impl Link for TcpLink {
         };
         if sent == Err(SendFault::Gone) {
             self.count_fault();
+            if p == NODE {
+                self.keep_refusal();
+            }
         }
         sent
     }

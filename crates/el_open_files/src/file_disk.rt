@@ -8,10 +8,21 @@ use crate::open_files::OpenFiles;
 use el_base::{GhostCount, OutOfMemory};
 use el_outside::{Disk, DiskFailed, SIZE_LIMIT};
 use std::alloc::Global;
+use std::io;
+use std::io::ErrorKind;
 use std::marker::Model;
 
 /// How many files an index has at most: their names have two digits.
 const FILES: usize = 100;
+
+/// A call on a file that failed.
+#[derive(Clone, Copy)]
+pub struct FileFailure {
+    /// The file's number.
+    pub file: u32,
+    /// What the system said.
+    pub error: io::Error,
+}
 
 /// The files of a folder as a disk, at most 100. A file is opened once and kept open, and made by the first
 /// write to it; one that isn't there has no bytes. It tells what the folder tells.
@@ -22,6 +33,8 @@ pub struct FileDisk<F: OpenFiles> {
     places: Vec<Option<F::File>>,
     made: GhostCount,
     faults: u64,
+    // The last call that failed. No clause speaks of it.
+    failure: Option<FileFailure>,
 }
 
 impl<F: OpenFiles> Model for FileDisk<F> {
@@ -45,10 +58,24 @@ fn no_files<I: Drop>(alloc: Global) -> Result<Vec<Option<I>>, OutOfMemory>
     Ok(places)
 }
 
-// A failure, which is counted.
-fn fault(faults: &mut u64) -> DiskFailed
+// Why a size can't be told: the call's failure, or else that the file is too large.
+fn why_no_size(found: io::Result<u64>) -> io::Error {
+    match found {
+        Ok(_) => io::Error::from(ErrorKind::FileTooLarge),
+        Err(error) => error,
+    }
+}
+
+// A failure of a call on a file, which is counted and kept.
+fn fault(
+    faults: &mut u64,
+    failure: &mut Option<FileFailure>,
+    file: u32,
+    error: io::Error,
+) -> DiskFailed
     ensures { RoseBy faults.old faults.new 1 }
 {
+    *failure = Some(FileFailure { file, error });
     *faults = faults.saturating_add(1);
     DiskFailed
 }
@@ -65,7 +92,20 @@ impl<F: OpenFiles + Drop> FileDisk<F> {
             places,
             made: GhostCount::new(),
             faults: 0,
+            failure: None,
         })
+    }
+
+    /// The last call that failed.
+    pub fn failure(&self) -> Option<FileFailure> {
+        self.failure
+    }
+
+    /// The folder.
+    pub fn folder(&self) -> &F
+        ensures { result.now ≡ self.now.files }
+    {
+        &self.files
     }
 
     /// The folder, as it stands; its files are closed. Takes no memory.
@@ -77,6 +117,7 @@ impl<F: OpenFiles + Drop> FileDisk<F> {
             places: _,
             made: _,
             faults: _,
+            failure: _,
         } = self;
         files
     }
@@ -104,9 +145,15 @@ impl<F: OpenFiles + Drop> Disk for FileDisk<F> {
     fn size(&mut self, file: u32) -> Result<u64, DiskFailed> {
         self.made.tick();
         self.files.begin();
-        match size_of(&mut self.files, self.places.as_mut_slice(), file) {
+        let found = size_of(&mut self.files, self.places.as_mut_slice(), file);
+        match found {
             Ok(n) if n < SIZE_LIMIT => Ok(n),
-            _ => Err(fault(&mut self.faults)),
+            _ => Err(fault(
+                &mut self.faults,
+                &mut self.failure,
+                file,
+                why_no_size(found),
+            )),
         }
     }
 
@@ -115,7 +162,7 @@ impl<F: OpenFiles + Drop> Disk for FileDisk<F> {
         self.files.begin();
         match read_from(&mut self.files, self.places.as_mut_slice(), file, at, buf) {
             Ok(n) => Ok(n),
-            Err(_) => Err(fault(&mut self.faults)),
+            Err(error) => Err(fault(&mut self.faults, &mut self.failure, file, error)),
         }
     }
 
@@ -123,11 +170,12 @@ impl<F: OpenFiles + Drop> Disk for FileDisk<F> {
         self.made.tick();
         self.files.begin();
         if at.saturating_add(bytes.len() as u64) >= SIZE_LIMIT {
-            return Err(fault(&mut self.faults));
+            let error = io::Error::from(ErrorKind::FileTooLarge);
+            return Err(fault(&mut self.faults, &mut self.failure, file, error));
         }
         match write_to(&mut self.files, self.places.as_mut_slice(), file, at, bytes) {
             Ok(()) => Ok(()),
-            Err(_) => Err(fault(&mut self.faults)),
+            Err(error) => Err(fault(&mut self.faults, &mut self.failure, file, error)),
         }
     }
 
@@ -136,7 +184,7 @@ impl<F: OpenFiles + Drop> Disk for FileDisk<F> {
         self.files.begin();
         match cut_to(&mut self.files, self.places.as_mut_slice(), file, len) {
             Ok(()) => Ok(()),
-            Err(_) => Err(fault(&mut self.faults)),
+            Err(error) => Err(fault(&mut self.faults, &mut self.failure, file, error)),
         }
     }
 
@@ -145,7 +193,7 @@ impl<F: OpenFiles + Drop> Disk for FileDisk<F> {
         self.files.begin();
         match make_durable(&mut self.files, self.places.as_mut_slice(), file) {
             Ok(()) => Ok(()),
-            Err(_) => Err(fault(&mut self.faults)),
+            Err(error) => Err(fault(&mut self.faults, &mut self.failure, file, error)),
         }
     }
 }

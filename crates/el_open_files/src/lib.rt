@@ -8,5 +8,5 @@ mod finding;
 mod moving;
 mod open_files;
 
-pub use file_disk::FileDisk;
+pub use file_disk::{FileDisk, FileFailure};
 pub use open_files::OpenFiles;

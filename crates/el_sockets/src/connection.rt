@@ -48,6 +48,8 @@ pub struct Connection {
     is_shut: bool,
     // How many bytes came since it was closed.
     thrown_away: usize,
+    // What the system said where a message couldn't be written.
+    refusal: Option<io::Error>,
 }
 
 impl Connection {
@@ -63,12 +65,19 @@ impl Connection {
             has_ended: false,
             is_shut: false,
             thrown_away: 0,
+            refusal: None,
         }
     }
 
     /// Whether it is that peer, and open.
     pub fn is_open_as(&self, p: Peer) -> bool {
         self.peer == p && self.stage == Stage::Open
+    }
+
+    /// What the system said of a message that couldn't be written. None where it said nothing, as of one for
+    /// which too many bytes were unsent.
+    pub fn refusal(&self) -> Option<io::Error> {
+        self.refusal
     }
 
     /// Whether its socket may be let go.
@@ -101,7 +110,10 @@ impl Connection {
         self.unsent.add(message)?;
         match self.write() {
             Ok(()) => Ok(()),
-            Err(_) => Err(SendFault::Gone),
+            Err(error) => {
+                self.refusal = Some(error);
+                Err(SendFault::Gone)
+            }
         }
     }
 

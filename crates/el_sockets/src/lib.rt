@@ -8,4 +8,4 @@ mod listener;
 mod sockets;
 mod unsent;
 
-pub use sockets::{Ports, Room, Sockets};
+pub use sockets::{Ports, Room, SocketFailure, SocketPart, Sockets};

@@ -6,7 +6,7 @@ use crate::calls::lacks_room;
 use crate::connection::Connection;
 use crate::listener::Listener;
 use el_base::OutOfMemory;
-use el_outside::{Arrival, BUFFER_SIZE, Peer, SendFault, Why};
+use el_outside::{Arrival, BUFFER_SIZE, CLIENT_LIMIT, Peer, SendFault, Why};
 use mio::net::TcpStream;
 use mio::{Events, Interest, Poll, Token};
 use std::alloc::Global;
@@ -17,8 +17,8 @@ use std::time::Duration;
 /// The node's number, and the place of its socket.
 const NODE: Peer = 0;
 
-/// The places of peers: the node's, and those of 257 clients.
-const PEER_PLACES: usize = 258;
+/// The places of peers: the node's, those of all clients that may be connected at once, and one more.
+const PEER_PLACES: usize = CLIENT_LIMIT + 2;
 
 /// The places of the two ports.
 const NODE_LISTENER: usize = PEER_PLACES;
@@ -38,6 +38,36 @@ pub struct Ports {
     pub clients: u16,
     /// That of the node.
     pub node: u16,
+}
+
+/// What of the sockets a call of the system failed on.
+#[derive(Clone, Copy, Debug, PartialEq, Eq)]
+pub enum SocketPart {
+    /// The port of the clients, in its opening.
+    ClientPort,
+    /// The port of the node, in its opening.
+    NodePort,
+    /// The watch over all sockets, or a connection that comes in.
+    Watch,
+    /// The node's connection, over which a message couldn't be sent.
+    Node,
+}
+
+/// A call of the system on sockets that failed.
+#[derive(Clone, Copy)]
+pub struct SocketFailure {
+    /// On what it failed.
+    pub part: SocketPart,
+    /// What the system said. None where the node is given up without it, since too many bytes are unsent.
+    pub error: Option<io::Error>,
+}
+
+// A failure of which the system said so.
+fn failure(part: SocketPart, error: io::Error) -> SocketFailure {
+    SocketFailure {
+        part,
+        error: Some(error),
+    }
 }
 
 /// Room for the peers and for what the system tells of them, taken before a port is opened.
@@ -78,19 +108,27 @@ pub struct Sockets {
 
 impl Sockets {
     /// Opens the two ports.
-    pub fn new<N: Net>(net: &N, room: Room, ports: Ports) -> io::Result<Sockets> {
-        let poll = Poll::new(net)?;
+    pub fn new<N: Net>(net: &N, room: Room, ports: Ports) -> Result<Sockets, SocketFailure> {
+        let poll = match Poll::new(net) {
+            Ok(poll) => poll,
+            Err(error) => return Err(failure(SocketPart::Watch, error)),
+        };
         let clients = Token(CLIENT_LISTENER);
+        let client_listener = match Listener::new(net, poll.registry(), clients, ports.clients) {
+            Ok(listener) => listener,
+            Err(error) => return Err(failure(SocketPart::ClientPort, error)),
+        };
         let node = Token(NODE_LISTENER);
-        let client_listener = Listener::new(net, poll.registry(), clients, ports.clients)?;
-        let node_listener = Listener::new(net, poll.registry(), node, ports.node)?;
-        Ok(Sockets {
-            poll,
-            room,
-            node_listener,
-            client_listener,
-            place: 0,
-        })
+        match Listener::new(net, poll.registry(), node, ports.node) {
+            Ok(node_listener) => Ok(Sockets {
+                poll,
+                room,
+                node_listener,
+                client_listener,
+                place: 0,
+            }),
+            Err(error) => Err(failure(SocketPart::NodePort, error)),
+        }
     }
 
     /// The numbers that the two ports have.
@@ -128,6 +166,15 @@ impl Sockets {
         {
             Some(peer) => peer.send(message),
             None => Err(SendFault::Gone),
+        }
+    }
+
+    /// What the system said where a message to the node couldn't be written.
+    pub fn node_refusal(&self) -> Option<io::Error> {
+        match self.room.peers.first() {
+            Some(Some(node)) => node.refusal(),
+            Some(None) => None,
+            None => None,
         }
     }
 
