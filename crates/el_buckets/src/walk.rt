@@ -1,8 +1,8 @@
 // The newest row of a hash, and the head of its bucket.
-ghost use Rattle.std.specs.Prelude.{◌≡◌, ◌<◌, ◌≤◌, ◌+◌, ◌^◌, ℕ, List, [], length, take, get_or, OnOk, IfOk, None};
+ghost use Rattle.std.specs.Prelude.{◌≡◌, ◌<◌, ◌≤◌, ◌+◌, ℕ, List, [], length, take, get_or, OnOk, IfOk, None};
 ghost use Rattle.std.specs.Option.{ForSome};
 ghost use Rattle.el_chain.specs.Chains.{zero_hash};
-ghost use Rattle.el_row_formats.specs.RowBytes.{link_number};
+ghost use Rattle.el_row_formats.specs.RowBytes.{number_limit, link_number};
 ghost use Rattle.el_row_formats.specs.Tables.{size_of};
 ghost use Rattle.el_rows.specs.Transaction.{tables_in, reads_in, disk_failed, ReadsRows};
 ghost use Rattle.el_tables.specs.ChainLists.{ListedBlock};
@@ -40,7 +40,7 @@ fn head<R: Rows>(
     ensures none { length (tables_in t.old (heads_of buckets)) ≡ 0 → IfOk result (λ h. h ≡ None) }
     ensures idle { length (tables_in t.old (heads_of buckets)) ≡ 0 → reads_in t.new ≡ reads_in t.old }
     ensures below { IfOk result (λ h. ForSome h (λ n. n < length (tables_in t.old (rows_of buckets)))) }
-    ensures fits { IfOk result (λ h. link_number h < 2 ^ 32) }
+    ensures fits { IfOk result (λ h. link_number h < number_limit) }
     ensures read { ReadsRows disk_failed t.old t.new result }
     ensures rows { reads_in t.new ≤ reads_in t.old + 1 }
 {
@@ -110,8 +110,8 @@ pub fn find_row<R: Rows>(
         (λ f. ForSome f.newest (λ n. n < length (tables_in t.old (rows_of buckets)))) }
     ensures head_below { IfOk result
         (λ f. ForSome f.head (λ n. n < length (tables_in t.old (rows_of buckets)))) }
-    ensures fits { IfOk result (λ f. link_number f.newest < 2 ^ 32) }
-    ensures head_fits { IfOk result (λ f. link_number f.head < 2 ^ 32) }
+    ensures fits { IfOk result (λ f. link_number f.newest < number_limit) }
+    ensures head_fits { IfOk result (λ f. link_number f.head < number_limit) }
     ensures read { ReadsRows disk_failed t.old t.new result }
 {
     let head = head(t, buckets, hash)?;
@@ -150,8 +150,8 @@ pub fn find<R: Rows>(
         (λ f. ForSome f.newest (λ n. n < length (tables_in t.old (rows_of buckets)))) }
     ensures head_below { IfOk result
         (λ f. ForSome f.head (λ n. n < length (tables_in t.old (rows_of buckets)))) }
-    ensures fits { IfOk result (λ f. link_number f.newest < 2 ^ 32) }
-    ensures head_fits { IfOk result (λ f. link_number f.head < 2 ^ 32) }
+    ensures fits { IfOk result (λ f. link_number f.newest < number_limit) }
+    ensures head_fits { IfOk result (λ f. link_number f.head < number_limit) }
     ensures read { ReadsRows disk_failed t.old t.new result }
 {
     let mut row = [0; 68];

@@ -18,7 +18,7 @@ use Rattle.el_chain.specs.declared.fault.ConnectFault.TheVariants as refusal
 use Rattle.el_block.specs.Blocks.{HasBlockEncoding, EncodesBlock}
 use Rattle.el_chain.specs.Chains.{Chain}
 use Rattle.el_block.specs.declared.limits.TheConstants.{MAX_BLOCK_WEIGHT}
-use Rattle.el_chain.specs.declared.limits.TheConstants.{ROW_LIMIT}
+use Rattle.el_chain.specs.RowCounts.{row_limit}
 use Rattle.el_chain.specs.Coins.{coins_after_all, coins_from, coins}
 use Rattle.el_chain.specs.Faults.{full, full_fault, missing_fault, first_fault, IsNext, AreNext, money_fault}
 use Rattle.el_chain.specs.History.{positions, block_positions, first_start}
@@ -121,20 +121,20 @@ second_none (Some x) b h = absurd (some_none h)
     some_none e = cc
 
 -- where a block has no fault, the table of blocks has room for it
-pub has_room : (chain : Chain) (ts : List Tx) → first_fault (positions chain) (block_positions (length chain) ts (coins chain)) ≡ None → 1 ≤ length ts → length chain < ROW_LIMIT
+pub has_room : (chain : Chain) (ts : List Tx) → first_fault (positions chain) (block_positions (length chain) ts (coins chain)) ≡ None → 1 ≤ length ts → length chain < row_limit 1
 has_room chain [] h some = absurd (omega arith)
 has_room chain (t ∷ ts) h some =
     let one = first_none _ _ h in
     let bounds = second_none (missing_fault 0 t (coins chain)) _ one in
     let rows = second_none _ (full_fault (length chain + 1) (positions chain ++ record { height = length chain; pos = 0; start = first_start (t ∷ ts); tx = t; before = coins chain } ∷ [])) bounds in
-    by (nat_lt ROW_LIMIT (length chain + 1)) refl (first_none (full 1 (length chain + 1)) _ rows)
+    by (nat_lt (row_limit 1) (length chain + 1)) refl (first_none (full 1 (length chain + 1)) _ rows)
   where
-    by : (b : Bool) → nat_lt ROW_LIMIT (length chain + 1) ≡ b → full 1 (length chain + 1) ≡ None → length chain < ROW_LIMIT
+    by : (b : Bool) → nat_lt (row_limit 1) (length chain + 1) ≡ b → full 1 (length chain + 1) ≡ None → length chain < row_limit 1
     by true e none = let bad = rw e at none in absurd (some_none bad)
       where
-        some_none : Some (refusal.Full 1 ROW_LIMIT) ≡ None → ⊥
+        some_none : Some (refusal.Full 1 (row_limit 1)) ≡ None → ⊥
         some_none f = cc
-    by false e none = let least = ltb-false ROW_LIMIT (length chain + 1) e in omega arith
+    by false e none = let least = ltb-false (row_limit 1) (length chain + 1) e in omega arith
 
 -- a sum without a fault
 pub money_fits : (sum : ℕ) → money_fault sum ≡ None → sum ≤ max_money

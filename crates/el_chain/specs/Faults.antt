@@ -10,13 +10,12 @@ use Rattle.el_tx.specs.Hashing.{is_coinbase}
 use Rattle.el_block.specs.declared.block.Block.{Block}
 use Rattle.el_chain.specs.declared.coin.Coin.{Coin}
 use Rattle.el_chain.specs.declared.fault.ConnectFault.{ConnectFault}
-use Rattle.el_chain.specs.declared.limits.TheConstants.{ROW_LIMIT}
 use Rattle.el_chain.specs.declared.fault.ConnectFault.TheVariants as refusal
 use Rattle.el_block.specs.Blocks.{HasBlockEncoding}
 use Rattle.el_chain.specs.Chains.{Chain, tip}
 use Rattle.el_chain.specs.Coins.{is_coin_of, without, coins_after, coins, supply}
 use Rattle.el_chain.specs.History.{Position, positions, block_positions}
-use Rattle.el_chain.specs.RowCounts.{output_count, input_count, script_count, entry_count}
+use Rattle.el_chain.specs.RowCounts.{row_limit, output_count, input_count, script_count, entry_count}
 
 -- one of the coins has that outpoint
 abbrev pub has_coin : Outpoint → List Coin → Bool
@@ -39,12 +38,12 @@ missing_fault index t coins =
 abbrev pub money_fault : ℕ → Option ConnectFault
 money_fault sum = if nat_lt max_money sum then Some (refusal.Money sum) else None
 
--- the table with that number would need so many rows, which is more than a table may have
+-- the table with that number would need so many rows, which is more than it may have
 abbrev pub full : ℕ → ℕ → Option ConnectFault
-full table rows = if nat_lt ROW_LIMIT rows then Some (refusal.Full table ROW_LIMIT) else None
+full table rows = if nat_lt (row_limit table) rows then Some (refusal.Full table (row_limit table)) else None
 
--- The first table, by its number, that would need more rows than a table may have for so many blocks and for
--- the transactions of these positions: 1 of blocks, 2 of transactions, 4 of outputs, 5 of inputs, 6 of
+-- The first table, by its number, that would need more rows than it may have for so many blocks and for the
+-- transactions of these positions: 1 of blocks, 2 of transactions, 4 of outputs, 5 of inputs, 6 of
 -- scripts and 8 of entries. Tables 3 and 7, of heads, have one number of rows whatever the chain is.
 abbrev pub full_fault : ℕ → List Position → Option ConnectFault
 full_fault blocks ps =

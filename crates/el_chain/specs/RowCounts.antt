@@ -12,6 +12,10 @@ use Rattle.el_chain.specs.declared.coin.Coin.{Coin}
 use Rattle.el_chain.specs.Coins.{is_coin_of, script_hash_of}
 use Rattle.el_chain.specs.History.{Position}
 
+-- how many rows the table with that number may have at most, so that the number of a row has 32 bits
+abbrev pub row_limit : ℕ → ℕ
+row_limit table = 4294967295
+
 -- the script hashes of the coins that inputs spend
 abbrev pub spent_scripts : List Coin → List TxIn → List Hash32
 spent_scripts coins is =

@@ -4,7 +4,7 @@ ghost use Rattle.std.specs.Prelude.{◌≡◌, ◌<◌, ◌≤◌, ◌≢◌, []
 ghost use Rattle.el_chain.specs.Chains.{zero_hash, tip};
 ghost use Rattle.el_chain.specs.Headers.{AreLinked};
 ghost use Rattle.el_chain.specs.Moves.{IsPlan, shorter, last_hash};
-ghost use Rattle.el_model.specs.Going.{AreMovesOf};
+ghost use Rattle.el_laws.specs.Going.{AreMovesOf};
 ghost use Rattle.el_plain.specs.Plain.{IsPlain};
 
 use crate::records::{
@@ -15,7 +15,8 @@ use el_base::{Bytes, Hash32, Listed};
 use el_block::BlockFault;
 use el_chain::{ConnectFault, MoveFault, Moved, Plan};
 use el_fakes::MemArchive;
-use el_model::{Ledger, Mark, Stop, go_on};
+use el_laws::{Mark, Stop, go_on};
+use el_model::Ledger;
 use el_outside::Archive;
 use el_plain::{PlainChain, PlainLedger};
 use std::alloc::Global;

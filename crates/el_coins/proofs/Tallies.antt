@@ -14,12 +14,11 @@ use Rattle.el_tx.specs.Hashing.{full_encoding}
 use Rattle.el_chain.specs.declared.coin.Coin.{Coin}
 use Rattle.el_chain.specs.declared.fault.ConnectFault.{ConnectFault}
 use Rattle.el_chain.specs.declared.fault.ConnectFault.TheVariants as refusal
-use Rattle.el_chain.specs.declared.limits.TheConstants.{ROW_LIMIT}
 use Rattle.el_coins.specs.declared.tally.Tally.{Tally}
 use Rattle.el_chain.specs.Chains.{Chain}
 use Rattle.el_chain.specs.Coins.{coins_after, coins_after_all, coins}
 use Rattle.el_chain.specs.History.{Position, positions_in, block_positions, first_start, positions_from, positions}
-use Rattle.el_chain.specs.RowCounts.{spending_inputs, spent_scripts, output_script, concerned_scripts, add_scripts, output_count, input_count, script_count, entry_count}
+use Rattle.el_chain.specs.RowCounts.{row_limit, spending_inputs, spent_scripts, output_script, concerned_scripts, add_scripts, output_count, input_count, script_count, entry_count}
 use Rattle.el_chain.specs.Faults.{full}
 use Rattle.el_chain.specs.CoinLists.{coin_in, AreOnce}
 use Rattle.el_coins.specs.within.Meters.{met_by, met_in, met_from, distinct_count, pair_count}
@@ -176,20 +175,20 @@ pub entries_counted : (ps : List Position) (lists : List (List Hash32)) → map 
 entries_counted ps lists is = pairs_same ps ∙ ap pair_count is
 
 -- tables with room
-pub not_full : (table rows : ℕ) → rows ≤ ROW_LIMIT → full table rows ≡ None
-not_full table rows few = rw (le-ltb ROW_LIMIT rows few) refl
+pub not_full : (table rows : ℕ) → rows ≤ row_limit table → full table rows ≡ None
+not_full table rows few = rw (le-ltb (row_limit table) rows few) refl
 
 -- a table is full by its count wherever this is above what 64 bits hold
 pub full_capped : (table rows : ℕ) → full table (min rows (2 ^ 64 - 1)) ≡ full table rows
-full_capped table rows = ap (λ (b : Bool). cond b (Some (refusal.Full table ROW_LIMIT)) None) (same (nat_lt ROW_LIMIT rows) refl)
+full_capped table rows = ap (λ (b : Bool). cond b (Some (refusal.Full table (row_limit table))) None) (same (nat_lt (row_limit table) rows) refl)
   where
-    same : (b : Bool) → nat_lt ROW_LIMIT rows ≡ b → nat_lt ROW_LIMIT (min rows (2 ^ 64 - 1)) ≡ nat_lt ROW_LIMIT rows
-    same true e = let lt = ltb-true ROW_LIMIT rows e in lt-ltb ROW_LIMIT (min rows (2 ^ 64 - 1)) (omega arith) ∙ sym e
-    same false e = let least = ltb-false ROW_LIMIT rows e in le-ltb ROW_LIMIT (min rows (2 ^ 64 - 1)) (omega arith) ∙ sym e
+    same : (b : Bool) → nat_lt (row_limit table) rows ≡ b → nat_lt (row_limit table) (min rows (2 ^ 64 - 1)) ≡ nat_lt (row_limit table) rows
+    same true e = let lt = ltb-true (row_limit table) rows e in lt-ltb (row_limit table) (min rows (2 ^ 64 - 1)) (omega arith) ∙ sym e
+    same false e = let least = ltb-false (row_limit table) rows e in le-ltb (row_limit table) (min rows (2 ^ 64 - 1)) (omega arith) ∙ sym e
 
 -- scripts and entries have room where outputs and inputs together have
-pub met_room : (tally : Tally) (ps : List Position) → IsTally tally ps → AllByRecursion IsOnceAt ps → tally.outputs + tally.inputs ≤ ROW_LIMIT → met_fault ps ≡ None
-met_room tally ps h once few =
+pub met_room : (tally : Tally) (ps : List Position) → IsTally tally ps → AllByRecursion IsOnceAt ps → tally.outputs + tally.inputs ≤ row_limit 6 → tally.outputs + tally.inputs ≤ row_limit 8 → met_fault ps ≡ None
+met_room tally ps h once few short =
     let scripts = scripts_within ps once in
     let entries = entries_within ps once in
     let o = h.outputs in

@@ -4,7 +4,7 @@ use Rattle.std.specs.Option.{option_or}
 use Rattle.el_tx.specs.Encoding.{max_money}
 use Rattle.el_chain.specs.declared.coin.Coin.{Coin}
 use Rattle.el_coins.specs.declared.coins.CoinTable.{CoinTable}
-use Rattle.el_chain.specs.declared.limits.TheConstants.{ROW_LIMIT}
+use Rattle.el_chain.specs.RowCounts.{row_limit}
 use Rattle.el_chain.specs.Chains.{Chain}
 use Rattle.el_chain.specs.Coins.{coins, coins_after, supply}
 use Rattle.el_chain.specs.History.{positions}
@@ -36,7 +36,7 @@ coin_fault height index t coins =
 -- them, and its counts are those of their transactions.
 pub record IsPlainChain (chain : Chain) (kept : CoinTable) (tally : Tally) : Type 0 where
   pub good : IsGood chain
-  pub few : length chain ≤ ROW_LIMIT
+  pub few : length chain ≤ row_limit 1
   pub money : kept.supply ≤ max_money
   pub stands : StandsFor (coin_by kept.map) kept.supply (coins chain)
   pub counted : IsTally tally (positions chain)

@@ -5,7 +5,7 @@ use Rattle.el_coins.specs.declared.coins.CoinTable.{CoinTable}
 use Rattle.el_chain.specs.Chains.{Chain}
 use Rattle.el_chain.specs.Coins.{coins}
 use Rattle.el_chain.specs.Faults.{IsGood}
-use Rattle.el_chain.specs.declared.limits.TheConstants.{ROW_LIMIT}
+use Rattle.el_chain.specs.RowCounts.{row_limit}
 use Rattle.el_coins.specs.CoinLayers.{Holds}
 use Rattle.el_coins.specs.Tallies.{IsTally, AreFew}
 use Rattle.el_coins.specs.declared.tally.Tally.{Tally}
@@ -15,7 +15,7 @@ use Rattle.el_chain.specs.History.{positions}
 -- coins, and the counts of its transactions.
 pub record IsDrafted (base : CoinTable) (chain : Chain) (changes : CoinTable) (tally : Tally) : Type 0 where
   pub good : IsGood chain
-  pub few : length chain ≤ ROW_LIMIT
+  pub few : length chain ≤ row_limit 1
   pub money : changes.supply ≤ max_money
   pub stands : Holds base changes (coins chain)
   pub counted : IsTally tally (positions chain)

@@ -5,12 +5,11 @@ use Rattle.std.specs.List.{AllByRecursion}
 use Rattle.el_chain.specs.CoinLists.{AreOnce}
 use Rattle.el_tx.specs.declared.types.Tx.{Tx}
 use Rattle.el_chain.specs.declared.fault.ConnectFault.{ConnectFault}
-use Rattle.el_chain.specs.declared.limits.TheConstants.{ROW_LIMIT}
 use Rattle.el_coins.specs.declared.tally.Tally.{Tally}
 use Rattle.el_chain.specs.Chains.{Chain}
 use Rattle.el_chain.specs.Coins.{coins}
 use Rattle.el_chain.specs.History.{Position}
-use Rattle.el_chain.specs.RowCounts.{concerned_scripts, output_count, input_count, script_count, entry_count}
+use Rattle.el_chain.specs.RowCounts.{row_limit, concerned_scripts, output_count, input_count, script_count, entry_count}
 use Rattle.el_chain.specs.Faults.{full}
 use Rattle.el_coins.specs.within.Meters.{met_in, met_from}
 
@@ -20,11 +19,11 @@ pub record IsTally (tally : Tally) (ps : List Position) : Type 0 where
   pub outputs : tally.outputs ≡ output_count ps
   pub inputs : tally.inputs ≡ input_count ps
 
--- no count is above what a table may have
+-- no count is above what its table may have
 pub record AreFew (tally : Tally) : Type 0 where
-  pub txs : tally.txs ≤ ROW_LIMIT
-  pub outputs : tally.outputs ≤ ROW_LIMIT
-  pub inputs : tally.inputs ≤ ROW_LIMIT
+  pub txs : tally.txs ≤ row_limit 2
+  pub outputs : tally.outputs ≤ row_limit 4
+  pub inputs : tally.inputs ≤ row_limit 5
 
 -- the first of the tables 1 to 5 that is full by the number of blocks and these counts
 abbrev pub tally_fault : ℕ → Tally → Option ConnectFault

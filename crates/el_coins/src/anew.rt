@@ -1,6 +1,6 @@
 // The coins after blocks, computed anew.
 ghost use Rattle.std.specs.Prelude.{◌≡◌, ◌≤◌, ◌++◌, ◌∷◌, [], length, IfOk, OnOk};
-ghost use Rattle.el_chain.specs.declared.limits.TheConstants.{ROW_LIMIT};
+ghost use Rattle.el_chain.specs.RowCounts.{row_limit};
 ghost use Rattle.el_chain.specs.Faults.{IsNext, IsGood};
 ghost use Rattle.el_coins.specs.CoinLayers.{IsPlainChain};
 ghost use Rattle.el_coins.specs.Drafts.{IsDrafted};
@@ -40,7 +40,7 @@ fn connect_again(
 /// only where memory runs out.
 pub fn coins_anew(alloc: Global, blocks: &[Placed]) -> Result<(CoinTable, Tally), OutOfMemory>
     requires good { IsGood blocks.now }
-    requires few { length blocks.now ≤ ROW_LIMIT }
+    requires few { length blocks.now ≤ row_limit 1 }
     ensures { IfOk result (λ kept. IsPlainChain blocks.now kept.0 kept.1) }
 {
     let none = CoinTable {

@@ -6,7 +6,7 @@ ghost use Rattle.el_tx.specs.Hashing.{same_outpoint};
 ghost use Rattle.el_tx.specs.declared.types.Outpoint as outpoint_shape;
 ghost use Rattle.el_block.specs.Blocks.{HasBlockEncoding};
 ghost use Rattle.el_chain.specs.Chains.{tip};
-ghost use Rattle.el_chain.specs.declared.limits.TheConstants.{ROW_LIMIT};
+ghost use Rattle.el_chain.specs.RowCounts.{row_limit};
 ghost use Rattle.el_chain.specs.Coins as spec;
 ghost use Rattle.el_chain.specs.Faults.{has_coin, missing_input, missing_fault, money_fault, first_fault, fault as block_fault};
 ghost use Rattle.el_chain.specs.History.{positions, block_positions};
@@ -235,7 +235,7 @@ pub fn connect(
     fresh: &[Placed],
     txs: &[Tx],
 ) -> Result<(), ConnectFault>
-    requires many { length (blocks.now ++ fresh.now) ≤ ROW_LIMIT }
+    requires many { length (blocks.now ++ fresh.now) ≤ row_limit 1 }
     requires stands { Holds base.now changes.old (spec.coins (blocks.now ++ fresh.now)) }
     requires money { changes.old.supply ≤ max_money }
     requires counted { IsTally tally.old (positions (blocks.now ++ fresh.now)) }

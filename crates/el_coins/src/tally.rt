@@ -4,12 +4,13 @@ ghost use Rattle.std.specs.List.{AllByRecursion};
 ghost use Rattle.el_chain.specs.History as walk;
 ghost use Rattle.el_tx.specs.Hashing.{spending_inputs};
 ghost use Rattle.el_chain.specs.Faults.{full, full_fault};
+ghost use Rattle.el_chain.specs.RowCounts as spec;
 ghost use Rattle.el_chain.specs.CoinLists.{FitsBlock};
 ghost use Rattle.el_coins.specs.CoinTables.{HasFitting};
 ghost use Rattle.el_coins.specs.Tallies.{IsTally, AreFew, MeetAs, tally_fault, met_fault};
 
 use crate::meter::count_met;
-use el_chain::{ConnectFault, Placed, ROW_LIMIT};
+use el_chain::{ConnectFault, Placed, row_limit};
 use el_tx::{Tx, is_coinbase};
 use std::alloc::Global;
 
@@ -58,7 +59,7 @@ pub fn count_tx(tally: &mut Tally, tx: &Tx)
 fn check_table(table: u8, rows: u64) -> Result<(), ConnectFault>
     ensures { MatchResult result (λ _. full table rows ≡ None) (λ e. full table rows ≡ Some e) }
 {
-    let most = u64::from(ROW_LIMIT);
+    let most = row_limit(table);
     if rows > most {
         return Err(ConnectFault::Full { table, rows: most });
     }
@@ -96,7 +97,8 @@ fn check_met(
         → MeetAs (blocks.now ++ fresh.now) txs.now ps → IfErr result (λ e. (e ≡ ConnectFault.Memory)
         ⊎ (met_fault ps ≡ Some e)) }
 {
-    if tally.outputs + tally.inputs <= u64::from(ROW_LIMIT) {
+    let room = row_limit(SCRIPTS).min(row_limit(ENTRIES));
+    if tally.outputs + tally.inputs <= room {
         return Ok(());
     }
     let (scripts, entries) = count_met(alloc, blocks, fresh, txs)?;
@@ -119,7 +121,7 @@ pub fn check_rows(
     fresh: &[Placed],
     txs: &[Tx],
 ) -> Result<(), ConnectFault>
-    requires many { length (blocks.now ++ fresh.now) ≤ ROW_LIMIT }
+    requires many { length (blocks.now ++ fresh.now) ≤ spec.row_limit 1 }
     requires blocks_fit { AllByRecursion HasFitting blocks.now }
     requires fresh_fit { AllByRecursion HasFitting fresh.now }
     requires fit { AllByRecursion FitsBlock txs.now }

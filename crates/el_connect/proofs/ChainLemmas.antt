@@ -16,10 +16,9 @@ use Rattle.el_block.specs.declared.block.Block.{Block}
 use Rattle.el_block.specs.Blocks.{HasBlockEncoding, EncodesBlock, HasOneCoinbase}
 use Rattle.el_chain.specs.declared.placed.Placed.{Placed}
 use Rattle.el_chain.specs.declared.fault.ConnectFault.{ConnectFault}
-use Rattle.el_chain.specs.declared.limits.TheConstants.{ROW_LIMIT}
 use Rattle.el_chain.specs.Chains.{Chain, tip}
 use Rattle.el_chain.specs.Faults.{fault, IsGood, IsNext, AreNext}
-use Rattle.el_chain.specs.RowCounts.{spending_inputs}
+use Rattle.el_chain.specs.RowCounts.{row_limit, spending_inputs}
 use Rattle.el_chain.specs.History.{first_start}
 use Rattle.el_chain.specs.CoinLists.{FitsBlock}
 use Rattle.el_chain.proofs.GoodChains.{fits_of_encoded, all_in_encoding, next_more, has_room, first_none, money_fits}
@@ -28,14 +27,14 @@ use Rattle.el_prepare.specs.Prepared.{prepared, prepared_tx, prepared_txs, paid,
 use Rattle.el_tables.specs.ChainLists.{ListedBlock, lists, listed_blocks}
 use Rattle.el_tables.specs.Connecting.{◌>>=◌, connect_txs, connect_tx, missing_at, ok_unless, bounds_by, full_by, block_between}
 use Rattle.el_tables.specs.Lists.{Lists, unspent_sum}
-use Rattle.el_tables.specs.Tables.{HeadCounts, format_1, heads_for}
+use Rattle.el_tables.specs.Tables.{HeadCounts, in_both, heads_for}
 use Rattle.el_tables.proofs.Outputs.{from_front}
 use Rattle.el_tables.proofs.UndoneBlocks.{row_more, good_before, prepared_count}
 use Rattle.el_tables.proofs.WholeBlocks.{connects}
 use Rattle.el_row_formats.specs.Tables as held
 use Rattle.el_row_formats.specs.declared.table.Table.TheVariants as table
 use Rattle.el_schema.specs.Rows.{Hold, block_fields}
-use Rattle.el_schema.specs.Standing.{StandFor, HoldChain, heads_in}
+use Rattle.el_schema.specs.Standing.{StandWith, HoldChain, heads_in}
 use Rattle.el_connect.specs.within.Parts.{Reached, IsBetween, LedTo, values, IsSmall, connect_next, connect_all}
 use Rattle.el_connect.proofs.MadeLemmas.{between_next}
 use Rattle.el_chain.specs.declared.fault.ConnectFault.TheVariants as refusal
@@ -226,20 +225,20 @@ sum_of_good chain = from_front (λ (c : Chain). IsGood c → unspent_sum (lists 
 -- it stands in the last block's row
 pub sum_before : (rows : held.Tables) (sum : ℕ) → (length (rows table.Blocks) ≡ 0 → sum ≡ 0)
     → ((counts : HeadCounts) (bs : List ListedBlock) (b : ListedBlock) (l : Lists) → Hold counts (bs ++ b ∷ []) l rows → sum ≡ b.sum)
-    → (chain : Chain) → HoldChain rows chain → sum ≡ unspent_sum (lists chain).outs
-sum_before rows sum none some chain = from_front (λ (c : Chain). HoldChain rows c → sum ≡ unspent_sum (lists c).outs) (λ hold. none (ap length (hold.each table.Blocks))) more chain
+    → (heads : ℕ) (chain : Chain) → HoldChain heads rows chain → sum ≡ unspent_sum (lists chain).outs
+sum_before rows sum none some heads chain = from_front (λ (c : Chain). HoldChain heads rows c → sum ≡ unspent_sum (lists c).outs) (λ hold. none (ap length (hold.each table.Blocks))) more chain
   where
-    more : (c : Chain) (b : Placed) → (HoldChain rows c → sum ≡ unspent_sum (lists c).outs) → HoldChain rows (c ++ b ∷ []) → sum ≡ unspent_sum (lists (c ++ b ∷ [])).outs
+    more : (c : Chain) (b : Placed) → (HoldChain heads rows c → sum ≡ unspent_sum (lists c).outs) → HoldChain heads rows (c ++ b ∷ []) → sum ≡ unspent_sum (lists (c ++ b ∷ [])).outs
     more c b before hold =
-        some (heads_in (c ++ b ∷ [])) (listed_blocks c) (block_between (prepared b.block) b.place (lists c) (lists (c ++ b ∷ []))) (lists (c ++ b ∷ []))
-        (subst (λ (bs : List ListedBlock). Hold (heads_in (c ++ b ∷ [])) bs (lists (c ++ b ∷ [])) rows) (row_more c b) hold)
+        some (heads_in heads (c ++ b ∷ [])) (listed_blocks c) (block_between (prepared b.block) b.place (lists c) (lists (c ++ b ∷ []))) (lists (c ++ b ∷ []))
+        (subst (λ (bs : List ListedBlock). Hold (heads_in heads (c ++ b ∷ [])) bs (lists (c ++ b ∷ [])) rows) (row_more c b) hold)
 
 -- 4. The chain with the block
 
 pub good_more : (chain : Chain) (b : Placed) → IsGood chain → HasBlockEncoding b.block → b.block.header.previous ≡ tip chain → fault chain b.block ≡ None → IsGood (chain ++ b ∷ [])
 good_more chain b good encoded names none = record { each = next_more [] chain b good.each (record { encoded = encoded; names = names; faultless = none }) }
 
-pub room_for_block : (chain : Chain) (b : Block) → HasBlockEncoding b → fault chain b ≡ None → length chain < ROW_LIMIT
+pub room_for_block : (chain : Chain) (b : Block) → HasBlockEncoding b → fault chain b ≡ None → length chain < row_limit 1
 room_for_block chain b encoded none = has_room chain b.txs none (some_tx b encoded)
 
 heads_last : (counts : HeadCounts) (bs : List ListedBlock) (b : ListedBlock) → heads_for counts (bs ++ b ∷ []) ≡ counts
@@ -247,15 +246,15 @@ heads_last counts [] b = refl
 heads_last counts (x ∷ xs) b = refl
 
 -- rows that hold the lists of the chain with the block, and its row
-pub chain_held : (rows : held.Tables) (chain : Chain) (b : Placed)
-    → Hold format_1 (listed_blocks chain ++ block_between (prepared b.block) b.place (lists chain) (lists (chain ++ b ∷ [])) ∷ []) (lists (chain ++ b ∷ [])) rows
-    → HoldChain rows (chain ++ b ∷ [])
-chain_held rows chain b hold =
+pub chain_held : (heads : ℕ) (rows : held.Tables) (chain : Chain) (b : Placed)
+    → Hold (in_both heads) (listed_blocks chain ++ block_between (prepared b.block) b.place (lists chain) (lists (chain ++ b ∷ [])) ∷ []) (lists (chain ++ b ∷ [])) rows
+    → HoldChain heads rows (chain ++ b ∷ [])
+chain_held heads rows chain b hold =
     let row = block_between (prepared b.block) b.place (lists chain) (lists (chain ++ b ∷ [])) in
     let is = row_more chain b in
-    let heads : heads_in (chain ++ b ∷ []) ≡ format_1 = ap (heads_for format_1) is ∙ heads_last format_1 (listed_blocks chain) row in
-    subst (λ (counts : HeadCounts). Hold counts (listed_blocks (chain ++ b ∷ [])) (lists (chain ++ b ∷ [])) rows) (sym heads)
-    (subst (λ (bs : List ListedBlock). Hold format_1 bs (lists (chain ++ b ∷ [])) rows) (sym is) hold)
+    let count : heads_in heads (chain ++ b ∷ []) ≡ in_both heads = ap (heads_for (in_both heads)) is ∙ heads_last (in_both heads) (listed_blocks chain) row in
+    subst (λ (counts : HeadCounts). Hold counts (listed_blocks (chain ++ b ∷ [])) (lists (chain ++ b ∷ [])) rows) (sym count)
+    (subst (λ (bs : List ListedBlock). Hold (in_both heads) bs (lists (chain ++ b ∷ [])) rows) (sym is) hold)
 
 blocks_from : (height first : ℕ) (chain : Chain) (cs : List Rattle.el_chain.specs.declared.coin.Coin.Coin) → length (Rattle.el_tables.specs.ChainLists.listed_blocks_from height first chain cs) ≡ length chain
 blocks_from height first [] cs = refl
@@ -263,23 +262,22 @@ blocks_from height first (b ∷ bs) cs =
     ap (λ n. suc n) (blocks_from (height + 1) (first + length b.block.txs) bs (Rattle.el_chain.specs.Coins.coins_after_all height b.block.txs cs))
 
 -- as many rows of blocks as blocks
-pub height_is : (rows : held.Tables) (chain : Chain) → HoldChain rows chain → length (rows table.Blocks) ≡ length chain
-height_is rows chain hold =
+pub height_is : (heads : ℕ) (rows : held.Tables) (chain : Chain) → HoldChain heads rows chain → length (rows table.Blocks) ≡ length chain
+height_is heads rows chain hold =
     ap length (hold.each table.Blocks) ∙ length-map (listed_blocks chain) (λ b. Rattle.el_row_formats.specs.RowBytes.block_row_bytes (block_fields b)) ∙ blocks_from 0 0 chain []
 
 -- 5. The block in rows
 
-pub begun : (chain : Chain) (rows : held.Tables) (sum : ℕ) → Hold format_1 (listed_blocks chain) (lists chain) rows → sum ≡ unspent_sum (lists chain).outs
-    → Reached format_1 (listed_blocks chain) (lists chain) rows sum
-unfolding format_1
-begun chain rows sum hold is = record { hold = hold; fits = chain_fits chain; tx_heads = omega arith; script_heads = omega arith; sum_is = is }
+pub begun : (heads : ℕ) (chain : Chain) (rows : held.Tables) (sum : ℕ) → 0 < heads → Hold (in_both heads) (listed_blocks chain) (lists chain) rows → sum ≡ unspent_sum (lists chain).outs
+    → Reached (in_both heads) (listed_blocks chain) (lists chain) rows sum
+begun heads chain rows sum some hold is = record { hold = hold; fits = chain_fits chain; tx_heads = some; script_heads = some; sum_is = is }
 
 module _ (chain : Chain) (b : Placed) (height : ℕ) (ps : List PreparedTx) (good : IsGood chain) (tall : height ≡ length chain) (is : ps ≡ (prepared b.block).txs) where
   leads : connect_all height 0 ps (lists chain) ≡ ok_unless (fault chain b.block) (lists (chain ++ b ∷ []))
   leads = ap (λ (h : ℕ). connect_all h 0 ps (lists chain)) tall ∙ ap (λ (qs : List PreparedTx). connect_all (length chain) 0 qs (lists chain)) is ∙ block_leads chain b good
 
-  pub block_faultless : (rows : held.Tables) (sum : ℕ) → LedTo format_1 (listed_blocks chain) rows sum (connect_all height 0 ps (lists chain)) → fault chain b.block ≡ None
-  block_faultless rows sum led = (led_on (fault chain b.block) (lists (chain ++ b ∷ [])) led.lists (sym leads ∙ led.led)).0
+  pub block_faultless : (heads : ℕ) (rows : held.Tables) (sum : ℕ) → LedTo (in_both heads) (listed_blocks chain) rows sum (connect_all height 0 ps (lists chain)) → fault chain b.block ≡ None
+  block_faultless heads rows sum led = (led_on (fault chain b.block) (lists (chain ++ b ∷ [])) led.lists (sym leads ∙ led.led)).0
 
   pub block_refused : (e : ConnectFault) → (e ≡ refusal.DiskFailed) ⊎ ((e ≡ refusal.Memory) ⊎ (connect_all height 0 ps (lists chain) ≡ Err e))
       → (e ≡ refusal.DiskFailed) ⊎ ((e ≡ refusal.Memory) ⊎ (fault chain b.block ≡ Some e))
@@ -287,17 +285,17 @@ module _ (chain : Chain) (b : Placed) (height : ℕ) (ps : List PreparedTx) (goo
   block_refused e (inr (inl memory)) = inr (inl memory)
   block_refused e (inr (inr stopped)) = inr (inr (led_off (fault chain b.block) (lists (chain ++ b ∷ [])) e (sym leads ∙ stopped)))
 
-  pub block_put : (rows new : held.Tables) (sum first count : ℕ) (header : List ℕ) → HasBlockEncoding b.block → b.block.header.previous ≡ tip chain
-      → LedTo format_1 (listed_blocks chain) rows sum (connect_all height 0 ps (lists chain))
+  pub block_put : (heads : ℕ) (rows new : held.Tables) (sum first count : ℕ) (header : List ℕ) → 0 < heads → HasBlockEncoding b.block → b.block.header.previous ≡ tip chain
+      → LedTo (in_both heads) (listed_blocks chain) rows sum (connect_all height 0 ps (lists chain))
       → header ≡ header_encoding b.block.header → first ≡ length (lists chain).txs → count ≡ length (prepared b.block).txs
-      → ((l : Lists) (x : ListedBlock) → Hold format_1 (listed_blocks chain) l rows
-      → record { header = header; place = b.place; first_tx = first; txs = count; sum = sum } ≡ block_fields x → Hold format_1 (listed_blocks chain ++ x ∷ []) l new)
-      → (fault chain b.block ≡ None) × StandFor new (chain ++ b ∷ [])
-  block_put rows new sum first count header encoded names led head from many appends =
+      → ((l : Lists) (x : ListedBlock) → Hold (in_both heads) (listed_blocks chain) l rows
+      → record { header = header; place = b.place; first_tx = first; txs = count; sum = sum } ≡ block_fields x → Hold (in_both heads) (listed_blocks chain ++ x ∷ []) l new)
+      → (fault chain b.block ≡ None) × StandWith heads new (chain ++ b ∷ [])
+  block_put heads rows new sum first count header there encoded names led head from many appends =
       let both = led_on (fault chain b.block) (lists (chain ++ b ∷ [])) led.lists (sym leads ∙ led.led) in
       let after = lists (chain ++ b ∷ []) in
       let x = block_between (prepared b.block) b.place (lists chain) after in
       let total : sum ≡ unspent_sum after.outs = led.reached.sum_is ∙ ap (λ (l : Lists). unspent_sum l.outs) (sym both.1) in
-      let hold = subst (λ (l : Lists). Hold format_1 (listed_blocks chain) l rows) (sym both.1) led.reached.hold in
+      let hold = subst (λ (l : Lists). Hold (in_both heads) (listed_blocks chain) l rows) (sym both.1) led.reached.hold in
       let put = appends after x hold (rw (head, from, many, total) refl) in
-      (both.0, stands new (chain ++ b ∷ []) (good_more chain b good encoded names both.0) (chain_held new chain b put))
+      (both.0, stands heads new (chain ++ b ∷ []) there (good_more chain b good encoded names both.0) (chain_held heads new chain b put))

@@ -5,10 +5,9 @@ use Rattle.el_base.specs.declared.hash.Hash32.{Hash32}
 use Rattle.el_tx.specs.declared.types.Outpoint.{Outpoint}
 use Rattle.el_tx.specs.Encoding.{max_money}
 use Rattle.el_chain.specs.Faults.{money_fault}
-use Rattle.el_chain.specs.RowCounts.{add_scripts}
+use Rattle.el_chain.specs.RowCounts.{row_limit, add_scripts}
 use Rattle.el_chain.specs.declared.fault.ConnectFault.{ConnectFault}
 use Rattle.el_chain.specs.declared.fault.ConnectFault.TheVariants as refusal
-use Rattle.el_chain.specs.declared.limits.TheConstants.{ROW_LIMIT}
 use Rattle.el_chain.proofs.GoodChains.{money_fits}
 use Rattle.el_prepare.specs.declared.prepared.PreparedTx.{PreparedTx}
 use Rattle.el_tables.specs.ChainLists.{ListedBlock}
@@ -130,8 +129,8 @@ module _ (counts : HeadCounts) (bs : List ListedBlock) (start before : Lists) (m
       let missing = subst (λ (q : Option ℕ). TakenBy counts bs inv.now new o by q) none (takes inv.now inv.hold) in
       ap (missing_at {A = Lists} index) (inv.left_is ∙ input_missing by at os o inv.real lt is (coin_same o inv.now inv.real None inv.txs inv.outs missing))
 
-  pub takes_fail : (rows : held.Tables) (left at : ℕ) (e : ConnectFault) → length start.ins + length os ≤ ROW_LIMIT → at < length os → Takes rows left at
-      → ((now : Lists) → Hold counts bs now rows → length now.ins < ROW_LIMIT → (e ≡ refusal.DiskFailed) ⊎ (e ≡ refusal.Memory)) → (e ≡ refusal.DiskFailed) ⊎ (e ≡ refusal.Memory)
+  pub takes_fail : (rows : held.Tables) (left at : ℕ) (e : ConnectFault) → length start.ins + length os ≤ row_limit 5 → at < length os → Takes rows left at
+      → ((now : Lists) → Hold counts bs now rows → length now.ins < row_limit 5 → (e ≡ refusal.DiskFailed) ⊎ (e ≡ refusal.Memory)) → (e ≡ refusal.DiskFailed) ⊎ (e ≡ refusal.Memory)
   takes_fail rows left at e few lt inv refused =
       let is = ap (λ (xs : List ℕ). length xs) inv.ins in
       let joined = length-append start.ins inv.coins in
@@ -173,29 +172,29 @@ full_next height index p l e fine is =
     ap (λ (r : Result Lists ℕ). missing_at index r >>= (λ (x : Lists). ok_unless (bounds_by height x) x)) fine.led
     ∙ ap (λ (b : Option ConnectFault). ok_unless b fine.lists) fault
 
-pub ins_refused : (counts : HeadCounts) (bs : List ListedBlock) (l : Lists) (rows : held.Tables) (e : ConnectFault) → Hold counts bs l rows → length l.ins < ROW_LIMIT
+pub ins_refused : (counts : HeadCounts) (bs : List ListedBlock) (l : Lists) (rows : held.Tables) (e : ConnectFault) → Hold counts bs l rows → length l.ins < row_limit 5
     → (e ≡ refusal.DiskFailed) ⊎ NotAdded table.Ins (length (rows table.Ins)) e → (e ≡ refusal.DiskFailed) ⊎ (e ≡ refusal.Memory)
 ins_refused counts bs l rows e hold few (inl disk) = inl disk
 ins_refused counts bs l rows e hold few (inr why) = inr (not_added table.Ins (length (rows table.Ins)) e (let many = count_ins counts bs l rows hold in omega arith) why)
 
 -- the first of the tables that are counted
-pub full_blocks : (height : ℕ) (l : Lists) (e : ConnectFault) → ROW_LIMIT < height + 1 → e ≡ refusal.Full 1 ROW_LIMIT → full_by height l ≡ Some e
+pub full_blocks : (height : ℕ) (l : Lists) (e : ConnectFault) → row_limit 1 < height + 1 → e ≡ refusal.Full 1 (row_limit 1) → full_by height l ≡ Some e
 full_blocks height l e lt is = let one = full_some 1 (height + 1) lt in rw one (ap Some (sym is))
 
-pub full_txs : (height : ℕ) (l : Lists) (e : ConnectFault) → height + 1 ≤ ROW_LIMIT → ROW_LIMIT < length l.txs → e ≡ refusal.Full 2 ROW_LIMIT → full_by height l ≡ Some e
+pub full_txs : (height : ℕ) (l : Lists) (e : ConnectFault) → height + 1 ≤ row_limit 1 → row_limit 2 < length l.txs → e ≡ refusal.Full 2 (row_limit 2) → full_by height l ≡ Some e
 full_txs height l e low lt is =
     let one = full_none 1 (height + 1) low in
     let two = full_some 2 (length l.txs) lt in
     rw (one, two) (ap Some (sym is))
 
-pub full_outs : (height : ℕ) (l : Lists) (e : ConnectFault) → height + 1 ≤ ROW_LIMIT → length l.txs ≤ ROW_LIMIT → ROW_LIMIT < length l.outs → e ≡ refusal.Full 4 ROW_LIMIT → full_by height l ≡ Some e
+pub full_outs : (height : ℕ) (l : Lists) (e : ConnectFault) → height + 1 ≤ row_limit 1 → length l.txs ≤ row_limit 2 → row_limit 4 < length l.outs → e ≡ refusal.Full 4 (row_limit 4) → full_by height l ≡ Some e
 full_outs height l e low txs lt is =
     let one = full_none 1 (height + 1) low in
     let two = full_none 2 (length l.txs) txs in
     let four = full_some 4 (length l.outs) lt in
     rw (one, two, four) (ap Some (sym is))
 
-pub full_ins : (height : ℕ) (l : Lists) (e : ConnectFault) → height + 1 ≤ ROW_LIMIT → length l.txs ≤ ROW_LIMIT → length l.outs ≤ ROW_LIMIT → ROW_LIMIT < length l.ins → e ≡ refusal.Full 5 ROW_LIMIT
+pub full_ins : (height : ℕ) (l : Lists) (e : ConnectFault) → height + 1 ≤ row_limit 1 → length l.txs ≤ row_limit 2 → length l.outs ≤ row_limit 4 → row_limit 5 < length l.ins → e ≡ refusal.Full 5 (row_limit 5)
     → full_by height l ≡ Some e
 full_ins height l e low txs outs lt is =
     let one = full_none 1 (height + 1) low in
@@ -204,8 +203,8 @@ full_ins height l e low txs outs lt is =
     let five = full_some 5 (length l.ins) lt in
     rw (one, two, four, five) (ap Some (sym is))
 
-pub full_scripts : (height : ℕ) (l : Lists) (e : ConnectFault) → height + 1 ≤ ROW_LIMIT → length l.txs ≤ ROW_LIMIT → length l.outs ≤ ROW_LIMIT → length l.ins ≤ ROW_LIMIT → ROW_LIMIT < length l.scripts
-    → e ≡ refusal.Full 6 ROW_LIMIT → full_by height l ≡ Some e
+pub full_scripts : (height : ℕ) (l : Lists) (e : ConnectFault) → height + 1 ≤ row_limit 1 → length l.txs ≤ row_limit 2 → length l.outs ≤ row_limit 4 → length l.ins ≤ row_limit 5 → row_limit 6 < length l.scripts
+    → e ≡ refusal.Full 6 (row_limit 6) → full_by height l ≡ Some e
 full_scripts height l e low txs outs ins lt is =
     let one = full_none 1 (height + 1) low in
     let two = full_none 2 (length l.txs) txs in
@@ -303,7 +302,7 @@ module _ (counts : HeadCounts) (bs : List ListedBlock) (start l : Lists) (height
         ∙ ap (λ (xs : List Hash32). add_scripts xs (scripts_of p.outputs)) there ∙ ap (λ (xs : List (ℕ × Hash32)). add_scripts taken.now.scripts (scripts_of xs)) (sym at)
 
     pub scripts_wrong : (e : ConnectFault) (os : List (ℕ × Hash32)) → os ≡ p.outputs → IsCounted height p l → Looked (λ x. money_fault (unspent_sum x.outs) ≡ None)
-        → (e ≡ refusal.DiskFailed) ⊎ ((e ≡ refusal.Full 6 ROW_LIMIT) × (ROW_LIMIT < length (add_scripts taken.now.scripts (scripts_of os))))
+        → (e ≡ refusal.DiskFailed) ⊎ ((e ≡ refusal.Full 6 (row_limit 6)) × (row_limit 6 < length (add_scripts taken.now.scripts (scripts_of os))))
         → (e ≡ refusal.DiskFailed) ⊎ ((e ≡ refusal.Memory) ⊎ (connect_next height index p l ≡ Err e))
     scripts_wrong e os at counted tells (inl disk) = inl disk
     scripts_wrong e os at counted tells (inr full) =
@@ -321,7 +320,7 @@ module _ (counts : HeadCounts) (bs : List ListedBlock) (start l : Lists) (height
         inr (inr (full_next height index p l e fine (full_scripts height fine.lists e (omega arith) (omega arith) (omega arith) (omega arith) (omega arith) full.0)))
 
     pub coins_ready : (os : List (ℕ × Hash32)) → os ≡ p.outputs → sum ≤ max_money → Looked (λ x. money_fault (unspent_sum x.outs) ≡ None)
-        → length (add_scripts taken.now.scripts (scripts_of os)) ≤ ROW_LIMIT → ReadyCoins counts bs rows left height p l
+        → length (add_scripts taken.now.scripts (scripts_of os)) ≤ row_limit 6 → ReadyCoins counts bs rows left height p l
     coins_ready os at most tells few =
         let fell = taken.fell in
         let scripts = ap (λ (xs : List Hash32). length xs) (made_scripts os at) in

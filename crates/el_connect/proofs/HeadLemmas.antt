@@ -6,15 +6,16 @@ use Rattle.el_tables.specs.ChainLists.{lists, listed_blocks}
 use Rattle.el_tables.specs.Edits.{with_heads, no_links}
 use Rattle.el_tables.specs.Lists.{no_lists}
 use Rattle.el_tables.specs.Tables as typed
-use Rattle.el_tables.specs.Tables.{HeadCounts, format_1, tables_of}
+use Rattle.el_tables.specs.Tables.{HeadCounts, in_both, tables_of}
 use Rattle.el_tables.proofs.TxEdits.{first_heads}
 use Rattle.el_row_formats.specs.RowBytes.{link_bytes, head_row_bytes, FitsHeadRow}
 use Rattle.el_row_formats.specs.Tables as held
 use Rattle.el_row_formats.specs.declared.table.Table.{Table}
 use Rattle.el_row_formats.specs.declared.table.Table.TheVariants as table
+use Rattle.el_row_formats.specs.declared.limits.TheConstants.{BUCKET_COUNT}
 use Rattle.el_schema.specs.Rows.{Encode, Hold, bytes_of, head_fields}
 use Rattle.el_schema.proofs.Held.{count_tx_heads, count_script_heads}
-use Rattle.el_schema.specs.Standing.{HoldChain}
+use Rattle.el_schema.specs.Standing.{HoldChain, heads_after}
 
 map_same : {X Y : Type 0} (f : X → Y) (n : ℕ) (x : X) → map f (replicate n x) ≡ replicate n (f x)
 map_same f zero x = refl
@@ -70,21 +71,17 @@ added_first none counts old mid new zero_txs zero_scripts hold one two =
     first_hold none counts old new hold (two.others table.TxHeads (λ q. cc) ∙ one.none txs) (two.none scripts)
     (λ u a b. two.others u b ∙ one.others u a)
 
-added_again : (counts : HeadCounts) (chain : Chain) (old mid new : held.Tables) → 0 < counts.txs → 0 < counts.scripts → Hold counts (listed_blocks chain) (lists chain) old
-    → HeadsAdded table.TxHeads counts.txs old mid → HeadsAdded table.ScriptHeads counts.scripts mid new → Hold counts (listed_blocks chain) (lists chain) new
-added_again counts chain old mid new some_txs some_scripts hold one two =
+added_again : (n : ℕ) (counts : HeadCounts) (chain : Chain) (old mid new : held.Tables) → 0 < counts.txs → 0 < counts.scripts → Hold counts (listed_blocks chain) (lists chain) old
+    → HeadsAdded table.TxHeads n old mid → HeadsAdded table.ScriptHeads n mid new → Hold counts (listed_blocks chain) (lists chain) new
+added_again n counts chain old mid new some_txs some_scripts hold one two =
     let txs = count_tx_heads counts (listed_blocks chain) (lists chain) old hold in
     let first = one.some (omega arith) in
     let scripts = ap (λ (T : held.Tables). length (T table.ScriptHeads)) first ∙ count_script_heads counts (listed_blocks chain) (lists chain) old hold in
     let second = two.some (omega arith) in
     subst (λ (T : held.Tables). Hold counts (listed_blocks chain) (lists chain) T) (sym (second ∙ first)) hold
 
-pub heads_hold : (chain : Chain) (count : ℕ) (old mid new : held.Tables) → count ≡ 65536 → HoldChain old chain
-    → HeadsAdded table.TxHeads count old mid → HeadsAdded table.ScriptHeads count mid new → Hold format_1 (listed_blocks chain) (lists chain) new
-unfolding format_1
-heads_hold [] count old mid new is hold one two =
-    added_first (record { txs = 0; scripts = 0 }) format_1 old mid new refl refl hold
-    (subst (λ (n : ℕ). HeadsAdded table.TxHeads n old mid) is one) (subst (λ (n : ℕ). HeadsAdded table.ScriptHeads n mid new) is two)
-heads_hold (b ∷ bs) count old mid new is hold one two =
-    added_again format_1 (b ∷ bs) old mid new (omega arith) (omega arith) hold
-    (subst (λ (n : ℕ). HeadsAdded table.TxHeads n old mid) is one) (subst (λ (n : ℕ). HeadsAdded table.ScriptHeads n mid new) is two)
+pub heads_hold : (heads : ℕ) (chain : Chain) (old mid new : held.Tables) → 0 < heads → HoldChain heads old chain
+    → HeadsAdded table.TxHeads BUCKET_COUNT old mid → HeadsAdded table.ScriptHeads BUCKET_COUNT mid new
+    → Hold (in_both (heads_after heads chain)) (listed_blocks chain) (lists chain) new
+heads_hold heads [] old mid new some hold one two = added_first (record { txs = 0; scripts = 0 }) (in_both BUCKET_COUNT) old mid new refl refl hold one two
+heads_hold heads (b ∷ bs) old mid new some hold one two = added_again BUCKET_COUNT (in_both heads) (b ∷ bs) old mid new some some hold one two

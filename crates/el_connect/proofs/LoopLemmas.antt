@@ -5,7 +5,7 @@ use Rattle.el_base.specs.declared.hash.Hash32.{Hash32}
 use Rattle.el_tx.specs.declared.types.Outpoint.{Outpoint}
 use Rattle.el_chain.specs.declared.fault.ConnectFault.{ConnectFault}
 use Rattle.el_chain.specs.declared.fault.ConnectFault.TheVariants as refusal
-use Rattle.el_chain.specs.declared.limits.TheConstants.{ROW_LIMIT}
+use Rattle.el_chain.specs.RowCounts.{row_limit}
 use Rattle.el_tables.specs.ChainLists.{ListedBlock}
 use Rattle.el_tables.specs.Connecting.{fund, fund_all, script_of_output}
 use Rattle.el_tables.specs.Lists.{Lists, ListedTx, add_entry, unspent_sum}
@@ -59,8 +59,8 @@ module _ (counts : HeadCounts) (bs : List ListedBlock) (l : Lists) (by n first s
         ins = inv.ins;
       }
 
-  pub touches_fail : (rows : held.Tables) (at : ℕ) (e : ConnectFault) → at < length ks → Touches rows at → length (touch_coins by ks l).scripts ≤ ROW_LIMIT
-      → ((now : Lists) → Reached counts bs now rows sum → length (after at now).scripts ≤ ROW_LIMIT → (e ≡ refusal.DiskFailed) ⊎ ((e ≡ refusal.Memory) ⊎ Overflows (after at now) e))
+  pub touches_fail : (rows : held.Tables) (at : ℕ) (e : ConnectFault) → at < length ks → Touches rows at → length (touch_coins by ks l).scripts ≤ row_limit 6
+      → ((now : Lists) → Reached counts bs now rows sum → length (after at now).scripts ≤ row_limit 6 → (e ≡ refusal.DiskFailed) ⊎ ((e ≡ refusal.Memory) ⊎ Overflows (after at now) e))
       → (e ≡ refusal.DiskFailed) ⊎ ((e ≡ refusal.Memory) ⊎ Overflows (touch_coins by ks l) e)
   touches_fail rows at e lt inv few refused =
       let now = inv.lists in
@@ -119,8 +119,8 @@ module _ (counts : HeadCounts) (bs : List ListedBlock) (before : Lists) (m : Mak
       }
 
   pub outputs_fail : (rows : held.Tables) (after at : ℕ) (o : ℕ × Hash32) (e : ConnectFault) → at < length os → o ≡ get_or os at o → Outputs rows after at
-      → length (fund_all m.number 0 os before).scripts ≤ ROW_LIMIT
-      → ((now : Lists) (k : ℕ) → Reached counts bs now rows after → HasRoom now 0 (k + 1) → length (fund m.number at o now).scripts ≤ ROW_LIMIT
+      → length (fund_all m.number 0 os before).scripts ≤ row_limit 6
+      → ((now : Lists) (k : ℕ) → Reached counts bs now rows after → HasRoom now 0 (k + 1) → length (fund m.number at o now).scripts ≤ row_limit 6
       → (e ≡ refusal.DiskFailed) ⊎ ((e ≡ refusal.Memory) ⊎ Overflows (fund m.number at o now) e))
       → (e ≡ refusal.DiskFailed) ⊎ ((e ≡ refusal.Memory) ⊎ Overflows (fund_all m.number 0 os before) e)
   outputs_fail rows after at o e lt is inv few refused =

@@ -4,10 +4,9 @@ use Rattle.std.proofs.lemmas.List.{take_at, drop_all}
 use Rattle.el_base.specs.declared.hash.Hash32.{Hash32}
 use Rattle.el_base.proofs.Lists.{left_at}
 use Rattle.el_tx.specs.declared.types.Outpoint.{Outpoint}
-use Rattle.el_chain.specs.RowCounts.{add_script}
+use Rattle.el_chain.specs.RowCounts.{row_limit, add_script}
 use Rattle.el_chain.specs.declared.fault.ConnectFault.{ConnectFault}
 use Rattle.el_chain.specs.declared.fault.ConnectFault.TheVariants as refusal
-use Rattle.el_chain.specs.declared.limits.TheConstants.{ROW_LIMIT}
 use Rattle.el_tables.specs.ChainLists.{ListedBlock}
 use Rattle.el_tables.specs.Connecting.{spend_all, spend_coin, fund, fund_all}
 use Rattle.el_tables.specs.Edits.{no_out}
@@ -19,6 +18,7 @@ use Rattle.el_tables.proofs.RunningSums.{alone_more, buries_more}
 use Rattle.el_tables.proofs.Scripts.{once_has, number_within}
 use Rattle.el_tables.proofs.Steps.{length_state}
 use Rattle.el_row_formats.specs.Tables as held
+use Rattle.el_row_formats.specs.Tables.{limit_of}
 use Rattle.el_row_formats.specs.declared.table.Table.{Table}
 use Rattle.el_row_formats.specs.declared.table.Table.TheVariants as table
 use Rattle.el_buckets.specs.Faults.{NotAdded}
@@ -139,11 +139,11 @@ output_reached counts bs l before rows sum tx index gone after o reached fit bur
 
 -- 6. Faults of calls where there is room
 
-pub not_added : (t : Table) (n : ℕ) (e : ConnectFault) → n < ROW_LIMIT → NotAdded t n e → e ≡ refusal.Memory
+pub not_added : (t : Table) (n : ℕ) (e : ConnectFault) → n < limit_of t → NotAdded t n e → e ≡ refusal.Memory
 not_added t n e lt (inl full) = absurd (let at = full.0 in omega arith)
 not_added t n e lt (inr memory) = memory.1
 
-pub tx_added_refused : (counts : HeadCounts) (bs : List ListedBlock) (l : Lists) (rows : held.Tables) (e : ConnectFault) → Hold counts bs l rows → length l.txs < ROW_LIMIT
+pub tx_added_refused : (counts : HeadCounts) (bs : List ListedBlock) (l : Lists) (rows : held.Tables) (e : ConnectFault) → Hold counts bs l rows → length l.txs < row_limit 2
     → (e ≡ refusal.DiskFailed) ⊎ NotAdded table.Txs (length (rows table.Txs)) e → (e ≡ refusal.DiskFailed) ⊎ (e ≡ refusal.Memory)
 tx_added_refused counts bs l rows e hold few (inl disk) = inl disk
 tx_added_refused counts bs l rows e hold few (inr why) =

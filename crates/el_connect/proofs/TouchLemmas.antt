@@ -7,11 +7,10 @@ use Rattle.el_base.specs.declared.hash.Hash32.{Hash32}
 use Rattle.el_base.proofs.Lists.{left_at}
 use Rattle.el_chain.specs.Chains.{zero_hash}
 use Rattle.el_chain.specs.Faults.{full}
-use Rattle.el_chain.specs.RowCounts.{add_script, add_scripts}
+use Rattle.el_chain.specs.RowCounts.{row_limit, add_script, add_scripts}
 use Rattle.el_chain.proofs.GoodChains.{first_none, second_none}
 use Rattle.el_chain.specs.declared.fault.ConnectFault.{ConnectFault}
 use Rattle.el_chain.specs.declared.fault.ConnectFault.TheVariants as refusal
-use Rattle.el_chain.specs.declared.limits.TheConstants.{ROW_LIMIT}
 use Rattle.el_tables.specs.Connecting.{fund_all, full_by, fund, script_of_output}
 use Rattle.el_tables.specs.Fits.{OutsWithin}
 use Rattle.el_tables.specs.Lists.{State, Lists, ListedOut, ListedEntry, add_entry, append_entry, bury, is_tx, last_tx_of, replaced, script_at, script_number, spend_output}
@@ -31,24 +30,24 @@ use Rattle.el_connect.proofs.StepLemmas.{bury_long, script_stays}
 
 -- 1. One entry
 
-pub full_none : (table rows : ℕ) → rows ≤ ROW_LIMIT → full table rows ≡ None
-full_none table rows le = let e = le-ltb ROW_LIMIT rows le in rw e refl
+pub full_none : (table rows : ℕ) → rows ≤ row_limit table → full table rows ≡ None
+full_none table rows le = let e = le-ltb (row_limit table) rows le in rw e refl
 
-pub full_some : (table rows : ℕ) → ROW_LIMIT < rows → full table rows ≡ Some (refusal.Full table ROW_LIMIT)
-full_some table rows lt = let e = lt-ltb ROW_LIMIT rows lt in rw e refl
+pub full_some : (table rows : ℕ) → row_limit table < rows → full table rows ≡ Some (refusal.Full table (row_limit table))
+full_some table rows lt = let e = lt-ltb (row_limit table) rows lt in rw e refl
 
-pub within_full : (table rows : ℕ) → full table rows ≡ None → rows ≤ ROW_LIMIT
-within_full table rows none = by (cases_lt ROW_LIMIT rows)
+pub within_full : (table rows : ℕ) → full table rows ≡ None → rows ≤ row_limit table
+within_full table rows none = by (cases_lt (row_limit table) rows)
   where
-    wrong : Some (refusal.Full table ROW_LIMIT) ≡ None → ⊥
+    wrong : Some (refusal.Full table (row_limit table)) ≡ None → ⊥
     wrong e = cc
 
-    by : (ROW_LIMIT < rows) ⊎ (rows ≤ ROW_LIMIT) → rows ≤ ROW_LIMIT
+    by : (row_limit table < rows) ⊎ (rows ≤ row_limit table) → rows ≤ row_limit table
     by (inr le) = le
     by (inl lt) = absurd (wrong (sym (full_some table rows lt) ∙ none))
 
 -- where the tables before it have room, that of entries decides
-pub full_last : (height : ℕ) (l : Lists) → height + 1 ≤ ROW_LIMIT → length l.txs ≤ ROW_LIMIT → length l.outs ≤ ROW_LIMIT → length l.ins ≤ ROW_LIMIT → length l.scripts ≤ ROW_LIMIT
+pub full_last : (height : ℕ) (l : Lists) → height + 1 ≤ row_limit 1 → length l.txs ≤ row_limit 2 → length l.outs ≤ row_limit 4 → length l.ins ≤ row_limit 5 → length l.scripts ≤ row_limit 6
     → full_by height l ≡ full 8 (length l.entries)
 full_last height l low txs outs ins scripts =
     let one = full_none 1 (height + 1) low in
@@ -80,29 +79,29 @@ room_funded tx index n o l room none =
     record { ins = room.ins; outs = omega arith; scripts = one; entries = two }
 
 -- where script hashes have room, the table of entries is the full one
-overflows : (s : Hash32) (tx : ℕ) (l : Lists) (e : ConnectFault) → length (add_entry s tx l).scripts ≤ ROW_LIMIT → touch_full s tx l ≡ Some e → Overflows (add_entry s tx l) e
+overflows : (s : Hash32) (tx : ℕ) (l : Lists) (e : ConnectFault) → length (add_entry s tx l).scripts ≤ row_limit 6 → touch_full s tx l ≡ Some e → Overflows (add_entry s tx l) e
 overflows s tx l e few some =
     let six = full_none 6 (length (add_entry s tx l).scripts) few in
-    by (cases_lt ROW_LIMIT (length (add_entry s tx l).entries)) (sym (ap (λ (r : Option ConnectFault). option_or r (full 8 (length (add_entry s tx l).entries))) six) ∙ some)
+    by (cases_lt (row_limit 8) (length (add_entry s tx l).entries)) (sym (ap (λ (r : Option ConnectFault). option_or r (full 8 (length (add_entry s tx l).entries))) six) ∙ some)
   where
-    by : (ROW_LIMIT < length (add_entry s tx l).entries) ⊎ (length (add_entry s tx l).entries ≤ ROW_LIMIT) → full 8 (length (add_entry s tx l).entries) ≡ Some e → Overflows (add_entry s tx l) e
+    by : (row_limit 8 < length (add_entry s tx l).entries) ⊎ (length (add_entry s tx l).entries ≤ row_limit 8) → full 8 (length (add_entry s tx l).entries) ≡ Some e → Overflows (add_entry s tx l) e
     by (inl lt) is = (same (sym (full_some 8 (length (add_entry s tx l).entries) lt) ∙ is), lt)
       where
-        same : Some (refusal.Full 8 ROW_LIMIT) ≡ Some e → e ≡ refusal.Full 8 ROW_LIMIT
+        same : Some (refusal.Full 8 (row_limit 8)) ≡ Some e → e ≡ refusal.Full 8 (row_limit 8)
         same q = cc
     by (inr le) is = absurd (wrong (sym (full_none 8 (length (add_entry s tx l).entries) le) ∙ is))
       where
         wrong : None ≡ Some e → ⊥
         wrong q = cc
 
-pub touch_refused : (s : Hash32) (tx n m : ℕ) (l : Lists) (e : ConnectFault) → length (add_entry s tx l).scripts ≤ ROW_LIMIT
+pub touch_refused : (s : Hash32) (tx n m : ℕ) (l : Lists) (e : ConnectFault) → length (add_entry s tx l).scripts ≤ row_limit 6
     → ((t rows : ℕ) → e ≡ refusal.Full t rows → touch_full s tx l ≡ Some (refusal.Full t rows))
     → (e ≡ refusal.DiskFailed) ⊎ (NotAdded table.Scripts n e ⊎ NotAdded table.Entries m e)
     → (e ≡ refusal.DiskFailed) ⊎ ((e ≡ refusal.Memory) ⊎ Overflows (add_entry s tx l) e)
 touch_refused s tx n m l e few tells (inl disk) = inl disk
-touch_refused s tx n m l e few tells (inr (inl (inl at))) = inr (inr (overflows s tx l e few (tells 6 ROW_LIMIT at.1 ∙ ap Some (sym at.1))))
+touch_refused s tx n m l e few tells (inr (inl (inl at))) = inr (inr (overflows s tx l e few (tells 6 (row_limit 6) at.1 ∙ ap Some (sym at.1))))
 touch_refused s tx n m l e few tells (inr (inl (inr memory))) = inr (inl memory.1)
-touch_refused s tx n m l e few tells (inr (inr (inl at))) = inr (inr (overflows s tx l e few (tells 8 ROW_LIMIT at.1 ∙ ap Some (sym at.1))))
+touch_refused s tx n m l e few tells (inr (inr (inl at))) = inr (inr (overflows s tx l e few (tells 8 (row_limit 8) at.1 ∙ ap Some (sym at.1))))
 touch_refused s tx n m l e few tells (inr (inr (inr memory))) = inr (inl memory.1)
 
 -- 2. Many entries
@@ -220,13 +219,13 @@ pub entered : (counts : HeadCounts) (bs : List ListedBlock) (l : Lists) (rows ne
 entered counts bs l rows new sum s tx reached hold =
     record { hold = hold; fits = touch_fits l s tx reached.fits; tx_heads = reached.tx_heads; script_heads = reached.script_heads; sum_is = reached.sum_is }
 
-pub coin_refused : (s h : Hash32) (tx n m : ℕ) (l : Lists) (e : ConnectFault) → s ≡ h → length (add_entry h tx l).scripts ≤ ROW_LIMIT
+pub coin_refused : (s h : Hash32) (tx n m : ℕ) (l : Lists) (e : ConnectFault) → s ≡ h → length (add_entry h tx l).scripts ≤ row_limit 6
     → ((t rows : ℕ) → e ≡ refusal.Full t rows → touch_full s tx l ≡ Some (refusal.Full t rows))
     → (e ≡ refusal.DiskFailed) ⊎ (NotAdded table.Scripts n e ⊎ NotAdded table.Entries m e)
     → (e ≡ refusal.DiskFailed) ⊎ ((e ≡ refusal.Memory) ⊎ Overflows (add_entry h tx l) e)
 coin_refused s h tx n m l e same few tells why =
     subst (λ (x : Hash32). (e ≡ refusal.DiskFailed) ⊎ ((e ≡ refusal.Memory) ⊎ Overflows (add_entry x tx l) e)) same
-    (touch_refused s tx n m l e (subst (λ (x : Hash32). length (add_entry x tx l).scripts ≤ ROW_LIMIT) (sym same) few) tells why)
+    (touch_refused s tx n m l e (subst (λ (x : Hash32). length (add_entry x tx l).scripts ≤ row_limit 6) (sym same) few) tells why)
 
 -- 5. The script hash of a coin by its number
 
@@ -241,7 +240,7 @@ hash_past counts bs l rows coin n hold past is =
     sym (get_or_past l.scripts n zero_hash none) ∙ hash_named l coin n is
 
 -- an entry by the number is refused as one by the hash
-pub number_refused : {X : Type 0} (r : Result X ConnectFault) (s h : Hash32) (tx m : ℕ) (l : Lists) → s ≡ h → length (add_entry h tx l).scripts ≤ ROW_LIMIT
+pub number_refused : {X : Type 0} (r : Result X ConnectFault) (s h : Hash32) (tx m : ℕ) (l : Lists) → s ≡ h → length (add_entry h tx l).scripts ≤ row_limit 6
     → ((t rows : ℕ) → r ≡ Err (refusal.Full t rows) → touch_full s tx l ≡ Some (refusal.Full t rows))
     → IfErr r (λ e. (e ≡ refusal.DiskFailed) ⊎ NotAdded table.Entries m e)
     → IfErr r (λ e. (e ≡ refusal.DiskFailed) ⊎ ((e ≡ refusal.Memory) ⊎ Overflows (add_entry h tx l) e))

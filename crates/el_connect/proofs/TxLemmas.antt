@@ -11,7 +11,7 @@ use Rattle.el_tx.specs.Encoding.{max_money}
 use Rattle.el_chain.specs.Faults.{full}
 use Rattle.el_chain.specs.declared.fault.ConnectFault.{ConnectFault}
 use Rattle.el_chain.specs.declared.fault.ConnectFault.TheVariants as refusal
-use Rattle.el_chain.specs.declared.limits.TheConstants.{ROW_LIMIT}
+use Rattle.el_chain.specs.RowCounts.{row_limit}
 use Rattle.el_prepare.specs.declared.prepared.PreparedTx.{PreparedTx}
 use Rattle.el_tables.specs.ChainLists.{ListedBlock}
 use Rattle.el_tables.specs.Connecting.{◌>>=◌, spend_all, fund_all, listed_after, connect_tx, missing_at, ok_unless, bounds_by, full_by}
@@ -83,7 +83,7 @@ missing_refused index height by p l is e count same (inr (inl memory)) = inr (in
 missing_refused index height by p l is e count same (inr (inr missing)) =
     inr (inr (tx_missing index height by p l e count (subst (λ (xs : List Outpoint). missing_at {A = Lists} index (spend_all by 0 xs l) ≡ Err e) same missing)))
 
-pub counted_of : (height : ℕ) (p : PreparedTx) (l : Lists) → height < ROW_LIMIT → length l.txs < ROW_LIMIT → length l.outs + length p.outputs ≤ ROW_LIMIT → length l.ins + length p.inputs ≤ ROW_LIMIT
+pub counted_of : (height : ℕ) (p : PreparedTx) (l : Lists) → height < row_limit 1 → length l.txs < row_limit 2 → length l.outs + length p.outputs ≤ row_limit 4 → length l.ins + length p.inputs ≤ row_limit 5
     → IsCounted height p l
 counted_of height p l a b c d = record { block = a; txs = b; outs = c; ins = d }
 
@@ -144,7 +144,7 @@ module _ (counts : HeadCounts) (bs : List ListedBlock) (l : Lists) (height index
       let same = ap (λ (ts : List ListedTx). length ts) real_txs in
       omega arith
 
-  end_outs : length end.outs ≤ ROW_LIMIT
+  end_outs : length end.outs ≤ row_limit 4
   end_outs =
       let made = made_outs t p.outputs ready.real in
       let same = ap (λ (xs : List ListedOut). length xs) real_outs in
@@ -152,7 +152,7 @@ module _ (counts : HeadCounts) (bs : List ListedBlock) (l : Lists) (height index
       let b = counted.outs in
       omega arith
 
-  end_ins : length end.ins ≤ ROW_LIMIT
+  end_ins : length end.ins ≤ row_limit 5
   end_ins =
       let made = ap (λ (xs : List ℕ). length xs) (made_ins t p.outputs ready.real) in
       let same = ap (λ (xs : List ℕ). length xs) real_ins in
@@ -203,19 +203,19 @@ module _ (counts : HeadCounts) (bs : List ListedBlock) (l : Lists) (height index
     pub room_touching : HasRoom touching.lists 0 (length os)
     room_touching = subst (λ (xs : List (ℕ × Hash32)). HasRoom touching.lists 0 (length xs)) (sym os_are) touching.room
 
-    pub few_txs : length touching.lists.txs < ROW_LIMIT
+    pub few_txs : length touching.lists.txs < row_limit 2
     few_txs =
         let same = ap (λ (ts : List ListedTx). length ts) (touching.txs ∙ ready.txs) in
         let few = counted.txs in
         omega arith
 
-    pub few_scripts : length (made_by row os touching.lists).scripts ≤ ROW_LIMIT
-    few_scripts = subst (λ (x : Lists). length x.scripts ≤ ROW_LIMIT) (sym end_is) ready.few
+    pub few_scripts : length (made_by row os touching.lists).scripts ≤ row_limit 6
+    few_scripts = subst (λ (x : Lists). length x.scripts ≤ row_limit 6) (sym end_is) ready.few
 
     pub tx_led : (new : held.Tables) (after : ℕ) → Reached counts bs (made_by row os touching.lists) new after → HasRoom (made_by row os touching.lists) 0 0
         → LedTo counts bs new after (connect_next height index p l) × (after ≤ max_money)
     tx_led new after reached room =
-        let few = subst (λ (x : Lists). length x.entries ≤ ROW_LIMIT) end_is room.entries in
+        let few = subst (λ (x : Lists). length x.entries ≤ row_limit 8) end_is room.entries in
         let none = full_none 8 (length end.entries) few in
         let there = subst (λ (x : Lists). Reached counts bs x new after) end_is reached in
         let sum = there.sum_is in
@@ -235,7 +235,7 @@ module _ (counts : HeadCounts) (bs : List ListedBlock) (l : Lists) (height index
       refused_later (touch_coins by ready.coins ready.now) end e (omega arith) (overflowed e) why
 
   -- its script hashes have room so far
-  pub few_touched : (by : ℕ) → by ≡ length l.txs → length (touch_coins by ready.coins ready.now).scripts ≤ ROW_LIMIT
+  pub few_touched : (by : ℕ) → by ≡ length l.txs → length (touch_coins by ready.coins ready.now).scripts ≤ row_limit 6
   few_touched by is =
       let real = ap (λ (n : ℕ). touch_coins n ready.coins ready.now) is ∙ sym ready.touched in
       let same = ap (λ (x : Lists). length x.scripts) real in

@@ -1,11 +1,11 @@
 // A block.
-ghost use Rattle.std.specs.Prelude.{◌≡◌, ◌≢◌, ◌⊎◌, ◌<◌, ◌≤◌, ◌+◌, ◌^◌, ◌∷◌, ◌++◌, [], ℕ, List, length, None, Some, OnOk, OnErr, IfOk, IfErr};
+ghost use Rattle.std.specs.Prelude.{◌≡◌, ◌≢◌, ◌⊎◌, ◌<◌, ◌≤◌, ◌+◌, ◌∷◌, ◌++◌, [], ℕ, List, length, None, Some, OnOk, OnErr, IfOk, IfErr};
 ghost use Rattle.el_block.specs.Blocks.{HasBlockEncoding};
 ghost use Rattle.el_block.specs.declared.block.Block as shape;
 ghost use Rattle.el_chain.specs.Chains.{Chain, tip};
 ghost use Rattle.el_chain.specs.Faults.{fault};
 ghost use Rattle.el_prepare.specs.Prepared.{prepared};
-ghost use Rattle.el_row_formats.specs.RowBytes.{FitsBlockRow};
+ghost use Rattle.el_row_formats.specs.RowBytes.{number_limit, FitsBlockRow};
 ghost use Rattle.el_rows.specs.Transaction.{tables_in, EditsRows, EditsAlone};
 ghost use Rattle.el_row_formats.specs.declared.table.Table.{Table};
 ghost use Rattle.el_buckets.specs.Faults.{NotAdded};
@@ -13,7 +13,7 @@ ghost use Rattle.el_schema.specs.Rows.{Hold, block_fields};
 ghost use Rattle.el_tables.specs.ChainLists.{ListedBlock};
 ghost use Rattle.el_tables.specs.Lists.{Lists};
 ghost use Rattle.el_tables.specs.Tables.{HeadCounts};
-ghost use Rattle.el_schema.specs.Standing.{StandFor};
+ghost use Rattle.el_schema.specs.Standing.{StandWith, StandFor, heads_after};
 
 use crate::heads::add_all_heads;
 use crate::reading::last_sum;
@@ -37,7 +37,7 @@ fn row_of(
     sum: u64,
 ) -> BlockRow
     requires header { length header.now ≡ 80 }
-    requires first_tx { first_tx < 2 ^ 32 }
+    requires first_tx { first_tx < number_limit }
     ensures fits { FitsBlockRow result }
     ensures is { result ≡ record {
       header = header.now;
@@ -77,8 +77,8 @@ fn append_block<R: Rows>(t: &mut Txn<'_, R>, row: &BlockRow) -> Result<u64, Conn
 }
 
 /// Puts a block after the last of the chain that the rows stand for, or tells the first fault that it has
-/// there. Before the first block each table of heads gets its rows. After a fault the transaction of rows may
-/// hold a part of the block.
+/// there. Before the first block each table of heads gets its rows, `BUCKET_COUNT` of `el_row_formats`. After
+/// a fault the transaction of rows may hold a part of the block.
 ///
 /// # Errors
 ///
@@ -89,10 +89,11 @@ pub fn connect<R: Rows>(t: &mut Txn<'_, R>, b: &Prepared, place: Place) -> Resul
     requires live { R.is_live t.old.rows.now }
     requires prepared { (block : shape.Block) × HasBlockEncoding block × (b.now ≡ prepared block) }
     // A block without a fault is put after the chain, and no other is.
-    ensures connected { (chain : Chain) (block : shape.Block) → R.tells → StandFor (tables_in t.old) chain
-        → HasBlockEncoding block → b.now ≡ prepared block → block.header.previous ≡ tip chain
-        → OnOk result ((fault chain block ≡ None)
-        × StandFor (tables_in t.new) (chain ++ record { block = block; place = place } ∷ [])) }
+    ensures connected { (heads : ℕ) (chain : Chain) (block : shape.Block) → R.tells
+        → StandWith heads (tables_in t.old) chain → HasBlockEncoding block → b.now ≡ prepared block
+        → block.header.previous ≡ tip chain → OnOk result ((fault chain block ≡ None)
+        × StandWith (heads_after heads chain) (tables_in t.new)
+        (chain ++ record { block = block; place = place } ∷ [])) }
     // A refused block has that fault, unless the device or memory failed.
     ensures refused { (chain : Chain) (block : shape.Block) → R.tells → StandFor (tables_in t.old) chain
         → HasBlockEncoding block → b.now ≡ prepared block → block.header.previous ≡ tip chain

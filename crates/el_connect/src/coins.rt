@@ -1,8 +1,9 @@
 // The coins that a transaction takes, and its faults before it is listed.
-ghost use Rattle.std.specs.Prelude.{◌≡◌, ◌⊎◌, ◌<◌, ◌≤◌, ◌+◌, ◌^◌, ℕ, List, [], length, Ok, Err, OnOk, IfOk, IfErr};
-ghost use Rattle.el_chain.specs.declared.limits.TheConstants.{ROW_LIMIT};
+ghost use Rattle.std.specs.Prelude.{◌≡◌, ◌⊎◌, ◌<◌, ◌≤◌, ◌+◌, ℕ, List, [], length, Ok, Err, OnOk, IfOk, IfErr};
+ghost use Rattle.el_chain.specs.RowCounts.{row_limit};
 ghost use Rattle.el_rows.specs.Transaction.{tables_in, EditsRows};
 ghost use Rattle.el_row_formats.specs.declared.table.Table.{Table};
+ghost use Rattle.el_row_formats.specs.RowBytes.{number_limit};
 ghost use Rattle.el_tables.specs.ChainLists.{ListedBlock};
 ghost use Rattle.el_tables.specs.Connecting.{spend_all, missing_at};
 ghost use Rattle.el_tables.specs.Lists.{Lists, unspent_sum};
@@ -30,12 +31,12 @@ fn take_coin<R: Rows>(
     by: u64,
 ) -> Result<Option<u64>, ConnectFault>
     requires live { R.is_live t.old.rows.now }
-    requires by { by < 2 ^ 32 }
+    requires by { by < number_limit }
     ensures taken { (counts : HeadCounts) (bs : List ListedBlock) (l : Lists) → R.tells
         → Hold counts bs l (tables_in t.old) → 0 < counts.txs
         → IfOk result (λ value. TakenBy counts bs l (tables_in t.new) o.now by value) }
     ensures refused { (counts : HeadCounts) (bs : List ListedBlock) (l : Lists) → R.tells
-        → Hold counts bs l (tables_in t.old) → length l.ins < ROW_LIMIT
+        → Hold counts bs l (tables_in t.old) → length l.ins < row_limit 5
         → IfErr result (λ e. (e ≡ ConnectFault.DiskFailed) ⊎ (e ≡ ConnectFault.Memory)) }
     ensures blocks { tables_in t.new Table.Blocks ≡ tables_in t.old Table.Blocks }
     ensures edits { EditsRows ConnectFault.DiskFailed t.old t.new result }
@@ -59,7 +60,7 @@ fn take_coins<R: Rows>(
     sum: u64,
 ) -> Result<u64, ConnectFault>
     requires live { R.is_live t.old.rows.now }
-    requires by { by < 2 ^ 32 }
+    requires by { by < number_limit }
     ensures taken { (counts : HeadCounts) (bs : List ListedBlock) (start before : Lists) → R.tells
         → Hold counts bs start (tables_in t.old) → 0 < counts.txs → start.txs ≡ before.txs
         → start.outs ≡ before.outs → sum ≡ unspent_sum before.outs
@@ -68,7 +69,7 @@ fn take_coins<R: Rows>(
     ensures missing { (counts : HeadCounts) (bs : List ListedBlock) (start before : Lists) → R.tells
         → Hold counts bs start (tables_in t.old) → 0 < counts.txs → start.txs ≡ before.txs
         → start.outs ≡ before.outs → sum ≡ unspent_sum before.outs
-        → length start.ins + length inputs.now ≤ ROW_LIMIT
+        → length start.ins + length inputs.now ≤ row_limit 5
         → IfErr result (λ e. (e ≡ ConnectFault.DiskFailed) ⊎ ((e ≡ ConnectFault.Memory)
         ⊎ (missing_at index (spend_all by 0 inputs.now before) ≡ Err e))) }
     ensures blocks { tables_in t.new Table.Blocks ≡ tables_in t.old Table.Blocks }

@@ -1,8 +1,9 @@
 // The script hashes of the coins that a transaction takes.
 ghost use Rattle.std.specs.Prelude.{◌≡◌, ◌⊎◌, ◌<◌, ◌≤◌, ◌+◌, ◌^◌, ℕ, List, length, drop, get_or, OnOk, IfOk, IfErr};
-ghost use Rattle.el_chain.specs.declared.limits.TheConstants.{ROW_LIMIT};
+ghost use Rattle.el_chain.specs.RowCounts.{row_limit};
 ghost use Rattle.el_rows.specs.Transaction.{tables_in, ReadsRows, EditsRows};
 ghost use Rattle.el_row_formats.specs.declared.table.Table.{Table};
+ghost use Rattle.el_row_formats.specs.RowBytes.{number_limit};
 ghost use Rattle.el_tables.specs.ChainLists.{ListedBlock};
 ghost use Rattle.el_tables.specs.Connecting.{script_of_output};
 ghost use Rattle.el_tables.specs.Lists.{Lists, add_entry, script_at};
@@ -33,7 +34,7 @@ fn coin_script<R: Rows>(t: &mut Txn<'_, R>, n: u64) -> Result<u64, ConnectFault>
 // hash of the coin.
 fn touch_coin<R: Rows>(t: &mut Txn<'_, R>, n: u64, by: u64) -> Result<(), ConnectFault>
     requires live { R.is_live t.old.rows.now }
-    requires by { by < 2 ^ 32 }
+    requires by { by < number_limit }
     ensures touched { (counts : HeadCounts) (bs : List ListedBlock) (l : Lists) (sum : ℕ) → R.tells
         → Reached counts bs l (tables_in t.old) sum
         → OnOk result (Reached counts bs (add_entry (script_of_output (get_or l.ins n 0) l) by l)
@@ -43,7 +44,7 @@ fn touch_coin<R: Rows>(t: &mut Txn<'_, R>, n: u64, by: u64) -> Result<(), Connec
         → OnOk result (HasRoom (add_entry (script_of_output (get_or l.ins n 0) l) by l) 0 k) }
     ensures refused { (counts : HeadCounts) (bs : List ListedBlock) (l : Lists) (sum : ℕ) → R.tells
         → Reached counts bs l (tables_in t.old) sum
-        → length (add_entry (script_of_output (get_or l.ins n 0) l) by l).scripts ≤ ROW_LIMIT
+        → length (add_entry (script_of_output (get_or l.ins n 0) l) by l).scripts ≤ row_limit 6
         → IfErr result (λ e. (e ≡ ConnectFault.DiskFailed) ⊎ ((e ≡ ConnectFault.Memory)
         ⊎ Overflows (add_entry (script_of_output (get_or l.ins n 0) l) by l) e)) }
     ensures blocks { tables_in t.new Table.Blocks ≡ tables_in t.old Table.Blocks }
@@ -67,7 +68,7 @@ pub(crate) fn touch_inputs<R: Rows>(
     by: u64,
 ) -> Result<(), ConnectFault>
     requires live { R.is_live t.old.rows.now }
-    requires by { by < 2 ^ 32 }
+    requires by { by < number_limit }
     requires few { first + count < 2 ^ 64 }
     ensures touched { (counts : HeadCounts) (bs : List ListedBlock) (l : Lists) (coins : List ℕ) (sum k : ℕ)
         → R.tells → Reached counts bs l (tables_in t.old) sum → HasRoom l 0 k
@@ -77,7 +78,7 @@ pub(crate) fn touch_inputs<R: Rows>(
     ensures refused { (counts : HeadCounts) (bs : List ListedBlock) (l : Lists) (coins : List ℕ) (sum k : ℕ)
         → R.tells → Reached counts bs l (tables_in t.old) sum → HasRoom l 0 k
         → drop first l.ins ≡ coins → length coins ≡ count
-        → length (touch_coins by coins l).scripts ≤ ROW_LIMIT
+        → length (touch_coins by coins l).scripts ≤ row_limit 6
         → IfErr result (λ e. (e ≡ ConnectFault.DiskFailed) ⊎ ((e ≡ ConnectFault.Memory)
         ⊎ Overflows (touch_coins by coins l) e)) }
     ensures blocks { tables_in t.new Table.Blocks ≡ tables_in t.old Table.Blocks }

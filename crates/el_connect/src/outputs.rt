@@ -1,8 +1,9 @@
 // The outputs of a transaction.
 ghost use Rattle.std.specs.Prelude.{◌≡◌, ◌⊎◌, ◌<◌, ◌≤◌, ◌+◌, ◌^◌, ℕ, List, length, OnOk, IfOk, IfErr};
-ghost use Rattle.el_chain.specs.declared.limits.TheConstants.{ROW_LIMIT};
+ghost use Rattle.el_chain.specs.RowCounts.{row_limit};
 ghost use Rattle.el_rows.specs.Transaction.{tables_in, ReadsRows, EditsRows};
 ghost use Rattle.el_row_formats.specs.declared.table.Table.{Table};
+ghost use Rattle.el_row_formats.specs.RowBytes.{number_limit};
 ghost use Rattle.el_tables.specs.ChainLists.{ListedBlock};
 ghost use Rattle.el_tables.specs.Connecting.{fund, fund_all};
 ghost use Rattle.el_tables.specs.Lists.{Lists, replaced, unspent_sum};
@@ -64,7 +65,7 @@ fn fund_output<R: Rows>(
     sum: u64,
 ) -> Result<u64, ConnectFault>
     requires live { R.is_live t.old.rows.now }
-    requires number { maker.now.number < 2 ^ 32 }
+    requires number { maker.now.number < number_limit }
     ensures funded { (counts : HeadCounts) (bs : List ListedBlock) (l : Lists) → R.tells
         → Reached counts bs l (tables_in t.old) sum → IsMaker maker.now l
         → unspent_sum l.outs + output.now.0 < 2 ^ 64
@@ -75,7 +76,7 @@ fn fund_output<R: Rows>(
         → OnOk result (HasRoom (fund maker.now.number index output.now l) 0 n) }
     ensures refused { (counts : HeadCounts) (bs : List ListedBlock) (l : Lists) (n : ℕ) → R.tells
         → Reached counts bs l (tables_in t.old) sum → HasRoom l 0 (n + 1)
-        → length (fund maker.now.number index output.now l).scripts ≤ ROW_LIMIT
+        → length (fund maker.now.number index output.now l).scripts ≤ row_limit 6
         → IfErr result (λ e. (e ≡ ConnectFault.DiskFailed) ⊎ ((e ≡ ConnectFault.Memory)
         ⊎ Overflows (fund maker.now.number index output.now l) e)) }
     ensures blocks { tables_in t.new Table.Blocks ≡ tables_in t.old Table.Blocks }
@@ -97,7 +98,7 @@ pub(crate) fn fund_outputs<R: Rows>(
     sum: u64,
 ) -> Result<u64, ConnectFault>
     requires live { R.is_live t.old.rows.now }
-    requires number { maker.now.number < 2 ^ 32 }
+    requires number { maker.now.number < number_limit }
     requires few { length outputs.now < 2 ^ 32 }
     ensures funded { (counts : HeadCounts) (bs : List ListedBlock) (l : Lists) → R.tells
         → Reached counts bs l (tables_in t.old) sum → IsMaker maker.now l
@@ -111,7 +112,7 @@ pub(crate) fn fund_outputs<R: Rows>(
     ensures refused { (counts : HeadCounts) (bs : List ListedBlock) (l : Lists) → R.tells
         → Reached counts bs l (tables_in t.old) sum → IsMaker maker.now l
         → HasRoom l 0 (length outputs.now) → unspent_sum l.outs + values outputs.now < 2 ^ 64
-        → length (fund_all maker.now.number 0 outputs.now l).scripts ≤ ROW_LIMIT
+        → length (fund_all maker.now.number 0 outputs.now l).scripts ≤ row_limit 6
         → IfErr result (λ e. (e ≡ ConnectFault.DiskFailed) ⊎ ((e ≡ ConnectFault.Memory)
         ⊎ Overflows (fund_all maker.now.number 0 outputs.now l) e)) }
     ensures blocks { tables_in t.new Table.Blocks ≡ tables_in t.old Table.Blocks }

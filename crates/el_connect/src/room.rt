@@ -1,7 +1,7 @@
 // Room in the tables.
-ghost use Rattle.std.specs.Prelude.{◌≡◌, ◌≢◌, ◌<◌, ◌≤◌, ◌+◌, ◌^◌, List, length, Some, OnOk, IfErr, MatchResult};
-ghost use Rattle.el_chain.specs.declared.limits.TheConstants.{ROW_LIMIT};
-ghost use Rattle.el_row_formats.specs.Tables.{number_of};
+ghost use Rattle.std.specs.Prelude.{◌≡◌, ◌≢◌, ◌<◌, ◌≤◌, ◌+◌, List, length, Some, OnOk, IfErr, MatchResult};
+ghost use Rattle.el_chain.specs.RowCounts.{row_limit};
+ghost use Rattle.el_row_formats.specs.Tables.{number_of, limit_of};
 ghost use Rattle.el_rows.specs.Transaction.{tables_in};
 ghost use Rattle.el_row_formats.specs.declared.table.Table.{Table};
 ghost use Rattle.el_tables.specs.ChainLists.{ListedBlock};
@@ -11,20 +11,20 @@ ghost use Rattle.el_tables.specs.Tables.{HeadCounts};
 ghost use Rattle.el_schema.specs.Rows.{Hold};
 ghost use Rattle.el_connect.specs.within.Parts.{IsSmall};
 
-use el_chain::{ConnectFault, ROW_LIMIT};
+use el_chain::ConnectFault;
 use el_prepare::PreparedTx;
 use el_row_formats::Table;
 use el_rows::{Rows, Txn};
 
 // Refuses more rows than the table may have.
 pub(crate) fn check_table(table: Table, rows: u64) -> Result<(), ConnectFault>
-    ensures { MatchResult result (λ _. rows ≤ ROW_LIMIT)
-        (λ e. (ROW_LIMIT < rows) × (e ≡ ConnectFault.Full (number_of table) ROW_LIMIT)) }
+    ensures { MatchResult result (λ _. rows ≤ limit_of table)
+        (λ e. (limit_of table < rows) × (e ≡ ConnectFault.Full (number_of table) (limit_of table))) }
 {
-    if rows > u64::from(ROW_LIMIT) {
+    if rows > table.limit() {
         return Err(ConnectFault::Full {
             table: table.number(),
-            rows: u64::from(ROW_LIMIT),
+            rows: table.limit(),
         });
     }
     Ok(())
@@ -38,15 +38,15 @@ pub(crate) fn check_counted<R: Rows>(
     tx: &PreparedTx,
 ) -> Result<(), ConnectFault>
     requires { IsSmall tx.now }
-    ensures block { OnOk result (height < ROW_LIMIT) }
+    ensures block { OnOk result (height < row_limit 1) }
     ensures tx { (counts : HeadCounts) (bs : List ListedBlock) (l : Lists)
-        → Hold counts bs l (tables_in t.now) → OnOk result (length l.txs < ROW_LIMIT) }
+        → Hold counts bs l (tables_in t.now) → OnOk result (length l.txs < row_limit 2) }
     ensures outs { (counts : HeadCounts) (bs : List ListedBlock) (l : Lists)
         → Hold counts bs l (tables_in t.now)
-        → OnOk result (length l.outs + length tx.now.outputs ≤ ROW_LIMIT) }
+        → OnOk result (length l.outs + length tx.now.outputs ≤ row_limit 4) }
     ensures ins { (counts : HeadCounts) (bs : List ListedBlock) (l : Lists)
         → Hold counts bs l (tables_in t.now)
-        → OnOk result (length l.ins + length tx.now.inputs ≤ ROW_LIMIT) }
+        → OnOk result (length l.ins + length tx.now.inputs ≤ row_limit 5) }
     ensures full { (counts : HeadCounts) (bs : List ListedBlock) (l after : Lists)
         → Hold counts bs l (tables_in t.now) → length after.txs ≡ length l.txs + 1
         → length after.outs ≡ length l.outs + length tx.now.outputs

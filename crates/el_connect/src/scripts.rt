@@ -1,7 +1,6 @@
 // Room for the script hashes of outputs.
 ghost use Rattle.std.specs.Prelude.{◌≡◌, ◌⊎◌, ◌<◌, ◌≤◌, ◌+◌, ◌^◌, ℕ, List, length, OnOk, IfOk, IfErr};
-ghost use Rattle.el_chain.specs.RowCounts.{has_script, add_script, add_scripts};
-ghost use Rattle.el_chain.specs.declared.limits.TheConstants.{ROW_LIMIT};
+ghost use Rattle.el_chain.specs.RowCounts.{row_limit, has_script, add_script, add_scripts};
 ghost use Rattle.el_rows.specs.Transaction.{tables_in, ReadsRows};
 ghost use Rattle.el_tables.specs.ChainLists.{ListedBlock};
 ghost use Rattle.el_tables.specs.Fits.{Fits};
@@ -12,7 +11,7 @@ ghost use Rattle.el_connect.specs.within.Parts.{scripts_of};
 
 use crate::room::check_table;
 use el_base::Hash32;
-use el_chain::{ConnectFault, ROW_LIMIT};
+use el_chain::ConnectFault;
 use el_row_formats::Table;
 use el_rows::{Rows, Txn};
 use el_script::find_script;
@@ -86,15 +85,15 @@ pub(crate) fn check_scripts<R: Rows>(
     requires few { length outputs.now < 2 ^ 32 }
     ensures fits { (counts : HeadCounts) (bs : List ListedBlock) (l : Lists) → R.tells
         → Hold counts bs l (tables_in t.old) → Fits l → 0 < counts.scripts
-        → OnOk result (length (add_scripts l.scripts (scripts_of outputs.now)) ≤ ROW_LIMIT) }
+        → OnOk result (length (add_scripts l.scripts (scripts_of outputs.now)) ≤ row_limit 6) }
     ensures full { (counts : HeadCounts) (bs : List ListedBlock) (l : Lists) → R.tells
         → Hold counts bs l (tables_in t.old) → Fits l → 0 < counts.scripts
-        → IfErr result (λ e. (e ≡ ConnectFault.DiskFailed) ⊎ ((e ≡ ConnectFault.Full 6 ROW_LIMIT)
-        × (ROW_LIMIT < length (add_scripts l.scripts (scripts_of outputs.now))))) }
+        → IfErr result (λ e. (e ≡ ConnectFault.DiskFailed) ⊎ ((e ≡ ConnectFault.Full 6 (row_limit 6))
+        × (row_limit 6 < length (add_scripts l.scripts (scripts_of outputs.now))))) }
     ensures read { ReadsRows ConnectFault.DiskFailed t.old t.new result }
 {
     let count = t.count(Table::Scripts);
-    if count + outputs.len() as u64 <= u64::from(ROW_LIMIT) {
+    if count + outputs.len() as u64 <= Table::Scripts.limit() {
         return Ok(());
     }
     let new = new_scripts(t, outputs)?;

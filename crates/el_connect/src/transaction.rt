@@ -1,12 +1,12 @@
 // A transaction.
 ghost use Rattle.std.specs.Prelude.{◌≡◌, ◌⊎◌, ◌<◌, ◌≤◌, ◌+◌, ◌^◌, ℕ, List, length, Ok, Err, OnOk, IfOk, IfErr};
 ghost use Rattle.std.specs.List.{AllByRecursion};
-ghost use Rattle.el_chain.specs.declared.limits.TheConstants.{ROW_LIMIT};
+ghost use Rattle.el_chain.specs.RowCounts.{row_limit};
 ghost use Rattle.el_rows.specs.Transaction.{tables_in, EditsRows};
 ghost use Rattle.el_row_formats.specs.declared.table.Table.{Table};
 ghost use Rattle.el_tables.specs.ChainLists.{ListedBlock};
 ghost use Rattle.el_tables.specs.Connecting.{listed_after};
-ghost use Rattle.el_row_formats.specs.RowBytes.{FitsTxRow};
+ghost use Rattle.el_row_formats.specs.RowBytes.{number_limit, FitsTxRow};
 ghost use Rattle.el_schema.specs.Rows.{listed_tx};
 ghost use Rattle.el_tables.specs.Lists.{Lists, unspent_sum};
 ghost use Rattle.el_tables.specs.Tables.{HeadCounts};
@@ -29,8 +29,8 @@ use el_rows::{Rows, Txn};
 // input. Its links are left open.
 fn row_of(tx: &PreparedTx, height: u32, first_out: u64, first_in: u64) -> TxRow
     requires small { IsSmall tx.now }
-    requires first_out { first_out < 2 ^ 32 }
-    requires first_in { first_in < 2 ^ 32 }
+    requires first_out { first_out < number_limit }
+    requires first_in { first_in < number_limit }
     ensures fits { FitsTxRow result }
     ensures listed { (l : Lists) → first_out ≡ length l.outs → first_in ≡ length l.ins
         → listed_tx result ≡ listed_after height tx.now l }
@@ -71,8 +71,8 @@ fn make_outputs<R: Rows>(
         → OnOk result (HasRoom (made_by (listed_tx row.now) outputs.now l) 0 0) }
     ensures refused { (counts : HeadCounts) (bs : List ListedBlock) (l : Lists) → R.tells
         → Reached counts bs l (tables_in t.old) left → HasRoom l 0 (length outputs.now)
-        → unspent_sum l.outs + values outputs.now < 2 ^ 64 → length l.txs < ROW_LIMIT
-        → length (made_by (listed_tx row.now) outputs.now l).scripts ≤ ROW_LIMIT
+        → unspent_sum l.outs + values outputs.now < 2 ^ 64 → length l.txs < row_limit 2
+        → length (made_by (listed_tx row.now) outputs.now l).scripts ≤ row_limit 6
         → IfErr result (λ e. (e ≡ ConnectFault.DiskFailed) ⊎ ((e ≡ ConnectFault.Memory)
         ⊎ Overflows (made_by (listed_tx row.now) outputs.now l) e)) }
     ensures blocks { tables_in t.new Table.Blocks ≡ tables_in t.old Table.Blocks }

@@ -11,7 +11,7 @@ use Rattle.el_rows.specs.Reads.{OnlyRead, IsEither}
 use Rattle.el_chain.specs.Chains.{Chain}
 use Rattle.el_model.specs.Keeping.{Quiet, Either}
 use Rattle.el_model.specs.Queries.{blocks_in}
-use Rattle.el_schema.specs.Standing.{StandFor}
+use Rattle.el_schema.specs.Standing.{StandFor, buckets_in}
 use Rattle.el_index.specs.Means.{top, IsIndexOf, Means}
 
 -- a height that is at most the top is below the count
@@ -31,6 +31,13 @@ rows_read {R} reads old below mid new k opened closed few =
     let from : reads mid ≤ reads old + k = subst (λ (r : R). reads mid ≤ reads r + k) opened few in
     subst (λ (r : R). reads r ≤ reads old + k) (sym closed) from
 
+-- the same of a bound that speaks of buckets, of which there are as many
+pub rows_read_in : {R : Type 0} (reads : R → ℕ) (bound : ℕ → ℕ) (lists opened : Tables) (old below mid new : R) → ((t : Table) → opened t ≡ lists t)
+    → below ≡ old → new ≡ mid → reads mid ≤ reads below + bound (buckets_in opened) → reads new ≤ reads old + bound (buckets_in lists)
+rows_read_in reads bound lists opened old below mid new tables at closed few =
+    rows_read reads old below mid new (bound (buckets_in lists)) at closed
+    (subst (λ (n : ℕ). reads mid ≤ reads below + bound n) (ap length (tables table.TxHeads)) few)
+
 pub rows_of_ids : {R : Type 0} (reads : R → ℕ) (old below mid new : R) (ids : Option (List Hash32)) → below ≡ old
     → new ≡ mid → IfSome ids (λ found. reads mid ≤ reads below + (1 + length found))
     → IfSome ids (λ found. reads new ≤ reads old + (1 + length found))
@@ -42,7 +49,7 @@ module _ {R C : Type 0} (lists : R → Tables) (counts : R → Table → ℕ) (i
   -- E is an index, which holds the rows
   pub quiet : {E : Type 0} (tells : Type 0) (rows : E → R) (tip : E → Option Hash32) (old new : E) (mid : R) → rows new ≡ mid → tip new ≡ tip old → is_live (rows old)
       → OnlyRead lists counts is_live tells_crash moment left_since (rows old) mid
-      → Quiet (λ e. is_live (rows e)) (λ e. top (counts (rows e) table.Blocks)) tip (λ e. 65536) (λ e chain. IsIndexOf tells (lists (rows e)) (tip e) chain)
+      → Quiet (λ e. is_live (rows e)) (λ e. top (counts (rows e) table.Blocks)) tip (λ e. buckets_in (lists (rows e))) (λ e chain. IsIndexOf tells (lists (rows e)) (tip e) chain)
       tells_crash (λ e. moment (rows e)) (λ e t c. left_since (rows e) t c) old new
   quiet {E} tells rows tip old new mid is kept live reads' =
       let reads : OnlyRead lists counts is_live tells_crash moment left_since (rows old) (rows new) =
@@ -53,7 +60,7 @@ module _ {R C : Type 0} (lists : R → Tables) (counts : R → Table → ℕ) (i
           was_live = λ l. live;
           same_height = ap (λ (f : Table → ℕ). top (f table.Blocks)) reads.count;
           same_tip = kept;
-          same_buckets = refl;
+          same_buckets = ap buckets_in reads.same;
           still_stands = λ chain s. record {
             told = s.told;
             stand = subst (λ (t : Tables). StandFor t chain) (sym reads.same) s.stand;

@@ -1,11 +1,11 @@
 // The last blocks are taken back.
-ghost use Rattle.std.specs.Prelude.{◌≡◌, ◌≤◌, ◌-◌, ◌++◌, ◌∷◌, [], length, drop, IfErr, OnOk};
+ghost use Rattle.std.specs.Prelude.{◌≡◌, ◌≤◌, ◌-◌, ◌++◌, ◌∷◌, [], ℕ, length, drop, IfErr, OnOk};
 ghost use Rattle.el_chain.specs.declared.placed.Placed as shape;
 ghost use Rattle.el_chain.specs.Chains.{Chain};
 ghost use Rattle.el_chain.specs.Moves.{shorter};
 ghost use Rattle.el_rows.specs.Transaction.{tables_in, EditsRows};
 ghost use Rattle.el_row_formats.specs.declared.table.Table.{Table};
-ghost use Rattle.el_schema.specs.Standing.{StandFor};
+ghost use Rattle.el_schema.specs.Standing.{StandWith, StandFor};
 ghost use Rattle.el_index.specs.within.Adding.{AreAdded, IsOwn};
 
 use crate::step_faults::{touch, undo};
@@ -15,8 +15,9 @@ use el_rows::{Rows, Txn};
 // Takes the last block back, and adds the script hashes that it touches.
 fn take_back_one<R: Rows>(t: &mut Txn<'_, R>, touched: &mut Touched) -> Result<(), MoveFault>
     requires live { R.is_live t.old.rows.now }
-    ensures back { (chain : Chain) (b : shape.Placed) → R.tells
-        → StandFor (tables_in t.old) (chain ++ b ∷ []) → OnOk result (StandFor (tables_in t.new) chain) }
+    ensures back { (heads : ℕ) (chain : Chain) (b : shape.Placed) → R.tells
+        → StandWith heads (tables_in t.old) (chain ++ b ∷ [])
+        → OnOk result (StandWith heads (tables_in t.new) chain) }
     ensures touched { (chain : Chain) (b : shape.Placed) → R.tells
         → StandFor (tables_in t.old) (chain ++ b ∷ [])
         → OnOk result (AreAdded chain (b ∷ []) touched.old touched.new) }

@@ -12,7 +12,7 @@ ghost use Rattle.el_chain.specs.Records.{IsNode, IsBlockOf};
 ghost use Rattle.el_prepare.specs.Prepared as spec;
 ghost use Rattle.el_rows.specs.Transaction.{tables_in, EditsRows};
 ghost use Rattle.el_row_formats.specs.declared.table.Table.{Table};
-ghost use Rattle.el_schema.specs.Standing.{StandFor};
+ghost use Rattle.el_schema.specs.Standing.{StandWith, StandFor, heads_after};
 ghost use Rattle.el_index.specs.within.Adding.{IsAfter, AreAfter, IsOwn};
 
 use el_base::{Bytes, Hash32};
@@ -76,10 +76,11 @@ fn connect_for<R: Rows>(
     requires live { R.is_live t.old.rows.now }
     requires prepared { (block : shape.Block) × HasBlockEncoding block
         × (prepared.now ≡ spec.prepared block) }
-    ensures connected { (chain : Chain) (block : shape.Block) → R.tells → StandFor (tables_in t.old) chain
-        → HasBlockEncoding block → prepared.now ≡ spec.prepared block → block.header.previous ≡ tip chain
-        → OnOk result ((fault chain block ≡ None)
-        × StandFor (tables_in t.new) (chain ++ record { block = block; place = place } ∷ [])) }
+    ensures connected { (heads : ℕ) (chain : Chain) (block : shape.Block) → R.tells
+        → StandWith heads (tables_in t.old) chain → HasBlockEncoding block
+        → prepared.now ≡ spec.prepared block → block.header.previous ≡ tip chain
+        → OnOk result ((fault chain block ≡ None) × StandWith (heads_after heads chain) (tables_in t.new)
+        (chain ++ record { block = block; place = place } ∷ [])) }
     ensures more { OnOk result (length (tables_in t.new Table.Blocks)
         ≡ length (tables_in t.old Table.Blocks) + 1) }
     ensures first_fault { (chain : Chain) (block : shape.Block) (text : List ℕ) → R.tells

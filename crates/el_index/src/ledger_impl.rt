@@ -3,6 +3,7 @@ ghost use Rattle.std.specs.Prelude.{◌≡◌, ◌≤◌};
 ghost use Rattle.el_row_formats.specs.Tables.{limit_of};
 ghost use Rattle.el_row_formats.specs.declared.table.Table.{Table};
 ghost use Rattle.el_row_formats.specs.declared.table.Table.TheVariants as table;
+ghost use Rattle.el_schema.specs.Standing.{buckets_in};
 ghost use Rattle.el_index.specs.Means.{top, IsIndexOf, Means};
 ghost use Rattle.el_index.specs.within.Laws as laws;
 
@@ -39,7 +40,7 @@ impl<R: Rows> Ledger for Index<R> {
 
     ghost tip = { λ l. l.tip };
 
-    ghost buckets = { λ l. 65536 };
+    ghost buckets = { λ l. buckets_in (R.lists l.rows) };
 
     ghost faults = { λ l. R.faults l.rows };
 

@@ -1,5 +1,5 @@
 // Steps on the rows of the last block, whose faults are told as a move's.
-ghost use Rattle.std.specs.Prelude.{◌≡◌, ◌≢◌, ◌⊎◌, ◌≤◌, ◌-◌, ◌||◌, ◌++◌, ◌∷◌, [], length, IfErr, OnOk};
+ghost use Rattle.std.specs.Prelude.{◌≡◌, ◌≢◌, ◌⊎◌, ◌≤◌, ◌-◌, ◌||◌, ◌++◌, ◌∷◌, [], ℕ, length, IfErr, OnOk};
 ghost use Rattle.std.specs.List.{list_any};
 ghost use Rattle.el_base.specs.declared.hash.Hash32 as hash;
 ghost use Rattle.el_chain.specs.declared.placed.Placed as shape;
@@ -10,7 +10,7 @@ ghost use Rattle.el_chain.specs.Touches.{touches_any};
 ghost use Rattle.el_row_formats.specs.Tables.{Tables};
 ghost use Rattle.el_rows.specs.Transaction.{tables_in, ReadsRows, EditsRows};
 ghost use Rattle.el_row_formats.specs.declared.table.Table.{Table};
-ghost use Rattle.el_schema.specs.Standing.{StandFor};
+ghost use Rattle.el_schema.specs.Standing.{StandWith, StandFor};
 ghost use Rattle.el_index.specs.within.Adding.{AreAdded, IsOwn};
 
 use el_chain::{MoveFault, Touched};
@@ -72,8 +72,9 @@ pub(crate) fn touch_all<R: Rows>(
 // Takes the last block back.
 pub(crate) fn undo<R: Rows>(t: &mut Txn<'_, R>) -> Result<(), MoveFault>
     requires live { R.is_live t.old.rows.now }
-    ensures undone { (chain : Chain) (b : shape.Placed) → R.tells
-        → StandFor (tables_in t.old) (chain ++ b ∷ []) → OnOk result (StandFor (tables_in t.new) chain) }
+    ensures undone { (heads : ℕ) (chain : Chain) (b : shape.Placed) → R.tells
+        → StandWith heads (tables_in t.old) (chain ++ b ∷ [])
+        → OnOk result (StandWith heads (tables_in t.new) chain) }
     ensures fewer { OnOk result (length (tables_in t.new Table.Blocks)
         ≡ length (tables_in t.old Table.Blocks) - 1) }
     ensures edits { EditsRows MoveFault.DiskFailed t.old t.new result }

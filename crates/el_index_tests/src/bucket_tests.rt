@@ -1,6 +1,6 @@
 // What no contract says: that each call succeeds where memory is ample.
-ghost use Rattle.std.specs.Prelude.{◌≡◌, ◌<◌, ◌^◌};
-ghost use Rattle.el_row_formats.specs.RowBytes.{link_number};
+ghost use Rattle.std.specs.Prelude.{◌≡◌, ◌<◌};
+ghost use Rattle.el_row_formats.specs.RowBytes.{number_limit, link_number};
 
 use crate::failing_rows::FailingRows;
 use crate::fixtures::{full, hash, tx_bytes};
@@ -8,7 +8,8 @@ use el_buckets::{Buckets, Found, find, if_below, not_appended, pop, push};
 use el_chain::ConnectFault;
 use el_outside::DiskFailed;
 use el_row_formats::Table;
-use el_rows::{AppendFault, Rows, Txn, VecRows};
+use el_rows::{AppendFault, Rows, Txn};
+use el_vec_rows::VecRows;
 use std::alloc::Global;
 use std::process::Abort;
 use std::test::Fail;
@@ -38,7 +39,7 @@ fn add_heads(txn: &mut Txn<'_, VecRows>, buckets: Buckets, count: u64) -> Result
 
 // A link as it is written.
 fn link(written: u8) -> Option<u64>
-    ensures { link_number result < 2 ^ 32 }
+    ensures { link_number result < number_limit }
 {
     match written {
         0 => None,

@@ -1,15 +1,16 @@
 // What the tests of steps share: hashes of a number, and rows that are written by hand.
-ghost use Rattle.std.specs.Prelude.{◌≡◌, ◌<◌, ◌^◌};
-ghost use Rattle.el_row_formats.specs.RowBytes.{FitsBlockRow, FitsTxRow};
+ghost use Rattle.std.specs.Prelude.{◌≡◌, ◌<◌};
+ghost use Rattle.el_row_formats.specs.RowBytes.{number_limit, FitsBlockRow, FitsTxRow};
 
 use el_base::Hash32;
 use el_chain::ConnectFault;
 use el_outside::Place;
 use el_row_formats::{BlockRow, Table, TxRow};
-use el_rows::{Rows, Txn, VecRows};
+use el_rows::{Rows, Txn};
 use el_script::touch;
 use el_spend::{add_out, spend};
 use el_tx::Outpoint;
+use el_vec_rows::VecRows;
 use std::test::Fail;
 
 /// The hash of a number. With so many heads, its bucket is its number modulo theirs.
@@ -30,7 +31,7 @@ pub fn outpoint(k: u8, index: u32) -> Outpoint {
 
 /// A transaction of that txid with so many outputs, of which the first has that number; it has no inputs.
 pub fn tx_row(k: u8, height: u32, start: u32, first_out: u64, outs: u32) -> TxRow
-    requires { first_out < 2 ^ 32 }
+    requires { first_out < number_limit }
     ensures { FitsTxRow result }
 {
     TxRow {
@@ -49,7 +50,7 @@ pub fn tx_row(k: u8, height: u32, start: u32, first_out: u64, outs: u32) -> TxRo
 
 /// A block of so many transactions, of which the first has that number; after it all coins hold that sum.
 pub fn block_row(first_tx: u64, txs: u32, sum: u64) -> BlockRow
-    requires { first_tx < 2 ^ 32 }
+    requires { first_tx < number_limit }
     ensures { FitsBlockRow result }
 {
     BlockRow {
@@ -129,7 +130,7 @@ pub fn fund(
     value: u64,
     script: u8,
 ) -> Result<(), Fail>
-    requires few { tx < 2 ^ 32 }
+    requires few { tx < number_limit }
     ensures { txn.new.rows.ghost_name ≡ txn.old.rows.ghost_name }
 {
     let number = touch(txn, &hash(script), tx)?;
@@ -142,7 +143,7 @@ pub fn fund(
 
 /// The transaction of that number spends the output of that txid and index, of that script hash.
 pub fn take(txn: &mut Txn<'_, VecRows>, tx: u64, k: u8, index: u32, script: u8) -> Result<(), Fail>
-    requires few { tx < 2 ^ 32 }
+    requires few { tx < number_limit }
     ensures { txn.new.rows.ghost_name ≡ txn.old.rows.ghost_name }
 {
     if spend(txn, &outpoint(k, index), tx)?.is_none() {

@@ -1,6 +1,7 @@
 // What no contract says: that each call succeeds where memory is ample, rows that stand for nothing, and a
 // device that fails.
-ghost use Rattle.std.specs.Prelude.{◌≡◌, ◌<◌, ◌^◌};
+ghost use Rattle.std.specs.Prelude.{◌≡◌, ◌<◌};
+ghost use Rattle.el_row_formats.specs.RowBytes.{number_limit};
 
 use crate::failing_rows::FailingRows;
 use crate::fixtures::{add_heads, fund, hash, outpoint, take, tx_row};
@@ -10,7 +11,8 @@ use el_model::QueryFault;
 use el_position::add_tx;
 use el_queries::{balance, history, unspent};
 use el_row_formats::{EntryRow, ScriptRow, Table};
-use el_rows::{Rows, Txn, VecRows};
+use el_rows::{Rows, Txn};
+use el_vec_rows::VecRows;
 use std::alloc::Global;
 use std::process::Abort;
 use std::test::Fail;
@@ -43,7 +45,7 @@ const CHAIN: [Made; 3] = [
 ];
 
 fn add_inputs(txn: &mut Txn<'_, VecRows>, n: u64, spent: &[(u8, u32, u8)]) -> Result<(), Fail>
-    requires few { n < 2 ^ 32 }
+    requires few { n < number_limit }
     ensures { txn.new.rows.ghost_name ≡ txn.old.rows.ghost_name }
 {
     for (k, index, script) in spent {
@@ -53,7 +55,7 @@ fn add_inputs(txn: &mut Txn<'_, VecRows>, n: u64, spent: &[(u8, u32, u8)]) -> Re
 }
 
 fn add_outputs(txn: &mut Txn<'_, VecRows>, n: u64, made: &[(u64, u8)]) -> Result<(), Fail>
-    requires few { n < 2 ^ 32 }
+    requires few { n < number_limit }
     ensures { txn.new.rows.ghost_name ≡ txn.old.rows.ghost_name }
 {
     let mut index = 0u32;
@@ -164,7 +166,7 @@ fn add_chain(txn: &mut Txn<'_, VecRows>) -> Result<(), Fail>
 
 // A script in the one bucket whose link is to itself, as is that of its entry.
 fn add_rounds<R: Rows>(txn: &mut Txn<'_, R>, tx: u64) -> Result<(), Fail>
-    requires few { tx < 2 ^ 32 }
+    requires few { tx < number_limit }
     ensures { txn.new.rows.ghost_name ≡ txn.old.rows.ghost_name }
 {
     txn.append(Table::ScriptHeads, &[1, 0, 0, 0])?;

@@ -3,7 +3,10 @@ use el_queries::{
     each_block_touches_what_the_move_touches, entries_are_counted_by_the_history,
     scripts_of_lists_are_those_of_outputs,
 };
-use el_schema::{rows_of_one_chain_are_equal, rows_that_stand_hold_the_lists, same_rows_stand};
+use el_schema::{
+    heads_are_there_from_the_first_block_on, rows_of_one_chain_are_equal,
+    rows_that_stand_hold_the_lists, same_rows_stand,
+};
 use el_tables::{
     a_block_connects, a_block_disconnects, a_block_has_its_row, a_good_chain_has_tables,
     a_step_leaves_rows, add_entry_edits_rows, add_output_edits_rows, add_tx_edits_rows,
@@ -43,6 +46,7 @@ fn laws_of_rows_do_nothing() {
     rows_that_stand_hold_the_lists();
     rows_of_one_chain_are_equal();
     same_rows_stand();
+    heads_are_there_from_the_first_block_on();
 }
 
 #[test]

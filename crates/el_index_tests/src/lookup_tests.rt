@@ -1,7 +1,7 @@
 // What no contract says: that each call succeeds where memory is ample, and what it answers over rows that
 // stand for nothing.
-ghost use Rattle.std.specs.Prelude.{◌≡◌, ◌<◌, ◌^◌, IfOk};
-ghost use Rattle.el_row_formats.specs.RowBytes.{FitsBlockRow, state_by};
+ghost use Rattle.std.specs.Prelude.{◌≡◌, ◌<◌, IfOk};
+ghost use Rattle.el_row_formats.specs.RowBytes.{number_limit, FitsBlockRow, state_by};
 
 use crate::failing_rows::FailingRows;
 use crate::fixtures::{add_block, add_heads, block_row, hash, outpoint, tx_row};
@@ -13,8 +13,9 @@ use el_outside::{DiskFailed, Place};
 use el_position::add_tx;
 use el_queries::{block_txids, coin, find_tx, hashes, header, place, spender};
 use el_row_formats::{BlockRow, OutRow, ScriptRow, State, Table};
-use el_rows::{Rows, Txn, VecRows};
+use el_rows::{Rows, Txn};
 use el_spend::{add_out, spend};
+use el_vec_rows::VecRows;
 use std::alloc::Global;
 use std::process::Abort;
 use std::test::Fail;
@@ -46,7 +47,7 @@ fn header_of(digits: &str) -> Result<[u8; 80], Fail> {
 // The block 0 or 1, of so many transactions.
 fn block(h: usize, first_tx: u64, txs: u32) -> Result<BlockRow, Fail>
     requires there { h < 2 }
-    requires few { first_tx < 2 ^ 32 }
+    requires few { first_tx < number_limit }
     ensures { IfOk result FitsBlockRow }
 {
     Ok(BlockRow {
@@ -280,7 +281,7 @@ const ODD: [Odd; 6] = [
 ];
 
 fn state(spent: bool) -> State
-    ensures { state_by result < 2 ^ 32 }
+    ensures { state_by result < number_limit }
 {
     if spent {
         State::Spent(1)

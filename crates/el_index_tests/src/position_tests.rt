@@ -1,6 +1,6 @@
 // What no contract says: that each call succeeds where memory is ample, and a long run beside a plain list.
-ghost use Rattle.std.specs.Prelude.{◌≡◌, ◌<◌, ◌^◌, ◌+◌, max, min, refl};
-ghost use Rattle.el_row_formats.specs.RowBytes.{link_number, FitsTxRow};
+ghost use Rattle.std.specs.Prelude.{◌≡◌, ◌<◌, ◌+◌, max, min, refl};
+ghost use Rattle.el_row_formats.specs.RowBytes.{number_limit, link_number, FitsTxRow};
 
 use crate::failing_rows::FailingRows;
 use crate::fixtures::{add_heads, full, hash, tx_bytes};
@@ -8,7 +8,8 @@ use el_chain::ConnectFault;
 use el_outside::DiskFailed;
 use el_position::{add_tx, newest, take_back_tx};
 use el_row_formats::{Table, TxRow};
-use el_rows::{Rows, Txn, VecRows};
+use el_rows::{Rows, Txn};
+use el_vec_rows::VecRows;
 use std::alloc::Global;
 use std::process::Abort;
 use std::test::Fail;
@@ -17,7 +18,7 @@ use std::test::Fail;
 const LINK: Option<u64> = Some(4_294_967_294);
 
 fn tx(k: u8, next: Option<u64>) -> TxRow
-    requires { link_number next < 2 ^ 32 }
+    requires { link_number next < number_limit }
     ensures { FitsTxRow result }
 {
     TxRow {

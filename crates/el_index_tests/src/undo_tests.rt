@@ -1,20 +1,21 @@
 // What no contract says: that blocks are taken back where memory is ample, and that the call returns over
 // rows that stand for nothing and over a device that fails.
 ghost use Rattle.std.specs.Prelude.{◌≡◌, ◌<◌, ◌^◌, length};
-ghost use Rattle.el_row_formats.specs.RowBytes.{FitsTxRow};
+ghost use Rattle.el_row_formats.specs.RowBytes.{number_limit, FitsTxRow};
 
 use crate::fixtures::{add_block, add_heads, block_row, fund, take, tx_row};
 use el_position::add_tx;
 use el_row_formats::{Table, TxRow};
-use el_rows::{Txn, VecRows};
+use el_rows::Txn;
 use el_undo::disconnect;
+use el_vec_rows::VecRows;
 use std::alloc::Global;
 use std::process::Abort;
 use std::test::Fail;
 
 fn tx(k: u8, first_out: u64, outs: u32, first_in: u64, ins: u32) -> TxRow
-    requires out { first_out < 2 ^ 32 }
-    requires first { first_in < 2 ^ 32 }
+    requires out { first_out < number_limit }
+    requires first { first_in < number_limit }
     ensures { FitsTxRow result }
 {
     let mut row = tx_row(k, 7, 81, first_out, outs);
@@ -25,7 +26,7 @@ fn tx(k: u8, first_out: u64, outs: u32, first_in: u64, ins: u32) -> TxRow
 
 // The transaction of that number has an output of each value and script hash.
 fn add_outs(txn: &mut Txn<'_, VecRows>, number: u64, outs: &[(u64, u8)]) -> Result<(), Fail>
-    requires number { number < 2 ^ 32 }
+    requires number { number < number_limit }
     requires outs { length outs.now < 2 ^ 32 }
     ensures { txn.new.rows.ghost_name ≡ txn.old.rows.ghost_name }
 {

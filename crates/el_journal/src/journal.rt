@@ -4,14 +4,13 @@ ghost use Rattle.el_outside.specs.Counts.{HasCause, CountsOnly};
 ghost use Rattle.el_journal.specs.Entries.{HasEntries, IsBad, SameJournal};
 ghost use Rattle.el_journal.specs.Journals.{Holds, OnlyJournal, IsOnlyRead, HasEither, disk_in, opened};
 ghost use Rattle.el_journal.specs.declared.fault.JournalFault.TheVariants as fault;
-ghost use Rattle.el_journal.specs.declared.fault.EntryFault.TheVariants as entry_fault;
 ghost use Rattle.el_journal.specs.declared.mark.TheConstants.{JOURNAL};
 
+use crate::JournalFault;
 use crate::appending::append_at;
 use crate::mark::{FIRST, Mark};
 use crate::opening::open;
 use crate::reading::{find, read_entry};
-use crate::{EntryFault, JournalFault};
 use el_outside::{Disk, DiskFailed};
 use std::alloc::Global;
 use std::marker::Model;
@@ -101,12 +100,12 @@ impl<D: Disk> Journal<D> {
     ///
     /// `DiskFailed`, `Memory`; `BadJournal` where a read gives fewer bytes than the entry has, which no disk
     /// does that keeps what was written.
-    pub fn entry(&mut self, i: u64) -> Result<Vec<u8>, EntryFault>
+    pub fn entry(&mut self, i: u64) -> Result<Vec<u8>, JournalFault>
         requires { i < self.old.count }
         ensures entry { (entries : List (List ℕ)) → Holds ⟦<D as Disk>⟧ self.old entries
             → IfOk result (λ bytes. bytes.items ≡ get_or entries i []) }
         ensures whole { (entries : List (List ℕ)) → Holds ⟦<D as Disk>⟧ self.old entries
-            → IfErr result (λ e. (place : ℕ) → e ≢ entry_fault.BadJournal place) }
+            → IfErr result (λ e. (place : ℕ) → e ≢ fault.BadJournal place) }
         ensures stays { (entries : List (List ℕ)) → Holds ⟦<D as Disk>⟧ self.old entries
             → Holds ⟦<D as Disk>⟧ self.new entries }
         // The entry after it is found at once.
@@ -119,7 +118,7 @@ impl<D: Disk> Journal<D> {
         ensures calls_from_front { i < self.old.mark.number → D.calls self.new.disk
             ≤ D.calls self.old.disk + (i + 2) }
         ensures cause { CountsOnly (D.faults self.old.disk) (D.faults self.new.disk)
-            entry_fault.DiskFailed result }
+            fault.DiskFailed result }
     {
         let from = if i < self.mark.number {
             FIRST

@@ -10,7 +10,7 @@ mod mark;
 mod opening;
 mod reading;
 
-pub use fault::{EntryFault, JournalFault};
+pub use fault::JournalFault;
 pub use journal::{Journal, open_journal};
 pub use laws::entries_are_read_in_one_way;
 pub use mark::JOURNAL;

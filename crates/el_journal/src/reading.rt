@@ -2,13 +2,13 @@
 ghost use Rattle.std.specs.Prelude.{◌≡◌, ◌≢◌, ◌<◌, ◌≤◌, ◌+◌, ◌-◌, ◌^◌, ◌++◌, ℕ, List, [], length, drop, get_or, None, Some, IfOk, IfErr};
 ghost use Rattle.std.specs.Int.{w64, from_le_bytes};
 ghost use Rattle.el_outside.specs.Counts.{CountsOnly};
-ghost use Rattle.el_journal.specs.declared.fault.EntryFault.TheVariants as fault;
+ghost use Rattle.el_journal.specs.declared.fault.JournalFault.TheVariants as fault;
 ghost use Rattle.el_journal.specs.declared.mark.TheConstants.{JOURNAL};
 ghost use Rattle.el_journal.specs.Entries.{entry_bytes, journal_bytes, EndsAfter};
 ghost use Rattle.el_journal.specs.Journals.{IsMark, IsOnlyRead};
 
 use crate::mark::Mark;
-use crate::{EntryFault, JOURNAL};
+use crate::{JOURNAL, JournalFault};
 use el_outside::Disk;
 use std::alloc::Global;
 
@@ -24,7 +24,7 @@ fn number_in(front: &[u8; 8], given: usize) -> Option<u64>
 }
 
 // How many bytes the entry at the place has.
-fn length_at<D: Disk>(disk: &mut D, place: u64) -> Result<u64, EntryFault>
+fn length_at<D: Disk>(disk: &mut D, place: u64) -> Result<u64, JournalFault>
     ensures length { D.tells → (entry rest : List ℕ)
         → drop place (D.seen disk.old JOURNAL) ≡ entry_bytes entry ++ rest
         → IfOk result (λ n. n ≡ length entry) }
@@ -39,12 +39,12 @@ fn length_at<D: Disk>(disk: &mut D, place: u64) -> Result<u64, EntryFault>
     let given = disk.read(JOURNAL, place.saturating_add(1), &mut front)?;
     match number_in(&front, given) {
         Some(length) => Ok(length),
-        None => Err(EntryFault::BadJournal { place }),
+        None => Err(JournalFault::BadJournal { place }),
     }
 }
 
 // Where the entry after this one begins.
-fn next<D: Disk>(disk: &mut D, mark: Mark) -> Result<Mark, EntryFault>
+fn next<D: Disk>(disk: &mut D, mark: Mark) -> Result<Mark, JournalFault>
     requires { mark.number + 1 < 2 ^ 64 }
     ensures mark { D.tells → (entries : List (List ℕ)) → EndsAfter entries (D.seen disk.old JOURNAL)
         → IsMark mark entries → mark.number < length entries → IfOk result (λ m. IsMark m entries) }
@@ -61,7 +61,7 @@ fn next<D: Disk>(disk: &mut D, mark: Mark) -> Result<Mark, EntryFault>
 }
 
 // Where an entry begins; the walk starts at this or an earlier one.
-pub(crate) fn find<D: Disk>(disk: &mut D, from: Mark, i: u64) -> Result<Mark, EntryFault>
+pub(crate) fn find<D: Disk>(disk: &mut D, from: Mark, i: u64) -> Result<Mark, JournalFault>
     requires { from.number ≤ i }
     ensures mark { D.tells → (entries : List (List ℕ)) → EndsAfter entries (D.seen disk.old JOURNAL)
         → IsMark from entries → i ≤ length entries → IfOk result (λ m. IsMark m entries) }
@@ -87,7 +87,7 @@ pub(crate) fn read_entry<D: Disk>(
     disk: &mut D,
     mark: Mark,
     end: u64,
-) -> Result<Vec<u8>, EntryFault>
+) -> Result<Vec<u8>, JournalFault>
     ensures entry { D.tells → (entries : List (List ℕ)) → EndsAfter entries (D.seen disk.old JOURNAL)
         → end ≡ length (journal_bytes entries) → IsMark mark entries → mark.number < length entries
         → IfOk result (λ bytes. bytes.items ≡ get_or entries mark.number []) }
@@ -105,7 +105,7 @@ pub(crate) fn read_entry<D: Disk>(
     let given = disk.read(JOURNAL, start, &mut bytes)?;
     bytes.truncate(given);
     if (bytes.len() as u64) < length {
-        return Err(EntryFault::BadJournal { place: mark.place });
+        return Err(JournalFault::BadJournal { place: mark.place });
     }
     Ok(bytes)
 }

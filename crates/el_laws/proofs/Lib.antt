@@ -1,2 +1,4 @@
 mod Results
+mod RunLemmas
 mod Starts
+mod VersionLemmas

@@ -1,11 +1,12 @@
 -- How an index starts: from no blocks.
-use Rattle.std.proofs.Common.{◌≡◌, [], ◌∷◌, List, Option, None, Some, refl, sym, ◌∙◌}
+use Rattle.std.proofs.Common.{◌≡◌, [], ◌∷◌, List, Option, None, Some, refl, sym, ◌∙◌, arith}
 use Rattle.el_base.specs.declared.hash.Hash32.{Hash32}
 use Rattle.el_chain.specs.Chains.{Chain, tip}
 use Rattle.el_chain.specs.declared.moves.Plan.{Plan}
 use Rattle.el_model.specs.Queries.{tip_of}
-use Rattle.el_model.specs.Going.{AreMovesOf}
+use Rattle.el_laws.specs.Going.{AreMovesOf}
 use Rattle.el_row_formats.specs.Tables as held
+use Rattle.el_row_formats.specs.declared.limits.TheConstants.{BUCKET_COUNT}
 use Rattle.el_row_formats.specs.declared.table.Table.{Table}
 use Rattle.el_row_formats.specs.declared.table.Table.TheVariants as table
 use Rattle.el_tables.specs.ChainLists.{lists, listed_blocks}
@@ -15,12 +16,15 @@ use Rattle.el_schema.specs.Standing.{StandFor, heads_in}
 use Rattle.el_schema.proofs.StandingLemmas.{stands}
 
 pub none_stand : (rows : held.Tables) → ((t : Table) → rows t ≡ []) → StandFor rows []
-none_stand rows none = stands rows [] (record { each = tt }) (record {
-  each = each;
-  fit = record { blocks = tt; txs = tt; tx_heads = tt; outs = tt; ins = tt; scripts = tt; script_heads = tt; entries = tt };
-})
+none_stand rows none = (
+  BUCKET_COUNT,
+  stands BUCKET_COUNT rows [] (omega arith) (record { each = tt }) (record {
+    each = each;
+    fit = record { blocks = tt; txs = tt; tx_heads = tt; outs = tt; ins = tt; scripts = tt; script_heads = tt; entries = tt };
+  }),
+)
   where
-    each : (u : Table) → rows u ≡ bytes_of (tables_of (heads_in []) (listed_blocks []) (lists [])) u
+    each : (u : Table) → rows u ≡ bytes_of (tables_of (heads_in BUCKET_COUNT []) (listed_blocks []) (lists [])) u
     each table.Blocks = none table.Blocks
     each table.Txs = none table.Txs
     each table.TxHeads = none table.TxHeads

@@ -1,13 +1,14 @@
 // What a crash leaves of an index, over rows that tell it.
 ghost use Rattle.std.specs.Prelude.{◌≡◌, [], IfOk};
-ghost use Rattle.el_model.specs.Going.{AreMovesOf, IsSafe};
+ghost use Rattle.el_laws.specs.Going.{AreMovesOf, IsSafe};
 
+use crate::going::{Mark, Stop, go_on};
+use crate::versioned_rows::VersionedRows;
 use el_base::Listed;
 use el_chain::Plan;
 use el_index::Index;
-use el_model::{Ledger, Mark, QueryFault, Stop, go_on};
+use el_model::{Ledger, QueryFault};
 use el_outside::Archive;
-use el_rows::VersionedRows;
 use std::alloc::Global;
 
 /// Makes moves from no blocks on, up to the first that is refused or whose commit fails, over rows in

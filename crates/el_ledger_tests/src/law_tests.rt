@@ -15,7 +15,8 @@ use el_laws::{
 use el_outside::Place;
 use el_prepare::{Prepared, prepare_one};
 use el_row_formats::Table;
-use el_rows::{Rows, Txn, VecRows};
+use el_rows::{Rows, Txn};
+use el_vec_rows::VecRows;
 use std::alloc::Global;
 use std::process::Abort;
 use std::test::Fail;

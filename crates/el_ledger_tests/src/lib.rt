@@ -10,4 +10,6 @@ mod law_tests;
 #[cfg(test)]
 mod plain_tests;
 #[cfg(test)]
+mod store_tests;
+#[cfg(test)]
 mod walk_tests;

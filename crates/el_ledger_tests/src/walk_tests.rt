@@ -7,7 +7,7 @@ use el_base::Hash32;
 use el_chain::Moved;
 use el_index::Index;
 use el_model::Ledger;
-use el_rows::VecRows;
+use el_vec_rows::VecRows;
 use std::alloc::Global;
 use std::process::Abort;
 use std::test::Fail;

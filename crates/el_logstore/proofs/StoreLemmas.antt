@@ -6,7 +6,8 @@ use Rattle.el_outside.specs.Moments.{LeavesOnly, LeftNow}
 use Rattle.el_outside.proofs.Moments.{joined, weaker}
 use Rattle.el_row_formats.specs.declared.table.Table.{Table}
 use Rattle.el_row_formats.specs.Tables.{Tables, tables_of}
-use Rattle.el_rows.specs.Reads.{CountedRows, OnlyRead, Same, IsEither}
+use Rattle.el_rows.specs.Reads.{OnlyRead, Same, IsEither}
+use Rattle.el_vec_rows.specs.MemoryRows.{CountedRows}
 use Rattle.el_rows.specs.Changes.{Update, under}
 use Rattle.el_journal.specs.declared.mark.TheConstants.{JOURNAL}
 use Rattle.el_journal.specs.Entries.{HasEntries, SameJournal}

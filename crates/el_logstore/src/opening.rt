@@ -14,12 +14,27 @@ ghost use Rattle.el_logstore.specs.Images.{Shows, Makes, Commits, no_rows, HasNo
 ghost use Rattle.el_logstore.specs.Stores.{IsLive, lists_in, disk_below, commits_of, disk_in, opened, fault_of};
 
 use crate::LogStore;
-use el_journal::{EntryFault, JOURNAL, Journal, JournalFault, open_journal};
+use el_journal::{JOURNAL, Journal, JournalFault, open_journal};
 use el_outside::Disk;
 use el_redo::{NetworkMagic, OpenFault, RedoFault, apply};
-use el_rows::VecRows;
+use el_vec_rows::VecRows;
 use std::alloc::Global;
 use std::marker::PhantomData;
+
+// A fault of the journal.
+fn of_journal(f: JournalFault) -> OpenFault
+    ensures { result ≡ fault_of f }
+{
+    match f {
+        JournalFault::DiskFailed => OpenFault::DiskFailed,
+        JournalFault::BadJournal { place } => OpenFault::BadIndex {
+            file: JOURNAL,
+            wanted: 0,
+            found: place,
+        },
+        JournalFault::Memory => OpenFault::Memory,
+    }
+}
 
 // The entry of that number.
 fn body_of<D: Disk>(journal: &mut Journal<D>, i: u64) -> Result<Vec<u8>, OpenFault>
@@ -40,13 +55,7 @@ fn body_of<D: Disk>(journal: &mut Journal<D>, i: u64) -> Result<Vec<u8>, OpenFau
 {
     match journal.entry(i) {
         Ok(body) => Ok(body),
-        Err(EntryFault::DiskFailed) => Err(OpenFault::DiskFailed),
-        Err(EntryFault::BadJournal { place }) => Err(OpenFault::BadIndex {
-            file: JOURNAL,
-            wanted: 0,
-            found: place,
-        }),
-        Err(EntryFault::Memory) => Err(OpenFault::Memory),
+        Err(fault) => Err(of_journal(fault)),
     }
 }
 
@@ -98,21 +107,6 @@ fn replay<D: Disk>(
         redo(rows, magic, &body, i)?;
     }
     Ok(())
-}
-
-// A fault of the journal's opening.
-fn of_journal(f: JournalFault) -> OpenFault
-    ensures { result ≡ fault_of f }
-{
-    match f {
-        JournalFault::DiskFailed => OpenFault::DiskFailed,
-        JournalFault::BadJournal { place } => OpenFault::BadIndex {
-            file: JOURNAL,
-            wanted: 0,
-            found: place,
-        },
-        JournalFault::Memory => OpenFault::Memory,
-    }
 }
 
 /// Opens the store that a disk keeps for the network that the type names. The disk may be fresh, which

@@ -9,7 +9,8 @@ use el_journal::Journal;
 use el_outside::{Disk, DiskFailed};
 use el_redo::{NetworkMagic, redo_body};
 use el_row_formats::Table;
-use el_rows::{CommitFault, Rows, Sealed, VecRows};
+use el_rows::{CommitFault, Rows, Sealed};
+use el_vec_rows::VecRows;
 use std::alloc::Global;
 use std::marker::PhantomData;
 

@@ -1,4 +1,3 @@
-pub mod RunLemmas
 pub mod Quiets
 pub mod LedgerMoves
 pub mod ReadBodies

@@ -2,11 +2,9 @@
 #![tactic(auto)]
 
 mod fault;
-mod going;
 mod ledger;
 mod reading;
 
 pub use fault::QueryFault;
-pub use going::{Mark, Stop, go_on};
 pub use ledger::Ledger;
 pub use reading::read_all;

@@ -16,7 +16,7 @@ use Rattle.el_row_formats.specs.Tables as held
 use Rattle.el_row_formats.specs.declared.table.Table.{Table}
 use Rattle.el_row_formats.specs.declared.table.Table.TheVariants as table
 use Rattle.el_row_formats.specs.declared.tx_row.TxRow.{TxRow}
-use Rattle.el_row_formats.specs.RowBytes.{tx_row_bytes, head_row_bytes, link_bytes, link_number, FitsTxRow, FitsHeadRow}
+use Rattle.el_row_formats.specs.RowBytes.{number_limit, tx_row_bytes, head_row_bytes, link_bytes, link_number, FitsTxRow, FitsHeadRow}
 use Rattle.el_schema.specs.Rows.{Hold, Encode, bytes_of, listed_tx, tx_fields, head_fields}
 use Rattle.el_buckets.specs.Buckets.{Pushed, Popped, OthersStay, bucket_head, newest_of, share_bucket}
 use Rattle.el_buckets.specs.declared.bucket.Buckets.TheVariants as buckets
@@ -81,7 +81,7 @@ module _ (T : typed.Tables) (old new : held.Tables) (e : Encode old T) (others :
       by table.ScriptHeads = others table.ScriptHeads (λ q. cc) (λ q. cc) ∙ e.each table.ScriptHeads
       by table.Entries = others table.Entries (λ q. cc) (λ q. cc) ∙ e.each table.Entries
 
-  row_added : (r : typed.TxRow) → Pushed buckets.Txids r.listed.txid (row_bytes r) old new → RowFits r → length (old table.Txs) + 1 < 2 ^ 32
+  row_added : (r : typed.TxRow) → Pushed buckets.Txids r.listed.txid (row_bytes r) old new → RowFits r → length (old table.Txs) + 1 < number_limit
       → Encode new (record T { txs = T.txs ++ r ∷ []; tx_heads = edit.set_head r.listed.txid (Some (length T.txs)) T.tx_heads })
   row_added r pushed fits few =
       let id = r.listed.txid in
@@ -93,7 +93,7 @@ module _ (T : typed.Tables) (old new : held.Tables) (e : Encode old T) (others :
       changed (T.txs ++ r ∷ []) (edit.set_head id (Some (length T.txs)) T.tx_heads) txs_are (heads_set id (Some (length T.txs)) set_to)
       (all_more RowFits T.txs r e.fit.txs fits) (all_set HeadFits T.tx_heads (bucket_in (length T.tx_heads) id) (Some (length T.txs)) e.fit.tx_heads (record { head = omega (arith, few, many) }))
 
-  row_dropped : (r : typed.TxRow) (n : ℕ) → length T.txs ≡ n + 1 → link_number r.next < 2 ^ 32 → Popped buckets.Txids r.listed.txid n r.next old new
+  row_dropped : (r : typed.TxRow) (n : ℕ) → length T.txs ≡ n + 1 → link_number r.next < number_limit → Popped buckets.Txids r.listed.txid n r.next old new
       → Encode new (record T { txs = but_last T.txs; tx_heads = edit.set_head r.listed.txid r.next T.tx_heads })
   row_dropped r n long fits popped =
       let id = r.listed.txid in
@@ -121,7 +121,7 @@ pub tx_grows : (counts : HeadCounts) (bs : List ListedBlock) (l : Lists) (old ne
     → Hold counts bs l old → OthersStay table.Txs table.TxHeads old new → 0 < counts.txs
     → Pushed buckets.Txids row.txid (tx_row_bytes (record row { older = older; next = next })) old new
     → older ≡ newest_of row.txid (map id_of l.txs) → next ≡ bucket_head counts.txs row.txid (map id_of l.txs)
-    → FitsTxRow (record row { older = older; next = next }) → length (old table.Txs) + 1 < 2 ^ 32
+    → FitsTxRow (record row { older = older; next = next }) → length (old table.Txs) + 1 < number_limit
     → Hold counts bs (add_tx (listed_tx row) l) new
 tx_grows counts bs l old new row older next hold others some pushed older_is next_is fits few =
     let t = listed_tx row in

@@ -1,7 +1,8 @@
 // The newest transaction with a txid.
-ghost use Rattle.std.specs.Prelude.{◌≡◌, ◌<◌, ◌≤◌, ◌+◌, ◌^◌, ℕ, List, length, map, IfOk, Some, None, option_map, slice_get};
+ghost use Rattle.std.specs.Prelude.{◌≡◌, ◌<◌, ◌≤◌, ◌+◌, ℕ, List, length, map, IfOk, Some, None, option_map, slice_get};
 ghost use Rattle.std.specs.Option.{ForSome};
 ghost use Rattle.el_row_formats.specs.declared.table.Table.{Table};
+ghost use Rattle.el_row_formats.specs.RowBytes.{number_limit};
 ghost use Rattle.el_rows.specs.Transaction.{tables_in, reads_in, disk_failed, ReadsRows};
 ghost use Rattle.el_tables.specs.ChainLists.{ListedBlock};
 ghost use Rattle.el_tables.specs.Lists.{Lists, ListedTx, newest_tx};
@@ -66,7 +67,7 @@ pub fn newest_row<R: Rows>(
     // What follows holds over any rows.
     ensures none { length (tables_in t.old Table.TxHeads) ≡ 0 → IfOk result (λ f. f ≡ None) }
     ensures idle { length (tables_in t.old Table.TxHeads) ≡ 0 → reads_in t.new ≡ reads_in t.old }
-    ensures few { IfOk result (λ f. ForSome f (λ x. x.number < 2 ^ 32)) }
+    ensures few { IfOk result (λ f. ForSome f (λ x. x.number < number_limit)) }
     ensures read { ReadsRows disk_failed t.old t.new result }
 {
     let mut row = [0; 68];

@@ -21,7 +21,7 @@ use Rattle.el_prepare.specs.Prepared.{prepared}
 use Rattle.el_tables.specs.Connecting.{block_between}
 use Rattle.el_tables.specs.Disconnecting.{last}
 use Rattle.el_tables.specs.Lists.{Lists, ListedEntry, script_number}
-use Rattle.el_tables.specs.Tables.{format_1, heads_for, numbers_from}
+use Rattle.el_tables.specs.Tables.{in_both, heads_for, numbers_from}
 use Rattle.el_tables.proofs.Connects.{outputs_have}
 use Rattle.el_tables.proofs.Listing.{met_is}
 use Rattle.el_tables.proofs.Numbering.{length_txs}
@@ -149,11 +149,6 @@ tells_of s all front back m split at = (
   (let long = length_txs 0 0 all in let both = ap length split ∙ length-append front back in omega arith),
 )
 
--- there are heads
-sixteen : 0 < format_1.txs
-unfolding format_1
-sixteen = omega arith
-
 -- 5. Blocks after a base
 
 positions_joined : (base bs : Chain) → positions (base ++ bs) ≡ positions base ++ positions_from (length base) bs (coins base)
@@ -222,9 +217,9 @@ none_touched s base bs le =
     none (p ∷ ps) h = absurd (omega arith)
 
 -- where there are transactions there are heads
-pub heads_of_txs : (chain : Chain) → 0 < length (positions chain) → 0 < (heads_in chain).txs
-heads_of_txs [] some = absurd (omega arith)
-heads_of_txs (b ∷ bs) some = sixteen
+pub heads_of_txs : (heads : ℕ) (chain : Chain) → 0 < heads → 0 < length (positions chain) → 0 < (heads_in heads chain).txs
+heads_of_txs heads [] there some = absurd (omega arith)
+heads_of_txs heads (b ∷ bs) there some = there
 
 -- 6. The last block
 
@@ -267,12 +262,12 @@ last_first chain b =
     ∙ ap (option_map (λ (x : ListedBlock). x.first_tx)) (last_is (listed_blocks chain) (block_between (prepared b.block) b.place (lists chain) (lists (chain ++ b ∷ []))))
     ∙ ap Some (length_txs 0 0 (positions chain))
 
-pub some_heads : (chain : Chain) (b : Placed) → 0 < (heads_in (chain ++ b ∷ [])).txs
-some_heads chain b = rw (row_more chain b) (by (listed_blocks chain) (block_between (prepared b.block) b.place (lists chain) (lists (chain ++ b ∷ []))))
+pub some_heads : (heads : ℕ) (chain : Chain) (b : Placed) → 0 < heads → 0 < (heads_in heads (chain ++ b ∷ [])).txs
+some_heads heads chain b some = rw (row_more chain b) (by (listed_blocks chain) (block_between (prepared b.block) b.place (lists chain) (lists (chain ++ b ∷ []))))
   where
-    by : (bs : List ListedBlock) (x : ListedBlock) → 0 < (heads_for format_1 (bs ++ x ∷ [])).txs
-    by [] x = sixteen
-    by (y ∷ bs) x = sixteen
+    by : (bs : List ListedBlock) (x : ListedBlock) → 0 < (heads_for (in_both heads) (bs ++ x ∷ [])).txs
+    by [] x = some
+    by (y ∷ bs) x = some
 
 -- a chain with a block has a last one
 pub none_first : (A : Type 0) (chain : Chain) (b : Placed) → None ≡ option_map (λ (x : ListedBlock). x.first_tx) (last (listed_blocks (chain ++ b ∷ []))) → A

@@ -1,5 +1,5 @@
 -- The scripts of the lists of a chain are those of its outputs, and there are no more of them in a bucket.
-use Rattle.std.proofs.Common.{◌≡◌, inl, inr, ℕ, ◌+◌, ◌≤◌, ◌==◌, Bool, true, false, not, List, [], ◌∷◌, ◌++◌, length, map, filter, count_by, bytes_eq, refl, ap, sym, ◌∙◌, arith}
+use Rattle.std.proofs.Common.{◌≡◌, inl, inr, ℕ, ◌+◌, ◌≤◌, ◌==◌, Bool, true, false, not, List, [], ◌∷◌, ◌++◌, length, map, filter, count_by, bytes_eq, refl, ap, sym, subst, ◌∙◌, arith}
 use Rattle.std.specs.List.{AllByRecursion, list_any, flat_map}
 use Rattle.std.proofs.lemmas.Bool.{cases_Bool, or_parts}
 use Rattle.std.proofs.lemmas.List.Sums.{length-filter}
@@ -17,11 +17,13 @@ use Rattle.el_chain.specs.declared.coin.Coin.{Coin}
 use Rattle.el_model.specs.Queries as asked
 use Rattle.el_tables.specs.ChainLists.{lists, scripts_of}
 use Rattle.el_tables.specs.Fits.{Once}
-use Rattle.el_tables.specs.Tables.{bucket_in, format_1}
+use Rattle.el_tables.specs.Tables.{bucket_in}
 use Rattle.el_tables.proofs.FitLemmas.{chain_fits}
 use Rattle.el_buckets.specs.Buckets.{bucket_size, share_bucket}
 use Rattle.el_schema.proofs.Held.{all_more}
-use Rattle.el_schema.specs.Standing.{heads_in}
+use Rattle.el_row_formats.specs.Tables as held
+use Rattle.el_schema.specs.Standing.{HoldChain, buckets_in, heads_in}
+use Rattle.el_schema.proofs.StandingLemmas.{heads_there}
 
 -- 1. Hashes among others
 
@@ -298,7 +300,8 @@ scripts_in_buckets chain count s =
     ∙ ap length (same_filters (share_bucket count s) (λ (h : Hash32). q h.0) hs (λ h. ap (λ (b : ℕ). b == bucket_in count s) (same_bucket count h) ∙ ap (λ (b : ℕ). asked.bucket_of count h.0 == b) (same_bucket count s))) in
     omega (arith, few, same)
 
-pub chain_buckets : (chain : Chain) (s : Hash32) → bucket_size (heads_in chain).scripts s (lists chain).scripts ≤ asked.scripts_in_bucket chain 65536 s.0
-unfolding format_1
-chain_buckets [] s = omega arith
-chain_buckets (b ∷ bs) s = scripts_in_buckets (b ∷ bs) 65536 s
+pub chain_buckets : (heads : ℕ) (rows : held.Tables) (chain : Chain) (s : Hash32) → HoldChain heads rows chain
+    → bucket_size (heads_in heads chain).scripts s (lists chain).scripts ≤ asked.scripts_in_bucket chain (buckets_in rows) s.0
+chain_buckets heads rows [] s hold = omega arith
+chain_buckets heads rows (b ∷ bs) s hold =
+    subst (λ (k : ℕ). bucket_size heads s (lists (b ∷ bs)).scripts ≤ asked.scripts_in_bucket (b ∷ bs) k s.0) (sym (heads_there heads rows b bs hold)) (scripts_in_buckets (b ∷ bs) heads s)

@@ -1,5 +1,5 @@
 -- The outputs of a chain, by outpoint.
-use Rattle.std.proofs.Common.{◌≡◌, ◌≢◌, ℕ, zero, suc, ◌+◌, ◌<◌, ◌≤◌, List, [], ◌∷◌, ◌++◌, length, map, get_or, slice_get, Option, None, Some, option_map, option_and_then, refl, ap, ap₂, lit<, Result, IfOk, sym, subst, ◌∙◌, arith}
+use Rattle.std.proofs.Common.{◌≡◌, ◌≢◌, ℕ, zero, suc, ◌+◌, ◌<◌, ◌≤◌, List, [], ◌∷◌, ◌++◌, length, map, get_or, slice_get, Option, None, Some, option_map, option_and_then, refl, ap, ap₂, Result, IfOk, sym, subst, ◌∙◌, arith}
 use Rattle.std.proofs.lemmas.List.{get_or-map, take_all}
 use Rattle.std.specs.List.{AllByRecursion}
 use Rattle.el_base.specs.declared.hash.Hash32.{Hash32}
@@ -13,7 +13,7 @@ use Rattle.el_model.specs.Queries as asked
 use Rattle.el_tables.specs.Lists.{State, ListedTx, ListedOut, Lists, output_number}
 use Rattle.el_tables.specs.Lists.State.{Unspent, Spent, Buried}
 use Rattle.el_tables.specs.ChainLists.{output, outputs_from, listed_out, scripts_of, ListedBlock, listed_blocks, lists}
-use Rattle.el_tables.specs.Tables.{HeadCounts, rows_from, tx_row, script_row, format_1}
+use Rattle.el_tables.specs.Tables.{HeadCounts, rows_from, tx_row, script_row}
 use Rattle.el_tables.specs.Queries.{height_at, shown_coin, listed_coin, listed_state, spender_by}
 use Rattle.el_tables.proofs.Answering.{coin_answers}
 use Rattle.el_tables.proofs.FitLemmas.{chain_fits}
@@ -202,14 +202,13 @@ coin_by_rows a b o l row tx script e f =
 -- 6. From rows that stand for a chain
 
 -- also on no blocks, where there are no heads
-pub output_in : {E : Type 0} (chain : Chain) (shown : held.Tables) (o : Outpoint) (n : ℕ) (r : Result (Option NamedOutput) E) → HoldChain shown chain → n ≡ length (shown table.Txs)
+pub output_in : {E : Type 0} (heads : ℕ) (chain : Chain) (shown : held.Tables) (o : Outpoint) (n : ℕ) (r : Result (Option NamedOutput) E) → 0 < heads → HoldChain heads shown chain → n ≡ length (shown table.Txs)
     → (length (shown table.TxHeads) ≡ 0 → IfOk r (λ f. f ≡ None))
     → ((counts : HeadCounts) (bs : List ListedBlock) (l : Lists) → Hold counts bs l shown → 0 < counts.txs → IfOk r (λ f. f ≡ named_among o n l))
     → IfOk r (λ f. f ≡ output_of o (lists chain))
-unfolding format_1
-output_in [] shown o n r hold many none named = none (count_tx_heads (heads_in []) [] (lists []) shown hold)
-output_in (b ∷ bs) shown o n r hold many none named =
-    let counts = heads_in (b ∷ bs) in
+output_in heads [] shown o n r some hold many none named = none (count_tx_heads (heads_in heads []) [] (lists []) shown hold)
+output_in heads (b ∷ bs) shown o n r some hold many none named =
+    let counts = heads_in heads (b ∷ bs) in
     let blocks = listed_blocks (b ∷ bs) in
     let l = lists (b ∷ bs) in
-    if_ok r (named counts blocks l hold (lit< tt)) (λ f is. is ∙ among_all o n l (many ∙ count_txs counts blocks l shown hold))
+    if_ok r (named counts blocks l hold some) (λ f is. is ∙ among_all o n l (many ∙ count_txs counts blocks l shown hold))

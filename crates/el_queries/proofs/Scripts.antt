@@ -1,26 +1,23 @@
 -- The script of a hash, and what stands where there is none.
-use Rattle.std.proofs.Common.{◌≡◌, ℕ, ◌==◌, ◌&&◌, Bool, true, false, List, [], ◌∷◌, length, filter, Option, None, Some, option_map, refl, ap, sym, subst, ◌∙◌, arith, ne_eqb}
+use Rattle.std.proofs.Common.{◌≡◌, ◌<◌, ℕ, ◌==◌, ◌&&◌, Bool, true, false, List, [], ◌∷◌, length, filter, Option, None, Some, option_map, refl, ap, sym, ◌∙◌, arith, ne_eqb}
 use Rattle.std.proofs.lemmas.Bool.{or_parts, and_left}
 use Rattle.std.specs.List.{list_any}
 use Rattle.el_base.specs.declared.hash.Hash32.{Hash32}
 use Rattle.el_chain.specs.Chains.{Chain}
 use Rattle.el_chain.specs.RowCounts.{has_script}
-use Rattle.el_tables.specs.ChainLists.{lists, listed_blocks}
+use Rattle.el_tables.specs.ChainLists.{lists}
 use Rattle.el_tables.specs.Edits as edit
 use Rattle.el_tables.specs.Fits.{Fits, OutsWithin}
 use Rattle.el_tables.specs.Lists.{ListedOut, Lists, script_number, is_of_script, is_unspent, balance_of}
-use Rattle.el_tables.specs.Tables as typed
-use Rattle.el_tables.specs.Tables.{HeadCounts, format_1, script_row, tables_of}
+use Rattle.el_tables.specs.Tables.{HeadCounts, script_row}
 use Rattle.el_tables.proofs.FitLemmas.{new_has_no_entry}
 use Rattle.el_tables.proofs.Scripts.{number_next}
-use Rattle.el_tables.proofs.Tables.{same_tables, tables_stand}
-use Rattle.el_row_formats.specs.Tables as held
 use Rattle.el_row_formats.specs.declared.script_row.ScriptRow.{ScriptRow}
 use Rattle.el_buckets.specs.Buckets.{newest_of, below}
-use Rattle.el_schema.specs.Rows.{Encode, script_fields}
+use Rattle.el_schema.specs.Rows.{script_fields}
 use Rattle.el_buckets.proofs.Heads.{below_all}
 use Rattle.el_script.proofs.Causes.{newest_none, newest_some}
-use Rattle.el_schema.specs.Standing.{StandFor, HoldChain, heads_in}
+use Rattle.el_schema.specs.Standing.{heads_in}
 use Rattle.el_script.specs.declared.lookup.FoundScript.{FoundScript}
 use Rattle.el_script.specs.Found.{HasHeads, script_in}
 use Rattle.el_queries.proofs.EntryWalks.{no_entry}
@@ -80,14 +77,9 @@ none_balance s l fits none = ap (λ (k : ℕ). balance_of k l.outs) (number_next
 -- 3. Heads
 
 -- of a chain
-pub holds_chain : (rows : held.Tables) (chain : Chain) → StandFor rows chain → HoldChain rows chain
-holds_chain rows chain s =
-    subst (Encode rows) (same_tables format_1 s.tables (tables_of (heads_in chain) (listed_blocks chain) (lists chain)) chain s.stand (tables_stand format_1 chain s.stand.good)) s.encode
-
-pub chain_has_heads : (chain : Chain) → HasHeads (heads_in chain) (lists chain)
-unfolding format_1
-chain_has_heads [] some = absurd (omega arith)
-chain_has_heads (b ∷ bs) some = omega arith
+pub chain_has_heads : (heads : ℕ) (chain : Chain) → 0 < heads → HasHeads (heads_in heads chain) (lists chain)
+chain_has_heads heads [] there some = absurd (omega arith)
+chain_has_heads heads (b ∷ bs) there some = there
 
 -- the last entry of the script that was found
 pub last_is : (s : Hash32) (counts : HeadCounts) (l : Lists) (f : FoundScript) (count : ℕ) (link : Option ℕ) → Fits l → Some f ≡ script_in s counts l → count ≡ length l.entries

@@ -1,5 +1,5 @@
 -- Where the transactions of a chain stand, by its lists.
-use Rattle.std.proofs.Common.{◌≡◌, inl, inr, ℕ, zero, suc, ◌+◌, ◌-◌, ◌<◌, ◌≤◌, List, [], ◌∷◌, ◌++◌, length, map, filter, get_or, slice_get, Option, None, Some, option_map, option_and_then, refl, ap, ap₂, lit<, sym, subst, ◌∙◌, arith}
+use Rattle.std.proofs.Common.{◌≡◌, inl, inr, ℕ, zero, suc, ◌+◌, ◌-◌, ◌<◌, ◌≤◌, List, [], ◌∷◌, ◌++◌, length, map, filter, get_or, slice_get, Option, None, Some, option_map, option_and_then, refl, ap, ap₂, sym, subst, ◌∙◌, arith}
 use Rattle.std.proofs.lemmas.Bool.{cases_Bool, cases_lt}
 use Rattle.std.proofs.lemmas.List.Sums.{length-filter}
 use Rattle.std.specs.Option.{option_or}
@@ -19,7 +19,7 @@ use Rattle.el_model.specs.Queries as asked
 use Rattle.el_tables.specs.Disconnecting.{last}
 use Rattle.el_tables.specs.Lists.{ListedTx, Lists, newest_tx}
 use Rattle.el_tables.specs.ChainLists.{ListedBlock, listed_block, listed_blocks_from, listed_blocks, txs_from, lists}
-use Rattle.el_tables.specs.Tables.{HeadCounts, rows_from, tx_row, bucket_in, format_1}
+use Rattle.el_tables.specs.Tables.{HeadCounts, rows_from, tx_row, bucket_in}
 use Rattle.el_tables.proofs.Found.{newest_position}
 use Rattle.el_row_formats.specs.Tables as held
 use Rattle.el_row_formats.specs.declared.table.Table.TheVariants as table
@@ -28,7 +28,8 @@ use Rattle.el_row_formats.specs.declared.tx_row.TxRow.{TxRow}
 use Rattle.el_schema.specs.Rows.{Hold, block_fields, tx_fields}
 use Rattle.el_buckets.specs.Buckets.{share_bucket, bucket_size}
 use Rattle.el_schema.proofs.Held.{no_tx, count_tx_heads}
-use Rattle.el_schema.specs.Standing.{HoldChain, heads_in}
+use Rattle.el_schema.specs.Standing.{HoldChain, buckets_in, heads_in}
+use Rattle.el_schema.proofs.StandingLemmas.{heads_there}
 use Rattle.el_schema.proofs.Rows.{listed_row, row_within}
 use Rattle.el_position.specs.Numbered.{number_of}
 use Rattle.el_position.specs.declared.lookup.NumberedTx.{NumberedTx}
@@ -187,28 +188,28 @@ none_told chain id none =
 
 -- 4. How many rows are read
 
-filtered : (h : Hash32) (hs : List Hash32)
-    → length (filter (share_bucket 65536 h) hs) ≡ asked.in_bucket 65536 h.0 (map (λ (x : Hash32). x.0) hs)
+filtered : (count : ℕ) (h : Hash32) (hs : List Hash32)
+    → length (filter (share_bucket count h) hs) ≡ asked.in_bucket count h.0 (map (λ (x : Hash32). x.0) hs)
 unfolding bucket_in
-filtered h [] = refl
-filtered h (x ∷ xs) =
-    let rest = filtered h xs in
-    elim (cases_Bool (share_bucket 65536 h x)) [
+filtered count h [] = refl
+filtered count h (x ∷ xs) =
+    let rest = filtered count h xs in
+    elim (cases_Bool (share_bucket count h x)) [
       | inl y ↦ rw y (ap suc rest)
       | inr n ↦ rw n rest
     ]
 
-in_bucket : (h : Hash32) (hs : List Hash32) → bucket_size 65536 h hs ≡ asked.in_bucket 65536 h.0 (map (λ (x : Hash32). x.0) hs)
-in_bucket h hs = sym (length-filter (share_bucket 65536 h) hs) ∙ filtered h hs
+in_bucket : (count : ℕ) (h : Hash32) (hs : List Hash32) → bucket_size count h hs ≡ asked.in_bucket count h.0 (map (λ (x : Hash32). x.0) hs)
+in_bucket count h hs = sym (length-filter (share_bucket count h) hs) ∙ filtered count h hs
 
 map_twice : (ps : List Position) → map (λ (x : Hash32). x.0) (map id_in ps) ≡ map (λ (p : Position). (txid p.tx).0) ps
 map_twice [] = refl
 map_twice (p ∷ ps) = ap (λ (ls : List (List ℕ)). (txid p.tx).0 ∷ ls) (map_twice ps)
 
-pub in_bucket_told : (chain : Chain) (id : Hash32) → bucket_size 65536 id (map id_of (lists chain).txs) ≡ asked.txs_in_bucket chain 65536 id.0
-in_bucket_told chain id =
-    ap (bucket_size 65536 id) (ids_listed 0 0 (positions chain)) ∙ in_bucket id (map id_in (positions chain))
-    ∙ ap (asked.in_bucket 65536 id.0) (map_twice (positions chain))
+pub in_bucket_told : (count : ℕ) (chain : Chain) (id : Hash32) → bucket_size count id (map id_of (lists chain).txs) ≡ asked.txs_in_bucket chain count id.0
+in_bucket_told count chain id =
+    ap (bucket_size count id) (ids_listed 0 0 (positions chain)) ∙ in_bucket count id (map id_in (positions chain))
+    ∙ ap (asked.in_bucket count id.0) (map_twice (positions chain))
 
 -- 5. From rows that stand for a chain
 
@@ -224,18 +225,17 @@ spot_by_row x bs h pos block e is = by (slice_get bs h) e
         ap₂ (λ (p : ℕ) (l : Place). Some (spot_from x.row.height p l x.row.start x.row.len)) (is ∙ ap (λ (r : BlockRow). x.number - r.first_tx) row_is) (ap (λ (r : BlockRow). r.place) row_is)
 
 -- also on no blocks, where there are no heads
-pub newest_in : (chain : Chain) (shown : held.Tables) (id : Hash32) (f : Option NumberedTx) → HoldChain shown chain → (length (shown table.TxHeads) ≡ 0 → f ≡ None)
+pub newest_in : (heads : ℕ) (chain : Chain) (shown : held.Tables) (id : Hash32) (f : Option NumberedTx) → 0 < heads → HoldChain heads shown chain → (length (shown table.TxHeads) ≡ 0 → f ≡ None)
     → ((counts : HeadCounts) (bs : List ListedBlock) (l : Lists) → Hold counts bs l shown → 0 < counts.txs → option_map number_of f ≡ newest_tx id l.txs)
     → option_map number_of f ≡ newest_tx id (lists chain).txs
-unfolding format_1
-newest_in [] shown id f hold none newest = ap (option_map number_of) (none (count_tx_heads (heads_in []) [] (lists []) shown hold))
-newest_in (b ∷ bs) shown id f hold none newest = newest (heads_in (b ∷ bs)) (listed_blocks (b ∷ bs)) (lists (b ∷ bs)) hold (lit< tt)
+newest_in heads [] shown id f some hold none newest = ap (option_map number_of) (none (count_tx_heads (heads_in heads []) [] (lists []) shown hold))
+newest_in heads (b ∷ bs) shown id f some hold none newest = newest (heads_in heads (b ∷ bs)) (listed_blocks (b ∷ bs)) (lists (b ∷ bs)) hold some
 
-pub rows_in : (chain : Chain) (shown : held.Tables) (id : Hash32) (before after : ℕ) → HoldChain shown chain → (length (shown table.TxHeads) ≡ 0 → after ≡ before)
+pub rows_in : (heads : ℕ) (chain : Chain) (shown : held.Tables) (id : Hash32) (before after : ℕ) → 0 < heads → HoldChain heads shown chain → (length (shown table.TxHeads) ≡ 0 → after ≡ before)
     → ((counts : HeadCounts) (bs : List ListedBlock) (l : Lists) → Hold counts bs l shown → 0 < counts.txs → after ≤ before + 1 + bucket_size counts.txs id (map id_of l.txs))
-    → after ≤ before + 1 + asked.txs_in_bucket chain 65536 id.0
-unfolding format_1
-rows_in [] shown id before after hold idle steps = let same = idle (count_tx_heads (heads_in []) [] (lists []) shown hold) in omega (arith, same)
-rows_in (b ∷ bs) shown id before after hold idle steps =
-    let few = steps (heads_in (b ∷ bs)) (listed_blocks (b ∷ bs)) (lists (b ∷ bs)) hold (lit< tt) in
-    subst (λ (k : ℕ). after ≤ before + 1 + k) (in_bucket_told (b ∷ bs) id) few
+    → after ≤ before + 1 + asked.txs_in_bucket chain (buckets_in shown) id.0
+rows_in heads [] shown id before after some hold idle steps = let same = idle (count_tx_heads (heads_in heads []) [] (lists []) shown hold) in omega (arith, same)
+rows_in heads (b ∷ bs) shown id before after some hold idle steps =
+    let few = steps (heads_in heads (b ∷ bs)) (listed_blocks (b ∷ bs)) (lists (b ∷ bs)) hold some in
+    let many = in_bucket_told heads (b ∷ bs) id ∙ ap (λ (k : ℕ). asked.txs_in_bucket (b ∷ bs) k id.0) (sym (heads_there heads shown b bs hold)) in
+    subst (λ (k : ℕ). after ≤ before + 1 + k) many few

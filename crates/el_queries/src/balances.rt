@@ -3,7 +3,7 @@ ghost use Rattle.std.specs.Prelude.{◌≡◌, ◌≤◌, ◌+◌, IfOk};
 ghost use Rattle.el_chain.specs.Chains.{Chain};
 ghost use Rattle.el_model.specs.Queries as asked;
 ghost use Rattle.el_rows.specs.Transaction.{tables_in, reads_in, disk_failed, ReadsRows};
-ghost use Rattle.el_schema.specs.Standing.{StandFor};
+ghost use Rattle.el_schema.specs.Standing.{StandFor, buckets_in};
 
 use el_base::Hash32;
 use el_outside::DiskFailed;
@@ -19,7 +19,7 @@ pub fn balance<R: Rows>(t: &mut Txn<'_, R>, script_hash: &Hash32) -> Result<u64,
     // It reads one head, and rows of scripts in the hash's bucket alone.
     ensures rows { (chain : Chain) → R.tells → StandFor (tables_in t.old) chain
         → reads_in t.new ≤ reads_in t.old
-        + (1 + asked.scripts_in_bucket chain 65536 script_hash.now.0) }
+        + (1 + asked.scripts_in_bucket chain (buckets_in (tables_in t.old)) script_hash.now.0) }
     ensures read { ReadsRows disk_failed t.old t.new result }
 {
     match found_script(t, script_hash)? {

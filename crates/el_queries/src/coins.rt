@@ -11,7 +11,7 @@ ghost use Rattle.el_tables.specs.Queries.{outs_at};
 ghost use Rattle.el_tables.specs.Tables.{HeadCounts};
 ghost use Rattle.el_buckets.specs.Buckets.{bucket_size};
 ghost use Rattle.el_schema.specs.Rows.{Hold, listed_tx, out_fields};
-ghost use Rattle.el_schema.specs.Standing.{StandFor};
+ghost use Rattle.el_schema.specs.Standing.{StandFor, buckets_in};
 ghost use Rattle.el_script.specs.Found.{HasHeads};
 ghost use Rattle.el_queries.specs.within.Histories.{own_coin, coins_made_by, coin_rows};
 
@@ -138,7 +138,7 @@ pub fn unspent<R: Rows>(
     // of the entries' transactions.
     ensures rows { (chain : Chain) → R.tells → StandFor (tables_in t.old) chain
         → reads_in t.new ≤ reads_in t.old
-        + (1 + asked.scripts_in_bucket chain 65536 script_hash.now.0
+        + (1 + asked.scripts_in_bucket chain (buckets_in (tables_in t.old)) script_hash.now.0
         + 2 * length (history chain script_hash.now.0)
         + asked.outputs_of_history chain script_hash.now.0) }
     ensures read { ReadsRows QueryFault.DiskFailed t.old t.new result }

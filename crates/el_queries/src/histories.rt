@@ -10,7 +10,7 @@ ghost use Rattle.el_tables.specs.Lists.{ListedEntry, Lists, script_number, is_of
 ghost use Rattle.el_tables.specs.Tables.{HeadCounts};
 ghost use Rattle.el_buckets.specs.Buckets.{bucket_size};
 ghost use Rattle.el_schema.specs.Rows.{Hold};
-ghost use Rattle.el_schema.specs.Standing.{StandFor};
+ghost use Rattle.el_schema.specs.Standing.{StandFor, buckets_in};
 ghost use Rattle.el_script.specs.Found.{HasHeads};
 ghost use Rattle.el_queries.specs.within.Histories.{shown_tx, entry_rows};
 
@@ -98,7 +98,7 @@ pub fn history<R: Rows>(
     // It reads one head, rows of scripts in the hash's bucket alone, and for each entry two rows.
     ensures rows { (chain : Chain) → R.tells → StandFor (tables_in t.old) chain
         → reads_in t.new ≤ reads_in t.old
-        + (1 + asked.scripts_in_bucket chain 65536 script_hash.now.0
+        + (1 + asked.scripts_in_bucket chain (buckets_in (tables_in t.old)) script_hash.now.0
         + 2 * length (spec.history chain script_hash.now.0)) }
     ensures read { ReadsRows QueryFault.DiskFailed t.old t.new result }
 {

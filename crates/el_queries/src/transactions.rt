@@ -1,9 +1,10 @@
 // Transactions by txid.
-ghost use Rattle.std.specs.Prelude.{◌≡◌, ◌<◌, ◌≤◌, ◌+◌, ◌^◌, IfOk, option_map, slice_get};
+ghost use Rattle.std.specs.Prelude.{◌≡◌, ◌<◌, ◌≤◌, ◌+◌, IfOk, option_map, slice_get};
 ghost use Rattle.el_chain.specs.Chains.{Chain};
+ghost use Rattle.el_row_formats.specs.RowBytes.{number_limit};
 ghost use Rattle.el_model.specs.Queries as asked;
 ghost use Rattle.el_rows.specs.Transaction.{tables_in, reads_in, disk_failed, ReadsRows};
-ghost use Rattle.el_schema.specs.Standing.{StandFor};
+ghost use Rattle.el_schema.specs.Standing.{StandFor, buckets_in};
 ghost use Rattle.el_tables.specs.Tables as typed;
 ghost use Rattle.el_schema.specs.Rows.{Encode};
 ghost use Rattle.el_queries.specs.within.Lookups.{spot_in};
@@ -24,7 +25,8 @@ pub fn find_tx<R: Rows>(t: &mut Txn<'_, R>, txid: &Hash32) -> Result<Option<Spot
     ensures spot { (chain : Chain) → R.tells → StandFor (tables_in t.old) chain
         → IfOk result (λ found. found ≡ asked.find_tx chain txid.now) }
     ensures rows { (chain : Chain) → R.tells → StandFor (tables_in t.old) chain
-        → reads_in t.new ≤ reads_in t.old + (2 + asked.txs_in_bucket chain 65536 txid.now.0) }
+        → reads_in t.new ≤ reads_in t.old
+        + (2 + asked.txs_in_bucket chain (buckets_in (tables_in t.old)) txid.now.0) }
     ensures read { ReadsRows disk_failed t.old t.new result }
 {
     match newest_row(t, txid)? {
@@ -36,7 +38,7 @@ pub fn find_tx<R: Rows>(t: &mut Txn<'_, R>, txid: &Hash32) -> Result<Option<Spot
 // Where a transaction stands; none where its block isn't there.
 fn spot_of<R: Rows>(t: &mut Txn<'_, R>, found: &NumberedTx) -> Result<Option<Spot>, DiskFailed>
     requires live { R.is_live t.old.rows.now }
-    requires few { found.now.number < 2 ^ 32 }
+    requires few { found.now.number < number_limit }
     ensures spot { (tb : typed.Tables) → R.tells → Encode (tables_in t.old) tb → IfOk result
         (λ s. s ≡ option_map (spot_in found.now) (slice_get tb.blocks found.now.row.height)) }
     ensures read { ReadsRows disk_failed t.old t.new result }

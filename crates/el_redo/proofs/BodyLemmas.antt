@@ -13,7 +13,7 @@ use Rattle.el_row_formats.specs.declared.table.RowKey.{RowKey}
 use Rattle.el_row_formats.specs.Tables.{number_of, index_of, size_of, limit_of, key}
 use Rattle.el_rows.specs.Changes.{Changes, Update, IsMadeFrom, count_at, changed_at}
 use Rattle.el_row_formats.proofs.Keys.{same_index}
-use Rattle.el_rows.proofs.InMemoryLemmas.{change_at}
+use Rattle.el_vec_rows.proofs.InMemoryLemmas.{change_at}
 use Rattle.el_redo.specs.RedoBody.{all_tables, head_bytes, numbers_bytes, meta_row, change_bytes, changes_bytes, IsCommit}
 
 -- ---- numbers

@@ -10,7 +10,8 @@ use Rattle.std.proofs.lemmas.Bool.{cases_lt, cases_eq}
 use Rattle.el_row_formats.specs.declared.table.Table.{Table}
 use Rattle.el_row_formats.specs.declared.table.RowKey.{RowKey}
 use Rattle.el_row_formats.specs.Tables.{Tables, size_of, limit_of, row_cmp, key}
-use Rattle.el_rows.specs.Changes.{Changes, IsMadeFrom, IsResized, OnTable, changed_at, count_at, row_under, under}
+use Rattle.el_vec_rows.specs.MemoryRows.{IsResized}
+use Rattle.el_rows.specs.Changes.{Changes, IsMadeFrom, OnTable, changed_at, count_at, row_under, under}
 use Rattle.el_row_formats.proofs.Keys.{self_key, other_key, same_table}
 use Rattle.el_rows.proofs.UnderLemmas.{is_under}
 use Rattle.el_redo.specs.RedoBody.{change_bytes, changes_bytes}

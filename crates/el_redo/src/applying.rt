@@ -9,7 +9,7 @@ use crate::RedoFault;
 use crate::checking::{are_limited, are_made};
 use crate::laying::lay_all;
 use crate::reading::read_meta;
-use el_rows::VecRows;
+use el_vec_rows::VecRows;
 
 /// Makes the rows those after the commit that the body spells for the network with this magic, whose bytes
 /// are in the order in which block files have them. The body is checked as a whole before a row is laid, and

@@ -7,7 +7,8 @@ ghost use Rattle.el_redo.specs.RedoBody.{changes_bytes};
 
 use crate::reading::{count_of, next};
 use el_row_formats::{RowKey, TABLES, Table};
-use el_rows::{Rows, VecRows};
+use el_rows::Rows;
+use el_vec_rows::VecRows;
 
 // Whether no count is above the limit.
 pub(crate) fn are_limited(counts: &[u64; TABLES]) -> bool

@@ -8,7 +8,7 @@ ghost use Rattle.el_redo.specs.within.Laying.{IsLaid};
 
 use crate::reading::next;
 use el_row_formats::TABLES;
-use el_rows::VecRows;
+use el_vec_rows::VecRows;
 
 // Lays all changed rows of the bytes over rows that have the new counts.
 pub(crate) fn lay_all(rows: &mut VecRows, counts: &[u64; TABLES], bytes: &[u8])

@@ -13,7 +13,7 @@ use Rattle.el_row_formats.specs.declared.script_row.ScriptRow.{ScriptRow}
 use Rattle.el_row_formats.specs.declared.entry_row.EntryRow.{EntryRow}
 use Rattle.el_row_formats.specs.declared.out_row.State.{State}
 use Rattle.el_row_formats.specs.declared.out_row.State.TheVariants as state
-use Rattle.el_row_formats.specs.RowBytes.{link_number, link_bytes, state_number, state_by, state_of, out_row_bytes, FitsOutRow, ReadsAsOut, block_row_bytes, FitsBlockRow, tx_row_bytes, FitsTxRow, head_row_bytes, FitsHeadRow, in_row_bytes, FitsInRow, script_row_bytes, FitsScriptRow, entry_row_bytes, FitsEntryRow}
+use Rattle.el_row_formats.specs.RowBytes.{number_limit, link_number, link_bytes, state_number, state_by, state_of, out_row_bytes, FitsOutRow, ReadsAsOut, block_row_bytes, FitsBlockRow, tx_row_bytes, FitsTxRow, head_row_bytes, FitsHeadRow, in_row_bytes, FitsInRow, script_row_bytes, FitsScriptRow, entry_row_bytes, FitsEntryRow}
 
 long_again : (m n : ℕ) (x y : List ℕ) → m < 2 ^ 64 → n < 2 ^ 64 → to_le_bytes w64 m ++ x ≡ to_le_bytes w64 n ++ y → (m ≡ n) × (x ≡ y)
 long_again m n x y p q e = (
@@ -27,7 +27,7 @@ same_link None (Some n) e = absurd (omega (arith, e))
 same_link (Some m) None e = absurd (omega (arith, e))
 same_link (Some m) (Some n) e = ap Some (omega (arith, e))
 
-link_again : (a b : Option ℕ) (x y : List ℕ) → link_number a < 2 ^ 32 → link_number b < 2 ^ 32 → link_bytes a ++ x ≡ link_bytes b ++ y → (a ≡ b) × (x ≡ y)
+link_again : (a b : Option ℕ) (x y : List ℕ) → link_number a < number_limit → link_number b < number_limit → link_bytes a ++ x ≡ link_bytes b ++ y → (a ≡ b) × (x ≡ y)
 link_again a b x y p q e = let both = number_again (link_number a) (link_number b) x y p q e in (same_link a b both.0, both.1)
 
 same_block_fields : (x0 y0 : List ℕ) (x1 y1 : ℕ) (x2 y2 : ℕ) (x3 y3 : ℕ) (x4 y4 : ℕ) (x5 y5 : ℕ) (x6 y6 : ℕ) → x0 ≡ y0 → x1 ≡ y1 → x2 ≡ y2 → x3 ≡ y3 → x4 ≡ y4 → x5 ≡ y5 → x6 ≡ y6 → (f : List ℕ → ℕ → ℕ → ℕ → ℕ → ℕ → ℕ → BlockRow) → f x0 x1 x2 x3 x4 x5 x6 ≡ f y0 y1 y2 y3 y4 y5 y6
@@ -113,7 +113,7 @@ same_out_fields : (a b c d e f : ℕ) (s t : State) → a ≡ b → c ≡ d → 
 same_out_fields a b c d e f s t h i j k g = cc
 
 -- what is written as an output's row is read again
-pub one_out_row : (r s : OutRow) (bytes : List ℕ) (reads : ReadsAsOut bytes s) → FitsOutRow r → s.tx < 2 ^ 32 → s.value < 2 ^ 64 → s.script < 2 ^ 32 → reads.by < 2 ^ 32 → out_row_bytes r ≡ bytes → r ≡ s
+pub one_out_row : (r s : OutRow) (bytes : List ℕ) (reads : ReadsAsOut bytes s) → FitsOutRow r → s.tx < number_limit → s.value < 2 ^ 64 → s.script < number_limit → reads.by < number_limit → out_row_bytes r ≡ bytes → r ≡ s
 one_out_row r s bytes reads p tx value script by e =
     let a = number_again r.tx s.tx _ _ p.tx tx (e ∙ reads.fields) in
     let b = long_again r.value s.value _ _ p.value value a.1 in

@@ -11,6 +11,11 @@ use Rattle.el_row_formats.specs.declared.script_row.ScriptRow.{ScriptRow}
 use Rattle.el_row_formats.specs.declared.entry_row.EntryRow.{EntryRow}
 use Rattle.el_row_formats.specs.declared.out_row.State.{State}
 use Rattle.el_row_formats.specs.declared.out_row.State.TheVariants as state
+use Rattle.el_row_formats.specs.declared.limits.TheConstants.{MAX_NUMBER}
+
+-- what the numbers of rows, links and counts of entries are below in a row
+abbrev pub number_limit : ℕ
+number_limit = MAX_NUMBER + 1
 
 -- the number that a link is written as
 abbrev pub link_number : Option ℕ → ℕ
@@ -50,7 +55,7 @@ pub record FitsBlockRow (r : BlockRow) : Type 0 where
   pub file : r.place.file < 2 ^ 32
   pub offset : r.place.offset < 2 ^ 64
   pub len : r.place.len < 2 ^ 32
-  pub first_tx : r.first_tx < 2 ^ 32
+  pub first_tx : r.first_tx < number_limit
   pub txs : r.txs < 2 ^ 32
   pub sum : r.sum < 2 ^ 64
 
@@ -69,12 +74,12 @@ pub record FitsTxRow (r : TxRow) : Type 0 where
   pub height : r.height < 2 ^ 32
   pub start : r.start < 2 ^ 32
   pub len : r.len < 2 ^ 32
-  pub first_out : r.first_out < 2 ^ 32
+  pub first_out : r.first_out < number_limit
   pub outs : r.outs < 2 ^ 32
-  pub first_in : r.first_in < 2 ^ 32
+  pub first_in : r.first_in < number_limit
   pub ins : r.ins < 2 ^ 32
-  pub older : link_number r.older < 2 ^ 32
-  pub next : link_number r.next < 2 ^ 32
+  pub older : link_number r.older < number_limit
+  pub next : link_number r.next < number_limit
 
 -- the head of a bucket
 abbrev pub head_row_bytes : HeadRow → List ℕ
@@ -82,7 +87,7 @@ head_row_bytes r = link_bytes r.head
 
 -- each field fits its bytes
 pub record FitsHeadRow (r : HeadRow) : Type 0 where
-  pub head : link_number r.head < 2 ^ 32
+  pub head : link_number r.head < number_limit
 
 -- the fields of an output's row: transaction, value, script, state, by
 abbrev pub out_fields : OutRow → ℕ → ℕ → List ℕ
@@ -103,10 +108,10 @@ pub record ReadsAsOut (bytes : List ℕ) (r : OutRow) : Type 0 where
 
 -- each field fits its bytes
 pub record FitsOutRow (r : OutRow) : Type 0 where
-  pub tx : r.tx < 2 ^ 32
+  pub tx : r.tx < number_limit
   pub value : r.value < 2 ^ 64
-  pub script : r.script < 2 ^ 32
-  pub by : state_by r.state < 2 ^ 32
+  pub script : r.script < number_limit
+  pub by : state_by r.state < number_limit
 
 -- an input: the output that it takes
 abbrev pub in_row_bytes : InRow → List ℕ
@@ -114,7 +119,7 @@ in_row_bytes r = to_le_bytes w32 r.out
 
 -- each field fits its bytes
 pub record FitsInRow (r : InRow) : Type 0 where
-  pub out : r.out < 2 ^ 32
+  pub out : r.out < number_limit
 
 -- a script: script hash, next, last entry, entries, balance
 abbrev pub script_row_bytes : ScriptRow → List ℕ
@@ -125,9 +130,9 @@ script_row_bytes r =
 -- each field fits its bytes
 pub record FitsScriptRow (r : ScriptRow) : Type 0 where
   pub script : length r.script.0 ≡ 32
-  pub next : link_number r.next < 2 ^ 32
-  pub last : link_number r.last < 2 ^ 32
-  pub entries : r.entries < 2 ^ 32
+  pub next : link_number r.next < number_limit
+  pub last : link_number r.last < number_limit
+  pub entries : r.entries < number_limit
   pub balance : r.balance < 2 ^ 64
 
 -- an entry: transaction, script, the entry before
@@ -136,6 +141,6 @@ entry_row_bytes r = to_le_bytes w32 r.tx ++ (to_le_bytes w32 r.script ++ (link_b
 
 -- each field fits its bytes
 pub record FitsEntryRow (r : EntryRow) : Type 0 where
-  pub tx : r.tx < 2 ^ 32
-  pub script : r.script < 2 ^ 32
-  pub before : link_number r.before < 2 ^ 32
+  pub tx : r.tx < number_limit
+  pub script : r.script < number_limit
+  pub before : link_number r.before < number_limit

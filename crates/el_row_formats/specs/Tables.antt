@@ -2,7 +2,7 @@
 use Rattle.std.specs.Prelude.{◌+◌, ◌*◌, ℕ, List, [], ◌∷◌, map, get_or, slice_range}
 use Rattle.std.specs.Ordering.{nat_cmp, ordering_then}
 use Rattle.std.specs.declared.cmp.Ordering.{Ordering}
-use Rattle.el_chain.specs.declared.limits.TheConstants.{ROW_LIMIT}
+use Rattle.el_chain.specs.RowCounts.{row_limit}
 use Rattle.el_row_formats.specs.declared.table.Table.{Table}
 use Rattle.el_row_formats.specs.declared.table.Table.TheVariants as table
 use Rattle.el_row_formats.specs.declared.table.RowKey.{RowKey}
@@ -51,9 +51,9 @@ size_of table.Scripts = 52
 size_of table.ScriptHeads = 4
 size_of table.Entries = 12
 
--- how many rows a table may have
+-- how many rows it may have
 abbrev pub limit_of : Table → ℕ
-limit_of t = ROW_LIMIT
+limit_of t = row_limit (number_of t)
 
 -- the key of a row: its table and its number
 abbrev pub key : Table → ℕ → RowKey

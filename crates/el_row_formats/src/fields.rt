@@ -1,7 +1,7 @@
 // Fields of rows: numbers, links and hashes, read from the front of bytes and put into them.
 ghost use Rattle.std.specs.Prelude.{◌≡◌, ◌<◌, ◌≤◌, ◌+◌, ◌^◌, ◌++◌, ◌∷◌, length, take};
 ghost use Rattle.std.specs.Int.{w32, w64, to_le_bytes};
-ghost use Rattle.el_row_formats.specs.RowBytes.{link_number, link_bytes};
+ghost use Rattle.el_row_formats.specs.RowBytes.{number_limit, link_number, link_bytes};
 
 use el_base::Hash32;
 
@@ -42,7 +42,7 @@ pub(crate) fn long_number(bytes: &[u8]) -> (u64, &[u8])
 pub(crate) fn link(bytes: &[u8]) -> (Option<u64>, &[u8])
     requires { 4 ≤ length bytes.now }
     ensures front { bytes.now ≡ link_bytes result.0 ++ result.1.now }
-    ensures fits { link_number result.0 < 2 ^ 32 }
+    ensures fits { link_number result.0 < number_limit }
     ensures rest { length result.1.now + 4 ≡ length bytes.now }
 {
     match number(bytes) {
@@ -80,7 +80,7 @@ pub(crate) fn number_bytes(n: u64) -> [u8; 4]
 
 // The four bytes of a link.
 pub(crate) fn bytes_of_link(link: Option<u64>) -> [u8; 4]
-    requires { link_number link < 2 ^ 32 }
+    requires { link_number link < number_limit }
     ensures { result ≡ link_bytes link }
 {
     match link {

@@ -2,7 +2,7 @@
 ghost use Rattle.std.specs.Prelude.{◌≡◌, ◌<◌, ◌≤◌};
 ghost use Rattle.el_row_formats.specs.Tables.{index_of, number_of, size_of, limit_of, row_cmp};
 
-use el_chain::ROW_LIMIT;
+use el_chain::row_limit;
 use std::cmp::Ordering;
 
 /// How many tables there are.
@@ -85,7 +85,7 @@ impl Table {
     pub fn limit(self) -> u64
         ensures { result ≡ limit_of self }
     {
-        u64::from(ROW_LIMIT)
+        row_limit(self.number())
     }
 }
 

@@ -7,7 +7,7 @@ use Rattle.std.proofs.lemmas.Option.{slice_get-get_or, slice_get_past}
 use Rattle.std.proofs.lemmas.Bool.{cases_eq, eqb-true}
 use Rattle.std.proofs.lemmas.List.Quantifiers.{position-Some}
 use Rattle.el_rows.specs.within.EditedTables.{EditedTable, edited_at, paired, IsWritten}
-use Rattle.el_rows.specs.within.SizedRows.{SizedRows}
+use Rattle.el_rows.specs.SizedRows.{SizedRows}
 use Rattle.el_rows.proofs.EditedLemmas.{eq_true, eq_false, if_true, if_false, lookup_after, lookup_before}
 
 -- the numbers of the pairs

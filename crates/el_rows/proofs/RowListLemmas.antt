@@ -10,9 +10,8 @@ use Rattle.std.proofs.lemmas.Nat.{row_fits, mul-le}
 use Rattle.std.proofs.lemmas.Slice.{between_is, take-put_mid_below, drop-put_mid, between-put_mid}
 use borrow.Rule.Slice.PartMut.{put_mid}
 use Rattle.std.proofs.lemmas.Bool.{cases_lt, cases_eq}
-use Rattle.el_rows.specs.within.InMemory.{HasGrown}
 use Rattle.el_row_formats.specs.Tables.{row_at}
-use Rattle.el_rows.specs.within.SizedRows.{SizedRows, cut_rows}
+use Rattle.el_rows.specs.SizedRows.{SizedRows, cut_rows, HasGrown}
 
 -- how many there are, one of them, and all of them
 module _ (size : ℕ) (bytes : List ℕ) (count : ℕ) where

@@ -64,12 +64,6 @@ pub record OnTable (old new : Tables) (t : Table) (rows : List (List ℕ)) : Typ
   pub here : new t ≡ rows
   pub others : (u : Table) → u ≢ t → new u ≡ old u
 
--- each table has so many rows now, the first of which are those that it had
-pub record IsResized (counts : List ℕ) (old new : Tables) : Type 0 where
-  pub long : (t : Table) → length (new t) ≡ count_at counts t
-  pub first : (t : Table) (i : ℕ) → i < length (old t) → i < count_at counts t
-      → get_or (new t) i [] ≡ get_or (old t) i []
-
 -- a changed row, where it is shown under these counts
 abbrev pub shown_at : List ℕ → Changes → Table → ℕ → Option (List ℕ)
 shown_at counts changes t i = cond (nat_lt i (count_at counts t)) (changed_at changes t i) None

@@ -1,4 +1,5 @@
 pub mod Changes
 pub mod Reads
+pub mod SizedRows
 pub mod Transaction
 pub mod within

@@ -1,5 +1,5 @@
 -- What calls of rows alone leave as it was.
-use Rattle.std.specs.Prelude.{◌≡◌, ◌⊎◌, ℕ, List}
+use Rattle.std.specs.Prelude.{◌≡◌, ◌⊎◌, ℕ}
 use Rattle.el_outside.specs.Moments.{LeavesNoMore}
 use Rattle.el_row_formats.specs.declared.table.Table.{Table}
 use Rattle.el_row_formats.specs.Tables.{Tables}
@@ -20,8 +20,3 @@ pub record OnlyRead {R C : Type 0} (lists : R → Tables) (counts : R → Table 
   pub count : counts new ≡ counts old
   pub live : is_live new
   pub crash : tells_crash → LeavesNoMore moment left_since old new
-
--- what contracts see of a store in memory: the rows of its tables, and how many were read
-pub record CountedRows : Type 0 where
-  pub rows : List (List (List ℕ))
-  pub reads : ℕ

@@ -10,8 +10,6 @@ mod rows;
 mod sealed;
 mod shown_rows;
 mod table_edits;
-mod vec_rows;
-mod versioned_rows;
 
 pub use edits::{Edits, Layer};
 pub use el_row_formats::{
@@ -19,7 +17,6 @@ pub use el_row_formats::{
 };
 pub use faults::{AppendFault, CommitFault};
 pub use open::{Open, Txn};
+pub use row_list::RowList;
 pub use rows::Rows;
 pub use sealed::{Run, Sealed};
-pub use vec_rows::VecRows;
-pub use versioned_rows::VersionedRows;

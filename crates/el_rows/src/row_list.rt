@@ -1,7 +1,7 @@
 // The rows of one table, in memory.
 ghost use Rattle.std.specs.Prelude.{◌≡◌, ◌<◌, ◌≤◌, ◌+◌, ◌-◌, ◌*◌, ℕ, List, [], ◌∷◌, ◌++◌, length, get_or, slice_set, OnOk, OnErr, IfOk};
 ghost use Rattle.el_row_formats.specs.Tables.{row_at};
-ghost use Rattle.el_rows.specs.within.InMemory.{HasGrown};
+ghost use Rattle.el_rows.specs.SizedRows.{HasGrown};
 
 use el_base::OutOfMemory;
 use std::alloc::Global;
@@ -44,7 +44,7 @@ fn add_zeros(bytes: &mut Vec<u8>, n: usize) -> Result<(), OutOfMemory>
 
 /// Rows of one size, in order, one after another in one piece of memory.
 #[derive(Drop)]
-pub(crate) struct RowList {
+pub struct RowList {
     bytes: Vec<u8>,
     size: usize,
     count: usize,
@@ -52,7 +52,7 @@ pub(crate) struct RowList {
 
 impl Model for RowList {
     ghost use Rattle.std.specs.Prelude.{◌≡◌, ◌*◌, length};
-    ghost use Rattle.el_rows.specs.within.SizedRows.{SizedRows, cut_rows};
+    ghost use Rattle.el_rows.specs.SizedRows.{SizedRows, cut_rows};
 
     ghost Value = { SizedRows };
 
@@ -63,7 +63,7 @@ impl Model for RowList {
 
 impl RowList {
     /// No rows, of this size. Takes no memory.
-    pub(crate) fn new(alloc: Global, size: usize) -> RowList
+    pub fn new(alloc: Global, size: usize) -> RowList
         ensures { result ≡ record { size = size; rows = [] } }
     {
         RowList {
@@ -74,14 +74,14 @@ impl RowList {
     }
 
     /// How many rows there are.
-    pub(crate) fn len(&self) -> usize
+    pub fn len(&self) -> usize
         ensures { result ≡ length self.now.rows }
     {
         self.count
     }
 
     /// A row, to read.
-    pub(crate) fn row(&self, i: usize) -> &[u8]
+    pub fn row(&self, i: usize) -> &[u8]
         requires { i < length self.now.rows }
         ensures row { result.now ≡ get_or self.now.rows i [] }
         ensures sized { length result.now ≡ self.now.size }
@@ -91,7 +91,7 @@ impl RowList {
     }
 
     /// The bytes of the rows from one place to another, one after another.
-    pub(crate) fn between(&self, from: usize, to: usize) -> &[u8]
+    pub fn between(&self, from: usize, to: usize) -> &[u8]
         requires rising { from ≤ to }
         requires within { to ≤ length self.now.rows }
         ensures long { length result.now ≡ (to - from) * self.now.size }
@@ -102,7 +102,7 @@ impl RowList {
     }
 
     /// Writes over a row, in place.
-    pub(crate) fn write(&mut self, i: usize, bytes: &[u8])
+    pub fn write(&mut self, i: usize, bytes: &[u8])
         requires within { i < length self.old.rows }
         requires sized { length bytes.now ≡ self.old.size }
         ensures { self.new ≡ record { size = self.old.size; rows = slice_set self.old.rows i bytes.now } }
@@ -112,7 +112,7 @@ impl RowList {
     }
 
     /// Adds a row at the end. Fails only where memory runs out, and then changes nothing.
-    pub(crate) fn push(&mut self, bytes: &[u8]) -> Result<(), OutOfMemory>
+    pub fn push(&mut self, bytes: &[u8]) -> Result<(), OutOfMemory>
         requires sized { length bytes.now ≡ self.old.size }
         ensures ok { OnOk result
             (self.new ≡ record { size = self.old.size; rows = self.old.rows ++ bytes.now ∷ [] }) }
@@ -127,7 +127,7 @@ impl RowList {
     }
 
     /// Adds rows of zeros until there are n. Fails only where memory runs out.
-    pub(crate) fn grow(&mut self, n: usize) -> Result<(), OutOfMemory>
+    pub fn grow(&mut self, n: usize) -> Result<(), OutOfMemory>
         ensures grown { HasGrown self.old.size self.old.rows self.new.rows }
         ensures size { self.new.size ≡ self.old.size }
         ensures enough { OnOk result (n ≤ length self.new.rows) }
@@ -145,7 +145,7 @@ impl RowList {
     }
 
     /// A copy of all rows.
-    pub(crate) fn copy(&self, alloc: Global) -> Result<RowList, OutOfMemory>
+    pub fn copy(&self, alloc: Global) -> Result<RowList, OutOfMemory>
         ensures { IfOk result (λ l. l ≡ self.now) }
     {
         let bytes = Vec::from_slice(alloc, self.bytes.as_slice())?;

@@ -98,7 +98,7 @@ impl Sealed {
     }
 
     /// How many rows each table is to have, by its index.
-    pub(crate) fn counts(&self) -> &[u64; TABLES]
+    pub fn counts(&self) -> &[u64; TABLES]
         ensures { result.now ≡ self.now.counts }
     {
         self.edits.counts()

@@ -6,7 +6,7 @@ use Rattle.el_base.specs.declared.hash.Hash32.{Hash32}
 use Rattle.el_chain.specs.Chains.{zero_hash}
 use Rattle.el_chain.specs.Faults.{full}
 use Rattle.el_chain.specs.Headers.{same_hash}
-use Rattle.el_chain.specs.RowCounts.{has_script}
+use Rattle.el_chain.specs.RowCounts.{row_limit, has_script}
 use Rattle.el_chain.specs.declared.fault.ConnectFault.{ConnectFault}
 use Rattle.el_chain.specs.declared.fault.ConnectFault.TheVariants as connect
 use Rattle.el_tables.specs.ChainLists.{ListedBlock}
@@ -17,6 +17,7 @@ use Rattle.el_tables.proofs.FitLemmas.{new_has_no_entry, script_found}
 use Rattle.el_tables.proofs.ScriptEdits.{touch_new}
 use Rattle.el_tables.proofs.Scripts.{hash_from, hash_gives, number_at}
 use Rattle.el_row_formats.specs.Tables as held
+use Rattle.el_row_formats.specs.Tables.{limit_of}
 use Rattle.el_row_formats.specs.declared.table.Table.TheVariants as table
 use Rattle.el_buckets.specs.Faults.{NotAdded}
 use Rattle.el_schema.specs.Rows.{Hold}
@@ -69,11 +70,11 @@ newest_hash s ss n once some =
 
 -- 2. Tables at their limit
 
-full_none : (k n : ℕ) → n ≤ 4294967295 → full k n ≡ None
-full_none k n le = let few = le-ltb 4294967295 n le in rw few refl
+full_none : (k n : ℕ) → n ≤ row_limit k → full k n ≡ None
+full_none k n le = let few = le-ltb (row_limit k) n le in rw few refl
 
-full_some : (k n : ℕ) → n ≡ 4294967296 → full k n ≡ Some (connect.Full k 4294967295)
-full_some k n at = let many = lt-ltb 4294967295 n (omega arith) in rw many refl
+full_some : (k n : ℕ) → n ≡ row_limit k + 1 → full k n ≡ Some (connect.Full k (row_limit k))
+full_some k n at = let many = lt-ltb (row_limit k) n (omega arith) in rw many refl
 
 same_fault : (e : ConnectFault) (a b t rows : ℕ) → e ≡ connect.Full a b → e ≡ connect.Full t rows → Some (connect.Full a b) ≡ Some (connect.Full t rows)
 same_fault e a b t rows x y = ap (λ (f : ConnectFault). Some f) (sym x ∙ y)
@@ -83,7 +84,7 @@ not_memory e t rows x y = let both : connect.Memory ≡ connect.Full t rows = sy
 
 -- where all tables are within their limits after the step, none was full
 pub room_left : (counts : HeadCounts) (bs : List ListedBlock) (s : Hash32) (tx : ℕ) (l : Lists) (new : held.Tables) → Hold counts bs (add_entry s tx l) new
-    → length (new table.Scripts) ≤ 4294967295 → length (new table.Entries) ≤ 4294967295 → touch_full s tx l ≡ None
+    → length (new table.Scripts) ≤ limit_of table.Scripts → length (new table.Entries) ≤ limit_of table.Entries → touch_full s tx l ≡ None
 room_left counts bs s tx l new hold a b =
     let m = add_entry s tx l in
     let c = many_scripts counts bs m new hold in
@@ -92,7 +93,7 @@ room_left counts bs s tx l new hold a b =
 
 -- nor was one where a script that is there has an entry more
 pub room_known : (counts : HeadCounts) (bs : List ListedBlock) (s : Hash32) (tx : ℕ) (l : Lists) (old : held.Tables) → Hold counts bs l old → has_script s l.scripts ≡ true
-    → length (old table.Scripts) ≤ 4294967295 → length (old table.Entries) < 4294967295 → touch_full s tx l ≡ None
+    → length (old table.Scripts) ≤ limit_of table.Scripts → length (old table.Entries) < limit_of table.Entries → touch_full s tx l ≡ None
 room_known counts bs s tx l old hold known few room =
     let c = many_scripts counts bs l old hold in
     let d = many_entries counts bs l old hold in
@@ -116,12 +117,12 @@ full_new counts bs s tx l old e t rows hold fits fresh fault is =
     let added = touch_new l s tx fresh (new_has_no_entry l.scripts l.entries fits.numbered) in
     let more_scripts : length (add_entry s tx l).scripts ≡ length l.scripts + 1 = ap (λ (m : Lists). length m.scripts) added ∙ length-append l.scripts (s ∷ []) in
     let more_entries : length (add_entry s tx l).entries ≡ length l.entries + 1 = ap (λ (m : Lists). length m.entries) added ∙ length-append l.entries (record { tx = tx; script = length l.scripts } ∷ []) in
-    let entries_part : NotAdded table.Entries (length (old table.Entries)) e → length (old table.Scripts) < 4294967295 → touch_full s tx l ≡ Some (connect.Full t rows) =
+    let entries_part : NotAdded table.Entries (length (old table.Entries)) e → length (old table.Scripts) < limit_of table.Scripts → touch_full s tx l ≡ Some (connect.Full t rows) =
     λ why few. elim why [
       | inl entries ↦
           let at = entries.0 in
           ap₂ (λ (x y : Option ConnectFault). option_or x y) (full_none 6 (length (add_entry s tx l).scripts) (omega arith)) (full_some 8 (length (add_entry s tx l).entries) (omega arith))
-          ∙ same_fault e 8 4294967295 t rows entries.1 is
+          ∙ same_fault e 8 (row_limit 8) t rows entries.1 is
       | inr memory ↦ absurd (not_memory e t rows memory.1 is)
     ] in
     elim fault [
@@ -129,7 +130,7 @@ full_new counts bs s tx l old e t rows hold fits fresh fault is =
         | inl scripts ↦
             let at = scripts.0 in
             ap (λ (x : Option ConnectFault). option_or x (full 8 (length (add_entry s tx l).entries))) (full_some 6 (length (add_entry s tx l).scripts) (omega arith))
-            ∙ same_fault e 6 4294967295 t rows scripts.1 is
+            ∙ same_fault e 6 (row_limit 6) t rows scripts.1 is
         | inr memory ↦ absurd (not_memory e t rows memory.1 is)
       ]
       | inr rest ↦ entries_part rest.1 rest.0
@@ -137,7 +138,7 @@ full_new counts bs s tx l old e t rows hold fits fresh fault is =
 
 -- another entry of a script that is there has no place
 pub full_known : (counts : HeadCounts) (bs : List ListedBlock) (s : Hash32) (n tx : ℕ) (l : Lists) (old : held.Tables) (e : ConnectFault) (t rows : ℕ) → Hold counts bs l old
-    → has_script s l.scripts ≡ true → n ≡ script_number s l.scripts → is_tx tx (last_tx_of n l.entries) ≡ false → length (old table.Scripts) ≤ 4294967295
+    → has_script s l.scripts ≡ true → n ≡ script_number s l.scripts → is_tx tx (last_tx_of n l.entries) ≡ false → length (old table.Scripts) ≤ limit_of table.Scripts
     → IsEntryFault old e → e ≡ connect.Full t rows → touch_full s tx l ≡ Some (connect.Full t rows)
 full_known counts bs s n tx l old e t rows hold known n_is fresh few fault is =
     let c = many_scripts counts bs l old hold in
@@ -150,6 +151,6 @@ full_known counts bs s n tx l old e t rows hold known n_is fresh few fault is =
       | inl entries ↦
           let at = entries.0 in
           ap₂ (λ (x y : Option ConnectFault). option_or x y) (full_none 6 (length (add_entry s tx l).scripts) (omega arith)) (full_some 8 (length (add_entry s tx l).entries) (omega arith))
-          ∙ same_fault e 8 4294967295 t rows entries.1 is
+          ∙ same_fault e 8 (row_limit 8) t rows entries.1 is
       | inr memory ↦ absurd (not_memory e t rows memory.1 is)
     ]

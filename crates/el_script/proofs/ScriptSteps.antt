@@ -22,7 +22,8 @@ use Rattle.el_row_formats.specs.declared.table.Table.{Table}
 use Rattle.el_row_formats.specs.declared.table.Table.TheVariants as table
 use Rattle.el_row_formats.specs.declared.script_row.ScriptRow.{ScriptRow}
 use Rattle.el_row_formats.specs.declared.entry_row.EntryRow.{EntryRow}
-use Rattle.el_row_formats.specs.RowBytes.{script_row_bytes, head_row_bytes, entry_row_bytes, link_bytes, link_number, FitsScriptRow, FitsHeadRow, FitsEntryRow}
+use Rattle.el_row_formats.specs.declared.limits.TheConstants.{MAX_NUMBER}
+use Rattle.el_row_formats.specs.RowBytes.{number_limit, script_row_bytes, head_row_bytes, entry_row_bytes, link_bytes, link_number, FitsScriptRow, FitsHeadRow, FitsEntryRow}
 use Rattle.el_schema.specs.Rows.{Hold, Encode, bytes_of, script_fields, head_fields, entry_fields}
 use Rattle.el_buckets.specs.Buckets.{Popped, bucket_head, below}
 use Rattle.el_buckets.specs.declared.bucket.Buckets.TheVariants as buckets
@@ -228,7 +229,7 @@ module _ (counts : HeadCounts) (bs : List ListedBlock) (l : Lists) (old : held.T
         let entry : typed.EntryRow = record { listed = record { tx = tx; script = length T.scripts }; before = None } in
         let row_same : first_row s next (length (old table.Entries)) ≡ script_fields row = ap₂ (λ (o : Option ℕ) (n : ℕ). first_row s o n) head long_entries in
         let entry_same : new_entry tx (length (old table.Scripts)) None ≡ entry_fields entry = ap (λ (n : ℕ). new_entry tx n None) long_scripts in
-        let link : link_number (Some (length T.scripts)) < 2 ^ 32 = (let few = more.few_scripts in let long = long_scripts in omega arith) in
+        let link : link_number (Some (length T.scripts)) < number_limit = (let few = more.few_scripts in let long = long_scripts in omega arith) in
         made (add_entry s tx l) (T.scripts ++ row ∷ []) (edit.set_head s (Some (length T.scripts)) T.script_heads) (T.entries ++ entry ∷ [])
         (touch_new_fits counts bs l s tx fits some fresh)
         (bytes_more script_bytes T.scripts row (old table.Scripts) (new table.Scripts) _ (hold.each table.Scripts) (ap script_row_bytes row_same) more.scripts)
@@ -254,7 +255,7 @@ module _ (counts : HeadCounts) (bs : List ListedBlock) (l : Lists) (old : held.T
         subst (λ (k : ℕ). k ≤ length l.entries) (ap (λ (x : typed.ScriptRow). x.entries) (sym (row_is n lt))) (filter_few (is_of_script n) l.entries) in
         let many = many_entries in
         let long = long_entries in
-        let counted : min (r.entries + 1) 4294967295 ≡ r.entries + 1 = omega arith in
+        let counted : min (r.entries + 1) MAX_NUMBER ≡ r.entries + 1 = omega arith in
         let row_same : entered_row (length (old table.Entries)) row ≡ script_fields (edit.entered at r) =
         ap (entered_row (length (old table.Entries))) (sym (script_read n row lt_rows only))
         ∙ ap₂ (λ (a k : ℕ). record (script_fields r) { last = Some a; entries = k }) long_entries counted in

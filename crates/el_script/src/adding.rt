@@ -1,6 +1,6 @@
 // A script or an entry more.
-ghost use Rattle.std.specs.Prelude.{◌≡◌, ◌<◌, ◌≤◌, ◌+◌, ◌⊎◌, ◌^◌, ℕ, length, OnOk, IfErr};
-ghost use Rattle.el_row_formats.specs.RowBytes.{link_number, FitsScriptRow};
+ghost use Rattle.std.specs.Prelude.{◌≡◌, ◌<◌, ◌≤◌, ◌+◌, ◌⊎◌, ℕ, length, OnOk, IfErr};
+ghost use Rattle.el_row_formats.specs.RowBytes.{number_limit, link_number, FitsScriptRow};
 ghost use Rattle.el_row_formats.specs.Tables.{limit_of, number_of};
 ghost use Rattle.el_rows.specs.Transaction.{tables_in, EditsAlone};
 ghost use Rattle.el_row_formats.specs.declared.table.Table.{Table};
@@ -10,7 +10,7 @@ use crate::row::{append_entry, put_script};
 use el_base::Hash32;
 use el_buckets::{Buckets, push};
 use el_chain::ConnectFault;
-use el_row_formats::{EntryRow, ScriptRow, Table};
+use el_row_formats::{EntryRow, MAX_NUMBER, ScriptRow, Table};
 use el_rows::{Rows, Txn};
 
 // The table is full.
@@ -30,8 +30,8 @@ pub(crate) fn add_script<R: Rows>(
     next: Option<u64>,
     tx: u64,
 ) -> Result<(), ConnectFault>
-    requires tx { tx < 2 ^ 32 }
-    requires next { link_number next < 2 ^ 32 }
+    requires tx { tx < number_limit }
+    requires next { link_number next < number_limit }
     ensures added { OnOk result (ScriptMore s.now next tx (tables_in t.old) (tables_in t.new)) }
     ensures others { ThreeStay (tables_in t.old) (tables_in t.new) }
     ensures fault { IfErr result (λ e. IsScriptFault (tables_in t.old) e) }
@@ -70,10 +70,10 @@ pub(crate) fn add_known<R: Rows>(
     tx: u64,
 ) -> Result<(), ConnectFault>
     requires below { script < length (tables_in t.old Table.Scripts) }
-    requires few { script < 2 ^ 32 }
+    requires few { script < number_limit }
     requires fits { FitsScriptRow row.now }
-    requires before { link_number before < 2 ^ 32 }
-    requires tx { tx < 2 ^ 32 }
+    requires before { link_number before < number_limit }
+    requires tx { tx < number_limit }
     ensures added { OnOk result (EntryMore script row.now before tx (tables_in t.old) (tables_in t.new)) }
     ensures others { ThreeStay (tables_in t.old) (tables_in t.new) }
     ensures fault { IfErr result (λ e. IsEntryFault (tables_in t.old) e) }
@@ -82,7 +82,7 @@ pub(crate) fn add_known<R: Rows>(
     let last = append_entry(t, &EntryRow { tx, script, before })?;
     let entered = ScriptRow {
         last: Some(last),
-        entries: (row.entries + 1).min(u64::from(u32::MAX)),
+        entries: (row.entries + 1).min(MAX_NUMBER),
         ..*row
     };
     put_script(t, script, &entered)?;

@@ -1,7 +1,7 @@
 // An entry less.
-ghost use Rattle.std.specs.Prelude.{◌≡◌, ◌≢◌, ◌<◌, ◌≤◌, ◌+◌, ◌-◌, ◌^◌, [], ℕ, List, length, get_or, slice_set, ◌⊎◌, OnOk, OnErr, IfErr, IsOk};
+ghost use Rattle.std.specs.Prelude.{◌≡◌, ◌≢◌, ◌<◌, ◌≤◌, ◌+◌, ◌-◌, [], ℕ, List, length, get_or, slice_set, ◌⊎◌, OnOk, OnErr, IfErr, IsOk};
 ghost use Rattle.el_rows.specs.Changes.{OnTable};
-ghost use Rattle.el_row_formats.specs.RowBytes.{script_row_bytes, FitsScriptRow};
+ghost use Rattle.el_row_formats.specs.RowBytes.{number_limit, script_row_bytes, FitsScriptRow};
 ghost use Rattle.el_rows.specs.Transaction.{tables_in, reads_in, EditsRows};
 ghost use Rattle.el_row_formats.specs.declared.script_row.ScriptRow as script_shape;
 ghost use Rattle.el_row_formats.specs.declared.table.Table.{Table};
@@ -25,7 +25,7 @@ use el_schema::{entry_row, script_row};
 // away. After a fault nothing has changed.
 fn leave_entry<R: Rows>(t: &mut Txn<'_, R>, script: u64, before: u64) -> Result<(), ConnectFault>
     requires live { R.is_live t.old.rows.now }
-    requires before { before + 1 < 2 ^ 32 }
+    requires before { before + 1 < number_limit }
     ensures left { R.tells → script < length (tables_in t.old Table.Scripts)
         → (r : script_shape.ScriptRow) → FitsScriptRow r
         → script_row_bytes r ≡ get_or (tables_in t.old Table.Scripts) script []

@@ -1,9 +1,10 @@
 // A transaction of a script.
-ghost use Rattle.std.specs.Prelude.{◌≡◌, ◌≢◌, ◌⊎◌, ◌<◌, ◌≤◌, ◌+◌, ◌^◌, ℕ, List, length, get_or, OnOk, IfOk, IfErr, Err, Some, None, true};
+ghost use Rattle.std.specs.Prelude.{◌≡◌, ◌≢◌, ◌⊎◌, ◌<◌, ◌≤◌, ◌+◌, ℕ, List, length, get_or, OnOk, IfOk, IfErr, Err, Some, None, true};
 ghost use Rattle.std.specs.Option.{ForSome};
 ghost use Rattle.el_chain.specs.Chains.{zero_hash};
 ghost use Rattle.el_rows.specs.Transaction.{tables_in, reads_in, ReadsRows, EditsRows};
 ghost use Rattle.el_row_formats.specs.declared.table.Table.{Table};
+ghost use Rattle.el_row_formats.specs.RowBytes.{number_limit};
 ghost use Rattle.el_tables.specs.ChainLists.{ListedBlock};
 ghost use Rattle.el_tables.specs.Edits.{tx_of_last};
 ghost use Rattle.el_tables.specs.Fits.{Fits};
@@ -52,7 +53,7 @@ fn is_entry_of<R: Rows>(
 pub fn touch_number<R: Rows>(t: &mut Txn<'_, R>, script: u64, tx: u64) -> Result<(), ConnectFault>
     requires live { R.is_live t.old.rows.now }
     requires below { script < length (tables_in t.old Table.Scripts) }
-    requires tx { tx < 2 ^ 32 }
+    requires tx { tx < number_limit }
     // It is the step of the lists with the script hash of that number, on all tables.
     ensures lists { (counts : HeadCounts) (bs : List ListedBlock) (l : Lists) → R.tells
         → Hold counts bs l (tables_in t.old) → Fits l
@@ -91,7 +92,7 @@ pub fn touch_number<R: Rows>(t: &mut Txn<'_, R>, script: u64, tx: u64) -> Result
 /// may hold a part.
 pub fn touch<R: Rows>(t: &mut Txn<'_, R>, s: &Hash32, tx: u64) -> Result<u64, ConnectFault>
     requires live { R.is_live t.old.rows.now }
-    requires tx { tx < 2 ^ 32 }
+    requires tx { tx < number_limit }
     // It is the step of the lists, on all tables.
     ensures lists { (counts : HeadCounts) (bs : List ListedBlock) (l : Lists) → R.tells
         → Hold counts bs l (tables_in t.old) → Fits l → 0 < counts.scripts

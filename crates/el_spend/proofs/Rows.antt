@@ -6,7 +6,7 @@ use Rattle.el_tables.specs.Lists.{ListedOut}
 use Rattle.el_tables.specs.Tables as typed
 use Rattle.el_rows.specs.Changes.{OnTable}
 use Rattle.el_row_formats.specs.Tables as held
-use Rattle.el_row_formats.specs.RowBytes.{out_row_bytes, in_row_bytes, FitsOutRow, FitsInRow}
+use Rattle.el_row_formats.specs.RowBytes.{number_limit, out_row_bytes, in_row_bytes, FitsOutRow, FitsInRow}
 use Rattle.el_row_formats.specs.declared.table.Table.TheVariants as table
 use Rattle.el_schema.specs.Rows.{Encode, out_fields, in_fields}
 use Rattle.el_schema.proofs.Held.{all_more, all_but_last, but_last_at}
@@ -29,7 +29,7 @@ module _ (old new : held.Tables) (tb : typed.Tables) (same : Encode old tb) wher
       (all_but_last (λ y. FitsOutRow (out_fields y)) tb.outs same.fit.outs)
 
   -- one input more, and one less
-  pub in_more : (k : ℕ) → OnTable old new table.Ins (old table.Ins ++ in_row_bytes (in_fields k) ∷ []) → k < 2 ^ 32 → Encode new (in_appended k tb)
+  pub in_more : (k : ℕ) → OnTable old new table.Ins (old table.Ins ++ in_row_bytes (in_fields k) ∷ []) → k < number_limit → Encode new (in_appended k tb)
   in_more k on fits =
       let f : ℕ → List ℕ = λ y. in_row_bytes (in_fields y) in
       on_ins old new tb same (tb.ins ++ k ∷ []) on.others (on.here ∙ ap (λ (rows : List (List ℕ)). rows ++ f k ∷ []) (same.each table.Ins) ∙ sym (map-append f tb.ins (k ∷ [])))

@@ -18,7 +18,7 @@ use Rattle.el_tables.proofs.RowLists.{rows_at, length_rows}
 use Rattle.el_tables.proofs.Sums.{balance_more, value_at}
 use Rattle.el_rows.specs.Changes.{OnTable}
 use Rattle.el_row_formats.specs.Tables as held_tables
-use Rattle.el_row_formats.specs.RowBytes.{script_row_bytes, out_row_bytes, state_by, FitsScriptRow, FitsOutRow}
+use Rattle.el_row_formats.specs.RowBytes.{number_limit, script_row_bytes, out_row_bytes, state_by, FitsScriptRow, FitsOutRow}
 use Rattle.el_row_formats.specs.Tables.{limit_of}
 use Rattle.el_row_formats.specs.declared.table.Table.{Table}
 use Rattle.el_row_formats.specs.declared.table.Table.TheVariants as table
@@ -80,7 +80,7 @@ module _ (old new : held_tables.Tables) (tb : typed.Tables) (same : Encode old t
 
   -- 2. States
 
-  pub state_put : (k : ℕ) (row : OutRow) (state : out_state.State) (s : State) → IsOutRow tb k row → FitsOutRow row → state_by state < 2 ^ 32 → state ≡ state_fields s
+  pub state_put : (k : ℕ) (row : OutRow) (state : out_state.State) (s : State) → IsOutRow tb k row → FitsOutRow row → state_by state < number_limit → state ≡ state_fields s
       → OnTable old new table.Outs (set (old table.Outs) k (out_row_bytes (record row { state = state })))
       → Encode new (state_changed s k tb)
   state_put k row state s is fits few state_is on =

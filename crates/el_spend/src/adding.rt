@@ -1,7 +1,7 @@
 // An output more.
-ghost use Rattle.std.specs.Prelude.{◌≡◌, ◌≢◌, ◌⊎◌, ◌<◌, ◌≤◌, ◌+◌, ◌^◌, ℕ, List, length, take, OnOk, IfOk, IfErr, None, option_map};
+ghost use Rattle.std.specs.Prelude.{◌≡◌, ◌≢◌, ◌⊎◌, ◌<◌, ◌≤◌, ◌+◌, ℕ, List, length, take, OnOk, IfOk, IfErr, None, option_map};
 ghost use Rattle.std.specs.Option.{ForSome};
-ghost use Rattle.el_row_formats.specs.RowBytes.{FitsOutRow};
+ghost use Rattle.el_row_formats.specs.RowBytes.{number_limit, FitsOutRow};
 ghost use Rattle.el_row_formats.specs.Tables.{limit_of};
 ghost use Rattle.el_rows.specs.Transaction.{tables_in, reads_in, disk_failed, ReadsRows, EditsRows, EditsAlone};
 ghost use Rattle.el_row_formats.specs.declared.table.Table.{Table};
@@ -84,8 +84,8 @@ fn append_output<R: Rows>(
     value: u64,
     script: u64,
 ) -> Result<u64, ConnectFault>
-    requires tx { tx < 2 ^ 32 }
-    requires script { script < 2 ^ 32 }
+    requires tx { tx < number_limit }
+    requires script { script < number_limit }
     ensures appended { (tb : typed.Tables) → Encode (tables_in t.old) tb
         → OnOk result (Encode (tables_in t.new) (out_appended (edit.new_out tx value script) tb)) }
     ensures number { IfOk result (λ n. n ≡ length (tables_in t.old Table.Outs)) }
@@ -118,7 +118,7 @@ fn bury<R: Rows>(
     replaced: Option<NamedOutput>,
 ) -> Result<(), ConnectFault>
     requires live { R.is_live t.old.rows.now }
-    requires tx { tx < 2 ^ 32 }
+    requires tx { tx < number_limit }
     requires below { ForSome replaced (λ x. x.number < length (tables_in t.old Table.Outs)) }
     requires fits { ForSome replaced (λ x. FitsOutRow x.row) }
     ensures buried { (tb : typed.Tables) → R.tells → Encode (tables_in t.old) tb
@@ -149,9 +149,9 @@ pub fn add_out<R: Rows>(
     script: u64,
 ) -> Result<(), ConnectFault>
     requires live { R.is_live t.old.rows.now }
-    requires tx { tx < 2 ^ 32 }
+    requires tx { tx < number_limit }
     requires script { script < length (tables_in t.old Table.Scripts) }
-    requires script_fits { script < 2 ^ 32 }
+    requires script_fits { script < number_limit }
     // It is the step of the lists, on all tables, where the balances after it fit.
     ensures lists { (counts : HeadCounts) (bs : List ListedBlock) (l : lists.Lists) → R.tells
         → Hold counts bs l (tables_in t.old) → 0 < counts.txs

@@ -1,7 +1,7 @@
 // Outputs that become unspent, or are no longer.
 ghost use Rattle.std.specs.Prelude.{◌≡◌, ◌≢◌, ◌⊎◌, ◌<◌, ◌≤◌, ◌+◌, ◌^◌, length, slice_set, OnOk, OnErr, IfErr};
 ghost use Rattle.el_rows.specs.Changes.{OnTable};
-ghost use Rattle.el_row_formats.specs.RowBytes.{out_row_bytes, state_by, FitsOutRow};
+ghost use Rattle.el_row_formats.specs.RowBytes.{number_limit, out_row_bytes, state_by, FitsOutRow};
 ghost use Rattle.el_rows.specs.Transaction.{tables_in, reads_in, EditsRows, EditsAlone};
 ghost use Rattle.el_row_formats.specs.declared.table.Table.{Table};
 ghost use Rattle.el_tables.specs.Edits as edit;
@@ -25,7 +25,7 @@ fn put_state<R: Rows>(
 ) -> Result<(), OutOfMemory>
     requires below { output.now.number < length (tables_in t.old Table.Outs) }
     requires fits { FitsOutRow output.now.row }
-    requires by { state_by state < 2 ^ 32 }
+    requires by { state_by state < number_limit }
     ensures changed { (tb : typed.Tables) (s : lists.State) → Encode (tables_in t.old) tb
         → IsOutRow tb output.now.number output.now.row → state ≡ state_fields s
         → OnOk result (Encode (tables_in t.new) (state_changed s output.now.number tb)) }
@@ -52,7 +52,7 @@ pub(crate) fn take_coin<R: Rows>(
     requires live { R.is_live t.old.rows.now }
     requires below { coin.now.number < length (tables_in t.old Table.Outs) }
     requires fits { FitsOutRow coin.now.row }
-    requires by { state_by state < 2 ^ 32 }
+    requires by { state_by state < number_limit }
     ensures taken { (tb : typed.Tables) (s : lists.State) → R.tells → Encode (tables_in t.old) tb
         → IsOutRow tb coin.now.number coin.now.row → state ≡ state_fields s
         → OnOk result (Encode (tables_in t.new) (edit.coin_gone s coin.now.number tb)) }

@@ -1,9 +1,10 @@
 // An input more.
-ghost use Rattle.std.specs.Prelude.{◌≡◌, ◌≢◌, ◌⊎◌, ◌<◌, ◌≤◌, ◌+◌, ◌^◌, ℕ, List, length, OnOk, IfOk, IfErr, IsSome, None, unwrap_or};
+ghost use Rattle.std.specs.Prelude.{◌≡◌, ◌≢◌, ◌⊎◌, ◌<◌, ◌≤◌, ◌+◌, ℕ, List, length, OnOk, IfOk, IfErr, IsSome, None, unwrap_or};
 ghost use Rattle.std.specs.Option.{ForSome};
 ghost use Rattle.el_row_formats.specs.Tables.{limit_of};
 ghost use Rattle.el_rows.specs.Transaction.{tables_in, reads_in, EditsRows, EditsAlone};
 ghost use Rattle.el_row_formats.specs.declared.table.Table.{Table};
+ghost use Rattle.el_row_formats.specs.RowBytes.{number_limit};
 ghost use Rattle.el_tables.specs.ChainLists.{ListedBlock};
 ghost use Rattle.el_tables.specs.Lists as lists;
 ghost use Rattle.el_tables.specs.Tables as typed;
@@ -23,7 +24,7 @@ use el_tx::Outpoint;
 
 // Adds an input that spends the output of that number, and answers the input's number.
 fn append_input<R: Rows>(t: &mut Txn<'_, R>, k: u64) -> Result<u64, ConnectFault>
-    requires fits { k < 2 ^ 32 }
+    requires fits { k < number_limit }
     ensures appended { (tb : typed.Tables) → Encode (tables_in t.old) tb
         → OnOk result (Encode (tables_in t.new) (in_appended k tb)) }
     ensures number { IfOk result (λ n. n ≡ length (tables_in t.old Table.Ins)) }
@@ -52,7 +53,7 @@ pub fn spend<R: Rows>(
     by: u64,
 ) -> Result<Option<u64>, ConnectFault>
     requires live { R.is_live t.old.rows.now }
-    requires by { by < 2 ^ 32 }
+    requires by { by < number_limit }
     ensures coin { (counts : HeadCounts) (bs : List ListedBlock) (l : lists.Lists) → R.tells
         → Hold counts bs l (tables_in t.old) → 0 < counts.txs
         → IfOk result (λ k. k ≡ lists.coin_number o.now l.txs l.outs) }

@@ -1,7 +1,7 @@
 // An output less.
-ghost use Rattle.std.specs.Prelude.{◌≡◌, ◌≢◌, ◌⊎◌, ◌<◌, ◌≤◌, ◌+◌, ◌-◌, ◌^◌, ℕ, List, Some, length, OnOk, IfOk, IfErr};
+ghost use Rattle.std.specs.Prelude.{◌≡◌, ◌≢◌, ◌⊎◌, ◌<◌, ◌≤◌, ◌+◌, ◌-◌, ℕ, List, Some, length, OnOk, IfOk, IfErr};
 ghost use Rattle.std.specs.Option.{ForSome};
-ghost use Rattle.el_row_formats.specs.RowBytes.{FitsOutRow};
+ghost use Rattle.el_row_formats.specs.RowBytes.{number_limit, FitsOutRow};
 ghost use Rattle.el_rows.specs.Transaction.{tables_in, reads_in, disk_failed, ReadsRows, EditsRows};
 ghost use Rattle.el_row_formats.specs.declared.table.Table.{Table};
 ghost use Rattle.el_tables.specs.ChainLists.{ListedBlock};
@@ -72,7 +72,7 @@ fn named_before<R: Rows>(
     number: u64,
 ) -> Result<Option<NamedOutput>, DiskFailed>
     requires live { R.is_live t.old.rows.now }
-    requires number { number < 2 ^ 32 }
+    requires number { number < number_limit }
     ensures named { (counts : HeadCounts) (bs : List ListedBlock) (l : lists.Lists) → R.tells
         → Hold counts bs l (tables_in t.old) → 0 < counts.txs
         → IfOk result (λ f. f ≡ named_among (outpoint_at tx number l) tx l) }
@@ -93,7 +93,7 @@ fn named_before<R: Rows>(
 // gone.
 fn unbury<R: Rows>(t: &mut Txn<'_, R>, tx: u64, number: u64) -> Result<(), ConnectFault>
     requires live { R.is_live t.old.rows.now }
-    requires number { number < 2 ^ 32 }
+    requires number { number < number_limit }
     ensures lists { (counts : HeadCounts) (bs : List ListedBlock) (l : lists.Lists) → R.tells
         → Hold counts bs l (tables_in t.old) → 0 < counts.txs → BalancesFit (unburied_lists tx number l).outs
         → OnOk result (Hold counts bs (unburied_lists tx number l) (tables_in t.new)) }

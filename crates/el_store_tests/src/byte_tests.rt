@@ -1,6 +1,6 @@
 // The bytes of rows, written by hand from the layout of the tables.
 ghost use Rattle.std.specs.Prelude.{◌<◌};
-ghost use Rattle.el_row_formats.specs.RowBytes.{FitsHeadRow, state_by};
+ghost use Rattle.el_row_formats.specs.RowBytes.{number_limit, FitsHeadRow, state_by};
 
 use el_base::Hash32;
 use el_outside::Place;
@@ -89,7 +89,7 @@ fn rows_have_their_bytes(rt: HostRuntime) {
 // Whether an output's row of this state is read from its bytes, and has them where its kind is one that is
 // written. The state is told by two numbers: which input, and which kind.
 fn output_has_its_bytes(state: State, by: u8, kind: u8) -> bool
-    requires { state_by state < 4294967296 }
+    requires { state_by state < number_limit }
 {
     let wanted = [
         1, 0, 0, 0, 0, 2, 0, 0, 0, 0, 0, 0, 7, 0, 0, 0, kind, by, 0, 0, 0,

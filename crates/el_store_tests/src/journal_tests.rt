@@ -3,13 +3,13 @@
 
 use crate::disks::{all_fail_from, choosing, disk_with, fails_at, none_fails};
 use el_base::OutOfMemory;
-use el_journal::{EntryFault, JOURNAL, Journal, JournalFault, open_journal};
+use el_journal::{JOURNAL, Journal, JournalFault, open_journal};
 use el_mem_disk::{FailingCalls, MemDisk, Residue, SilentDisk};
 use std::alloc::Global;
 use std::test::Fail;
 
 // Whether the journal has these entries, and no other.
-fn has_entries(journal: &mut Journal<SilentDisk>, wanted: &[&[u8]]) -> Result<bool, EntryFault> {
+fn has_entries(journal: &mut Journal<SilentDisk>, wanted: &[&[u8]]) -> Result<bool, JournalFault> {
     if journal.len() != wanted.len() as u64 {
         return Ok(false);
     }

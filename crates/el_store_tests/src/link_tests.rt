@@ -14,7 +14,7 @@ fn connect(rt: &HostRuntime, port: u16) -> io::Result<TcpStream> {
 }
 
 // What comes next and isn't `Quiet`.
-fn next(link: &mut TcpLink, buf: &mut [u8]) -> Option<Arrival>
+fn next(link: &mut TcpLink<HostRuntime>, buf: &mut [u8]) -> Option<Arrival>
     requires { length buf.old ≡ BUFFER_SIZE }
 {
     for _ in 0..100 {
@@ -28,7 +28,7 @@ fn next(link: &mut TcpLink, buf: &mut [u8]) -> Option<Arrival>
 }
 
 // Whether the peer's bytes come next.
-fn is_next(link: &mut TcpLink, buf: &mut [u8], p: Peer, wanted: &[u8]) -> bool
+fn is_next(link: &mut TcpLink<HostRuntime>, buf: &mut [u8], p: Peer, wanted: &[u8]) -> bool
     requires { length buf.old ≡ BUFFER_SIZE }
 {
     match next(link, buf) {
@@ -53,7 +53,7 @@ fn ends(mut stream: &TcpStream) -> bool {
 // A client that sends no more still gets what it is sent before its end is told.
 fn serves_a_client_to_its_end(
     mut client: TcpStream,
-    link: &mut TcpLink,
+    link: &mut TcpLink<HostRuntime>,
     buf: &mut [u8],
 ) -> io::Result<bool>
     requires { length buf.old ≡ BUFFER_SIZE }
@@ -67,7 +67,7 @@ fn serves_a_client_to_its_end(
 }
 
 // A message stands before a closing, and nothing goes to a closed client.
-fn closes_a_client(client: TcpStream, link: &mut TcpLink, buf: &mut [u8]) -> bool
+fn closes_a_client(client: TcpStream, link: &mut TcpLink<HostRuntime>, buf: &mut [u8]) -> bool
     requires { length buf.old ≡ BUFFER_SIZE }
 {
     let has_come = next(link, buf) == Some(Arrival::Opened(2));
@@ -81,7 +81,7 @@ fn closes_a_client(client: TcpStream, link: &mut TcpLink, buf: &mut [u8]) -> boo
 fn has_one_node(
     mut node: TcpStream,
     second: TcpStream,
-    link: &mut TcpLink,
+    link: &mut TcpLink<HostRuntime>,
     buf: &mut [u8],
 ) -> io::Result<bool>
     requires { length buf.old ≡ BUFFER_SIZE }
@@ -97,7 +97,7 @@ fn has_one_node(
 fn serves_clients(
     rt: &HostRuntime,
     port: u16,
-    link: &mut TcpLink,
+    link: &mut TcpLink<HostRuntime>,
     buf: &mut [u8],
 ) -> io::Result<bool>
     requires { length buf.old ≡ BUFFER_SIZE }
@@ -112,7 +112,7 @@ fn serves_clients(
 fn serves_a_node(
     rt: &HostRuntime,
     port: u16,
-    link: &mut TcpLink,
+    link: &mut TcpLink<HostRuntime>,
     buf: &mut [u8],
 ) -> io::Result<bool>
     requires { length buf.old ≡ BUFFER_SIZE }
@@ -131,7 +131,9 @@ const ANY_PORTS: Ports = Ports {
 #[test]
 fn sockets_bring_what_was_sent(rt: HostRuntime) -> Result<(), Fail> {
     let mut buf = [0u8; BUFFER_SIZE];
-    let mut link = TcpLink::new(&rt, rt.alloc(), ANY_PORTS)?;
+    let mut link = TcpLink::new(rt.clone()?, rt.alloc(), ANY_PORTS, String::new(rt.alloc()))?;
+    // The first call opens the ports, at which nobody is yet.
+    assert!(rt; link.ports().is_err() && link.next(&mut buf) == Ok(Arrival::Quiet));
     let ports = link.ports()?;
     assert!(rt; serves_clients(&rt, ports.clients, &mut link, &mut buf)?);
     assert!(rt; serves_a_node(&rt, ports.node, &mut link, &mut buf)?);

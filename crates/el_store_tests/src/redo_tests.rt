@@ -5,7 +5,8 @@ ghost use Rattle.std.specs.Prelude.{◌≡◌};
 use el_base::{Bytes, OutOfMemory};
 use el_redo::{Mainnet, NetworkMagic, RedoFault, Regtest, Testnet3, apply, redo_body};
 use el_row_formats::Table;
-use el_rows::{Rows, Sealed, Txn, VecRows};
+use el_rows::{Rows, Sealed, Txn};
+use el_vec_rows::VecRows;
 use std::alloc::Global;
 use std::test::Fail;
 

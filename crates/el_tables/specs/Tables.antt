@@ -48,9 +48,9 @@ pub record HeadCounts : Type 0 where
   pub txs : ℕ
   pub scripts : ℕ
 
--- those of the first format of the index
-unfoldable pub format_1 : HeadCounts
-format_1 = record { txs = 65536; scripts = 65536 }
+-- so many each
+abbrev pub in_both : ℕ → HeadCounts
+in_both count = record { txs = count; scripts = count }
 
 -- 2. Links
 
@@ -144,7 +144,7 @@ abbrev pub heads_for : HeadCounts → List ListedBlock → HeadCounts
 heads_for counts [] = record { txs = 0; scripts = 0 }
 heads_for counts (b ∷ bs) = counts
 
--- The tables stand for the chain, in a format with so many heads: the chain is good, and they are the rows of
+-- The tables stand for the chain, in an index with so many heads: the chain is good, and they are the rows of
 -- its blocks and lists. On no blocks they are empty.
 pub record Stands (counts : HeadCounts) (tables : Tables) (chain : Chain) : Type 0 where
   pub good : IsGood chain

@@ -15,7 +15,7 @@ use Rattle.el_row_formats.specs.declared.table.Table.{Table}
 use Rattle.el_row_formats.specs.declared.table.Table.TheVariants as table
 use Rattle.el_schema.specs.Rows.{bytes_of, block_fields}
 use Rattle.el_schema.proofs.Held.{all_but_last, but_last_at}
-use Rattle.el_schema.specs.Standing.{StandFor, heads_in}
+use Rattle.el_schema.specs.Standing.{StandWith, heads_in}
 use Rattle.el_schema.proofs.StandingLemmas.{stands}
 use Rattle.el_undo.specs.within.Undone.{LacksTxs}
 
@@ -24,25 +24,25 @@ blocks_long height first [] cs = refl
 blocks_long height first (b ∷ bs) cs = ap suc (blocks_long (height + 1) (first + length b.block.txs) bs (coins_after_all height b.block.txs cs))
 
 -- how many rows of blocks there are
-rows_long : (old : held.Tables) (chain : Chain) (b : Placed) → LacksTxs old chain b → length (old table.Blocks) ≡ length chain + 1
-rows_long old chain b lacks =
+rows_long : (heads : ℕ) (old : held.Tables) (chain : Chain) (b : Placed) → LacksTxs heads old chain b → length (old table.Blocks) ≡ length chain + 1
+rows_long heads old chain b lacks =
     let same = ap length (lacks.hold.each table.Blocks) ∙ length-map (listed_blocks (chain ++ b ∷ [])) (λ x. block_row_bytes (block_fields x)) in
     let long = blocks_long 0 0 (chain ++ b ∷ []) [] in
     let joined = length-append chain (b ∷ []) in
     omega arith
 
 -- where others are left
-pub dropped_more : (old new : held.Tables) (chain : Chain) (b : Placed) (left : ℕ) → LacksTxs old chain b → length (old table.Blocks) ≡ left + 1 → (left ≡ 0 → ⊥)
-    → OnTable old new table.Blocks (take left (old table.Blocks)) → StandFor new chain
-dropped_more old new [] b left lacks long some on = let many = rows_long old [] b lacks in absurd (some (omega arith))
-dropped_more old new (x ∷ xs) b left lacks long some on =
+pub dropped_more : (heads : ℕ) (old new : held.Tables) (chain : Chain) (b : Placed) (left : ℕ) → LacksTxs heads old chain b → length (old table.Blocks) ≡ left + 1 → (left ≡ 0 → ⊥)
+    → OnTable old new table.Blocks (take left (old table.Blocks)) → StandWith heads new chain
+dropped_more heads old new [] b left lacks long some on = let many = rows_long heads old [] b lacks in absurd (some (omega arith))
+dropped_more heads old new (x ∷ xs) b left lacks long some on =
     let chain = x ∷ xs in
     let bs = listed_blocks (chain ++ b ∷ []) in
     let f : ListedBlock → List ℕ = λ y. block_row_bytes (block_fields y) in
     let count = sym (ap length (lacks.hold.each table.Blocks) ∙ length-map bs f) ∙ long in
     let less = blocks_less chain b in
     let front : take left bs ≡ listed_blocks chain = sym (but_last_at bs left count) ∙ less in
-    stands new chain lacks.good (record {
+    stands heads new chain lacks.some lacks.good (record {
       each = each (on.here ∙ ap (take left) (lacks.hold.each table.Blocks) ∙ take-map f left bs ∙ ap (map f) front);
       fit = record {
         blocks = subst (λ (ys : List ListedBlock). Rattle.std.specs.List.AllByRecursion (λ y. FitsBlockRow (block_fields y)) ys) less (all_but_last (λ y. FitsBlockRow (block_fields y)) bs lacks.hold.fit.blocks);
@@ -57,7 +57,7 @@ dropped_more old new (x ∷ xs) b left lacks long some on =
     })
   where
     each : new table.Blocks ≡ map (λ y. block_row_bytes (block_fields y)) (listed_blocks (x ∷ xs)) → (u : Table)
-        → new u ≡ bytes_of (tables_of (heads_in (x ∷ xs)) (listed_blocks (x ∷ xs)) (lists (x ∷ xs))) u
+        → new u ≡ bytes_of (tables_of (heads_in heads (x ∷ xs)) (listed_blocks (x ∷ xs)) (lists (x ∷ xs))) u
     each here table.Blocks = here
     each here table.Txs = on.others table.Txs (λ q. cc) ∙ lacks.hold.each table.Txs
     each here table.TxHeads = on.others table.TxHeads (λ q. cc) ∙ lacks.hold.each table.TxHeads
@@ -68,16 +68,16 @@ dropped_more old new (x ∷ xs) b left lacks long some on =
     each here table.Entries = on.others table.Entries (λ q. cc) ∙ lacks.hold.each table.Entries
 
 -- where none is left
-pub dropped_all : (old new : held.Tables) (chain : Chain) (b : Placed) (left : ℕ) → LacksTxs old chain b → length (old table.Blocks) ≡ left + 1 → left ≡ 0
-    → new table.Blocks ≡ [] → new table.TxHeads ≡ [] → new table.ScriptHeads ≡ [] → ((u : Table) → u ≢ table.Blocks → u ≢ table.TxHeads → u ≢ table.ScriptHeads → new u ≡ old u) → StandFor new chain
-dropped_all old new (x ∷ xs) b left lacks long none blocks txs scripts others = let many = rows_long old (x ∷ xs) b lacks in absurd (omega arith)
-dropped_all old new [] b left lacks long none blocks txs scripts others =
-    stands new [] lacks.good (record {
+pub dropped_all : (heads : ℕ) (old new : held.Tables) (chain : Chain) (b : Placed) (left : ℕ) → LacksTxs heads old chain b → length (old table.Blocks) ≡ left + 1 → left ≡ 0
+    → new table.Blocks ≡ [] → new table.TxHeads ≡ [] → new table.ScriptHeads ≡ [] → ((u : Table) → u ≢ table.Blocks → u ≢ table.TxHeads → u ≢ table.ScriptHeads → new u ≡ old u) → StandWith heads new chain
+dropped_all heads old new (x ∷ xs) b left lacks long none blocks txs scripts others = let many = rows_long heads old (x ∷ xs) b lacks in absurd (omega arith)
+dropped_all heads old new [] b left lacks long none blocks txs scripts others =
+    stands heads new [] lacks.some lacks.good (record {
       each = each;
       fit = record { blocks = tt; txs = tt; tx_heads = tt; outs = tt; ins = tt; scripts = tt; script_heads = tt; entries = tt };
     })
   where
-    each : (u : Table) → new u ≡ bytes_of (tables_of (heads_in []) (listed_blocks []) (lists [])) u
+    each : (u : Table) → new u ≡ bytes_of (tables_of (heads_in heads []) (listed_blocks []) (lists [])) u
     each table.Blocks = blocks
     each table.Txs = others table.Txs (λ q. cc) (λ q. cc) (λ q. cc) ∙ lacks.hold.each table.Txs
     each table.TxHeads = txs

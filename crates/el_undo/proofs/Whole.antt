@@ -8,7 +8,7 @@ use Rattle.el_tables.specs.ChainLists.{listed_block, lists, listed_blocks}
 use Rattle.el_tables.specs.Disconnecting.{but_last, last, times, take_back_output, unspend, take_back_tx, take_back_entries, disconnect_tx, disconnect_txs, without_output}
 use Rattle.el_tables.specs.Fits.{IsNumbered}
 use Rattle.el_tables.specs.Lists.{ListedTx, ListedOut, Lists, unspent_sum}
-use Rattle.el_tables.specs.Tables.{HeadCounts, format_1}
+use Rattle.el_tables.specs.Tables.{HeadCounts, in_both}
 use Rattle.el_tables.proofs.TakeBack.{last_is}
 use Rattle.el_tables.proofs.UndoneBlocks.{blocks_more, disconnects, good_before}
 use Rattle.el_row_formats.specs.Tables as held
@@ -98,18 +98,18 @@ rows_of_blocks counts l rows chain b hold =
 pub last_block : (chain : Chain) (b : Placed) → last (listed_blocks (chain ++ b ∷ [])) ≡ Some (listed_block (length (lists chain).txs) (unspent_sum (lists (chain ++ b ∷ [])).outs) b)
 last_block chain b = ap last (blocks_more chain b) ∙ last_is (listed_blocks chain) _
 
-pub some_heads : (chain : Chain) (b : Placed) → heads_in (chain ++ b ∷ []) ≡ format_1
-some_heads [] b = refl
-some_heads (x ∷ xs) b = refl
+some_heads : (heads : ℕ) (chain : Chain) (b : Placed) → heads_in heads (chain ++ b ∷ []) ≡ in_both heads
+some_heads heads [] b = refl
+some_heads heads (x ∷ xs) b = refl
 
-pub heads_there : (chain : Chain) (b : Placed) → 0 < (heads_in (chain ++ b ∷ [])).txs
-unfolding format_1
-heads_there chain b = let e = some_heads chain b in rw e (omega arith)
+pub heads_there : (heads : ℕ) (chain : Chain) (b : Placed) → 0 < heads → 0 < (heads_in heads (chain ++ b ∷ [])).txs
+heads_there heads chain b some = subst (λ (counts : HeadCounts). 0 < counts.txs) (sym (some_heads heads chain b)) some
 
-pub lacks : (rows : held.Tables) (chain : Chain) (b : Placed) (n : ℕ) → IsGood (chain ++ b ∷ []) → n ≡ length b.block.txs
-    → Hold (heads_in (chain ++ b ∷ [])) (listed_blocks (chain ++ b ∷ [])) (disconnect_txs n (lists (chain ++ b ∷ []))) rows → LacksTxs rows chain b
-lacks rows chain b n good count hold = record {
+pub lacks : (heads : ℕ) (rows : held.Tables) (chain : Chain) (b : Placed) (n : ℕ) → 0 < heads → IsGood (chain ++ b ∷ []) → n ≡ length b.block.txs
+    → Hold (heads_in heads (chain ++ b ∷ [])) (listed_blocks (chain ++ b ∷ [])) (disconnect_txs n (lists (chain ++ b ∷ []))) rows → LacksTxs heads rows chain b
+lacks heads rows chain b n some good count hold = record {
+  some = some;
   good = good_before chain b good;
-  hold = subst (λ (l : Lists). Hold (heads_in (chain ++ b ∷ [])) (listed_blocks (chain ++ b ∷ [])) l rows)
+  hold = subst (λ (l : Lists). Hold (heads_in heads (chain ++ b ∷ [])) (listed_blocks (chain ++ b ∷ [])) l rows)
       (ap (λ (k : ℕ). disconnect_txs k (lists (chain ++ b ∷ []))) count ∙ disconnects chain b good) hold;
 }

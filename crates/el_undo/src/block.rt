@@ -4,7 +4,7 @@ ghost use Rattle.el_rows.specs.Transaction.{tables_in, EditsRows, EditsAlone};
 ghost use Rattle.el_row_formats.specs.declared.table.Table.{Table};
 ghost use Rattle.el_chain.specs.Chains.{Chain};
 ghost use Rattle.el_chain.specs.declared.placed.Placed as shape;
-ghost use Rattle.el_schema.specs.Standing.{StandFor};
+ghost use Rattle.el_schema.specs.Standing.{StandWith};
 ghost use Rattle.el_undo.specs.within.Undone.{LacksTxs};
 
 use crate::row::last_block_txs;
@@ -27,8 +27,8 @@ fn query_fault(fault: ConnectFault) -> QueryFault
 // The last block's row goes, of so many that are left; with the first block go all heads.
 fn drop_block<R: Rows>(t: &mut Txn<'_, R>, left: u64)
     requires left { length (tables_in t.old Table.Blocks) ≡ left + 1 }
-    ensures chain { (chain : Chain) (b : shape.Placed) → LacksTxs (tables_in t.old) chain b
-        → StandFor (tables_in t.new) chain }
+    ensures chain { (heads : ℕ) (chain : Chain) (b : shape.Placed) → LacksTxs heads (tables_in t.old) chain b
+        → StandWith heads (tables_in t.new) chain }
     ensures fewer { length (tables_in t.new Table.Blocks) ≡ left }
     ensures alone { EditsAlone t.old t.new }
 {
@@ -49,8 +49,9 @@ fn drop_block<R: Rows>(t: &mut Txn<'_, R>, left: u64)
 /// only dropped.
 pub fn disconnect<R: Rows>(t: &mut Txn<'_, R>) -> Result<(), QueryFault>
     requires live { R.is_live t.old.rows.now }
-    ensures disconnected { (chain : Chain) (b : shape.Placed) → R.tells
-        → StandFor (tables_in t.old) (chain ++ b ∷ []) → OnOk result (StandFor (tables_in t.new) chain) }
+    ensures disconnected { (heads : ℕ) (chain : Chain) (b : shape.Placed) → R.tells
+        → StandWith heads (tables_in t.old) (chain ++ b ∷ [])
+        → OnOk result (StandWith heads (tables_in t.new) chain) }
     // What follows holds over any rows.
     ensures none { length (tables_in t.old Table.Blocks) ≡ 0
         → OnOk result (tables_in t.new ≡ tables_in t.old) }

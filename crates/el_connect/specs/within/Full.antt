@@ -4,7 +4,7 @@ use Rattle.el_base.specs.declared.hash.Hash32.{Hash32}
 use Rattle.el_tx.specs.declared.types.Outpoint.{Outpoint}
 use Rattle.el_tx.specs.Encoding.{max_money}
 use Rattle.el_chain.specs.Faults.{money_fault}
-use Rattle.el_chain.specs.declared.limits.TheConstants.{ROW_LIMIT}
+use Rattle.el_chain.specs.RowCounts.{row_limit}
 use Rattle.el_prepare.specs.declared.prepared.PreparedTx.{PreparedTx}
 use Rattle.el_tables.specs.ChainLists.{ListedBlock}
 use Rattle.el_tables.specs.Connecting.{connect_tx, spend_all, listed_after}
@@ -86,4 +86,4 @@ pub record ReadyCoins (counts : HeadCounts) (bs : List ListedBlock) (rows : held
   pub many : length coins ≡ length p.inputs
   pub low : left ≤ max_money
   pub money : unspent_sum (made_by (listed_after height p l) p.outputs real).outs ≤ max_money
-  pub few : length (made_by (listed_after height p l) p.outputs real).scripts ≤ ROW_LIMIT
+  pub few : length (made_by (listed_after height p l) p.outputs real).scripts ≤ row_limit 6

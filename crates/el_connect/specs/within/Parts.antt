@@ -6,7 +6,7 @@ use Rattle.el_tx.specs.Encoding.{max_money}
 use Rattle.el_tx.specs.declared.types.Outpoint.{Outpoint}
 use Rattle.el_chain.specs.declared.fault.ConnectFault.{ConnectFault}
 use Rattle.el_chain.specs.declared.fault.ConnectFault.TheVariants as refusal
-use Rattle.el_chain.specs.declared.limits.TheConstants.{ROW_LIMIT}
+use Rattle.el_chain.specs.RowCounts.{row_limit}
 use Rattle.el_prepare.specs.declared.prepared.PreparedTx.{PreparedTx}
 use Rattle.el_tables.specs.ChainLists.{ListedBlock}
 use Rattle.el_tables.specs.Connecting.{◌>>=◌, connect_tx, missing_at, ok_unless, bounds_by, script_of_output, fund_all}
@@ -33,14 +33,14 @@ pub record Reached (counts : HeadCounts) (bs : List ListedBlock) (l : Lists) (ro
 -- There is room for so many inputs and outputs more, and no table of script hashes or entries has more rows
 -- than a table may have.
 pub record HasRoom (l : Lists) (inputs outputs : ℕ) : Type 0 where
-  pub ins : length l.ins + inputs ≤ ROW_LIMIT
-  pub outs : length l.outs + outputs ≤ ROW_LIMIT
-  pub scripts : length l.scripts ≤ ROW_LIMIT
-  pub entries : length l.entries ≤ ROW_LIMIT
+  pub ins : length l.ins + inputs ≤ row_limit 5
+  pub outs : length l.outs + outputs ≤ row_limit 4
+  pub scripts : length l.scripts ≤ row_limit 6
+  pub entries : length l.entries ≤ row_limit 8
 
 -- the table of entries would need more rows than a table may have for these lists, and that is the fault
 abbrev pub Overflows : Lists → ConnectFault → Type 0
-Overflows l e = (e ≡ refusal.Full 8 ROW_LIMIT) × (ROW_LIMIT < length l.entries)
+Overflows l e = (e ≡ refusal.Full 8 (row_limit 8)) × (row_limit 8 < length l.entries)
 
 -- the outputs of transactions stand one after the other, of which the first has that number, and they are so
 -- many in all
@@ -52,8 +52,8 @@ OutsInTurn first (t ∷ ts) count = (t.first_out ≡ first) × OutsInTurn (first
 -- entries has too many rows.
 pub record IsBetween (l : Lists) : Type 0 where
   pub outs : OutsInTurn 0 l.txs (length l.outs)
-  pub scripts : length l.scripts ≤ ROW_LIMIT
-  pub entries : length l.entries ≤ ROW_LIMIT
+  pub scripts : length l.scripts ≤ row_limit 6
+  pub entries : length l.entries ≤ row_limit 8
 
 -- 2. What is prepared of a transaction
 
@@ -73,10 +73,10 @@ pub record IsSmall (p : PreparedTx) : Type 0 where
 
 -- The tables of blocks, transactions, outputs and inputs have room for it, in a block of that height.
 pub record IsCounted (height : ℕ) (p : PreparedTx) (l : Lists) : Type 0 where
-  pub block : height < ROW_LIMIT
-  pub txs : length l.txs < ROW_LIMIT
-  pub outs : length l.outs + length p.outputs ≤ ROW_LIMIT
-  pub ins : length l.ins + length p.inputs ≤ ROW_LIMIT
+  pub block : height < row_limit 1
+  pub txs : length l.txs < row_limit 2
+  pub outs : length l.outs + length p.outputs ≤ row_limit 4
+  pub ins : length l.ins + length p.inputs ≤ row_limit 5
 
 -- 3. Steps
 

@@ -27,9 +27,9 @@ listed height first (b ∷ bs) coins =
 pub block_rows : (rows : Tables) (chain : Chain) → StandFor rows chain
     → length (rows table.Blocks) ≡ length chain
 block_rows rows chain stand =
-    ap length (stand.encode.each table.Blocks)
-    ∙ length-map stand.tables.blocks (λ b. block_row_bytes (block_fields b))
-    ∙ ap length stand.stand.blocks ∙ listed 0 0 chain []
+    ap length (stand.1.encode.each table.Blocks)
+    ∙ length-map stand.1.tables.blocks (λ b. block_row_bytes (block_fields b))
+    ∙ ap length stand.1.stand.blocks ∙ listed 0 0 chain []
 
 -- the height is that of the last block
 top_is : (chain : Chain) → top (length chain) ≡ height_of chain
@@ -51,7 +51,7 @@ tip_is tells rows kept chain stands = stands.last
 -- an index stands for good chains alone
 pub good : (tells : Type 0) (rows : Tables) (kept : Option Hash32) (chain : Chain)
     → IsIndexOf tells rows kept chain → IsGood chain
-good tells rows kept chain stands = stands.stand.stand.good
+good tells rows kept chain stands = stands.stand.1.stand.good
 
 -- what is left that shows the index's rows stands for its chain
 pub leaves_own : {C : Type 0} → (shows : C → Tables → Type 0) (tells : Type 0) (rows : Tables)

@@ -10,7 +10,7 @@ use Rattle.el_row_formats.specs.declared.table.Table.TheVariants as table
 use Rattle.el_row_formats.specs.Tables.{index_of, size_of, limit_of, row_cmp, key}
 use Rattle.el_row_formats.specs.declared.table.RowKey.{RowKey}
 use Rattle.el_rows.specs.Changes.{Changes, changed_at, count_at}
-use Rattle.el_rows.specs.within.SizedRows.{SizedRows}
+use Rattle.el_rows.specs.SizedRows.{SizedRows}
 
 -- the changed rows by their numbers, and the added ones in order
 pub record EditedTable : Type 0 where

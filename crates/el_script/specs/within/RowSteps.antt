@@ -7,6 +7,7 @@ use Rattle.el_tables.specs.Tables.{bucket_in}
 use Rattle.el_buckets.specs.Faults.{NotAdded}
 use Rattle.el_row_formats.specs.Tables.{Tables, limit_of}
 use Rattle.el_row_formats.specs.RowBytes.{script_row_bytes, entry_row_bytes, link_bytes, FitsScriptRow, FitsEntryRow}
+use Rattle.el_row_formats.specs.declared.limits.TheConstants.{MAX_NUMBER}
 use Rattle.el_row_formats.specs.declared.script_row.ScriptRow.{ScriptRow}
 use Rattle.el_row_formats.specs.declared.entry_row.EntryRow.{EntryRow}
 use Rattle.el_row_formats.specs.declared.table.Table.{Table}
@@ -24,7 +25,7 @@ entered_row at r = record {
   script = r.script;
   next = r.next;
   last = Some at;
-  entries = min (r.entries + 1) 4294967295;
+  entries = min (r.entries + 1) MAX_NUMBER;
   balance = r.balance;
 }
 

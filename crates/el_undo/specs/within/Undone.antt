@@ -29,7 +29,9 @@ pub record CanUndo (l : Lists) : Type 0 where
 abbrev pub CanUndoAll : ℕ → Lists → Type 0
 CanUndoAll count l = (k : ℕ) → k < count → CanUndo (times k disconnect_tx l)
 
--- The rows hold the blocks of a chain with one more, and the lists of the chain without it.
-pub record LacksTxs (rows : held.Tables) (chain : Chain) (b : Placed) : Type 0 where
+-- The rows hold the blocks of a chain with one more, and the lists of the chain without it. From the first
+-- block on there are so many heads.
+pub record LacksTxs (heads : ℕ) (rows : held.Tables) (chain : Chain) (b : Placed) : Type 0 where
+  pub some : 0 < heads
   pub good : IsGood chain
-  pub hold : Hold (heads_in (chain ++ b ∷ [])) (listed_blocks (chain ++ b ∷ [])) (lists chain) rows
+  pub hold : Hold (heads_in heads (chain ++ b ∷ [])) (listed_blocks (chain ++ b ∷ [])) (lists chain) rows

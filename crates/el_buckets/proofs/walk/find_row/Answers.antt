@@ -4,7 +4,7 @@ use Rattle.el_rows.specs.Transaction.{tables_in, reads_in}
 use Rattle.el_base.specs.declared.hash.Hash32.{Hash32}
 use Rattle.el_chain.specs.Chains.{zero_hash}
 use Rattle.el_chain.specs.Headers.{same_hash}
-use Rattle.el_row_formats.specs.RowBytes.{link_number}
+use Rattle.el_row_formats.specs.RowBytes.{number_limit, link_number}
 use Rattle.el_rows.proofs.TransactionLemmas.{begun, more}
 use Rattle.el_tables.specs.Tables.{bucket_in, greatest}
 use Rattle.el_schema.specs.Rows.{Hold}
@@ -92,7 +92,7 @@ loop-link-preserved g c =
     record {
       read = more c.loop-link.invariant.read c.in_ok-found.ensures.read;
       below = λ x is. let less = c.in_ok-found.ensures.below x is in let lt = c.loop-link.invariant.below n c.in-Some.is in omega (arith, less, lt);
-      fits = let fit = subst (λ (o : Option ℕ). link_number o < 2 ^ 32) c.in-Some.is c.loop-link.invariant.fits in let less = number_below n c.in_ok-found.next c.in_ok-found.ensures.below in omega (arith, fit, less);
+      fits = let fit = subst (λ (o : Option ℕ). link_number o < number_limit) c.in-Some.is c.loop-link.invariant.fits in let less = number_below n c.in_ok-found.next c.in_ok-found.ensures.below in omega (arith, fit, less);
       none = λ empty. let both : Some n ≡ None = sym c.in-Some.is ∙ c.loop-link.invariant.none empty in cc;
       sized = c.at_row.ensures.sized;
       idle = λ empty. let both : Some n ≡ None = sym c.in-Some.is ∙ c.loop-link.invariant.none empty in cc;
@@ -117,4 +117,4 @@ loop-link-preserved g c =
     }
 
 pub returns-then-eq-clause-fits : goal.returns-then-eq-clause-fits
-returns-then-eq-clause-fits g c = subst (λ (o : Option ℕ). link_number o < 2 ^ 32) c.in-Some.is c.loop-link.invariant.fits
+returns-then-eq-clause-fits g c = subst (λ (o : Option ℕ). link_number o < number_limit) c.in-Some.is c.loop-link.invariant.fits

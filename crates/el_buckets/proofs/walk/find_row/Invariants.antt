@@ -3,7 +3,7 @@ use Rattle.std.specs.Option.{ForSome}
 use Rattle.el_chain.specs.Chains.{zero_hash}
 use Rattle.el_base.specs.declared.hash.Hash32.{Hash32}
 use Rattle.el_chain.specs.Headers.{same_hash}
-use Rattle.el_row_formats.specs.RowBytes.{link_number}
+use Rattle.el_row_formats.specs.RowBytes.{number_limit, link_number}
 use Rattle.el_row_formats.specs.Tables.{size_of}
 use Rattle.el_rows.specs.Transaction.{tables_in, reads_in}
 use Rattle.el_rows.proofs.TransactionLemmas.{SoFar}
@@ -21,7 +21,7 @@ invariant-loop-link g l =
     record {
       read : SoFar {G = g.R.Rows} l.fn.t l.t;
       below : ForSome l.link (λ n. n < length (shown (rows_of l.buckets)));
-      fits : link_number l.link < 2 ^ 32;
+      fits : link_number l.link < number_limit;
       sized : length l.row ≡ size_of (rows_of l.buckets);
       idle : length (shown (heads_of l.buckets)) ≡ 0 → reads_in {G = g.R.Rows} l.t ≡ reads_in {G = g.R.Rows} l.fn.t;
       none : length (shown (heads_of l.buckets)) ≡ 0 → l.link ≡ None;

@@ -6,8 +6,10 @@ use Rattle.el_chain.proofs.CoinSteps.{err_passed}
 use Rattle.el_coins.proofs.Tallies.{met_room, met_by_counts}
 use Rattle.el_coins.proofs.tally.check_met.Goals as goal
 
-pub returns-then-tally-from-clause-none : goal.returns-then-tally-from-clause-none
-returns-then-tally-from-clause-none c = λ ps h m. met_room c.args.tally.now ps h m.once (let few = c.if-tally-from.true in let most = c.from.ensures in omega arith)
+pub returns-then-tally-room-clause-none : goal.returns-then-tally-room-clause-none
+returns-then-tally-room-clause-none c = λ ps h m. met_room c.args.tally.now ps h m.once
+    (omega (arith, c.if-tally-room.true, c.min-room.ensures, c.row_limit.ensures, c.row_limit-2.ensures))
+    (omega (arith, c.if-tally-room.true, c.min-room.ensures, c.row_limit.ensures, c.row_limit-2.ensures))
 
 pub returns-in_err-check_table-clause-fault : goal.returns-in_err-check_table-clause-fault
 returns-in_err-check_table-clause-fault c = λ ps h m.

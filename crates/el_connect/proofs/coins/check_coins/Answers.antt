@@ -2,7 +2,7 @@ use Rattle.std.proofs.Common.{◌≤◌, ◌+◌, refl, ◌∙◌, arith, [], le
 use Rattle.std.proofs.lemmas.Result.{err_from_is_err_and}
 use Rattle.el_tx.specs.Encoding.{max_money}
 use Rattle.el_chain.proofs.CoinSteps.{err_passed}
-use Rattle.el_chain.specs.declared.limits.TheConstants.{ROW_LIMIT}
+use Rattle.el_chain.specs.RowCounts.{row_limit}
 use Rattle.el_rows.specs.Transaction.{tables_in}
 use Rattle.el_schema.proofs.Held.{count_txs}
 use Rattle.el_connect.proofs.FullLemmas.{no_ins, coins_fine, coins_wrong}
@@ -16,7 +16,7 @@ returns-in_err-left-clause-wrong g c counts bs l height told reached most betwee
     let shown = tables_in {G = g.R.Rows} c.args.t.now in
     let hold = no_ins counts bs l shown (tables_in {G = g.R.Rows} c.shrink.new.self) reached.hold c.shrink.ensures.shrunk in
     let count = c.count-by.ensures.count ∙ count_txs counts bs l shown reached.hold in
-    let few : 0 + length c.as_slice.result.now ≤ ROW_LIMIT = omega (arith, c.requires.small.inputs, ap length c.as_slice.ensures) in
+    let few : 0 + length c.as_slice.result.now ≤ row_limit 5 = omega (arith, c.requires.small.inputs, ap length c.as_slice.ensures) in
     let stopped = c.in_err-left.ensures.missing counts bs (record l { ins = [] }) l told hold reached.tx_heads refl refl reached.sum_is few in
     err_passed c.from_residual.result _ e (err_from_is_err_and c.from_residual.result c.from_residual.ensures.1)
     (tx_refused height c.args.index p l e (missing_refused c.args.index height c.count-by.result p l c.as_slice.result.now e count c.as_slice.ensures stopped))

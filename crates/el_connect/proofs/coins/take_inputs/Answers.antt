@@ -2,7 +2,7 @@ use Rattle.std.proofs.Common.{◌≤◌, ◌+◌, refl, sym, subst, ◌∙◌, a
 use Rattle.std.proofs.lemmas.Result.{err_from_is_err_and}
 use Rattle.el_tx.specs.Encoding.{max_money}
 use Rattle.el_chain.proofs.CoinSteps.{err_passed}
-use Rattle.el_chain.specs.declared.limits.TheConstants.{ROW_LIMIT}
+use Rattle.el_chain.specs.RowCounts.{row_limit}
 use Rattle.el_row_formats.specs.Tables as held
 use Rattle.el_rows.specs.Transaction.{tables_in}
 use Rattle.el_schema.proofs.Held.{count_txs}
@@ -17,7 +17,7 @@ returns-in_err-left-clause-refused g c counts bs l height told reached most betw
     let e = c.in_err-left.field-0.0 in
     let p = c.args.tx.now in
     let count = c.count-by.ensures.count ∙ count_txs counts bs l (tables_in {G = g.R.Rows} c.args.t.now) reached.hold in
-    let few : length l.ins + length c.as_slice.result.now ≤ ROW_LIMIT = omega (arith, counted.ins, ap length c.as_slice.ensures) in
+    let few : length l.ins + length c.as_slice.result.now ≤ row_limit 5 = omega (arith, counted.ins, ap length c.as_slice.ensures) in
     let stopped = c.in_err-left.ensures.missing counts bs l l told reached.hold reached.tx_heads refl refl reached.sum_is few in
     err_passed c.from_residual.result _ e (err_from_is_err_and c.from_residual.result c.from_residual.ensures.1)
     (tx_refused height c.args.index p l e (missing_refused c.args.index height c.count-by.result p l c.as_slice.result.now e count c.as_slice.ensures stopped))

@@ -1,7 +1,7 @@
 use Rattle.std.proofs.Common.{◌<◌, ◌+◌, ◌≤◌, arith, length}
 use Rattle.std.proofs.lemmas.Result.{err_from_is_err_and}
 use Rattle.el_chain.proofs.CoinSteps.{err_passed}
-use Rattle.el_chain.specs.declared.limits.TheConstants.{ROW_LIMIT}
+use Rattle.el_chain.specs.RowCounts.{row_limit}
 use Rattle.el_rows.specs.Transaction.{tables_in}
 use Rattle.el_schema.proofs.Held.{count_txs, count_outs, count_ins}
 use Rattle.el_connect.proofs.FullLemmas.{full_blocks, full_txs, full_outs, full_ins}
@@ -15,7 +15,7 @@ returns-in_err-check_table-clause-full g c counts bs l after hold txs outs ins =
     let two = count_outs counts bs l rows hold in
     let three = count_ins counts bs l rows hold in
     err_passed c.from_residual.result _ e (err_from_is_err_and c.from_residual.result c.from_residual.ensures.1)
-    (full_blocks c.args.height after e (let n : ROW_LIMIT < c.args.height + 1 = omega (arith, c.in_err-check_table.ensures.0, c.from.ensures) in n) c.in_err-check_table.ensures.1)
+    (full_blocks c.args.height after e (let n : row_limit 1 < c.args.height + 1 = omega (arith, c.in_err-check_table.ensures.0, c.from.ensures) in n) c.in_err-check_table.ensures.1)
 
 pub returns-in_err-check_table-2-clause-full : goal.returns-in_err-check_table-2-clause-full
 returns-in_err-check_table-2-clause-full g c counts bs l after hold txs outs ins =
@@ -25,8 +25,8 @@ returns-in_err-check_table-2-clause-full g c counts bs l after hold txs outs ins
     let two = count_outs counts bs l rows hold in
     let three = count_ins counts bs l rows hold in
     err_passed c.from_residual-in_err-check_table-2.result _ e (err_from_is_err_and c.from_residual-in_err-check_table-2.result c.from_residual-in_err-check_table-2.ensures.1)
-    (full_txs c.args.height after e (let low : c.args.height + 1 ≤ ROW_LIMIT = omega (arith, c.in_ok-check_table.ensures, c.from.ensures) in low)
-    (let n : ROW_LIMIT < length after.txs = omega (arith, c.in_err-check_table-2.ensures.0, c.count.ensures.count, one, txs) in n) c.in_err-check_table-2.ensures.1)
+    (full_txs c.args.height after e (let low : c.args.height + 1 ≤ row_limit 1 = omega (arith, c.in_ok-check_table.ensures, c.from.ensures) in low)
+    (let n : row_limit 2 < length after.txs = omega (arith, c.in_err-check_table-2.ensures.0, c.count.ensures.count, one, txs) in n) c.in_err-check_table-2.ensures.1)
 
 pub returns-in_err-check_table-3-clause-full : goal.returns-in_err-check_table-3-clause-full
 returns-in_err-check_table-3-clause-full g c counts bs l after hold txs outs ins =
@@ -36,8 +36,8 @@ returns-in_err-check_table-3-clause-full g c counts bs l after hold txs outs ins
     let two = count_outs counts bs l rows hold in
     let three = count_ins counts bs l rows hold in
     err_passed c.from_residual-in_err-check_table-3.result _ e (err_from_is_err_and c.from_residual-in_err-check_table-3.result c.from_residual-in_err-check_table-3.ensures.1)
-    (full_outs c.args.height after e (let low : c.args.height + 1 ≤ ROW_LIMIT = omega (arith, c.in_ok-check_table.ensures, c.from.ensures) in low) (let few : length after.txs ≤ ROW_LIMIT = omega (arith, c.in_ok-check_table-2.ensures, c.count.ensures.count, one, txs) in few)
-    (let n : ROW_LIMIT < length after.outs = omega (arith, c.in_err-check_table-3.ensures.0, c.count-2.ensures.count, two, outs) in n) c.in_err-check_table-3.ensures.1)
+    (full_outs c.args.height after e (let low : c.args.height + 1 ≤ row_limit 1 = omega (arith, c.in_ok-check_table.ensures, c.from.ensures) in low) (let few : length after.txs ≤ row_limit 2 = omega (arith, c.in_ok-check_table-2.ensures, c.count.ensures.count, one, txs) in few)
+    (let n : row_limit 4 < length after.outs = omega (arith, c.in_err-check_table-3.ensures.0, c.count-2.ensures.count, two, outs) in n) c.in_err-check_table-3.ensures.1)
 
 pub returns-in_err-check_table-4-clause-full : goal.returns-in_err-check_table-4-clause-full
 returns-in_err-check_table-4-clause-full g c counts bs l after hold txs outs ins =
@@ -47,9 +47,9 @@ returns-in_err-check_table-4-clause-full g c counts bs l after hold txs outs ins
     let two = count_outs counts bs l rows hold in
     let three = count_ins counts bs l rows hold in
     err_passed c.from_residual-in_err-check_table-4.result _ e (err_from_is_err_and c.from_residual-in_err-check_table-4.result c.from_residual-in_err-check_table-4.ensures.1)
-    (full_ins c.args.height after e (let low : c.args.height + 1 ≤ ROW_LIMIT = omega (arith, c.in_ok-check_table.ensures, c.from.ensures) in low) (let few : length after.txs ≤ ROW_LIMIT = omega (arith, c.in_ok-check_table-2.ensures, c.count.ensures.count, one, txs) in few)
-    (let more : length after.outs ≤ ROW_LIMIT = omega (arith, c.in_ok-check_table-3.ensures, c.count-2.ensures.count, two, outs) in more)
-    (let n : ROW_LIMIT < length after.ins = omega (arith, c.in_err-check_table-4.ensures.0, c.count-3.ensures.count, three, ins) in n) c.in_err-check_table-4.ensures.1)
+    (full_ins c.args.height after e (let low : c.args.height + 1 ≤ row_limit 1 = omega (arith, c.in_ok-check_table.ensures, c.from.ensures) in low) (let few : length after.txs ≤ row_limit 2 = omega (arith, c.in_ok-check_table-2.ensures, c.count.ensures.count, one, txs) in few)
+    (let more : length after.outs ≤ row_limit 4 = omega (arith, c.in_ok-check_table-3.ensures, c.count-2.ensures.count, two, outs) in more)
+    (let n : row_limit 5 < length after.ins = omega (arith, c.in_err-check_table-4.ensures.0, c.count-3.ensures.count, three, ins) in n) c.in_err-check_table-4.ensures.1)
 
 pub returns-clause-tx : goal.returns-clause-tx
 returns-clause-tx g c counts bs l hold =

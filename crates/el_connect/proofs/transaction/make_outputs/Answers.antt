@@ -2,7 +2,7 @@ use Rattle.std.proofs.Common.{◌≡◌, ◌⊎◌, ◌≤◌, OnOk, IfOk, IfErr
 use Rattle.std.proofs.lemmas.Result.{err_from_is_err_and}
 use Rattle.el_chain.proofs.CoinSteps.{err_passed}
 use Rattle.el_chain.specs.declared.fault.ConnectFault.TheVariants as refusal
-use Rattle.el_chain.specs.declared.limits.TheConstants.{ROW_LIMIT}
+use Rattle.el_chain.specs.RowCounts.{row_limit}
 use Rattle.el_rows.specs.Transaction.{tables_in}
 use Rattle.el_tables.specs.Lists.{Lists, add_tx}
 use Rattle.el_schema.specs.Rows.{listed_tx}
@@ -47,4 +47,4 @@ returns-clause-refused g c counts bs l told reached room fit few short =
     c.args.outputs.now reached room fit added numbered c.older_tx.ensures.read.tables (λ x hold. c.in_ok-older.ensures.older counts bs x told hold) in
     let made = made_at l t c.args.outputs.now c.in_ok-number.number numbered in
     subst (λ (x : Lists). IfErr c.fund_outputs.result (λ e. (e ≡ refusal.DiskFailed) ⊎ ((e ≡ refusal.Memory) ⊎ Overflows x e))) made
-    (c.fund_outputs.ensures.refused counts bs (add_tx t l) told ready.reached ready.maker ready.room ready.fit (subst (λ (x : Lists). length x.scripts ≤ ROW_LIMIT) (sym made) short))
+    (c.fund_outputs.ensures.refused counts bs (add_tx t l) told ready.reached ready.maker ready.room ready.fit (subst (λ (x : Lists). length x.scripts ≤ row_limit 6) (sym made) short))

@@ -19,7 +19,7 @@ loop-preserved g c = record {
   back = λ chain told stand fits.
       let last = last_is chain c.loop.counter (omega arith) in
       let here = rw last.1.front at (c.loop.invariant.back chain told stand fits) in
-      c.in_ok-take_back_one.ensures.back (shorter (c.loop.counter + 1) chain) last.0 told here;
+      (here.0, c.in_ok-take_back_one.ensures.back here.0 (shorter (c.loop.counter + 1) chain) last.0 told here.1);
   touched = λ chain told stand fits.
       let last = last_is chain c.loop.counter (omega arith) in
       let here = rw last.1.front at (c.loop.invariant.back chain told stand fits) in

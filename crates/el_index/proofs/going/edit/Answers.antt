@@ -34,7 +34,7 @@ returns-clause-moved g c chain told stand fits =
     let after = rw c.as_slice.ensures at c.in_ok-add_all.ensures.added base told back fits.linked in (
       after.0,
       moved_same c.args.plan.now chain c.args.texts.now _ _ _ after.0 (sym c.touch_all.ensures.read.tables)
-          (are_moved c.each_block_touches_what_the_move_touches.ensures c.args.plan.now chain c.args.texts.now c.args.touched.now c.take_back.new.touched c.touch_all.new.touched _ after.0 stand.stand.good c.requires.none
+          (are_moved c.each_block_touches_what_the_move_touches.ensures c.args.plan.now chain c.args.texts.now c.args.touched.now c.take_back.new.touched c.touch_all.new.touched _ after.0 stand.1.stand.good c.requires.none
           (c.in_ok-take_back.ensures.touched chain told stand fits.within) after.1
           (λ s. c.in_ok-touch_all.ensures.touched base after.0 before s told after.1.stand back c.count-txs.ensures.count c.count-entries.ensures.count)),
     )

@@ -1,5 +1,5 @@
 use Rattle.std.proofs.Common.{◌≡◌, ◌<◌, ◌^◌, ℕ, Option, Some, option_map, slice_get, sym, subst, ◌∙◌, arith}
-use Rattle.el_row_formats.specs.RowBytes.{tx_row_bytes, FitsTxRow, link_number}
+use Rattle.el_row_formats.specs.RowBytes.{number_limit, tx_row_bytes, FitsTxRow, link_number}
 use Rattle.el_row_formats.specs.declared.table.Table.TheVariants as table
 use Rattle.el_rows.specs.Transaction.{tables_in}
 use Rattle.el_schema.specs.Rows.{tx_fields}
@@ -27,6 +27,6 @@ returns-in-Some-clause-row g c tb told same x is =
 
 pub returns-in-Some-clause-few : goal.returns-in-Some-clause-few
 returns-in-Some-clause-few g c x is =
-    let fit = subst (λ (o : Option ℕ). link_number o < 2 ^ 32) c.in-Some.is c.in_ok-found.ensures.fits in
+    let fit = subst (λ (o : Option ℕ). link_number o < number_limit) c.in-Some.is c.in_ok-found.ensures.fits in
     let one : record { number = c.in-Some.number; row = c.read-row.result } ≡ x = cc in
-    subst (λ (y : NumberedTx). y.number < 2 ^ 32) one (omega (arith, fit))
+    subst (λ (y : NumberedTx). y.number < number_limit) one (omega (arith, fit))

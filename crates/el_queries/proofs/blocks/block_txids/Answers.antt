@@ -19,13 +19,13 @@ use Rattle.el_queries.proofs.blocks.block_txids.Goals as goal
 pub returns-clause-txids : goal.returns-clause-txids
 returns-clause-txids g c chain told stand =
     let hold = (holds (tables_in {G = g.R.Rows} c.args.t.now) chain stand).1 in
-    let tb = tables_of (heads_in chain) (listed_blocks chain) (lists chain) in
+    let tb = tables_of (heads_in stand.0 chain) (listed_blocks chain) (lists chain) in
     let row = c.in_ok-row.row in
     let row_is = c.in_ok-row.ensures.row tb told hold in
     let after = subst (λ T. Encode T tb) (sym c.block_row.ensures.read.tables) hold in
     if_ok c.txids_between.result (c.txids_between.ensures.txids tb told after) (λ found is.
     ap (txids_at chain) (sym c.from.ensures)
-    ∙ txids_told (heads_in chain).txs chain c.from.result row found.items row_is
+    ∙ txids_told (heads_in stand.0 chain).txs chain c.from.result row found.items row_is
     (is ∙ ap (λ (k : ℕ). map (λ (r : typed.TxRow). r.listed.txid) (take (row.first_tx + k - row.first_tx) (drop row.first_tx tb.txs))) c.from-2.ensures))
 
 -- the row of the block counts as one
@@ -41,13 +41,13 @@ returns-in_err-row-clause-rows g c chain told stand =
 pub returns-clause-rows : goal.returns-clause-rows
 returns-clause-rows g c chain told stand =
     let hold = (holds (tables_in {G = g.R.Rows} c.args.t.now) chain stand).1 in
-    let tb = tables_of (heads_in chain) (listed_blocks chain) (lists chain) in
+    let tb = tables_of (heads_in stand.0 chain) (listed_blocks chain) (lists chain) in
     let row = c.in_ok-row.row in
     let after = subst (λ T. Encode T tb) (sym c.block_row.ensures.read.tables) hold in
     let rows : List typed.TxRow = take (row.first_tx + row.txs - row.first_tx) (drop row.first_tx tb.txs) in
     let ids : List Hash32 = map (λ (r : typed.TxRow). r.listed.txid) rows in
     let ids_are : txids_at chain c.args.h ≡ Some ids =
-    ap (txids_at chain) (sym c.from.ensures) ∙ txids_told (heads_in chain).txs chain c.from.result row ids (c.in_ok-row.ensures.row tb told hold) refl in
+    ap (txids_at chain) (sym c.from.ensures) ∙ txids_told (heads_in stand.0 chain).txs chain c.from.result row ids (c.in_ok-row.ensures.row tb told hold) refl in
     let there : length (tables_in {G = g.R.Rows} c.block_row.new.t table.Txs) ≡ length tb.txs = ap length (after.each table.Txs) ∙ length-map tb.txs (λ r. tx_row_bytes (tx_fields r)) in
     let many : length ids ≡ min (row.first_tx + row.txs - row.first_tx) (length tb.txs - row.first_tx) =
     length-map rows (λ r. r.listed.txid) ∙ length-take (row.first_tx + row.txs - row.first_tx) (drop row.first_tx tb.txs)

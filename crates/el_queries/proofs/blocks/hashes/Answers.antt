@@ -35,7 +35,7 @@ pub returns-clause-hashes : goal.returns-clause-hashes
 returns-clause-hashes g c chain told stand =
     let hold = (holds (tables_in {G = g.R.Rows} c.args.t.now) chain stand).1 in
     let end : c.loop-h.h ≡ c.args.upto + 1 = omega (arith, c.from-h-end.ensures, c.loop-h-test.false, c.loop-h.auto.h-end) in
-    c.loop-h.invariant.hashes (tables_of (heads_in chain) (listed_blocks chain) (lists chain)) told hold
+    c.loop-h.invariant.hashes (tables_of (heads_in stand.0 chain) (listed_blocks chain) (lists chain)) told hold
     ∙ ap (λ (n : ℕ). map hash_in (take n (listed_blocks chain))) end ∙ hashes_told chain c.args.upto
 
 pub returns-clause-len : goal.returns-clause-len

@@ -11,5 +11,5 @@ use Rattle.el_queries.proofs.blocks.header.Goals as goal
 pub returns-clause-header : goal.returns-clause-header
 returns-clause-header g c chain told stand =
     let hold = (holds (tables_in {G = g.R.Rows} c.args.t.now) chain stand).1 in
-    let row = c.in_ok-block_row.ensures.row (tables_of (heads_in chain) (listed_blocks chain) (lists chain)) told hold in
+    let row = c.in_ok-block_row.ensures.row (tables_of (heads_in stand.0 chain) (listed_blocks chain) (lists chain)) told hold in
     ap (header_at chain) (sym c.from.ensures) ∙ header_told chain c.from.result c.in_ok-block_row.field-0 row

@@ -14,7 +14,7 @@ returns-in_default-clause-coin g c chain told stand = none_told chain c.args.o.n
 pub returns-in-Unspent-clause-coin : goal.returns-in-Unspent-clause-coin
 returns-in-Unspent-clause-coin g c chain told stand =
     let o = c.args.o.now in
-    let counts = heads_in chain in
+    let counts = heads_in stand.0 chain in
     let bs = listed_blocks chain in
     let l = lists chain in
     let hold = (holds (tables_in {G = g.R.Rows} c.args.t.now) chain stand).1 in

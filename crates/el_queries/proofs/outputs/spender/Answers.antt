@@ -14,7 +14,7 @@ returns-in_default-clause-spender g c chain told stand =
 
 pub returns-in-Spent-clause-spender : goal.returns-in-Spent-clause-spender
 returns-in-Spent-clause-spender g c chain told stand =
-    let counts = heads_in chain in
+    let counts = heads_in stand.0 chain in
     let bs = listed_blocks chain in
     let l = lists chain in
     let both = holds (tables_in {G = g.R.Rows} c.args.t.now) chain stand in

@@ -2,7 +2,7 @@ use Rattle.std.proofs.Common.{◌≡◌, ◌∙◌, ◌<◌, ◌≤◌, ℕ, [],
 use Rattle.std.proofs.lemmas.Result.{IfOk-weaker}
 use Rattle.el_chain.specs.Chains.{zero_hash}
 use Rattle.el_chain.specs.declared.fault.ConnectFault.TheVariants as connect
-use Rattle.el_row_formats.specs.Tables.{Tables}
+use Rattle.el_row_formats.specs.Tables.{Tables, limit_of}
 use Rattle.el_rows.specs.Transaction.{tables_in}
 use Rattle.el_row_formats.specs.declared.table.Table.TheVariants as table
 use Rattle.el_tables.specs.Lists.{Lists, add_entry, is_tx, last_tx_of}
@@ -77,7 +77,7 @@ returns-clause-room g c counts bs l told hold fits =
     let row = c.in_ok-row.row in
     let last = c.if_below-last.result in
     let lt : n < length l.scripts = omega (arith, c.requires.below, many_scripts counts bs l shown hold) in
-    let few : length (shown table.Scripts) ≤ 4294967295 = omega (arith, c.count.ensures.limit, c.count.ensures.count) in
+    let few : length (shown table.Scripts) ≤ limit_of table.Scripts = omega (arith, c.count.ensures.limit, c.count.ensures.count) in
     IfOk-weaker c.add_known.result (λ x. EntryMore n row last tx (tables_in {G = g.R.Rows} c.is_entry_of.new.t) after) (λ x. touch_full s tx l ≡ None)
     (λ x more. room_known counts bs s tx l shown hold (hash_there n l.scripts lt) few (subst (λ (T : Tables). EntryMore n row last tx T after) both more).few_entries) c.add_known.ensures.added
 
@@ -95,7 +95,7 @@ returns-clause-full g c counts bs l told hold fits t rows is =
     let entries = c.count-2.ensures.count ∙ ap (λ (T : Tables). length (T table.Entries)) same in
     let told_tx = tx_found counts bs l shown hold n tx c.count-2.result c.in_ok-row.row c.if_below-last.result c.in_ok-is_entry_of.field-0 c.requires.below
     only entries c.if_below-last.ensures (c.in_ok-is_entry_of.ensures.is counts bs l no_entry told before) in
-    let few : length (shown table.Scripts) ≤ 4294967295 = omega (arith, c.count.ensures.limit, c.count.ensures.count) in
+    let few : length (shown table.Scripts) ≤ limit_of table.Scripts = omega (arith, c.count.ensures.limit, c.count.ensures.count) in
     let fault = subst (λ r. IfErr r (λ e. IsEntryFault (tables_in {G = g.R.Rows} c.is_entry_of.new.t) e)) is c.add_known.ensures.fault in
     full_known counts bs (get_or l.scripts n zero_hash) n tx l shown (connect.Full t rows) t rows hold (hash_there n l.scripts lt) (hash_number n l.scripts fits.numbered.once lt)
     (sym told_tx ∙ c.if-branch.false) few (subst (λ (T : Tables). IsEntryFault T (connect.Full t rows)) both fault) refl

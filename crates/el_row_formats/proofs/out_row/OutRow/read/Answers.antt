@@ -1,7 +1,7 @@
 use Rattle.std.proofs.Common.{◌≡◌, ◌<◌, ◌^◌, ◌++◌, ◌∷◌, [], List, ℕ, get_or, sym, ap, ◌∙◌, arith, append-nil, rules}
 use Rattle.std.specs.Int.{w32, w64, to_le_bytes}
 use Rattle.std.proofs.lemmas.List.{nil_from_length}
-use Rattle.el_row_formats.specs.RowBytes.{out_fields}
+use Rattle.el_row_formats.specs.RowBytes.{number_limit, out_fields}
 use Rattle.el_row_formats.specs.declared.out_row.OutRow.{OutRow}
 use Rattle.el_row_formats.proofs.RowLemmas.{one_out_row, one_byte}
 use Rattle.el_row_formats.proofs.out_row.OutRow.read.Goals as goal
@@ -19,8 +19,8 @@ returns-clause-only c = λ r fits is.
     ∙ ap (λ (x : List ℕ). to_le_bytes w64 c.long_number-value.result.0 ++ x) (c.number-script.ensures.front ∙ ap (λ (n : ℕ). to_le_bytes w32 n ++ c.number-script.result.1.now) (sym c.from-2.ensures)
     ∙ ap (λ (x : List ℕ). to_le_bytes w32 c.from-2.result ++ x) (c.array.ensures.front ∙ ap (λ (x : List ℕ). x ++ c.array.result.1.now) (one_byte c.array.result.0 c.array.ensures.long)
     ∙ ap (λ (x : List ℕ). kind ∷ x) (c.number-by.ensures.front ∙ ap (λ (x : List ℕ). to_le_bytes w32 by ++ x) none ∙ append-nil (to_le_bytes w32 by))))) in
-    let small : by < 2 ^ 32 = search rules in
-    let tx : read.tx < 2 ^ 32 = search rules in
-    let script : read.script < 2 ^ 32 = search rules in
+    let small : by < number_limit = search rules in
+    let tx : read.tx < number_limit = search rules in
+    let script : read.script < number_limit = search rules in
     let value : read.value < 2 ^ 64 = search rules in
     one_out_row r read c.args.bytes.now (record { state = kind; by = by; fields = fields; is = c.read.ensures }) fits tx value script small is

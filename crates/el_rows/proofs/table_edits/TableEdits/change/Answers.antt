@@ -2,8 +2,7 @@ use Rattle.std.proofs.Common.{◌++◌, ◌∷◌, ℕ, List, [], Some, cond, sy
 use Rattle.std.specs.Prelude.{nat_eq, if◌then◌else◌}
 use Rattle.std.specs.Map.{lookup}
 use Rattle.el_rows.specs.within.EditedTables.{EditedTable, paired, IsWritten}
-use Rattle.el_rows.proofs.EditsLemmas.{OnOk-weaker}
-use Rattle.el_rows.proofs.InMemoryLemmas.{on_err}
+use Rattle.el_rows.proofs.EditsLemmas.{OnOk-weaker, on_err}
 use Rattle.el_rows.proofs.PairedLemmas.{written_known, written_new, written_beside}
 use Rattle.el_rows.proofs.table_edits.TableEdits.change.Goals as goal
 

@@ -1,0 +1,54 @@
+-- The eight tables in memory.
+use Rattle.std.specs.Prelude.{◌≡◌, ◌<◌, ◌≤◌, ℕ, List, [], length, get_or, take, drop, None, unwrap_or}
+use Rattle.el_row_formats.specs.declared.table.Table.{Table}
+use Rattle.el_row_formats.specs.Tables.{Tables, index_of, size_of, limit_of}
+use Rattle.el_rows.specs.Changes.{Changes, changed_at, count_at}
+use Rattle.el_rows.specs.SizedRows.{SizedRows, HasGrown}
+
+-- the list that is kept of a table, and its rows
+abbrev pub no_list : SizedRows
+no_list = record { size = 0; rows = [] }
+
+abbrev pub list_of : List SizedRows → Table → SizedRows
+list_of kept t = get_or kept (index_of t) no_list
+
+abbrev pub kept_of : List SizedRows → Tables
+kept_of kept t = (list_of kept t).rows
+
+-- of the rows that are kept of each table, those that are shown
+abbrev pub shown_rows : List SizedRows → List ℕ → Tables
+shown_rows kept counts t = take (count_at counts t) (kept_of kept t)
+
+-- each list has its table's size
+abbrev pub AreSized : List SizedRows → Type 0
+AreSized kept = (t : Table) → (list_of kept t).size ≡ size_of t
+
+-- there are as many rows as these counts say
+abbrev pub HasRoom : List SizedRows → List ℕ → Type 0
+HasRoom kept counts = (t : Table) → count_at counts t ≤ length (kept_of kept t)
+
+-- what is kept beside the counts
+pub record AreKept (kept : List SizedRows) (counts : List ℕ) : Type 0 where
+  pub sized : AreSized kept
+  pub room : HasRoom kept counts
+  pub limited : (t : Table) → count_at counts t ≤ limit_of t
+
+-- each table has grown, and its list has the same size
+pub record AllGrown (old new : List SizedRows) : Type 0 where
+  pub sizes : (t : Table) → (list_of new t).size ≡ (list_of old t).size
+  pub rows : (t : Table) → HasGrown (list_of old t).size (kept_of old t) (kept_of new t)
+
+-- the changed rows are written over, and each list has the same size
+pub record AreWritten (old new : List SizedRows) (changes : Changes) : Type 0 where
+  pub sizes : (t : Table) → (list_of new t).size ≡ (list_of old t).size
+  pub long : (t : Table) → length (kept_of new t) ≡ length (kept_of old t)
+  pub each : (t : Table) (i : ℕ) → i < length (kept_of old t)
+      → get_or (kept_of new t) i [] ≡ unwrap_or (changed_at changes t i) (get_or (kept_of old t) i [])
+
+-- the first k of the changed rows are written over, the others still stand as they were
+pub record AreWriting (old new : List SizedRows) (changes : Changes) (k : ℕ) : Type 0 where
+  pub tables : length new ≡ length old
+  pub sizes : (t : Table) → (list_of new t).size ≡ (list_of old t).size
+  pub long : (t : Table) → length (kept_of new t) ≡ length (kept_of old t)
+  pub each : (t : Table) (i : ℕ) → i < length (kept_of old t) → changed_at (drop k changes) t i ≡ None
+      → get_or (kept_of new t) i [] ≡ unwrap_or (changed_at changes t i) (get_or (kept_of old t) i [])

@@ -1,0 +1,298 @@
+// Tables in memory, and a store of them.
+ghost use Rattle.std.specs.Prelude.{◌≡◌, ◌<◌, ◌≤◌, ◌+◌, ◌*◌, ℕ, List, [], length, get_or, slice_get, slice_set, refl, Some, OnOk, OnErr, IfOk};
+ghost use Rattle.el_row_formats.specs.Tables.{tables_of, size_of, limit_of, index_of, key, row_at};
+ghost use Rattle.el_rows.specs.Changes.{Changes, IsMadeFrom, OnTable, count_at, under};
+ghost use Rattle.el_rows.specs.Reads.{Same};
+ghost use Rattle.el_rows.specs.SizedRows.{SizedRows};
+ghost use Rattle.el_vec_rows.specs.MemoryRows.{IsResized};
+ghost use Rattle.el_vec_rows.specs.within.InMemory.{list_of, kept_of, AreSized, AllGrown, HasRoom, AreWriting, AreWritten};
+
+use el_base::{GhostCount, OutOfMemory};
+use el_outside::DiskFailed;
+use el_row_formats::{TABLES, Table};
+use el_rows::{CommitFault, RowList, Rows, Sealed};
+use std::alloc::Global;
+use std::marker::Model;
+
+/// Tables in memory. Rows that are kept after a table's count are spare, and not shown.
+#[derive(Drop)]
+pub struct MemRows {
+    kept: [RowList; TABLES],
+    counts: [u64; TABLES],
+    alloc: Global,
+}
+
+impl Model for MemRows {
+    ghost use Rattle.std.specs.Prelude.{List, ℕ};
+    ghost use Rattle.el_row_formats.specs.Tables.{listed};
+    ghost use Rattle.el_vec_rows.specs.within.InMemory.{shown_rows, AreKept};
+
+    ghost Value = { List (List (List ℕ)) };
+
+    ghost view = { λ m. listed (shown_rows m.kept m.counts) };
+
+    ghost invariant = { λ m. AreKept m.kept m.counts };
+}
+
+// Makes room for so many rows of a table. Where memory runs out, for some of them.
+fn grow_one(
+    kept: &mut [RowList; TABLES],
+    t: Table,
+    counts: &[u64; TABLES],
+) -> Result<(), OutOfMemory>
+    ensures grown { AllGrown kept.old kept.new }
+    ensures enough { OnOk result (count_at counts.now t ≤ length (kept_of kept.new t)) }
+{
+    kept[t.index()].grow(counts[t.index()] as usize)
+}
+
+// Makes room for so many rows of all tables.
+fn grow(kept: &mut [RowList; TABLES], counts: &[u64; TABLES]) -> Result<(), OutOfMemory>
+    ensures grown { AllGrown kept.old kept.new }
+    ensures enough { OnOk result (HasRoom kept.new counts.now) }
+{
+    for t in Table::ALL {
+        grow_one(kept, t, counts)?;
+    }
+    Ok(())
+}
+
+// Writes over one row, in place.
+fn write_one(kept: &mut [RowList; TABLES], t: Table, i: u64, row: &[u8])
+    requires within { i < length (kept_of kept.old t) }
+    requires sized { length row.now ≡ (list_of kept.old t).size }
+    ensures { kept.new ≡ slice_set kept.old (index_of t)
+        (record { size = (list_of kept.old t).size; rows = slice_set (kept_of kept.old t) i row.now }) }
+{
+    kept[t.index()].write(i as usize, row);
+}
+
+// Writes over so many rows of a table from that number on, whose bytes stand one after another, in place.
+fn write_rows(kept: &mut [RowList; TABLES], t: Table, first: u64, rows: usize, bytes: &[u8])
+    requires within { first + rows ≤ length (kept_of kept.old t) }
+    requires limit { first + rows ≤ limit_of t }
+    requires long { length bytes.now ≡ rows * size_of t }
+    requires sized { (list_of kept.old t).size ≡ size_of t }
+    ensures { (base : Table → ℕ) (counts : List ℕ) (changes : Changes) (old : List SizedRows) (k : ℕ)
+        → IsMadeFrom base counts changes → HasRoom old counts → AreSized old
+        → ((j : ℕ) → j < rows
+        → slice_get changes (k + j) ≡ Some (key t (first + j), row_at (size_of t) bytes.now j))
+        → AreWriting old kept.old changes k → AreWriting old kept.new changes (k + rows) }
+{
+    let size = t.size();
+    for j in 0..rows {
+        let at = j * size;
+        write_one(kept, t, first + j as u64, &bytes[at..at + size]);
+    }
+}
+
+// Writes over the changed rows, in place.
+fn write(kept: &mut [RowList; TABLES], sealed: &Sealed)
+    requires made { (base : Table → ℕ) × IsMadeFrom base sealed.now.counts sealed.now.changes }
+    requires room { HasRoom kept.old sealed.now.counts }
+    requires sized { AreSized kept.old }
+    ensures { AreWritten kept.old kept.new sealed.now.changes }
+{
+    let mut k = 0;
+    while k < sealed.changes() {
+        let run = sealed.run(k);
+        write_rows(kept, run.table, run.first, run.rows, run.bytes);
+        k += run.rows;
+    }
+}
+
+// A copy of all lists.
+fn copy(alloc: Global, kept: &[RowList; TABLES]) -> Result<[RowList; TABLES], OutOfMemory>
+    ensures { IfOk result (λ lists. lists ≡ kept.now) }
+{
+    Ok([
+        kept[0].copy(alloc)?,
+        kept[1].copy(alloc)?,
+        kept[2].copy(alloc)?,
+        kept[3].copy(alloc)?,
+        kept[4].copy(alloc)?,
+        kept[5].copy(alloc)?,
+        kept[6].copy(alloc)?,
+        kept[7].copy(alloc)?,
+    ])
+}
+
+impl MemRows {
+    /// No rows. Takes no memory.
+    pub fn new(alloc: Global) -> MemRows
+        ensures { (t : Table) → tables_of result t ≡ [] }
+    {
+        MemRows {
+            kept: [
+                RowList::new(alloc, Table::Blocks.size()),
+                RowList::new(alloc, Table::Txs.size()),
+                RowList::new(alloc, Table::TxHeads.size()),
+                RowList::new(alloc, Table::Outs.size()),
+                RowList::new(alloc, Table::Ins.size()),
+                RowList::new(alloc, Table::Scripts.size()),
+                RowList::new(alloc, Table::ScriptHeads.size()),
+                RowList::new(alloc, Table::Entries.size()),
+            ],
+            counts: [0; TABLES],
+            alloc,
+        }
+    }
+
+    /// The bytes of a row.
+    pub fn bytes(&self, t: Table, i: u64) -> &[u8]
+        requires { i < length (tables_of self.now t) }
+        ensures bytes { result.now ≡ get_or (tables_of self.now t) i [] }
+        ensures sized { length result.now ≡ size_of t }
+    {
+        self.kept[t.index()].row(i as usize)
+    }
+
+    /// Makes the rows the sealed ones: changed rows are written in place, and the others stay where they are.
+    pub fn edit(&mut self, sealed: &Sealed) -> Result<(), OutOfMemory>
+        requires { IsMadeFrom (λ t. length (tables_of self.old t)) sealed.now.counts sealed.now.changes }
+        ensures ok { OnOk result
+            (Same (under (tables_of self.old) sealed.now.counts sealed.now.changes) (tables_of self.new)) }
+        ensures err { OnErr result (self.new ≡ self.old) }
+    {
+        let counts = sealed.counts();
+        grow(&mut self.kept, counts)?;
+        write(&mut self.kept, sealed);
+        self.counts = *counts;
+        Ok(())
+    }
+
+    /// Gives each table so many rows: the first ones of those that it has, and any rows behind them.
+    pub fn resize(&mut self, counts: &[u64; TABLES]) -> Result<(), OutOfMemory>
+        requires { (t : Table) → count_at counts.now t ≤ limit_of t }
+        ensures ok { OnOk result (IsResized counts.now (tables_of self.old) (tables_of self.new)) }
+        ensures err { OnErr result (self.new ≡ self.old) }
+    {
+        grow(&mut self.kept, counts)?;
+        self.counts = *counts;
+        Ok(())
+    }
+
+    /// Writes over a row, in place.
+    pub fn write(&mut self, t: Table, i: u64, row: &[u8])
+        requires within { i < length (tables_of self.old t) }
+        requires sized { length row.now ≡ size_of t }
+        ensures { OnTable (tables_of self.old) (tables_of self.new) t
+            (slice_set (tables_of self.old t) i row.now) }
+    {
+        write_one(&mut self.kept, t, i, row);
+    }
+
+    /// How many rows the table has.
+    pub fn count(&self, t: Table) -> u64
+        ensures count { result ≡ length (tables_of self.now t) }
+        ensures limit { result ≤ limit_of t }
+    {
+        self.counts[t.index()]
+    }
+
+    /// A copy of all rows.
+    pub fn copy(&self) -> Result<MemRows, OutOfMemory>
+        ensures { IfOk result (λ s. s ≡ self.now) }
+    {
+        Ok(MemRows {
+            kept: copy(self.alloc, &self.kept)?,
+            counts: self.counts,
+            alloc: self.alloc,
+        })
+    }
+}
+
+/// A store in memory. It is always live, and fails only out of memory. What a crash leaves isn't told.
+#[derive(Drop)]
+pub struct VecRows {
+    rows: MemRows,
+    reads: GhostCount,
+}
+
+impl Model for VecRows {
+    ghost use Rattle.el_vec_rows.specs.MemoryRows.{CountedRows};
+
+    ghost Value = { CountedRows };
+
+    ghost view = { λ s. record { rows = s.rows; reads = s.reads } };
+}
+
+impl VecRows {
+    /// No rows, of which none was read. Takes no memory.
+    pub fn new(alloc: Global) -> VecRows
+        ensures empty { (t : Table) → tables_of result.rows t ≡ [] }
+        ensures idle { result.reads ≡ 0 }
+    {
+        VecRows {
+            rows: MemRows::new(alloc),
+            reads: GhostCount::new(),
+        }
+    }
+
+    /// Gives each table so many rows: the first ones of those that it has, and any rows behind them. Fails
+    /// only where memory runs out, and then changes nothing.
+    pub fn resize(&mut self, counts: &[u64; TABLES]) -> Result<(), OutOfMemory>
+        requires { (t : Table) → count_at counts.now t ≤ limit_of t }
+        ensures ok { OnOk result (IsResized counts.now (tables_of self.old.rows) (tables_of self.new.rows)) }
+        ensures err { OnErr result (self.new.rows ≡ self.old.rows) }
+        ensures idle { self.new.reads ≡ self.old.reads }
+    {
+        self.rows.resize(counts)
+    }
+
+    /// Writes over a row, in place.
+    pub fn write(&mut self, t: Table, i: u64, row: &[u8])
+        requires within { i < length (tables_of self.old.rows t) }
+        requires sized { length row.now ≡ size_of t }
+        ensures written { OnTable (tables_of self.old.rows) (tables_of self.new.rows) t
+            (slice_set (tables_of self.old.rows t) i row.now) }
+        ensures idle { self.new.reads ≡ self.old.reads }
+    {
+        self.rows.write(t, i, row);
+    }
+}
+
+impl Rows for VecRows {
+    ghost tells = { Unit {0} };
+
+    ghost tells_crash = { ⊥ };
+
+    ghost lists = { λ s. tables_of s.rows };
+
+    ghost counts = { λ s t. length (tables_of s.rows t) };
+
+    ghost is_live = { λ s. Unit {0} };
+
+    ghost moment = { λ s. 0 };
+
+    ghost Left = { Unit {0} };
+
+    ghost shows = { λ c lists. ⊥ };
+
+    ghost left_since = { λ s t c. ⊥ };
+
+    ghost faults = { λ s. 0 };
+
+    ghost reads = { λ s. s.reads };
+
+    ghost counted = { λ s t told. refl };
+
+    ghost earlier = { λ s t u c le left. left };
+
+    ghost leaves_lists = { λ s c told live left. absurd told };
+
+    fn count(&self, t: Table) -> u64 {
+        self.rows.count(t)
+    }
+
+    fn row(&mut self, t: Table, i: u64, buf: &mut [u8]) -> Result<(), DiskFailed> {
+        self.reads.tick();
+        buf.copy_from_slice(self.rows.bytes(t, i));
+        Ok(())
+    }
+
+    fn commit(&mut self, sealed: &Sealed) -> Result<(), CommitFault> {
+        self.rows.edit(sealed)?;
+        Ok(())
+    }
+}
