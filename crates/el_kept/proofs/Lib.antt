@@ -5,3 +5,5 @@ pub mod Renamed
 pub mod Cleared
 pub mod Retaken
 pub mod Told
+pub mod Lookups
+pub mod Walks

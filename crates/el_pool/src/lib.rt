@@ -2,16 +2,6 @@
 //! came, kept as long as the chain and the ones before them leave each of their inputs a coin.
 #![tactic(auto)]
 
-mod adding;
-mod asking;
-mod confirming;
-mod conflicts;
-mod examining;
-mod moving;
 mod pool;
-mod removing;
-mod renewing;
-mod room;
-mod touching;
 
 pub use pool::Pool;

@@ -12,14 +12,13 @@ ghost use Rattle.el_mempool.specs.Sift.{sift, other_than};
 ghost use Rattle.el_mempool.specs.Unconfirmed.{pool_history, pool_unspent};
 ghost use Rattle.el_mempool.specs.Standing.{StandsFor, AreChanged, has_entry, kept_tx};
 
-use crate::adding::add_to;
-use crate::moving::sift_table;
-use crate::removing::drop_from;
 use el_base::{Hash32, OutOfMemory};
 use el_chain::{Coin, Touched};
+use el_join::{add_to, drop_from};
 use el_kept::{Listing, Table, empty_table, entries_at, kept_under, outs_at, taker_in};
 use el_mempool::{KeptTx, PoolEntry, PoolFault, PoolLimits};
 use el_model::{Ledger, QueryFault};
+use el_sift::sift_table;
 use el_tx::Outpoint;
 use std::alloc::Global;
 use std::collections::BTreeSet;

@@ -1,0 +1,4 @@
+pub mod OwnCoins
+pub mod Sides
+pub mod Exactly
+pub mod Stays

@@ -1,2 +1,4 @@
 pub mod Statuses
 pub mod Hashing
+pub mod Untouched
+pub mod Exact

@@ -1,7 +1,7 @@
 use Rattle.std.proofs.Common.{sym, subst}
 use Rattle.std.specs.Result.{IfErr}
 use Rattle.el_mempool.specs.Standing.{PoolState, StandsFor}
-use Rattle.el_pool.proofs.Refusing.{Refused}
+use Rattle.el_join.proofs.Refusing.{Refused}
 use Rattle.el_pool.proofs.pool.Pool.add.Goals as goal
 
 pub returns-clause-refused : goal.returns-clause-refused

@@ -1,7 +1,6 @@
 use Rattle.std.proofs.Common.{◌∙◌, sym, subst}
 use Rattle.el_mempool.specs.Standing.{PoolState, StandsFor}
-use Rattle.el_pool.proofs.Refusing.{takers_are}
-use Rattle.el_pool.proofs.Added.{is_over}
+use Rattle.el_kept.proofs.Lookups.{takers_are, is_over}
 use Rattle.el_pool.proofs.pool.Pool.spender.Goals as goal
 
 pub returns : goal.returns

@@ -1,0 +1,60 @@
+// A transaction joins a set.
+ghost use Rattle.std.specs.Prelude.{◌≡◌, ◌⊎◌, IfOk, IfErr, OnErr, List};
+ghost use Rattle.el_outside.specs.Counts.{CountsOnly};
+ghost use Rattle.el_chain.specs.Chains.{Chain};
+ghost use Rattle.el_model.specs.Keeping.{Quiet};
+ghost use Rattle.el_tx.specs.declared.types.Tx as shape;
+ghost use Rattle.el_mempool.specs.Adding.{Joined};
+ghost use Rattle.el_mempool.specs.Refusals.{IsRefused};
+ghost use Rattle.el_mempool.specs.Standing.{StandsFor};
+ghost use Rattle.el_kept.specs.Tables.{standing, IsTable, HasFewSlots};
+ghost use Rattle.el_kept.specs.Listings.{AreListed};
+
+use crate::examining::examine;
+use el_base::Hash32;
+use el_chain::Touched;
+use el_kept::{Listing, Table, join, touched_by};
+use el_mempool::{PoolFault, PoolLimits};
+use el_model::Ledger;
+use std::alloc::Global;
+use std::collections::BTreeSet;
+
+/// Adds the transaction that the bytes encode after the others, and gives its txid and the script hashes that
+/// changed.
+///
+/// # Errors
+///
+/// The first refusal; `DiskFailed`, `Memory`. Then the table is as it was.
+pub fn add_to<G: Ledger>(
+    alloc: Global,
+    table: &mut Table,
+    listings: &mut BTreeSet<Listing>,
+    limits: &PoolLimits,
+    ledger: &mut G,
+    bytes: &[u8],
+) -> Result<(Hash32, Touched), PoolFault>
+    requires live { G.is_live ledger.old }
+    requires table { IsTable table.old (standing table.old.kept.entries) }
+    requires listed { AreListed listings.old (standing table.old.kept.entries) }
+    ensures joined { (chain : Chain) (kept : List shape.Tx)
+        → StandsFor (standing table.old.kept.entries) chain kept → G.stands ledger.old chain
+        → IfOk result (λ r.
+        Joined limits.now chain kept bytes.now (standing table.new.kept.entries) r.0 r.1) }
+    ensures refused { (chain : Chain) (kept : List shape.Tx)
+        → StandsFor (standing table.old.kept.entries) chain kept → G.stands ledger.old chain
+        → IfErr result (λ e. (e ≡ PoolFault.Memory) ⊎ ((e ≡ PoolFault.DiskFailed)
+        ⊎ IsRefused limits.now chain kept bytes.now e)) }
+    ensures table { IsTable table.new (standing table.new.kept.entries) }
+    ensures listed { AreListed listings.new (standing table.new.kept.entries) }
+    ensures slots { HasFewSlots table.old → HasFewSlots table.new }
+    ensures same { OnErr result (table.new.kept.entries ≡ table.old.kept.entries) }
+    ensures quiet { Quiet G.is_live G.height G.tip G.buckets G.stands G.tells_crash
+        G.moment G.left_since ledger.old ledger.new }
+    ensures cause { CountsOnly (G.faults ledger.old) (G.faults ledger.new) PoolFault.DiskFailed result }
+{
+    let entry = examine(alloc, table, limits, ledger, bytes)?;
+    let id = entry.txid;
+    let touched = touched_by(alloc, &entry)?;
+    join(table, listings, entry, touched.list())?;
+    Ok((id, touched))
+}

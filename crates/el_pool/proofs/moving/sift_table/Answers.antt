@@ -1,5 +1,0 @@
-use Rattle.el_pool.proofs.moving.sift_table.Goals as goal
-
-pub returns-in-Ok-clause-sifted : goal.returns-in-Ok-clause-sifted
-returns-in-Ok-clause-sifted g c = λ before chain kept h stood.
-    rw c.in-Ok.is at (c.sift_in_place.ensures.sifted before chain kept h stood)

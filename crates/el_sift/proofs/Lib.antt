@@ -1,0 +1,5 @@
+pub mod Exchanged
+pub mod Known
+pub mod Renewed
+pub mod Sifts
+pub mod Relisted

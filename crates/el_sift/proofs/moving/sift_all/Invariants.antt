@@ -1,0 +1,24 @@
+use Rattle.std.proofs.Common.{◌≡◌, List}
+use Rattle.el_chain.specs.Chains.{Chain}
+use Rattle.el_tx.specs.declared.types.Tx.{Tx}
+use Rattle.el_model.specs.Keeping.{Quiet}
+use Rattle.el_kept.specs.Tables.{standing}
+use Rattle.el_kept.specs.Named.{IsOver}
+use Rattle.el_sift.specs.within.Renewal.{KnowsAll}
+use Rattle.el_sift.proofs.Sifts.{AreLeft}
+use Rattle.el_sift.proofs.moving.sift_all.Given as goal
+
+-- what is left of all entries
+abbrev pub invariant-loop-slot : goal.invariant-loop-slot
+invariant-loop-slot g l =
+    let d = g.G.Ledger in
+    record {
+      can_next : (goal.iterator-loop-slot g).can_next l.slot-iterator;
+      is_finite : (goal.iterator-loop-slot g).is_finite l.slot-iterator;
+      quiet : Quiet d.is_live d.height d.tip d.buckets d.stands d.tells_crash d.moment d.left_since
+          l.initial.ledger l.ledger;
+      still : d.faults l.ledger ≡ d.faults l.initial.ledger;
+      told : (chain : Chain) → KnowsAll chain l.confirmed (standing l.table.kept.entries) → KnowsAll chain l.confirmed (standing l.slot-iterator);
+      left : (before chain : Chain) (all : List Tx) → IsOver l.table before all → KnowsAll chain l.confirmed (standing l.table.kept.entries) → d.stands l.initial.ledger chain
+          → AreLeft before chain all l.found.gone l.found.changed l.found.touched (standing l.slot-iterator);
+    }

@@ -1,0 +1,10 @@
+//! Kept transactions over another chain: which of them stay, what they then take, and which script hashes
+//! change.
+#![tactic(auto)]
+
+mod confirming;
+mod exchanging;
+mod moving;
+mod renewing;
+
+pub use moving::sift_table;

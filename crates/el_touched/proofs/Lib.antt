@@ -1,4 +1,0 @@
-pub mod OwnCoins
-pub mod Sides
-pub mod Exactly
-pub mod Stays

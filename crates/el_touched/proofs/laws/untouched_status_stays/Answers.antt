@@ -1,5 +1,0 @@
-use Rattle.el_touched.proofs.Stays.{status_stays}
-use Rattle.el_touched.proofs.laws.untouched_status_stays.Goals as goal
-
-pub returns : goal.returns
-returns c = status_stays
