@@ -319,11 +319,11 @@ module _ {G : Type 0} (stands : G → Chain → Type 0) where
         quietly = none;
         stood = record {
           chain = rw (ap (λ (u : State G). u.ledger) same) stood.chain;
-          magic = ap (λ (u : State G). u.magic) same ∙ stood.magic;
-          found = ap (λ (u : State G). u.found) same ∙ stood.found;
+          magic = ap (λ (u : State G). u.holdings.magic) same ∙ stood.magic;
+          found = ap (λ (u : State G). u.holdings.tree) same ∙ stood.found;
           ahead = ap (λ (u : State G). u.ahead) same ∙ stood.ahead;
           start = stood.start;
-          set = rw (ap (λ (u : State G). u.pool) same) stood.set;
+          set = rw (ap (λ (u : State G). u.holdings) same) stood.set;
           ordered = map orders (added_lines node_limit world.heard bytes);
           node = record {
             limit = limit ∙ n.limit;
@@ -344,15 +344,15 @@ module _ {G : Type 0} (stands : G → Chain → Type 0) where
       })
 
   -- before any arrival
-  pub new_stands : (s : State G) (chain : Chain) (magic : List ℕ) (found : List Node) (files : ℕ → List ℕ) → stands s.ledger chain → s.magic ≡ magic → s.found ≡ found → s.ahead ≡ []
-      → s.pool.entries ≡ [] → s.clients ≡ [] → s.speaker ≡ None → s.surplus ≡ None → s.before ≡ None → s.node.limit ≡ node_limit → IsAt s.node [] 0 → Stands stands s (model.initial_world chain magic s.pool.limits found files) []
+  pub new_stands : (s : State G) (chain : Chain) (magic : List ℕ) (found : List Node) (files : ℕ → List ℕ) → stands s.ledger chain → s.holdings.magic ≡ magic → s.holdings.tree ≡ found → s.ahead ≡ []
+      → s.holdings.pool.entries ≡ [] → s.clients ≡ [] → s.speaker ≡ None → s.surplus ≡ None → s.before ≡ None → s.node.limit ≡ node_limit → IsAt s.node [] 0 → Stands stands s (model.initial_world chain magic s.holdings.pool.limits found files) []
   new_stands s chain magic found files stood m f a none_kept c sp u b limit at' = record {
     chain = stood;
     magic = m;
     found = f;
     ahead = a;
     start = chain;
-    set = record { stood = rw none_kept (record { sifted = refl; are = refl; once = tt }); still = λ e. refl; limits = refl };
+    set = record { stood = rw none_kept (record { sifted = refl; are = refl; once = tt }); beside = tt; still = λ e. refl; limits = refl };
     ordered = [];
     node = record { limit = limit; given = 0; at = at'; few = omega arith; left_is = refl };
     said = [];

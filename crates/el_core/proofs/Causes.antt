@@ -11,7 +11,7 @@ use Rattle.el_base.specs.declared.hash.Hash32.{Hash32}
 use Rattle.el_chain.specs.Chains.{Chain}
 use Rattle.el_lines.specs.Lines.{LineEvent, line, too_long, lines}
 use Rattle.el_lines.specs.NodeAnswers.{node_limit}
-use Rattle.el_world.specs.Side.{Side}
+use Rattle.el_side.specs.Side.{Side}
 use Rattle.el_world.specs.World as model
 use Rattle.el_world.specs.World.{World, Session, Event, joins, says, orders, outs_of_reply, closes_long, closes_memory, closes_disk, closes_surplus, reply_to, AllTold, is_client, is_peer, line_limit}
 use Rattle.el_world.specs.Run.{IsNodesTurn}
@@ -229,7 +229,7 @@ module _ {G : Type 0} (stands : G → Chain → Type 0) where
   tell_starves side before rose c outs now p (telling.starves outs_is now_is rose_so) told = same_peer c.peer p (ap (λ (x : model.Outs). x.closing) (sym outs_is) ∙ told)
 
   pub tell_memory : (old : State G) (world : World) (left : List Event) (rose : ℕ → Type 0) (outs : model.Outs) (i p : ℕ) (next : List ClientState) → Stands stands old world left → old.ahead ≡ [] → IsFirstWaiting old.clients (Some i)
-      → TellsAt (λ c now. (side : Side) → IsToTell stands old.ledger old.pool old.touched side c → TellTurn side old.before rose c outs now) i old.clients next → CloseIs outs.closing p → WaitsToBeTold p world
+      → TellsAt (λ c now. (side : Side) → IsToTell stands old.ledger old.holdings old.touched side c → TellTurn side old.before rose c outs now) i old.clients next → CloseIs outs.closing p → WaitsToBeTold p world
   tell_memory old world left rose outs i p next stood ahead first t told =
       let f = first_waits stands old world left i stood first t.client t.at in
       let peer = tell_starves world.side old.before rose t.client outs t.left p (t.said world.side (to_tell stands old world left i t.client stood (sym stood.ahead ∙ ahead) t.at)) told in

@@ -8,7 +8,8 @@ use Rattle.std.proofs.lemmas.Option.{slice_get_read}
 use Rattle.el_base.specs.declared.hash.Hash32.{Hash32}
 use Rattle.el_chain.specs.Headers.{same_hash}
 use Rattle.el_chain.proofs.TouchLemmas.{same_turned, hash_gives}
-use Rattle.el_sessions.specs.Sessions.{Subscription, Extends, is_subscribed}
+use Rattle.el_sessions.specs.Sessions.{Subscription, Edits, is_subscribed}
+use Rattle.el_sessions.proofs.Subscribing.{keys_after}
 use Rattle.el_lines.proofs.Cuts.{either}
 use Rattle.el_core.specs.Arrivals.{kept_clients}
 use Rattle.el_core.specs.State.{ClientState, is_numbered}
@@ -272,12 +273,12 @@ few_all entries clients i few c at all counts d at' s =
     omega arith
 
 -- it has subscribed to more since
-pub few_more : (entries : List (Hash32 × ℕ)) (clients : List ClientState) (i few : ℕ) (c next : ClientState) → slice_get clients i ≡ Some c → few ≡ length c.session.subs → Extends c.session.subs next.session.subs → Counts entries clients
+pub few_more : (entries : List (Hash32 × ℕ)) (clients : List ClientState) (i few : ℕ) (c next : ClientState) → slice_get clients i ≡ Some c → few ≡ length c.session.subs → Edits c.session.subs next.session.subs → Counts entries clients
     → CountsFew i few entries (replaced i (Some next) clients)
 few_more entries clients i few c next at all more counts d at' s =
     let same : next ≡ d = same_some next d (sym (put clients i c next at) ∙ at') in
     let front : take few (keys_of d.session.subs) ≡ keys_of c.session.subs = subst (λ (x : ClientState). take few (keys_of x.session.subs) ≡ keys_of c.session.subs) same
-    (ap (take few) more.keys ∙ front_of (keys_of c.session.subs) more.more few (all ∙ sym (keys_length c.session.subs))) in
+    (ap (take few) (keys_after c.session.subs next.session.subs more) ∙ front_of (keys_of c.session.subs) more.added few (all ∙ sym (keys_length c.session.subs))) in
     let gone : replaced i None (replaced i (Some next) clients) ≡ replaced i None clients = twice clients i next in
     rw (gone, front) (counts s ∙ held_at s clients i c at)
   where
@@ -297,7 +298,7 @@ few_more entries clients i few c next at all more counts d at' s =
     front_of (x ∷ xs) ys zero e = absurd (omega arith)
     front_of (x ∷ xs) ys (suc n) e = ap (λ (l : List Hash32). x ∷ l) (front_of xs ys n (omega arith))
 
-pub set_few : (entries : List (Hash32 × ℕ)) (items : List ClientState) (i few : ℕ) (c next : ClientState) → i < length items → c ≡ get_or items i c → few ≡ length c.session.subs → Extends c.session.subs next.session.subs
+pub set_few : (entries : List (Hash32 × ℕ)) (items : List ClientState) (i few : ℕ) (c next : ClientState) → i < length items → c ≡ get_or items i c → few ≡ length c.session.subs → Edits c.session.subs next.session.subs
     → Counts entries items → CountsFew i few entries (slice_set items i next)
 set_few entries items i few c next lt is all more counts =
     rw (set_is_replaced items i next lt) (few_more entries items i few c next (slice_get_read items (length items) i c refl lt is) all more counts)

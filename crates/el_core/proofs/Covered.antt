@@ -10,7 +10,7 @@ use Rattle.el_base.proofs.Lists.{taken_at}
 use Rattle.el_chain.specs.Headers.{same_hash}
 use Rattle.el_chain.proofs.TouchLemmas.{any_added, hash_gives}
 use Rattle.el_lines.proofs.Cuts.{either}
-use Rattle.el_touched.specs.Untouched.{is_among}
+use Rattle.el_status.specs.Untouched.{is_among}
 use Rattle.el_core.specs.State.{ClientState}
 use Rattle.el_core.specs.within.Touching.{is_held, Covers, CoversAll}
 

@@ -5,7 +5,7 @@ use Rattle.std.specs.Option.{is_some}
 use Rattle.std.proofs.Math.Nat.{mul-le-mul_left, mul-le-mul_right, suc-mul}
 use Rattle.el_outside.specs.Devices.{Device}
 use Rattle.el_lines.proofs.Cuts.{either}
-use Rattle.el_world.specs.Side.{Side}
+use Rattle.el_side.specs.Side.{Side}
 use Rattle.el_core.specs.State.{State, ClientState, IsIdle, is_numbered, waiting, work, work_of_node, work_of_client, work_of_clients, work_of_speaker, work_of_peers}
 use Rattle.el_core.specs.Arrivals.{gone_from, kept_clients, kept_speaker}
 use Rattle.el_lines.specs.LineStates.{held}
@@ -145,7 +145,7 @@ gone_work {G} s p =
     let l = length_filter (λ (c : ClientState). not (is_numbered p c)) s.clients in
     let w = waits_filter (λ (c : ClientState). not (is_numbered p c)) s.clients in
     let k = speaker_filter p s.speaker s.clients in
-    let m = mul-le-mul_left (work_of_node (held s.node) (length s.found) (length s.ahead)) (let e : length (kept_clients p s.clients) + 1 ≤ length s.clients + 1 = omega arith in e) in
+    let m = mul-le-mul_left (work_of_node (held s.node) (length s.holdings.tree) (length s.ahead)) (let e : length (kept_clients p s.clients) + 1 ≤ length s.clients + 1 = omega arith in e) in
     omega arith
 
 pub same_of : {G : Type 0} (s mid next : State G) → mid ≡ record s { surplus = None } → next ≡ record mid { ledger = next.ledger; clients = next.clients; speaker = next.speaker }
@@ -211,13 +211,14 @@ room_kept a n n' w w' p p' fewer lt =
     let one = mul-le-mul_left a (let e : n' + 1 ≤ n + 1 = omega arith in e) in
     omega arith
 
-pub ahead_less : {G : Type 0} (old new : State G) → length new.ahead < length old.ahead → new ≡ record old { ledger = new.ledger; pool = new.pool; ahead = new.ahead; touched = new.touched } → work new < work old
+pub ahead_less : {G : Type 0} (old new : State G) → length new.ahead < length old.ahead → new ≡ record old { ledger = new.ledger; holdings = new.holdings; ahead = new.ahead; touched = new.touched } → new.holdings.tree ≡ old.holdings.tree
+    → work new < work old
 unfolding work_of_node
-ahead_less {G} old new fewer same =
-    let lt : held old.node * (length old.found + held old.node + 1) + length new.ahead < held old.node * (length old.found + held old.node + 1) + length old.ahead = omega arith in
+ahead_less {G} old new fewer same tree =
+    let lt : held old.node * (length old.holdings.tree + held old.node + 1) + length new.ahead < held old.node * (length old.holdings.tree + held old.node + 1) + length old.ahead = omega arith in
     let two = mul-le-mul_right (length old.clients + 1) lt in
-    let three = suc-mul (held old.node * (length old.found + held old.node + 1) + length new.ahead) (length old.clients + 1) in
-    rw (ap (λ (s : State G). s.found) same, ap (λ (s : State G). s.node) same, ap (λ (s : State G). s.clients) same, ap (λ (s : State G). s.speaker) same, ap (λ (s : State G). s.surplus) same) (omega arith)
+    let three = suc-mul (held old.node * (length old.holdings.tree + held old.node + 1) + length new.ahead) (length old.clients + 1) in
+    rw (tree, ap (λ (s : State G). s.node) same, ap (λ (s : State G). s.clients) same, ap (λ (s : State G). s.speaker) same, ap (λ (s : State G). s.surplus) same) (omega arith)
 
 length_waits : (cs : List ClientState) → length (all_wait cs) ≡ length cs
 length_waits [] = refl
@@ -237,19 +238,19 @@ work_waits None cs = refl
 work_waits (Some p) [] = refl
 work_waits (Some p) (c ∷ cs) = ap (λ (n : ℕ). held c.buffer + 1 + n) (work_waits (Some p) cs)
 
-pub line_less : {G : Type 0} (old mid new : State G) → mid ≡ record old { node = mid.node } → held mid.node < held old.node → length new.ahead ≤ length mid.found → length new.found ≤ length mid.found + 1
-    → new.clients ≡ all_wait mid.clients → new ≡ record mid { ledger = new.ledger; found = new.found; pool = new.pool; ahead = new.ahead; clients = new.clients; before = new.before; touched = new.touched } → work new < work old
+pub line_less : {G : Type 0} (old mid new : State G) → mid ≡ record old { node = mid.node } → held mid.node < held old.node → length new.ahead ≤ length mid.holdings.tree → length new.holdings.tree ≤ length mid.holdings.tree + 1
+    → new.clients ≡ all_wait mid.clients → new ≡ record mid { ledger = new.ledger; holdings = new.holdings; ahead = new.ahead; clients = new.clients; before = new.before; touched = new.touched } → work new < work old
 unfolding work_of_node
 line_less {G} old mid new same less fewer more all_wait_so then =
-    let found : mid.found ≡ old.found = ap (λ (s : State G). s.found) same in
+    let found : mid.holdings.tree ≡ old.holdings.tree = ap (λ (s : State G). s.holdings.tree) same in
     let clients : new.clients ≡ all_wait old.clients = all_wait_so ∙ ap all_wait (ap (λ (s : State G). s.clients) same) in
     let fewer' = rw found at fewer in
     let more' = rw found at more in
-    let w = work_line (held old.node) (held mid.node) (length old.found) (length new.found) (length new.ahead) less more' fewer' in
+    let w = work_line (held old.node) (held mid.node) (length old.holdings.tree) (length new.holdings.tree) (length new.ahead) less more' fewer' in
     let few = waiting_few (all_wait old.clients) in
     let len = length_waits old.clients in
     let few' : length (waiting (all_wait old.clients)) ≤ length old.clients = omega arith in
-    let w' : held mid.node * (length new.found + held mid.node + 1) + length new.ahead < held old.node * (length old.found + held old.node + 1) + length old.ahead = omega arith in
+    let w' : held mid.node * (length new.holdings.tree + held mid.node + 1) + length new.ahead < held old.node * (length old.holdings.tree + held old.node + 1) + length old.ahead = omega arith in
     let all = room_for_all _ _ (length old.clients) (length (waiting old.clients)) (length (waiting (all_wait old.clients))) (work_of_peers old) w' few' in
     rw (
       ap (λ (s : State G). s.node) then,
@@ -267,8 +268,8 @@ pub peers_less : {G : Type 0} (old new : State G) (o : Option Outs) → new ≡ 
 peers_less old new None same waits fewer less = tt
 peers_less {G} old new (Some o) same waits fewer less =
     let lt : length (waiting new.clients) + work_of_peers new < length (waiting old.clients) + work_of_peers old = omega arith in
-    rw (ap (λ (s : State G). s.found) same, ap (λ (s : State G). s.node) same, ap (λ (s : State G). s.ahead) same)
-    (room_kept (work_of_node (held old.node) (length old.found) (length old.ahead)) (length old.clients) (length new.clients) (length (waiting old.clients)) (length (waiting new.clients)) (work_of_peers old) (work_of_peers new) fewer lt)
+    rw (ap (λ (s : State G). s.holdings.tree) same, ap (λ (s : State G). s.node) same, ap (λ (s : State G). s.ahead) same)
+    (room_kept (work_of_node (held old.node) (length old.holdings.tree) (length old.ahead)) (length old.clients) (length new.clients) (length (waiting old.clients)) (length (waiting new.clients)) (work_of_peers old) (work_of_peers new) fewer lt)
 
 -- a client was told, with so much work for the node
 pub told_less : (says : ClientState → Option ClientState → Type 0) (n i surplus : ℕ) (cs next : List ClientState) (u : Option ℕ) → TellsAt says i cs next → IsFirstWaiting cs (Some i)

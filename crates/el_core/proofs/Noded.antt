@@ -12,33 +12,35 @@ use Rattle.el_chain.specs.declared.node.Node.{Node}
 use Rattle.el_chain.specs.Chains.{Chain}
 use Rattle.el_model.specs.declared.ledger.Ledger as ledger
 use Rattle.el_model.specs.LedgerCalls.{Moved, failed_calls}
-use Rattle.el_mempool.specs.Standing.{PoolState}
-use Rattle.el_world.specs.NodeSteps.{IsAt, Leads}
+use Rattle.el_side.specs.declared.holdings.Holdings.{Holdings}
+use Rattle.el_side.specs.NodeSteps.{IsAt, Leads}
 use Rattle.el_lines.specs.Lines.{LineEvent, lines}
-use Rattle.el_lines.specs.NodeAnswers.{node_limit}
-use Rattle.el_world.specs.Plans.{plan_of}
-use Rattle.el_world.specs.Side.{Side, Moving, OrdersLine}
+use Rattle.el_lines.specs.NodeAnswers.{node_limit, text_of}
+use Rattle.el_lines.specs.declared.node_answer.NodeAnswer.{NodeAnswer}
+use Rattle.el_side.specs.Plans.{plan_of}
+use Rattle.el_side.specs.Side.{Side, Moving, OrdersLine}
 use Rattle.el_world.specs.World as model
 use Rattle.el_world.specs.World.{World, Session, Event, orders, reply_to, IsStill, IsBusy, AllTold, begun}
 use Rattle.el_world.specs.Run as run
 use Rattle.el_world.specs.Run.{OneTurn, IsNodesTurn}
-use Rattle.el_world.specs.Flights.{later, first, IsFirstMove, IsMoveOf, IsUnderWay, before as not_moved, in_move}
+use Rattle.el_side.specs.UnderWay.{IsFirstMove, IsUnderWay, before as not_moved, in_move}
+use Rattle.el_world.specs.Flights.{later, first, IsMoveOf}
 use Rattle.el_model.proofs.LedgerMoves.{LeavesOwn, asked_none, asked_moved}
 use Rattle.el_lines.specs.LineStates.{LineState}
 use Rattle.el_sync.specs.Steps.{IsFrom, NodeStep, FailsBy, by_disk, by_memory, untold, in_sift, StopsAt}
-use Rattle.el_sync.specs.declared.fault.StepFault.{StepFault}
+use Rattle.el_model.specs.declared.fault.QueryFault.{QueryFault}
 use Rattle.el_sync.specs.declared.moving.Step.{Step}
-use Rattle.el_sync.specs.declared.fault.StepFault.TheVariants as fault
+use Rattle.el_model.specs.declared.fault.QueryFault.TheVariants as fault
 use Rattle.el_sync.proofs.Compared.{moving_any}
 use Rattle.el_core.specs.State.{State, NodeLeaves, NoneWaits, Stands}
 use Rattle.el_core.specs.Turn.{TookTurn, TurnFailed, GoesTo, outs_of, stop_of}
-use Rattle.el_core.specs.within.Answering.{Answered, Lost, NodeKeeps, holdings_of}
+use Rattle.el_core.specs.within.Answering.{Answered, Lost, NodeKeeps}
 use Rattle.el_core.specs.within.Clients.{Gives, begun_at}
 use Rattle.el_core.specs.declared.out.Outs.{Outs}
 use Rattle.el_core.proofs.Sessions.{left_first}
 use Rattle.el_core.proofs.Tellings.{tellings_led}
 
-fault_same : (a b : StepFault) → ◌≡◌ {A = Result Outs StepFault} (Err a) (Err b) → a ≡ b
+fault_same : (a b : QueryFault) → ◌≡◌ {A = Result Outs QueryFault} (Err a) (Err b) → a ≡ b
 fault_same a b e = cc
 
 -- what is said of one kind of moves holds of another
@@ -104,7 +106,7 @@ module _ {G A : Type 0} (l : ledger.Ghosts G) (f : archive.Ghosts A) where
     disk_rose = record { counted = λ e. absurd cc; uncounted = k.disk_rose.uncounted; others_uncounted = tt };
   }
 
-  pub keeps_err : (old new : G) (before after : A) (again : Bool) (e : StepFault) → NodeStep l f old new before after again (Err e) → NodeKeeps l f old new before after (Err e)
+  pub keeps_err : (old new : G) (before after : A) (again : Bool) (e : QueryFault) → NodeStep l f old new before after again (Err e) → NodeKeeps l f old new before after (Err e)
   keeps_err old new before after again e k = record {
     live = tt;
     still_live = λ is. k.still_live (ap Err (fault_same e fault.Memory is));
@@ -127,35 +129,35 @@ module _ {G A : Type 0} (l : ledger.Ghosts G) (f : archive.Ghosts A) where
     disk_rose = record { counted = λ e. absurd cc; uncounted = tt; others_uncounted = λ other. k.disk_rose.uncounted };
   }
 
-  pub found_same : (leads : List ℕ → List Device → Side → Type 0) (old new : G) (before after : A) (side : Side) (start : Chain) (text : List ℕ) (found same ahead : List Node) (moved changed : List Hash32) (pool : PoolState) → found ≡ same
-      → Leads l f leads old new before after side start text found ahead moved changed pool → Leads l f leads old new before after side start text same ahead moved changed pool
-  found_same leads old new before after side start text found same ahead moved changed pool is led = subst (λ (fs : List Node). Leads l f leads old new before after side start text fs ahead moved changed pool) is led
+  pub found_same : (leads : NodeAnswer → List Device → Side → Type 0) (old new : G) (before after : A) (side : Side) (start : Chain) (answer : NodeAnswer) (found same ahead : List Node) (moved changed : List Hash32) (holdings : Holdings) → found ≡ same
+      → Leads l f leads old new before after side start answer found ahead moved changed holdings → Leads l f leads old new before after side start answer same ahead moved changed holdings
+  found_same leads old new before after side start answer found same ahead moved changed holdings is led = subst (λ (fs : List Node). Leads l f leads old new before after side start answer fs ahead moved changed holdings) is led
 
   -- ---- a line that has begun
 
-  pub stops_begun : (s mid : State G) (new : G) (before after : A) (tip : Option Hash32) (e : LineEvent) (why : StepFault) → mid ≡ begun_at tip s
-      → ((side : Side) (start : Chain) → IsAt l f mid.ledger mid.pool before side start → IsFrom (holdings_of mid) side → StopsAt l f mid.ledger new before after side.chain false (IsFirstMove side e) why)
-      → (side : Side) (start : Chain) → IsAt l f s.ledger s.pool before side start → IsFrom (holdings_of s) side → StopsAt l f s.ledger new before after side.chain false (IsFirstMove side e) why
+  pub stops_begun : (s mid : State G) (new : G) (before after : A) (tip : Option Hash32) (e : LineEvent) (why : QueryFault) → mid ≡ begun_at tip s
+      → ((side : Side) (start : Chain) → IsAt l f mid.ledger mid.holdings before side start → IsFrom mid.holdings side → StopsAt l f mid.ledger new before after side.chain false (IsFirstMove side e) why)
+      → (side : Side) (start : Chain) → IsAt l f s.ledger s.holdings before side start → IsFrom s.holdings side → StopsAt l f s.ledger new before after side.chain false (IsFirstMove side e) why
   stops_begun s mid new before after tip e why same stops =
-      subst (λ (m : State G). (side : Side) (start : Chain) → IsAt l f m.ledger m.pool before side start → IsFrom (holdings_of m) side → StopsAt l f m.ledger new before after side.chain false (IsFirstMove side e) why) same stops
+      subst (λ (m : State G). (side : Side) (start : Chain) → IsAt l f m.ledger m.holdings before side start → IsFrom m.holdings side → StopsAt l f m.ledger new before after side.chain false (IsFirstMove side e) why) same stops
 
-  pub led_begun : (s mid : State G) (new : G) (before after : A) (tip : Option Hash32) (e : LineEvent) (text : List ℕ) (found ahead : List Node) (moved changed : List Hash32) (pool : PoolState) → mid ≡ begun_at tip s
-      → ((side : Side) (start : Chain) → IsAt l f mid.ledger mid.pool before side start → IsFrom (holdings_of mid) side
-      → Leads l f (OrdersLine f.tells side e) mid.ledger new before after side start text found ahead moved changed pool)
-      → (side : Side) (start : Chain) → IsAt l f s.ledger s.pool before side start → IsFrom (holdings_of s) side
-      → Leads l f (OrdersLine f.tells side e) s.ledger new before after side start text found ahead moved changed pool
-  led_begun s mid new before after tip e text found ahead moved changed pool same led =
-      subst (λ (m : State G). (side : Side) (start : Chain) → IsAt l f m.ledger m.pool before side start → IsFrom (holdings_of m) side
-      → Leads l f (OrdersLine f.tells side e) m.ledger new before after side start text found ahead moved changed pool) same led
+  pub led_begun : (s mid : State G) (new : G) (before after : A) (tip : Option Hash32) (e : LineEvent) (answer : NodeAnswer) (found ahead : List Node) (moved changed : List Hash32) (holdings : Holdings) → mid ≡ begun_at tip s
+      → ((side : Side) (start : Chain) → IsAt l f mid.ledger mid.holdings before side start → IsFrom mid.holdings side
+      → Leads l f (OrdersLine f.tells side e) mid.ledger new before after side start answer found ahead moved changed holdings)
+      → (side : Side) (start : Chain) → IsAt l f s.ledger s.holdings before side start → IsFrom s.holdings side
+      → Leads l f (OrdersLine f.tells side e) s.ledger new before after side start answer found ahead moved changed holdings
+  led_begun s mid new before after tip e answer found ahead moved changed holdings same led =
+      subst (λ (m : State G). (side : Side) (start : Chain) → IsAt l f m.ledger m.holdings before side start → IsFrom m.holdings side
+      → Leads l f (OrdersLine f.tells side e) m.ledger new before after side start answer found ahead moved changed holdings) same led
 
-  pub keeps_begun : (s mid : State G) (new : G) (before after : A) (tip : Option Hash32) (result : Result Outs StepFault) → mid ≡ begun_at tip s → NodeKeeps l f mid.ledger new before after result → NodeKeeps l f s.ledger new before after result
+  pub keeps_begun : (s mid : State G) (new : G) (before after : A) (tip : Option Hash32) (result : Result Outs QueryFault) → mid ≡ begun_at tip s → NodeKeeps l f mid.ledger new before after result → NodeKeeps l f s.ledger new before after result
   keeps_begun s mid new before after tip result same keeps = subst (λ (m : State G). NodeKeeps l f m.ledger new before after result) same keeps
 
   -- What is known of a step of the node, which leaves the clients as they were: all of them wait.
-  pub record NodeTurned (leads : List ℕ → List Device → Side → Type 0) (old new : State G) (before after : A) (world : World) (left : List Event) (o : Outs) : Type 0 where
+  pub record NodeTurned (leads : NodeAnswer → List Device → Side → Type 0) (old new : State G) (before after : A) (world : World) (left : List Event) (o : Outs) : Type 0 where
     pub stood : Stands l.stands old world left
     pub answered : Answered l f leads old new before after world.side stood.start o
-    pub magic : new.magic ≡ old.magic
+    pub magic : new.holdings.magic ≡ old.holdings.magic
     pub clients : new.clients ≡ old.clients
     pub speaker : new.speaker ≡ old.speaker
     pub surplus : new.surplus ≡ old.surplus
@@ -167,7 +169,7 @@ module _ {G A : Type 0} (l : ledger.Ghosts G) (f : archive.Ghosts A) where
   to_node_goes o text next surplus is = rw is (inl refl, tt)
 
   -- `base` and `start` are as the turn began, `old` and `world` as the step began
-  built : (leads : List ℕ → List Device → Side → Type 0) (base old new : State G) (before after : A) (start world : World) (left : List Event) (o : Outs) (r : NodeTurned leads old new before after world left o)
+  built : (leads : NodeAnswer → List Device → Side → Type 0) (base old new : State G) (before after : A) (start world : World) (left : List Event) (o : Outs) (r : NodeTurned leads old new before after world left o)
       (done ordered : List Event) → old.ledger ≡ base.ledger → world.side ≡ start.side → left ≡ done ++ (ordered ++ r.stood.said)
       → OneTurn f.tells start done (outs_of o) r.answered.led.losses (record world { side = r.answered.led.next })
       → ((q : ℕ) → old.speaker ≡ Some q → (ordered ≡ []) × NoneWaits world.sessions) → ((q : ℕ) → old.surplus ≡ Some q → (ordered ≡ []) × NoneWaits world.sessions)
@@ -202,7 +204,7 @@ module _ {G A : Type 0} (l : ledger.Ghosts G) (f : archive.Ghosts A) where
         };
         moved = subst (λ (k : G). Moved l k new.ledger start.side.chain led.next.chain) ledger_is (subst (λ (s : Side). Moved l old.ledger new.ledger s.chain led.next.chain) side_is led.went);
         told = led.told;
-        sends_to = to_node_goes (outs_of o) a.text (record world { side = led.next }) new.surplus a.sends;
+        sends_to = to_node_goes (outs_of o) (text_of a.answer) (record world { side = led.next }) new.surplus a.sends;
         rose = subst (λ (k : G). Lost l f k new.ledger before after led.losses) ledger_is led.rose;
       }
 
@@ -213,7 +215,7 @@ module _ {G A : Type 0} (l : ledger.Ghosts G) (f : archive.Ghosts A) where
   ahead_step old new before after world left o r some node =
       let a = r.answered in
       built (Moving f.tells world.side 0 world.side.ahead) old old new before after world world left o r [] r.stood.ordered refl refl r.stood.left_is
-      (run.works (moving_any 0 world.side.ahead some) refl (record { text = a.text; side = a.led.next; led = a.led.led; outs_is = a.sends; next_is = refl }))
+      (run.works (moving_any 0 world.side.ahead some) refl (record { answer = a.answer; side = a.led.next; led = a.led.led; outs_is = a.sends; next_is = refl }))
       r.stood.speaker_last r.stood.surplus_last (rw node r.stood.node)
 
   -- a line of the node: the rest of the events
@@ -232,13 +234,13 @@ module _ {G A : Type 0} (l : ledger.Ghosts G) (f : archive.Ghosts A) where
       let a = r.answered in
       built (OrdersLine f.tells start.side e) base old new before after start (begun start) left o r (orders e ∷ []) n.rest ledger_is refl
       (rest_after left r.stood.said r.stood.ordered n.rest e r.stood.left_is n.first_is)
-      (run.takes (orders e) still all_told refl (record { text = a.text; side = a.led.next; led = a.led.led; outs_is = a.sends; next_is = refl }))
+      (run.takes (orders e) still all_told refl (record { answer = a.answer; side = a.led.next; led = a.led.led; outs_is = a.sends; next_is = refl }))
       (never old.speaker r.stood.ordered n.rest e _ _ n.first_is r.stood.speaker_last) (never old.surplus r.stood.ordered n.rest e _ _ n.first_is r.stood.surplus_last)
       n.node
 
   -- ---- turns that fail
 
-  failed_so : (old new : G) (before after : A) (world : World) (left : List Event) (again : Bool) (e : StepFault) → IsNodesTurn world left → (again ≡ true → IsBusy world)
+  failed_so : (old new : G) (before after : A) (world : World) (left : List Event) (again : Bool) (e : QueryFault) → IsNodesTurn world left → (again ≡ true → IsBusy world)
       → (r : StopsAt l f old new before after world.side.chain again (IsMoveOf world left) e) → FailsBy again world.side.chain r.next e r.losses → (e ≡ fault.Memory → l.is_live new)
       → TurnFailed l f old new before after world left e
   failed_so old new before after world left again e nodes busy r (by_disk is lost) live = record {
@@ -282,7 +284,7 @@ module _ {G A : Type 0} (l : ledger.Ghosts G) (f : archive.Ghosts A) where
     live = live;
   }
 
-  stops_by : (old new : G) (before after : A) (chain : Chain) (again : Bool) (P Q : Plan → Type 0) (e : StepFault) → ((p : Plan) → P p → Q p) → StopsAt l f old new before after chain again P e → StopsAt l f old new before after chain again Q e
+  stops_by : (old new : G) (before after : A) (chain : Chain) (again : Bool) (P Q : Plan → Type 0) (e : QueryFault) → ((p : Plan) → P p → Q p) → StopsAt l f old new before after chain again P e → StopsAt l f old new before after chain again Q e
   stops_by old new before after chain again P Q e gives r = record {
     next = r.next;
     flight = under_way_by f.tells (f.bytes after) chain P Q r.next gives r.flight;
@@ -300,7 +302,7 @@ module _ {G A : Type 0} (l : ledger.Ghosts G) (f : archive.Ghosts A) where
   nodes_busy world (model.leaves p ∷ left) busy = busy
   nodes_busy world (model.says p said ∷ left) busy = busy
 
-  pub ahead_failed : (old new : G) (before after : A) (world : World) (left : List Event) (e : StepFault) → (world.side.ahead ≡ [] → ⊥)
+  pub ahead_failed : (old new : G) (before after : A) (world : World) (left : List Event) (e : QueryFault) → (world.side.ahead ≡ [] → ⊥)
       → (e ≡ fault.Memory → l.is_live new) → StopsAt l f old new before after world.side.chain true (λ (p : Plan). p ≡ plan_of 0 world.side.ahead) e
       → TurnFailed l f old new before after world left e
   ahead_failed old new before after world left e some live r =
@@ -308,7 +310,7 @@ module _ {G A : Type 0} (l : ledger.Ghosts G) (f : archive.Ghosts A) where
       let s = stops_by old new before after world.side.chain true _ (IsMoveOf world left) e (λ p is. later busy is) r in
       failed_so old new before after world left true e (nodes_busy world left busy) (λ y. busy) s s.fails live
 
-  pub line_failed : (old new : G) (before after : A) (world : World) (left rest : List Event) (e : StepFault) (said : LineEvent)
+  pub line_failed : (old new : G) (before after : A) (world : World) (left rest : List Event) (e : QueryFault) (said : LineEvent)
       → IsStill world → AllTold world → left ≡ orders said ∷ rest → (e ≡ fault.Memory → l.is_live new)
       → StopsAt l f old new before after world.side.chain false (IsFirstMove world.side said) e → TurnFailed l f old new before after world left e
   line_failed old new before after world left rest e said still all_told is live r =

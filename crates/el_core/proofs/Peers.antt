@@ -1,5 +1,5 @@
 -- Turns of the client that speaks, and of one too many.
-use Rattle.std.proofs.Common.{◌≡◌, ◌⊎◌, inl, inr, ℕ, zero, suc, ◌+◌, ◌<◌, ◌≤◌, Bool, true, false, not, List, [], ◌∷◌, ◌++◌, length, map, filter, drop, slice_get, Option, Some, None, Ok, Err, refl, sym, ap, ◌∙◌, append-nil, append_assoc, subst, arith, true≢false}
+use Rattle.std.proofs.Common.{◌≡◌, ◌⊎◌, inl, inr, ℕ, zero, suc, ◌+◌, ◌≤◌, Bool, true, false, not, List, [], ◌∷◌, ◌++◌, length, map, filter, drop, slice_get, Option, Some, None, Ok, Err, refl, sym, ap, ◌∙◌, append-nil, append_assoc, subst, arith, true≢false}
 use Rattle.std.specs.Prelude.{MatchBool, IfSome, IfNone, find}
 use Rattle.std.specs.List.{AllByRecursion, AllZip}
 use Rattle.std.proofs.lemmas.Option.{slice_get_within}
@@ -12,11 +12,13 @@ use Rattle.el_model.specs.LedgerCalls.{Moved}
 use Rattle.el_lines.proofs.Cuts.{either}
 use Rattle.el_lines.specs.Lines.{LineEvent, line, too_long, lines}
 use Rattle.el_lines.specs.NodeAnswers.{node_limit}
+use Rattle.el_sessions.specs.Sessions.{HasAdded}
 use Rattle.el_sessions.specs.declared.session.Session as known
 use Rattle.el_replies.specs.declared.line.LineReply.{LineReply}
 use Rattle.el_subs.specs.Told as status_told
 use Rattle.el_subs.specs.Told.{status}
-use Rattle.el_world.specs.Side.{Side}
+use Rattle.el_side.specs.declared.holdings.Holdings.{Holdings}
+use Rattle.el_side.specs.Side.{Side}
 use Rattle.el_world.specs.World as model
 use Rattle.el_world.specs.World.{World, Session, Event, IsStill, AllTold, joins, says, orders, leaves, Takes, Outs, Comes, outs_of_reply, after_reply, nothing, closes_long, closes_memory, closes_surplus, is_client, is_peer, without_client, line_limit}
 use Rattle.el_world.specs.Run as run
@@ -136,9 +138,7 @@ module _ {G A : Type 0} (l : ledger.Ghosts G) (f : archive.Ghosts A) where
     pub still : IsStill world
     pub all_told : AllTold world
     pub moved : Moved l old.ledger new.ledger world.side.chain world.side.chain
-    pub magic : new.magic ≡ old.magic
-    pub found : new.found ≡ old.found
-    pub pool : new.pool ≡ old.pool
+    pub holdings : new.holdings ≡ old.holdings
     pub ahead : new.ahead ≡ old.ahead
     pub node : new.node ≡ old.node
     pub before : new.before ≡ old.before
@@ -152,11 +152,11 @@ module _ {G A : Type 0} (l : ledger.Ghosts G) (f : archive.Ghosts A) where
       → Stands l.stands new (record world { sessions = ss }) rest
   stood_after old new world left r ss rest are spoken unused tellings = record {
     chain = r.moved.stood;
-    magic = r.magic ∙ r.stood.magic;
-    found = r.found ∙ r.stood.found;
+    magic = ap (λ (h : Holdings). h.magic) r.holdings ∙ r.stood.magic;
+    found = ap (λ (h : Holdings). h.tree) r.holdings ∙ r.stood.found;
     ahead = r.ahead ∙ r.stood.ahead;
     start = r.stood.start;
-    set = rw r.pool r.stood.set;
+    set = rw r.holdings r.stood.set;
     ordered = [];
     node = rw r.node (subst (λ (es : List Event). NodeLeaves old.node world.heard es) r.none_left r.stood.node);
     said = rest;
@@ -289,11 +289,11 @@ module _ {G A : Type 0} (l : ledger.Ghosts G) (f : archive.Ghosts A) where
   uncounted_step : (old new : State G) (before after : A) (world : World) (left : List Event) (o : Outs) (r : Beside old new world left) (told : f.tells → AllGrow world.side.files (f.bytes after)) (p i : ℕ) (c : ClientState) (b : LineState)
       (bytes : List ℕ) (now : known.Session) (losses : List Device) (reply : LineReply) (w : Speaking old world r.stood.said p i c) → c.peer ≡ p → c.lost ≡ false → Gives c.buffer (line bytes) b
       → new.clients ≡ replaced i None old.clients → new.speaker ≡ None → new.surplus ≡ None
-      → Comes f.tells world.side bytes c.session losses now (Ok reply) → length c.session.subs < length now.subs → o ≡ closes_memory p → Lost l f old.ledger new.ledger before after losses
+      → Comes f.tells world.side bytes c.session losses now (Ok reply) → HasAdded c.session.subs now.subs → o ≡ closes_memory p → Lost l f old.ledger new.ledger before after losses
       → TookTurn l f old new before after world left o
   uncounted_step old new before after world left o r told p i c b bytes now losses reply w peer_is kept gives clients speaker unused comes more is rose =
       let comes' = subst (λ (s : known.Session). Comes f.tells world.side bytes s losses now (Ok reply)) w.is.kept comes in
-      let more' = subst (λ (s : known.Session). length s.subs < length now.subs) w.is.kept more in
+      let more' = subst (λ (s : known.Session). HasAdded s.subs now.subs) w.is.kept more in
       closed_step old new before after world left o r told p i c b (line bytes) losses w peer_is kept gives clients speaker unused
       (line_takes old world r.stood.said o p i c w bytes losses (without_client p world) (model.uncounted reply now comes' more' is refl)) (λ next. rw is tt) rose
 

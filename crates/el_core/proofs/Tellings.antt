@@ -9,8 +9,8 @@ use Rattle.el_sessions.specs.Sessions.{Subscription, is_subscribed, is_to}
 use Rattle.el_subs.specs.Told as status_told
 use Rattle.el_subs.specs.Told.{status, OthersTold, marked}
 use Rattle.el_lines.proofs.Cuts.{either}
-use Rattle.el_world.specs.NodeSteps.{Touches}
-use Rattle.el_world.specs.Side.{Side}
+use Rattle.el_side.specs.NodeSteps.{Touches}
+use Rattle.el_side.specs.Side.{Side}
 use Rattle.el_world.specs.World.{Session, Event, is_peer}
 use Rattle.el_core.specs.State.{ClientState, IsSession, IsUntouched, NoneWaits, Tellings, waiting}
 use Rattle.el_core.specs.within.Clients.{replaced}

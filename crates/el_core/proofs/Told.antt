@@ -16,7 +16,7 @@ use Rattle.el_model.proofs.LedgerMoves.{LeavesOwn, asked_moved}
 use Rattle.el_subs.specs.Told as status_told
 use Rattle.el_subs.specs.Told.{status}
 use Rattle.el_subs.specs.Notices.{notified}
-use Rattle.el_world.specs.Side.{Side}
+use Rattle.el_side.specs.Side.{Side}
 use Rattle.el_world.specs.World.{World, Session, Event, IsStill, Outs, closes_disk, closes_memory, is_client, is_peer, next_told, told, outs_of_telling}
 use Rattle.el_world.specs.World as model
 use Rattle.el_world.specs.Run as run
@@ -80,13 +80,14 @@ first_waits stands old world left i stood first c at =
 
 -- what is known of the client that is told
 pub to_tell : {G : Type 0} (stands : G → Chain → Type 0) (old : State G) (world : World) (left : List Event) (i : ℕ) (c : ClientState) → Stands stands old world left → IsStill world → slice_get old.clients i ≡ Some c
-    → IsToTell stands old.ledger old.pool old.touched world.side c
+    → IsToTell stands old.ledger old.holdings old.touched world.side c
 to_tell stands old world left i c stood still at =
     let z = zip_at (IsSession old.speaker stood.said) old.clients world.sessions i c stood.sessions.each at in
     let start_is = stood.set.still still in
     record {
       stood = stood.chain;
-      set = subst (λ (k : Chain). StandsFor old.pool.entries k world.side.kept) start_is stood.set.stood;
+      set = subst (λ (k : Chain). StandsFor old.holdings.pool.entries k world.side.kept) start_is stood.set.stood;
+      beside = tt;
       others = rw z.2.kept (others_of world.side stood.start old.touched z.0.client.subs start_is (all_at _ world.sessions i z.0 stood.tellings.untouched z.1));
     }
 
@@ -130,11 +131,11 @@ module _ {G A : Type 0} (l : ledger.Ghosts G) (f : archive.Ghosts A) where
         turn = turn;
         stood = record {
           chain = r.went.stood;
-          magic = ap (λ (s : State G). s.magic) r.same ∙ st.magic;
-          found = ap (λ (s : State G). s.found) r.same ∙ st.found;
+          magic = ap (λ (s : State G). s.holdings.magic) r.same ∙ st.magic;
+          found = ap (λ (s : State G). s.holdings.tree) r.same ∙ st.found;
           ahead = ap (λ (s : State G). s.ahead) r.same ∙ st.ahead;
           start = st.start;
-          set = rw (ap (λ (s : State G). s.pool) r.same) st.set;
+          set = rw (ap (λ (s : State G). s.holdings) r.same) st.set;
           ordered = st.ordered;
           node = rw (ap (λ (s : State G). s.node) r.same) st.node;
           said = st.said;
@@ -207,7 +208,7 @@ module _ {G A : Type 0} (l : ledger.Ghosts G) (f : archive.Ghosts A) where
   pub tell_turned : (old new : State G) (files : A) (world : World) (left : List Event) (o : Outs) (i : ℕ) → LeavesOwn l → l.is_live old.ledger → Asked l old.ledger new.ledger
       → Stands l.stands old world left → (f.tells → AllGrow world.side.files (f.bytes files)) → old.ahead ≡ [] → IsFirstWaiting old.clients (Some i)
       → new ≡ record old { ledger = new.ledger; clients = new.clients }
-      → TellsAt (λ c now. (side : Side) → IsToTell l.stands old.ledger old.pool old.touched side c → TellTurn side old.before (λ n. RoseBy (l.faults old.ledger) (l.faults new.ledger) n) c o now) i old.clients new.clients
+      → TellsAt (λ c now. (side : Side) → IsToTell l.stands old.ledger old.holdings old.touched side c → TellTurn side old.before (λ n. RoseBy (l.faults old.ledger) (l.faults new.ledger) n) c o now) i old.clients new.clients
       → TookTurn l f old new files files world left o
   tell_turned old new files world left o i own live asked stood grown ahead first same t =
       let still : IsStill world = sym stood.ahead ∙ ahead in

@@ -14,18 +14,18 @@ use Rattle.el_model.specs.LedgerCalls.{Asked, failed_calls}
 use Rattle.el_model.specs.Queries.{tip_of}
 use Rattle.el_lines.specs.Lines.{LineEvent}
 use Rattle.el_mempool.specs.Standing.{StandsFor}
-use Rattle.el_world.specs.NodeSteps.{IsAt, Leads}
-use Rattle.el_world.specs.Side.{Side, Moving, OrdersLine}
+use Rattle.el_side.specs.NodeSteps.{IsAt, Leads}
+use Rattle.el_side.specs.Side.{Side, Moving, OrdersLine}
 use Rattle.el_world.specs.World.{World, Session, Event, orders, IsStill, AllTold, begun, is_peer}
 use Rattle.el_world.specs.Run as run
-use Rattle.el_world.specs.Flights.{IsFirstMove}
+use Rattle.el_side.specs.UnderWay.{IsFirstMove}
 use Rattle.el_model.proofs.LedgerMoves.{LeavesOwn, asked_moved}
 use Rattle.el_sync.specs.Steps.{IsFrom, StopsAt}
-use Rattle.el_sync.specs.declared.fault.StepFault.{StepFault}
-use Rattle.el_sync.specs.declared.fault.StepFault.TheVariants as fault
+use Rattle.el_model.specs.declared.fault.QueryFault.{QueryFault}
+use Rattle.el_model.specs.declared.fault.QueryFault.TheVariants as fault
 use Rattle.el_core.specs.State.{State, ClientState, HasGivenAll, IsSession, SessionsAre, AllVoid, Stands, waiting}
 use Rattle.el_core.specs.Turn.{TookTurn, TurnFailed, IsDone, outs_of}
-use Rattle.el_core.specs.within.Answering.{Answered, IsSettled, Lost, holdings_of}
+use Rattle.el_core.specs.within.Answering.{Answered, IsSettled, Lost}
 use Rattle.el_core.specs.within.Clients.{Gives, NextIsLine, PeersTurn, all_wait, begun_at}
 use Rattle.el_core.specs.within.Touching.{CoversAll}
 use Rattle.el_core.specs.declared.out.Outs as code
@@ -98,17 +98,18 @@ begun_stands {G} stands old start left rest e tip stood is still all_told tip_is
 module _ {G A : Type 0} (l : ledger.Ghosts G) (f : archive.Ghosts A) where
   -- a turn of the node's last tip line
   pub ahead_turned : (old new : State G) (before after : A) (world : World) (left : List Event) (o : code.Outs) → Stands l.stands old world left
-      → (f.tells → AllGrow world.side.files (f.bytes before)) → (old.ahead ≡ [] → ⊥) → new ≡ record old { ledger = new.ledger; pool = new.pool; ahead = new.ahead; touched = new.touched }
-      → ((side : Side) (start : Chain) → IsAt l f old.ledger old.pool before side start → side.found ≡ old.found → Answered l f (Moving f.tells side 0 old.ahead) old new before after side start o)
+      → (f.tells → AllGrow world.side.files (f.bytes before)) → (old.ahead ≡ [] → ⊥) → new ≡ record old { ledger = new.ledger; holdings = new.holdings; ahead = new.ahead; touched = new.touched }
+      → new.holdings.magic ≡ old.holdings.magic
+      → ((side : Side) (start : Chain) → IsAt l f old.ledger old.holdings before side start → side.found ≡ old.holdings.tree → Answered l f (Moving f.tells side 0 old.ahead) old new before after side start o)
       → TookTurn l f old new before after world left (outs_of o)
-  ahead_turned old new before after world left o stood told some same turn =
+  ahead_turned old new before after world left o stood told some same magic turn =
       let busy : world.side.ahead ≡ [] → ⊥ = λ e. some (stood.ahead ∙ e) in
       ahead_step l f old new before after world left o
       (record {
         stood = stood;
         answered = subst (λ (ns : List Node). Answered l f (Moving f.tells world.side 0 ns) old new before after world.side stood.start o) stood.ahead
             (turn world.side stood.start (record { stood = stood.chain; set = stood.set; told = told }) (sym stood.found));
-        magic = ap (λ (s : State G). s.magic) same;
+        magic = magic;
         clients = ap (λ (s : State G). s.clients) same;
         speaker = ap (λ (s : State G). s.speaker) same;
         surplus = ap (λ (s : State G). s.surplus) same;
@@ -118,23 +119,24 @@ module _ {G A : Type 0} (l : ledger.Ghosts G) (f : archive.Ghosts A) where
       busy (ap (λ (s : State G). s.node) same)
 
   -- the server's headers are the side's
-  from_side : (old mid : State G) (world : World) (left : List Event) → Stands l.stands old world left → mid ≡ record old { node = mid.node } → mid.ahead ≡ [] → IsFrom (holdings_of mid) world.side
+  from_side : (old mid : State G) (world : World) (left : List Event) → Stands l.stands old world left → mid ≡ record old { node = mid.node } → mid.ahead ≡ [] → IsFrom mid.holdings world.side
   from_side old mid world left stood same still = record {
-    found = sym (ap (λ (s : State G). s.found) same ∙ stood.found);
-    magic = sym (ap (λ (s : State G). s.magic) same ∙ stood.magic);
+    found = sym (ap (λ (s : State G). s.holdings.tree) same ∙ stood.found);
+    magic = sym (ap (λ (s : State G). s.holdings.magic) same ∙ stood.magic);
     still = sym stood.ahead ∙ sym (ap (λ (s : State G). s.ahead) same) ∙ still;
   }
 
   -- a line of the node: `read` is the state after the line was read
   pub node_turned : (old read new : State G) (before after : A) (world : World) (left : List Event) (o : code.Outs) (e : LineEvent) → ((k : G) (chain : Chain) → l.stands k chain → l.tip k ≡ tip_of chain) → Stands l.stands old world left
       → (f.tells → AllGrow world.side.files (f.bytes before)) → read.ahead ≡ [] → waiting read.clients ≡ [] → read ≡ record old { node = read.node } → read.node.limit ≡ old.node.limit → Gives old.node e read.node
-      → new ≡ record read { ledger = new.ledger; found = new.found; pool = new.pool; ahead = new.ahead; clients = new.clients; before = new.before; touched = new.touched }
+      → new ≡ record read { ledger = new.ledger; holdings = new.holdings; ahead = new.ahead; clients = new.clients; before = new.before; touched = new.touched }
+      → new.holdings.magic ≡ read.holdings.magic
       → (new.clients ≡ all_wait read.clients) × (new.before ≡ l.tip read.ledger)
-      → ((side : Side) (start : Chain) → IsAt l f read.ledger read.pool before side start → IsFrom (holdings_of read) side
+      → ((side : Side) (start : Chain) → IsAt l f read.ledger read.holdings before side start → IsFrom read.holdings side
       → Answered l f (OrdersLine f.tells side e) (begun_at (l.tip read.ledger) read) new before after side start o)
       → TookTurn l f old new before after world left (outs_of o)
   unfolding begun_stands
-  node_turned old read new before after world left o e tip_is stood told still quiet_all same limit gives then begins turn =
+  node_turned old read new before after world left o e tip_is stood told still quiet_all same limit gives then magic begins turn =
       let ledger_is : read.ledger ≡ old.ledger = ap (λ (s : State G). s.ledger) same in
       let from = from_side old read world left stood same still in
       let clients_is : read.clients ≡ old.clients = ap (λ (s : State G). s.clients) same in
@@ -142,20 +144,20 @@ module _ {G A : Type 0} (l : ledger.Ghosts G) (f : archive.Ghosts A) where
       let n = next_order old.node read.node world.heard stood.ordered e stood.node limit gives in
       let tip : l.tip read.ledger ≡ tip_of world.side.chain = tip_is read.ledger world.side.chain (rw ledger_is stood.chain) in
       let began = begun_stands l.stands old world left n.rest e (l.tip read.ledger) stood n.first_is from.still all_told tip in
-      let a = turn world.side stood.start (record { stood = rw ledger_is stood.chain; set = rw (ap (λ (s : State G). s.pool) same) stood.set; told = told }) from in
+      let a = turn world.side stood.start (record { stood = rw ledger_is stood.chain; set = rw (ap (λ (s : State G). s.holdings) same) stood.set; told = told }) from in
       let node : new.node ≡ read.node = ap (λ (s : State G). s.node) then in
       node_step l f old (begun_at (l.tip read.ledger) old) new before after world left o e
       (record {
         stood = began;
         answered = record {
-          text = a.text;
+          answer = a.answer;
           moved = a.moved;
           changed = a.changed;
           sends = a.sends;
-          led = subst (λ (k : G). Leads l f (OrdersLine f.tells world.side e) k new.ledger before after world.side stood.start a.text new.found new.ahead a.moved a.changed new.pool) ledger_is a.led;
+          led = subst (λ (k : G). Leads l f (OrdersLine f.tells world.side e) k new.ledger before after world.side stood.start a.answer new.holdings.tree new.ahead a.moved a.changed new.holdings) ledger_is a.led;
           covers = subst (λ (cs : List ClientState). CoversAll (all_wait cs) [] a.moved a.changed new.touched) clients_is a.covers;
         };
-        magic = ap (λ (s : State G). s.magic) then ∙ ap (λ (s : State G). s.magic) same;
+        magic = magic ∙ ap (λ (s : State G). s.holdings.magic) same;
         clients = begins.0 ∙ ap all_wait clients_is;
         speaker = ap (λ (s : State G). s.speaker) then ∙ ap (λ (s : State G). s.speaker) same;
         surplus = ap (λ (s : State G). s.surplus) then ∙ ap (λ (s : State G). s.surplus) same;
@@ -166,10 +168,11 @@ module _ {G A : Type 0} (l : ledger.Ghosts G) (f : archive.Ghosts A) where
 
   -- a client may be answered
   settled : (old : State G) (files : A) (world : World) (left : List Event) (known_files : ℕ → List ℕ) → Stands l.stands old world left → (f.tells → AllGrow known_files (f.bytes files)) → old.ahead ≡ []
-      → IsSettled l f old.ledger (holdings_of old) files (record world.side { files = known_files })
+      → IsSettled l f old.ledger old.holdings files (record world.side { files = known_files })
   settled old files world left known_files stood told still = record {
     stood = stood.chain;
-    set = subst (λ (c : Chain). StandsFor old.pool.entries c world.side.kept) (stood.set.still (sym stood.ahead ∙ still)) stood.set.stood;
+    set = subst (λ (c : Chain). StandsFor old.holdings.pool.entries c world.side.kept) (stood.set.still (sym stood.ahead ∙ still)) stood.set.stood;
+    beside = tt;
     found = stood.found;
     told = told;
   }
@@ -183,9 +186,7 @@ module _ {G A : Type 0} (l : ledger.Ghosts G) (f : archive.Ghosts A) where
     still = sym stood.ahead ∙ still;
     all_told = all_told_world old.clients old.speaker stood.said world.sessions stood.sessions.each quiet_all;
     moved = asked_moved l old.ledger new.ledger world.side.chain own live asked stood.chain;
-    magic = ap (λ (s : State G). s.magic) same;
-    found = ap (λ (s : State G). s.found) same;
-    pool = ap (λ (s : State G). s.pool) same;
+    holdings = ap (λ (s : State G). s.holdings) same;
     ahead = ap (λ (s : State G). s.ahead) same;
     node = ap (λ (s : State G). s.node) same;
     before = ap (λ (s : State G). s.before) same;
@@ -196,7 +197,7 @@ module _ {G A : Type 0} (l : ledger.Ghosts G) (f : archive.Ghosts A) where
   pub peers_turned : (old new : State G) (before after : A) (world : World) (left : List Event) (o : Option code.Outs) → LeavesOwn l → l.is_live old.ledger → Stands l.stands old world left
       → (f.tells → AllGrow world.side.files (f.bytes before)) → (f.tells → AllGrow (f.bytes before) (f.bytes after)) → old.ahead ≡ [] → waiting old.clients ≡ [] → HasGivenAll old.node
       → new ≡ record old { ledger = new.ledger; clients = new.clients; speaker = new.speaker; surplus = new.surplus } → Asked l old.ledger new.ledger
-      → ((side : Side) → IsSettled l f old.ledger (holdings_of old) before side → PeersTurn f.tells side (Lost l f old.ledger new.ledger before after) old o new)
+      → ((side : Side) → IsSettled l f old.ledger old.holdings before side → PeersTurn f.tells side (Lost l f old.ledger new.ledger before after) old o new)
       → IfSome o (λ out. TookTurn l f old new before after world left (outs_of out))
   peers_turned old new before after world left o own live stood told grows still quiet_all all same asked turn =
       peers_step l f old new before after world left o (beside old new world left own live stood still quiet_all all same asked)
@@ -205,7 +206,7 @@ module _ {G A : Type 0} (l : ledger.Ghosts G) (f : archive.Ghosts A) where
 
   -- what is known of it whatever the side knows of the block files
   pub peers_any : (old new : State G) (before after : A) (world : World) (left : List Event) (o : Option code.Outs) → Stands l.stands old world left → old.ahead ≡ []
-      → ((side : Side) → IsSettled l f old.ledger (holdings_of old) before side → PeersTurn f.tells side (Lost l f old.ledger new.ledger before after) old o new)
+      → ((side : Side) → IsSettled l f old.ledger old.holdings before side → PeersTurn f.tells side (Lost l f old.ledger new.ledger before after) old o new)
       → PeersTurn f.tells (record world.side { files = f.bytes before }) (Lost l f old.ledger new.ledger before after) old o new
   peers_any old new before after world left o stood still turn =
       turn (record world.side { files = f.bytes before }) (settled old before world left (f.bytes before) stood (λ t. all_grow_none (f.bytes before)) still)
@@ -213,7 +214,7 @@ module _ {G A : Type 0} (l : ledger.Ghosts G) (f : archive.Ghosts A) where
   pub peers_ended : (old new : State G) (before after : A) (world : World) (left : List Event) (o : Option code.Outs) → LeavesOwn l → l.is_live old.ledger → Stands l.stands old world left
       → old.ahead ≡ [] → waiting old.clients ≡ [] → HasGivenAll old.node → new ≡ record old { ledger = new.ledger; clients = new.clients; speaker = new.speaker; surplus = new.surplus }
       → Asked l old.ledger new.ledger
-      → ((side : Side) → IsSettled l f old.ledger (holdings_of old) before side → PeersTurn f.tells side (Lost l f old.ledger new.ledger before after) old o new)
+      → ((side : Side) → IsSettled l f old.ledger old.holdings before side → PeersTurn f.tells side (Lost l f old.ledger new.ledger before after) old o new)
       → IfNone o (IsDone l.stands f.tells world left new)
   peers_ended old new before after world left o own live stood still quiet_all all same asked turn =
       peers_none l f _ _ _ old new world left o (beside old new world left own live stood still quiet_all all same asked)
@@ -235,16 +236,16 @@ unread_failed l f old new files world left own live same stood line quiet_all =
     })
 
 -- a line of the node in which the server stops: `read` is the state after the line was read
-pub node_failed : {G A : Type 0} (l : ledger.Ghosts G) (f : archive.Ghosts A) (old read : State G) (new : G) (before after : A) (world : World) (left : List Event) (said : LineEvent) (e : StepFault)
+pub node_failed : {G A : Type 0} (l : ledger.Ghosts G) (f : archive.Ghosts A) (old read : State G) (new : G) (before after : A) (world : World) (left : List Event) (said : LineEvent) (e : QueryFault)
     → Stands l.stands old world left → (f.tells → AllGrow world.side.files (f.bytes before)) → read.ahead ≡ [] → waiting read.clients ≡ [] → read ≡ record old { node = read.node } → read.node.limit ≡ old.node.limit
     → Gives old.node said read.node → (e ≡ fault.Memory → l.is_live new)
-    → ((side : Side) (start : Chain) → IsAt l f read.ledger read.pool before side start → IsFrom (holdings_of read) side → StopsAt l f read.ledger new before after side.chain false (IsFirstMove side said) e)
+    → ((side : Side) (start : Chain) → IsAt l f read.ledger read.holdings before side start → IsFrom read.holdings side → StopsAt l f read.ledger new before after side.chain false (IsFirstMove side said) e)
     → TurnFailed l f old.ledger new before after world left e
 node_failed {G} l f old read new before after world left said e stood told still quiet_all same limit gives live stopped =
     let ledger_is : read.ledger ≡ old.ledger = ap (λ (s : State G). s.ledger) same in
     let from = from_side l f old read world left stood same still in
     let all_told : AllTold world = all_told_world old.clients old.speaker stood.said world.sessions stood.sessions.each (rw (ap (λ (s : State G). s.clients) same) at quiet_all) in
     let n = next_order old.node read.node world.heard stood.ordered said stood.node limit gives in
-    let r = rw ledger_is at (stopped world.side stood.start (record { stood = rw ledger_is stood.chain; set = rw (ap (λ (s : State G). s.pool) same) stood.set; told = told }) from) in
+    let r = rw ledger_is at (stopped world.side stood.start (record { stood = rw ledger_is stood.chain; set = rw (ap (λ (s : State G). s.holdings) same) stood.set; told = told }) from) in
     line_failed l f old.ledger new before after world left (n.rest ++ stood.said) e said from.still all_told
     (stood.left_is ∙ ap (λ (es : List Event). es ++ stood.said) n.first_is) live r

@@ -6,14 +6,14 @@ use Rattle.el_chain.specs.declared.node.Node.{Node}
 use Rattle.el_chain.specs.Chains.{Chain}
 use Rattle.el_lines.specs.Lines.{lines}
 use Rattle.el_lines.specs.NodeAnswers.{node_limit}
-use Rattle.el_mempool.specs.Standing.{PoolState}
 use Rattle.el_sessions.specs.declared.session.Session as client
 use Rattle.el_sessions.specs.Sessions.{Subscription}
 use Rattle.el_subs.specs.Told as status_told
 use Rattle.el_subs.specs.Told.{status, is_touched, IsTold}
-use Rattle.el_touched.specs.Untouched.{LooksSame}
-use Rattle.el_world.specs.NodeSteps.{SetStands}
-use Rattle.el_world.specs.Side.{Side}
+use Rattle.el_status.specs.Untouched.{LooksSame}
+use Rattle.el_side.specs.declared.holdings.Holdings.{Holdings}
+use Rattle.el_side.specs.NodeSteps.{SetStands}
+use Rattle.el_side.specs.Side.{Side}
 use Rattle.el_world.specs.World.{World, Session, Event, says, orders, joins, leaves, is_peer, line_limit, client_limit}
 use Rattle.el_lines.specs.LineStates.{LineState, IsAt, held}
 
@@ -27,16 +27,14 @@ pub record ClientState : Type 0 where
   pub session : client.Session
   pub waits : Bool
 
--- the ledger, of some type; the network's magic; the nodes that were found; the unconfirmed set; the node's
--- bytes, as a line buffer keeps them; the blocks that its last tip line is still to put in; the clients, in
--- the order in which they came; the one whose bytes came last, until all of its lines are met; a client too
--- many that isn't closed yet; the tip before the node's last line; and the script hashes that this line
--- touched so far, of those to which clients subscribe
+-- the ledger, of some type; what is held beside it; the node's bytes, as a line buffer keeps them; the blocks
+-- that its last tip line is still to put in; the clients, in the order in which they came; the one whose
+-- bytes came last, until all of its lines are met; a client too many that isn't closed yet; the tip before
+-- the node's last line; and the script hashes that this line touched so far, of those to which clients
+-- subscribe
 pub record State (G : Type 0) : Type 0 where
   pub ledger : G
-  pub magic : List ℕ
-  pub found : List Node
-  pub pool : PoolState
+  pub holdings : Holdings
   pub node : LineState
   pub ahead : List Node
   pub clients : List ClientState
@@ -110,7 +108,7 @@ work_of_node bytes found ahead = bytes * (found + bytes + 1) + ahead
 -- at most how many turns are left: after each turn of the node each client is told once
 abbrev pub work : {G : Type 0} → State G → ℕ
 work s =
-    work_of_node (held s.node) (length s.found) (length s.ahead) * (length s.clients + 1)
+    work_of_node (held s.node) (length s.holdings.tree) (length s.ahead) * (length s.clients + 1)
     + length (waiting s.clients)
     + work_of_peers s
 
@@ -207,11 +205,11 @@ pub record NodeLeaves (node : LineState) (heard : List ℕ) (left : List Event) 
 pub record Stands {G : Type 0} (stands : G → Chain → Type 0) (s : State G) (world : World) (left : List Event)
     : Type 0 where
   pub chain : stands s.ledger world.side.chain
-  pub magic : s.magic ≡ world.side.magic
-  pub found : s.found ≡ world.side.found
+  pub magic : s.holdings.magic ≡ world.side.magic
+  pub found : s.holdings.tree ≡ world.side.found
   pub ahead : s.ahead ≡ world.side.ahead
   pub start : Chain
-  pub set : SetStands s.pool world.side start
+  pub set : SetStands s.holdings world.side start
   pub ordered : List Event
   pub node : NodeLeaves s.node world.heard ordered
   pub said : List Event

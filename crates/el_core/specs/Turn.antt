@@ -17,8 +17,8 @@ use Rattle.el_world.specs.World as model
 use Rattle.el_world.specs.World.{World, Session, Event, says, is_client, IsStill, AllTold, next_told, closes_long}
 use Rattle.el_world.specs.Run.{Turns, OneTurn, Closes, Stop, by_disk, by_memory, Stops, disk_failed, sift_failed, no_memory, untold, unsent}
 use Rattle.el_core.specs.State.{State, ClientState, Stands}
-use Rattle.el_sync.specs.declared.fault.StepFault.{StepFault}
-use Rattle.el_sync.specs.declared.fault.StepFault.TheVariants as fault
+use Rattle.el_model.specs.declared.fault.QueryFault.{QueryFault}
+use Rattle.el_model.specs.declared.fault.QueryFault.TheVariants as fault
 use Rattle.el_sync.specs.Steps.{StopsAt}
 use Rattle.el_core.specs.declared.out.Outs.{Outs}
 
@@ -49,7 +49,7 @@ abbrev pub WaitsToBeTold : ℕ → World → Type 0
 WaitsToBeTold p world = (session : Session) × (next_told world ≡ Some session) × (session.peer ≡ p)
 
 -- the turn closes this client for a line that is too long, and does no more
-abbrev pub ClosesLong : ℕ → Result (Option Outs) StepFault → Type 0
+abbrev pub ClosesLong : ℕ → Result (Option Outs) QueryFault → Type 0
 ClosesLong p result = (o : Outs) × (result ≡ Ok (Some o)) × (outs_of o ≡ closes_long p)
 
 -- a message goes to the node, or to a client, which may be closed then, that no client too many waits beside
@@ -87,7 +87,7 @@ pub record IsDone {G : Type 0} (stands : G → Chain → Type 0) (tells : Type 0
   pub stood : Stands stands s world []
 
 -- the stop that a fault of a turn is
-abbrev pub stop_of : StepFault → Stop
+abbrev pub stop_of : QueryFault → Stop
 stop_of fault.DiskFailed = by_disk
 stop_of fault.Memory = by_memory
 
@@ -116,7 +116,7 @@ KeepsChain (unsent done rest outs failed after front back m lost last next whole
 -- A turn failed, and with it the server stops. `old` and `new` are the ledger, which is still live where no
 -- memory was found; `later` is whether the turn was to make a later move of a tip line.
 pub record TurnFailed {G A : Type 0} (of_ledger : ledger.Ghosts G) (of_files : archive.Ghosts A)
-    (old new : G) (before after : A) (world : World) (left : List Event) (e : StepFault) : Type 0 where
+    (old new : G) (before after : A) (world : World) (left : List Event) (e : QueryFault) : Type 0 where
   pub losses : List Device
   pub stops : Stops of_files.tells world left (stop_of e) [] [] losses
   pub within : IsWithin stops

@@ -6,10 +6,10 @@ ghost use Rattle.el_outside.specs.Files.{AllGrow};
 ghost use Rattle.el_model.specs.LedgerCalls.{Asked};
 ghost use Rattle.el_subs.specs.Notices.{notices};
 ghost use Rattle.el_subs.specs.Told.{status};
-ghost use Rattle.el_world.specs.Side.{Side};
+ghost use Rattle.el_side.specs.Side.{Side};
 ghost use Rattle.el_world.specs.World.{line_limit, new_client, outs_of_reply, reply_to};
 ghost use Rattle.el_lines.specs.LineStates.{as_listed, held};
-ghost use Rattle.el_sessions.specs.Sessions.{Extends};
+ghost use Rattle.el_sessions.specs.Sessions.{Edits};
 ghost use Rattle.el_core.specs.State.{HasGivenAll, HasNoWork, IsHeardOut, work_of_client};
 ghost use Rattle.el_core.specs.Turn.{messages_of, outs_of};
 ghost use Rattle.el_core.specs.within.Answering.{IsSettled, Lost};
@@ -19,11 +19,11 @@ use crate::out::Outs;
 use el_base::{Bytes, Hash32, Listed, OutOfMemory};
 use el_chain::Touched;
 use el_lines::{AnswerRoom, LINE_LIMIT, LineBuffer, LineEvent};
-use el_methods::Holdings;
 use el_model::{Ledger, QueryFault};
 use el_outside::{Archive, Peer, Why};
 use el_replies::{LineReply, reply_line};
 use el_sessions::{Session, Subs};
+use el_side::Holdings;
 use el_subs::notify;
 use std::alloc::Global;
 use std::marker::Model;
@@ -128,11 +128,11 @@ impl Client {
     ) -> Result<Vec<Bytes>, QueryFault>
         requires live { G.is_live ledger.old }
         ensures told { (side : Side)
-            → IsToTell G.stands ledger.old holdings.now.pool touched.now side self.old
+            → IsToTell G.stands ledger.old holdings.now touched.now side self.old
             → IfOk result (λ lines. lines.items
             ≡ notices (status side.chain side.kept) before.now side.chain self.old.session) }
         ensures marked { (side : Side)
-            → IsToTell G.stands ledger.old holdings.now.pool touched.now side self.old
+            → IsToTell G.stands ledger.old holdings.now touched.now side self.old
             → OnOk result (self.new ≡ told_client side self.old) }
         ensures done { OnOk result (self.new.waits ≡ false) }
         ensures bytes { self.new.buffer ≡ self.old.buffer }
@@ -254,7 +254,7 @@ fn replying(alloc: Global, room: Vec<(Peer, Bytes)>, p: Peer, reply: LineReply) 
 
 // What a client gets for a line, and whether it stays. The room for the message is taken before the line is
 // looked at: where there is none, nothing was asked.
-#[tactic(auto, using(el_sessions::proofs::Subscribing::extends_same))]
+#[tactic(auto, using(el_sessions::proofs::Subscribing::edits_same))]
 fn answer_line<G: Ledger, A: Archive>(
     alloc: Global,
     ledger: &mut G,
@@ -274,7 +274,7 @@ fn answer_line<G: Ledger, A: Archive>(
     ensures disk_more { G.faults ledger.old ≤ G.faults ledger.new }
     ensures archive_more { A.faults archive.old ≤ A.faults archive.new }
     ensures same { client.new ≡ record client.old { session = client.new.session } }
-    ensures extends { Extends client.old.session.subs client.new.session.subs }
+    ensures edits { Edits client.old.session.subs client.new.session.subs }
 {
     let peer = client.peer();
     let Ok(room) = room_for_one(alloc) else {
@@ -291,7 +291,7 @@ fn answer_line<G: Ledger, A: Archive>(
 
 // What a client gets for what was met in its bytes: the reply to a line, or its closing; and whether it
 // stays.
-#[tactic(auto, using(el_sessions::proofs::Subscribing::extends_same))]
+#[tactic(auto, using(el_sessions::proofs::Subscribing::edits_same))]
 fn answer<G: Ledger, A: Archive>(
     alloc: Global,
     ledger: &mut G,
@@ -311,7 +311,7 @@ fn answer<G: Ledger, A: Archive>(
     ensures disk_more { G.faults ledger.old ≤ G.faults ledger.new }
     ensures archive_more { A.faults archive.old ≤ A.faults archive.new }
     ensures same { client.new ≡ record client.old { session = client.new.session } }
-    ensures extends { Extends client.old.session.subs client.new.session.subs }
+    ensures edits { Edits client.old.session.subs client.new.session.subs }
 {
     match met {
         LineEvent::TooLong { limit: _ } => {
@@ -326,7 +326,7 @@ fn answer<G: Ledger, A: Archive>(
 
 /// One turn of a client: the reply to its next line, its closing, or nothing where no whole line is left; and
 /// whether the client stays.
-#[tactic(auto, using(el_sessions::proofs::Subscribing::extends_same))]
+#[tactic(auto, using(el_sessions::proofs::Subscribing::edits_same))]
 pub fn client_turn<G: Ledger, A: Archive>(
     alloc: Global,
     ledger: &mut G,
@@ -350,7 +350,7 @@ pub fn client_turn<G: Ledger, A: Archive>(
         < work_of_client (Some client.old)) }
     ensures done { IfNone result.0 (HasNoWork (left_if result.1 client.new)) }
     ensures same { (client.new.peer ≡ client.old.peer) × (client.new.waits ≡ client.old.waits) }
-    ensures extends { Extends client.old.session.subs client.new.session.subs }
+    ensures edits { Edits client.old.session.subs client.new.session.subs }
     ensures idle { IfNone result.0 ((client.new ≡ client.old) × (result.1 ≡ true)) }
 {
     let peer = client.peer();

@@ -3,7 +3,7 @@ ghost use Rattle.std.specs.Prelude.{◌≡◌, ◌<◌, ◌≤◌, [], ◌∷◌
 ghost use Rattle.el_outside.specs.Counts.{RoseBy};
 ghost use Rattle.el_outside.specs.Files.{AllGrow};
 ghost use Rattle.el_model.specs.LedgerCalls.{Asked};
-ghost use Rattle.el_world.specs.Side.{Side};
+ghost use Rattle.el_side.specs.Side.{Side};
 ghost use Rattle.el_core.specs.Arrivals.{kept_clients};
 ghost use Rattle.el_core.specs.within.Answering.{IsSettled, Lost};
 ghost use Rattle.el_core.specs.Turn.{outs_of};
@@ -17,9 +17,9 @@ use crate::telling::tell_turn;
 use crate::watching::Watched;
 use el_base::{Hash32, OutOfMemory};
 use el_chain::Touched;
-use el_methods::Holdings;
 use el_model::Ledger;
 use el_outside::{Archive, Peer, Why};
+use el_side::Holdings;
 use std::alloc::Global;
 use std::marker::Model;
 
@@ -229,7 +229,7 @@ impl Clients {
         requires inside { i < length self.old }
         requires live { G.is_live ledger.old }
         ensures turn { TellsAt (λ c left. (side : Side)
-            → IsToTell G.stands ledger.old holdings.now.pool touched.now side c
+            → IsToTell G.stands ledger.old holdings.now touched.now side c
             → TellTurn side before.now (λ n. RoseBy (G.faults ledger.old) (G.faults ledger.new) n)
             c (outs_of result) left) i self.old self.new }
         ensures quiet { Asked ⟦<G as Ledger>⟧ ledger.old ledger.new }

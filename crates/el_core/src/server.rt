@@ -4,20 +4,21 @@ ghost use Rattle.el_outside.specs.Counts.{RoseBy};
 ghost use Rattle.el_outside.specs.Files.{AllGrow};
 ghost use Rattle.el_chain.specs.declared.moves.Plan as moves;
 ghost use Rattle.el_chain.specs.Chains.{Chain};
-ghost use Rattle.el_world.specs.Flights.{IsFirstMove};
+ghost use Rattle.el_side.specs.UnderWay.{IsFirstMove};
 ghost use Rattle.el_model.specs.LedgerCalls.{Asked};
+ghost use Rattle.el_model.specs.declared.fault.QueryFault.TheVariants as turn_fault;
 ghost use Rattle.el_lines.specs.Lines.{too_long};
-ghost use Rattle.el_world.specs.NodeSteps.{IsAt};
-ghost use Rattle.el_world.specs.Plans.{plan_of};
+ghost use Rattle.el_side.specs.NodeSteps.{IsAt};
+ghost use Rattle.el_side.specs.Plans.{plan_of};
 ghost use Rattle.el_world.specs.Run.{MayStarve};
-ghost use Rattle.el_world.specs.Side.{Side, Moving, OrdersLine};
+ghost use Rattle.el_side.specs.Side.{Side, Moving, OrdersLine};
 ghost use Rattle.el_world.specs.World.{World, Event, joins, says, is_client, IsStill, AllTold, initial_world, without_client, reply_to};
 ghost use Rattle.el_lines.specs.LineStates.{as_listed, held};
 ghost use Rattle.el_sync.specs.Steps.{IsFrom, StopsAt};
 ghost use Rattle.el_core.specs.State.{AreUpTo, IsIdle, Stands, HasGivenAll, waiting, work, work_of_peers};
 ghost use Rattle.el_core.specs.Arrivals.{TookArrival, IsAbove, IsUpTo, with_all_bytes, gone_from};
 ghost use Rattle.el_core.specs.Turn.{TookTurn, TurnFailed, IsDone, HasLost, MeetsLine, WaitsToBeTold, ClosesLong, outs_of};
-ghost use Rattle.el_core.specs.within.Answering.{Answered, IsSettled, Lost, NodeKeeps, holdings_of};
+ghost use Rattle.el_core.specs.within.Answering.{Answered, IsSettled, Lost, NodeKeeps};
 ghost use Rattle.el_core.specs.within.Clients.{Hears, Opens, Gives, NextIsLine, IsFirstWaiting, SpeakerSteps, PeersTurn, IsToTell, TellTurn, TellsAt, all_wait, begun_at};
 
 use crate::client::{Client, closing, rooms_for_one, sending_in};
@@ -26,12 +27,11 @@ use crate::out::Outs;
 use crate::touching::touch;
 use el_base::{Hash32, OutOfMemory};
 use el_chain::Touched;
-use el_lines::{LineBuffer, LineEvent, NODE_LINE_LIMIT};
-use el_methods::Holdings;
+use el_lines::{LineBuffer, LineEvent, NODE_LINE_LIMIT, answer_text};
 use el_model::Ledger;
-use el_outside::{Archive, Arrival, Peer, Why};
+use el_outside::{Archive, Arrival, CLIENT_LIMIT, Peer, Why};
+use el_side::Holdings;
 use el_sync::{Ahead, StepFault, move_next, order};
-use el_world::CLIENT_LIMIT;
 use std::alloc::Global;
 use std::marker::Model;
 use std::mem;
@@ -71,9 +71,7 @@ impl<G: Ledger> Model for Server<G> {
 
     ghost view = { λ s. record {
       ledger = s.ledger;
-      magic = s.holdings.magic;
-      found = s.holdings.tree;
-      pool = s.holdings.pool;
+      holdings = s.holdings;
       node = s.node.state;
       ahead = s.ahead;
       clients = s.clients;
@@ -220,12 +218,12 @@ impl<G: Ledger> Server<G> {
         requires live { G.is_live self.old.ledger }
         requires some { self.old.ahead ≢ [] }
         ensures moving { (side : Side) (start : Chain)
-            → IsAt ⟦<G as Ledger>⟧ ⟦<A as Archive>⟧ self.old.ledger self.old.pool archive.old side start
-            → side.found ≡ self.old.found → IfOk result (Answered ⟦<G as Ledger>⟧ ⟦<A as Archive>⟧
+            → IsAt ⟦<G as Ledger>⟧ ⟦<A as Archive>⟧ self.old.ledger self.old.holdings archive.old side start
+            → side.found ≡ self.old.holdings.tree → IfOk result (Answered ⟦<G as Ledger>⟧ ⟦<A as Archive>⟧
             (Moving A.tells side 0 self.old.ahead) self.old self.new archive.old archive.new side start) }
         ensures sends { IfOk result (λ o. (text : List ℕ) × (outs_of o ≡ reply_to 0 text)) }
         ensures stopped { (side : Side) (start : Chain)
-            → IsAt ⟦<G as Ledger>⟧ ⟦<A as Archive>⟧ self.old.ledger self.old.pool archive.old side start
+            → IsAt ⟦<G as Ledger>⟧ ⟦<A as Archive>⟧ self.old.ledger self.old.holdings archive.old side start
             → IfErr result (
             StopsAt ⟦<G as Ledger>⟧ ⟦<A as Archive>⟧ self.old.ledger self.new.ledger archive.old archive.new
             side.chain true (λ (p : moves.Plan). p ≡ plan_of 0 self.old.ahead)) }
@@ -233,10 +231,12 @@ impl<G: Ledger> Server<G> {
         ensures fewer { OnOk result (length self.new.ahead < length self.old.ahead) }
         ensures same { self.new ≡ record self.old {
           ledger = self.new.ledger;
-          pool = self.new.pool;
+          holdings = self.new.holdings;
           ahead = self.new.ahead;
           touched = self.new.touched;
         } }
+        ensures tree { self.new.holdings.tree ≡ self.old.holdings.tree }
+        ensures magic { self.new.holdings.magic ≡ self.old.holdings.magic }
         ensures step { NodeKeeps ⟦<G as Ledger>⟧ ⟦<A as Archive>⟧ self.old.ledger self.new.ledger
             archive.old archive.new result }
     {
@@ -250,7 +250,6 @@ impl<G: Ledger> Server<G> {
             &mut self.holdings,
             rest,
             archive,
-            room,
         ) {
             Ok(step) => {
                 let Ok(()) = touch(&self.clients, &mut self.touched, &step.moved, &step.changed)
@@ -258,7 +257,7 @@ impl<G: Ledger> Server<G> {
                     return Err(StepFault::Memory);
                 };
                 self.ahead = step.left;
-                Ok(sending_in(message, 0, step.text))
+                Ok(sending_in(message, 0, answer_text(room, &step.answer)))
             }
             Err(fault) => Err(fault),
         }
@@ -280,31 +279,31 @@ impl<G: Ledger> Server<G> {
         requires still { self.old.ahead ≡ [] }
         requires told { waiting self.old.clients ≡ [] }
         ensures node { (side : Side) (start : Chain)
-            → IsAt ⟦<G as Ledger>⟧ ⟦<A as Archive>⟧ self.old.ledger self.old.pool archive.old side start
-            → IsFrom (holdings_of self.old) side → IfOk result (Answered ⟦<G as Ledger>⟧ ⟦<A as Archive>⟧
+            → IsAt ⟦<G as Ledger>⟧ ⟦<A as Archive>⟧ self.old.ledger self.old.holdings archive.old side start
+            → IsFrom self.old.holdings side → IfOk result (Answered ⟦<G as Ledger>⟧ ⟦<A as Archive>⟧
             (OrdersLine A.tells side (as_listed met)) (begun_at (G.tip self.old.ledger) self.old) self.new
             archive.old archive.new side start) }
         ensures sends { IfOk result (λ o. (text : List ℕ) × (outs_of o ≡ reply_to 0 text)) }
         ensures stopped { (side : Side) (start : Chain)
-            → IsAt ⟦<G as Ledger>⟧ ⟦<A as Archive>⟧ self.old.ledger self.old.pool archive.old side start
-            → IsFrom (holdings_of self.old) side → IfErr result (
+            → IsAt ⟦<G as Ledger>⟧ ⟦<A as Archive>⟧ self.old.ledger self.old.holdings archive.old side start
+            → IsFrom self.old.holdings side → IfErr result (
             StopsAt ⟦<G as Ledger>⟧ ⟦<A as Archive>⟧ self.old.ledger self.new.ledger archive.old archive.new
             side.chain false (IsFirstMove side (as_listed met))) }
         ensures still { self.old.ahead ≡ [] }
         ensures told { waiting self.old.clients ≡ [] }
-        ensures fewer { OnOk result (length self.new.ahead ≤ length self.old.found) }
-        ensures more { OnOk result (length self.new.found ≤ length self.old.found + 1) }
+        ensures fewer { OnOk result (length self.new.ahead ≤ length self.old.holdings.tree) }
+        ensures more { OnOk result (length self.new.holdings.tree ≤ length self.old.holdings.tree + 1) }
         ensures begun { OnOk result ((self.new.clients ≡ all_wait self.old.clients)
             × (self.new.before ≡ G.tip self.old.ledger)) }
         ensures same { self.new ≡ record self.old {
           ledger = self.new.ledger;
-          found = self.new.found;
-          pool = self.new.pool;
+          holdings = self.new.holdings;
           ahead = self.new.ahead;
           clients = self.new.clients;
           before = self.new.before;
           touched = self.new.touched;
         } }
+        ensures magic { self.new.holdings.magic ≡ self.old.holdings.magic }
         ensures numbers { (last : ℕ) → AreUpTo last self.old.clients → AreUpTo last self.new.clients }
         ensures step { NodeKeeps ⟦<G as Ledger>⟧ ⟦<A as Archive>⟧ self.old.ledger self.new.ledger
             archive.old archive.new result }
@@ -318,7 +317,6 @@ impl<G: Ledger> Server<G> {
             &mut self.ledger,
             &mut self.holdings,
             archive,
-            room,
             met,
         ) {
             Ok(step) => {
@@ -327,7 +325,7 @@ impl<G: Ledger> Server<G> {
                     return Err(StepFault::Memory);
                 };
                 self.ahead = step.left;
-                Ok(sending_in(message, 0, step.text))
+                Ok(sending_in(message, 0, answer_text(room, &step.answer)))
             }
             Err(fault) => Err(fault),
         }
@@ -345,7 +343,7 @@ impl<G: Ledger> Server<G> {
             → TookTurn ⟦<G as Ledger>⟧ ⟦<A as Archive>⟧ self.old self.new archive.now archive.now
             world left (outs_of result) }
         ensures tells { TellsAt (λ c left. (side : Side)
-            → IsToTell G.stands self.old.ledger self.old.pool self.old.touched side c
+            → IsToTell G.stands self.old.ledger self.old.holdings self.old.touched side c
             → TellTurn side self.old.before
             (λ n. RoseBy (G.faults self.old.ledger) (G.faults self.new.ledger) n)
             c (outs_of result) left) i self.old.clients self.new.clients }
@@ -382,7 +380,7 @@ impl<G: Ledger> Server<G> {
         requires live { G.is_live self.old.ledger }
         ensures speaker_steps { (side : Side)
             → IsSettled ⟦<G as Ledger>⟧ ⟦<A as Archive>⟧
-            self.old.ledger (holdings_of self.old) archive.old side → SpeakerSteps A.tells side
+            self.old.ledger self.old.holdings archive.old side → SpeakerSteps A.tells side
             (Lost ⟦<G as Ledger>⟧ ⟦<A as Archive>⟧ self.old.ledger self.new.ledger archive.old archive.new)
             self.old result self.new }
         ensures quiet { Asked ⟦<G as Ledger>⟧ self.old.ledger self.new.ledger }
@@ -447,7 +445,7 @@ impl<G: Ledger> Server<G> {
         requires live { G.is_live self.old.ledger }
         ensures peers { (side : Side)
             → IsSettled ⟦<G as Ledger>⟧ ⟦<A as Archive>⟧
-            self.old.ledger (holdings_of self.old) archive.old side → PeersTurn A.tells side
+            self.old.ledger self.old.holdings archive.old side → PeersTurn A.tells side
             (Lost ⟦<G as Ledger>⟧ ⟦<A as Archive>⟧ self.old.ledger self.new.ledger archive.old archive.new)
             self.old result self.new }
         ensures quiet { Asked ⟦<G as Ledger>⟧ self.old.ledger self.new.ledger }
@@ -525,7 +523,7 @@ impl<G: Ledger> Server<G> {
         // Also over a ledger that stands for no chain, and also where it fails.
         ensures archive_more { A.faults archive.old ≤ A.faults archive.new }
         ensures disk_more { G.faults self.old.ledger ≤ G.faults self.new.ledger }
-        ensures disk_counted { IsErrOf result StepFault.DiskFailed
+        ensures disk_counted { IsErrOf result turn_fault.DiskFailed
             → RoseBy (G.faults self.old.ledger) (G.faults self.new.ledger) 1 }
     {
         if !self.ahead.is_empty() {

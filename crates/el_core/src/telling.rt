@@ -3,7 +3,7 @@ ghost use Rattle.std.specs.Prelude.{◌≡◌, ◌≤◌, ◌++◌, List, ℕ, I
 ghost use Rattle.std.specs.Map.{keys_of};
 ghost use Rattle.el_outside.specs.Counts.{RoseBy, CountsOnly};
 ghost use Rattle.el_model.specs.LedgerCalls.{Asked};
-ghost use Rattle.el_world.specs.Side.{Side};
+ghost use Rattle.el_side.specs.Side.{Side};
 ghost use Rattle.el_core.specs.Turn.{outs_of, messages_of};
 ghost use Rattle.el_core.specs.within.Clients.{IsToTell, TellTurn, left_if, told_client, told_outs};
 
@@ -11,9 +11,9 @@ use crate::client::{Client, closing};
 use crate::out::Outs;
 use el_base::{Bytes, Hash32, Listed, OutOfMemory};
 use el_chain::Touched;
-use el_methods::Holdings;
 use el_model::{Ledger, QueryFault};
 use el_outside::{Peer, Why};
+use el_side::Holdings;
 use std::alloc::Global;
 
 // The lines as messages to that client.
@@ -43,10 +43,10 @@ fn tell_all<G: Ledger>(
 ) -> Result<Outs, QueryFault>
     requires live { G.is_live ledger.old }
     ensures told { (side : Side)
-        → IsToTell G.stands ledger.old holdings.now.pool touched.now side client.old
+        → IsToTell G.stands ledger.old holdings.now touched.now side client.old
         → IfOk result (λ o. outs_of o ≡ told_outs side before.now client.old) }
     ensures marked { (side : Side)
-        → IsToTell G.stands ledger.old holdings.now.pool touched.now side client.old
+        → IsToTell G.stands ledger.old holdings.now touched.now side client.old
         → OnOk result (client.new ≡ told_client side client.old) }
     ensures done { OnOk result (client.new.waits ≡ false) }
     ensures bytes { client.new.buffer ≡ client.old.buffer }
@@ -74,7 +74,7 @@ pub fn tell_turn<G: Ledger>(
 ) -> (Outs, bool)
     requires live { G.is_live ledger.old }
     ensures turn { (side : Side)
-        → IsToTell G.stands ledger.old holdings.now.pool touched.now side client.old
+        → IsToTell G.stands ledger.old holdings.now touched.now side client.old
         → TellTurn side before.now (λ n. RoseBy (G.faults ledger.old) (G.faults ledger.new) n)
         client.old (outs_of result.0) (left_if result.1 client.new) }
     ensures quiet { Asked ⟦<G as Ledger>⟧ ledger.old ledger.new }

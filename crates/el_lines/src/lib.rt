@@ -4,24 +4,19 @@
 
 mod answer_room;
 mod bytes;
-mod chain_end;
 mod laws;
 mod limits;
 mod line_buffer;
 mod node_answer;
 mod node_line;
 mod number;
-mod pool_answer;
+mod printing;
 
 pub use answer_room::{ANSWER_SIZE, AnswerRoom};
-pub use chain_end::at_answer;
 pub use laws::{cuts_do_not_matter, node_line_says_one_thing, pieces_do_not_matter};
 pub use limits::{IDLE_ROOM, LINE_LIMIT, NODE_LINE_LIMIT};
 pub use line_buffer::{LineBuffer, LineEvent};
-pub use node_answer::{
-    archive_refused, block_answer, deep_refused, genesis_refused, line_refused, long_refused,
-    move_refused, place_refused, unconnected_refused, unknown_refused,
-};
+pub use node_answer::{Flaw, NodeAnswer, NodeRefusal, move_refused, pool_refused};
 pub use node_line::{NodeLine, NodeLineFault, read_node_line};
 pub use number::number_of;
-pub use pool_answer::{absent_refused, gone_answer, pool_refused, tx_answer};
+pub use printing::answer_text;

@@ -1,193 +1,199 @@
-// What a node is answered.
-ghost use Rattle.std.specs.Prelude.{◌≡◌, ◌<◌, ◌≤◌, ◌+◌, ◌++◌, ◌∷◌, [], length, IfSome, MatchOption, None, Some};
-ghost use Rattle.el_base.specs.Shown.{shown};
-ghost use Rattle.el_lines.specs.NodeAnswers as answer;
+// What a node is answered, as a value.
+ghost use Rattle.std.specs.Prelude.{◌≡◌, ◌≤◌, length, option_map};
+ghost use Rattle.el_lines.specs.NodeAnswers as answers;
 
-use crate::answer_room::{ANSWER_SIZE, AnswerRoom, and_then};
-use crate::limits::NODE_LINE_LIMIT;
-use el_base::{Bytes, Hash32};
+use el_base::Hash32;
 use el_block::BlockFault;
 use el_chain::{ConnectFault, MoveFault};
-use itoa::Buffer;
+use el_mempool::PoolFault;
 
-/// A word and what stands after it, ended by byte 10.
-pub fn word_line(room: AnswerRoom, word: &[u8], rest: &[u8]) -> Bytes
-    requires { length word.now + length rest.now < ANSWER_SIZE }
-    ensures { result ≡ word.now ++ (rest.now ++ 10 ∷ []) }
-{
-    let line = and_then(room.into_vec(), word);
-    let line = and_then(line, rest);
-    let line = and_then(line, b"\n");
-    Bytes::from_vec(line)
+/// What a node is answered to a line, and to each further move of a `tip` line. Hashes stand in inner order.
+#[derive(Clone, Copy, Debug)]
+pub enum NodeAnswer {
+    /// `block H`: the block with this hash is found, now or before.
+    Block(Hash32),
+    /// `at H N`: the chain ends in the block with this hash, of this height. Of no blocks nothing is said.
+    At {
+        tip: Option<Hash32>,
+        height: Option<u32>,
+    },
+    /// `tx T`: the transaction with this txid joined those that are kept.
+    Tx(Hash32),
+    /// `gone T`: the transaction with this txid is kept no longer.
+    Gone(Hash32),
+    /// `refused ..`: the line, or the move, is refused.
+    Refused(NodeRefusal),
 }
 
-/// A word and a hash as it is shown, ended by byte 10.
-pub fn hash_line(room: AnswerRoom, word: &[u8], hash: Hash32) -> Bytes
-    requires { length word.now ≤ 32 }
-    ensures { result ≡ word.now ++ (shown hash.0 ++ 10 ∷ []) }
-{
-    word_line(room, word, hash.shown().as_slice())
+/// Why a line of a node, or a move, is refused. Hashes stand in inner order.
+#[derive(Clone, Copy, Debug)]
+pub enum NodeRefusal {
+    /// `line`: it is none of a node.
+    Line,
+    /// `long 8000100`: it has more bytes than `NODE_LINE_LIMIT`.
+    Long,
+    /// `place`: no record stands at the place.
+    Place,
+    /// `genesis H`: the block with this hash names no block before it, and is not the genesis.
+    Genesis(Hash32),
+    /// `unknown H`: no block with this hash was found.
+    Unknown(Hash32),
+    /// `unconnected H`: no path leads to the block with this hash.
+    Unconnected(Hash32),
+    /// `deep N`: so many blocks would be taken back.
+    Deep(usize),
+    /// `archive`: a call of the block files failed.
+    Archive,
+    /// `changed B`: the bytes at the place of the block with this hash don't begin with its header.
+    Changed(Hash32),
+    /// `bad B WORD`: the block with this hash has the flaw.
+    Bad { block: Hash32, flaw: Flaw },
+    /// `form`: the bytes are not one whole transaction.
+    Form,
+    /// `coinbase`: the transaction has the form of a coinbase.
+    Coinbase,
+    /// `confirmed T`: the chain has a transaction with this txid.
+    Confirmed(Hash32),
+    /// `known T`: a transaction with this txid is kept.
+    Known(Hash32),
+    /// `missing T I`: an input takes this output, which is nowhere.
+    Missing { txid: Hash32, index: u32 },
+    /// `conflict T`: an input takes what the transaction with this txid takes.
+    Conflict(Hash32),
+    /// `overspends A B`: so much the inputs take, and so much more the outputs hold, both in satoshi.
+    Overspends { taken: u64, given: u64 },
+    /// `full N B`: so many transactions are kept, of so many bytes, and one more is too many.
+    Full { count: u64, bytes: u64 },
+    /// `absent T`: the transaction with this txid isn't kept.
+    Absent(Hash32),
 }
 
-/// A line of fixed words.
-pub fn fixed_line(room: AnswerRoom, line: &[u8]) -> Bytes
-    requires { length line.now ≤ ANSWER_SIZE }
-    ensures { result ≡ line.now }
-{
-    Bytes::from_vec(and_then(room.into_vec(), line))
+/// What is wrong with a block, by the word that the node is told.
+#[derive(Clone, Copy, Debug)]
+pub enum Flaw {
+    /// `header`: the bytes don't have a whole header.
+    Header,
+    /// `count`: the number of transactions isn't spelled as it should be.
+    Count,
+    /// `empty`: there are no transactions.
+    Empty,
+    /// `tx`: the bytes of a transaction are none.
+    Tx,
+    /// `trailing`: bytes stand behind the last transaction.
+    Trailing,
+    /// `coinbase`: the first transaction isn't the block's only coinbase.
+    Coinbase,
+    /// `repeated`: two transactions have one txid.
+    Repeated,
+    /// `merkle`: the header has another Merkle root.
+    Merkle,
+    /// `heavy`: the block weighs too much.
+    Heavy,
+    /// `coin`: an input takes no coin.
+    Coin,
+    /// `money`: there would be more satoshi than there may be.
+    Money,
+    /// `full`: a table of the index is full.
+    Full,
 }
 
-/// `block H`: the block with this hash, in inner order, is found. It is ended by byte 10, as every answer is,
-/// and like them it takes no memory.
-#[tactic(auto, unfolding(crate::specs::NodeAnswers::block_answer))]
-pub fn block_answer(room: AnswerRoom, hash: Hash32) -> Bytes
-    ensures { result ≡ answer.block_answer hash }
-{
-    hash_line(room, b"block ", hash)
+impl Flaw {
+    /// The word that the node is told.
+    pub fn word(self) -> &'static str
+        ensures word { result.now ≡ answers.flaw_word self }
+        ensures short { length result.now ≤ 32 }
+    {
+        match self {
+            Flaw::Header => "header",
+            Flaw::Count => "count",
+            Flaw::Empty => "empty",
+            Flaw::Tx => "tx",
+            Flaw::Trailing => "trailing",
+            Flaw::Coinbase => "coinbase",
+            Flaw::Repeated => "repeated",
+            Flaw::Merkle => "merkle",
+            Flaw::Heavy => "heavy",
+            Flaw::Coin => "coin",
+            Flaw::Money => "money",
+            Flaw::Full => "full",
+        }
+    }
 }
 
-/// `refused line`: the line is none of a node.
-#[tactic(auto, unfolding(crate::specs::NodeAnswers::line_refused))]
-pub fn line_refused(room: AnswerRoom) -> Bytes
-    ensures { result ≡ answer.line_refused }
-{
-    fixed_line(room, b"refused line\n")
-}
-
-/// `refused long 8000100`: the line has more bytes than `NODE_LINE_LIMIT`.
-#[tactic(auto, unfolding(crate::specs::NodeAnswers::long_refused))]
-pub fn long_refused(room: AnswerRoom) -> Bytes
-    ensures { result ≡ answer.long_refused }
-{
-    let mut digits = Buffer::new();
-    word_line(
-        room,
-        b"refused long ",
-        digits.format(NODE_LINE_LIMIT).as_bytes(),
-    )
-}
-
-/// `refused place`: no record stands at the place.
-#[tactic(auto, unfolding(crate::specs::NodeAnswers::place_refused))]
-pub fn place_refused(room: AnswerRoom) -> Bytes
-    ensures { result ≡ answer.place_refused }
-{
-    fixed_line(room, b"refused place\n")
-}
-
-/// `refused genesis H`: the block with this hash, in inner order, names no block before it, and is not the
-/// genesis.
-#[tactic(auto, unfolding(crate::specs::NodeAnswers::genesis_refused))]
-pub fn genesis_refused(room: AnswerRoom, hash: Hash32) -> Bytes
-    ensures { result ≡ answer.genesis_refused hash }
-{
-    hash_line(room, b"refused genesis ", hash)
-}
-
-/// `refused unknown H`: no block with this hash, in inner order, was found.
-#[tactic(auto, unfolding(crate::specs::NodeAnswers::unknown_refused))]
-pub fn unknown_refused(room: AnswerRoom, hash: Hash32) -> Bytes
-    ensures { result ≡ answer.unknown_refused hash }
-{
-    hash_line(room, b"refused unknown ", hash)
-}
-
-/// `refused unconnected H`: no path leads to the block with this hash, in inner order.
-#[tactic(auto, unfolding(crate::specs::NodeAnswers::unconnected_refused))]
-pub fn unconnected_refused(room: AnswerRoom, hash: Hash32) -> Bytes
-    ensures { result ≡ answer.unconnected_refused hash }
-{
-    hash_line(room, b"refused unconnected ", hash)
-}
-
-/// `refused deep N`: so many blocks would be taken back.
-#[tactic(auto, unfolding(crate::specs::NodeAnswers::deep_refused))]
-pub fn deep_refused(room: AnswerRoom, back: usize) -> Bytes
-    ensures { result ≡ answer.deep_refused back }
-{
-    let mut digits = Buffer::new();
-    word_line(room, b"refused deep ", digits.format(back).as_bytes())
-}
-
-/// `refused archive`: a call of the block files failed.
-#[tactic(auto, unfolding(crate::specs::NodeAnswers::archive_refused))]
-pub fn archive_refused(room: AnswerRoom) -> Bytes
-    ensures { result ≡ answer.archive_refused }
-{
-    fixed_line(room, b"refused archive\n")
-}
-
-// The text of `refused bad B WORD`.
-#[tactic(auto, unfolding(crate::specs::NodeAnswers::bad_refused))]
-fn bad_refused(room: AnswerRoom, hash: Hash32, word: &str) -> Bytes
-    requires { length word.now ≤ 32 }
-    ensures { result ≡ answer.bad_refused hash word.now }
-{
-    let line = and_then(room.into_vec(), b"refused bad ");
-    let line = and_then(line, hash.shown().as_slice());
-    let line = and_then(line, b" ");
-    let line = and_then(line, word.as_bytes());
-    let line = and_then(line, b"\n");
-    Bytes::from_vec(line)
-}
-
-// The word for a fault of a block's bytes.
-fn block_word(fault: BlockFault) -> Option<&'static str>
-    ensures short { IfSome result (λ word. length word.now ≤ 32) }
-    ensures word { MatchOption result (answer.block_word fault ≡ None)
-        (λ word. answer.block_word fault ≡ Some word.now) }
+// The flaw that a fault of a block's bytes is; out of memory is none.
+fn block_flaw(fault: BlockFault) -> Option<Flaw>
+    ensures { result ≡ answers.block_flaw fault }
 {
     match fault {
-        BlockFault::Short => Some("header"),
-        BlockFault::Count(_) => Some("count"),
-        BlockFault::NoTransactions => Some("empty"),
-        BlockFault::Tx { .. } => Some("tx"),
-        BlockFault::Trailing { .. } => Some("trailing"),
-        BlockFault::FirstNotCoinbase => Some("coinbase"),
-        BlockFault::LaterCoinbase { .. } => Some("coinbase"),
-        BlockFault::SameTxid { .. } => Some("repeated"),
-        BlockFault::BadMerkle { .. } => Some("merkle"),
-        BlockFault::Heavy { .. } => Some("heavy"),
+        BlockFault::Short => Some(Flaw::Header),
+        BlockFault::Count(_) => Some(Flaw::Count),
+        BlockFault::NoTransactions => Some(Flaw::Empty),
+        BlockFault::Tx { .. } => Some(Flaw::Tx),
+        BlockFault::Trailing { .. } => Some(Flaw::Trailing),
+        BlockFault::FirstNotCoinbase => Some(Flaw::Coinbase),
+        BlockFault::LaterCoinbase { .. } => Some(Flaw::Coinbase),
+        BlockFault::SameTxid { .. } => Some(Flaw::Repeated),
+        BlockFault::BadMerkle { .. } => Some(Flaw::Merkle),
+        BlockFault::Heavy { .. } => Some(Flaw::Heavy),
         BlockFault::Memory => None,
     }
 }
 
-// The word for a fault of a block over the chain before it.
-fn connect_word(fault: ConnectFault) -> Option<&'static str>
-    ensures short { IfSome result (λ word. length word.now ≤ 32) }
-    ensures word { MatchOption result (answer.connect_word fault ≡ None)
-        (λ word. answer.connect_word fault ≡ Some word.now) }
+// The flaw that a fault of a block over the chain before it is.
+fn connect_flaw(fault: ConnectFault) -> Option<Flaw>
+    ensures { result ≡ answers.connect_flaw fault }
 {
     match fault {
-        ConnectFault::MissingCoin { .. } => Some("coin"),
-        ConnectFault::Money { .. } => Some("money"),
-        ConnectFault::Full { .. } => Some("full"),
+        ConnectFault::MissingCoin { .. } => Some(Flaw::Coin),
+        ConnectFault::Money { .. } => Some(Flaw::Money),
+        ConnectFault::Full { .. } => Some(Flaw::Full),
         ConnectFault::DiskFailed | ConnectFault::Memory => None,
     }
 }
 
-// The text of `refused bad B WORD`, where there is a word.
-fn bad_answer(room: AnswerRoom, hash: Hash32, word: Option<&'static str>) -> Option<Bytes>
-    requires { IfSome word (λ w. length w.now ≤ 32) }
-    ensures { MatchOption word.entry (result ≡ None)
-        (λ w. result ≡ Some (answer.bad_refused hash w.now)) }
+// That the block has the flaw, where there is one.
+fn bad_refused(block: Hash32, flaw: Option<Flaw>) -> Option<NodeAnswer>
+    ensures { result ≡ option_map (answers.bad_refused block) flaw }
 {
-    match word {
+    match flaw {
         None => None,
-        Some(word) => Some(bad_refused(room, hash, word)),
+        Some(flaw) => Some(NodeAnswer::Refused(NodeRefusal::Bad { block, flaw })),
     }
 }
 
 /// `refused changed B` or `refused bad B WORD`: a move is refused for one of its blocks. None where a device
 /// failed, or memory ran out, in the move: that is no fault of a block.
-#[tactic(auto, unfolding(crate::specs::NodeAnswers::changed_refused))]
-pub fn move_refused(room: AnswerRoom, fault: MoveFault) -> Option<Bytes>
-    ensures { result ≡ answer.move_refused fault }
+pub fn move_refused(fault: MoveFault) -> Option<NodeAnswer>
+    ensures { result ≡ answers.move_refused fault }
 {
     match fault {
-        MoveFault::Changed { wanted, .. } => Some(hash_line(room, b"refused changed ", wanted)),
-        MoveFault::BadBlock { hash, fault } => bad_answer(room, hash, block_word(fault)),
-        MoveFault::Refused { hash, fault } => bad_answer(room, hash, connect_word(fault)),
+        MoveFault::Changed { wanted, .. } => {
+            Some(NodeAnswer::Refused(NodeRefusal::Changed(wanted)))
+        }
+        MoveFault::BadBlock { hash, fault } => bad_refused(hash, block_flaw(fault)),
+        MoveFault::Refused { hash, fault } => bad_refused(hash, connect_flaw(fault)),
         MoveFault::DiskFailed | MoveFault::ArchiveFailed | MoveFault::Memory => None,
     }
+}
+
+/// What is answered for the first refusal of a transaction with this txid, in inner order. None where a
+/// device failed, or memory ran out: that is no refusal of it.
+pub fn pool_refused(txid: Hash32, fault: PoolFault) -> Option<NodeAnswer>
+    ensures { result ≡ answers.pool_refused txid fault }
+{
+    let refusal = match fault {
+        PoolFault::Bad => NodeRefusal::Form,
+        PoolFault::CoinbaseForm => NodeRefusal::Coinbase,
+        PoolFault::Confirmed => NodeRefusal::Confirmed(txid),
+        PoolFault::Known => NodeRefusal::Known(txid),
+        PoolFault::Missing { outpoint } => NodeRefusal::Missing {
+            txid: outpoint.txid,
+            index: outpoint.index,
+        },
+        PoolFault::Conflict { txid, .. } => NodeRefusal::Conflict(txid),
+        PoolFault::Overspends { taken, given } => NodeRefusal::Overspends { taken, given },
+        PoolFault::Full { count, bytes } => NodeRefusal::Full { count, bytes },
+        PoolFault::DiskFailed | PoolFault::Memory => return None,
+    };
+    Some(NodeAnswer::Refused(refusal))
 }

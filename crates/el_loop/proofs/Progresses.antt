@@ -15,10 +15,11 @@ use Rattle.el_model.specs.declared.ledger.Ledger as ledger
 use Rattle.el_model.specs.LedgerCalls.{failed_calls}
 use Rattle.el_world.specs.World.{World, Event, Outs}
 use Rattle.el_world.specs.Run.{Turns, none, more, Stop, Stops, disk_failed, sift_failed, no_memory, untold, unsent, files_at, Delivers, all, sends, loses, lost_by, IsDeparture, LostBy, by_disk, by_link, by_memory}
-use Rattle.el_world.specs.Flights.{FliesAt, IsUnderWay, IsMoveOf}
+use Rattle.el_side.specs.UnderWay.{IsUnderWay}
+use Rattle.el_world.specs.Flights.{FliesAt, IsMoveOf}
 use Rattle.el_core.specs.State.{State, Stands}
 use Rattle.el_core.specs.Turn.{TookTurn, TurnFailed, IsWithin, KeepsChain, IsDone, stop_of}
-use Rattle.el_sync.specs.declared.fault.StepFault.{StepFault}
+use Rattle.el_model.specs.declared.fault.QueryFault.{QueryFault}
 use Rattle.el_loop.specs.within.Sending.{StoppedSending}
 use Rattle.el_loop.specs.within.Progress.{ClientsAreOpen, CanDeliver, Delivered, Snapshot, snapshot, failed, IsReady, Progress, Finished, Stopped}
 use Rattle.el_loop.proofs.Turned.{after_turn, still_waiting, turn_to_one}
@@ -253,7 +254,7 @@ module _ {G A K : Type 0} (of_ledger : ledger.Ghosts G) (of_files : archive.Ghos
 
   -- a turn failed
   pub stopped_turn : (leaves : Chain → Chain → Type 0) (first : World) (all' : List Event)
-      (before : Snapshot G A K) (s turned : State G) (files files' : A) (k : K) (stop : Stop) (e : StepFault)
+      (before : Snapshot G A K) (s turned : State G) (files files' : A) (k : K) (stop : Stop) (e : QueryFault)
       → (p : Progress of_ledger of_files of_link first all' before (snapshot s files k))
       → (t : TurnFailed of_ledger of_files s.ledger turned.ledger files files' p.world p.left e)
       → leaves p.world.side.chain t.stops_at.next

@@ -6,8 +6,8 @@ use Rattle.el_outside.specs.declared.link.SendFault.{SendFault}
 use Rattle.el_outside.specs.declared.link.SendFault.TheVariants as fault
 use Rattle.el_outside.proofs.Devices.{each_more}
 use Rattle.el_outside.proofs.Traces.{rose_more, rose_none}
-use Rattle.el_sync.specs.declared.fault.StepFault.{StepFault}
-use Rattle.el_sync.specs.declared.fault.StepFault.TheVariants as step
+use Rattle.el_model.specs.declared.fault.QueryFault.{QueryFault}
+use Rattle.el_model.specs.declared.fault.QueryFault.TheVariants as step
 use Rattle.el_core.specs.Turn as turn
 use Rattle.el_outside.specs.Devices.{Device, link, archive, disk, Faults, faults, Rose}
 use Rattle.el_loop.specs.Counts.{counts, HasRisen, failed_device, IsCaused}
@@ -55,7 +55,7 @@ pub rises_other : {T : Type 0} {a b : ℕ} {h e : Halt} → a ≤ b → e ≢ h 
 rises_other {h = h} {e = e} more other = record { more = more; rose = λ is. absurd (other cc) }
 
 -- a turn failed
-pub rises_turn : {T : Type 0} (a b c : ℕ) (e : StepFault) (h : Halt) → stop_of h ≡ turn.stop_of e → a ≤ b
+pub rises_turn : {T : Type 0} (a b c : ℕ) (e : QueryFault) (h : Halt) → stop_of h ≡ turn.stop_of e → a ≤ b
     → b ≤ c
     → (e ≡ step.DiskFailed → RoseBy b c 1) → RisesFor {T = T} a c halt.Disk (Err h)
 rises_turn a b c step.DiskFailed h is more further failed =
@@ -65,7 +65,7 @@ rises_turn a b c step.Memory halt.Link is more further failed = absurd cc
 rises_turn a b c step.Memory halt.Memory is more further failed =
     record { more = omega arith; rose = λ e. absurd cc }
 
-pub turn_no_link : {T : Type 0} (a b : ℕ) (e : StepFault) (h : Halt) → stop_of h ≡ turn.stop_of e → a ≤ b
+pub turn_no_link : {T : Type 0} (a b : ℕ) (e : QueryFault) (h : Halt) → stop_of h ≡ turn.stop_of e → a ≤ b
     → RisesFor {T = T} a b halt.Link (Err h)
 turn_no_link a b step.DiskFailed halt.Disk is more = rises_other more (λ e. cc)
 turn_no_link a b step.DiskFailed halt.Link is more = absurd cc

@@ -8,9 +8,10 @@ use Rattle.el_outside.specs.declared.link.Why.{Why}
 use Rattle.el_outside.specs.declared.link.Why.TheVariants as why
 use Rattle.el_chain.specs.Chains.{Chain}
 use Rattle.el_lines.specs.Lines.{LineEvent, line, too_long}
+use Rattle.el_lines.specs.declared.node_answer.NodeAnswer.{NodeAnswer}
 use Rattle.el_subs.specs.Told.{status}
 use Rattle.el_subs.specs.Notices.{notices}
-use Rattle.el_world.specs.Side.{Side}
+use Rattle.el_side.specs.Side.{Side}
 use Rattle.el_world.specs.World.{World, Session, Event, joins, leaves, says, orders, Outs, IsLed, Takes, Replied, replied, starved, uncounted, Notifies, tells as is_told, fails, told, begun, outs_of_telling, with_session, is_peer, is_client, without_client, client_limit}
 use Rattle.el_outside.specs.Devices.{Device}
 use Rattle.el_world.specs.Run.{OneTurn, takes, works, notifies, departs}
@@ -38,12 +39,12 @@ quiet_after trace world outs next q are = record {
 }
 
 -- the node is answered
-by_lead : (leads : List ℕ → List Device → Side → Type 0) (world : World) (outs : Outs) (losses : List Device)
+by_lead : (leads : NodeAnswer → List Device → Side → Type 0) (world : World) (outs : Outs) (losses : List Device)
     (next : World) → IsLed leads world outs losses next → Quietly world outs next
 by_lead leads world outs losses next l = record { none = rw l.outs_is refl; same = rw l.next_is refl }
 
 -- where a line of the node begins, with which all are to be told
-by_line_of_node : (leads : List ℕ → List Device → Side → Type 0) (world : World) (outs : Outs)
+by_line_of_node : (leads : NodeAnswer → List Device → Side → Type 0) (world : World) (outs : Outs)
     (losses : List Device) (next : World) → IsLed leads (begun world) outs losses next
     → Quietly world outs next
 by_line_of_node leads world outs losses next l =
@@ -344,7 +345,7 @@ all_to p (t ∷ ts) = (refl, all_to p ts)
 abbrev pub ToOne : Outs → Type 0
 ToOne outs = (p : ℕ) × AllByRecursion (λ (m : Message). m.peer ≡ p) outs.messages
 
-lead_to_one : (leads : List ℕ → List Device → Side → Type 0) (world : World) (outs : Outs)
+lead_to_one : (leads : NodeAnswer → List Device → Side → Type 0) (world : World) (outs : Outs)
     (losses : List Device) (next : World) → IsLed leads world outs losses next → ToOne outs
 lead_to_one leads world outs losses next l = (0, rw l.outs_is (refl, tt))
 

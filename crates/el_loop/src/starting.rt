@@ -13,10 +13,10 @@ use crate::options::RunOptions;
 use crate::running::run;
 use el_core::Server;
 use el_headers::HeaderTree;
-use el_methods::Holdings;
 use el_model::Ledger;
 use el_outside::{Archive, Link};
 use el_pool::Pool;
+use el_side::Holdings;
 use std::alloc::Global;
 
 /// Serves the arrivals that calls of `next` bring, as the options say, from a ledger and the headers that

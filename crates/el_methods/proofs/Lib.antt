@@ -5,3 +5,4 @@ mod Printable
 mod ManyHeaders
 mod Served
 mod Unchanged
+mod Own

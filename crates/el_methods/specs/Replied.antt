@@ -1,13 +1,16 @@
 -- What each call is answered (Electrum Protocol 1.4): the table of methods.
-use Rattle.std.specs.Prelude.{◌≡◌, ◌≢◌, negsuc, Bool, true, false, if◌then◌else◌, List, [], Option, None, Some, Result, Ok, Err, codes}
+use Rattle.std.specs.Prelude.{◌≡◌, ◌≢◌, ⊤, negsuc, Bool, true, false, if◌then◌else◌, List, [], Option, None, Some, Result, Ok, Err, codes}
 use Rattle.serde_json.specs.Data.{Data, null, boolean, number, string, array, no_items, item}
 use Rattle.serde_json.specs.Find.{of_integer}
+use Rattle.el_base.specs.declared.hash.Hash32.{Hash32}
 use Rattle.el_chain.specs.Chains.{Chain}
+use Rattle.el_tx.specs.Hashing.{txid, full_encoding}
 use Rattle.el_tx.specs.declared.types.Tx.{Tx}
 use Rattle.el_chain.specs.declared.node.Node.{Node}
+use Rattle.el_model.specs.Queries.{find_tx}
 use Rattle.el_view.specs.Views.{balance}
 use Rattle.el_methods.specs.Results as result
-use Rattle.el_methods.specs.Results.{whole, balance_value}
+use Rattle.el_methods.specs.Results.{whole, hex, balance_value}
 use Rattle.el_methods.specs.Outcomes.{IsReplyWith, TellsNoFiles}
 use Rattle.el_methods.specs.declared.stop.Stop.{Stop}
 use Rattle.el_methods.specs.declared.stop.Stop.TheVariants as stop
@@ -91,15 +94,36 @@ abbrev pub reads_files : List Tx → Call → Bool
 reads_files kept (call.TransactionGet id verbose) = result.is_in_files kept id verbose
 reads_files kept c = false
 
+-- the bytes of a transaction with that txid, in hex
+abbrev pub IsTextOf : Hash32 → Data → Type 0
+IsTextOf id answer = (tx : Tx) × (txid tx ≡ id) × (answer ≡ hex (full_encoding tx))
+
+-- What may be given of the chain's transaction with that txid, whatever the block files hold: never the bytes
+-- of another one, nor that there is none where the chain has one. That a call of the block files failed, or
+-- that they have changed, is told only of one that the chain has.
+abbrev pub IsOwnAnswer : Chain → Hash32 → Result Data Stop → Type 0
+IsOwnAnswer chain id (Ok answer) = IsTextOf id answer × (find_tx chain id ≢ None)
+IsOwnAnswer chain id (Err (stop.Refused r)) = (r ≡ refusal.NoSuchTransaction) × (find_tx chain id ≡ None)
+IsOwnAnswer chain id (Err stop.Disk) = ⊤
+IsOwnAnswer chain id (Err stop.Archive) = find_tx chain id ≢ None
+IsOwnAnswer chain id (Err stop.Changed) = find_tx chain id ≢ None
+IsOwnAnswer chain id (Err stop.Memory) = ⊤
+
+-- the same of the transaction that the call asks for, where it asks for one
+abbrev pub GivesOwn : Chain → Call → Result Data Stop → Type 0
+GivesOwn chain (call.TransactionGet id verbose) given = IsOwnAnswer chain id given
+GivesOwn chain c given = ⊤
+
 -- A call is given this. It is as defined, unless it is read from the block files and they may not have the
 -- transaction that is asked for; `has` is that they have what a call asks for. Where it is read from them,
--- what is kept of the client stays as it was in any case. That a call of the block files failed, or that they
--- have changed, is told only where it is read from them, and that they have changed only where they lack what
--- is asked for.
+-- what is kept of the client stays as it was in any case, and another transaction is never given, whatever
+-- they hold. That a call of the block files failed, or that they have changed, is told only where it is read
+-- from them, and that they have changed only where they lack what is asked for.
 pub record IsGiven (has : Call → Type 0) (chain : Chain) (kept : List Tx) (found : List Node) (c : Call)
     (s t : Session) (given : Result Data Stop) : Type 0 where
   pub of_index : reads_files kept c ≡ false → IsReplyWith (replied chain kept found s c) s t given
   pub of_files : has c → IsReplyWith (replied chain kept found s c) s t given
+  pub own : reads_files kept c ≡ true → GivesOwn chain c given
   pub still : reads_files kept c ≡ true → t ≡ s
   pub untold : reads_files kept c ≡ false → TellsNoFiles given
   pub unchanged : has c → given ≢ Err stop.Changed

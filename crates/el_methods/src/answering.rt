@@ -9,15 +9,14 @@ ghost use Rattle.el_model.specs.Keeping.{Quiet};
 ghost use Rattle.el_methods.specs.Archives.{HasAsked};
 ghost use Rattle.el_methods.specs.RowBounds.{rows_of};
 ghost use Rattle.el_methods.specs.Outcomes.{IsReplyWith, IsCounted, IsDiskCounted, TellsNoFiles, IsPrintableAnswer};
-ghost use Rattle.el_methods.specs.Replied.{replied, reads_files, agreed};
-ghost use Rattle.el_sessions.specs.Sessions.{Extends};
+ghost use Rattle.el_methods.specs.Replied.{replied, reads_files, GivesOwn, agreed};
+ghost use Rattle.el_sessions.specs.Sessions.{Edits};
 ghost use Rattle.el_methods.specs.declared.stop.Stop.TheVariants as stop;
 ghost use Rattle.serde_json.specs.Data.{array, item, no_items, string};
 
 use crate::blocks::{block_headers, headers_subscribe};
 use crate::features::features;
 use crate::headers::block_header;
-use crate::holdings::Holdings;
 use crate::in_block::{get_merkle, id_from_pos};
 use crate::lists::{get_balance, get_history, get_mempool, list_unspent};
 use crate::statuses::script_hash_subscribe;
@@ -29,6 +28,7 @@ use el_json::{Answer, Answers};
 use el_model::Ledger;
 use el_outside::Archive;
 use el_sessions::{Session, Version};
+use el_side::Holdings;
 use std::alloc::Global;
 
 const BANNER: &str = "Electrum Protocol 1.4 server over block files";
@@ -77,7 +77,7 @@ fn no_list(alloc: Global) -> Answer
 
 /// The answer to a call (Electrum Protocol 1.4), over the ledger's chain and the unconfirmed transactions
 /// that are held.
-#[tactic(auto, using(el_sessions::proofs::Subscribing::extends_same))]
+#[tactic(auto, using(el_sessions::proofs::Subscribing::edits_same))]
 pub fn answer<G: Ledger, A: Archive>(
     alloc: Global,
     ledger: &mut G,
@@ -96,6 +96,10 @@ pub fn answer<G: Ledger, A: Archive>(
     ensures of_index { (chain : Chain) (kept : List shape.Tx) → G.stands ledger.old chain
         → StandsFor holdings.now.pool.entries chain kept → reads_files kept call ≡ false
         → IsReplyWith (replied chain kept holdings.now.tree session.old call) session.old session.new result }
+    // Never another transaction, nor that the chain has none where it has one, whatever the block files hold.
+    ensures own { (chain : Chain) (kept : List shape.Tx) → G.stands ledger.old chain
+        → StandsFor holdings.now.pool.entries chain kept → reads_files kept call ≡ true
+        → GivesOwn chain call result }
     // That the block files failed or have changed is told only where the call reads them.
     ensures untold { (chain : Chain) (kept : List shape.Tx) → StandsFor holdings.now.pool.entries chain kept
         → reads_files kept call ≡ false → TellsNoFiles result }
@@ -103,8 +107,8 @@ pub fn answer<G: Ledger, A: Archive>(
     ensures unchanged { (chain : Chain) → G.stands ledger.old chain → A.tells
         → HasAsked (A.bytes archive.new) chain call → result ≢ Err stop.Changed }
     ensures still { (kept : List shape.Tx) → reads_files kept call ≡ true → session.new ≡ session.old }
-    // Subscriptions only grow, at the end, whatever the ledger stands for.
-    ensures extends { Extends session.old.subs session.new.subs }
+    // No subscription is dropped, and new ones come last, whatever the ledger stands for.
+    ensures edits { Edits session.old.subs session.new.subs }
     ensures printable { IsPrintableAnswer result }
     ensures rows { (chain : Chain) → G.stands ledger.old chain
         → G.reads ledger.new ≤ G.reads ledger.old + rows_of chain (G.buckets ledger.old) call }

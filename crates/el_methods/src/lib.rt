@@ -5,7 +5,6 @@ mod answering;
 mod blocks;
 mod features;
 mod headers;
-mod holdings;
 mod in_block;
 mod laws;
 mod limits;
@@ -17,7 +16,6 @@ mod transactions;
 
 pub use answering::answer;
 pub use blocks::{HEADER_LIMIT, headers_subscribe};
-pub use holdings::Holdings;
 pub use laws::{
     asked_stays, blocks_have_asked, moves_have_records, records_stay, transactions_are_unchanged,
 };

@@ -9,7 +9,7 @@ ghost use Rattle.el_methods.specs.Results as defined;
 ghost use Rattle.el_methods.specs.Results.{told};
 ghost use Rattle.el_view.specs.Rows.{history_rows};
 ghost use Rattle.el_methods.specs.Outcomes.{IsReplyWith, IsDiskCounted, IsPrintableAnswer};
-ghost use Rattle.el_sessions.specs.Sessions.{Extends};
+ghost use Rattle.el_sessions.specs.Sessions.{Edits};
 
 use crate::stop::Stop;
 use crate::texts::hex_of;
@@ -36,7 +36,7 @@ pub fn told_of(alloc: Global, status: Option<Hash32>) -> Result<Answer, OutOfMem
 
 /// The answer to `blockchain.scripthash.subscribe` (Electrum Protocol 1.4): the status of the script hash.
 /// The client is then subscribed to it, and was told that status.
-#[tactic(auto, using(el_sessions::proofs::Subscribing::extends_same))]
+#[tactic(auto, using(el_sessions::proofs::Subscribing::edits_same))]
 pub fn script_hash_subscribe<G: Ledger>(
     alloc: Global,
     ledger: &mut G,
@@ -48,7 +48,7 @@ pub fn script_hash_subscribe<G: Ledger>(
     ensures answer { (chain : Chain) (kept : List shape.Tx) → G.stands ledger.old chain
         → StandsFor pool.now.entries chain kept
         → IsReplyWith (defined.script_hash_subscribe chain kept subs.old s) subs.old subs.new result }
-    ensures extends { Extends subs.old subs.new }
+    ensures edits { Edits subs.old subs.new }
     ensures printable { IsPrintableAnswer result }
     ensures rows { (chain : Chain) → G.stands ledger.old chain
         → G.reads ledger.new ≤ G.reads ledger.old + history_rows chain (G.buckets ledger.old) s.0 }

@@ -1,5 +1,5 @@
 // Transactions of the chain and of the unconfirmed set.
-ghost use Rattle.std.specs.Prelude.{◌≡◌, ◌≢◌, ◌+◌, ◌≤◌, ℕ, List, [], Some, None, false, IfOk, IfErr, IfSome, IfNone, Ok, Err};
+ghost use Rattle.std.specs.Prelude.{◌≡◌, ◌≢◌, ◌+◌, ◌≤◌, ℕ, List, [], Some, None, true, false, IfOk, IfErr, IfSome, IfNone, Ok, Err};
 ghost use Rattle.el_outside.specs.Counts.{RoseBy};
 ghost use Rattle.el_outside.specs.Files.{AllGrow};
 ghost use Rattle.el_chain.specs.Chains.{Chain};
@@ -9,6 +9,7 @@ ghost use Rattle.el_model.specs.Keeping.{Quiet};
 ghost use Rattle.el_model.specs.Queries.{find_tx, txs_in_bucket};
 ghost use Rattle.el_methods.specs.Results as defined;
 ghost use Rattle.el_methods.specs.Results.{hex, is_in_files};
+ghost use Rattle.el_methods.specs.Replied.{IsTextOf, IsOwnAnswer};
 ghost use Rattle.el_mempool.specs.Standing.{StandsFor};
 ghost use Rattle.el_tx.specs.declared.types.Tx as tx_shape;
 ghost use Rattle.el_methods.specs.Archives.{HasTransaction, HasChanged};
@@ -61,6 +62,8 @@ fn text_of<A: Archive>(
 ) -> Result<Answer, Stop>
     ensures text { A.tells → IfOk result
         (λ a. a ≡ hex (text_at spot.now (A.bytes archive.new spot.now.place.file))) }
+    // Of that transaction, whatever the block files hold.
+    ensures own { IfOk result (λ a. IsTextOf id a) }
     ensures never { IfErr result (λ e. (r : shape.Refusal) → e ≡ stop.Refused r → ⊥) }
     ensures changed { A.tells → IfErr result (λ e. e ≡ stop.Changed
         → HasChanged spot.now id (A.bytes archive.new spot.now.place.file)) }
@@ -91,6 +94,7 @@ fn confirmed_get<G: Ledger, A: Archive>(
     ensures answer { (chain : Chain) → G.stands ledger.old chain → A.tells
         → HasTransaction (A.bytes archive.new) chain id
         → IsAnswer (defined.transaction_get chain [] id false) result }
+    ensures own { (chain : Chain) → G.stands ledger.old chain → IsOwnAnswer chain id result }
     ensures unchanged { (chain : Chain) → G.stands ledger.old chain → A.tells
         → HasTransaction (A.bytes archive.new) chain id → result ≢ Err stop.Changed }
     ensures changed { (chain : Chain) → G.stands ledger.old chain → A.tells
@@ -144,6 +148,10 @@ pub fn transaction_get<G: Ledger, A: Archive>(
         → IsAnswer (defined.transaction_get chain kept id verbose) result }
     ensures untold { (chain : Chain) (kept : List tx_shape.Tx) → StandsFor pool.now.entries chain kept
         → is_in_files kept id verbose ≡ false → TellsNoFiles result }
+    // Whatever the block files hold, where it is read from them.
+    ensures own { (chain : Chain) (kept : List tx_shape.Tx) → G.stands ledger.old chain
+        → StandsFor pool.now.entries chain kept → is_in_files kept id verbose ≡ true
+        → IsOwnAnswer chain id result }
     ensures unchanged { (chain : Chain) → G.stands ledger.old chain → A.tells
         → HasTransaction (A.bytes archive.new) chain id → result ≢ Err stop.Changed }
     // Only where the bytes that stand at the transaction's place are not its own.

@@ -9,23 +9,24 @@ ghost use Rattle.el_mempool.specs.Standing.{StandsFor};
 ghost use Rattle.el_tx.specs.declared.types.Tx as shape;
 ghost use Rattle.el_replies.specs.Envelopes.{reply_value};
 ghost use Rattle.el_replies.specs.Losses.{AnswersOf, Loses};
-ghost use Rattle.el_replies.specs.Batches.{added, noted, with_reply, is_closing, InTime, Step, Steps, CutSteps};
+ghost use Rattle.el_replies.specs.Batches.{added, noted, with_reply, InTime, Step, Steps, CutSteps};
 ghost use Rattle.el_replies.specs.within.Errors.{error_text};
 ghost use Rattle.el_replies.specs.within.Gathered.{replies_of, HasEnd, HasSpace};
 ghost use Rattle.el_json.specs.Lines.{HasPrintableId, IsPrintable, IsPrintableId};
 ghost use Rattle.el_methods.specs.Outcomes.{IsPrintableAnswer};
-ghost use Rattle.el_sessions.specs.Sessions.{Extends};
+ghost use Rattle.el_sessions.specs.Sessions.{Edits};
 
 use crate::error_room::{ERROR_SIZE, ErrorRoom, room_for};
+use crate::line::is_closing;
 use crate::replies::result_text;
 use crate::requested::answer_request;
 use el_base::{OutOfMemory, extend_reserved};
 use el_calls::Refusal;
 use el_json::{Answer, Elements, Item, Request};
-use el_methods::Holdings;
 use el_model::Ledger;
 use el_outside::Archive;
 use el_sessions::Session;
+use el_side::Holdings;
 use std::alloc::Global;
 
 /// How many bytes the replies of a batch may have together before its later requests are refused.
@@ -42,16 +43,6 @@ pub(crate) struct Gathered {
     pub any: bool,
     /// Whether the client is closed after the batch.
     pub closes: bool,
-}
-
-/// Whether a client that is told this is closed after the line.
-pub(crate) fn is_closing(answered: &Result<Answer, Refusal>) -> bool
-    ensures { result ≡ is_closing answered.now }
-{
-    match answered {
-        Err(Refusal::VersionNotShared) => true,
-        _ => false,
-    }
 }
 
 // Adds the text of a reply, for which there is room. Takes no memory.
@@ -183,6 +174,7 @@ fn refuse(
 }
 
 // Answers a request before the limit was passed. The room for an error is taken before it is asked.
+#[tactic(auto, using(el_sessions::proofs::Subscribing::edits_same))]
 fn answer_in_time<G: Ledger, A: Archive>(
     alloc: Global,
     ledger: &mut G,
@@ -204,7 +196,7 @@ fn answer_in_time<G: Ledger, A: Archive>(
         request before session.old (replies_of replies.old) after session.new (replies_of replies.new))
         (λ _. after ≡ before)) }
     ensures end { OnOk result (HasEnd replies.new) }
-    ensures extends { Extends session.old.subs session.new.subs }
+    ensures edits { Edits session.old.subs session.new.subs }
     ensures disk_more { G.faults ledger.old ≤ G.faults ledger.new }
     ensures archive_more { A.faults archive.old ≤ A.faults archive.new }
     ensures quiet { Quiet G.is_live G.height G.tip G.buckets G.stands G.tells_crash
@@ -217,7 +209,7 @@ fn answer_in_time<G: Ledger, A: Archive>(
 }
 
 // Answers an element of a batch.
-#[tactic(auto, using(el_sessions::proofs::Subscribing::extends_same))]
+#[tactic(auto, using(el_sessions::proofs::Subscribing::edits_same))]
 fn answer_item<G: Ledger, A: Archive>(
     alloc: Global,
     ledger: &mut G,
@@ -239,7 +231,7 @@ fn answer_item<G: Ledger, A: Archive>(
         item before session.old (replies_of replies.old) after session.new (replies_of replies.new))
         (λ _. after ≡ before)) }
     ensures end { OnOk result (HasEnd replies.new) }
-    ensures extends { Extends session.old.subs session.new.subs }
+    ensures edits { Edits session.old.subs session.new.subs }
     ensures disk_more { G.faults ledger.old ≤ G.faults ledger.new }
     ensures archive_more { A.faults archive.old ≤ A.faults archive.new }
     ensures quiet { Quiet G.is_live G.height G.tip G.buckets G.stands G.tells_crash
@@ -282,7 +274,7 @@ pub(crate) fn answer_items<G: Ledger, A: Archive>(
         (λ _. CutSteps (AnswersOf (λ c. A.tells × HasAsked files chain c) chain kept holdings.now.tree)
         elements.old before session.old (replies_of replies.old) after)) }
     ensures end { OnOk result (HasEnd replies.new) }
-    ensures extends { Extends session.old.subs session.new.subs }
+    ensures edits { Edits session.old.subs session.new.subs }
     ensures disk_more { G.faults ledger.old ≤ G.faults ledger.new }
     ensures archive_more { A.faults archive.old ≤ A.faults archive.new }
     ensures quiet { Quiet G.is_live G.height G.tip G.buckets G.stands G.tells_crash

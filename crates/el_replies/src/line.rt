@@ -9,24 +9,24 @@ ghost use Rattle.el_methods.specs.Archives.{HasAsked};
 ghost use Rattle.el_mempool.specs.Standing.{StandsFor};
 ghost use Rattle.el_tx.specs.declared.types.Tx as shape;
 ghost use Rattle.el_replies.specs.Losses.{AnswersOf, Loses};
-ghost use Rattle.el_replies.specs.Batches.{CutSteps};
+ghost use Rattle.el_replies.specs.Batches.{CutSteps, is_closing};
 ghost use Rattle.el_replies.specs.LineReplies.{message, message_to, reply_to, says, batch_message, no_replies, IsReplyTo, IsLineReply};
 ghost use Rattle.el_replies.specs.within.Errors.{error_text};
 ghost use Rattle.el_replies.specs.within.Gathered.{replies_of, HasEnd};
 ghost use Rattle.el_methods.specs.Outcomes.{IsPrintableAnswer};
-ghost use Rattle.el_sessions.specs.Sessions.{Extends};
+ghost use Rattle.el_sessions.specs.Sessions.{Edits};
 
-use crate::batch::{Gathered, answer_items, is_closing};
+use crate::batch::{Gathered, answer_items};
 use crate::error_room::{ErrorRoom, room_for};
 use crate::replies::result_text;
 use crate::requested::answer_request;
 use el_base::{Bytes, OutOfMemory, extend_reserved};
 use el_calls::Refusal;
 use el_json::{Answer, Elements, Envelope, LineFault, Request, read_line};
-use el_methods::Holdings;
 use el_model::Ledger;
 use el_outside::Archive;
 use el_sessions::Session;
+use el_side::Holdings;
 use std::alloc::Global;
 
 /// What comes of a client's line.
@@ -37,6 +37,16 @@ pub struct LineReply {
     pub text: Option<Bytes>,
     /// Whether the client is then closed: it shares no version (`server.version`).
     pub closes: bool,
+}
+
+/// Whether a client that is told this is closed after the line.
+pub(crate) fn is_closing(answered: &Result<Answer, Refusal>) -> bool
+    ensures { result ≡ is_closing answered.now }
+{
+    match answered {
+        Err(Refusal::VersionNotShared) => true,
+        _ => false,
+    }
 }
 
 // The message with an error to a request, in the room for it, unless it is a notification. Takes no memory.
@@ -113,6 +123,7 @@ fn reply_to_id(
 }
 
 // The message to one request. The room for an error is taken before it is asked.
+#[tactic(auto, using(el_sessions::proofs::Subscribing::edits_same))]
 fn one_reply<G: Ledger, A: Archive>(
     alloc: Global,
     ledger: &mut G,
@@ -131,7 +142,7 @@ fn one_reply<G: Ledger, A: Archive>(
         (λ reply. IsReplyTo (AnswersOf (λ c. A.tells × HasAsked files chain c) chain kept holdings.now.tree)
         (Ok (Envelope.One request)) before session.old after session.new reply)
         (λ _. after ≡ before)) }
-    ensures extends { Extends session.old.subs session.new.subs }
+    ensures edits { Edits session.old.subs session.new.subs }
     ensures disk_more { G.faults ledger.old ≤ G.faults ledger.new }
     ensures archive_more { A.faults archive.old ≤ A.faults archive.new }
     ensures quiet { Quiet G.is_live G.height G.tip G.buckets G.stands G.tells_crash
@@ -175,7 +186,7 @@ fn batch_reply<G: Ledger, A: Archive>(
         (Ok (Envelope.Batch elements)) before session.old after session.new reply)
         (λ _. CutSteps (AnswersOf (λ c. A.tells × HasAsked files chain c) chain kept holdings.now.tree)
         elements before session.old no_replies after)) }
-    ensures extends { Extends session.old.subs session.new.subs }
+    ensures edits { Edits session.old.subs session.new.subs }
     ensures disk_more { G.faults ledger.old ≤ G.faults ledger.new }
     ensures archive_more { A.faults archive.old ≤ A.faults archive.new }
     ensures quiet { Quiet G.is_live G.height G.tip G.buckets G.stands G.tells_crash
@@ -214,7 +225,7 @@ fn fault_reply(alloc: Global, id: Answer, refusal: Refusal) -> Result<LineReply,
 /// What comes of a line of a client, which stands without the byte 10 that ended it. What is lost meanwhile
 /// is told to the client in the replies. Where memory runs out, nothing was lost, but at elements of a batch
 /// that were answered before.
-#[tactic(auto, using(el_sessions::proofs::Subscribing::extends_same))]
+#[tactic(auto, using(el_sessions::proofs::Subscribing::edits_same))]
 pub fn reply_line<G: Ledger, A: Archive>(
     alloc: Global,
     ledger: &mut G,
@@ -232,8 +243,8 @@ pub fn reply_line<G: Ledger, A: Archive>(
         (λ before after. IsLineReply
         (AnswersOf (λ c. A.tells × HasAsked files chain c) chain kept holdings.now.tree)
         line.now before session.old after session.new result) }
-    // Subscriptions only grow, at the end, whatever the ledger stands for.
-    ensures extends { Extends session.old.subs session.new.subs }
+    // No subscription is dropped, and new ones come last, whatever the ledger stands for.
+    ensures edits { Edits session.old.subs session.new.subs }
     ensures disk_more { G.faults ledger.old ≤ G.faults ledger.new }
     ensures archive_more { A.faults archive.old ≤ A.faults archive.new }
     ensures quiet { Quiet G.is_live G.height G.tip G.buckets G.stands G.tells_crash

@@ -9,15 +9,16 @@ ghost use Rattle.el_mempool.specs.Standing.{StandsFor};
 ghost use Rattle.el_tx.specs.declared.types.Tx as shape;
 ghost use Rattle.el_replies.specs.Requested.{IsAnswered, told_of};
 ghost use Rattle.el_methods.specs.Outcomes.{IsPrintableAnswer};
-ghost use Rattle.el_sessions.specs.Sessions.{Extends};
+ghost use Rattle.el_sessions.specs.Sessions.{Edits};
 
 use el_base::OutOfMemory;
 use el_calls::{Refusal, call_of};
 use el_json::{Answer, Request};
-use el_methods::{Holdings, Stop, answer};
+use el_methods::{Stop, answer};
 use el_model::Ledger;
 use el_outside::Archive;
 use el_sessions::Session;
+use el_side::Holdings;
 use std::alloc::Global;
 
 // What the client is told of a call.
@@ -35,7 +36,7 @@ fn told_of(given: Result<Answer, Stop>) -> Option<Result<Answer, Refusal>>
 }
 
 /// The answer to a request: what is defined, or that a device failed.
-#[tactic(auto, using(el_sessions::proofs::Subscribing::extends_same))]
+#[tactic(auto, using(el_sessions::proofs::Subscribing::edits_same))]
 pub fn answer_request<G: Ledger, A: Archive>(
     alloc: Global,
     ledger: &mut G,
@@ -54,7 +55,7 @@ pub fn answer_request<G: Ledger, A: Archive>(
     // Where memory runs out nothing is lost.
     ensures unlost { OnErr result (RoseBy (G.faults ledger.old) (G.faults ledger.new) 0
         × RoseBy (A.faults archive.old) (A.faults archive.new) 0) }
-    ensures extends { Extends session.old.subs session.new.subs }
+    ensures edits { Edits session.old.subs session.new.subs }
     ensures printable { IfOk result IsPrintableAnswer }
     ensures disk_more { G.faults ledger.old ≤ G.faults ledger.new }
     ensures archive_more { A.faults archive.old ≤ A.faults archive.new }

@@ -6,7 +6,8 @@ ghost use Rattle.el_row_formats.specs.Tables.{tables_of};
 use el_base::GhostCount;
 use el_outside::DiskFailed;
 use el_row_formats::Table;
-use el_rows::{CommitFault, Rows, Sealed, VecRows};
+use el_rows::{CommitFault, Rows, Sealed};
+use el_vec_rows::VecRows;
 use std::alloc::Global;
 
 /// Rows in memory. Reads of a row and commits are calls of the device, counted together from 1 on; those

@@ -5,15 +5,13 @@ use el_base::{Bytes, CompactFault, Hash32};
 use el_block::BlockFault;
 use el_chain::{ConnectFault, MoveFault};
 use el_lines::{
-    AnswerRoom, LINE_LIMIT, LineBuffer, LineEvent, NODE_LINE_LIMIT, NodeLine, NodeLineFault,
-    absent_refused, archive_refused, at_answer, block_answer, cuts_do_not_matter, deep_refused,
-    genesis_refused, gone_answer, line_refused, long_refused, move_refused,
-    node_line_says_one_thing, pieces_do_not_matter, place_refused, pool_refused, read_node_line,
-    tx_answer, unconnected_refused, unknown_refused,
+    AnswerRoom, LINE_LIMIT, LineBuffer, LineEvent, NODE_LINE_LIMIT, NodeAnswer, NodeLine,
+    NodeLineFault, NodeRefusal, answer_text, cuts_do_not_matter, move_refused,
+    node_line_says_one_thing, pieces_do_not_matter, pool_refused, read_node_line,
 };
 use el_mempool::PoolFault;
+use el_side::moves_are_the_plan;
 use el_tx::{Outpoint, TxFault};
-use el_world::moves_are_the_plan;
 use std::alloc::Global;
 use std::test::Fail;
 
@@ -325,76 +323,70 @@ fn is_text(alloc: Global, text: Bytes, wanted: &str) -> Result<bool, Fail> {
     Ok(text.as_slice() == whole.as_bytes())
 }
 
-// What a node is answered, but for refusals that have a cause of their own.
-#[derive(Clone, Copy)]
-enum Answered {
-    Block,
-    At(Option<Hash32>, Option<u32>),
-    Line,
-    Long,
-    Place,
-    Archive,
-    Genesis,
-    Unknown,
-    Unconnected,
-    Deep(usize),
-    Tx,
-    Gone,
-    Absent,
-}
-
-// The text of the answer.
-fn text_of(room: AnswerRoom, answered: Answered) -> Bytes {
-    match answered {
-        Answered::Block => block_answer(room, Hash32(HASH)),
-        Answered::At(tip, height) => at_answer(room, tip, height),
-        Answered::Line => line_refused(room),
-        Answered::Long => long_refused(room),
-        Answered::Place => place_refused(room),
-        Answered::Archive => archive_refused(room),
-        Answered::Genesis => genesis_refused(room, Hash32(HASH)),
-        Answered::Unknown => unknown_refused(room, Hash32(HASH)),
-        Answered::Unconnected => unconnected_refused(room, Hash32(HASH)),
-        Answered::Deep(back) => deep_refused(room, back),
-        Answered::Tx => tx_answer(room, Hash32(HASH)),
-        Answered::Gone => gone_answer(room, Hash32(HASH)),
-        Answered::Absent => absent_refused(room, Hash32(HASH)),
-    }
-}
-
 // Answers and their texts, where the letter H stands for the shown hash.
-const ANSWERS: &[(Answered, &str)] = &[
-    (Answered::Block, "block H\n"),
-    (Answered::At(Some(Hash32(HASH)), Some(0)), "at H 0\n"),
+const ANSWERS: &[(NodeAnswer, &str)] = &[
+    (NodeAnswer::Block(Hash32(HASH)), "block H\n"),
     (
-        Answered::At(Some(Hash32(HASH)), Some(840_000)),
+        NodeAnswer::At {
+            tip: Some(Hash32(HASH)),
+            height: Some(0),
+        },
+        "at H 0\n",
+    ),
+    (
+        NodeAnswer::At {
+            tip: Some(Hash32(HASH)),
+            height: Some(840_000),
+        },
         "at H 840000\n",
     ),
-    (Answered::At(None, None), ""),
-    (Answered::Line, "refused line\n"),
-    (Answered::Long, "refused long 8000100\n"),
-    (Answered::Place, "refused place\n"),
-    (Answered::Archive, "refused archive\n"),
-    (Answered::Genesis, "refused genesis H\n"),
-    (Answered::Unknown, "refused unknown H\n"),
-    (Answered::Unconnected, "refused unconnected H\n"),
-    (Answered::Deep(1), "refused deep 1\n"),
-    (Answered::Deep(101), "refused deep 101\n"),
-    (Answered::Tx, "tx H\n"),
-    (Answered::Gone, "gone H\n"),
-    (Answered::Absent, "refused absent H\n"),
+    (
+        NodeAnswer::At {
+            tip: None,
+            height: None,
+        },
+        "",
+    ),
+    (NodeAnswer::Tx(Hash32(HASH)), "tx H\n"),
+    (NodeAnswer::Gone(Hash32(HASH)), "gone H\n"),
+];
+
+// Refusals, but for those that come of a fault, and their texts.
+const REFUSALS: &[(NodeRefusal, &str)] = &[
+    (NodeRefusal::Line, "refused line\n"),
+    (NodeRefusal::Long, "refused long 8000100\n"),
+    (NodeRefusal::Place, "refused place\n"),
+    (NodeRefusal::Archive, "refused archive\n"),
+    (NodeRefusal::Genesis(Hash32(HASH)), "refused genesis H\n"),
+    (NodeRefusal::Unknown(Hash32(HASH)), "refused unknown H\n"),
+    (
+        NodeRefusal::Unconnected(Hash32(HASH)),
+        "refused unconnected H\n",
+    ),
+    (NodeRefusal::Deep(1), "refused deep 1\n"),
+    (NodeRefusal::Deep(101), "refused deep 101\n"),
+    (NodeRefusal::Absent(Hash32(HASH)), "refused absent H\n"),
 ];
 
 // Whether the answer has that text.
-fn has_text(alloc: Global, answered: Answered, wanted: &str) -> Result<bool, Fail> {
+fn has_text(alloc: Global, answer: NodeAnswer, wanted: &str) -> Result<bool, Fail> {
     let room = AnswerRoom::new(alloc)?;
-    is_text(alloc, text_of(room, answered), wanted)
+    is_text(alloc, answer_text(room, &answer), wanted)
 }
 
 #[test]
 fn answers_to_a_node(rt: HostRuntime) -> Result<(), Fail> {
-    for (answered, wanted) in ANSWERS.iter() {
-        assert!(rt; has_text(rt.alloc(), *answered, *wanted)?, "{wanted}");
+    for (answer, wanted) in ANSWERS.iter() {
+        assert!(rt; has_text(rt.alloc(), *answer, *wanted)?, "{wanted}");
+    }
+    Ok(())
+}
+
+#[test]
+fn refusals_to_a_node(rt: HostRuntime) -> Result<(), Fail> {
+    for (refusal, wanted) in REFUSALS.iter() {
+        let answer = NodeAnswer::Refused(*refusal);
+        assert!(rt; has_text(rt.alloc(), answer, *wanted)?, "{wanted}");
     }
     Ok(())
 }
@@ -442,17 +434,15 @@ const REFUSED: &[(PoolFault, &str)] = &[
 
 // Whether that is answered for the refusal of a transaction.
 fn says_refused(alloc: Global, fault: PoolFault, wanted: &str) -> Result<bool, Fail> {
-    let room = AnswerRoom::new(alloc)?;
-    match pool_refused(room, Hash32(HASH), fault) {
-        Some(text) => is_text(alloc, text, wanted),
+    match pool_refused(Hash32(HASH), fault) {
+        Some(answer) => has_text(alloc, answer, wanted),
         None => Ok(false),
     }
 }
 
 // Whether nothing is answered for the refusal of a transaction.
-fn is_silent(alloc: Global, fault: PoolFault) -> Result<bool, Fail> {
-    let room = AnswerRoom::new(alloc)?;
-    Ok(pool_refused(room, Hash32(HASH), fault) == None)
+fn is_silent(fault: PoolFault) -> bool {
+    pool_refused(Hash32(HASH), fault).is_none()
 }
 
 #[test]
@@ -460,8 +450,8 @@ fn refused_transactions(rt: HostRuntime) -> Result<(), Fail> {
     for (fault, wanted) in REFUSED.iter() {
         assert!(rt; says_refused(rt.alloc(), *fault, *wanted)?, "{wanted}");
     }
-    assert!(rt; is_silent(rt.alloc(), PoolFault::DiskFailed)?);
-    assert!(rt; is_silent(rt.alloc(), PoolFault::Memory)?);
+    assert!(rt; is_silent(PoolFault::DiskFailed));
+    assert!(rt; is_silent(PoolFault::Memory));
     Ok(())
 }
 
@@ -522,8 +512,8 @@ const MISFITS: &[(ConnectFault, &str)] = &[
 // Whether that is answered for the refused move.
 fn says_move(alloc: Global, fault: MoveFault, wanted: &[u8]) -> Result<bool, Fail> {
     let room = AnswerRoom::new(alloc)?;
-    match move_refused(room, fault) {
-        Some(text) => Ok(text.as_slice() == wanted),
+    match move_refused(fault) {
+        Some(answer) => Ok(answer_text(room, &answer).as_slice() == wanted),
         None => Ok(false),
     }
 }
@@ -571,16 +561,15 @@ fn says_changed(alloc: Global) -> Result<bool, Fail> {
 }
 
 // Whether nothing is answered for the refused move.
-fn is_not_told(alloc: Global, fault: MoveFault) -> Result<bool, Fail> {
-    let room = AnswerRoom::new(alloc)?;
-    Ok(move_refused(room, fault) == None)
+fn is_not_told(fault: MoveFault) -> bool {
+    move_refused(fault).is_none()
 }
 
 #[test]
 fn other_refused_moves(rt: HostRuntime) -> Result<(), Fail> {
     assert!(rt; says_changed(rt.alloc())?);
-    assert!(rt; is_not_told(rt.alloc(), MoveFault::DiskFailed)?);
-    assert!(rt; is_not_told(rt.alloc(), MoveFault::ArchiveFailed)?);
-    assert!(rt; is_not_told(rt.alloc(), MoveFault::Memory)?);
+    assert!(rt; is_not_told(MoveFault::DiskFailed));
+    assert!(rt; is_not_told(MoveFault::ArchiveFailed));
+    assert!(rt; is_not_told(MoveFault::Memory));
     Ok(())
 }

@@ -1,5 +1,5 @@
 -- What the server keeps of a client for its requests (Electrum Protocol 1.4).
-use Rattle.std.specs.Prelude.{◌≡◌, Bool, if◌then◌else◌, List, [], ◌∷◌, ◌++◌, Option}
+use Rattle.std.specs.Prelude.{◌≡◌, ◌≢◌, Bool, not, if◌then◌else◌, List, [], ◌∷◌, ◌++◌, filter, Option}
 use Rattle.std.specs.List.{list_any}
 use Rattle.std.specs.Map.{keys_of}
 use Rattle.std.specs.Str.{bytes_eq}
@@ -23,7 +23,18 @@ abbrev pub subscribed : Hash32 → Option Hash32 → List Subscription → List 
 subscribed s told [] = (s, told) ∷ []
 subscribed s told (sub ∷ subs) = if is_to s sub then (sub.0, told) ∷ subs else sub ∷ subscribed s told subs
 
--- The script hashes are those that there were, in their order, and then others.
-pub record Extends (was now : List Subscription) : Type 0 where
-  pub more : List Hash32
-  pub keys : keys_of now ≡ keys_of was ++ more
+-- it is none of these
+abbrev pub not_among : List Hash32 → Hash32 → Bool
+not_among hashes s = not (list_any (λ (other : Hash32). bytes_eq s.0 other.0) hashes)
+
+-- The script hashes are those that there were, in their order, without those that were dropped, and then
+-- others. Electrum Protocol 1.4 has no call that drops one.
+pub record Edits (was now : List Subscription) : Type 0 where
+  pub dropped : List Hash32
+  pub added : List Hash32
+  pub keys : keys_of now ≡ filter (not_among dropped) (keys_of was) ++ added
+  pub none_dropped : dropped ≡ []
+
+-- something was added
+abbrev pub HasAdded : List Subscription → List Subscription → Type 0
+HasAdded was now = (edits : Edits was now) × (edits.added ≢ [])

@@ -13,9 +13,10 @@ use Rattle.el_chain.specs.Headers.{AreLinked, same_hash, IsPath, genesis}
 use Rattle.el_chain.specs.Moves.{shorter, last_hash}
 use Rattle.el_chain.proofs.TouchLemmas.{hash_gives, hash_from}
 use Rattle.el_tx.specs.Headers.{header_encoding}
-use Rattle.el_lines.specs.NodeAnswers.{at_answer}
+use Rattle.el_lines.specs.declared.node_answer.NodeAnswer.{NodeAnswer}
+use Rattle.el_lines.specs.declared.node_answer.NodeAnswer.TheVariants as say
 use Rattle.el_headers.specs.Adding.{IsEndOf}
-use Rattle.el_world.specs.Plans.{common, common_up_to, back_of, rest_of, IsMoving}
+use Rattle.el_side.specs.Plans.{common, common_up_to, back_of, rest_of, IsMoving}
 use Rattle.el_model.specs.Queries.{header_at}
 use Rattle.el_sync.specs.within.Below.{IsBelow}
 use Rattle.el_sync.proofs.Lists.{linked_after}
@@ -238,5 +239,5 @@ pub this_hash : (r : Bool) (P : Type 0) → r ≡ true → IsTrue r ↔ P → P
 this_hash true P e b = b.0 (search rules)
 this_hash false P e b = absurd (let f = e in cc)
 
-pub at_is : (t u : Option Hash32) (h i : Option ℕ) → t ≡ u → h ≡ i → at_answer t h ≡ at_answer u i
+pub at_is : (t u : Option Hash32) (h i : Option ℕ) → t ≡ u → h ≡ i → ◌≡◌ {A = NodeAnswer} (say.At t h) (say.At u i)
 at_is t u h i same same' = rw (same, same') refl

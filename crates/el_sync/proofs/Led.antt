@@ -14,28 +14,30 @@ use Rattle.el_chain.specs.declared.moves.MoveFault.TheVariants as stop
 use Rattle.el_chain.specs.declared.moves.Plan.{Plan}
 use Rattle.el_chain.specs.Chains.{Chain}
 use Rattle.el_chain.specs.Moves.{max_back}
-use Rattle.el_world.specs.Flights.{IsUnderWay, before, in_move}
+use Rattle.el_side.specs.UnderWay.{IsUnderWay, before, in_move}
 use Rattle.el_model.specs.LedgerCalls.{Asked, Moved}
 use Rattle.el_lines.specs.Lines.{line}
-use Rattle.el_lines.specs.NodeAnswers.{archive_refused, line_refused}
+use Rattle.el_lines.specs.declared.node_answer.NodeAnswer.{NodeAnswer}
+use Rattle.el_lines.specs.declared.node_answer.NodeAnswer.TheVariants as say
+use Rattle.el_lines.specs.declared.node_answer.NodeRefusal.TheVariants as refusal
 use Rattle.el_lines.specs.NodeLines as line_said
 use Rattle.el_lines.specs.NodeLines.{NodeLine, ReadsNodeLine}
-use Rattle.el_world.specs.Plans.{back_of, rest_of, IsMoving, plan_of}
-use Rattle.el_world.specs.Side as side_of
-use Rattle.el_world.specs.Side.{Side, GoesAlong, IsSaid, Looks, Moving, Orders, OrdersLine, found_answer, found_after}
+use Rattle.el_side.specs.Plans.{back_of, rest_of, IsMoving, plan_of}
+use Rattle.el_side.specs.Side as side_of
+use Rattle.el_side.specs.Side.{Side, GoesAlong, IsSaid, Looks, Moving, Orders, OrdersLine, found_answer, found_after}
 use Rattle.el_model.specs.declared.ledger.Ledger as ledgers
 use Rattle.el_model.proofs.LedgerMoves.{LeavesOwn, asked_then, moved_then}
 use Rattle.el_tx.specs.declared.types.Tx.{Tx}
 use Rattle.el_mempool.specs.Standing.{AreChanged, PoolState, StandsFor}
-use Rattle.el_methods.specs.declared.holdings.Holdings.{Holdings}
-use Rattle.el_touched.proofs.Sides.{looks_self}
-use Rattle.el_touched.proofs.Stays.{status_stays}
+use Rattle.el_side.specs.declared.holdings.Holdings.{Holdings}
+use Rattle.el_status.proofs.Sides.{looks_self}
+use Rattle.el_status.proofs.Stays.{status_stays}
 use Rattle.el_status.specs.Statuses.{status}
-use Rattle.el_world.specs.NodeSteps.{IsAt, Leads, SetStands, Touches}
+use Rattle.el_side.specs.NodeSteps.{IsAt, Leads, SetStands, Touches}
 use Rattle.el_sync.specs.Steps.{IsFrom, NodeStep, RoseWith, StopsAt, by_disk, by_memory}
 use Rattle.el_sync.specs.within.Parts.{IsPathMove, Looked, SaysRefusal, StandsAfter}
-use Rattle.el_sync.specs.declared.fault.StepFault.{StepFault}
-use Rattle.el_sync.specs.declared.fault.StepFault.TheVariants as fault
+use Rattle.el_model.specs.declared.fault.QueryFault.{QueryFault}
+use Rattle.el_model.specs.declared.fault.QueryFault.TheVariants as fault
 use Rattle.el_sync.specs.declared.moving.Step.{Step}
 use Rattle.el_outside.proofs.Devices.{rose_still, rose_of}
 use Rattle.el_outside.proofs.Traces.{all_grow_none, all_grow_more}
@@ -52,16 +54,16 @@ pub if_err_map : {T E : Type 0} (r : Result T E) (P Q : E → Type 0) → ((x : 
 if_err_map (Ok x) P Q f h = tt
 if_err_map (Err e) P Q f h = f e h
 
-pub memory_of : {T : Type 0} (r : Result T StepFault) (e : StepFault) → r ≡ Err e → e ≡ fault.Memory → IfErr r (λ x. x ≡ fault.Memory)
+pub memory_of : {T : Type 0} (r : Result T QueryFault) (e : QueryFault) → r ≡ Err e → e ≡ fault.Memory → IfErr r (λ x. x ≡ fault.Memory)
 memory_of r e is memory = rw is memory
 
 -- a fault that is told has not come of the ledger's device
-pub not_disk : (e : MoveFault) (text : List ℕ) → SaysRefusal e text → e ≡ stop.DiskFailed → ⊥
-not_disk e text says is = let h = rw is at says in h
+pub not_disk : (e : MoveFault) (answer : NodeAnswer) → SaysRefusal e answer → e ≡ stop.DiskFailed → ⊥
+not_disk e answer says is = let h = rw is at says in h
 
 -- the set of a side that has left nothing to do stands over its chain
-pub stands_there : (pool : PoolState) (side : Side) (start : Chain) → SetStands pool side start → side.ahead ≡ [] → StandsFor pool.entries side.chain side.kept
-stands_there pool side start set still = rw (set.still still) at set.stood
+pub stands_there : (holdings : Holdings) (side : Side) (start : Chain) → SetStands holdings side start → side.ahead ≡ [] → StandsFor holdings.pool.entries side.chain side.kept
+stands_there holdings side start set still = rw (set.still still) at set.stood
 
 -- where chain and kept ones stay, nothing is touched
 pub touches_none : (side next : Side) (start : Chain) (moved changed : List Hash32) → next.chain ≡ side.chain → next.kept ≡ side.kept → Touches side start next start moved changed
@@ -80,19 +82,19 @@ touches_kept side start kept moved changed is change = record {
 }
 
 -- what a line says, after which other transactions are kept
-pub said_after : {tells : Type 0} (pool : PoolState) (side : Side) (changed : List Hash32) (text bytes : List ℕ) (said : NodeLine) (losses : List Device) → ReadsNodeLine bytes said
-    → StandsAfter pool side changed (Orders tells side (Some said) text losses) → StandsAfter pool side changed (OrdersLine tells side (line bytes) text losses)
-said_after pool side changed text bytes said losses reads after = record { kept = after.kept; done = (Some said, reads, after.done); stood = after.stood; changes = after.changes }
+pub said_after : {tells : Type 0} (pool : PoolState) (side : Side) (changed : List Hash32) (answer : NodeAnswer) (bytes : List ℕ) (said : NodeLine) (losses : List Device) → ReadsNodeLine bytes said
+    → StandsAfter pool side changed (Orders tells side (Some said) answer losses) → StandsAfter pool side changed (OrdersLine tells side (line bytes) answer losses)
+said_after pool side changed answer bytes said losses reads after = record { kept = after.kept; done = (Some said, reads, after.done); stood = after.stood; changes = after.changes }
 
 module _ {G A : Type 0} (of_ledger : ledgers.Ghosts G) (of_files : archives.Ghosts A) where
   -- ---- steps that are done
 
   -- a line that is only answered
-  pub answered : (old new : G) (a b : A) (side : Side) (start : Chain) (pool : PoolState) (leads : List ℕ → List Device → Side → Type 0) (text : List ℕ) (found left : List Node)
-      (moved changed : List Hash32) → IsAt of_ledger of_files old pool a side start → side.ahead ≡ [] → leads text [] side → found ≡ side.found → left ≡ [] → (of_files.tells → AllGrow (of_files.bytes a) (of_files.bytes b))
+  pub answered : (old new : G) (a b : A) (side : Side) (start : Chain) (holdings : Holdings) (leads : NodeAnswer → List Device → Side → Type 0) (answer : NodeAnswer) (found left : List Node)
+      (moved changed : List Hash32) → IsAt of_ledger of_files old holdings a side start → side.ahead ≡ [] → leads answer [] side → found ≡ side.found → left ≡ [] → (of_files.tells → AllGrow (of_files.bytes a) (of_files.bytes b))
       → Moved of_ledger old new side.chain side.chain → of_files.faults b ≡ of_files.faults a → of_ledger.faults new ≡ of_ledger.faults old
-      → Leads of_ledger of_files leads old new a b side start text found left moved changed pool
-  answered old new a b side start pool leads text found left moved changed at still led same none grows went files_same disk_same = record {
+      → Leads of_ledger of_files leads old new a b side start answer found left moved changed holdings
+  answered old new a b side start holdings leads answer found left moved changed at still led same none grows went files_same disk_same = record {
     losses = [];
     next = side;
     led = led;
@@ -108,12 +110,12 @@ module _ {G A : Type 0} (of_ledger : ledgers.Ghosts G) (of_files : archives.Ghos
   }
 
   -- one after which other transactions are kept
-  pub kept_leads : (old new : G) (a : A) (side : Side) (start : Chain) (pool pool_new : PoolState) (leads : List ℕ → List Device → Side → Type 0) (text said : List ℕ) (found left : List Node)
-      (moved changed told : List Hash32) → IsAt of_ledger of_files old pool a side start → side.ahead ≡ [] → StandsAfter pool_new side changed (leads text []) → said ≡ text → found ≡ side.found → left ≡ []
-      → told ≡ changed → pool_new.limits ≡ pool.limits
+  pub kept_leads : (old new : G) (a : A) (side : Side) (start : Chain) (holdings holdings_new : Holdings) (leads : NodeAnswer → List Device → Side → Type 0) (answer said : NodeAnswer) (found left : List Node)
+      (moved changed told : List Hash32) → IsAt of_ledger of_files old holdings a side start → side.ahead ≡ [] → StandsAfter holdings_new.pool side changed (leads answer []) → said ≡ answer → found ≡ side.found → left ≡ []
+      → told ≡ changed → holdings_new.pool.limits ≡ holdings.pool.limits
       → Moved of_ledger old new side.chain side.chain → of_ledger.faults new ≡ of_ledger.faults old
-      → Leads of_ledger of_files leads old new a a side start said found left moved told pool_new
-  kept_leads old new a side start pool pool_new leads text said found left moved changed told at still after says same none tells limits went disk_same = record {
+      → Leads of_ledger of_files leads old new a a side start said found left moved told holdings_new
+  kept_leads old new a side start holdings holdings_new leads answer said found left moved changed told at still after says same none tells limits went disk_same = record {
     losses = [];
     next = record side { kept = after.kept };
     led = rw says after.done;
@@ -121,7 +123,7 @@ module _ {G A : Type 0} (of_ledger : ledgers.Ghosts G) (of_files : archives.Ghos
     ahead_is = none ∙ sym still;
     magic_is = refl;
     next_start = side.chain;
-    set = record { stood = after.stood; still = λ e. refl; limits = limits ∙ at.set.limits };
+    set = record { stood = after.stood; beside = tt; still = λ e. refl; limits = limits ∙ at.set.limits };
     touches = touches_kept side start after.kept moved told (at.set.still still) (rw tells after.changes);
     went = went;
     told = at.told;
@@ -129,10 +131,10 @@ module _ {G A : Type 0} (of_ledger : ledgers.Ghosts G) (of_files : archives.Ghos
   }
 
   -- what a step leads to it leads to in other words
-  pub leads_as : (old new : G) (a b : A) (side : Side) (start : Chain) (P Q : List ℕ → List Device → Side → Type 0) (text : List ℕ) (found left : List Node) (moved changed : List Hash32) (pool : PoolState)
-      → ((losses : List Device) (next : Side) → P text losses next → Q text losses next) → Leads of_ledger of_files P old new a b side start text found left moved changed pool
-      → Leads of_ledger of_files Q old new a b side start text found left moved changed pool
-  leads_as old new a b side start P Q text found left moved changed pool says l = record {
+  pub leads_as : (old new : G) (a b : A) (side : Side) (start : Chain) (P Q : NodeAnswer → List Device → Side → Type 0) (answer : NodeAnswer) (found left : List Node) (moved changed : List Hash32) (holdings : Holdings)
+      → ((losses : List Device) (next : Side) → P answer losses next → Q answer losses next) → Leads of_ledger of_files P old new a b side start answer found left moved changed holdings
+      → Leads of_ledger of_files Q old new a b side start answer found left moved changed holdings
+  leads_as old new a b side start P Q answer found left moved changed holdings says l = record {
     losses = l.losses;
     next = l.next;
     led = says l.losses l.next l.led;
@@ -148,18 +150,18 @@ module _ {G A : Type 0} (of_ledger : ledgers.Ghosts G) (of_files : archives.Ghos
   }
 
   -- also where the found headers have another name
-  pub leads_in : (old new : G) (a b : A) (side : Side) (start : Chain) (P Q : List ℕ → List Device → Side → Type 0) (text : List ℕ) (found tree left : List Node) (moved changed : List Hash32)
-      (pool : PoolState) → found ≡ tree
-      → ((losses : List Device) (next : Side) → P text losses next → Q text losses next) → Leads of_ledger of_files P old new a b side start text found left moved changed pool
-      → Leads of_ledger of_files Q old new a b side start text tree left moved changed pool
-  leads_in old new a b side start P Q text found tree left moved changed pool same says l =
-      rw same at (leads_as old new a b side start P Q text found left moved changed pool says l)
+  pub leads_in : (old new : G) (a b : A) (side : Side) (start : Chain) (P Q : NodeAnswer → List Device → Side → Type 0) (answer : NodeAnswer) (found tree left : List Node) (moved changed : List Hash32)
+      (holdings : Holdings) → found ≡ tree
+      → ((losses : List Device) (next : Side) → P answer losses next → Q answer losses next) → Leads of_ledger of_files P old new a b side start answer found left moved changed holdings
+      → Leads of_ledger of_files Q old new a b side start answer tree left moved changed holdings
+  leads_in old new a b side start P Q answer found tree left moved changed holdings same says l =
+      rw same at (leads_as old new a b side start P Q answer found left moved changed holdings says l)
 
   -- a step after the ledger was asked
-  pub leads_on : (old mid new : G) (a b : A) (side : Side) (start : Chain) (P : List ℕ → List Device → Side → Type 0) (text : List ℕ) (found left : List Node) (moved changed : List Hash32) (pool : PoolState)
+  pub leads_on : (old mid new : G) (a b : A) (side : Side) (start : Chain) (P : NodeAnswer → List Device → Side → Type 0) (answer : NodeAnswer) (found left : List Node) (moved changed : List Hash32) (holdings : Holdings)
       → LeavesOwn of_ledger → of_ledger.is_live old → Asked of_ledger old mid → of_ledger.faults mid ≡ of_ledger.faults old → of_ledger.stands old side.chain
-      → Leads of_ledger of_files P mid new a b side start text found left moved changed pool → Leads of_ledger of_files P old new a b side start text found left moved changed pool
-  leads_on old mid new a b side start P text found left moved changed pool own live asked same stood l = record {
+      → Leads of_ledger of_files P mid new a b side start answer found left moved changed holdings → Leads of_ledger of_files P old new a b side start answer found left moved changed holdings
+  leads_on old mid new a b side start P answer found left moved changed holdings own live asked same stood l = record {
     losses = l.losses;
     next = l.next;
     led = l.led;
@@ -175,15 +177,15 @@ module _ {G A : Type 0} (of_ledger : ledgers.Ghosts G) (of_files : archives.Ghos
   }
 
   -- the first move along a path, where the path and the chain were compared
-  pub along_moves : (tells : Type 0) (side next : Side) (path rest : List Node) (back : ℕ) (text : List ℕ) (losses : List Device) → back ≤ max_back
-      → back ≡ back_of side.chain path → rest ≡ rest_of side.chain path → IsMoving back rest → Moving tells side back rest text losses next → GoesAlong tells side path text losses next
-  along_moves tells side next path rest back text losses few is rest_is moving move =
+  pub along_moves : (tells : Type 0) (side next : Side) (path rest : List Node) (back : ℕ) (answer : NodeAnswer) (losses : List Device) → back ≤ max_back
+      → back ≡ back_of side.chain path → rest ≡ rest_of side.chain path → IsMoving back rest → Moving tells side back rest answer losses next → GoesAlong tells side path answer losses next
+  along_moves tells side next path rest back answer losses few is rest_is moving move =
       side_of.moves (rw (← is) few) (rw (is, rest_is) at moving) (rw (is, rest_is) at move)
 
   -- ---- steps that failed
 
   -- one that has moved nothing
-  pub still_there : {T : Type 0} (r : Result T StepFault) (old new : G) (a b : A) (chain : Chain) (is_move : Plan → Type 0) → Moved of_ledger old new chain chain
+  pub still_there : {T : Type 0} (r : Result T QueryFault) (old new : G) (a b : A) (chain : Chain) (is_move : Plan → Type 0) → Moved of_ledger old new chain chain
       → RoseBy (of_files.faults a) (of_files.faults b) 0 → CountsOnly (of_ledger.faults old) (of_ledger.faults new) fault.DiskFailed r
       → IfErr r (StopsAt of_ledger of_files old new a b chain false is_move)
   still_there (Ok x) old new a b chain is_move moved files counts = tt
@@ -207,7 +209,7 @@ module _ {G A : Type 0} (of_ledger : ledgers.Ghosts G) (of_files : archives.Ghos
   }
 
   -- no memory was found, and no device of the ledger failed
-  pub starved : {T : Type 0} (r : Result T StepFault) (old new : G) (a b : A) (chain : Chain) (is_move : Plan → Type 0) → Moved of_ledger old new chain chain → IfErr r (λ e. e ≡ fault.Memory)
+  pub starved : {T : Type 0} (r : Result T QueryFault) (old new : G) (a b : A) (chain : Chain) (is_move : Plan → Type 0) → Moved of_ledger old new chain chain → IfErr r (λ e. e ≡ fault.Memory)
       → RoseBy (of_files.faults a) (of_files.faults b) 0 → of_ledger.faults new ≡ of_ledger.faults old
       → IfErr r (StopsAt of_ledger of_files old new a b chain false is_move)
   starved (Ok x) old new a b chain is_move moved memory rose same = tt
@@ -216,22 +218,22 @@ module _ {G A : Type 0} (of_ledger : ledgers.Ghosts G) (of_files : archives.Ghos
       still_there {T = T} (Err fault.Memory) old new a b chain is_move moved rose (record { counted = λ e. absurd (let bad = e in cc); uncounted = tt; others_uncounted = λ other. same })
 
   -- the same where the block files weren't used
-  pub starved_still : {T : Type 0} (r : Result T StepFault) (old new : G) (a : A) (chain : Chain) (is_move : Plan → Type 0) → Moved of_ledger old new chain chain → IfErr r (λ e. e ≡ fault.Memory)
+  pub starved_still : {T : Type 0} (r : Result T QueryFault) (old new : G) (a : A) (chain : Chain) (is_move : Plan → Type 0) → Moved of_ledger old new chain chain → IfErr r (λ e. e ≡ fault.Memory)
       → of_ledger.faults new ≡ of_ledger.faults old → IfErr r (StopsAt of_ledger of_files old new a a chain false is_move)
   starved_still r old new a chain is_move moved memory same = starved r old new a a chain is_move moved memory (rose_still _ _ refl) same
 
   -- a call of the ledger failed, and the block files weren't used
-  pub asked_stops : {T : Type 0} (r : Result T StepFault) (e : StepFault) (old new : G) (a : A) (chain : Chain) (is_move : Plan → Type 0) → r ≡ Err e → Moved of_ledger old new chain chain
+  pub asked_stops : {T : Type 0} (r : Result T QueryFault) (e : QueryFault) (old new : G) (a : A) (chain : Chain) (is_move : Plan → Type 0) → r ≡ Err e → Moved of_ledger old new chain chain
       → (e ≡ fault.DiskFailed → RoseBy (of_ledger.faults old) (of_ledger.faults new) 1) → (e ≢ fault.DiskFailed → of_ledger.faults new ≡ of_ledger.faults old)
       → IfErr r (StopsAt of_ledger of_files old new a a chain false is_move)
   asked_stops {T} r e old new a chain is_move is moved counted others =
       rw is (still_there {T = T} (Err e) old new a a chain is_move moved (rose_still _ _ refl) (record { counted = λ bad. counted (same_fault e fault.DiskFailed bad); uncounted = tt; others_uncounted = others }))
     where
-      same_fault : (x y : StepFault) → ◌≡◌ {A = Result T StepFault} (Err x) (Err y) → x ≡ y
+      same_fault : (x y : QueryFault) → ◌≡◌ {A = Result T QueryFault} (Err x) (Err y) → x ≡ y
       same_fault x y m = cc
 
   -- the move is one of more
-  pub stops_as : (old new : G) (a b : A) (chain : Chain) (later : Bool) (P Q : Plan → Type 0) (e : StepFault) → ((p : Plan) → P p → Q p)
+  pub stops_as : (old new : G) (a b : A) (chain : Chain) (later : Bool) (P Q : Plan → Type 0) (e : QueryFault) → ((p : Plan) → P p → Q p)
       → StopsAt of_ledger of_files old new a b chain later P e → StopsAt of_ledger of_files old new a b chain later Q e
   stops_as old new a b chain later P Q e gives s = record {
     next = s.next;
@@ -247,7 +249,7 @@ module _ {G A : Type 0} (of_ledger : ledgers.Ghosts G) (of_files : archives.Ghos
       by next (before is) = before is
       by next (in_move p is flight) = in_move p (gives p is) flight
 
-  pub stops_on : (old mid new : G) (a b : A) (chain : Chain) (later : Bool) (P : Plan → Type 0) (e : StepFault) → LeavesOwn of_ledger → of_ledger.is_live old → Asked of_ledger old mid
+  pub stops_on : (old mid new : G) (a b : A) (chain : Chain) (later : Bool) (P : Plan → Type 0) (e : QueryFault) → LeavesOwn of_ledger → of_ledger.is_live old → Asked of_ledger old mid
       → of_ledger.faults mid ≡ of_ledger.faults old → of_ledger.stands old chain → StopsAt of_ledger of_files mid new a b chain later P e → StopsAt of_ledger of_files old new a b chain later P e
   stops_on old mid new a b chain later P e own live asked same stood s = record {
     next = s.next;
@@ -280,21 +282,21 @@ module _ {A : Type 0} (of_files : archives.Ghosts A) where
     );
   }
 
-  pub place_looked : (a b : A) (holdings : Holdings) (side : Side) (file at : ℕ) (node : Option Node) (text : List ℕ) (tree : List Node) → IsFrom holdings side
+  pub place_looked : (a b : A) (holdings : Holdings) (side : Side) (file at : ℕ) (node : Option Node) (answer : NodeAnswer) (tree : List Node) → IsFrom holdings side
       → (of_files.tells → AllGrow side.files (of_files.bytes a)) → (of_files.tells → AllGrow (of_files.bytes a) (of_files.bytes b))
       → side_of.LooksUp of_files.tells (record side { files = of_files.bytes a }) file at node (of_files.bytes b) → tree ≡ found_after holdings.tree node
-      → text ≡ found_answer holdings.tree node → of_files.faults b ≡ of_files.faults a → Looked of_files a b side file at text tree
-  place_looked a b holdings side file at node text tree from told grows up joined says same = record {
+      → answer ≡ found_answer holdings.tree node → of_files.faults b ≡ of_files.faults a → Looked of_files a b side file at answer tree
+  place_looked a b holdings side file at node answer tree from told grows up joined says same = record {
     losses = [];
     looks = side_of.looks node (of_files.bytes b) (place_there a b side file at node told grows up)
         (rw from.found says) (rw from.found (ap (λ (found : List Node). record side { found = found; files = of_files.bytes b }) joined)) refl;
     rose = rose_still _ _ same;
   }
 
-  pub place_failed : (a b : A) (holdings : Holdings) (side : Side) (file at : ℕ) (text : List ℕ) (tree : List Node) → IsFrom holdings side
-      → (of_files.tells → AllGrow side.files (of_files.bytes a)) → (of_files.tells → AllGrow (of_files.bytes a) (of_files.bytes b)) → tree ≡ holdings.tree → text ≡ archive_refused
-      → RoseBy (of_files.faults a) (of_files.faults b) 1 → Looked of_files a b side file at text tree
-  place_failed a b holdings side file at text tree from told grows same says rose = record {
+  pub place_failed : (a b : A) (holdings : Holdings) (side : Side) (file at : ℕ) (answer : NodeAnswer) (tree : List Node) → IsFrom holdings side
+      → (of_files.tells → AllGrow side.files (of_files.bytes a)) → (of_files.tells → AllGrow (of_files.bytes a) (of_files.bytes b)) → tree ≡ holdings.tree → answer ≡ say.Refused refusal.Archive
+      → RoseBy (of_files.faults a) (of_files.faults b) 1 → Looked of_files a b side file at answer tree
+  place_failed a b holdings side file at answer tree from told grows same says rose = record {
     losses = archive ∷ [];
     looks = side_of.fails (of_files.bytes b) (λ t. all_grow_more side.files (of_files.bytes a) (of_files.bytes b) (told t) (grows t)) says
         (ap (λ (found : List Node). record side { found = found; files = of_files.bytes b }) (same ∙ sym from.found)) refl;
@@ -305,11 +307,11 @@ module _ {A : Type 0} (of_files : archives.Ghosts A) where
 
 module _ {G A : Type 0} (of_ledger : ledgers.Ghosts G) (of_files : archives.Ghosts A) where
   -- a line that tells a place
-  pub block_leads : (l : G) (a b : A) (side : Side) (start : Chain) (pool : PoolState) (bytes : List ℕ) (file at : ℕ) (text said : List ℕ) (tree left : List Node) (moved changed : List Hash32)
-      → IsAt of_ledger of_files l pool a side start → side.ahead ≡ []
-      → ReadsNodeLine bytes (line_said.block file at) → Looked of_files a b side file at text tree → said ≡ text → left ≡ [] → Moved of_ledger l l side.chain side.chain
-      → Leads of_ledger of_files (OrdersLine of_files.tells side (line bytes)) l l a b side start said tree left moved changed pool
-  block_leads l a b side start pool bytes file at text said tree left moved changed here still reads looked says none went = record {
+  pub block_leads : (l : G) (a b : A) (side : Side) (start : Chain) (holdings holdings_new : Holdings) (bytes : List ℕ) (file at : ℕ) (answer said : NodeAnswer) (tree left : List Node) (moved changed : List Hash32)
+      → IsAt of_ledger of_files l holdings a side start → side.ahead ≡ [] → holdings_new ≡ record holdings { tree = tree }
+      → ReadsNodeLine bytes (line_said.block file at) → Looked of_files a b side file at answer tree → said ≡ answer → left ≡ [] → Moved of_ledger l l side.chain side.chain
+      → Leads of_ledger of_files (OrdersLine of_files.tells side (line bytes)) l l a b side start said tree left moved changed holdings_new
+  block_leads l a b side start holdings holdings_new bytes file at answer said tree left moved changed here still same reads looked says none went = record {
     losses = looked.losses;
     next = record side { found = tree; files = of_files.bytes b };
     led = (Some (line_said.block file at), reads, rw says looked.looks);
@@ -317,7 +319,7 @@ module _ {G A : Type 0} (of_ledger : ledgers.Ghosts G) (of_files : archives.Ghos
     found_is = refl;
     ahead_is = none ∙ sym still;
     next_start = start;
-    set = record { stood = here.set.stood; still = here.set.still; limits = here.set.limits };
+    set = rw same (record { stood = here.set.stood; beside = tt; still = here.set.still; limits = here.set.limits });
     touches = touches_none side (record side { found = tree; files = of_files.bytes b }) start moved changed refl refl;
     went = went;
     told = λ t. all_grow_none (of_files.bytes b);
@@ -325,26 +327,26 @@ module _ {G A : Type 0} (of_ledger : ledgers.Ghosts G) (of_files : archives.Ghos
         (rw (archive_alone disk looked.looks (λ e. cc)) (rose_still _ _ refl));
   }
     where
-      archive_alone : (device : Device) {losses : List Device} {next : Side} → Looks of_files.tells side file at text losses next → (device ≡ archive → ⊥) → failures device losses ≡ 0
+      archive_alone : (device : Device) {losses : List Device} {next : Side} → Looks of_files.tells side file at answer losses next → (device ≡ archive → ⊥) → failures device losses ≡ 0
       archive_alone device (side_of.looks found files up says' is lost) other = ap (failures device) lost
       archive_alone link (side_of.fails files g says' is lost) other = ap (failures link) lost
       archive_alone disk (side_of.fails files g says' is lost) other = ap (failures disk) lost
       archive_alone archive (side_of.fails files g says' is lost) other = absurd (other refl)
 
   -- one that is refused as none of a node: it says nothing, or something that is refused
-  pub refused_leads : (s : Step) (l : G) (a : A) (side : Side) (start : Chain) (pool : PoolState) (bytes : List ℕ) (said : Option NodeLine) (tree : List Node)
-      → IsAt of_ledger of_files l pool a side start → side.ahead ≡ []
-      → side.found ≡ tree → IsSaid bytes said → ((text : List ℕ) → text ≡ line_refused → Orders of_files.tells side said text [] side) → s.text ≡ line_refused → s.left ≡ []
-      → Moved of_ledger l l side.chain side.chain → Leads of_ledger of_files (OrdersLine of_files.tells side (line bytes)) l l a a side start s.text tree s.left s.moved s.changed pool
-  refused_leads s l a side start pool bytes said tree here still same is orders says none moved =
-      answered of_ledger of_files l l a a side start pool (OrdersLine of_files.tells side (line bytes)) s.text tree s.left s.moved s.changed here still (said, is, orders s.text says) (sym same) none
+  pub refused_leads : (s : Step) (l : G) (a : A) (side : Side) (start : Chain) (holdings : Holdings) (bytes : List ℕ) (said : Option NodeLine) (tree : List Node)
+      → IsAt of_ledger of_files l holdings a side start → side.ahead ≡ []
+      → side.found ≡ tree → IsSaid bytes said → ((answer : NodeAnswer) → answer ≡ say.Refused refusal.Line → Orders of_files.tells side said answer [] side) → s.answer ≡ say.Refused refusal.Line → s.left ≡ []
+      → Moved of_ledger l l side.chain side.chain → Leads of_ledger of_files (OrdersLine of_files.tells side (line bytes)) l l a a side start s.answer tree s.left s.moved s.changed holdings
+  refused_leads s l a side start holdings bytes said tree here still same is orders says none moved =
+      answered of_ledger of_files l l a a side start holdings (OrdersLine of_files.tells side (line bytes)) s.answer tree s.left s.moved s.changed here still (said, is, orders s.answer says) (sym same) none
       (λ t. all_grow_none (of_files.bytes a)) moved refl refl
 
 -- ---- what every step keeps
 
 module _ {G A : Type 0} (of_ledger : ledgers.Ghosts G) (of_files : archives.Ghosts A) where
   -- a step that didn't use the ledger
-  pub step_still : (r : Result Step StepFault) (l : G) (a b : A) → of_ledger.is_live l → IfOk r (λ s. s.left ≡ []) → (of_files.tells → AllGrow (of_files.bytes a) (of_files.bytes b))
+  pub step_still : (r : Result Step QueryFault) (l : G) (a b : A) → of_ledger.is_live l → IfOk r (λ s. s.left ≡ []) → (of_files.tells → AllGrow (of_files.bytes a) (of_files.bytes b))
       → of_files.faults a ≤ of_files.faults b → OnErr r (RoseWith false (λ n. RoseBy (of_files.faults a) (of_files.faults b) n)) → IfErr r (λ e. e ≡ fault.Memory)
       → NodeStep of_ledger of_files l l a b false r
   step_still (Ok s) l a b live none grows more rose memory = record {
@@ -368,7 +370,7 @@ module _ {G A : Type 0} (of_ledger : ledgers.Ghosts G) (of_files : archives.Ghos
     disk_rose = record { counted = λ is. absurd (by e is memory); uncounted = tt; others_uncounted = λ other. refl };
   }
     where
-      by : (e : StepFault) → ◌≡◌ {A = Result Step StepFault} (Err e) (Err fault.DiskFailed) → e ≡ fault.Memory → ⊥
+      by : (e : QueryFault) → ◌≡◌ {A = Result Step QueryFault} (Err e) (Err fault.DiskFailed) → e ≡ fault.Memory → ⊥
       by fault.DiskFailed is m = let bad = m in cc
       by fault.Memory is m = let bad = is in cc
 
@@ -387,7 +389,7 @@ module _ {G A : Type 0} (of_ledger : ledgers.Ghosts G) (of_files : archives.Ghos
   }
 
   -- or failed
-  pub step_unmoved : (r : Result Step StepFault) (e : StepFault) (old new : G) (a : A) → r ≡ Err e → of_ledger.is_live old → Asked of_ledger old new
+  pub step_unmoved : (r : Result Step QueryFault) (e : QueryFault) (old new : G) (a : A) → r ≡ Err e → of_ledger.is_live old → Asked of_ledger old new
       → (e ≡ fault.DiskFailed → RoseBy (of_ledger.faults old) (of_ledger.faults new) 1) → ((e ≡ fault.DiskFailed → ⊥) → of_ledger.faults new ≡ of_ledger.faults old)
       → NodeStep of_ledger of_files old new a a false r
   step_unmoved r e old new a is live asked counted others = rw is (record {
@@ -401,11 +403,11 @@ module _ {G A : Type 0} (of_ledger : ledgers.Ghosts G) (of_files : archives.Ghos
     disk_rose = record { counted = λ m. counted (same_fault e fault.DiskFailed m); uncounted = tt; others_uncounted = λ other. others other };
   })
     where
-      same_fault : (x y : StepFault) → ◌≡◌ {A = Result Step StepFault} (Err x) (Err y) → x ≡ y
+      same_fault : (x y : QueryFault) → ◌≡◌ {A = Result Step QueryFault} (Err x) (Err y) → x ≡ y
       same_fault x y m = cc
 
   -- a step after the ledger was asked
-  pub step_on : (old mid new : G) (a b : A) (r : Result Step StepFault) → of_ledger.faults mid ≡ of_ledger.faults old → NodeStep of_ledger of_files mid new a b false r
+  pub step_on : (old mid new : G) (a b : A) (r : Result Step QueryFault) → of_ledger.faults mid ≡ of_ledger.faults old → NodeStep of_ledger of_files mid new a b false r
       → NodeStep of_ledger of_files old new a b false r
   step_on old mid new a b r same n = record {
     live = n.live;

@@ -4,4 +4,3 @@ pub mod Led
 pub mod Pooled
 pub mod Tried
 pub mod RowsRead
-pub mod Apart

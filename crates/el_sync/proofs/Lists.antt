@@ -7,7 +7,7 @@ use Rattle.el_chain.specs.declared.node.Node.{Node}
 use Rattle.el_chain.specs.Chains.{Chain, tip, zero_hash}
 use Rattle.el_chain.specs.Headers.{AreLinked}
 use Rattle.el_chain.specs.Moves.{FitsChain, shorter, max_forward, last_hash}
-use Rattle.el_world.specs.Plans.{left_of}
+use Rattle.el_side.specs.Plans.{left_of}
 use Rattle.el_sync.specs.Steps.{named}
 
 -- the first of linked nodes are linked

@@ -1,7 +1,7 @@
 -- Rows that a line of the node reads.
 use Rattle.std.proofs.Common.{ℕ, arith}
 use Rattle.el_base.specs.declared.hash.Hash32.{Hash32}
-use Rattle.el_world.specs.Side.{Side}
+use Rattle.el_side.specs.Side.{Side}
 use Rattle.el_sync.specs.RowBounds.{ReadsTip}
 
 -- none

@@ -28,21 +28,23 @@ use Rattle.el_model.specs.Queries.{tip_of, height_of}
 use Rattle.el_model.specs.declared.ledger.Ledger as ledgers
 use Rattle.el_model.proofs.LedgerMoves.{LeavesOwn}
 use Rattle.el_model.proofs.Quiets.{quiet_leaves}
-use Rattle.el_lines.specs.NodeAnswers.{at_answer}
-use Rattle.el_world.specs.Flights.{IsUnderWay, before, in_move}
-use Rattle.el_world.specs.Plans.{left_of, plan_of}
-use Rattle.el_world.specs.Side as side_of
-use Rattle.el_world.specs.Side.{Side, Moving, kept_after}
-use Rattle.el_touched.specs.Untouched.{KeepsOthers}
-use Rattle.el_touched.proofs.Sides.{looks_joined, looks_self, move_keeps}
-use Rattle.el_touched.proofs.Stays.{status_stays}
+use Rattle.el_lines.specs.declared.node_answer.NodeAnswer.{NodeAnswer}
+use Rattle.el_lines.specs.declared.node_answer.NodeAnswer.TheVariants as say
+use Rattle.el_side.specs.UnderWay.{IsUnderWay, before, in_move}
+use Rattle.el_side.specs.Plans.{left_of, plan_of}
+use Rattle.el_side.specs.Side as side_of
+use Rattle.el_side.specs.Side.{Side, Moving, kept_after}
+use Rattle.el_status.specs.Untouched.{KeepsOthers}
+use Rattle.el_status.proofs.Sides.{looks_joined, looks_self, move_keeps}
+use Rattle.el_status.proofs.Stays.{status_stays}
 use Rattle.el_status.specs.Statuses.{status}
 use Rattle.el_tx.specs.declared.types.Tx.{Tx}
-use Rattle.el_world.specs.NodeSteps.{IsAt, Leads, SetStands, Touches}
+use Rattle.el_side.specs.declared.holdings.Holdings.{Holdings}
+use Rattle.el_side.specs.NodeSteps.{IsAt, Leads, SetStands, Touches}
 use Rattle.el_sync.specs.Steps.{FailsBy, NodeStep, RoseWith, StopsAt, by_disk, by_memory, in_sift, untold}
 use Rattle.el_sync.specs.within.Parts.{MoveFailed, MoveKeeps, SaysRefusal, Tried, Tries, made, refused, failed}
-use Rattle.el_sync.specs.declared.fault.StepFault.{StepFault}
-use Rattle.el_sync.specs.declared.fault.StepFault.TheVariants as fault
+use Rattle.el_model.specs.declared.fault.QueryFault.{QueryFault}
+use Rattle.el_model.specs.declared.fault.QueryFault.TheVariants as fault
 use Rattle.el_sync.specs.declared.making.Made.{Made}
 use Rattle.el_sync.specs.declared.moving.Step.{Step}
 use Rattle.el_sync.proofs.Led.{stands_there, still_there}
@@ -80,13 +82,13 @@ abbrev start_after : List Node → Chain → Chain → Chain
 start_after [] chain start = chain
 start_after (n ∷ ns) chain start = start
 
-set_moved : (l : List Node) (chain start : Chain) (files : ℕ → List ℕ) (pool pool_new : PoolState) (side : Side) → SetStands pool side start → pool_new.limits ≡ pool.limits
-    → (l ≡ [] → StandsFor pool_new.entries chain (sift chain side.kept)) → ((n : Node) (ns : List Node) → l ≡ n ∷ ns → pool_new ≡ pool)
-    → SetStands pool_new (record side { chain = chain; kept = kept_after l chain side.kept; ahead = l; files = files }) (start_after l chain start)
-set_moved [] chain start files pool pool_new side set limits sifts same =
-    record { stood = sifts refl; still = λ e. refl; limits = limits ∙ set.limits }
-set_moved (n ∷ ns) chain start files pool pool_new side set limits sifts same =
-    record { stood = rw (same n ns refl) set.stood; still = λ e. absurd (let bad = e in cc); limits = limits ∙ set.limits }
+set_moved : (l : List Node) (chain start : Chain) (files : ℕ → List ℕ) (holdings : Holdings) (pool_new : PoolState) (side : Side) → SetStands holdings side start → pool_new.limits ≡ holdings.pool.limits
+    → (l ≡ [] → StandsFor pool_new.entries chain (sift chain side.kept)) → ((n : Node) (ns : List Node) → l ≡ n ∷ ns → pool_new ≡ holdings.pool)
+    → SetStands (record holdings { pool = pool_new }) (record side { chain = chain; kept = kept_after l chain side.kept; ahead = l; files = files }) (start_after l chain start)
+set_moved [] chain start files holdings pool_new side set limits sifts same =
+    record { stood = sifts refl; beside = tt; still = λ e. refl; limits = limits ∙ set.limits }
+set_moved (n ∷ ns) chain start files holdings pool_new side set limits sifts same =
+    record { stood = rw (same n ns refl) set.stood; beside = tt; still = λ e. absurd (let bad = e in cc); limits = limits ∙ set.limits }
 
 touches_moved : (l : List Node) (chain start : Chain) (files : ℕ → List ℕ) (side : Side) (moved changed : List Hash32) → KeepsOthers side.chain chain moved
     → (l ≡ [] → AreChanged start side.kept chain (sift chain side.kept) changed)
@@ -101,24 +103,24 @@ touches_moved (n ∷ ns) chain start files side moved changed keeps change = rec
   looks = λ s out apart looks. looks_joined start side.chain chain s.0 looks (keeps s out);
 }
 
-set_refused : (later : Bool) (start : Chain) (files : ℕ → List ℕ) (pool pool_new : PoolState) (side : Side) → SetStands pool side start → (later ≡ false → side.ahead ≡ []) → pool_new.limits ≡ pool.limits
-    → (later ≡ true → StandsFor pool_new.entries side.chain (sift side.chain side.kept)) → (later ≡ false → pool_new ≡ pool)
-    → SetStands pool_new (record side { kept = sift side.chain side.kept; ahead = []; files = files }) side.chain
-set_refused true start files pool pool_new side set still limits sifts same =
-    record { stood = sifts refl; still = λ e. refl; limits = limits ∙ set.limits }
-set_refused false start files pool pool_new side set still limits sifts same =
-    let there = stands_there pool side start set (still refl) in
-    record { stood = rw (same refl, there.sifted) there; still = λ e. refl; limits = limits ∙ set.limits }
+set_refused : (later : Bool) (start : Chain) (files : ℕ → List ℕ) (holdings : Holdings) (pool_new : PoolState) (side : Side) → SetStands holdings side start → (later ≡ false → side.ahead ≡ []) → pool_new.limits ≡ holdings.pool.limits
+    → (later ≡ true → StandsFor pool_new.entries side.chain (sift side.chain side.kept)) → (later ≡ false → pool_new ≡ holdings.pool)
+    → SetStands (record holdings { pool = pool_new }) (record side { kept = sift side.chain side.kept; ahead = []; files = files }) side.chain
+set_refused true start files holdings pool_new side set still limits sifts same =
+    record { stood = sifts refl; beside = tt; still = λ e. refl; limits = limits ∙ set.limits }
+set_refused false start files holdings pool_new side set still limits sifts same =
+    let there = stands_there holdings side start set (still refl) in
+    record { stood = rw (same refl, there.sifted) there; beside = tt; still = λ e. refl; limits = limits ∙ set.limits }
 
-touches_refused : (later : Bool) (start : Chain) (files : ℕ → List ℕ) (pool : PoolState) (side : Side) (moved changed : List Hash32) → SetStands pool side start → (later ≡ false → side.ahead ≡ [])
+touches_refused : (later : Bool) (start : Chain) (files : ℕ → List ℕ) (holdings : Holdings) (side : Side) (moved changed : List Hash32) → SetStands holdings side start → (later ≡ false → side.ahead ≡ [])
     → (later ≡ true → AreChanged start side.kept side.chain (sift side.chain side.kept) changed)
     → Touches side start (record side { kept = sift side.chain side.kept; ahead = []; files = files }) side.chain moved changed
-touches_refused true start files pool side moved changed set still change = record {
+touches_refused true start files holdings side moved changed set still change = record {
   status_stays = λ s out apart looks. status_stays start side.chain side.kept (sift side.chain side.kept) changed s looks (change refl) apart;
   looks = λ s out apart looks. looks_self side.chain s.0;
 }
-touches_refused false start files pool side moved changed set still change =
-    let there = stands_there pool side start set (still refl) in
+touches_refused false start files holdings side moved changed set still change =
+    let there = stands_there holdings side start set (still refl) in
     record {
       status_stays = λ s out apart looks.
           ap (λ (kept : List Tx). status side.chain kept s.0) there.sifted ∙ ap (λ (c : Chain). status c side.kept s.0) (sym (set.still (still refl)));
@@ -141,17 +143,27 @@ fits_whole chain rest linked =
     let whole : shorter 0 chain ≡ chain = take_all (length chain - 0) chain (omega arith) in
     (omega arith, rw whole linked)
 
-pub not_failed : (e : StepFault) → e ≢ fault.DiskFailed → e ≡ fault.Memory
+-- Whatever refused a move, the block files failed once in it, and only where that is why.
+pub rose_or_not : (e : MoveFault) (was now : ℕ) → (e ≡ stop.ArchiveFailed → RoseBy was now 1) → (e ≢ stop.ArchiveFailed → now ≡ was)
+    → RoseBy was now 0 ⊎ ((false ≡ false) × RoseBy was now 1)
+rose_or_not stop.DiskFailed was now count still = inl (rose_still was now (still (λ e. let bad = e in cc)))
+rose_or_not stop.Memory was now count still = inl (rose_still was now (still (λ e. let bad = e in cc)))
+rose_or_not stop.ArchiveFailed was now count still = inr (refl, count refl)
+rose_or_not (stop.Changed w f) was now count still = inl (rose_still was now (still (λ e. let bad = e in cc)))
+rose_or_not (stop.BadBlock h f) was now count still = inl (rose_still was now (still (λ e. let bad = e in cc)))
+rose_or_not (stop.Refused h f) was now count still = inl (rose_still was now (still (λ e. let bad = e in cc)))
+
+pub not_failed : (e : QueryFault) → e ≢ fault.DiskFailed → e ≡ fault.Memory
 not_failed fault.DiskFailed other = absurd (other refl)
 not_failed fault.Memory other = refl
 
 module _ {G A : Type 0} (of_ledger : ledgers.Ghosts G) (of_files : archives.Ghosts A) where
-  pub move_failed : (r : Result Made StepFault) (e : StepFault) (old new : G) (a b : A) → r ≡ Err e → MoveFailed of_ledger of_files old new a b e
+  pub move_failed : (r : Result Made QueryFault) (e : QueryFault) (old new : G) (a b : A) → r ≡ Err e → MoveFailed of_ledger of_files old new a b e
       → IfErr r (MoveFailed of_ledger of_files old new a b)
   move_failed r e old new a b is f = rw is f
 
   -- a first move that failed stops a later one too
-  pub stops_first : {T : Type 0} (r : Result T StepFault) (e : StepFault) (old new : G) (a b : A) (chain : Chain) (later : Bool) (P : Plan → Type 0) → r ≡ Err e
+  pub stops_first : {T : Type 0} (r : Result T QueryFault) (e : QueryFault) (old new : G) (a b : A) (chain : Chain) (later : Bool) (P : Plan → Type 0) → r ≡ Err e
       → StopsAt of_ledger of_files old new a b chain false P e → IfErr r (StopsAt of_ledger of_files old new a b chain later P)
   stops_first r e old new a b chain later P is s =
       rw is (record { next = s.next; flight = s.flight; crash = s.crash; stood = s.stood; losses = s.losses; fails = by s.fails; rose = s.rose })
@@ -171,12 +183,12 @@ module _ {G A : Type 0} (of_ledger : ledgers.Ghosts G) (of_files : archives.Ghos
       × of_ledger.stands new (target (record { back = back; forward = forward }) side.chain blocks) × AreTouched (record { back = back; forward = forward }) side.chain blocks m.touched
       × CrashLeaves of_ledger old new side.chain (target (record { back = back; forward = forward }) side.chain blocks)
       → forward ≡ take max_forward rest → ((c : Chain) → of_ledger.stands new c → top ≡ tip_of c) → ((c : Chain) → of_ledger.stands new c → height ≡ height_of c)
-      → m.moved ≡ true → m.text ≡ at_answer top height → of_files.faults b ≡ of_files.faults a → of_ledger.faults new ≡ of_ledger.faults old
+      → m.moved ≡ true → m.answer ≡ say.At top height → of_files.faults b ≡ of_files.faults a → of_ledger.faults new ≡ of_ledger.faults old
       → Tries of_ledger of_files old new a b side back rest m
-  made_tries old new a b side back rest forward top height m told grows moved is tip_is height_is yes_moved text_is files_same disk_same = record {
+  made_tries old new a b side back rest forward top height m told grows moved is tip_is height_is yes_moved answer_is files_same disk_same = record {
     losses = [];
     chain = shorter back side.chain ++ moved.0;
-    tried = made moved.0 (rw is at moved.1) (rw is at moved.3) yes_moved refl (rw (← tip_is (shorter back side.chain ++ moved.0) moved.2, ← height_is (shorter back side.chain ++ moved.0) moved.2) text_is) refl;
+    tried = made moved.0 (rw is at moved.1) (rw is at moved.3) yes_moved refl (rw (← tip_is (shorter back side.chain ++ moved.0) moved.2, ← height_is (shorter back side.chain ++ moved.0) moved.2) answer_is) refl;
     grows = λ t. all_grow_more side.files (of_files.bytes a) (of_files.bytes b) (told t) (grows t);
     moved = record { stood = moved.2; crash = moved.4 };
     rose = λ of_link. rose_of of_link _ _ _ _ [] refl (rose_still _ _ files_same) (rose_still _ _ disk_same);
@@ -185,7 +197,7 @@ module _ {G A : Type 0} (of_ledger : ledgers.Ghosts G) (of_files : archives.Ghos
   -- one that is refused
   refused_tries : (old new : G) (a b : A) (side : Side) (back : ℕ) (rest : List Node) (m : Made) (losses : List Device)
       → (of_files.tells → AllGrow side.files (of_files.bytes a)) → (of_files.tells → AllGrow (of_files.bytes a) (of_files.bytes b)) → Moved of_ledger old new side.chain side.chain
-      → Tried of_files.tells side back rest m.moved m.text m.touched losses side.chain (of_files.bytes b)
+      → Tried of_files.tells side back rest m.moved m.answer m.touched losses side.chain (of_files.bytes b)
       → ((of_link : ℕ) → Rose (failed_calls of_ledger of_files of_link old a) (failed_calls of_ledger of_files of_link new b) losses)
       → Tries of_ledger of_files old new a b side back rest m
   refused_tries old new a b side back rest m losses told grows moved tried rose = record {
@@ -201,7 +213,7 @@ module _ {G A : Type 0} (of_ledger : ledgers.Ghosts G) (of_files : archives.Ghos
       → (of_files.tells → AllGrow side.files (of_files.bytes a)) → (of_files.tells → AllGrow (of_files.bytes a) (of_files.bytes b)) → Moved of_ledger old new side.chain side.chain
       → IsRefused of_files.tells (of_files.bytes b) side.chain (record { back = back; forward = forward }) e → forward ≡ take max_forward rest
       → (e ≡ stop.ArchiveFailed → RoseBy (of_files.faults a) (of_files.faults b) 1) → (e ≢ stop.ArchiveFailed → of_files.faults b ≡ of_files.faults a)
-      → of_ledger.faults new ≡ of_ledger.faults old → m.moved ≡ false → SaysRefusal e m.text → m.touched ≡ [] → Tries of_ledger of_files old new a b side back rest m
+      → of_ledger.faults new ≡ of_ledger.faults old → m.moved ≡ false → SaysRefusal e m.answer → m.touched ≡ [] → Tries of_ledger of_files old new a b side back rest m
   not_made old new a b side back rest forward stop.DiskFailed m told grows moved why is count still disk_same none says apart = absurd says
   not_made old new a b side back rest forward stop.Memory m told grows moved why is count still disk_same none says apart = absurd says
   not_made old new a b side back rest forward stop.ArchiveFailed m told grows moved why is count still disk_same none says apart =
@@ -218,7 +230,7 @@ module _ {G A : Type 0} (of_ledger : ledgers.Ghosts G) (of_files : archives.Ghos
       (λ of_link. rose_of of_link _ _ _ _ [] refl (rose_still _ _ (still (λ e. let bad = e in cc))) (rose_still _ _ disk_same))
 
   -- the ledger's device failed in a move, or no memory was found to tell of its refusal
-  pub broke : {T : Type 0} (r : Result T StepFault) (old new : G) (a b : A) (chain : Chain) (back : ℕ) (rest forward : List Node) (e : StepFault) → r ≡ Err e → forward ≡ take max_forward rest
+  pub broke : {T : Type 0} (r : Result T QueryFault) (old new : G) (a b : A) (chain : Chain) (back : ℕ) (rest forward : List Node) (e : QueryFault) → r ≡ Err e → forward ≡ take max_forward rest
       → (e ≡ fault.DiskFailed → (next : Chain) × InFlight of_files.tells (of_files.bytes b) chain (record { back = back; forward = forward }) next
       × CrashLeaves of_ledger old new chain next)
       → (e ≡ fault.Memory → Moved of_ledger old new chain chain) → MoveFailed of_ledger of_files old new a b e
@@ -250,23 +262,23 @@ module _ {G A : Type 0} (of_ledger : ledgers.Ghosts G) (of_files : archives.Ghos
   }
 
   -- the set was sifted, or a later move is to do it
-  pub settled : (old mid new : G) (a b : A) (side : Side) (start : Chain) (back : ℕ) (rest : List Node) (pool pool_new : PoolState) (m : Made) (changed : List Hash32) (later ends : Bool) → LeavesOwn of_ledger → of_ledger.is_live mid
-      → IsAt of_ledger of_files old pool a side start → (later ≡ false → side.ahead ≡ []) → Tries of_ledger of_files old mid a b side back rest m → MoveKeeps of_ledger of_files old mid a b rest m
+  pub settled : (old mid new : G) (a b : A) (side : Side) (start : Chain) (back : ℕ) (rest : List Node) (holdings : Holdings) (pool_new : PoolState) (m : Made) (changed : List Hash32) (later ends : Bool) → LeavesOwn of_ledger → of_ledger.is_live mid
+      → IsAt of_ledger of_files old holdings a side start → (later ≡ false → side.ahead ≡ []) → Tries of_ledger of_files old mid a b side back rest m → MoveKeeps of_ledger of_files old mid a b rest m
       → ends ≡ ((length m.left == 0) && (m.moved || later))
-      → ((first chain : Chain) → StandsFor pool.entries first side.kept → of_ledger.stands mid chain → ends ≡ true → StandsFor pool_new.entries chain (sift chain side.kept)
+      → ((first chain : Chain) → StandsFor holdings.pool.entries first side.kept → of_ledger.stands mid chain → ends ≡ true → StandsFor pool_new.entries chain (sift chain side.kept)
       × AreChanged first side.kept chain (sift chain side.kept) changed)
-      → (ends ≡ false → pool_new ≡ pool) → pool_new.limits ≡ pool.limits → Asked of_ledger mid new → of_ledger.faults new ≡ of_ledger.faults mid
-      → Leads of_ledger of_files (Moving of_files.tells side back rest) old new a b side start m.text side.found m.left m.touched changed pool_new
-  settled old mid new a b side start back rest pool pool_new m changed later ends own live at still t k is sifts same limits asked disk_same = by t.tried t.moved t.rose
+      → (ends ≡ false → pool_new ≡ holdings.pool) → pool_new.limits ≡ holdings.pool.limits → Asked of_ledger mid new → of_ledger.faults new ≡ of_ledger.faults mid
+      → Leads of_ledger of_files (Moving of_files.tells side back rest) old new a b side start m.answer side.found m.left m.touched changed (record holdings { pool = pool_new })
+  settled old mid new a b side start back rest holdings pool_new m changed later ends own live at still t k is sifts same limits asked disk_same = by t.tried t.moved t.rose
     where
       rose_on : (losses : List Device) → ((of_link : ℕ) → Rose (failed_calls of_ledger of_files of_link old a) (failed_calls of_ledger of_files of_link mid b) losses)
           → (of_link : ℕ) → Rose (failed_calls of_ledger of_files of_link old a) (failed_calls of_ledger of_files of_link new b) losses
       rose_on losses rose of_link = rw disk_same (rose of_link)
 
-      by : {losses : List Device} {chain : Chain} → Tried of_files.tells side back rest m.moved m.text m.touched losses chain (of_files.bytes b) → Moved of_ledger old mid side.chain chain
+      by : {losses : List Device} {chain : Chain} → Tried of_files.tells side back rest m.moved m.answer m.touched losses chain (of_files.bytes b) → Moved of_ledger old mid side.chain chain
           → ((of_link : ℕ) → Rose (failed_calls of_ledger of_files of_link old a) (failed_calls of_ledger of_files of_link mid b) losses)
-          → Leads of_ledger of_files (Moving of_files.tells side back rest) old new a b side start m.text side.found m.left m.touched changed pool_new
-      by {losses} {chain} (made blocks moves touched yes_moved chain_is text_is lost) moved rose =
+          → Leads of_ledger of_files (Moving of_files.tells side back rest) old new a b side start m.answer side.found m.left m.touched changed (record holdings { pool = pool_new })
+      by {losses} {chain} (made blocks moves touched yes_moved chain_is answer_is lost) moved rose =
           let left_is : m.left ≡ left_of rest = k.left ∙ rw yes_moved refl in
           let stood : of_ledger.stands mid (shorter back side.chain ++ blocks) = rw chain_is at moved.stood in
           let ended : left_of rest ≡ [] → ends ≡ true = λ none. ends_whole (left_of rest) m.left m.moved later ends is yes_moved left_is none in
@@ -278,12 +290,12 @@ module _ {G A : Type 0} (of_ledger : ledgers.Ghosts G) (of_files : archives.Ghos
               ahead = left_of rest;
               files = of_files.bytes b;
             };
-            led = side_of.commits (of_files.bytes b) blocks t.grows moves refl (rw chain_is at text_is) lost;
+            led = side_of.commits (of_files.bytes b) blocks t.grows moves refl (rw chain_is at answer_is) lost;
             found_is = refl;
             ahead_is = left_is;
             magic_is = refl;
             next_start = start_after (left_of rest) (shorter back side.chain ++ blocks) start;
-            set = set_moved (left_of rest) (shorter back side.chain ++ blocks) start (of_files.bytes b) pool pool_new side at.set limits
+            set = set_moved (left_of rest) (shorter back side.chain ++ blocks) start (of_files.bytes b) holdings pool_new side at.set limits
                 (λ none. (sifts start (shorter back side.chain ++ blocks) at.set.stood stood (ended none)).0) (λ n ns some. same (ends_not n ns m.left m.moved later ends is (left_is ∙ some)));
             touches = touches_moved (left_of rest) (shorter back side.chain ++ blocks) start (of_files.bytes b) side m.touched changed
                 (move_keeps (plan_of back rest) side.chain blocks m.touched touched) (λ none. (sifts start (shorter back side.chain ++ blocks) at.set.stood stood (ended none)).1);
@@ -303,9 +315,9 @@ module _ {G A : Type 0} (of_ledger : ledgers.Ghosts G) (of_files : archives.Ghos
             ahead_is = left_is;
             magic_is = refl;
             next_start = side.chain;
-            set = set_refused later start (of_files.bytes b) pool pool_new side at.set still limits
+            set = set_refused later start (of_files.bytes b) holdings pool_new side at.set still limits
                 (λ yes_later. (sifts start side.chain at.set.stood moved_on.stood (ended ∙ yes_later)).0) (λ no_later. same (ended ∙ no_later));
-            touches = touches_refused later start (of_files.bytes b) pool side m.touched changed at.set still
+            touches = touches_refused later start (of_files.bytes b) holdings side m.touched changed at.set still
                 (λ yes_later. (sifts start side.chain at.set.stood moved_on.stood (ended ∙ yes_later)).1);
             went = then_asked old mid new side.chain side.chain own live moved_on asked;
             told = λ t. all_grow_none (of_files.bytes b);
@@ -323,9 +335,9 @@ module _ {G A : Type 0} (of_ledger : ledgers.Ghosts G) (of_files : archives.Ghos
             ahead_is = left_is;
             magic_is = refl;
             next_start = side.chain;
-            set = set_refused later start (of_files.bytes b) pool pool_new side at.set still limits
+            set = set_refused later start (of_files.bytes b) holdings pool_new side at.set still limits
                 (λ yes_later. (sifts start side.chain at.set.stood moved_on.stood (ended ∙ yes_later)).0) (λ no_later. same (ended ∙ no_later));
-            touches = touches_refused later start (of_files.bytes b) pool side m.touched changed at.set still
+            touches = touches_refused later start (of_files.bytes b) holdings side m.touched changed at.set still
                 (λ yes_later. (sifts start side.chain at.set.stood moved_on.stood (ended ∙ yes_later)).1);
             went = then_asked old mid new side.chain side.chain own live moved_on asked;
             told = λ t. all_grow_none (of_files.bytes b);
@@ -333,17 +345,17 @@ module _ {G A : Type 0} (of_ledger : ledgers.Ghosts G) (of_files : archives.Ghos
           }
 
   -- the sift failed
-  pub unsettled : {T : Type 0} (r : Result T StepFault) (e : StepFault) (old mid new : G) (a b : A) (side : Side) (back : ℕ) (rest : List Node) (m : Made) (later : Bool) → r ≡ Err e → LeavesOwn of_ledger
+  pub unsettled : {T : Type 0} (r : Result T QueryFault) (e : QueryFault) (old mid new : G) (a b : A) (side : Side) (back : ℕ) (rest : List Node) (m : Made) (later : Bool) → r ≡ Err e → LeavesOwn of_ledger
       → of_ledger.is_live mid → Tries of_ledger of_files old mid a b side back rest m → (m.moved ≡ false → later ≡ true) → Asked of_ledger mid new
       → (e ≡ fault.DiskFailed → RoseBy (of_ledger.faults mid) (of_ledger.faults new) 1) → (e ≢ fault.DiskFailed → of_ledger.faults new ≡ of_ledger.faults mid)
       → IfErr r (StopsAt of_ledger of_files old new a b side.chain later (λ (p : Plan). p ≡ plan_of back rest))
   unsettled r e old mid new a b side back rest m later is own live t only asked counted others = rw is (by t.tried t.moved t.rose)
     where
-      lost_in : StepFault → List Device
+      lost_in : QueryFault → List Device
       lost_in fault.DiskFailed = device.disk ∷ []
       lost_in fault.Memory = []
 
-      rose_in : (e : StepFault) → (e ≡ fault.DiskFailed → RoseBy (of_ledger.faults mid) (of_ledger.faults new) 1) → (e ≢ fault.DiskFailed → of_ledger.faults new ≡ of_ledger.faults mid)
+      rose_in : (e : QueryFault) → (e ≡ fault.DiskFailed → RoseBy (of_ledger.faults mid) (of_ledger.faults new) 1) → (e ≢ fault.DiskFailed → of_ledger.faults new ≡ of_ledger.faults mid)
           → (of_link : ℕ) → Rose (failed_calls of_ledger of_files of_link mid b) (failed_calls of_ledger of_files of_link new b) (lost_in e)
       rose_in fault.DiskFailed counted others of_link = rose_of of_link _ _ _ _ (device.disk ∷ []) refl (rose_still _ _ refl) (counted refl)
       rose_in fault.Memory counted others of_link = rose_of of_link _ _ _ _ [] refl (rose_still _ _ refl) (rose_still _ _ (others (λ e. let bad = e in cc)))
@@ -362,25 +374,25 @@ module _ {G A : Type 0} (of_ledger : ledgers.Ghosts G) (of_files : archives.Ghos
             (rose of_link) (rose_in e counted others of_link);
       }
 
-      alone : (e : StepFault) (next : Chain) → FailsBy later side.chain next e (lost_in e)
+      alone : (e : QueryFault) (next : Chain) → FailsBy later side.chain next e (lost_in e)
       alone fault.DiskFailed next = by_disk refl refl
       alone fault.Memory next = by_memory refl refl
 
-      after_files : (e : StepFault) → later ≡ true → FailsBy later side.chain side.chain e (archive ∷ lost_in e)
+      after_files : (e : QueryFault) → later ≡ true → FailsBy later side.chain side.chain e (archive ∷ lost_in e)
       after_files fault.DiskFailed yes_later = in_sift yes_later refl refl refl
       after_files fault.Memory yes_later = untold yes_later refl refl refl
 
-      by : {losses : List Device} {chain : Chain} → Tried of_files.tells side back rest m.moved m.text m.touched losses chain (of_files.bytes b) → Moved of_ledger old mid side.chain chain
+      by : {losses : List Device} {chain : Chain} → Tried of_files.tells side back rest m.moved m.answer m.touched losses chain (of_files.bytes b) → Moved of_ledger old mid side.chain chain
           → ((of_link : ℕ) → Rose (failed_calls of_ledger of_files of_link old a) (failed_calls of_ledger of_files of_link mid b) losses)
           → StopsAt of_ledger of_files old new a b side.chain later (λ (p : Plan). p ≡ plan_of back rest) e
-      by {losses} {chain} (made blocks moves touched yes_moved chain_is text_is lost) moved rose =
+      by {losses} {chain} (made blocks moves touched yes_moved chain_is answer_is lost) moved rose =
           stops losses chain (in_move (plan_of back rest) refl (inr (blocks, moves, chain_is))) moved rose (rw lost (alone e chain))
       by {losses} {chain} (refused f why no_moved chain_is says apart lost) moved rose = stops losses chain (before chain_is) moved rose (rw lost (alone e chain))
       by {losses} {chain} (failed no_moved chain_is says apart lost) moved rose = stops losses chain (before chain_is) moved rose (rw (lost, chain_is) (after_files e (only no_moved)))
 
   -- ---- what the step keeps
 
-  pub step_failed : (r : Result Step StepFault) (e : StepFault) (old new : G) (a b : A) (later : Bool) → r ≡ Err e → MoveFailed of_ledger of_files old new a b e → NodeStep of_ledger of_files old new a b later r
+  pub step_failed : (r : Result Step QueryFault) (e : QueryFault) (old new : G) (a b : A) (later : Bool) → r ≡ Err e → MoveFailed of_ledger of_files old new a b e → NodeStep of_ledger of_files old new a b later r
   step_failed r e old new a b later is f = rw is (record {
     live = tt;
     still_live = λ m. f.still_live (same_fault e fault.Memory m);
@@ -392,16 +404,16 @@ module _ {G A : Type 0} (of_ledger : ledgers.Ghosts G) (of_files : archives.Ghos
     disk_rose = record { counted = λ m. f.disk_rose (same_fault e fault.DiskFailed m); uncounted = tt; others_uncounted = λ other. f.disk_same other };
   })
     where
-      same_fault : (x y : StepFault) → ◌≡◌ {A = Result Step StepFault} (Err x) (Err y) → x ≡ y
+      same_fault : (x y : QueryFault) → ◌≡◌ {A = Result Step QueryFault} (Err x) (Err y) → x ≡ y
       same_fault x y m = cc
 
   more_files : (a b : A) (P : Type 0) → RoseBy (of_files.faults a) (of_files.faults b) 0 ⊎ (P × RoseBy (of_files.faults a) (of_files.faults b) 1) → of_files.faults a ≤ of_files.faults b
   more_files a b P (inl none) = omega (arith, none)
   more_files a b P (inr one) = omega (arith, one.1)
 
-  pub step_settled : (text : List ℕ) (moved changed : List Hash32) (old mid new : G) (a b : A) (rest : List Node) (m : Made) (later : Bool) → MoveKeeps of_ledger of_files old mid a b rest m → Asked of_ledger mid new
-      → of_ledger.faults new ≡ of_ledger.faults mid → NodeStep of_ledger of_files old new a b later (Ok (record { text = text; left = m.left; moved = moved; changed = changed }))
-  step_settled text moved changed old mid new a b rest m later k asked disk_same = record {
+  pub step_settled : (answer : NodeAnswer) (moved changed : List Hash32) (old mid new : G) (a b : A) (rest : List Node) (m : Made) (later : Bool) → MoveKeeps of_ledger of_files old mid a b rest m → Asked of_ledger mid new
+      → of_ledger.faults new ≡ of_ledger.faults mid → NodeStep of_ledger of_files old new a b later (Ok (record { answer = answer; left = m.left; moved = moved; changed = changed }))
+  step_settled answer moved changed old mid new a b rest m later k asked disk_same = record {
     live = asked.stays.still_live k.live;
     still_live = λ bad. absurd (let e = bad in cc);
     nodes = k.nodes;
@@ -412,7 +424,7 @@ module _ {G A : Type 0} (of_ledger : ledgers.Ghosts G) (of_files : archives.Ghos
     disk_rose = record { counted = λ bad. absurd (let e = bad in cc); uncounted = disk_same ∙ k.disk_same; others_uncounted = tt };
   }
 
-  pub step_unsettled : (r : Result Step StepFault) (e : StepFault) (old mid new : G) (a b : A) (rest : List Node) (m : Made) (later : Bool) → r ≡ Err e → MoveKeeps of_ledger of_files old mid a b rest m
+  pub step_unsettled : (r : Result Step QueryFault) (e : QueryFault) (old mid new : G) (a b : A) (rest : List Node) (m : Made) (later : Bool) → r ≡ Err e → MoveKeeps of_ledger of_files old mid a b rest m
       → Asked of_ledger mid new → (m.moved ≡ false → later ≡ true) → (e ≡ fault.DiskFailed → RoseBy (of_ledger.faults mid) (of_ledger.faults new) 1)
       → (e ≢ fault.DiskFailed → of_ledger.faults new ≡ of_ledger.faults mid) → NodeStep of_ledger of_files old new a b later r
   step_unsettled r e old mid new a b rest m later is k asked only counted others = rw is (record {
@@ -426,7 +438,7 @@ module _ {G A : Type 0} (of_ledger : ledgers.Ghosts G) (of_files : archives.Ghos
     disk_rose = record { counted = λ bad. rw k.disk_same at (counted (same_fault e fault.DiskFailed bad)); uncounted = tt; others_uncounted = λ other. others other ∙ k.disk_same };
   })
     where
-      same_fault : (x y : StepFault) → ◌≡◌ {A = Result Step StepFault} (Err x) (Err y) → x ≡ y
+      same_fault : (x y : QueryFault) → ◌≡◌ {A = Result Step QueryFault} (Err x) (Err y) → x ≡ y
       same_fault x y bad = cc
 
       rose : RoseBy (of_files.faults a) (of_files.faults b) 0 ⊎ ((m.moved ≡ false) × RoseBy (of_files.faults a) (of_files.faults b) 1)

@@ -8,8 +8,8 @@ use Rattle.el_chain.specs.Headers.{IsPath}
 use Rattle.el_chain.specs.Moves.{max_back}
 use Rattle.el_lines.specs.Lines.{LineEvent, line, too_long}
 use Rattle.el_lines.specs.NodeLines.{NodeLine, tip, tx}
-use Rattle.el_world.specs.Plans.{back_of, rest_of, IsMoving}
-use Rattle.el_world.specs.Side.{Side, IsSaid}
+use Rattle.el_side.specs.Plans.{back_of, rest_of, IsMoving}
+use Rattle.el_side.specs.Side.{Side, IsSaid}
 
 -- no move is made for the path: too many blocks would be taken back, or the chain ends there
 abbrev pub AsksNoMove : Chain → List Node → Type 0

@@ -6,8 +6,8 @@ use Rattle.el_chain.specs.Headers.{IsPath}
 use Rattle.el_chain.specs.Moves.{max_back}
 use Rattle.el_lines.specs.Lines.{LineEvent, line, too_long}
 use Rattle.el_lines.specs.NodeLines.{NodeLine, block, tip, tx, dropped}
-use Rattle.el_world.specs.Plans.{back_of}
-use Rattle.el_world.specs.Side.{Side, IsSaid, LooksUp}
+use Rattle.el_side.specs.Plans.{back_of}
+use Rattle.el_side.specs.Side.{Side, IsSaid, LooksUp}
 
 -- a path leads to the block, for which no more blocks are taken back than may be
 pub record MayMove (side : Side) (h : Hash32) : Type 0 where

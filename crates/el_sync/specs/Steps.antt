@@ -11,14 +11,15 @@ use Rattle.el_chain.specs.declared.moves.Plan.{Plan}
 use Rattle.el_chain.specs.Chains.{Chain, zero_hash}
 use Rattle.el_chain.specs.Headers.{AreLinked}
 use Rattle.el_chain.specs.Records.{IsNode}
-use Rattle.el_lines.specs.NodeAnswers.{archive_refused}
-use Rattle.el_methods.specs.declared.holdings.Holdings.{Holdings}
-use Rattle.el_world.specs.Flights.{IsUnderWay}
+use Rattle.el_lines.specs.declared.node_answer.NodeAnswer.TheVariants as say
+use Rattle.el_lines.specs.declared.node_answer.NodeRefusal.TheVariants as refusal
+use Rattle.el_side.specs.declared.holdings.Holdings.{Holdings}
+use Rattle.el_side.specs.UnderWay.{IsUnderWay}
 use Rattle.el_model.specs.LedgerCalls.{CrashLeaves, Moved, failed_calls}
-use Rattle.el_world.specs.Side.{Side}
+use Rattle.el_side.specs.Side.{Side}
 use Rattle.el_model.specs.declared.ledger.Ledger as ledgers
-use Rattle.el_sync.specs.declared.fault.StepFault.{StepFault}
-use Rattle.el_sync.specs.declared.fault.StepFault.TheVariants as fault
+use Rattle.el_model.specs.declared.fault.QueryFault.{QueryFault}
+use Rattle.el_model.specs.declared.fault.QueryFault.TheVariants as fault
 use Rattle.el_sync.specs.declared.moving.Step.{Step}
 
 -- the hash that a next block names, where the last block has this one
@@ -34,7 +35,7 @@ pub record IsFrom (holdings : Holdings) (side : Side) : Type 0 where
 
 -- Why a step failed, and what the devices lost in it. Where the block files had failed before, no move was
 -- made: `next`, which a crash may leave, is the side's chain. `later` is whether the step is a later move.
-pub data FailsBy (later : Bool) (chain next : Chain) (e : StepFault) (losses : List Device) : Type 0 where
+pub data FailsBy (later : Bool) (chain next : Chain) (e : QueryFault) (losses : List Device) : Type 0 where
   by_disk : e ≡ fault.DiskFailed → losses ≡ disk ∷ [] → FailsBy later chain next e losses
   by_memory : e ≡ fault.Memory → losses ≡ [] → FailsBy later chain next e losses
   -- in the sift, after the block files had failed in the move: no memory was found, or the disk failed
@@ -45,13 +46,13 @@ pub data FailsBy (later : Bool) (chain next : Chain) (e : StepFault) (losses : L
 
 -- where the block files failed in a line, it touched nothing
 abbrev pub TouchesNoFailed : Step → Type 0
-TouchesNoFailed s = s.text ≡ archive_refused → (s.moved ≡ []) × (s.changed ≡ [])
+TouchesNoFailed s = s.answer ≡ say.Refused refusal.Archive → (s.moved ≡ []) × (s.changed ≡ [])
 
 -- The step failed. What a crash since its start leaves is the side's chain or `next`, the target of a move
 -- that the step may make. Where no memory was found the ledger stands for `next`, which is the side's chain
 -- or what the move has made of it before the set was sifted.
 pub record StopsAt {G A : Type 0} (of_ledger : ledgers.Ghosts G) (of_files : archives.Ghosts A) (old new : G)
-    (files_old files_new : A) (chain : Chain) (later : Bool) (is_move : Plan → Type 0) (e : StepFault)
+    (files_old files_new : A) (chain : Chain) (later : Bool) (is_move : Plan → Type 0) (e : QueryFault)
     : Type 0 where
   pub next : Chain
   pub flight : IsUnderWay of_files.tells (of_files.bytes files_new) chain is_move next
@@ -69,7 +70,7 @@ RoseWith later rose = rose 0 ⊎ ((later ≡ true) × rose 1)
 
 -- What each step of the node's work keeps, whatever the ledger stands for.
 pub record NodeStep {G A : Type 0} (of_ledger : ledgers.Ghosts G) (of_files : archives.Ghosts A) (old new : G)
-    (files_old files_new : A) (later : Bool) (result : Result Step StepFault) : Type 0 where
+    (files_old files_new : A) (later : Bool) (result : Result Step QueryFault) : Type 0 where
   pub live : OnOk result (of_ledger.is_live new)
   pub still_live : result ≡ Err fault.Memory → of_ledger.is_live new
   -- the blocks that are still to be put in, each of which names the one before it

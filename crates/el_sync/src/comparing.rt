@@ -11,8 +11,9 @@ ghost use Rattle.el_chain.specs.Headers.{IsPath};
 ghost use Rattle.el_chain.specs.Records.{IsNode};
 ghost use Rattle.el_headers.specs.Adding.{IsEndOf};
 ghost use Rattle.el_model.specs.LedgerCalls.{Asked};
-ghost use Rattle.el_world.specs.Plans.{common, back_of, IsMoving};
+ghost use Rattle.el_side.specs.Plans.{common, back_of, IsMoving};
 ghost use Rattle.el_model.specs.Queries.{blocks_in};
+ghost use Rattle.el_model.specs.declared.fault.QueryFault.TheVariants as turn_fault;
 ghost use Rattle.el_sync.specs.within.Below.{IsBelow};
 
 use crate::ahead::Ahead;
@@ -83,8 +84,8 @@ fn common_below<G: Ledger>(
         → IsPath tree.now hash path → G.stands ledger.old chain → IsBelow chain path count last
         → G.reads ledger.new ≤ G.reads ledger.old + ((count - common chain path) + 1) }
     ensures asked { Asked ⟦<G as Ledger>⟧ ledger.old ledger.new }
-    ensures disk_rose { CountsOnly (G.faults ledger.old) (G.faults ledger.new) StepFault.DiskFailed result }
-    ensures device { IfErr result (λ e. e ≡ StepFault.DiskFailed) }
+    ensures disk_rose { CountsOnly (G.faults ledger.old) (G.faults ledger.new) turn_fault.DiskFailed result }
+    ensures device { IfErr result (λ e. e ≡ turn_fault.DiskFailed) }
 {
     let mut at = last;
     for height in (0..count).rev() {
@@ -110,8 +111,8 @@ fn common_of<G: Ledger>(ledger: &mut G, tree: &HeaderTree, end: &PathEnd) -> Res
         → IsPath tree.now hash path → IsEndOf path end.now.node end.now.height → G.stands ledger.old chain
         → G.reads ledger.new ≤ G.reads ledger.old + (back_of chain path + 1) }
     ensures asked { Asked ⟦<G as Ledger>⟧ ledger.old ledger.new }
-    ensures disk_rose { CountsOnly (G.faults ledger.old) (G.faults ledger.new) StepFault.DiskFailed result }
-    ensures device { IfErr result (λ e. e ≡ StepFault.DiskFailed) }
+    ensures disk_rose { CountsOnly (G.faults ledger.old) (G.faults ledger.new) turn_fault.DiskFailed result }
+    ensures device { IfErr result (λ e. e ≡ turn_fault.DiskFailed) }
 {
     let count = count_of(ledger);
     let both = count.min(end.height.saturating_add(1));
@@ -130,7 +131,7 @@ pub fn rest_from(
         → IfOk result (λ rest. rest ≡ drop height path) }
     ensures nodes { IfOk result (λ rest. AllByRecursion IsNode rest) }
     ensures short { IfOk result (λ rest. length rest ≤ length tree.now) }
-    ensures memory { IfErr result (λ e. e ≡ StepFault.Memory) }
+    ensures memory { IfErr result (λ e. e ≡ turn_fault.Memory) }
 {
     match tree.path_from(alloc, hash, height) {
         Ok(path) => Ok(Ahead::of_path(path)),
@@ -161,8 +162,8 @@ pub fn compare<G: Ledger>(
         → IsEndOf path end.now.node end.now.height → G.stands ledger.old chain
         → G.reads ledger.new ≤ G.reads ledger.old + (back_of chain path + 1) }
     ensures asked { Asked ⟦<G as Ledger>⟧ ledger.old ledger.new }
-    ensures disk_rose { CountsOnly (G.faults ledger.old) (G.faults ledger.new) StepFault.DiskFailed result }
-    ensures device { IfErr result (λ e. e ≡ StepFault.DiskFailed) }
+    ensures disk_rose { CountsOnly (G.faults ledger.old) (G.faults ledger.new) turn_fault.DiskFailed result }
+    ensures device { IfErr result (λ e. e ≡ turn_fault.DiskFailed) }
 {
     let same = common_of(ledger, tree, end)?;
     let count = count_of(ledger);

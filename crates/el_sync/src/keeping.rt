@@ -6,14 +6,15 @@ ghost use Rattle.el_tx.specs.Encoding.{Encodes};
 ghost use Rattle.el_tx.specs.Hashing as hashing;
 ghost use Rattle.el_mempool.specs.Standing.{StandsFor};
 ghost use Rattle.el_model.specs.LedgerCalls.{Asked};
-ghost use Rattle.el_lines.specs.NodeAnswers as say;
-ghost use Rattle.el_world.specs.Side.{Side, Adds, Drops};
+ghost use Rattle.el_model.specs.declared.fault.QueryFault.TheVariants as turn_fault;
+ghost use Rattle.el_lines.specs.NodeAnswers as answers;
+ghost use Rattle.el_side.specs.Side.{Side, Adds, Drops};
 ghost use Rattle.el_sync.specs.within.Parts.{NamesItself, StandsAfter};
 
 use crate::fault::StepFault;
-use el_base::{Bytes, Hash32};
+use el_base::Hash32;
 use el_chain::Touched;
-use el_lines::{AnswerRoom, absent_refused, gone_answer, pool_refused, tx_answer};
+use el_lines::{NodeAnswer, NodeRefusal, pool_refused};
 use el_mempool::PoolFault;
 use el_model::Ledger;
 use el_pool::Pool;
@@ -24,7 +25,7 @@ use std::alloc::Global;
 #[derive(Debug, Drop)]
 pub struct PoolAnswer {
     /// What the node is answered.
-    pub text: Bytes,
+    pub answer: NodeAnswer,
     /// The script hashes of which another thing is seen in the set, each once.
     pub changed: Touched,
 }
@@ -32,7 +33,7 @@ pub struct PoolAnswer {
 // The txid of the transaction that the bytes encode, which was refused for one that has it.
 fn own_txid(alloc: Global, bytes: &[u8]) -> Result<Hash32, StepFault>
     ensures is { (t : tx_shape.Tx) → Encodes bytes.now t → IfOk result (λ id. id ≡ hashing.txid t) }
-    ensures memory { IfErr result (λ e. e ≡ StepFault.Memory) }
+    ensures memory { IfErr result (λ e. e ≡ turn_fault.Memory) }
 {
     match decode_tx(alloc, bytes) {
         Ok((tx, _)) => {
@@ -48,7 +49,7 @@ fn own_txid(alloc: Global, bytes: &[u8]) -> Result<Hash32, StepFault>
 fn told_txid(alloc: Global, bytes: &[u8], fault: PoolFault) -> Result<Hash32, StepFault>
     ensures is { (t : tx_shape.Tx) → Encodes bytes.now t → NamesItself fault
         → IfOk result (λ id. id ≡ hashing.txid t) }
-    ensures memory { IfErr result (λ e. e ≡ StepFault.Memory) }
+    ensures memory { IfErr result (λ e. e ≡ turn_fault.Memory) }
 {
     match fault {
         PoolFault::Confirmed | PoolFault::Known => own_txid(alloc, bytes),
@@ -57,28 +58,23 @@ fn told_txid(alloc: Global, bytes: &[u8], fault: PoolFault) -> Result<Hash32, St
 }
 
 // What the node is answered where the transaction that the bytes encode, or the bytes, are refused.
-fn refuse_tx(
-    alloc: Global,
-    room: AnswerRoom,
-    bytes: &[u8],
-    fault: PoolFault,
-) -> Result<PoolAnswer, StepFault>
+fn refuse_tx(alloc: Global, bytes: &[u8], fault: PoolFault) -> Result<PoolAnswer, StepFault>
     ensures told { (t : tx_shape.Tx) → Encodes bytes.now t
-        → IfOk result (λ r. say.pool_refused (hashing.txid t) fault ≡ Some r.text) }
-    ensures form { fault ≡ PoolFault.Bad → IfOk result (λ r. r.text ≡ say.form_refused) }
+        → IfOk result (λ r. answers.pool_refused (hashing.txid t) fault ≡ Some r.answer) }
+    ensures form { fault ≡ PoolFault.Bad → IfOk result (λ r. r.answer ≡ NodeAnswer.Refused NodeRefusal.Form) }
     ensures none { IfOk result (λ r. r.changed ≡ []) }
     ensures no_disk { OnOk result (fault ≢ PoolFault.DiskFailed) }
     ensures no_memory { OnOk result (fault ≢ PoolFault.Memory) }
-    ensures failed { IsErrOf result StepFault.DiskFailed → fault ≡ PoolFault.DiskFailed }
-    ensures memory { IsErrOf result StepFault.Memory → fault ≢ PoolFault.DiskFailed }
+    ensures failed { IsErrOf result turn_fault.DiskFailed → fault ≡ PoolFault.DiskFailed }
+    ensures memory { IsErrOf result turn_fault.Memory → fault ≢ PoolFault.DiskFailed }
 {
     if fault == PoolFault::DiskFailed {
         return Err(StepFault::DiskFailed);
     }
     let id = told_txid(alloc, bytes, fault)?;
-    match pool_refused(room, id, fault) {
-        Some(text) => Ok(PoolAnswer {
-            text,
+    match pool_refused(id, fault) {
+        Some(answer) => Ok(PoolAnswer {
+            answer,
             changed: Touched::new(alloc),
         }),
         None => Err(StepFault::Memory),
@@ -96,49 +92,45 @@ pub fn order_tx<G: Ledger>(
     alloc: Global,
     ledger: &mut G,
     pool: &mut Pool,
-    room: AnswerRoom,
     bytes: &[u8],
 ) -> Result<PoolAnswer, StepFault>
     requires live { G.is_live ledger.old }
     ensures adds { (side : Side) → G.stands ledger.old side.chain
         → StandsFor pool.old.entries side.chain side.kept → pool.old.limits ≡ side.limits
-        → IfOk result (λ r. StandsAfter pool.new side r.changed (Adds side bytes.now r.text [])) }
-    ensures untouched { IfOk result (λ r. r.text ≡ say.archive_refused → r.changed ≡ []) }
+        → IfOk result (λ r. StandsAfter pool.new side r.changed (Adds side bytes.now r.answer [])) }
+    ensures untouched { IfOk result (λ r. r.answer ≡ NodeAnswer.Refused NodeRefusal.Archive
+        → r.changed ≡ []) }
     ensures limits { pool.new.limits ≡ pool.old.limits }
     ensures asked { Asked ⟦<G as Ledger>⟧ ledger.old ledger.new }
-    ensures disk_rose { CountsOnly (G.faults ledger.old) (G.faults ledger.new) StepFault.DiskFailed result }
+    ensures disk_rose { CountsOnly (G.faults ledger.old) (G.faults ledger.new) turn_fault.DiskFailed result }
 {
     match pool.add(ledger, bytes) {
         Ok((id, changed)) => Ok(PoolAnswer {
-            text: tx_answer(room, id),
+            answer: NodeAnswer::Tx(id),
             changed,
         }),
-        Err(fault) => refuse_tx(alloc, room, bytes, fault),
+        Err(fault) => refuse_tx(alloc, bytes, fault),
     }
 }
 
 /// Takes a line that tells that the node no longer has the transaction of this txid: it is dropped from those
 /// that are kept, with those that spend it. Fails only where memory runs out.
-pub fn order_drop(
-    alloc: Global,
-    pool: &mut Pool,
-    room: AnswerRoom,
-    id: Hash32,
-) -> Result<PoolAnswer, StepFault>
+pub fn order_drop(alloc: Global, pool: &mut Pool, id: Hash32) -> Result<PoolAnswer, StepFault>
     ensures drops { (side : Side) → StandsFor pool.old.entries side.chain side.kept
-        → IfOk result (λ r. StandsAfter pool.new side r.changed (Drops side id r.text [])) }
-    ensures untouched { IfOk result (λ r. r.text ≡ say.archive_refused → r.changed ≡ []) }
+        → IfOk result (λ r. StandsAfter pool.new side r.changed (Drops side id r.answer [])) }
+    ensures untouched { IfOk result (λ r. r.answer ≡ NodeAnswer.Refused NodeRefusal.Archive
+        → r.changed ≡ []) }
     ensures limits { pool.new.limits ≡ pool.old.limits }
-    ensures memory { IfErr result (λ e. e ≡ StepFault.Memory) }
+    ensures memory { IfErr result (λ e. e ≡ turn_fault.Memory) }
 {
     let Some(changed) = pool.drop_tx(&id)? else {
         return Ok(PoolAnswer {
-            text: absent_refused(room, id),
+            answer: NodeAnswer::Refused(NodeRefusal::Absent(id)),
             changed: Touched::new(alloc),
         });
     };
     Ok(PoolAnswer {
-        text: gone_answer(room, id),
+        answer: NodeAnswer::Gone(id),
         changed,
     })
 }

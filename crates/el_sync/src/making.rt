@@ -8,17 +8,17 @@ ghost use Rattle.el_chain.specs.Chains.{Chain, tip};
 ghost use Rattle.el_chain.specs.Headers.{AreLinked};
 ghost use Rattle.el_chain.specs.Moves.{shorter, max_back};
 ghost use Rattle.el_chain.specs.Records.{IsNode};
-ghost use Rattle.el_lines.specs.NodeAnswers as say;
-ghost use Rattle.el_world.specs.Plans.{plan_of};
-ghost use Rattle.el_world.specs.Side.{Side};
+ghost use Rattle.el_model.specs.declared.fault.QueryFault.TheVariants as turn_fault;
+ghost use Rattle.el_lines.specs.NodeAnswers as answers;
+ghost use Rattle.el_side.specs.Plans.{plan_of};
+ghost use Rattle.el_side.specs.Side.{Side};
 ghost use Rattle.el_sync.specs.Steps.{StopsAt};
 ghost use Rattle.el_sync.specs.within.Parts.{MoveFailed, MoveKeeps, SaysRefusal, Tries};
 
 use crate::ahead::Ahead;
 use crate::fault::StepFault;
-use el_base::Bytes;
 use el_chain::{MoveFault, Plan, Touched};
-use el_lines::{AnswerRoom, archive_refused, at_answer, move_refused};
+use el_lines::{NodeAnswer, NodeRefusal, move_refused};
 use el_model::Ledger;
 use el_outside::Archive;
 use std::alloc::Global;
@@ -27,7 +27,7 @@ use std::alloc::Global;
 #[derive(Debug, Drop)]
 pub struct Made {
     /// What the node is answered.
-    pub text: Bytes,
+    pub answer: NodeAnswer,
     /// The blocks that are left to later moves.
     pub left: Ahead,
     /// Whether it was made.
@@ -37,27 +37,26 @@ pub struct Made {
 }
 
 // What the node is answered where a move is refused.
-fn refusal(room: AnswerRoom, fault: MoveFault) -> Result<Bytes, StepFault>
-    ensures told { IfOk result (λ text. SaysRefusal fault text) }
-    ensures failed { IsErrOf result StepFault.DiskFailed → fault ≡ MoveFault.DiskFailed }
+fn refusal(fault: MoveFault) -> Result<NodeAnswer, StepFault>
+    ensures told { IfOk result (λ answer. SaysRefusal fault answer) }
+    ensures failed { IsErrOf result turn_fault.DiskFailed → fault ≡ MoveFault.DiskFailed }
     ensures told_files { OnErr result (fault ≢ MoveFault.ArchiveFailed) }
     // Where there is something to tell, it is told.
-    ensures memory { IsErrOf result StepFault.Memory → (fault ≢ MoveFault.DiskFailed)
-        × ((fault ≢ MoveFault.ArchiveFailed) × (say.move_refused fault ≡ None)) }
+    ensures memory { IsErrOf result turn_fault.Memory → (fault ≢ MoveFault.DiskFailed)
+        × ((fault ≢ MoveFault.ArchiveFailed) × (answers.move_refused fault ≡ None)) }
 {
     match fault {
         MoveFault::DiskFailed => Err(StepFault::DiskFailed),
-        MoveFault::ArchiveFailed => Ok(archive_refused(room)),
-        fault => match move_refused(room, fault) {
-            Some(text) => Ok(text),
+        MoveFault::ArchiveFailed => Ok(NodeAnswer::Refused(NodeRefusal::Archive)),
+        fault => match move_refused(fault) {
+            Some(answer) => Ok(answer),
             None => Err(StepFault::Memory),
         },
     }
 }
 
 /// Makes the next move of a tip line, without the sift after it: so many blocks of the chain are taken back,
-/// and the first of the rest are put in. Where it is refused, no block is left. What came of it is written
-/// into the room, without memory.
+/// and the first of the rest are put in. Where it is refused, no block is left.
 ///
 /// # Errors
 ///
@@ -69,7 +68,6 @@ pub fn make_move<G: Ledger, A: Archive>(
     back: u32,
     rest: Ahead,
     archive: &mut A,
-    room: AnswerRoom,
 ) -> Result<Made, StepFault>
     requires live { G.is_live ledger.old }
     requires back { back ≤ max_back }
@@ -83,7 +81,7 @@ pub fn make_move<G: Ledger, A: Archive>(
         rest) }
     // Where it isn't made, it touched nothing, and only then the block files may have failed.
     ensures untouched { IfOk result (λ m. m.moved ≡ false → m.touched ≡ []) }
-    ensures made { IfOk result (λ m. m.moved ≡ true → m.text ≢ say.archive_refused) }
+    ensures made { IfOk result (λ m. m.moved ≡ true → m.answer ≢ NodeAnswer.Refused NodeRefusal.Archive) }
     ensures stopped { (chain : Chain) → G.stands ledger.old chain → IfErr result (
         StopsAt ⟦<G as Ledger>⟧ ⟦<A as Archive>⟧ ledger.old ledger.new archive.old archive.new chain false
         (λ (p : moves.Plan). p ≡ plan_of back rest)) }
@@ -96,17 +94,20 @@ pub fn make_move<G: Ledger, A: Archive>(
     let plan = Plan { back, forward };
     match ledger.go(alloc, &plan, archive) {
         Ok(moved) => Ok(Made {
-            text: at_answer(room, moved.tip, moved.height),
+            answer: NodeAnswer::At {
+                tip: moved.tip,
+                height: moved.height,
+            },
             left: rest.passed(),
             moved: true,
             touched: moved.touched,
         }),
         Err(fault) => {
-            let text = refusal(room, fault)?;
+            let answer = refusal(fault)?;
             let left = Ahead::none(alloc);
             let touched = Touched::new(alloc);
             Ok(Made {
-                text,
+                answer,
                 left,
                 moved: false,
                 touched,

@@ -12,28 +12,28 @@ ghost use Rattle.el_chain.specs.Records.{IsNode};
 ghost use Rattle.el_mempool.specs.Sift.{sift};
 ghost use Rattle.el_mempool.specs.Standing.{AreChanged, StandsFor};
 ghost use Rattle.el_model.specs.LedgerCalls.{Asked};
-ghost use Rattle.el_world.specs.Plans.{plan_of};
-ghost use Rattle.el_world.specs.Side.{Side, Moving};
-ghost use Rattle.el_world.specs.NodeSteps.{IsAt, Leads};
+ghost use Rattle.el_model.specs.declared.fault.QueryFault.TheVariants as turn_fault;
+ghost use Rattle.el_side.specs.Plans.{plan_of};
+ghost use Rattle.el_side.specs.Side.{Side, Moving};
+ghost use Rattle.el_side.specs.NodeSteps.{IsAt, Leads};
 ghost use Rattle.el_sync.specs.Steps.{NodeStep, StopsAt, TouchesNoFailed};
 
 use crate::ahead::Ahead;
 use crate::fault::StepFault;
 use crate::making::{Made, make_move};
-use el_base::Bytes;
 use el_chain::Touched;
-use el_lines::AnswerRoom;
-use el_methods::Holdings;
-use el_model::{Ledger, QueryFault};
+use el_lines::NodeAnswer;
+use el_model::Ledger;
 use el_outside::Archive;
 use el_pool::Pool;
+use el_side::Holdings;
 use std::alloc::Global;
 
 /// What a line of the node, or a move that one left, leaves.
 #[derive(Debug, Drop)]
 pub struct Step {
     /// What the node is answered.
-    pub text: Bytes,
+    pub answer: NodeAnswer,
     /// The blocks that are left to later moves.
     pub left: Ahead,
     /// The script hashes that a move of the chain touched, each once.
@@ -67,21 +67,18 @@ fn settle<G: Ledger>(
     ensures only { OnErr result (ends ≡ true) }
     ensures limits { pool.new.limits ≡ pool.old.limits }
     ensures asked { Asked ⟦<G as Ledger>⟧ ledger.old ledger.new }
-    ensures disk_rose { CountsOnly (G.faults ledger.old) (G.faults ledger.new) StepFault.DiskFailed result }
+    ensures disk_rose { CountsOnly (G.faults ledger.old) (G.faults ledger.new) turn_fault.DiskFailed result }
 {
     if !ends {
         return Ok(Touched::new(alloc));
     }
-    match pool.after_move(ledger) {
-        Ok(changed) => Ok(changed),
-        Err(QueryFault::DiskFailed) => Err(StepFault::DiskFailed),
-        Err(QueryFault::Memory) => Err(StepFault::Memory),
-    }
+    let changed = pool.after_move(ledger)?;
+    Ok(changed)
 }
 
 /// Makes the next move of a tip line: so many blocks of the chain are taken back, and the first of the rest
 /// are put in. Where it is refused, no block is left. With the last move the set is sifted, and with a later
-/// one that is refused. The answer is written into the room.
+/// one that is refused.
 ///
 /// # Errors
 ///
@@ -90,11 +87,10 @@ fn settle<G: Ledger>(
 pub fn move_once<G: Ledger, A: Archive>(
     alloc: Global,
     ledger: &mut G,
-    pool: &mut Pool,
+    holdings: &mut Holdings,
     back: u32,
     rest: Ahead,
     archive: &mut A,
-    room: AnswerRoom,
     later: bool,
 ) -> Result<Step, StepFault>
     requires live { G.is_live ledger.old }
@@ -104,15 +100,17 @@ pub fn move_once<G: Ledger, A: Archive>(
     requires fits { (chain : Chain) → G.stands ledger.old chain
         → (back ≤ length chain) × AreLinked (tip (shorter back chain)) rest }
     ensures moving { (side : Side) (start : Chain)
-        → IsAt ⟦<G as Ledger>⟧ ⟦<A as Archive>⟧ ledger.old pool.old archive.old side start
+        → IsAt ⟦<G as Ledger>⟧ ⟦<A as Archive>⟧ ledger.old holdings.old archive.old side start
         → (later ≡ false → side.ahead ≡ []) → IfOk result (λ s.
         Leads ⟦<G as Ledger>⟧ ⟦<A as Archive>⟧ (Moving A.tells side back rest)
-        ledger.old ledger.new archive.old archive.new side start s.text side.found s.left s.moved s.changed
-        pool.new) }
+        ledger.old ledger.new archive.old archive.new side start s.answer side.found s.left s.moved s.changed
+        holdings.new) }
     ensures stopped { (chain : Chain) → G.stands ledger.old chain → IfErr result (
         StopsAt ⟦<G as Ledger>⟧ ⟦<A as Archive>⟧ ledger.old ledger.new archive.old archive.new chain later
         (λ (p : moves.Plan). p ≡ plan_of back rest)) }
-    ensures limits { pool.new.limits ≡ pool.old.limits }
+    ensures tree { holdings.new.tree ≡ holdings.old.tree }
+    ensures magic { holdings.new.magic ≡ holdings.old.magic }
+    ensures limits { holdings.new.pool.limits ≡ holdings.old.pool.limits }
     ensures untouched { IfOk result (λ s. later ≡ false → TouchesNoFailed s) }
     ensures no_more { IfOk result (λ s. length s.left ≤ length rest) }
     ensures fewer { IfOk result (λ s. rest ≢ [] → length s.left < length rest) }
@@ -120,15 +118,15 @@ pub fn move_once<G: Ledger, A: Archive>(
         later result }
 {
     let Made {
-        text,
+        answer,
         left,
         moved,
         touched,
-    } = make_move(alloc, ledger, back, rest, archive, room)?;
+    } = make_move(alloc, ledger, back, rest, archive)?;
     let ends = ends_line(&left, moved, later);
-    let changed = settle(alloc, ledger, pool, ends)?;
+    let changed = settle(alloc, ledger, &mut holdings.pool, ends)?;
     Ok(Step {
-        text,
+        answer,
         left,
         moved: touched,
         changed,
@@ -137,7 +135,7 @@ pub fn move_once<G: Ledger, A: Archive>(
 
 /// Makes the next of the later moves of a tip line, which takes no block back: the first of the rest are put
 /// in. Where it is refused, no block is left. With the last move, and with one that is refused, the set is
-/// sifted. The answer is written into the room.
+/// sifted.
 ///
 /// # Errors
 ///
@@ -149,35 +147,26 @@ pub fn move_next<G: Ledger, A: Archive>(
     holdings: &mut Holdings,
     rest: Ahead,
     archive: &mut A,
-    room: AnswerRoom,
 ) -> Result<Step, StepFault>
     requires live { G.is_live ledger.old }
     requires nodes { AllByRecursion IsNode rest }
     requires linked { (before : hash_shape.Hash32) × AreLinked before rest }
     requires fits { (chain : Chain) → G.stands ledger.old chain → AreLinked (tip chain) rest }
     ensures moving { (side : Side) (start : Chain)
-        → IsAt ⟦<G as Ledger>⟧ ⟦<A as Archive>⟧ ledger.old holdings.old.pool archive.old side start
+        → IsAt ⟦<G as Ledger>⟧ ⟦<A as Archive>⟧ ledger.old holdings.old archive.old side start
         → IfOk result (λ s. Leads ⟦<G as Ledger>⟧ ⟦<A as Archive>⟧ (Moving A.tells side 0 rest)
-        ledger.old ledger.new archive.old archive.new side start s.text side.found s.left s.moved s.changed
-        holdings.new.pool) }
+        ledger.old ledger.new archive.old archive.new side start s.answer side.found s.left s.moved s.changed
+        holdings.new) }
     ensures stopped { (chain : Chain) → G.stands ledger.old chain → IfErr result (
         StopsAt ⟦<G as Ledger>⟧ ⟦<A as Archive>⟧ ledger.old ledger.new archive.old archive.new chain true
         (λ (p : moves.Plan). p ≡ plan_of 0 rest)) }
-    ensures same { holdings.new ≡ record holdings.old { pool = holdings.new.pool } }
+    ensures tree { holdings.new.tree ≡ holdings.old.tree }
+    ensures magic { holdings.new.magic ≡ holdings.old.magic }
     ensures limits { holdings.new.pool.limits ≡ holdings.old.pool.limits }
     ensures no_more { IfOk result (λ s. length s.left ≤ length rest) }
     ensures fewer { IfOk result (λ s. rest ≢ [] → length s.left < length rest) }
     ensures step { NodeStep ⟦<G as Ledger>⟧ ⟦<A as Archive>⟧ ledger.old ledger.new archive.old archive.new
         true result }
 {
-    move_once(
-        alloc,
-        ledger,
-        &mut holdings.pool,
-        0,
-        rest,
-        archive,
-        room,
-        true,
-    )
+    move_once(alloc, ledger, holdings, 0, rest, archive, true)
 }

@@ -1,8 +1,11 @@
 -- Words are those of one command.
 use Rattle.std.proofs.Common.{◌≡◌, ◌∙◌, ℕ, List, ◌∷◌, Option, Some, None, codes, refl, sym, ap, ap₂, subst, drop, IsSomeAnd}
 use Rattle.el_words.specs.Options.{Word, Given, words_of, value_of}
-use Rattle.el_words.specs.Words.{IsPort, IsLimit, network_name}
-use Rattle.el_words.specs.Commands.{IsCommand}
+use Rattle.el_words.specs.Words.{IsOnceOf, IsServeOf, IsPort, IsLimit, network_name}
+use Rattle.el_words.specs.Commands.{IsCommand, IsNoCommand}
+use Rattle.el_mempool.specs.declared.entry.PoolLimits.{PoolLimits}
+use Rattle.el_words.specs.declared.words.ServeSettings.{ServeSettings}
+use Rattle.el_words.specs.declared.words.ServeWords.{ServeWords}
 use Rattle.el_words.specs.declared.words.Command.{Command}
 use Rattle.el_words.specs.declared.words.Command.TheVariants as command
 use Rattle.el_words.specs.declared.words.Network.{Network}
@@ -45,35 +48,60 @@ one_limit : (most : ℕ) (text : Option Word) {m n : ℕ} → IsLimit most text 
 one_limit most None is other = is ∙ sym other
 one_limit most (Some text) is other = is.number.value ∙ sym other.number.value
 
+-- what says the same is the same
+settings_are : (m n : Network) (c c' p p' : ℕ) (l l' : PoolLimits) → m ≡ n → c ≡ c' → p ≡ p' → l ≡ l'
+    → ◌≡◌ {A = ServeSettings} (record { network = m; client_port = c; node_port = p; limits = l })
+    (record { network = n; client_port = c'; node_port = p'; limits = l' })
+settings_are m n c c' p p' l l' e1 e2 e3 e4 = cc
+
+words_are : (b b' i i' : Word) (s s' : ServeSettings) → b ≡ b' → i ≡ i' → s ≡ s'
+    → ◌≡◌ {A = ServeWords} (record { blocks = b; index = i; settings = s })
+    (record { blocks = b'; index = i'; settings = s' })
+words_are b b' i i' s s' e1 e2 e3 = cc
+
+same_words : (s t : ServeWords) → s.blocks ≡ t.blocks → s.index ≡ t.index
+    → s.settings.network ≡ t.settings.network → s.settings.client_port ≡ t.settings.client_port
+    → s.settings.node_port ≡ t.settings.node_port → s.settings.limits ≡ t.settings.limits → s ≡ t
+same_words s t e1 e2 e3 e4 e5 e6 =
+    words_are s.blocks t.blocks s.index t.index s.settings t.settings e1 e2
+    (settings_are s.settings.network t.settings.network s.settings.client_port t.settings.client_port
+    s.settings.node_port t.settings.node_port s.settings.limits t.settings.limits e3 e4 e5 e6)
+
 pub one_command : (words : List Word) (one other : Command) → IsCommand words one → IsCommand words other
     → one ≡ other
-one_command words (command.Serve blocks index m client_port node_port limits)
-    (command.Serve blocks' index' n client_port' node_port' limits') a b =
+one_command words (command.Serve s) (command.Serve s') a b =
     let same = one_rest a.words_are b.words_are in
     let text = λ (option : Word). ap (value_of option) same in
     let e1 = one_value (codes "--blocks") same a.blocks_is b.blocks_is in
     let e2 = one_value (codes "--index") same a.index_is b.index_is in
     let e3 = one_network same a.network_is b.network_is in
     let e4 = one_port (value_of (codes "--client-port") b.given)
-    (subst (λ t. IsSomeAnd t (λ t. IsPort t client_port)) (text (codes "--client-port")) a.ports.client)
+    (subst (λ t. IsSomeAnd t (λ t. IsPort t s.settings.client_port)) (text (codes "--client-port")) a.ports.client)
     b.ports.client in
     let e5 = one_port (value_of (codes "--node-port") b.given)
-    (subst (λ t. IsSomeAnd t (λ t. IsPort t node_port)) (text (codes "--node-port")) a.ports.node)
+    (subst (λ t. IsSomeAnd t (λ t. IsPort t s.settings.node_port)) (text (codes "--node-port")) a.ports.node)
     b.ports.node in
     let count = one_limit 1000000 (value_of (codes "--pool-count") b.given)
-    (subst (λ t. IsLimit 1000000 t limits.count) (text (codes "--pool-count")) a.limits_are.count)
+    (subst (λ t. IsLimit 1000000 t s.settings.limits.count) (text (codes "--pool-count")) a.limits_are.count)
     b.limits_are.count in
     let bytes = one_limit 300000000 (value_of (codes "--pool-bytes") b.given)
-    (subst (λ t. IsLimit 300000000 t limits.bytes) (text (codes "--pool-bytes")) a.limits_are.bytes)
+    (subst (λ t. IsLimit 300000000 t s.settings.limits.bytes) (text (codes "--pool-bytes")) a.limits_are.bytes)
     b.limits_are.bytes in
-    let e6 : limits ≡ limits' = ap₂ (λ (c s : ℕ). record { count = c; bytes = s }) count bytes in
-    cc
-one_command words (command.Serve blocks index m client_port node_port limits) (command.Once blocks' n) a b =
+    let e6 : s.settings.limits ≡ s'.settings.limits =
+    ap₂ (λ (c n : ℕ). record { count = c; bytes = n }) count bytes in
+    ap command.Serve (same_words s s' e1 e2 e3 e4 e5 e6)
+one_command words (command.Serve s) (command.Once blocks' n) a b =
     absurd (let one = a.words_are in let other = b.words_are in cc)
-one_command words (command.Once blocks m) (command.Serve blocks' index' n client_port' node_port' limits') a b =
+one_command words (command.Once blocks m) (command.Serve s') a b =
     absurd (let one = a.words_are in let other = b.words_are in cc)
 one_command words (command.Once blocks m) (command.Once blocks' n) a b =
     let same = one_rest a.words_are b.words_are in
     let e1 = one_value (codes "--blocks") same a.blocks_is b.blocks_is in
     let e2 = one_network same a.network_is b.network_is in
     cc
+
+-- words of neither are those of no command
+pub no_command : (words : List Word) → ((said : ServeWords) → IsServeOf words said → ⊥)
+    → ((blocks : Word) (network : Network) → IsOnceOf words blocks network → ⊥) → IsNoCommand words
+no_command words no_serve no_once (command.Serve said) is = no_serve said is
+no_command words no_serve no_once (command.Once blocks network) is = no_once blocks network is

@@ -7,6 +7,7 @@ use Rattle.el_mempool.specs.declared.entry.PoolLimits.{PoolLimits}
 use Rattle.el_words.specs.Options.{Word, Given, words_of, AreOptions, value_of}
 use Rattle.el_words.specs.declared.words.Network.{Network}
 use Rattle.el_words.specs.declared.words.Network.TheVariants as network
+use Rattle.el_words.specs.declared.words.ServeWords.{ServeWords}
 
 -- a network's name
 abbrev pub network_name : Network → List ℕ
@@ -67,17 +68,16 @@ pub record IsOnceOf (words : List Word) (blocks : Word) (n : Network) : Type 0 w
   pub network_is : value_of (codes "--network") given ≡ Some (network_name n)
 
 -- the words `serve --blocks DIR --index DIR --network NET --client-port N --node-port N`, with
--- `--pool-count N` and `--pool-bytes N` or without, the options in any order
-pub record IsServeOf (words : List Word) (blocks index : Word) (n : Network) (client_port node_port : ℕ)
-    (limits : PoolLimits) : Type 0 where
+-- `--pool-count N` and `--pool-bytes N` or without, the options in any order, which say this
+pub record IsServeOf (words : List Word) (said : ServeWords) : Type 0 where
   pub given : Given
   pub words_are : words ≡ codes "serve" ∷ words_of given
   pub options : AreOptions serve_options given
-  pub blocks_is : value_of (codes "--blocks") given ≡ Some blocks
-  pub index_is : value_of (codes "--index") given ≡ Some index
-  pub network_is : value_of (codes "--network") given ≡ Some (network_name n)
-  pub ports : ArePorts given client_port node_port
-  pub limits_are : AreLimits given limits
+  pub blocks_is : value_of (codes "--blocks") given ≡ Some said.blocks
+  pub index_is : value_of (codes "--index") given ≡ Some said.index
+  pub network_is : value_of (codes "--network") given ≡ Some (network_name said.settings.network)
+  pub ports : ArePorts given said.settings.client_port said.settings.node_port
+  pub limits_are : AreLimits given said.settings.limits
 
 -- the words as bytes
 abbrev pub texts : List (String Global) → List Word

@@ -7,4 +7,6 @@ mod reading;
 mod words;
 
 pub use laws::words_are_of_one_command;
-pub use words::{Command, Network, ServeWords, greatest_limits, once_of, read_words, serve_of};
+pub use words::{
+    Command, Network, ServeSettings, ServeWords, greatest_limits, once_of, read_words, serve_of,
+};

@@ -6,6 +6,7 @@ ghost use Rattle.el_words.specs.Words.{IsOnceOf, IsServeOf, IsUpTo, IsPort, IsLi
 ghost use Rattle.el_words.specs.Commands.{IsCommand, IsNoCommand};
 ghost use Rattle.el_words.specs.within.Reading.{GiveOptions};
 ghost use Rattle.el_words.specs.declared.words.Network as shape;
+ghost use Rattle.el_words.specs.declared.words.ServeWords as serve_shape;
 ghost use Rattle.el_mempool.specs.declared.entry.PoolLimits as limits_shape;
 
 use crate::options::{are_options, first_of, value_in};
@@ -95,36 +96,9 @@ pub fn greatest_limits() -> PoolLimits
     }
 }
 
-/// What the words ask for.
-#[derive(Debug, Drop)]
-pub enum Command {
-    /// Serves a node and clients from the block files of a folder.
-    Serve {
-        /// The folder of the block files.
-        blocks: Text,
-        /// The folder of the index.
-        index: Text,
-        /// The network whose blocks they are.
-        network: Network,
-        /// The port on which clients are served, from 1 to 65,535.
-        client_port: u16,
-        /// The port on which the node is served, from 1 to 65,535; another one.
-        node_port: u16,
-        /// What the unconfirmed set may hold: 1 to 1,000,000 transactions, 1 to 300,000,000 bytes.
-        limits: PoolLimits,
-    },
-    /// Answers one client on standard input from file 0 of a folder of block files.
-    Once {
-        /// The folder of the block files.
-        blocks: Text,
-        /// The network whose blocks they are.
-        network: Network,
-    },
-}
-
 /// What the words of `serve` say, but for the folders that they name.
 #[derive(Clone, Copy, Debug)]
-pub struct ServeWords {
+pub struct ServeSettings {
     /// The network whose blocks are served.
     pub network: Network,
     /// The port on which clients are served, from 1 to 65,535.
@@ -133,6 +107,31 @@ pub struct ServeWords {
     pub node_port: u16,
     /// What the unconfirmed set may hold: 1 to 1,000,000 transactions, 1 to 300,000,000 bytes.
     pub limits: PoolLimits,
+}
+
+/// What the words of `serve` say.
+#[derive(Debug, Drop)]
+pub struct ServeWords {
+    /// The folder of the block files.
+    pub blocks: Text,
+    /// The folder of the index.
+    pub index: Text,
+    /// All but the folders.
+    pub settings: ServeSettings,
+}
+
+/// What the words ask for.
+#[derive(Debug, Drop)]
+pub enum Command {
+    /// Serves a node and clients from the block files of a folder.
+    Serve(ServeWords),
+    /// Answers one client on standard input from file 0 of a folder of block files.
+    Once {
+        /// The folder of the block files.
+        blocks: Text,
+        /// The network whose blocks they are.
+        network: Network,
+    },
 }
 
 // The words after the name of this command, where they give options, each of which is one of these.
@@ -226,12 +225,10 @@ fn limits_in(words: &[String]) -> Option<PoolLimits>
 /// What the words `serve --blocks DIR --index DIR --network NET --client-port N --node-port N` say, with
 /// `--pool-count N` and `--pool-bytes N` or without, the options in any order, but for the folders; None
 /// exactly for other words. Takes no memory.
-pub fn serve_of(words: &[String]) -> Option<ServeWords>
-    ensures found { IfSome result (λ serve. (blocks index : Word) × IsServeOf (texts words.now) blocks index
-        serve.network serve.client_port serve.node_port serve.limits) }
-    ensures none { IfNone result ((blocks index : Word) (network : shape.Network) (client_port node_port : ℕ)
-        (limits : limits_shape.PoolLimits)
-        → IsServeOf (texts words.now) blocks index network client_port node_port limits → ⊥) }
+pub fn serve_of(words: &[String]) -> Option<ServeSettings>
+    ensures found { IfSome result (λ settings. (said : serve_shape.ServeWords)
+        × IsServeOf (texts words.now) said × (said.settings ≡ settings)) }
+    ensures none { IfNone result ((said : serve_shape.ServeWords) → IsServeOf (texts words.now) said → ⊥) }
 {
     let options = options_after(words, "serve", &SERVE_OPTIONS)?;
     let _blocks = value_in(options, "--blocks")?;
@@ -239,7 +236,7 @@ pub fn serve_of(words: &[String]) -> Option<ServeWords>
     let network = network_in(options)?;
     let (client_port, node_port) = ports_in(options)?;
     let limits = limits_in(options)?;
-    Some(ServeWords {
+    Some(ServeSettings {
         network,
         client_port,
         node_port,
@@ -278,22 +275,23 @@ fn folder_of(alloc: Global, read: &ArgMatches<'_>, id: &str) -> Result<Text, Out
 }
 
 // The command of the words of `serve`, with the folders that `clap` reads.
-fn serve_command(alloc: Global, words: &[String], serve: ServeWords) -> Result<Command, OutOfMemory>
-    requires { (blocks index : Word) × IsServeOf (texts words.now) blocks index
-        serve.network serve.client_port serve.node_port serve.limits }
+fn serve_command(
+    alloc: Global,
+    words: &[String],
+    settings: ServeSettings,
+) -> Result<Command, OutOfMemory>
+    requires { (said : serve_shape.ServeWords)
+        × IsServeOf (texts words.now) said × (said.settings ≡ settings) }
     ensures { IfOk result (IsCommand (texts words.now)) }
 {
     let Ok(read) = read_options(alloc, after_first(words)) else {
         return Err(OutOfMemory);
     };
-    Ok(Command::Serve {
+    Ok(Command::Serve(ServeWords {
         blocks: folder_of(alloc, &read, "blocks")?,
         index: folder_of(alloc, &read, "index")?,
-        network: serve.network,
-        client_port: serve.client_port,
-        node_port: serve.node_port,
-        limits: serve.limits,
-    })
+        settings,
+    }))
 }
 
 // The command of the words of `once`, with the folder that `clap` reads.
@@ -314,8 +312,8 @@ pub fn read_words(alloc: Global, words: &[String]) -> Result<Option<Command>, Ou
     ensures found { IfOk result (λ found. IfSome found (IsCommand (texts words.now))) }
     ensures none { IfOk result (λ found. IfNone found (IsNoCommand (texts words.now))) }
 {
-    if let Some(serve) = serve_of(words) {
-        let command = serve_command(alloc, words, serve)?;
+    if let Some(settings) = serve_of(words) {
+        let command = serve_command(alloc, words, settings)?;
         return Ok(Some(command));
     }
     let Some(network) = once_of(words) else {

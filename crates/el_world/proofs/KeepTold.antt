@@ -39,7 +39,7 @@ use Rattle.el_replies.specs.Losses as answer
 use Rattle.el_replies.specs.declared.batch.TheConstants.{BATCH_LIMIT}
 use Rattle.el_replies.specs.declared.line.LineReply.{LineReply}
 use Rattle.el_subs.specs.Told.{status, AllTold}
-use Rattle.el_world.specs.Side.{Side}
+use Rattle.el_side.specs.Side.{Side}
 use Rattle.el_world.specs.World.{Comes}
 
 -- 1. What each request keeps, each line does

@@ -1,3 +1,1 @@
-mod PlanLaws
-mod Prefixes
 pub mod KeepTold

@@ -1,47 +1,24 @@
 -- The chain that is acknowledged where a run stops, and the one that is then in flight. Acknowledged is the
 -- chain of the world before the turn in which the run stops, since all that earlier turns gave was sent. In
 -- flight is the target of a move of that turn that has begun, if there is one.
-use Rattle.std.specs.Prelude.{◌≡◌, ◌≤◌, ℕ, List, ◌∷◌}
+use Rattle.std.specs.Prelude.{◌≡◌, ℕ, List, ◌∷◌}
 use Rattle.el_outside.specs.Devices.{Device}
 use Rattle.el_outside.specs.Files.{AllGrow}
 use Rattle.el_outside.specs.Trace.{ArrivalWithBytes, Message, Closing}
 use Rattle.el_chain.specs.declared.moves.Plan.{Plan}
-use Rattle.el_chain.specs.declared.node.Node.{Node}
 use Rattle.el_chain.specs.Chains.{Chain}
-use Rattle.el_chain.specs.Headers.{IsPath}
-use Rattle.el_chain.specs.Moves.{InFlight, max_back}
 use Rattle.el_lines.specs.Lines.{LineEvent, line}
-use Rattle.el_lines.specs.NodeLines.{ReadsNodeLine, tip}
-use Rattle.el_world.specs.Plans.{back_of, rest_of, plan_of, IsMoving}
-use Rattle.el_world.specs.Side.{Side}
+use Rattle.el_lines.specs.NodeLines.{tip}
+use Rattle.el_side.specs.Plans.{plan_of}
+use Rattle.el_side.specs.UnderWay.{IsFirstMove, IsUnderWay}
 use Rattle.el_world.specs.World.{World, Event, orders, IsStill, IsBusy, AllTold}
 use Rattle.el_world.specs.Run.{Stop, Stops, disk_failed, sift_failed, no_memory, untold, unsent, StopsIn, unheard, in_turn}
-
--- The first move of what is met in the node's bytes: of a tip line that takes back no more blocks than may
--- be, and moves something. Else no move begins.
-pub record IsFirstMove (side : Side) (met : LineEvent) (p : Plan) : Type 0 where
-  pub bytes : List ℕ
-  pub hash : List ℕ
-  pub path : List Node
-  pub met_is : met ≡ line bytes
-  pub reads : ReadsNodeLine bytes (tip hash)
-  pub is_path : IsPath side.found (record { 0 = hash }) path
-  pub few : back_of side.chain path ≤ max_back
-  pub moving : IsMoving (back_of side.chain path) (rest_of side.chain path)
-  pub plan_is : p ≡ plan_of (back_of side.chain path) (rest_of side.chain path)
 
 -- The move of the turn: the next of the node's last tip line, or the first of a line that is next.
 pub data IsMoveOf (world : World) (left : List Event) (p : Plan) : Type 0 where
   later : IsBusy world → p ≡ plan_of 0 world.side.ahead → IsMoveOf world left p
   first : (met : LineEvent) (rest : List Event) → IsStill world → AllTold world → left ≡ orders met ∷ rest
       → IsFirstMove world.side met p → IsMoveOf world left p
-
--- the chain is the one before the turn, or the target of a move that it may begin
-pub data IsUnderWay (tells : Type 0) (files : ℕ → List ℕ) (chain : Chain) (is_move : Plan → Type 0)
-    (next : Chain) : Type 0 where
-  before : next ≡ chain → IsUnderWay tells files chain is_move next
-  in_move : (p : Plan) → is_move p → InFlight tells files chain p next
-      → IsUnderWay tells files chain is_move next
 
 -- The chain may be in flight where a turn stops. `now` are the block files as they are in the end.
 abbrev pub FliesAt : {tells : Type 0} {world : World} {left : List Event} {stop : Stop} {sent : List Message}

@@ -1,5 +1,5 @@
 -- What the server stands for, and what each event does to it. Peer 0 is the node, and the others are clients.
-use Rattle.std.specs.Prelude.{◌≡◌, ◌<◌, ℕ, ◌==◌, nat_lt, Bool, true, false, not, if◌then◌else◌, List, [], ◌∷◌, ◌++◌, length, map, filter, find, MatchBool, Option, Some, None, Result, Ok, Err}
+use Rattle.std.specs.Prelude.{◌≡◌, ℕ, ◌==◌, nat_lt, Bool, true, false, not, if◌then◌else◌, List, [], ◌∷◌, ◌++◌, length, map, filter, find, MatchBool, Option, Some, None, Result, Ok, Err}
 use Rattle.std.specs.List.{list_any, flat_map}
 use Rattle.std.specs.Option.{option_to_list}
 use Rattle.el_outside.specs.Devices.{Device, disk}
@@ -12,18 +12,20 @@ use Rattle.el_chain.specs.Chains.{Chain}
 use Rattle.el_mempool.specs.declared.entry.PoolLimits.{PoolLimits}
 use Rattle.el_model.specs.Queries.{tip_of}
 use Rattle.el_lines.specs.declared.limits.TheConstants.{LINE_LIMIT}
-use Rattle.el_world.specs.declared.limits.TheConstants.{CLIENT_LIMIT}
+use Rattle.el_outside.specs.declared.link.TheConstants.{CLIENT_LIMIT}
 use Rattle.el_lines.specs.Lines.{LineEvent, line, too_long, added_lines}
-use Rattle.el_lines.specs.NodeAnswers.{node_limit}
-use Rattle.el_world.specs.Plans.{IsMoving}
+use Rattle.el_lines.specs.NodeAnswers.{node_limit, text_of}
+use Rattle.el_lines.specs.declared.node_answer.NodeAnswer.{NodeAnswer}
+use Rattle.el_side.specs.Plans.{IsMoving}
 use Rattle.el_sessions.specs.declared.session.Session as client
+use Rattle.el_sessions.specs.Sessions.{HasAdded}
 use Rattle.el_methods.specs.Archives.{HasAsked}
 use Rattle.el_replies.specs.Losses.{AnswersOf}
 use Rattle.el_replies.specs.LineReplies.{IsLineReply}
 use Rattle.el_replies.specs.declared.line.LineReply.{LineReply}
 use Rattle.el_subs.specs.Told.{status}
 use Rattle.el_subs.specs.Notices.{notices, notified}
-use Rattle.el_world.specs.Side.{Side, quiet_side, Moving, OrdersLine}
+use Rattle.el_side.specs.Side.{Side, quiet_side, Moving, OrdersLine}
 
 -- how many bytes a client's line may have, without its byte 10
 abbrev pub line_limit : ℕ
@@ -187,7 +189,8 @@ after_reply p reply session kept world =
 
 -- What comes of a client's line over the side: each of its requests is answered as it is defined, or that a
 -- device failed, which is lost. A request that reads the block files is answered as it is defined where these
--- have the transaction that it asks for at its place.
+-- have the transaction that it asks for at its place; whatever they have, never with another one's bytes, nor
+-- as if the chain had none.
 abbrev pub Comes : Type 0 → Side → List ℕ → client.Session → List Device → client.Session
     → Result LineReply OutOfMemory → Type 0
 Comes tells side bytes was losses now result =
@@ -208,7 +211,7 @@ pub data IsAnswered (tells : Type 0) (world : World) (p : ℕ) (bytes : List ℕ
       → IsAnswered tells world p bytes session outs losses next
   uncounted : (reply : LineReply) (kept : client.Session)
       → Comes tells world.side bytes session.client losses kept (Ok reply)
-      → length session.client.subs < length kept.subs
+      → HasAdded session.client.subs kept.subs
       → outs ≡ closes_memory p → next ≡ without_client p world
       → IsAnswered tells world p bytes session outs losses next
 
@@ -224,12 +227,12 @@ Replied tells world p bytes (Some session) outs losses next =
 Replied tells world p bytes None outs losses next = OnlyDoes nothing world outs losses next
 
 -- The node gets an answer, and its side of the world becomes another one: `leads` says which may be.
-pub record IsLed (leads : List ℕ → List Device → Side → Type 0) (world : World) (outs : Outs)
+pub record IsLed (leads : NodeAnswer → List Device → Side → Type 0) (world : World) (outs : Outs)
     (losses : List Device) (next : World) : Type 0 where
-  pub text : List ℕ
+  pub answer : NodeAnswer
   pub side : Side
-  pub led : leads text losses side
-  pub outs_is : outs ≡ to_node text
+  pub led : leads answer losses side
+  pub outs_is : outs ≡ to_node (text_of answer)
   pub next_is : next ≡ record world { side = side }
 
 -- The world as a line of the node begins: its tip is kept, and each client is to be told of the line.

@@ -3,7 +3,5 @@
 #![tactic(auto)]
 
 mod laws;
-mod limits;
 
-pub use laws::{common_is_the_prefix, moves_are_the_plan, replies_keep_told};
-pub use limits::CLIENT_LIMIT;
+pub use laws::replies_keep_told;

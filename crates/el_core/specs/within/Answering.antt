@@ -7,22 +7,20 @@ use Rattle.el_outside.specs.Counts.{CountsOnly}
 use Rattle.el_outside.specs.Devices.{Device, Rose}
 use Rattle.el_outside.specs.Files.{AllGrow}
 use Rattle.el_mempool.specs.Standing.{StandsFor}
+use Rattle.el_lines.specs.NodeAnswers.{text_of}
+use Rattle.el_lines.specs.declared.node_answer.NodeAnswer.{NodeAnswer}
 use Rattle.el_model.specs.declared.ledger.Ledger as ledger
 use Rattle.el_model.specs.LedgerCalls.{failed_calls}
-use Rattle.el_world.specs.NodeSteps.{Leads}
-use Rattle.el_world.specs.Side.{Side}
+use Rattle.el_side.specs.NodeSteps.{Leads, StandsBeside}
+use Rattle.el_side.specs.Side.{Side}
 use Rattle.el_world.specs.World.{reply_to}
-use Rattle.el_sync.specs.declared.fault.StepFault.{StepFault}
-use Rattle.el_sync.specs.declared.fault.StepFault.TheVariants as fault
-use Rattle.el_methods.specs.declared.holdings.Holdings.{Holdings}
+use Rattle.el_model.specs.declared.fault.QueryFault.{QueryFault}
+use Rattle.el_model.specs.declared.fault.QueryFault.TheVariants as fault
+use Rattle.el_side.specs.declared.holdings.Holdings.{Holdings}
 use Rattle.el_core.specs.State.{State}
 use Rattle.el_core.specs.Turn.{outs_of}
 use Rattle.el_core.specs.within.Touching.{CoversAll}
 use Rattle.el_core.specs.declared.out.Outs.{Outs}
-
--- what is held beside the ledger
-abbrev pub holdings_of : {G : Type 0} → State G → Holdings
-holdings_of s = record { tree = s.found; magic = s.magic; pool = s.pool }
 
 -- A client is answered from these: the ledger stands for the side's chain, the set for what is kept over it,
 -- the found headers are the side's, and the block files have all that the side knows of them.
@@ -30,6 +28,7 @@ pub record IsSettled {G A : Type 0} (of_ledger : ledger.Ghosts G) (of_files : ar
     (holdings : Holdings) (files : A) (side : Side) : Type 0 where
   pub stood : of_ledger.stands l side.chain
   pub set : StandsFor holdings.pool.entries side.chain side.kept
+  pub beside : StandsBeside holdings side side.chain
   pub found : holdings.tree ≡ side.found
   pub told : of_files.tells → AllGrow side.files (of_files.bytes files)
 
@@ -42,20 +41,20 @@ Lost of_ledger of_files old new before after losses =
 -- The node is answered, and the server led on from the side. What the step touched is among the touched ones,
 -- as far as clients subscribe to it.
 pub record Answered {G A : Type 0} (of_ledger : ledger.Ghosts G) (of_files : archive.Ghosts A)
-    (leads : List ℕ → List Device → Side → Type 0) (old new : State G) (before after : A) (side : Side)
+    (leads : NodeAnswer → List Device → Side → Type 0) (old new : State G) (before after : A) (side : Side)
     (start : Chain) (outs : Outs) : Type 0 where
-  pub text : List ℕ
+  pub answer : NodeAnswer
   pub moved : List Hash32
   pub changed : List Hash32
-  pub sends : outs_of outs ≡ reply_to 0 text
-  pub led : Leads of_ledger of_files leads old.ledger new.ledger before after side start text new.found
-      new.ahead moved changed new.pool
+  pub sends : outs_of outs ≡ reply_to 0 (text_of answer)
+  pub led : Leads of_ledger of_files leads old.ledger new.ledger before after side start answer
+      new.holdings.tree new.ahead moved changed new.holdings
   pub covers : CoversAll old.clients old.touched moved changed new.touched
 
 -- What each turn of the node keeps, whatever the ledger stands for: block files only grow, and no count
 -- falls.
 pub record NodeKeeps {G A : Type 0} (of_ledger : ledger.Ghosts G) (of_files : archive.Ghosts A) (old new : G)
-    (before after : A) (result : Result Outs StepFault) : Type 0 where
+    (before after : A) (result : Result Outs QueryFault) : Type 0 where
   pub live : OnOk result (of_ledger.is_live new)
   pub still_live : result ≡ Err fault.Memory → of_ledger.is_live new
   pub keeps : of_files.tells → AllGrow (of_files.bytes before) (of_files.bytes after)

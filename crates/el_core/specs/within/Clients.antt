@@ -5,14 +5,17 @@ use Rattle.std.specs.Prelude.{IfSome, OnSome, nat_lt, Bool, not, map, take, zero
 use Rattle.el_base.specs.declared.hash.Hash32.{Hash32}
 use Rattle.el_base.specs.declared.memory.OutOfMemory.{OutOfMemory}
 use Rattle.el_chain.specs.Chains.{Chain}
-use Rattle.el_mempool.specs.Standing.{PoolState, StandsFor}
+use Rattle.el_mempool.specs.Standing.{StandsFor}
 use Rattle.el_outside.specs.Devices.{Device}
 use Rattle.el_lines.specs.Lines.{LineEvent, line, lines}
+use Rattle.el_sessions.specs.Sessions.{HasAdded}
 use Rattle.el_sessions.specs.declared.session.Session as known
 use Rattle.el_replies.specs.declared.line.LineReply.{LineReply}
 use Rattle.el_subs.specs.Told.{status, OthersTold}
 use Rattle.el_subs.specs.Notices.{notices, notified}
-use Rattle.el_world.specs.Side.{Side}
+use Rattle.el_side.specs.declared.holdings.Holdings.{Holdings}
+use Rattle.el_side.specs.NodeSteps.{StandsBeside}
+use Rattle.el_side.specs.Side.{Side}
 use Rattle.el_world.specs.World as model
 use Rattle.el_world.specs.World.{client_limit, line_limit, new_client, Comes, outs_of_reply, closes_long, closes_memory, closes_disk, closes_surplus}
 use Rattle.el_lines.specs.LineStates.{LineState, IsAt, as_listed}
@@ -114,7 +117,7 @@ pub data LineAnswered (tells : Type 0) (side : Side) (rose : List Device → Typ
       → outs ≡ closes_memory p → stays ≡ false → rose losses
       → LineAnswered tells side rose p bytes was now outs stays
   uncounted : (losses : List Device) (reply : LineReply) → Comes tells side bytes was losses now (Ok reply)
-      → length was.subs < length now.subs → outs ≡ closes_memory p → stays ≡ false → rose losses
+      → HasAdded was.subs now.subs → outs ≡ closes_memory p → stays ≡ false → rose losses
       → LineAnswered tells side rose p bytes was now outs stays
 
 -- the client, where it stays
@@ -203,10 +206,11 @@ told_client side c =
 
 -- From these a client is told over the side: the ledger stands for its chain and the set for what is kept,
 -- and each subscription to a script hash that isn't touched was told its status.
-pub record IsToTell {G : Type 0} (stands : G → Chain → Type 0) (l : G) (pool : PoolState)
+pub record IsToTell {G : Type 0} (stands : G → Chain → Type 0) (l : G) (holdings : Holdings)
     (touched : List Hash32) (side : Side) (c : ClientState) : Type 0 where
   pub stood : stands l side.chain
-  pub set : StandsFor pool.entries side.chain side.kept
+  pub set : StandsFor holdings.pool.entries side.chain side.kept
+  pub beside : StandsBeside holdings side side.chain
   pub others : OthersTold (status side.chain side.kept) touched c.session.subs
 
 -- What a client gets that is told of the node's last line: all of it, or its closing. `rose` says by how much

@@ -3,7 +3,7 @@ use Rattle.std.specs.Prelude.{◌≡◌, Bool, true, false, List}
 use Rattle.std.specs.List.{list_any}
 use Rattle.el_base.specs.declared.hash.Hash32.{Hash32}
 use Rattle.el_sessions.specs.Sessions.{is_subscribed}
-use Rattle.el_touched.specs.Untouched.{is_among}
+use Rattle.el_status.specs.Untouched.{is_among}
 use Rattle.el_core.specs.State.{ClientState}
 
 -- some client subscribes to the script hash

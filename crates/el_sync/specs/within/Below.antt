@@ -2,7 +2,7 @@
 use Rattle.std.specs.Prelude.{◌≡◌, ◌≤◌, ℕ, suc, List, length, drop, Option, slice_get}
 use Rattle.el_chain.specs.declared.node.Node.{Node}
 use Rattle.el_chain.specs.Chains.{Chain}
-use Rattle.el_world.specs.Plans.{common}
+use Rattle.el_side.specs.Plans.{common}
 
 -- The blocks at the height `count` and above it aren't common, and `last` is the path's node below it, if
 -- there is one.

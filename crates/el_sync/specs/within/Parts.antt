@@ -17,49 +17,53 @@ use Rattle.el_chain.specs.Moves.{Moves, IsRefused, shorter, max_back}
 use Rattle.el_chain.specs.Records.{IsNode}
 use Rattle.el_chain.specs.Touches.{AreTouched}
 use Rattle.el_mempool.specs.declared.fault.PoolFault.{PoolFault}
-use Rattle.el_mempool.specs.declared.fault.PoolFault.TheVariants as refusal
+use Rattle.el_mempool.specs.declared.fault.PoolFault.TheVariants as unkept
 use Rattle.el_mempool.specs.Standing.{AreChanged, PoolState, StandsFor}
 use Rattle.el_model.specs.LedgerCalls.{Moved, failed_calls}
 use Rattle.el_model.specs.Queries.{height_of, tip_of}
 use Rattle.el_model.specs.declared.ledger.Ledger as ledgers
-use Rattle.el_lines.specs.NodeAnswers.{archive_refused, at_answer, move_refused}
-use Rattle.el_world.specs.Plans.{back_of, rest_of, plan_of, left_of, IsMoving}
-use Rattle.el_world.specs.Side.{Side, Looks}
-use Rattle.el_sync.specs.declared.fault.StepFault.{StepFault}
-use Rattle.el_sync.specs.declared.fault.StepFault.TheVariants as fault
+use Rattle.el_lines.specs.NodeAnswers.{move_refused}
+use Rattle.el_lines.specs.declared.node_answer.NodeAnswer.{NodeAnswer}
+use Rattle.el_lines.specs.declared.node_answer.NodeAnswer.TheVariants as say
+use Rattle.el_lines.specs.declared.node_answer.NodeRefusal.TheVariants as refusal
+use Rattle.el_side.specs.Plans.{back_of, rest_of, plan_of, left_of, IsMoving}
+use Rattle.el_side.specs.Side.{Side, Looks}
+use Rattle.el_model.specs.declared.fault.QueryFault.{QueryFault}
+use Rattle.el_model.specs.declared.fault.QueryFault.TheVariants as fault
 use Rattle.el_sync.specs.declared.making.Made.{Made}
 use Rattle.el_sync.specs.Steps.{named}
 
 -- what the node is answered where a move is refused for one of its blocks, or the block files failed; the
 -- fault is no other
-abbrev pub SaysRefusal : MoveFault → List ℕ → Type 0
-SaysRefusal stop.DiskFailed text = ⊥
-SaysRefusal stop.Memory text = ⊥
-SaysRefusal stop.ArchiveFailed text = text ≡ archive_refused
-SaysRefusal (stop.Changed w f) text = move_refused (stop.Changed w f) ≡ Some text
-SaysRefusal (stop.BadBlock h f) text = move_refused (stop.BadBlock h f) ≡ Some text
-SaysRefusal (stop.Refused h f) text = move_refused (stop.Refused h f) ≡ Some text
+abbrev pub SaysRefusal : MoveFault → NodeAnswer → Type 0
+SaysRefusal stop.DiskFailed answer = ⊥
+SaysRefusal stop.Memory answer = ⊥
+SaysRefusal stop.ArchiveFailed answer = answer ≡ say.Refused refusal.Archive
+SaysRefusal (stop.Changed w f) answer = move_refused (stop.Changed w f) ≡ Some answer
+SaysRefusal (stop.BadBlock h f) answer = move_refused (stop.BadBlock h f) ≡ Some answer
+SaysRefusal (stop.Refused h f) answer = move_refused (stop.Refused h f) ≡ Some answer
 
 -- What came of a move before the set is sifted: whether it was made, what the node is answered, which script
 -- hashes it touched, and the chain then.
-pub data Tried (tells : Type 0) (side : Side) (back : ℕ) (rest : List Node) (moved : Bool) (text : List ℕ)
-    (touched : List Hash32) (losses : List Device) (chain : Chain) (files : ℕ → List ℕ) : Type 0 where
+pub data Tried (tells : Type 0) (side : Side) (back : ℕ) (rest : List Node) (moved : Bool)
+    (answer : NodeAnswer) (touched : List Hash32) (losses : List Device) (chain : Chain) (files : ℕ → List ℕ)
+    : Type 0 where
   made : (blocks : Chain) → Moves tells files side.chain (plan_of back rest) blocks
       → AreTouched (plan_of back rest) side.chain blocks touched → moved ≡ true
-      → chain ≡ shorter back side.chain ++ blocks → text ≡ at_answer (tip_of chain) (height_of chain)
-      → losses ≡ [] → Tried tells side back rest moved text touched losses chain files
+      → chain ≡ shorter back side.chain ++ blocks → answer ≡ say.At (tip_of chain) (height_of chain)
+      → losses ≡ [] → Tried tells side back rest moved answer touched losses chain files
   refused : (e : MoveFault) → IsRefused tells files side.chain (plan_of back rest) e → moved ≡ false
-      → chain ≡ side.chain → move_refused e ≡ Some text → touched ≡ [] → losses ≡ []
-      → Tried tells side back rest moved text touched losses chain files
-  failed : moved ≡ false → chain ≡ side.chain → text ≡ archive_refused → touched ≡ []
-      → losses ≡ archive ∷ [] → Tried tells side back rest moved text touched losses chain files
+      → chain ≡ side.chain → move_refused e ≡ Some answer → touched ≡ [] → losses ≡ []
+      → Tried tells side back rest moved answer touched losses chain files
+  failed : moved ≡ false → chain ≡ side.chain → answer ≡ say.Refused refusal.Archive → touched ≡ []
+      → losses ≡ archive ∷ [] → Tried tells side back rest moved answer touched losses chain files
 
 -- A move was tried from the side.
 pub record Tries {G A : Type 0} (of_ledger : ledgers.Ghosts G) (of_files : archives.Ghosts A) (old new : G)
     (files_old files_new : A) (side : Side) (back : ℕ) (rest : List Node) (made : Made) : Type 0 where
   pub losses : List Device
   pub chain : Chain
-  pub tried : Tried of_files.tells side back rest made.moved made.text made.touched losses chain
+  pub tried : Tried of_files.tells side back rest made.moved made.answer made.touched losses chain
       (of_files.bytes files_new)
   pub grows : of_files.tells → AllGrow side.files (of_files.bytes files_new)
   pub moved : Moved of_ledger old new side.chain chain
@@ -80,7 +84,7 @@ pub record MoveKeeps {G A : Type 0} (of_ledger : ledgers.Ghosts G) (of_files : a
 
 -- What a move that failed keeps.
 pub record MoveFailed {G A : Type 0} (of_ledger : ledgers.Ghosts G) (of_files : archives.Ghosts A)
-    (old new : G) (files_old files_new : A) (e : StepFault) : Type 0 where
+    (old new : G) (files_old files_new : A) (e : QueryFault) : Type 0 where
   pub still_live : e ≡ fault.Memory → of_ledger.is_live new
   pub keeps : of_files.tells → AllGrow (of_files.bytes files_old) (of_files.bytes files_new)
   pub archive_rose : RoseBy (of_files.faults files_old) (of_files.faults files_new) 0
@@ -97,15 +101,15 @@ pub record StandsAfter (pool : PoolState) (side : Side) (changed : List Hash32) 
 
 -- the refusal tells the txid of the transaction itself
 abbrev pub NamesItself : PoolFault → Type 0
-NamesItself refusal.Confirmed = Unit {0}
-NamesItself refusal.Known = Unit {0}
+NamesItself unkept.Confirmed = Unit {0}
+NamesItself unkept.Known = Unit {0}
 NamesItself other = ⊥
 
 -- A place was looked at, and these are the headers that are then found.
 pub record Looked {A : Type 0} (of_files : archives.Ghosts A) (files_old files_new : A) (side : Side)
-    (file at : ℕ) (text : List ℕ) (found : List Node) : Type 0 where
+    (file at : ℕ) (answer : NodeAnswer) (found : List Node) : Type 0 where
   pub losses : List Device
-  pub looks : Looks of_files.tells side file at text losses
+  pub looks : Looks of_files.tells side file at answer losses
       (record side { found = found; files = of_files.bytes files_new })
   pub rose : RoseBy (of_files.faults files_old) (of_files.faults files_new) (failures archive losses)
 

@@ -26,5 +26,5 @@ returns-clause-answered g c = rw (← c.client.view_is) (λ side at'.
           (w.closing-in-Err.ensures ∙ ap closes_memory peer_is) refl lost)
     ])
 
-pub returns-clause-extends : goal.returns-clause-extends
-returns-clause-extends g c = rw (← c.client.view_is) c.reply_line.ensures.extends
+pub returns-clause-edits : goal.returns-clause-edits
+returns-clause-edits g c = rw (← c.client.view_is) c.reply_line.ensures.edits

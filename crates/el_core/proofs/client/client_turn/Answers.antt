@@ -1,7 +1,7 @@
 use Rattle.std.proofs.Common.{sym, ap, subst, ◌∙◌, refl, List}
 use Rattle.el_world.specs.World.{closes_memory}
-use Rattle.el_sessions.specs.Sessions.{Subscription, Extends}
-use Rattle.el_sessions.proofs.Subscribing.{extends_same}
+use Rattle.el_sessions.specs.Sessions.{Subscription, Edits}
+use Rattle.el_sessions.proofs.Subscribing.{edits_same}
 use Rattle.el_core.specs.State.{ClientState}
 use Rattle.el_core.specs.within.Clients.{loses, departs, answers, left_if}
 use Rattle.el_core.proofs.Losing.{lost_none}
@@ -29,18 +29,18 @@ returns-in-Ok-Some-clause-turn g c = λ side at'.
     answers c.answer-outs.result.0 c.in-Ok-Some.met c.next_line.new.self.buffer c.answer-outs.new.client.session c.answer-outs.result.1 (sym c.is_lost.ensures ∙ c.if-is_lost.false) c.in-Ok-Some.ensures.limit gives answered
     (ap (λ (d : ClientState). left_if c.answer-outs.result.1 d) (c.answer-outs.ensures.same ∙ ap (λ (d : ClientState). record d { session = c.answer-outs.new.client.session }) same)) refl
 
-pub returns-in-Err-clause-extends : goal.returns-in-Err-clause-extends
-returns-in-Err-clause-extends g c = rw c.in-Err.ensures.same (extends_same _)
+pub returns-in-Err-clause-edits : goal.returns-in-Err-clause-edits
+returns-in-Err-clause-edits g c = rw c.in-Err.ensures.same (edits_same _)
 
-pub returns-in-Ok-None-clause-extends : goal.returns-in-Ok-None-clause-extends
-returns-in-Ok-None-clause-extends g c =
+pub returns-in-Ok-None-clause-edits : goal.returns-in-Ok-None-clause-edits
+returns-in-Ok-None-clause-edits g c =
     let same = rw c.in-Ok-None.field-0-is at c.in-Ok-None.ensures.unchanged in
-    rw same (extends_same _)
+    rw same (edits_same _)
 
 pub returns-in-Ok-None-clause-idle : goal.returns-in-Ok-None-clause-idle
 returns-in-Ok-None-clause-idle g c = (rw c.in-Ok-None.field-0-is at c.in-Ok-None.ensures.unchanged, refl)
 
-pub returns-in-Ok-Some-clause-extends : goal.returns-in-Ok-Some-clause-extends
-returns-in-Ok-Some-clause-extends g c =
+pub returns-in-Ok-Some-clause-edits : goal.returns-in-Ok-Some-clause-edits
+returns-in-Ok-Some-clause-edits g c =
     let same = ap (λ (d : ClientState). d.session.subs) c.in-Ok-Some.ensures.same in
-    subst (λ (l : List Subscription). Extends l c.answer-outs.new.client.session.subs) same c.answer-outs.ensures.extends
+    subst (λ (l : List Subscription). Edits l c.answer-outs.new.client.session.subs) same c.answer-outs.ensures.edits

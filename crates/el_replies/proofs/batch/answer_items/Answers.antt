@@ -2,7 +2,7 @@ use Rattle.std.proofs.Common.{◌≡◌, [], refl, arith}
 use Rattle.el_outside.proofs.Traces.{all_grow_none, all_grow_more}
 use Rattle.el_model.proofs.Quiets.{quiet_none, quiet_on}
 use Rattle.el_methods.specs.Archives.{HasAsked}
-use Rattle.el_sessions.proofs.Subscribing.{extends_same, extends_more}
+use Rattle.el_sessions.proofs.Subscribing.{edits_same, edits_more}
 use Rattle.el_replies.specs.Losses.{AnswersOf}
 use Rattle.el_replies.specs.within.Gathered.{replies_of}
 use Rattle.el_replies.proofs.BatchLoop.{begins, cut_begins, goes_on, cut_goes_on, ends, cut_here}
@@ -16,7 +16,7 @@ loop-item-init g c =
       quiet = quiet_none l.is_live l.height l.tip l.buckets l.stands l.tells_crash l.moment l.left_since
           c.args.ledger.now;
       grows = λ tells. all_grow_none _;
-      extends = extends_same c.args.session.now.subs;
+      edits = edits_same c.args.session.now.subs;
       disk_more = omega arith;
       end = c.requires.end;
       archive_more = omega arith;
@@ -37,7 +37,7 @@ loop-item-preserved g c =
           c.loop-item.invariant.quiet c.answer_item.ensures.quiet;
       grows = λ tells. all_grow_more _ _ _ (c.loop-item.invariant.grows tells)
           (c.answer_item.ensures.grows tells);
-      extends = extends_more _ _ _ c.loop-item.invariant.extends c.answer_item.ensures.extends;
+      edits = edits_more _ _ _ c.loop-item.invariant.edits c.answer_item.ensures.edits;
       disk_more = omega (arith, c.loop-item.invariant.disk_more, c.answer_item.ensures.disk_more);
       end = c.in_ok-answer_item.ensures.end;
       archive_more = omega (arith, c.loop-item.invariant.archive_more, c.answer_item.ensures.archive_more);
@@ -87,5 +87,5 @@ returns-in_err-answer_item-clause-quiet g c =
     quiet_on l.is_live l.height l.tip l.buckets l.stands l.tells_crash l.moment l.left_since _ _ _
     c.loop-item.invariant.quiet c.in_err-answer_item.ensures.quiet
 
-pub returns-in_err-answer_item-clause-extends : goal.returns-in_err-answer_item-clause-extends
-returns-in_err-answer_item-clause-extends g c = extends_more _ _ _ c.loop-item.invariant.extends c.in_err-answer_item.ensures.extends
+pub returns-in_err-answer_item-clause-edits : goal.returns-in_err-answer_item-clause-edits
+returns-in_err-answer_item-clause-edits g c = edits_more _ _ _ c.loop-item.invariant.edits c.in_err-answer_item.ensures.edits

@@ -5,7 +5,7 @@ use Rattle.el_chain.specs.Chains.{Chain}
 use Rattle.el_mempool.specs.Standing.{StandsFor}
 use Rattle.el_model.specs.Keeping.{Quiet}
 use Rattle.el_methods.specs.Archives.{HasAsked}
-use Rattle.el_sessions.specs.Sessions.{Extends}
+use Rattle.el_sessions.specs.Sessions.{Edits}
 use Rattle.el_replies.specs.Batches.{Completes, CutCompletes}
 use Rattle.el_replies.specs.Losses.{AnswersOf, Loses}
 use Rattle.el_replies.specs.within.Gathered.{replies_of, HasEnd}
@@ -22,7 +22,7 @@ invariant-loop-item g l =
       quiet : Quiet d.is_live d.height d.tip d.buckets d.stands d.tells_crash d.moment d.left_since
           l.initial.ledger l.ledger;
       grows : a.tells → AllGrow (a.bytes l.initial.archive) (a.bytes l.archive);
-      extends : Extends l.initial.session.subs l.session.subs;
+      edits : Edits l.initial.session.subs l.session.subs;
       disk_more : d.faults l.initial.ledger ≤ d.faults l.ledger;
       end : HasEnd l.replies;
       archive_more : a.faults l.initial.archive ≤ a.faults l.archive;

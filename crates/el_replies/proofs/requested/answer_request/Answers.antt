@@ -21,6 +21,7 @@ returns-in-Some-clause-answered g c = λ chain kept files stands over grew.
       of_index = λ none. answer.of_index chain kept stands over none;
       of_files = λ has. answer.answer chain kept stands over has.0
           (asked_stays _ _ chain c.in-Ok.call (all_grow_more _ _ _ (grew has.0) (answer.grows has.0)) has.1);
+      own = λ reads. answer.own chain kept stands over reads;
       still = λ reads. answer.still kept reads;
       untold = λ none. answer.untold chain kept over none;
       unchanged = λ has. answer.unchanged chain stands has.0

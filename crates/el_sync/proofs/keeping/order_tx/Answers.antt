@@ -1,5 +1,4 @@
-use Rattle.std.proofs.Common.{sym, ◌∙◌}
-use Rattle.el_sync.proofs.Apart.{tx_apart}
+use Rattle.std.proofs.Common.{refl}
 use Rattle.el_sync.proofs.Pooled.{joins_side, refused_told}
 use Rattle.el_sync.proofs.keeping.order_tx.Goals as goal
 
@@ -12,7 +11,7 @@ returns-in-Err-clause-adds g c = λ side stands stood limits.
 
 pub returns-in-Ok-clause-adds : goal.returns-in-Ok-clause-adds
 returns-in-Ok-clause-adds g c = λ side stands stood limits.
-    joins_side c.add.new.self side c.args.bytes.now c.tx_answer.result c.in-Ok.id _ (rw limits at (c.in-Ok.ensures.joined side.chain side.kept stood stands)) c.tx_answer.ensures
+    joins_side c.add.new.self side c.args.bytes.now _ c.in-Ok.id _ (rw limits at (c.in-Ok.ensures.joined side.chain side.kept stood stands)) refl
 
 pub returns-in-Ok-clause-untouched : goal.returns-in-Ok-clause-untouched
-returns-in-Ok-clause-untouched g c = λ is. absurd (tx_apart _ (sym c.tx_answer.ensures ∙ is))
+returns-in-Ok-clause-untouched g c = λ is. absurd (let bad = is in cc)

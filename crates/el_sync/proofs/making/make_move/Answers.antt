@@ -1,11 +1,10 @@
-use Rattle.std.proofs.Common.{ap, refl, inl, sym, ◌∙◌, Err}
+use Rattle.std.proofs.Common.{ap, refl, inl, ◌∙◌, Err}
 use Rattle.std.proofs.lemmas.Result.{err_from_is_err_and}
 use Rattle.el_outside.proofs.Devices.{rose_still}
 use Rattle.el_chain.specs.Moves.{max_forward}
 use Rattle.el_chain.specs.Records.{IsNode}
-use Rattle.el_sync.proofs.Apart.{at_apart}
 use Rattle.el_sync.proofs.Led.{memory_of, not_disk, starved_still}
-use Rattle.el_sync.proofs.Tried.{broke, made_tries, move_failed, not_failed, not_made}
+use Rattle.el_sync.proofs.Tried.{broke, made_tries, move_failed, not_failed, not_made, rose_or_not}
 use Rattle.el_model.proofs.LedgerMoves.{asked_moved, asked_none}
 use Rattle.el_sync.proofs.Lists.{plan_fits, left_linked}
 use Rattle.el_headers.proofs.Paths.{all_drop}
@@ -19,7 +18,7 @@ returns-in-Ok-clause-tried g c = λ side stood told.
     made_tries g.G.Ledger g.A.Archive c.args.ledger.now c.go.new.self c.args.archive.now c.go.new.archive side c.args.back c.args.rest
     c.in_ok-forward.forward c.in-Ok.moved.tip c.in-Ok.moved.height _ told c.in-Ok.ensures.reads.keeps (c.in-Ok.ensures.moved side.chain stood) c.in_ok-forward.ensures
     (λ d s. c.in-Ok.ensures.answer.0 ∙ g.met.G.Ledger.tip_is c.go.new.self d s) (λ d s. c.in-Ok.ensures.answer.1 ∙ g.met.G.Ledger.height_is c.go.new.self d s)
-    refl c.at_answer.ensures c.in-Ok.ensures.reads.uncounted c.in-Ok.ensures.cause.uncounted
+    refl refl c.in-Ok.ensures.reads.uncounted c.in-Ok.ensures.cause.uncounted
 
 pub returns-in-Ok-clause-keeps : goal.returns-in-Ok-clause-keeps
 returns-in-Ok-clause-keeps g c =
@@ -34,45 +33,59 @@ returns-in-Ok-clause-keeps g c =
       disk_same = e.cause.uncounted;
     }
 
-pub returns-in_ok-text-in-Err-clause-tried : goal.returns-in_ok-text-in-Err-clause-tried
-returns-in_ok-text-in-Err-clause-tried g c = λ side stood told.
+pub returns-in_ok-answer-in-Err-clause-tried : goal.returns-in_ok-answer-in-Err-clause-tried
+returns-in_ok-answer-in-Err-clause-tried g c = λ side stood told.
     let e = c.in-Err.ensures in
-    let other = not_disk c.in-Err.fault c.in_ok-text-in-Err.text c.in_ok-text-in-Err.ensures.told in
+    let other = not_disk c.in-Err.fault c.in_ok-answer-in-Err.answer c.in_ok-answer-in-Err.ensures.told in
     let quiet = e.unchanged other in
     not_made g.G.Ledger g.A.Archive c.args.ledger.now c.go.new.self c.args.archive.now c.go.new.archive side c.args.back c.args.rest c.in_ok-forward.forward
     c.in-Err.fault _ told e.reads.keeps
     (asked_moved g.G.Ledger c.args.ledger.now c.go.new.self side.chain (λ a d f h i j k. g.met.G.Ledger.leaves_own a d f h i j k) c.requires.live quiet stood)
     (e.refused side.chain stood) c.in_ok-forward.ensures (λ is. e.reads.counted (ap Err is)) (λ is. e.reads.others_uncounted is) (e.cause.others_uncounted other)
-    refl c.in_ok-text-in-Err.ensures.told c.new-touched.ensures
+    refl c.in_ok-answer-in-Err.ensures.told c.new-touched.ensures
 
-pub returns-in_err-text-in-Err-clause-stopped : goal.returns-in_err-text-in-Err-clause-stopped
-returns-in_err-text-in-Err-clause-stopped g c = λ chain stands.
+pub returns-in_ok-answer-in-Err-clause-keeps : goal.returns-in_ok-answer-in-Err-clause-keeps
+returns-in_ok-answer-in-Err-clause-keeps g c =
     let e = c.in-Err.ensures in
-    let p = err_from_is_err_and c.from_residual-in_err-text-in-Err.result c.from_residual-in_err-text-in-Err.ensures.1 in
-    broke g.G.Ledger g.A.Archive c.from_residual-in_err-text-in-Err.result c.args.ledger.now c.go.new.self c.args.archive.now c.go.new.archive chain c.args.back c.args.rest
-    c.in_ok-forward.forward c.in_err-text-in-Err.field-0.0 (p.1 ∙ ap Err p.2) c.in_ok-forward.ensures
-    (λ failed. e.crash_failed chain stands (ap Err (c.in_err-text-in-Err.ensures.failed (ap Err failed))))
-    (λ memory. asked_moved g.G.Ledger c.args.ledger.now c.go.new.self chain (λ a d f h i j k. g.met.G.Ledger.leaves_own a d f h i j k) c.requires.live
-    (e.unchanged ((c.in_err-text-in-Err.ensures.memory (ap Err memory)).0)) stands)
-    (record {
-      still_live = λ memory. (e.unchanged ((c.in_err-text-in-Err.ensures.memory (ap Err memory)).0)).stays.still_live c.requires.live;
+    let other = not_disk c.in-Err.fault c.in_ok-answer-in-Err.answer c.in_ok-answer-in-Err.ensures.told in
+    record {
+      live = (e.unchanged other).stays.still_live c.requires.live;
+      left = c.none-left.ensures;
+      nodes = rw c.none-left.ensures tt;
+      linked = rw c.none-left.ensures tt;
       keeps = e.reads.keeps;
-      archive_rose = rose_still _ _ (e.reads.others_uncounted c.in_err-text-in-Err.ensures.told_files);
-      disk_rose = λ failed. e.cause.counted (ap Err (c.in_err-text-in-Err.ensures.failed (ap Err failed)));
-      disk_same = λ other. e.cause.others_uncounted (c.in_err-text-in-Err.ensures.memory (ap Err (not_failed c.in_err-text-in-Err.field-0.0 other))).0;
+      archive_rose = rose_or_not c.in-Err.fault _ _ (λ is. e.reads.counted (ap Err is)) e.reads.others_uncounted;
+      disk_same = e.cause.others_uncounted other;
+    }
+
+pub returns-in_err-answer-in-Err-clause-stopped : goal.returns-in_err-answer-in-Err-clause-stopped
+returns-in_err-answer-in-Err-clause-stopped g c = λ chain stands.
+    let e = c.in-Err.ensures in
+    let p = err_from_is_err_and c.from_residual-in_err-answer-in-Err.result c.from_residual-in_err-answer-in-Err.ensures.1 in
+    broke g.G.Ledger g.A.Archive c.from_residual-in_err-answer-in-Err.result c.args.ledger.now c.go.new.self c.args.archive.now c.go.new.archive chain c.args.back c.args.rest
+    c.in_ok-forward.forward c.in_err-answer-in-Err.field-0.0 (p.1 ∙ ap Err p.2) c.in_ok-forward.ensures
+    (λ failed. e.crash_failed chain stands (ap Err (c.in_err-answer-in-Err.ensures.failed (ap Err failed))))
+    (λ memory. asked_moved g.G.Ledger c.args.ledger.now c.go.new.self chain (λ a d f h i j k. g.met.G.Ledger.leaves_own a d f h i j k) c.requires.live
+    (e.unchanged ((c.in_err-answer-in-Err.ensures.memory (ap Err memory)).0)) stands)
+    (record {
+      still_live = λ memory. (e.unchanged ((c.in_err-answer-in-Err.ensures.memory (ap Err memory)).0)).stays.still_live c.requires.live;
+      keeps = e.reads.keeps;
+      archive_rose = rose_still _ _ (e.reads.others_uncounted c.in_err-answer-in-Err.ensures.told_files);
+      disk_rose = λ failed. e.cause.counted (ap Err (c.in_err-answer-in-Err.ensures.failed (ap Err failed)));
+      disk_same = λ other. e.cause.others_uncounted (c.in_err-answer-in-Err.ensures.memory (ap Err (not_failed c.in_err-answer-in-Err.field-0.0 other))).0;
     })
 
-pub returns-in_err-text-in-Err-clause-failed : goal.returns-in_err-text-in-Err-clause-failed
-returns-in_err-text-in-Err-clause-failed g c =
+pub returns-in_err-answer-in-Err-clause-failed : goal.returns-in_err-answer-in-Err-clause-failed
+returns-in_err-answer-in-Err-clause-failed g c =
     let e = c.in-Err.ensures in
-    let p = err_from_is_err_and c.from_residual-in_err-text-in-Err.result c.from_residual-in_err-text-in-Err.ensures.1 in
-    move_failed g.G.Ledger g.A.Archive c.from_residual-in_err-text-in-Err.result c.in_err-text-in-Err.field-0.0 c.args.ledger.now c.go.new.self c.args.archive.now c.go.new.archive (p.1 ∙ ap Err p.2)
+    let p = err_from_is_err_and c.from_residual-in_err-answer-in-Err.result c.from_residual-in_err-answer-in-Err.ensures.1 in
+    move_failed g.G.Ledger g.A.Archive c.from_residual-in_err-answer-in-Err.result c.in_err-answer-in-Err.field-0.0 c.args.ledger.now c.go.new.self c.args.archive.now c.go.new.archive (p.1 ∙ ap Err p.2)
     (record {
-      still_live = λ memory. (e.unchanged ((c.in_err-text-in-Err.ensures.memory (ap Err memory)).0)).stays.still_live c.requires.live;
+      still_live = λ memory. (e.unchanged ((c.in_err-answer-in-Err.ensures.memory (ap Err memory)).0)).stays.still_live c.requires.live;
       keeps = e.reads.keeps;
-      archive_rose = rose_still _ _ (e.reads.others_uncounted c.in_err-text-in-Err.ensures.told_files);
-      disk_rose = λ failed. e.cause.counted (ap Err (c.in_err-text-in-Err.ensures.failed (ap Err failed)));
-      disk_same = λ other. e.cause.others_uncounted (c.in_err-text-in-Err.ensures.memory (ap Err (not_failed c.in_err-text-in-Err.field-0.0 other))).0;
+      archive_rose = rose_still _ _ (e.reads.others_uncounted c.in_err-answer-in-Err.ensures.told_files);
+      disk_rose = λ failed. e.cause.counted (ap Err (c.in_err-answer-in-Err.ensures.failed (ap Err failed)));
+      disk_same = λ other. e.cause.others_uncounted (c.in_err-answer-in-Err.ensures.memory (ap Err (not_failed c.in_err-answer-in-Err.field-0.0 other))).0;
     })
 
 pub returns-in_err-forward-clause-stopped : goal.returns-in_err-forward-clause-stopped
@@ -83,4 +96,4 @@ returns-in_err-forward-clause-stopped g c = λ chain stands.
     (memory_of c.from_residual.result p.0 p.1 p.2) refl
 
 pub returns-in-Ok-clause-made : goal.returns-in-Ok-clause-made
-returns-in-Ok-clause-made g c = λ moved is. at_apart _ _ (sym c.at_answer.ensures ∙ is)
+returns-in-Ok-clause-made g c = λ moved is. absurd (let bad = is in cc)

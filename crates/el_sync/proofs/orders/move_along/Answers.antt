@@ -1,8 +1,9 @@
-use Rattle.std.proofs.Common.{Err, false, drop, refl, sym, ap, ◌∙◌}
+use Rattle.std.proofs.Common.{Err, false, ℕ, drop, refl, sym, ap, ◌∙◌}
 use Rattle.std.proofs.lemmas.Result.{err_from_is_err_and, IfOk-weaker}
-use Rattle.el_lines.specs.NodeAnswers.{deep_refused}
-use Rattle.el_world.specs.Plans.{plan_of}
-use Rattle.el_world.specs.Side.{deep, there}
+use Rattle.el_lines.specs.declared.node_answer.NodeAnswer.TheVariants as say
+use Rattle.el_lines.specs.declared.node_answer.NodeRefusal.TheVariants as refusal
+use Rattle.el_side.specs.Plans.{plan_of}
+use Rattle.el_side.specs.Side.{deep, there}
 use Rattle.el_sync.proofs.Led.{along_moves, answered, asked_stops, if_err_map, leads_as, leads_on, memory_of, path_move, starved_still, step_asked, stops_as, stops_on}
 use Rattle.el_model.proofs.LedgerMoves.{asked_moved}
 use Rattle.el_sync.proofs.Compared.{drop_linked, path_linked, rest_fits, at_is}
@@ -13,8 +14,8 @@ pub returns-then-back-clause-along : goal.returns-then-back-clause-along
 returns-then-back-clause-along g c = λ path side start is at still.
     let w = c.in_ok-back.ensures.way path side.chain is (c.requires.end path is) at.stood in
     let asked = c.in_ok-back.ensures.asked in
-    answered g.G.Ledger g.A.Archive c.args.ledger.now c.compare.new.ledger c.args.archive.now c.args.archive.now side start c.args.pool.now _ _ _ _ _ _ at still
-    (deep (rw w.0 at c.if-back.true) (c.only_text.ensures.text ∙ c.deep_refused.ensures ∙ ap deep_refused w.0) refl refl) refl c.only_text.ensures.left (λ t. all_grow_none _)
+    answered g.G.Ledger g.A.Archive c.args.ledger.now c.compare.new.ledger c.args.archive.now c.args.archive.now side start c.args.holdings.now _ _ _ _ _ _ at still
+    (deep (rw w.0 at c.if-back.true) (c.refusing.ensures.answer ∙ ap (λ (n : ℕ). say.Refused (refusal.Deep n)) w.0) refl refl) refl c.refusing.ensures.left (λ t. all_grow_none _)
     (asked_moved g.G.Ledger c.args.ledger.now c.compare.new.ledger side.chain (λ a d f h i j k. g.met.G.Ledger.leaves_own a d f h i j k) c.requires.live asked at.stood)
     refl c.in_ok-back.ensures.disk_rose.uncounted
 
@@ -25,17 +26,17 @@ returns-then-is_there-clause-along g c = λ path side start is at still.
     let asked = c.in_ok-back.ensures.asked in
     let here = asked.stays.still_stands side.chain at.stood in
     let none = c.is_there.ensures.there c.if-is_there.true in
-    answered g.G.Ledger g.A.Archive c.args.ledger.now c.compare.new.ledger c.args.archive.now c.args.archive.now side start c.args.pool.now _ _ _ _ _ _ at still
-    (there (sym w.0 ∙ none.0) (sym rest_is ∙ none.1) (c.only_text-then-is_there.ensures.text ∙ c.at_answer-text.ensures
+    answered g.G.Ledger g.A.Archive c.args.ledger.now c.compare.new.ledger c.args.archive.now c.args.archive.now side start c.args.holdings.now _ _ _ _ _ _ at still
+    (there (sym w.0 ∙ none.0) (sym rest_is ∙ none.1) (c.only_answer.ensures.answer
     ∙ at_is _ _ _ _ (c.tip.ensures ∙ g.met.G.Ledger.tip_is c.compare.new.ledger side.chain here) (c.height.ensures ∙ g.met.G.Ledger.height_is c.compare.new.ledger side.chain here)) refl refl)
-    refl c.only_text-then-is_there.ensures.left (λ t. all_grow_none _)
+    refl c.only_answer.ensures.left (λ t. all_grow_none _)
     (asked_moved g.G.Ledger c.args.ledger.now c.compare.new.ledger side.chain (λ a d f h i j k. g.met.G.Ledger.leaves_own a d f h i j k) c.requires.live asked at.stood)
     refl c.in_ok-back.ensures.disk_rose.uncounted
 
 pub move_once-requires-clause-linked : goal.move_once-requires-clause-linked
 move_once-requires-clause-linked g c =
     let path = c.requires.path.0 in
-    drop_linked path c.in_ok-rest.rest (path_linked c.args.tree.now path c.args.end.now.node.hash c.requires.path.1) (c.in_ok-back.field-0.same, c.in_ok-rest.ensures.rest path c.requires.path.1)
+    drop_linked path c.in_ok-rest.rest (path_linked c.args.holdings.now.tree path c.args.end.now.node.hash c.requires.path.1) (c.in_ok-back.field-0.same, c.in_ok-rest.ensures.rest path c.requires.path.1)
 
 pub move_once-requires-clause-fits : goal.move_once-requires-clause-fits
 move_once-requires-clause-fits g c = λ chain stands.
@@ -43,7 +44,7 @@ move_once-requires-clause-fits g c = λ chain stands.
     let is = c.requires.path.1 in
     let w = c.in_ok-back.ensures.way path chain is (c.requires.end path is) (c.in_ok-back.ensures.asked.stays.stood chain stands) in
     let rest_is = c.in_ok-rest.ensures.rest path is ∙ ap (λ k. drop k path) w.1 in
-    rest_fits chain path c.in_ok-rest.rest c.in_ok-back.field-0.back w.0 rest_is (path_linked c.args.tree.now path c.args.end.now.node.hash is)
+    rest_fits chain path c.in_ok-rest.rest c.in_ok-back.field-0.back w.0 rest_is (path_linked c.args.holdings.now.tree path c.args.end.now.node.hash is)
 
 pub returns-clause-along : goal.returns-clause-along
 returns-clause-along g c = λ path side start is at still.
@@ -51,10 +52,10 @@ returns-clause-along g c = λ path side start is at still.
     let rest_is = c.in_ok-rest.ensures.rest path is ∙ ap (λ k. drop k path) w.1 in
     let asked = c.in_ok-back.ensures.asked in
     IfOk-weaker c.move_once.result _ _ (λ s leads.
-    leads_as g.G.Ledger g.A.Archive c.args.ledger.now c.move_once.new.ledger c.args.archive.now c.move_once.new.archive side start _ _ s.text side.found s.left s.moved s.changed c.move_once.new.pool
-    (λ losses next. along_moves g.G.Ledger g.A.Archive _ side next path c.in_ok-rest.rest c.in_ok-back.field-0.back s.text losses c.if-back.false w.0 rest_is
+    leads_as g.G.Ledger g.A.Archive c.args.ledger.now c.move_once.new.ledger c.args.archive.now c.move_once.new.archive side start _ _ s.answer side.found s.left s.moved s.changed c.move_once.new.holdings
+    (λ losses next. along_moves g.G.Ledger g.A.Archive _ side next path c.in_ok-rest.rest c.in_ok-back.field-0.back s.answer losses c.if-back.false w.0 rest_is
     (c.is_there.ensures.moves c.if-is_there.false))
-    (leads_on g.G.Ledger g.A.Archive c.args.ledger.now c.compare.new.ledger c.move_once.new.ledger c.args.archive.now c.move_once.new.archive side start _ s.text side.found s.left s.moved s.changed c.move_once.new.pool
+    (leads_on g.G.Ledger g.A.Archive c.args.ledger.now c.compare.new.ledger c.move_once.new.ledger c.args.archive.now c.move_once.new.archive side start _ s.answer side.found s.left s.moved s.changed c.move_once.new.holdings
     (λ a d f h i j k. g.met.G.Ledger.leaves_own a d f h i j k) c.requires.live asked c.in_ok-back.ensures.disk_rose.uncounted at.stood leads))
     (c.move_once.ensures.moving side start (record { stood = asked.stays.still_stands side.chain at.stood; set = at.set; told = at.told }) (λ e. still))
 
@@ -87,12 +88,12 @@ returns-in_err-rest-clause-stopped g c = λ path chain is stands.
 pub returns-then-back-clause-step : goal.returns-then-back-clause-step
 returns-then-back-clause-step g c =
     let e = c.in_ok-back.ensures in
-    step_asked g.G.Ledger g.A.Archive c.only_text.result c.args.ledger.now c.compare.new.ledger c.args.archive.now c.requires.live e.asked c.only_text.ensures.left e.disk_rose.uncounted
+    step_asked g.G.Ledger g.A.Archive c.refusing.result c.args.ledger.now c.compare.new.ledger c.args.archive.now c.requires.live e.asked c.refusing.ensures.left e.disk_rose.uncounted
 
 pub returns-then-is_there-clause-step : goal.returns-then-is_there-clause-step
 returns-then-is_there-clause-step g c =
     let e = c.in_ok-back.ensures in
-    step_asked g.G.Ledger g.A.Archive c.only_text-then-is_there.result c.args.ledger.now c.compare.new.ledger c.args.archive.now c.requires.live e.asked c.only_text-then-is_there.ensures.left
+    step_asked g.G.Ledger g.A.Archive c.only_answer.result c.args.ledger.now c.compare.new.ledger c.args.archive.now c.requires.live e.asked c.only_answer.ensures.left
     e.disk_rose.uncounted
 
 pub returns-in_err-back-clause-rows : goal.returns-in_err-back-clause-rows

@@ -1,6 +1,6 @@
-use Rattle.std.proofs.Common.{refl, sym, ◌∙◌, arith}
+use Rattle.std.proofs.Common.{refl, sym, arith}
 use Rattle.el_lines.specs.Lines.{too_long}
-use Rattle.el_world.specs.Side.{OrdersLine}
+use Rattle.el_side.specs.Side.{OrdersLine}
 use Rattle.el_model.proofs.LedgerMoves.{asked_moved, asked_none}
 use Rattle.el_sync.proofs.Led.{answered}
 use Rattle.el_outside.proofs.Traces.{all_grow_none}
@@ -14,8 +14,8 @@ returns-in-Line-clause-stopped g c = rw c.in-Line.is (rw c.as_slice.ensures at c
 
 pub returns-in-TooLong-clause-node : goal.returns-in-TooLong-clause-node
 returns-in-TooLong-clause-node g c = rw c.in-TooLong.is (λ side start at from.
-    answered g.G.Ledger g.A.Archive c.args.ledger.now c.args.ledger.now c.args.archive.now c.args.archive.now side start c.args.holdings.now.pool (OrdersLine g.A.Archive.tells side too_long) _ _ _ _ _ at from.still
-    (c.only_text.ensures.text ∙ c.long_refused.ensures, refl, refl) (sym from.found) c.only_text.ensures.left (λ t. all_grow_none _) (asked_moved g.G.Ledger c.args.ledger.now c.args.ledger.now side.chain (λ a d f h i j k. g.met.G.Ledger.leaves_own a d f h i j k) c.requires.live (asked_none g.G.Ledger c.args.ledger.now) at.stood) refl refl)
+    answered g.G.Ledger g.A.Archive c.args.ledger.now c.args.ledger.now c.args.archive.now c.args.archive.now side start c.args.holdings.now (OrdersLine g.A.Archive.tells side too_long) _ _ _ _ _ at from.still
+    (c.refusing.ensures.answer, refl, refl) (sym from.found) c.refusing.ensures.left (λ t. all_grow_none _) (asked_moved g.G.Ledger c.args.ledger.now c.args.ledger.now side.chain (λ a d f h i j k. g.met.G.Ledger.leaves_own a d f h i j k) c.requires.live (asked_none g.G.Ledger c.args.ledger.now) at.stood) refl refl)
 
 pub returns-in-Line-clause-rows : goal.returns-in-Line-clause-rows
 returns-in-Line-clause-rows g c = rw c.in-Line.is (rw c.as_slice.ensures at c.order_line.ensures.rows)

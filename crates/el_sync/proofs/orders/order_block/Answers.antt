@@ -8,24 +8,24 @@ returns-in-Ok-None-clause-looked g c = λ side from told.
     let e = c.in-Ok-None.ensures in
     let is = rw c.in-Ok-None.field-0-is at e.record in
     place_looked g.A.Archive c.args.archive.now c.record_at.new.archive c.args.holdings.now side c.args.file c.args.at None _ _ from told e.only_reads.keeps
-    (record { node = tt; grows = e.only_reads.keeps; record_is = λ t. ((is t).0, (is t).1, (rw from.magic (is t).2)) }) refl c.place_refused.ensures e.only_reads.uncounted
+    (record { node = tt; grows = e.only_reads.keeps; record_is = λ t. ((is t).0, (is t).1, (rw from.magic (is t).2)) }) refl refl e.only_reads.uncounted
 
-pub returns-in_ok-text-in-Ok-Some-clause-looked : goal.returns-in_ok-text-in-Ok-Some-clause-looked
-returns-in_ok-text-in-Ok-Some-clause-looked g c = λ side from told.
+pub returns-in_ok-answer-in-Ok-Some-clause-looked : goal.returns-in_ok-answer-in-Ok-Some-clause-looked
+returns-in_ok-answer-in-Ok-Some-clause-looked g c = λ side from told.
     let e = c.in-Ok-Some.ensures in
     let here = rw c.in-Ok-Some.field-0-is at e.node in
     let is = rw c.in-Ok-Some.field-0-is at e.record in
     place_looked g.A.Archive c.args.archive.now c.record_at.new.archive c.args.holdings.now side c.args.file c.args.at (Some c.in-Ok-Some.node) _ _ from told e.only_reads.keeps
     (record { node = here.found.found.node; grows = e.only_reads.keeps; record_is = λ t. ((is t).0, (is t).1, (rw from.magic (is t).2)) })
-    c.in_ok-text-in-Ok-Some.ensures.joined c.in_ok-text-in-Ok-Some.ensures.answer e.only_reads.uncounted
+    c.in_ok-answer-in-Ok-Some.ensures.joined c.in_ok-answer-in-Ok-Some.ensures.answer e.only_reads.uncounted
 
 pub returns-in-Err-clause-looked : goal.returns-in-Err-clause-looked
 returns-in-Err-clause-looked g c = λ side from told.
     place_failed g.A.Archive c.args.archive.now c.record_at.new.archive c.args.holdings.now side c.args.file c.args.at _ _ from told c.in-Err.ensures.only_reads.keeps refl
-    c.archive_refused.ensures (c.in-Err.ensures.only_reads.counted refl)
+    refl (c.in-Err.ensures.only_reads.counted refl)
 
-pub returns-in_err-text-in-Ok-Some-clause-there : goal.returns-in_err-text-in-Ok-Some-clause-there
-returns-in_err-text-in-Ok-Some-clause-there g c = λ side from told.
+pub returns-in_err-answer-in-Ok-Some-clause-there : goal.returns-in_err-answer-in-Ok-Some-clause-there
+returns-in_err-answer-in-Ok-Some-clause-there g c = λ side from told.
     let e = c.in-Ok-Some.ensures in
     let here = rw c.in-Ok-Some.field-0-is at e.node in
     let is = rw c.in-Ok-Some.field-0-is at e.record in

@@ -15,10 +15,10 @@ use Rattle.el_core.proofs.Turned.{ahead_turned, node_turned, peers_turned, peers
 pub returns-in-Ok-clause-step : goal.returns-in-Ok-clause-step
 returns-in-Ok-clause-step g c = λ world left stood told.
     let e = c.in-Ok.ensures in
-    ahead_turned g.G.Ledger g.A.Archive c.args.self.now c.turn_ahead.new.self c.args.archive.now c.turn_ahead.new.archive world left c.in-Ok.outs stood told e.some e.same e.moving
+    ahead_turned g.G.Ledger g.A.Archive c.args.self.now c.turn_ahead.new.self c.args.archive.now c.turn_ahead.new.archive world left c.in-Ok.outs stood told e.some e.same e.magic e.moving
 
 pub returns-in-Ok-clause-less : goal.returns-in-Ok-clause-less
-returns-in-Ok-clause-less g c = ahead_less c.args.self.now c.turn_ahead.new.self c.in-Ok.ensures.fewer c.in-Ok.ensures.same
+returns-in-Ok-clause-less g c = ahead_less c.args.self.now c.turn_ahead.new.self c.in-Ok.ensures.fewer c.in-Ok.ensures.same c.in-Ok.ensures.tree
 
 pub returns-in-Err-clause-failed : goal.returns-in-Err-clause-failed
 returns-in-Err-clause-failed g c = λ world left stood told.
@@ -63,7 +63,7 @@ pub returns-in-Ok-turn_node-clause-step : goal.returns-in-Ok-turn_node-clause-st
 returns-in-Ok-turn_node-clause-step g c = λ world left stood told.
     let e = c.in-Ok-turn_node.ensures in
     node_turned g.G.Ledger g.A.Archive c.args.self.now c.next_line.new.self c.turn_node.new.self c.args.archive.now c.turn_node.new.archive world left c.in-Ok-turn_node.outs
-    (as_listed c.in-Ok-Some.met) (λ k chain h. g.met.G.Ledger.tip_is k chain h) stood told e.still e.told c.in-Ok-Some.ensures.same c.in-Ok-Some.ensures.limit (rw c.in-Ok-Some.field-0-is at c.in-Ok-Some.ensures.met) e.same e.begun e.node
+    (as_listed c.in-Ok-Some.met) (λ k chain h. g.met.G.Ledger.tip_is k chain h) stood told e.still e.told c.in-Ok-Some.ensures.same c.in-Ok-Some.ensures.limit (rw c.in-Ok-Some.field-0-is at c.in-Ok-Some.ensures.met) e.same e.magic e.begun e.node
 
 pub returns-in-Ok-turn_node-clause-less : goal.returns-in-Ok-turn_node-clause-less
 returns-in-Ok-turn_node-clause-less g c =

@@ -1,26 +1,26 @@
 use Rattle.std.proofs.Common.{ap, sym, ◌∙◌}
-use Rattle.el_methods.specs.declared.holdings.Holdings.{Holdings}
-use Rattle.el_world.specs.Side.{Moving}
+use Rattle.el_side.specs.Side.{Moving}
+use Rattle.el_world.specs.World.{reply_to}
 use Rattle.el_core.proofs.Noded.{found_same, stops_still, step_still, keeps_ok, keeps_err, keeps_starved}
 use Rattle.el_core.proofs.Starving.{move_starves}
 use Rattle.el_core.proofs.server.Server.turn_ahead.Goals as goal
 
 pub returns-in-Ok-touch-clause-moving : goal.returns-in-Ok-touch-clause-moving
 returns-in-Ok-touch-clause-moving g c = rw (← c.self.view_is) (λ side start here found. record {
-  text = c.in-Ok-move_next.step.text;
+  answer = c.in-Ok-move_next.step.answer;
   moved = c.in-Ok-move_next.step.moved;
   changed = c.in-Ok-move_next.step.changed;
-  sends = c.sending_in.ensures;
+  sends = c.sending_in.ensures ∙ ap (reply_to 0) c.answer_text.ensures;
   led = found_same g.G.Ledger g.A.Archive (Moving g.A.Archive.tells side 0 c.self.inside.ahead) c.self.inside.ledger
-      c.move_next.new.ledger c.args.archive.now c.move_next.new.archive side start c.in-Ok-move_next.step.text side.found
-      c.move_next.new.holdings.tree c.in-Ok-move_next.step.left c.in-Ok-move_next.step.moved c.in-Ok-move_next.step.changed c.move_next.new.holdings.pool
-      (found ∙ sym (ap (λ (h : Holdings). h.tree) c.in-Ok-move_next.ensures.same))
+      c.move_next.new.ledger c.args.archive.now c.move_next.new.archive side start c.in-Ok-move_next.step.answer side.found
+      c.move_next.new.holdings.tree c.in-Ok-move_next.step.left c.in-Ok-move_next.step.moved c.in-Ok-move_next.step.changed c.move_next.new.holdings
+      (found ∙ sym c.in-Ok-move_next.ensures.tree)
       (rw c.replace-rest.ensures.value at (c.in-Ok-move_next.ensures.moving side start here));
   covers = c.in-Ok-touch.ensures.covers;
 })
 
 pub returns-in-Ok-touch-clause-sends : goal.returns-in-Ok-touch-clause-sends
-returns-in-Ok-touch-clause-sends g c = (c.in-Ok-move_next.step.text, c.sending_in.ensures)
+returns-in-Ok-touch-clause-sends g c = (c.answer_text.result, c.sending_in.ensures)
 
 pub returns-in-Ok-touch-clause-step : goal.returns-in-Ok-touch-clause-step
 returns-in-Ok-touch-clause-step g c = rw (← c.self.view_is) (keeps_ok g.G.Ledger g.A.Archive _ _ _ _ _ c.in-Ok-move_next.step _ c.in-Ok-move_next.ensures.step)
@@ -28,8 +28,8 @@ returns-in-Ok-touch-clause-step g c = rw (← c.self.view_is) (keeps_ok g.G.Ledg
 -- no memory for what the step touched
 pub returns-in_default-touch-clause-stopped : goal.returns-in_default-touch-clause-stopped
 returns-in_default-touch-clause-stopped g c = rw (← c.self.view_is) (λ side start here.
-    move_starves g.G.Ledger g.A.Archive c.self.inside.ledger c.move_next.new.ledger c.args.archive.now c.move_next.new.archive side start c.self.inside.ahead c.in-Ok-move_next.step.text side.found c.in-Ok-move_next.step.left
-    c.in-Ok-move_next.step.moved c.in-Ok-move_next.step.changed c.move_next.new.holdings.pool (rw c.replace-rest.ensures.value at (c.in-Ok-move_next.ensures.moving side start here)))
+    move_starves g.G.Ledger g.A.Archive c.self.inside.ledger c.move_next.new.ledger c.args.archive.now c.move_next.new.archive side start c.self.inside.ahead c.in-Ok-move_next.step.answer side.found c.in-Ok-move_next.step.left
+    c.in-Ok-move_next.step.moved c.in-Ok-move_next.step.changed c.move_next.new.holdings (rw c.replace-rest.ensures.value at (c.in-Ok-move_next.ensures.moving side start here)))
 
 pub returns-in_default-touch-clause-step : goal.returns-in_default-touch-clause-step
 returns-in_default-touch-clause-step g c = rw (← c.self.view_is) (keeps_starved g.G.Ledger g.A.Archive _ _ _ _ _ c.in-Ok-move_next.step c.in-Ok-move_next.ensures.step)

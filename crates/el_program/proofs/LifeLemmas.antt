@@ -1,0 +1,309 @@
+-- Lives follow each other.
+use Rattle.std.proofs.Common.{Bool, true, ◌≡◌, ◌⊎◌, inl, inr, ℕ, List, [], ◌∷◌, length, refl, arith}
+use Rattle.std.specs.List.{AllByRecursion}
+use Rattle.el_outside.specs.Trace.{Trace}
+use Rattle.el_outside.specs.declared.archive.Archive as archive
+use Rattle.el_outside.specs.declared.disk.Disk as disk
+use Rattle.el_outside.specs.declared.link.Link as link
+use Rattle.el_outside.specs.Disk.{Image}
+use Rattle.el_chain.specs.Chains.{Chain}
+use Rattle.el_journal.specs.declared.mark.TheConstants.{JOURNAL}
+use Rattle.el_mempool.specs.declared.entry.PoolLimits.{PoolLimits}
+use Rattle.el_world.specs.World.{World}
+use Rattle.el_outside.specs.Devices.{Device}
+use Rattle.el_world.specs.Run.{Stop}
+use Rattle.el_world.specs.Flights.{acked}
+use Rattle.el_logstore.specs.Images.{no_rows}
+use Rattle.el_row_formats.specs.declared.table.Table.{Table}
+use Rattle.el_row_formats.specs.declared.table.Table.TheVariants as table
+use Rattle.el_tables.specs.ChainLists.{lists, listed_blocks}
+use Rattle.el_tables.specs.Tables.{tables_of}
+use Rattle.el_schema.specs.Rows.{bytes_of}
+use Rattle.el_row_formats.specs.declared.limits.TheConstants.{BUCKET_COUNT}
+use Rattle.el_schema.specs.Standing.{StandFor, heads_in}
+use Rattle.el_schema.proofs.StandingLemmas.{stands}
+use Rattle.el_words.specs.Commands.{IsServe}
+use Rattle.el_program.specs.IndexDisks.{ImageMeans, LeavesOneOf, IsIndexDisk, IsCall}
+use Rattle.el_program.specs.Calls.{Call, CallEnds}
+use Rattle.el_program.specs.Ends.{serve, IndexEnds, UnopenedEnds, ServeEnds, IsServed}
+use Rattle.el_program.specs.Lives.{IsLeftBy, AreLives, GoOn, none, one}
+use Rattle.el_program.specs.within.Lived.{Lived}
+use Rattle.el_loop.specs.Counts.{Counts}
+use Rattle.el_loop.specs.Runs.{RunEnds, IsRun, IsHalted}
+use Rattle.el_loop.specs.declared.end.End.{End}
+use Rattle.el_loop.specs.declared.end.End.TheVariants as end
+use Rattle.el_program.specs.declared.status.Status.{Status}
+use Rattle.el_program.specs.declared.status.Status.TheVariants as status
+use Rattle.el_program.proofs.Servings.{only_served, same_networks}
+
+-- the two chains, and no others
+abbrev pub these : Chain → Chain → Chain → Chain → Type 0
+these acked flight a b = (a ≡ acked) × (b ≡ flight)
+
+-- An end is told of the two chains of which it says what a crash leaves.
+record Pinned (P : Chain → Chain → Type 0) (Q : (Chain → Chain → Type 0) → Type 0) : Type 0 where
+  acked : Chain
+  flight : Chain
+  leaves : P acked flight
+  ends : Q (these acked flight)
+
+module _ (P : Chain → Chain → Type 0) where
+  both : (a b : Chain) → these a b a b
+  both a b = (refl, refl)
+
+  run_pinned : (tells : Type 0) (first : World) (node : Bool) (files : ℕ → List ℕ) (c : Counts) (t : Trace)
+      (failed : List Device) → IsRun tells first node P files c t failed
+      → Pinned P (λ Q. IsRun tells first node Q files c t failed)
+  run_pinned tells first node files c t failed r = record {
+    acked = r.world.side.chain;
+    flight = r.world.side.chain;
+    leaves = r.crash;
+    ends = record {
+      losses = r.losses;
+      world = r.world;
+      run = r.run;
+      statuses = r.statuses;
+      grown = r.grown;
+      counted = r.counted;
+      crash = both r.world.side.chain r.world.side.chain;
+    };
+  }
+
+  halt_pinned : (tells : Type 0) (first : World) (node : Bool) (files : ℕ → List ℕ) (c : Counts) (t : Trace)
+      (stop : Stop) → IsHalted tells first node P files c t stop
+      → Pinned P (λ Q. IsHalted tells first node Q files c t stop)
+  halt_pinned tells first node files c t stop h = record {
+    acked = acked h.halts.stops;
+    flight = h.flight;
+    leaves = h.crash;
+    ends = record {
+      losses = h.losses;
+      halts = h.halts;
+      grown = h.grown;
+      counted = h.counted;
+      last = h.last;
+      flight = h.flight;
+      is_flight = h.is_flight;
+      crash = both (acked h.halts.stops) h.flight;
+    };
+  }
+
+  with_more : {Q R : (Chain → Chain → Type 0) → Type 0}
+      → ((X : Chain → Chain → Type 0) → Q X → R X) → Pinned P Q → Pinned P R
+  with_more more k =
+      let ends = more (these k.acked k.flight) k.ends in
+      record { acked = k.acked; flight = k.flight; leaves = k.leaves; ends = ends }
+
+  ends_pinned : (tells : Type 0) (first : World) (node : Bool) (files : ℕ → List ℕ) (c : Counts) (t : Trace)
+      (e : End) → RunEnds tells first node P files c t e
+      → Pinned P (λ Q. RunEnds tells first node Q files c t e)
+  ends_pinned tells first node files c t end.Ended r =
+      with_more (λ X k. (k, r.1)) (run_pinned tells first node files c t _ r.0)
+  ends_pinned tells first node files c t end.DiskFailed r = halt_pinned tells first node files c t _ r
+  ends_pinned tells first node files c t end.LinkFailed (inl r) =
+      with_more (λ X k. inl (k, r.1)) (run_pinned tells first node files c t _ r.0)
+  ends_pinned tells first node files c t end.LinkFailed (inr r) =
+      with_more (λ X k. inr k) (halt_pinned tells first node files c t _ r)
+  ends_pinned tells first node files c t end.OutOfMemory r = halt_pinned tells first node files c t _ r
+  ends_pinned tells first node files c t end.TurnsSpent r =
+      with_more (λ X k. (k, r.1, r.2)) (run_pinned tells first node files c t _ r.0)
+
+  module _ {A : Type 0} (of_files : archive.Ghosts A) (magic : List ℕ)
+      (limits : PoolLimits) (chain : Chain) (c : Counts) (before after : A) (t : Trace) where
+    served_pinned : (e : End) → IsServed of_files magic limits chain P c before after t e
+        → Pinned P (λ Q. IsServed of_files magic limits chain Q c before after t e)
+    served_pinned e r = with_more (λ X k. record {
+      now = r.now;
+      nodes = r.nodes;
+      scanned = r.scanned;
+      same = r.same;
+      grows = r.grows;
+      run = k;
+    }) (ends_pinned of_files.tells _ true (of_files.bytes after) c t e r.run)
+
+    alone : {Q : (Chain → Chain → Type 0) → Type 0} → (a b : Chain) → P a b → Q (these a b) → Pinned P Q
+    alone a b leaves ends = record { acked = a; flight = b; leaves = leaves; ends = ends }
+
+    serve_pinned : (s : Status) → ServeEnds of_files magic limits chain P c before after t s
+        → Pinned P (λ Q. ServeEnds of_files magic limits chain Q c before after t s)
+    serve_pinned status.Ended r = served_pinned _ r
+    serve_pinned status.Usage r = absurd r
+    serve_pinned status.BadIndex r = absurd r
+    serve_pinned status.ArchiveFailed r = alone chain chain r.1 (r.0, both chain chain)
+    serve_pinned status.DiskFailed (inl r) = alone chain chain r.1 (inl (r.0, both chain chain))
+    serve_pinned status.DiskFailed (inr r) = with_more (λ X k. inr k) (served_pinned _ r)
+    serve_pinned status.LinkFailed r = served_pinned _ r
+    serve_pinned status.OutOfMemory (inl r) = alone chain chain r.1 (inl (r.0, both chain chain))
+    serve_pinned status.OutOfMemory (inr r) = with_more (λ X k. inr k) (served_pinned _ r)
+    serve_pinned status.TurnsSpent r = served_pinned _ r
+    serve_pinned status.OtherChain r = alone chain chain r.2 (r.0, r.1, both chain chain)
+    serve_pinned status.BadChain r = absurd r
+
+    unopened_pinned : (was flight : Chain) (s : Status) → UnopenedEnds was flight P c t s
+        → Pinned P (λ Q. UnopenedEnds was flight Q c t s)
+    unopened_pinned was flight status.Ended r = absurd r
+    unopened_pinned was flight status.Usage r = absurd r
+    unopened_pinned was flight status.BadIndex r = absurd r
+    unopened_pinned was flight status.ArchiveFailed r = absurd r
+    unopened_pinned was flight status.DiskFailed r = alone was flight r.1 (r.0, both was flight)
+    unopened_pinned was flight status.LinkFailed r = absurd r
+    unopened_pinned was flight status.OutOfMemory r = alone was flight r.1 (r.0, both was flight)
+    unopened_pinned was flight status.TurnsSpent r = absurd r
+    unopened_pinned was flight status.OtherChain r = absurd r
+    unopened_pinned was flight status.BadChain r = absurd r
+
+    index_pinned : (was flight : Chain) (s : Status)
+        → IndexEnds of_files magic limits was flight chain P c before after t s
+        → Pinned P (λ Q. IndexEnds of_files magic limits was flight chain Q c before after t s)
+    index_pinned was flight s (inl r) = with_more (λ X k. inl k) (unopened_pinned was flight s r)
+    index_pinned was flight s (inr r) = with_more (λ X k. inr k) (serve_pinned s r)
+
+-- 2. Lives
+
+module _ {D A K : Type 0} (of_disk : disk.Ghosts D) (of_files : archive.Ghosts A) (of_link : link.Ghosts K)
+    (magic : List ℕ) where
+  -- how a life ended, and what it left
+  pub record Ended (l : Call D A K) (was flight chain : Chain) : Type 0 where
+    pub acked : Chain
+    pub in_flight : Chain
+    pub leaves : LeavesOneOf of_disk magic l.after.disk acked in_flight
+    pub ends : CallEnds of_disk of_files of_link l was flight chain (λ m a b. these acked in_flight a b)
+
+  ended : (l : Call D A K) (was flight chain : Chain) → IsServe l.words magic
+      → IsIndexDisk of_disk magic l.before.disk was flight chain → IsCall of_disk of_files of_link l
+      → Ended l was flight chain
+  ended l was flight chain serves is call =
+      let e = call was flight chain (λ m also. rw (same_networks also serves) is) in
+      let only = only_served serves e.2 in
+      let k = index_pinned (LeavesOneOf of_disk magic l.after.disk) of_files magic serves.said.settings.limits chain _ l.before.files l.after.files e.0 was flight l.status only
+      in record {
+        acked = k.acked;
+        in_flight = k.flight;
+        leaves = k.leaves;
+        ends = (e.0, e.1, serve magic serves k.ends);
+      }
+
+  -- a life, and those after it, whichever chain it finds
+  one_more : (was flight chain : Chain) (l : Call D A K) (more : List (Call D A K))
+      → (chain ≡ was) ⊎ (chain ≡ flight) → (e : Ended l was flight chain)
+      → GoOn of_disk of_files of_link e.acked e.in_flight more → GoOn of_disk of_files of_link was flight
+      (l ∷ more)
+  one_more was flight chain l more from e then = one was flight l more chain e.acked e.in_flight from e.ends
+      then
+
+  -- how the life ends on a disk that the one before may have left, by the chain that it finds
+  pub record Found (l : Call D A K) (was flight : Chain) : Type 0 where
+    pub chain : Chain
+    pub from : (chain ≡ was) ⊎ (chain ≡ flight)
+    pub end : Ended l was flight chain
+
+  pub found : (d : D) (was flight : Chain) (l : Call D A K) → of_disk.tells → LeavesOneOf of_disk magic d was
+      flight
+      → IsLeftBy of_disk d l.before.disk → IsServe l.words magic → IsCall of_disk of_files of_link l
+      → Found l was flight
+  found d was flight l told left is serves call =
+      let here : LeavesOneOf of_disk magic l.before.disk was flight =
+      (λ image now. left image (is.images image now)) in
+      elim (left (of_disk.seen l.before.disk) is.reads) [
+        | inl means ↦ record {
+          chain = was;
+          from = inl refl;
+          end = ended l was flight was serves (record { told = told; left = here; reads = means }) call;
+        }
+        | inr means ↦ record {
+          chain = flight;
+          from = inr refl;
+          end = ended l was flight flight serves (record { told = told; left = here; reads = means }) call;
+        }
+      ]
+
+  pub lives_go : (d : D) (was flight : Chain) (lives : List (Call D A K)) → of_disk.tells
+      → LeavesOneOf of_disk magic d was flight → AreLives of_disk d lives
+      → AllByRecursion (λ (l : Call D A K). IsServe l.words magic) lives
+      → AllByRecursion (IsCall of_disk of_files of_link) lives
+      → GoOn of_disk of_files of_link was flight lives
+  lives_go d was flight [] told left are serve' calls = none was flight
+  lives_go d was flight (l ∷ more) told left are serve' calls =
+      let f = found d was flight l told left are.0 serve'.0 calls.0 in
+      one_more was flight f.chain l more f.from f.end
+      (lives_go l.after.disk f.end.acked f.end.in_flight more told f.end.leaves are.1 serve'.1 calls.1)
+
+  -- one life, and those after it
+  pub lived_more : (d : D) (was flight : Chain) (l : Call D A K) (files files_after : List A)
+      (links links_after : List K) (ends : List Status) (left : D) (f : Found l was flight)
+      → IsLeftBy of_disk d l.before.disk
+      → Lived of_disk of_files of_link l.after.disk f.end.acked f.end.in_flight l.words l.turns files
+      files_after links links_after ends left
+      → Lived of_disk of_files of_link d was flight l.words l.turns (l.before.files ∷ files)
+      (l.after.files ∷ files_after)
+      (l.before.link ∷ links) (l.after.link ∷ links_after) (l.status ∷ ends) left
+  lived_more d was flight l files files_after links links_after ends left f is then = record {
+    lives = l ∷ then.lives;
+    over = (
+      record {
+        words_are = refl;
+        turns_are = refl;
+        files_are = refl;
+        files_then = refl;
+        link_is = refl;
+        link_then = refl;
+        ends = refl;
+      },
+      then.over,
+    );
+    are = (is, then.are);
+    last = then.last;
+    go_on = one_more was flight f.chain l then.lives f.from f.end then.go_on;
+  }
+
+-- no lives
+pub lived_none : {D A K : Type 0} (of_disk : disk.Ghosts D) (of_files : archive.Ghosts A)
+    (of_link : link.Ghosts K) (d : D) (was flight : Chain) (words : List (List ℕ)) (turns : ℕ)
+    (files : List A)
+    (links : List K) (ends : List Status) → length files ≡ 0 → length links ≡ length files
+    → length ends ≡ length files
+    → Lived of_disk of_files of_link d was flight words turns files files links links ends d
+lived_none of_disk of_files of_link d was flight words turns [] [] [] e0 e1 e2 =
+    record { lives = []; over = tt; are = tt; last = refl; go_on = none was flight }
+lived_none of_disk of_files of_link d was flight words turns [] [] (e ∷ es) e0 e1 e2 = absurd (omega arith)
+lived_none of_disk of_files of_link d was flight words turns [] (k ∷ ks) ends e0 e1 e2 = absurd (omega arith)
+lived_none of_disk of_files of_link d was flight words turns (a ∷ more) links ends e0 e1 e2 = absurd
+    (omega arith)
+
+-- 3. Empty files
+
+no_rows_stand : StandFor no_rows []
+no_rows_stand = (
+  BUCKET_COUNT,
+  stands BUCKET_COUNT no_rows [] (omega arith) (record { each = tt }) (record {
+    each = each;
+    fit = record {
+      blocks = tt;
+      txs = tt;
+      tx_heads = tt;
+      outs = tt;
+      ins = tt;
+      scripts = tt;
+      script_heads = tt;
+      entries = tt;
+    };
+  }),
+)
+  where
+    each : (u : Table) → no_rows u ≡ bytes_of (tables_of (heads_in BUCKET_COUNT []) (listed_blocks []) (lists [])) u
+    each table.Blocks = refl
+    each table.Txs = refl
+    each table.TxHeads = refl
+    each table.Outs = refl
+    each table.Ins = refl
+    each table.Scripts = refl
+    each table.ScriptHeads = refl
+    each table.Entries = refl
+
+-- an image whose journal is empty stands for no blocks
+pub empty_means : (magic : List ℕ) (image : Image) → image JOURNAL ≡ [] → ImageMeans magic image []
+empty_means magic image empty = (
+  no_rows,
+  record { entries = []; journal = inr (rw empty (omega arith), refl); made = λ t. refl },
+  no_rows_stand,
+)

@@ -1,0 +1,76 @@
+-- What a command's call says of the program's words.
+use Rattle.std.proofs.Common.{◌≡◌, ◌⊎◌, inl, inr, ◌-◌, ◌^◌, List, Result, Ok, Err, IfOk, ap, ◌∙◌}
+use Rattle.std.specs.Result.{result_unwrap_or}
+use Rattle.el_outside.specs.declared.archive.Archive as archive
+use Rattle.el_outside.specs.declared.disk.Disk as disk
+use Rattle.el_outside.specs.declared.link.Link as link
+use Rattle.el_open_files.specs.OpenFiles.{FilesOf}
+use Rattle.el_net.specs.Devices.{BlocksOf, LinkOverPorts}
+use Rattle.el_words.specs.Options.{Word}
+use Rattle.el_words.specs.Commands.{IsCommand}
+use Rattle.el_words.specs.declared.words.Command.{Command}
+use Rattle.el_words.specs.declared.words.Command.TheVariants as command
+use Rattle.el_program.specs.Calls.{Call}
+use Rattle.el_program.specs.IndexDisks.{IsCall}
+use Rattle.el_program.specs.Program.{IsServing, serve, once}
+use Rattle.el_program.specs.declared.status.Status.{Status}
+use Rattle.el_program.specs.declared.status.Status.TheVariants as status
+use Rattle.el_program.specs.within.Devices.{folder_of, index_of, ports_of, IsServeCommand, IsOnceCommand}
+
+-- a call over these files and ports is one over those that the command asks for
+pub asked_for : {E : Type 0} (P : Call (FilesOf Word) (BlocksOf Word) LinkOverPorts → Type 0)
+    (words : List Word) (asked : Command) (result : Result Status E) (index : FilesOf Word)
+    (ports left : LinkOverPorts)
+    → IfOk result (λ s. (c : Call (FilesOf Word) (BlocksOf Word) LinkOverPorts)
+    × P c × (c.words ≡ words) × (c.turns ≡ 2 ^ 64 - 1)
+    × (c.before.disk ≡ index) × (c.before.files.folder ≡ folder_of asked)
+    × (c.before.link ≡ ports) × (c.after.link ≡ left) × (c.status ≡ s))
+    → index.files ≡ index_of asked → ports.asked ≡ ports_of asked
+    → IfOk result (λ s. (c : Call (FilesOf Word) (BlocksOf Word) LinkOverPorts)
+    × P c × (c.words ≡ words) × (c.turns ≡ 2 ^ 64 - 1)
+    × (c.before.disk.files ≡ index_of asked) × (c.before.files.folder ≡ folder_of asked)
+    × (c.before.link.asked ≡ ports_of asked) × (c.status ≡ s))
+asked_for P words asked (Err e) index ports left is at_index at_ports = tt
+asked_for P words asked (Ok s) index ports left is at_index at_ports = (
+  is.0,
+  is.1,
+  is.2,
+  is.3,
+  ap (λ (d : FilesOf Word). d.files) is.4 ∙ at_index,
+  is.5,
+  ap (λ (l : LinkOverPorts). l.asked) is.6 ∙ at_ports,
+  is.8,
+)
+
+-- the words of a command are served
+pub command_served : {N S E : Type 0} (of_index : disk.Ghosts (FilesOf Word)) (of_none : disk.Ghosts N)
+    (of_files : archive.Ghosts (BlocksOf Word)) (of_ports : link.Ghosts LinkOverPorts)
+    (of_streams : link.Ghosts S) (words : List Word) (asked : Command) (result : Result Status E)
+    → IsCommand words asked
+    → (IsServeCommand asked → IfOk result (λ s. (c : Call (FilesOf Word) (BlocksOf Word) LinkOverPorts)
+    × IsCall of_index of_files of_ports c × (c.words ≡ words) × (c.turns ≡ 2 ^ 64 - 1)
+    × (c.before.disk.files ≡ index_of asked) × (c.before.files.folder ≡ folder_of asked)
+    × (c.before.link.asked ≡ ports_of asked) × (c.status ≡ s)))
+    → (IsOnceCommand asked → IfOk result (λ s. (c : Call N (BlocksOf Word) S)
+    × IsCall of_none of_files of_streams c × (c.words ≡ words) × (c.turns ≡ 2 ^ 64 - 1)
+    × (c.before.files.folder ≡ folder_of asked) × (c.status ≡ s)))
+    → IfOk result (IsServing of_index of_none of_files of_ports of_streams words)
+command_served of_index of_none of_files of_ports of_streams words asked (Err e) is by_serve by_once = tt
+command_served of_index of_none of_files of_ports of_streams words (command.Serve said) (Ok s) is by_serve
+    by_once =
+    let c = by_serve tt in
+    serve said is (record { call = c.0; is = c.1; words_are = c.2; turns_are = c.3; ends = c.7 }) c.4 c.5 c.6
+command_served of_index of_none of_files of_ports of_streams words (command.Once blocks network) (Ok s) is
+    by_serve by_once =
+    let c = by_once tt in
+    once blocks network is (record { call = c.0; is = c.1; words_are = c.2; turns_are = c.3; ends = c.5 }) c.4
+
+-- words were served, or memory ran out
+pub all_served : {N S E : Type 0} (of_index : disk.Ghosts (FilesOf Word)) (of_none : disk.Ghosts N)
+    (of_files : archive.Ghosts (BlocksOf Word)) (of_ports : link.Ghosts LinkOverPorts)
+    (of_streams : link.Ghosts S) (words : List Word) (r : Result Status E) (s : Status)
+    → IfOk r (IsServing of_index of_none of_files of_ports of_streams words)
+    → s ≡ result_unwrap_or r status.OutOfMemory
+    → (s ≡ status.OutOfMemory) ⊎ ((ws : List Word) × IsServing of_index of_none of_files of_ports of_streams ws s)
+all_served of_index of_none of_files of_ports of_streams words (Ok x) s is e = inr (words, rw e is)
+all_served of_index of_none of_files of_ports of_streams words (Err x) s is e = inl e

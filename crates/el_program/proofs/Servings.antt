@@ -1,0 +1,329 @@
+-- How a call of `serve` ends.
+use Rattle.std.proofs.Common.{◌≡◌, ◌≢◌, inl, inr, ℕ, List, [], ◌∷◌, ◌++◌, ◌∙◌, refl, sym, ap, Bool, true, arith}
+use Rattle.std.specs.Prelude.{◌⊎◌, Err}
+use Rattle.el_outside.specs.declared.archive.Archive as block_files
+use Rattle.el_outside.specs.Trace.{Trace}
+use Rattle.el_outside.specs.Counts.{RoseBy, OnlyReads, CountsOnly}
+use Rattle.el_outside.proofs.Traces.{rose_none}
+use Rattle.el_outside.proofs.Devices.{rose_still}
+use Rattle.el_chain.specs.declared.node.Node.{Node}
+use Rattle.el_chain.specs.Chains.{Chain}
+use Rattle.el_world.specs.World.{World}
+use Rattle.el_outside.specs.Devices.{Device, archive, disk, failures, link}
+use Rattle.el_world.specs.Run.{Stop}
+use Rattle.el_words.specs.Words.{IsOnceOf, IsServeOf, network_magic}
+use Rattle.el_words.specs.Commands.{IsServe, IsOnce}
+use Rattle.el_program.specs.Opened.{IsScanned, nodes_of_chain}
+use Rattle.el_program.specs.OtherChain.{is_other_chain}
+use Rattle.el_outside.specs.Devices.{Faults, Rose, faults}
+use Rattle.el_loop.specs.Counts.{Counts, counts}
+use Rattle.el_loop.specs.Runs.{IsCounted, no_traffic, RunEnds, IsRun, IsHalted}
+use Rattle.el_program.specs.Ends.{Ends, usage, serve, once, IndexEnds, IsSilent, ServeEnds, UnopenedEnds, OnceEnds, IsServed, IsServedOnce, IsBadFile}
+use Rattle.el_program.specs.Statuses.{status_of_end}
+use Rattle.el_program.specs.within.Unread.{unread_status, start_status}
+use Rattle.el_program.specs.declared.file.FileFault.{FileFault}
+use Rattle.el_program.specs.declared.file.FileFault.TheVariants as fault
+use Rattle.el_program.specs.declared.opening.StartFault.{StartFault}
+use Rattle.el_program.specs.declared.opening.StartFault.TheVariants as start
+use Rattle.el_loop.specs.declared.end.End.{End}
+use Rattle.el_loop.specs.declared.end.End.TheVariants as end
+use Rattle.el_program.specs.declared.status.Status.{Status}
+use Rattle.el_program.specs.declared.status.Status.TheVariants as status
+use Rattle.el_words.specs.declared.words.Network.{Network}
+use Rattle.el_words.specs.declared.words.ServeSettings.{ServeSettings}
+use Rattle.el_words.specs.declared.words.ServeWords.{ServeWords}
+use Rattle.el_words.specs.declared.words.Command.TheVariants as command
+use Rattle.el_mempool.specs.declared.entry.PoolLimits.{PoolLimits}
+use Rattle.el_words.proofs.OneCommand.{one_command}
+
+-- the words of `serve`, or of `once`, with their network's magic
+abbrev pub is_serve : {words : List (List ℕ)} {magic : List ℕ} {said : ServeWords}
+    → IsServeOf words said → magic ≡ network_magic said.settings.network → IsServe words magic
+is_serve {words} {magic} {said} is magic_is = record { said = said; is_serve = is; magic_is = magic_is }
+
+pub is_once : {words : List (List ℕ)} {blocks magic : List ℕ} {network : Network}
+    → IsOnceOf words blocks network → magic ≡ network_magic network → IsOnce words magic
+is_once {words} {blocks} {magic} {network} is magic_is =
+    record { blocks = blocks; of_network = network; is_once = is; magic_is = magic_is }
+
+-- the words of `serve` say one thing
+same_said : {words : List (List ℕ)} (a b : ServeWords) → IsServeOf words a → IsServeOf words b → a ≡ b
+same_said {words} a b is other =
+    let same = one_command words (command.Serve a) (command.Serve b) is other in
+    cc
+
+-- they are of one network
+pub magic_of : (said : ServeWords) {settings : ServeSettings} → said.settings ≡ settings
+    → network_magic settings.network ≡ network_magic said.settings.network
+magic_of said same = ap (λ (s : ServeSettings). network_magic s.network) (sym same)
+
+one_network : {words : List (List ℕ)} {magic : List ℕ} {said : ServeWords}
+    → IsServe words magic → IsServeOf words said → magic ≡ network_magic said.settings.network
+one_network {words} {magic} {said} is other =
+    is.magic_is ∙ ap (λ (s : ServeWords). network_magic s.settings.network)
+    (same_said is.said said is.is_serve other)
+
+pub network_in : {words : List (List ℕ)} {magic : List ℕ} {settings : ServeSettings} → IsServe words magic
+    → (said : ServeWords) × IsServeOf words said × (said.settings ≡ settings)
+    → magic ≡ network_magic settings.network
+network_in is found = one_network is found.1 ∙ sym (magic_of found.0 found.2)
+
+pub same_limits : {words : List (List ℕ)} {a b : List ℕ} (x : IsServe words a) (y : IsServe words b)
+    → x.said.settings.limits ≡ y.said.settings.limits
+same_limits x y = ap (λ (s : ServeWords). s.settings.limits) (same_said x.said y.said x.is_serve y.is_serve)
+
+pub same_networks : {words : List (List ℕ)} {a b : List ℕ} → IsServe words a → IsServe words b → a ≡ b
+same_networks x y = one_network x y.is_serve ∙ sym y.magic_is
+
+-- a call with the words of `serve` ends as such
+pub only_served : {A : Type 0} {of_files : block_files.Ghosts A}
+    {words : List (List ℕ)} {was flight chain : Chain} {leaves : List ℕ → Chain → Chain → Type 0} {c : Counts}
+    {before after : A} {t : Trace} {s : Status} {magic : List ℕ} (asked : IsServe words magic)
+    → Ends of_files words was flight chain leaves c before after t s
+    → IndexEnds of_files magic asked.said.settings.limits was flight chain (leaves magic) c before after t s
+only_served is (usage none spent silent) =
+    absurd (none (command.Serve is.said) is.is_serve)
+only_served is (serve magic also e) = rw (same_networks also is, same_limits also is) at e
+only_served is (once magic other e) =
+    absurd (let a = is.is_serve.words_are in let b = other.is_once.words_are in cc)
+
+-- a call with the words that were read ends so
+pub served_with : {A : Type 0} {of_files : block_files.Ghosts A} {words : List (List ℕ)}
+    {was flight chain : Chain} {leaves : List ℕ → Chain → Chain → Type 0} {c : Counts} {before after : A}
+    {t : Trace} {s : Status} {settings : ServeSettings}
+    (found : (said : ServeWords) × IsServeOf words said × (said.settings ≡ settings))
+    → IndexEnds of_files (network_magic settings.network) settings.limits was flight chain
+    (leaves (network_magic settings.network)) c before after t s
+    → Ends of_files words was flight chain leaves c before after t s
+served_with found e = serve _ (is_serve found.1 refl) (rw (sym found.2) at e)
+
+-- a run told in other words: what a crash leaves, and how often calls failed
+module _ (c : Counts) (of_before of_after : Faults) (rises : (losses : List Device)
+    → Rose c.faults_before c.faults_after losses → Rose of_before of_after losses)
+    (P Q : Chain → Chain → Type 0) (gives : (a b : Chain) → P a b → Q a b) where
+  abbrev pub told : Counts
+  told = record c { faults_before = of_before; faults_after = of_after }
+
+  counted_told : (t : Trace) (losses failed : List Device) → IsCounted c t losses failed
+      → IsCounted told t losses failed
+  counted_told t losses failed k =
+      record { calls = k.calls; turns = k.turns; rose = rises (losses ++ failed) k.rose }
+
+  run_told : (tells : Type 0) (first : World) (node : Bool) (files : ℕ → List ℕ) (t : Trace)
+      (failed : List Device) → IsRun tells first node P files c t failed
+      → IsRun tells first node Q files told t failed
+  run_told tells first node files t failed r = record {
+    losses = r.losses;
+    world = r.world;
+    run = r.run;
+    statuses = r.statuses;
+    grown = r.grown;
+    counted = counted_told t r.losses failed r.counted;
+    crash = gives r.world.side.chain r.world.side.chain r.crash;
+  }
+
+  halt_told : (tells : Type 0) (first : World) (node : Bool) (files : ℕ → List ℕ) (t : Trace) (stop : Stop)
+      → IsHalted tells first node P files c t stop → IsHalted tells first node Q files told t stop
+  halt_told tells first node files t stop h = record {
+    losses = h.losses;
+    halts = h.halts;
+    grown = h.grown;
+    counted = counted_told t h.losses [] h.counted;
+    last = h.last;
+    flight = h.flight;
+    is_flight = h.is_flight;
+    crash = gives _ h.flight h.crash;
+  }
+
+  pub ends_told : (tells : Type 0) (first : World) (node : Bool) (files : ℕ → List ℕ) (t : Trace)
+      (e : End) → RunEnds tells first node P files c t e → RunEnds tells first node Q files told t e
+  ends_told tells first node files t end.Ended r = (run_told tells first node files t _ r.0, r.1)
+  ends_told tells first node files t end.DiskFailed r = halt_told tells first node files t _ r
+  ends_told tells first node files t end.LinkFailed (inl r) = inl (
+    run_told tells first node files t _ r.0,
+    r.1,
+  )
+  ends_told tells first node files t end.LinkFailed (inr r) = inr (halt_told tells first node files t _ r)
+  ends_told tells first node files t end.OutOfMemory r = halt_told tells first node files t _ r
+  ends_told tells first node files t end.TurnsSpent r = (run_told tells first node files t _ r.0, r.1, r.2)
+
+  silent_told : (t : Trace) (losses : List Device) → IsSilent c t losses → IsSilent told t losses
+  silent_told t losses k =
+      record { traffic = k.traffic; calls = k.calls; rose = rises losses k.rose }
+
+  served_told : {A : Type 0} (of_files : block_files.Ghosts A) (magic : List ℕ)
+      (limits : PoolLimits) (chain : Chain) (before after : A) (t : Trace) (e : End)
+      → IsServed of_files magic limits chain P c before after t e
+      → IsServed of_files magic limits chain Q told before after t e
+  served_told of_files magic limits chain before after t e r = record {
+    now = r.now;
+    nodes = r.nodes;
+    scanned = r.scanned;
+    same = r.same;
+    grows = r.grows;
+    run = ends_told of_files.tells _ true (of_files.bytes after) t e r.run;
+  }
+
+  pub serve_told : {A : Type 0} (of_files : block_files.Ghosts A)
+      (magic : List ℕ) (limits : PoolLimits) (chain : Chain) (before after : A) (t : Trace) (s : Status)
+      → ServeEnds of_files magic limits chain P c before after t s
+      → ServeEnds of_files magic limits chain Q told before after t s
+  serve_told of_files magic limits chain before after t status.Ended r =
+      served_told of_files magic limits chain before after t _ r
+  serve_told of_files magic limits chain before after t status.Usage r = r
+  serve_told of_files magic limits chain before after t status.BadIndex r = r
+  serve_told of_files magic limits chain before after t status.ArchiveFailed r =
+      (silent_told t _ r.0, gives chain chain r.1)
+  serve_told of_files magic limits chain before after t status.DiskFailed (inl r) =
+      inl (silent_told t _ r.0, gives chain chain r.1)
+  serve_told of_files magic limits chain before after t status.DiskFailed (inr r) =
+      inr (served_told of_files magic limits chain before after t _ r)
+  serve_told of_files magic limits chain before after t status.LinkFailed r =
+      served_told of_files magic limits chain before after t _ r
+  serve_told of_files magic limits chain before after t status.OutOfMemory (inl r) =
+      inl (silent_told t _ r.0, gives chain chain r.1)
+  serve_told of_files magic limits chain before after t status.OutOfMemory (inr r) =
+      inr (served_told of_files magic limits chain before after t _ r)
+  serve_told of_files magic limits chain before after t status.TurnsSpent r =
+      served_told of_files magic limits chain before after t _ r
+  serve_told of_files magic limits chain before after t status.OtherChain r =
+      (r.0, silent_told t _ r.1, gives chain chain r.2)
+  serve_told of_files magic limits chain before after t status.BadChain r = r
+
+-- a count that stays 0 counts nothing, and another count may stay
+stays_still : (d n : ℕ) → RoseBy 0 0 n → RoseBy d d n
+stays_still d n r = omega arith
+
+pub with_disk : (of_link of_archive link_now archive_now of_disk : ℕ) (losses : List Device)
+    → Rose (faults of_link of_archive 0) (faults link_now archive_now 0) losses
+    → Rose (faults of_link of_archive of_disk) (faults link_now archive_now of_disk) losses
+with_disk of_link of_archive link_now archive_now of_disk losses rose link = rose link
+with_disk of_link of_archive link_now archive_now of_disk losses rose archive = rose archive
+with_disk of_link of_archive link_now archive_now of_disk losses rose disk =
+    stays_still of_disk (failures disk losses) (rose disk)
+
+-- a node and clients were served
+pub served_ends : {A : Type 0} (of_files : block_files.Ghosts A)
+    (magic : List ℕ) (limits : PoolLimits) (chain : Chain) (leaves : Chain → Chain → Type 0) (c : Counts)
+    (before after : A)
+    (t : Trace) (e : End) → IsServed of_files magic limits chain leaves c before after t e
+    → ServeEnds of_files magic limits chain leaves c before after t (status_of_end e)
+served_ends of_files magic limits chain leaves c before after t end.Ended served = served
+served_ends of_files magic limits chain leaves c before after t end.DiskFailed served = inr served
+served_ends of_files magic limits chain leaves c before after t end.LinkFailed served = served
+served_ends of_files magic limits chain leaves c before after t end.OutOfMemory served =
+    inr served
+served_ends of_files magic limits chain leaves c before after t end.TurnsSpent served = served
+
+-- nothing went over the link, and the other counts rose by these losses
+silent : (turns calls of_link low high of_disk now : ℕ) (losses : List Device) → failures link losses ≡ 0
+    → RoseBy low high (failures archive losses) → RoseBy of_disk now (failures disk losses)
+    → IsSilent (counts turns calls calls (faults of_link low of_disk) (faults of_link high now))
+    no_traffic losses
+silent turns calls of_link low high of_disk now losses none files index = record {
+  traffic = refl;
+  calls = refl;
+  rose = rose;
+}
+  where
+    rose : Rose (faults of_link low of_disk) (faults of_link high now) losses
+    rose link = rw none (rose_none of_link)
+    rose archive = files
+    rose disk = index
+
+-- nobody was served from an index that is open
+pub start_ends : {A T : Type 0} (of_files : block_files.Ghosts A)
+    (magic : List ℕ) (limits : PoolLimits) (chain : Chain) (leaves : Chain → Chain → Type 0)
+    (turns calls of_link low high of_disk now : ℕ) (before after : A) (e : StartFault)
+    → OnlyReads {T = T} of_files.tells (of_files.bytes before) (of_files.bytes after) low high start.ArchiveFailed (Err e)
+    → CountsOnly {T = T} of_disk now start.DiskFailed (Err e)
+    → (e ≡ start.OtherChain → (nodes : List Node)
+    × IsScanned of_files magic before after nodes
+    × (is_other_chain (nodes_of_chain chain) nodes ≡ true))
+    → leaves chain chain
+    → ServeEnds of_files magic limits chain leaves
+    (counts turns calls calls (faults of_link low of_disk) (faults of_link high now))
+    before after no_traffic (start_status e)
+start_ends of_files magic limits chain leaves turns calls of_link low high of_disk now before
+    after start.DiskFailed reads counts other left =
+    inl (
+      silent turns calls of_link low high of_disk now (disk ∷ []) refl
+          (rose_still low high (reads.others_uncounted (λ e. cc))) (counts.counted refl),
+      left,
+    )
+start_ends of_files magic limits chain leaves turns calls of_link low high of_disk now before
+    after start.ArchiveFailed reads counts other left = (
+      silent turns calls of_link low high of_disk now (archive ∷ []) refl (reads.counted refl)
+          (rose_still of_disk now (counts.others_uncounted (λ e. cc))),
+      left,
+    )
+start_ends of_files magic limits chain leaves turns calls of_link low high of_disk now before
+    after start.OtherChain reads counts other left =
+    let o = other refl in (
+      record { nodes = o.0; scanned = o.1; other = o.2 },
+      silent turns calls of_link low high of_disk now [] refl
+          (rose_still low high (reads.others_uncounted (λ e. cc)))
+          (rose_still of_disk now (counts.others_uncounted (λ e. cc))),
+      left,
+    )
+start_ends of_files magic limits chain leaves turns calls of_link low high of_disk now before
+    after start.Memory reads counts other left =
+    inl (
+      silent turns calls of_link low high of_disk now [] refl
+          (rose_still low high (reads.others_uncounted (λ e. cc)))
+          (rose_still of_disk now (counts.others_uncounted (λ e. cc))),
+      left,
+    )
+
+-- the index is not opened
+pub unopened_ends : (was flight : Chain) (leaves : Chain → Chain → Type 0)
+    (turns calls of_link of_archive low high : ℕ) (s : Status) → s ≢ status.BadIndex
+    → (s ≡ status.BadIndex) ⊎ ((s ≡ status.DiskFailed) ⊎ (s ≡ status.OutOfMemory)) → leaves was flight
+    → (s ≡ status.DiskFailed → RoseBy low high 1) → (s ≢ status.DiskFailed → high ≡ low)
+    → UnopenedEnds was flight leaves
+    (counts turns calls calls (faults of_link of_archive low) (faults of_link of_archive high))
+    no_traffic s
+unopened_ends was flight leaves turns calls of_link of_archive low high s good is left counted uncounted =
+    elim is [
+      | inl bad ↦ absurd (good bad)
+      | inr (inl failed) ↦ rw failed (
+        silent turns calls of_link of_archive of_archive low high (disk ∷ []) refl (rose_none of_archive)
+            (counted failed),
+        left,
+      )
+      | inr (inr memory) ↦ rw memory (
+        silent turns calls of_link of_archive of_archive low high [] refl (rose_none of_archive)
+            (rose_still low high (uncounted (λ e. cc))),
+        left,
+      )
+    ]
+
+-- clients were served without a node
+pub served_once : (tells : Type 0) (magic : List ℕ) (c : Counts) (before after : ℕ → List ℕ)
+    (t : Trace) (e : End) → e ≢ end.DiskFailed → IsServedOnce tells magic c before after t e
+    → OnceEnds tells magic c before after t (status_of_end e)
+served_once tells magic c before after t end.Ended safe served = served
+served_once tells magic c before after t end.DiskFailed safe served = absurd (safe refl)
+served_once tells magic c before after t end.LinkFailed safe served = served
+served_once tells magic c before after t end.OutOfMemory safe served = inr served
+served_once tells magic c before after t end.TurnsSpent safe served = served
+
+-- the block files can't be read
+pub unread_ends : {T : Type 0} (tells : Type 0) (magic : List ℕ) (turns calls of_link low high of_disk : ℕ)
+    (before after : ℕ → List ℕ) (e : FileFault)
+    → OnlyReads {T = T} tells before after low high fault.Failed (Err e)
+    → (e ≡ fault.Bad → IsBadFile tells magic before after)
+    → OnceEnds tells magic
+    (counts turns calls calls (faults of_link low of_disk) (faults of_link high of_disk))
+    before after no_traffic (unread_status e)
+unread_ends tells magic turns calls of_link low high of_disk before after fault.Failed reads bad =
+    silent turns calls of_link low high of_disk of_disk (archive ∷ []) refl (reads.counted refl)
+    (rose_none of_disk)
+unread_ends tells magic turns calls of_link low high of_disk before after fault.Memory reads bad =
+    inl (silent turns calls of_link low high of_disk of_disk [] refl
+    (rose_still low high (reads.others_uncounted (λ e. cc))) (rose_none of_disk))
+unread_ends tells magic turns calls of_link low high of_disk before after fault.Bad reads bad = (
+  bad refl,
+  silent turns calls of_link low high of_disk of_disk [] refl
+      (rose_still low high (reads.others_uncounted (λ e. cc))) (rose_none of_disk),
+)

@@ -1,0 +1,123 @@
+use Rattle.std.proofs.Common.{rules, refl}
+use Rattle.el_outside.proofs.Traces.{goes_none}
+use Rattle.el_words.specs.Options.{Word}
+use Rattle.el_words.specs.Words.{IsServeOf, IsOnceOf, texts}
+use Rattle.el_words.specs.declared.words.Network.{Network}
+use Rattle.el_words.specs.declared.words.ServeWords.{ServeWords}
+use Rattle.el_words.specs.declared.words.Command.TheVariants as command
+use Rattle.el_words.proofs.OneCommand.{no_command}
+use Rattle.el_program.specs.Ends.{usage, once}
+use Rattle.el_loop.specs.Runs.{no_traffic}
+use Rattle.el_outside.proofs.Devices.{all_rose_none}
+use Rattle.el_program.proofs.IndexDisks.{unchanged}
+use Rattle.el_program.proofs.Rises.{caused_none}
+use Rattle.el_program.proofs.Servings.{is_serve, is_once, magic_of, network_in, served_with}
+use Rattle.el_program.proofs.serving.serve.Goals as goal
+
+pub returns-in-Some-clause-ends : goal.returns-in-Some-clause-ends
+returns-in-Some-clause-ends g c = λ was flight chain starts.
+    let found = c.in-Some.ensures.found in
+    let is = is_serve found.1 (magic_of found.0 found.2) in
+    let e = c.serve_network.ensures.ends was flight chain (starts _ is) in
+    (e.0, e.1, served_with found e.2)
+
+pub returns-in-Some-clause-bad : goal.returns-in-Some-clause-bad
+returns-in-Some-clause-bad g c = λ told bad magic is.
+    rw (network_in is c.in-Some.ensures.found) (c.serve_network.ensures.bad told bad)
+
+pub returns-in-Some-clause-is_bad : goal.returns-in-Some-clause-is_bad
+returns-in-Some-clause-is_bad g c = λ told magic is bad.
+    c.serve_network.ensures.is_bad told (rw (network_in is c.in-Some.ensures.found) at bad)
+
+pub returns-in-Some-clause-kept : goal.returns-in-Some-clause-kept
+returns-in-Some-clause-kept g c = λ told magic is bad.
+    c.serve_network.ensures.kept told (rw (network_in is c.in-Some.ensures.found) at bad)
+
+pub returns-in-Some-clause-refused : goal.returns-in-Some-clause-refused
+returns-in-Some-clause-refused g c = λ none.
+    let found = c.in-Some.ensures.found in
+    absurd (none (command.Serve found.0) found.1)
+
+pub returns-in-Some-clause-unread : goal.returns-in-Some-clause-unread
+returns-in-Some-clause-unread g c = λ usage. absurd (c.serve_network.ensures.read usage)
+
+pub returns-in-Some-clause-lawful : goal.returns-in-Some-clause-lawful
+returns-in-Some-clause-lawful g c = λ usage. absurd (c.serve_network.ensures.read usage)
+
+pub returns-in-Some-clause-untouched : goal.returns-in-Some-clause-untouched
+returns-in-Some-clause-untouched g c = λ none. absurd (none _ (is_serve c.in-Some.ensures.found.1 refl))
+
+pub returns-in-Some-once_of-clause-ends : goal.returns-in-Some-once_of-clause-ends
+returns-in-Some-once_of-clause-ends g c = λ was flight chain starts.
+    let e = c.serve_file.ensures.ends (g.D.Disk.faults c.args.disk) in
+    (e.0, e.1, once _ (is_once c.in-Some-once_of.ensures.found.1 c.magic.ensures) e.2)
+
+pub returns-in-Some-once_of-clause-causes : goal.returns-in-Some-once_of-clause-causes
+returns-in-Some-once_of-clause-causes g c = c.serve_file.ensures.causes (g.D.Disk.faults c.args.disk)
+
+pub returns-in-Some-once_of-clause-refused : goal.returns-in-Some-once_of-clause-refused
+returns-in-Some-once_of-clause-refused g c = λ none.
+    let found = c.in-Some-once_of.ensures.found in
+    absurd (none (command.Once found.0 _) found.1)
+
+pub returns-in-Some-once_of-clause-unread : goal.returns-in-Some-once_of-clause-unread
+returns-in-Some-once_of-clause-unread g c = λ usage.
+    let e = c.serve_file.ensures.ends 0 in
+    absurd (rw usage at e.2)
+
+pub returns-in-Some-once_of-clause-lawful : goal.returns-in-Some-once_of-clause-lawful
+returns-in-Some-once_of-clause-lawful g c = λ usage.
+    let e = c.serve_file.ensures.ends 0 in
+    absurd (rw usage at e.2)
+
+pub returns-in-None-clause-ends : goal.returns-in-None-clause-ends
+returns-in-None-clause-ends g c = λ was flight chain starts.
+    let no_serve : (said : ServeWords) → IsServeOf (texts c.args.words.now) said → ⊥ = search rules in
+    let no_once : (blocks : Word) (network : Network) → IsOnceOf (texts c.args.words.now) blocks network → ⊥ =
+    search rules in (
+      no_traffic,
+      λ t. goes_none _,
+      usage (no_command (texts c.args.words.now) no_serve no_once) refl
+          (record { traffic = refl; calls = refl; rose = all_rose_none _ }),
+    )
+
+pub returns-in-None-clause-lawful : goal.returns-in-None-clause-lawful
+returns-in-None-clause-lawful g c = λ is.
+    let no_serve : (said : ServeWords) → IsServeOf (texts c.args.words.now) said → ⊥ = search rules in
+    let no_once : (blocks : Word) (network : Network) → IsOnceOf (texts c.args.words.now) blocks network → ⊥ =
+    search rules in
+    no_command (texts c.args.words.now) no_serve no_once
+
+pub returns-in-None-clause-causes : goal.returns-in-None-clause-causes
+returns-in-None-clause-causes g c = caused_none _ _ _
+
+pub returns-in-None-clause-is_bad : goal.returns-in-None-clause-is_bad
+returns-in-None-clause-is_bad g c = λ told magic is bad.
+    let no_serve : (said : ServeWords) → IsServeOf (texts c.args.words.now) said → ⊥ = search rules in
+    no_serve is.said is.is_serve
+
+pub returns-in-Some-once_of-clause-bad : goal.returns-in-Some-once_of-clause-bad
+returns-in-Some-once_of-clause-bad g c = λ told bad magic is.
+    let no_serve : (said : ServeWords) → IsServeOf (texts c.args.words.now) said → ⊥ = search rules in
+    absurd (no_serve is.said is.is_serve)
+
+pub returns-in-Some-once_of-clause-is_bad : goal.returns-in-Some-once_of-clause-is_bad
+returns-in-Some-once_of-clause-is_bad g c = λ told magic is bad.
+    let no_serve : (said : ServeWords) → IsServeOf (texts c.args.words.now) said → ⊥ = search rules in
+    absurd (no_serve is.said is.is_serve)
+
+pub returns-in-Some-once_of-clause-kept : goal.returns-in-Some-once_of-clause-kept
+returns-in-Some-once_of-clause-kept g c = λ told magic is bad. unchanged g.D.Disk c.args.disk
+
+pub returns-in-None-clause-kept : goal.returns-in-None-clause-kept
+returns-in-None-clause-kept g c = λ told magic is bad. unchanged g.D.Disk c.args.disk
+
+pub returns-in-Some-once_of-clause-kept_counts : goal.returns-in-Some-once_of-clause-kept_counts
+returns-in-Some-once_of-clause-kept_counts g c = λ bad.
+    let e = c.serve_file.ensures.ends 0 in
+    absurd (rw bad at e.2)
+
+pub returns-in-Some-once_of-clause-kept_files : goal.returns-in-Some-once_of-clause-kept_files
+returns-in-Some-once_of-clause-kept_files g c = λ bad.
+    let e = c.serve_file.ensures.ends 0 in
+    absurd (rw bad at e.2)

@@ -1,0 +1,51 @@
+use Rattle.std.proofs.Common.{◌≡◌, ◌∙◌, inl, inr, ap}
+use Rattle.el_outside.proofs.Traces.{goes_none}
+use Rattle.el_program.specs.IndexDisks.{LeavesOneOf}
+use Rattle.el_loop.specs.Runs.{no_traffic}
+use Rattle.el_program.proofs.Servings.{serve_told, unopened_ends}
+use Rattle.el_program.proofs.serving.serve_disk.Goals as goal
+
+pub returns-in-Ok-clause-ends : goal.returns-in-Ok-clause-ends
+returns-in-Ok-clause-ends g c = λ was flight chain is.
+    let r = rw (c.in-Ok.ensures.uncounted, c.magic.ensures) at
+    (c.serve_index-status.ensures.ends chain (c.in-Ok.ensures.stands was flight chain is)) in
+    let same : c.into_disk.result ≡ c.serve_index-status.result.1.rows.journal.disk =
+    c.into_disk.ensures.disk ∙ ap (λ s. s.journal.disk) c.into_rows.ensures in
+    rw same (
+      r.0,
+      r.1,
+      inr (serve_told _ _ _ (λ losses rose. rose) _ _
+          (λ acked flight' left image now. left is.told image (is.told, now))
+          g.A.Archive _ _ chain _ _ r.0 _ r.2),
+    )
+
+pub returns-in-Ok-clause-causes : goal.returns-in-Ok-clause-causes
+returns-in-Ok-clause-causes g c =
+    let same : c.into_disk.result ≡ c.serve_index-status.result.1.rows.journal.disk =
+    c.into_disk.ensures.disk ∙ ap (λ s. s.journal.disk) c.into_rows.ensures in
+    rw same (rw c.in-Ok.ensures.uncounted at c.serve_index-status.ensures.causes)
+
+pub returns-in-Ok-clause-is_bad : goal.returns-in-Ok-clause-is_bad
+returns-in-Ok-clause-is_bad g c = λ told is. absurd (c.in-Ok.ensures.is_bad told is)
+
+pub returns-in-Err-clause-ends : goal.returns-in-Err-clause-ends
+returns-in-Err-clause-ends g c = λ was flight chain is.
+    let u = c.in-Err.ensures.unopened was flight chain is in (
+      no_traffic,
+      λ t. goes_none _,
+      inl (unopened_ends was flight (LeavesOneOf g.D.Disk g.N.NetworkMagic.magic c.in-Err.disk) _ _ _ _ _ _
+          c.in-Err.status u.0 c.in-Err.ensures.status u.1
+          c.in-Err.ensures.counted c.in-Err.ensures.others_uncounted),
+    )
+
+pub returns-in-Ok-clause-kept : goal.returns-in-Ok-clause-kept
+returns-in-Ok-clause-kept g c = λ told is. absurd (c.in-Ok.ensures.is_bad told is)
+
+pub returns-in-Ok-clause-kept_counts : goal.returns-in-Ok-clause-kept_counts
+returns-in-Ok-clause-kept_counts g c = λ bad. absurd (rw bad at c.serve_index-status.ensures.opened)
+
+pub returns-in-Ok-clause-kept_files : goal.returns-in-Ok-clause-kept_files
+returns-in-Ok-clause-kept_files g c = λ bad. absurd (rw bad at c.serve_index-status.ensures.opened)
+
+pub returns-in-Err-clause-kept_counts : goal.returns-in-Err-clause-kept_counts
+returns-in-Err-clause-kept_counts g c = λ bad. c.in-Err.ensures.others_uncounted (λ failed. absurd cc)

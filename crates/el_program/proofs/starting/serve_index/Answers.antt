@@ -1,0 +1,61 @@
+use Rattle.std.proofs.Common.{ap, Err, inl}
+use Rattle.el_outside.proofs.Traces.{goes_none, all_grow_more}
+use Rattle.el_loop.specs.Runs.{no_traffic}
+use Rattle.el_program.proofs.Rises.{start_caused, opened_end, start_opened, run_caused, serves}
+use Rattle.el_program.proofs.Servings.{served_ends, start_ends}
+use Rattle.el_program.proofs.starting.serve_index.Goals as goal
+
+pub returns-in-Ok-clause-ends : goal.returns-in-Ok-clause-ends
+returns-in-Ok-clause-ends g c = λ chain stood.
+    let o = c.in-Ok.ensures.opened chain stood in
+    let here = c.in-Ok.ensures.quiet.stays.still_stands chain stood in
+    let r = rw (o.2, c.in-Ok.ensures.only_reads.uncounted, c.in-Ok.ensures.cause.uncounted) at
+    (c.serve_from-end.ensures.ends chain here) in (
+      r.0,
+      r.1,
+      rw c.of_end.ensures (served_ends g.A.Archive c.args.magic
+          c.args.limits chain _ _ _ _ r.0 _ (record {
+            now = c.open_headers.new.archive;
+            nodes = o.0;
+            scanned = o.1;
+            same = o.3;
+            grows = c.serve_from-end.ensures.keeps;
+            run = r.2;
+          })),
+    )
+
+pub returns-in-Ok-clause-keeps : goal.returns-in-Ok-clause-keeps
+returns-in-Ok-clause-keeps g c = λ t. all_grow_more _ _ _ (c.in-Ok.ensures.only_reads.keeps t)
+    (c.serve_from-end.ensures.keeps t)
+
+pub returns-in-Err-clause-ends : goal.returns-in-Err-clause-ends
+returns-in-Err-clause-ends g c = λ chain stood. (
+  no_traffic,
+  λ t. goes_none _,
+  rw c.status_of.ensures (start_ends g.A.Archive c.args.magic
+      c.args.limits chain _ _ _ _ _ _ _ _ _ _ c.in-Err.fault c.in-Err.ensures.only_reads c.in-Err.ensures.cause
+      (λ e. c.in-Err.ensures.other chain stood (ap Err e))
+      (λ told left now. inl (g.met.G.Ledger.leaves_own c.open_headers.new.ledger chain left told
+      (c.in-Err.ensures.quiet.stays.still_live c.requires.live)
+      (c.in-Err.ensures.quiet.stays.still_stands chain stood) now))),
+)
+
+pub returns-in-Ok-clause-causes : goal.returns-in-Ok-clause-causes
+returns-in-Ok-clause-causes g c =
+    rw c.of_end.ensures (run_caused _ _
+    (rw (c.in-Ok.ensures.only_reads.uncounted, c.in-Ok.ensures.cause.uncounted) at
+    c.serve_from-end.ensures.causes))
+
+pub returns-in-Ok-clause-unserved : goal.returns-in-Ok-clause-unserved
+returns-in-Ok-clause-unserved g c = λ unserved. absurd (serves _ (rw c.of_end.ensures at unserved))
+
+pub returns-in-Ok-clause-opened : goal.returns-in-Ok-clause-opened
+returns-in-Ok-clause-opened g c = rw c.of_end.ensures (opened_end _)
+
+pub returns-in-Err-clause-causes : goal.returns-in-Err-clause-causes
+returns-in-Err-clause-causes g c =
+    rw c.status_of.ensures (start_caused g.A.Archive.tells _ _ _ _ _ _ _ _ _ c.in-Err.fault
+    c.in-Err.ensures.only_reads c.in-Err.ensures.cause)
+
+pub returns-in-Err-clause-opened : goal.returns-in-Err-clause-opened
+returns-in-Err-clause-opened g c = rw c.status_of.ensures (start_opened c.in-Err.fault)

@@ -1,0 +1,163 @@
+-- How a call of `serve` ends.
+use Rattle.std.specs.Prelude.{◌≡◌, ◌⊎◌, ℕ, List, [], ◌∷◌, true, false}
+use Rattle.el_outside.specs.declared.archive.Archive as block_files
+use Rattle.el_outside.specs.Trace.{Trace}
+use Rattle.el_outside.specs.Files.{AllGrow, IsFile}
+use Rattle.el_chain.specs.declared.node.Node.{Node}
+use Rattle.el_chain.specs.Chains.{Chain}
+use Rattle.el_mempool.specs.declared.entry.PoolLimits.{PoolLimits}
+use Rattle.el_world.specs.World.{initial_world}
+use Rattle.el_outside.specs.Devices.{Device, archive, disk}
+use Rattle.el_words.specs.Commands.{IsNoCommand, IsServe, IsOnce}
+use Rattle.el_words.specs.Words.{greatest_limits}
+use Rattle.el_program.specs.File.{GivesNoChain}
+use Rattle.el_program.specs.Opened.{all_added, nodes_of_chain, IsScanned, IsRead}
+use Rattle.el_program.specs.OtherChain.{is_other_chain}
+use Rattle.el_outside.specs.Devices.{Rose}
+use Rattle.el_loop.specs.Counts.{Counts}
+use Rattle.el_loop.specs.Runs.{no_traffic, RunEnds}
+use Rattle.el_loop.specs.declared.end.End.{End}
+use Rattle.el_loop.specs.declared.end.End.TheVariants as end
+use Rattle.el_program.specs.declared.status.Status.{Status}
+use Rattle.el_program.specs.declared.status.Status.TheVariants as status
+
+-- the link was not called, and these calls failed
+pub record IsSilent (c : Counts) (t : Trace) (losses : List Device) : Type 0 where
+  pub traffic : t ≡ no_traffic
+  pub calls : c.calls_after ≡ c.calls_before
+  pub rose : Rose c.faults_before c.faults_after losses
+
+-- A node and clients were served, from the chain that the index had, with the headers of its blocks and then
+-- those that the scan of all block files found; an unconfirmed set that is empty at first keeps to these
+-- limits. `before` and `after` are the archive before the call and after it.
+pub record IsServed {A : Type 0} (of_files : block_files.Ghosts A)
+    (magic : List ℕ) (limits : PoolLimits) (chain : Chain) (leaves : Chain → Chain → Type 0) (c : Counts)
+    (before after : A) (t : Trace) (e : End) : Type 0 where
+  pub now : A
+  pub nodes : List Node
+  pub scanned : IsScanned of_files magic before now nodes
+  pub same : is_other_chain (nodes_of_chain chain) nodes ≡ false
+  pub grows : of_files.tells → AllGrow (of_files.bytes now) (of_files.bytes after)
+  pub run : RunEnds of_files.tells (initial_world chain magic limits
+      (all_added (all_added [] (nodes_of_chain chain)) nodes) (of_files.bytes now))
+      true leaves (of_files.bytes after) c t e
+
+-- the block files are those of another chain than the index's
+pub record IsOtherChain {A : Type 0} (of_files : block_files.Ghosts A)
+    (magic : List ℕ) (chain : Chain) (before after : A) : Type 0 where
+  pub nodes : List Node
+  pub scanned : IsScanned of_files magic before after nodes
+  pub other : is_other_chain (nodes_of_chain chain) nodes ≡ true
+
+-- How a call with the words of `serve` ends, once the index is open and has this chain. `leaves` says of two
+-- chains that all that a crash may leave in the end stands for the one or for the other.
+abbrev pub ServeEnds : {A : Type 0} → block_files.Ghosts A → List ℕ → PoolLimits → Chain
+    → (Chain → Chain → Type 0) → Counts → A → A → Trace → Status → Type 0
+ServeEnds of_files magic limits chain leaves c before after t status.Ended =
+    IsServed of_files magic limits chain leaves c before after t end.Ended
+ServeEnds of_files magic limits chain leaves c before after t status.LinkFailed =
+    IsServed of_files magic limits chain leaves c before after t end.LinkFailed
+ServeEnds of_files magic limits chain leaves c before after t status.TurnsSpent =
+    IsServed of_files magic limits chain leaves c before after t end.TurnsSpent
+-- a call of the block files failed before the first arrival
+ServeEnds of_files magic limits chain leaves c before after t status.ArchiveFailed =
+    IsSilent c t (archive ∷ []) × leaves chain chain
+ServeEnds of_files magic limits chain leaves c before after t status.OtherChain =
+    IsOtherChain of_files magic chain before after × IsSilent c t [] × leaves chain chain
+-- a call of the index's device failed before the first arrival, or in the run
+ServeEnds of_files magic limits chain leaves c before after t status.DiskFailed =
+    (IsSilent c t (disk ∷ []) × leaves chain chain)
+    ⊎ IsServed of_files magic limits chain leaves c before after t end.DiskFailed
+-- out of memory before the first arrival, or in the run
+ServeEnds of_files magic limits chain leaves c before after t status.OutOfMemory =
+    (IsSilent c t [] × leaves chain chain)
+    ⊎ IsServed of_files magic limits chain leaves c before after t end.OutOfMemory
+ServeEnds of_files magic limits chain leaves c before after t other = ⊥
+
+-- How a call with the words of `serve` ends where the index isn't opened. A crash leaves then what it left
+-- before: the chain that was acknowledged or the one that was in flight.
+abbrev pub UnopenedEnds : Chain → Chain → (Chain → Chain → Type 0) → Counts → Trace → Status → Type 0
+-- a call of the index's device failed
+UnopenedEnds was flight leaves c t status.DiskFailed = IsSilent c t (disk ∷ []) × leaves was flight
+UnopenedEnds was flight leaves c t status.OutOfMemory = IsSilent c t [] × leaves was flight
+UnopenedEnds was flight leaves c t other = ⊥
+
+-- How a call with the words of `serve` ends, for a disk that reads as an index of `chain`: the index is not
+-- opened, or it is, and has this chain.
+abbrev pub IndexEnds : {A : Type 0} → block_files.Ghosts A → List ℕ → PoolLimits → Chain
+    → Chain → Chain → (Chain → Chain → Type 0) → Counts → A → A → Trace → Status → Type 0
+IndexEnds of_files magic limits was flight chain leaves c before after t s =
+    UnopenedEnds was flight leaves c t s
+    ⊎ ServeEnds of_files magic limits chain leaves c before after t s
+
+-- the statuses with which a call ends whose index is open
+abbrev pub IsOpenedEnd : Status → Type 0
+IsOpenedEnd status.Usage = ⊥
+IsOpenedEnd status.BadIndex = ⊥
+IsOpenedEnd status.BadChain = ⊥
+IsOpenedEnd other = Unit {0}
+
+-- the statuses with which no index is opened
+abbrev pub IsUnopened : Status → Type 0
+IsUnopened status.BadIndex = Unit {0}
+IsUnopened status.DiskFailed = Unit {0}
+IsUnopened status.OutOfMemory = Unit {0}
+IsUnopened other = ⊥
+
+-- Clients were served without a node, from the chain that file 0 gives, with its headers. Nothing unconfirmed
+-- comes, so that no limit is met. No crash is spoken of.
+pub record IsServedOnce (tells : Type 0) (magic : List ℕ) (c : Counts) (before after : ℕ → List ℕ)
+    (t : Trace) (e : End) : Type 0 where
+  pub now : ℕ → List ℕ
+  pub nodes : List Node
+  pub chain : Chain
+  pub read : IsRead tells before now magic nodes chain
+  pub grows : tells → AllGrow now after
+  pub run : RunEnds tells (initial_world chain magic greatest_limits (all_added [] nodes) now) false
+      (λ acked flight. Unit {0}) after c t e
+
+-- file 0, as it was when its size was told, gives no chain
+abbrev pub IsBadFile : Type 0 → List ℕ → (ℕ → List ℕ) → (ℕ → List ℕ) → Type 0
+IsBadFile tells magic before after =
+    tells → (file : List ℕ) × IsFile (before 0) file (after 0) × GivesNoChain magic file
+
+-- How a call with the words of `once` ends.
+abbrev pub OnceEnds : Type 0 → List ℕ → Counts → (ℕ → List ℕ) → (ℕ → List ℕ) → Trace → Status → Type 0
+OnceEnds tells magic c before after t status.Ended = IsServedOnce tells magic c before after t end.Ended
+OnceEnds tells magic c before after t status.LinkFailed =
+    IsServedOnce tells magic c before after t end.LinkFailed
+OnceEnds tells magic c before after t status.TurnsSpent =
+    IsServedOnce tells magic c before after t end.TurnsSpent
+-- a call of the block files failed before the first arrival
+OnceEnds tells magic c before after t status.ArchiveFailed = IsSilent c t (archive ∷ [])
+-- out of memory before the first arrival, or in the run
+OnceEnds tells magic c before after t status.OutOfMemory =
+    IsSilent c t [] ⊎ IsServedOnce tells magic c before after t end.OutOfMemory
+-- file 0 gives no chain
+OnceEnds tells magic c before after t status.BadChain = IsBadFile tells magic before after × IsSilent c t []
+OnceEnds tells magic c before after t other = ⊥
+
+-- the statuses with which nobody was served
+abbrev pub IsUnserved : Status → Type 0
+IsUnserved status.Usage = Unit {0}
+IsUnserved status.BadIndex = Unit {0}
+IsUnserved status.ArchiveFailed = Unit {0}
+IsUnserved status.OtherChain = Unit {0}
+IsUnserved status.BadChain = Unit {0}
+IsUnserved other = ⊥
+
+-- How a call ends. The words of `serve` ask for an index on a disk, which reads as that of `chain`, and give
+-- the limits of the unconfirmed set; `was` was acknowledged before, and `flight` was in flight. `leaves` says
+-- of a magic and two chains that all that a crash may leave of the disk in the end stands for the one or for
+-- the other, as an index of that network.
+pub data Ends {A : Type 0} (of_files : block_files.Ghosts A)
+    (words : List (List ℕ)) (was flight chain : Chain) (leaves : List ℕ → Chain → Chain → Type 0) (c : Counts)
+    (before after : A) (t : Trace) (s : Status) : Type 0 where
+  usage : IsNoCommand words → s ≡ status.Usage → IsSilent c t []
+      → Ends of_files words was flight chain leaves c before after t s
+  serve : (magic : List ℕ) (asked : IsServe words magic)
+      → IndexEnds of_files magic asked.said.settings.limits was flight chain (leaves magic) c before after t s
+      → Ends of_files words was flight chain leaves c before after t s
+  once : (magic : List ℕ) → IsOnce words magic
+      → OnceEnds of_files.tells magic c (of_files.bytes before) (of_files.bytes after) t s
+      → Ends of_files words was flight chain leaves c before after t s

@@ -1,0 +1,10 @@
+pub mod File
+pub mod Statuses
+pub mod Opened
+pub mod OtherChain
+pub mod Ends
+pub mod Calls
+pub mod IndexDisks
+pub mod Lives
+pub mod Program
+pub mod within

@@ -1,0 +1,49 @@
+-- What the program knows before the first arrival.
+use Rattle.std.specs.Prelude.{◌≡◌, ℕ, List, [], ◌∷◌, map}
+use Rattle.std.specs.List.{AllByRecursion}
+use Rattle.el_outside.specs.declared.archive.Archive as block_files
+use Rattle.el_outside.specs.declared.archive.TheConstants.{MOST_FILES}
+use Rattle.el_outside.specs.Files.{AllGrow, IsFile}
+use Rattle.el_block.specs.Blocks.{block_hash}
+use Rattle.el_chain.specs.declared.node.Node.{Node}
+use Rattle.el_chain.specs.declared.placed.Placed.{Placed}
+use Rattle.el_chain.specs.Chains.{Chain}
+use Rattle.el_chain.specs.Faults.{IsGood}
+use Rattle.el_chain.specs.Headers.{added}
+use Rattle.el_chain.specs.Records.{GivesChain, IsNode, records, records_of_files}
+use Rattle.el_files.specs.Scanning.{AllFiles, IsFoundBelow}
+
+-- the nodes that are found once these were added, in their order, to those found before
+abbrev pub all_added : List Node → List Node → List Node
+all_added found [] = found
+all_added found (n ∷ ns) = all_added (added found n) ns
+
+-- what is known of a block of a chain: its hash, its header, and the place of its record
+abbrev pub node_of_block : Placed → Node
+node_of_block b = record { hash = block_hash b.block.header; header = b.block.header; place = b.place }
+
+-- the nodes of the chain's blocks, in their order
+abbrev pub nodes_of_chain : Chain → List Node
+nodes_of_chain chain = map node_of_block chain
+
+-- The nodes are those of all records of all block files, each file as it was when its size was told, in the
+-- order of their places. Whatever the files tell, the head of each node's record was read from one of them.
+-- `now` is the archive after that scan.
+pub record IsScanned {A : Type 0} (of_files : block_files.Ghosts A) (magic : List ℕ) (before now : A)
+    (nodes : List Node) : Type 0 where
+  pub each : AllByRecursion IsNode nodes
+  pub read : AllByRecursion (IsFoundBelow of_files.gave magic MOST_FILES) nodes
+  pub of_all : of_files.tells → (all : AllFiles of_files.bytes of_files.file_count before now)
+      × (nodes ≡ records_of_files magic (of_files.file_count all.told) all.files)
+  pub keeps : of_files.tells → AllGrow (of_files.bytes before) (of_files.bytes now)
+
+-- The nodes are those of the records of file 0, as it was when its size was told, and these give the chain.
+-- `before` and `now` are the block files before that was read and after.
+pub record IsRead (tells : Type 0) (before now : ℕ → List ℕ) (magic : List ℕ) (nodes : List Node)
+    (chain : Chain)
+    : Type 0 where
+  pub each : AllByRecursion IsNode nodes
+  pub good : IsGood chain
+  pub of_file : tells → (file : List ℕ) × IsFile (before 0) file (now 0) × GivesChain magic 0 file chain
+      × (nodes ≡ records magic 0 file)
+  pub keeps : tells → AllGrow before now

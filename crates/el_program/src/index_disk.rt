@@ -1,0 +1,74 @@
+// The index on a disk.
+ghost use Rattle.std.specs.Prelude.{◌≡◌, ◌≢◌, ◌⊎◌, ℕ, IfOk, IfErr, MatchResult};
+ghost use Rattle.el_chain.specs.Chains.{Chain};
+ghost use Rattle.el_outside.specs.Counts.{RoseBy};
+ghost use Rattle.el_journal.specs.declared.mark.TheConstants.{JOURNAL};
+ghost use Rattle.el_journal.specs.Entries.{IsBad};
+ghost use Rattle.el_program.specs.IndexDisks.{LeavesOneOf, IsNoIndex, IsAsBefore, IsIndexDisk};
+ghost use Rattle.el_program.specs.within.Unread.{open_status};
+
+use crate::status::Status;
+use el_index::Index;
+use el_logstore::{LogStore, images_stand_in_one_way, open_log};
+use el_outside::Disk;
+use el_redo::{NetworkMagic, OpenFault};
+use std::alloc::Global;
+
+// How the program ends where the index can't be opened.
+fn status_of(fault: OpenFault) -> Status
+    ensures { result ≡ open_status fault }
+{
+    match fault {
+        OpenFault::DiskFailed => Status::DiskFailed,
+        OpenFault::BadIndex { .. } => Status::BadIndex,
+        OpenFault::Memory => Status::OutOfMemory,
+    }
+}
+
+/// Opens the index that the disk keeps for the network. A disk that was never written is an index of no
+/// blocks.
+///
+/// # Errors
+///
+/// How the program then ends, with the disk: `BadIndex` where what is on it is no index of the network,
+/// `DiskFailed` where a call of it failed, `OutOfMemory`.
+pub fn open_index<D: Disk, N: NetworkMagic>(
+    alloc: Global,
+    disk: D,
+) -> Result<Index<LogStore<D, N>>, (Status, D)>
+    ensures live { IfOk result (λ i. ⟦<Index<LogStore<D, N>> as el_model::Ledger>⟧.is_live i) }
+    // It stands for what the disk stands for as it reads.
+    ensures stands { (was flight chain : Chain) → IsIndexDisk ⟦<D as Disk>⟧ N.magic disk was flight chain
+        → IfOk result (λ i. ⟦<Index<LogStore<D, N>> as el_model::Ledger>⟧.stands i chain) }
+    ensures unopened { (was flight chain : Chain) → IsIndexDisk ⟦<D as Disk>⟧ N.magic disk was flight chain
+        → IfErr result (λ e. (e.0 ≢ Status.BadIndex) × LeavesOneOf ⟦<D as Disk>⟧ N.magic e.1 was flight) }
+    ensures status { IfErr result (λ e. (e.0 ≡ Status.BadIndex)
+        ⊎ ((e.0 ≡ Status.DiskFailed) ⊎ (e.0 ≡ Status.OutOfMemory))) }
+    // It is bad exactly where the disk stands for no tables.
+    ensures bad { D.tells → IfErr result (λ e. e.0 ≡ Status.BadIndex
+        → IsNoIndex N.magic (D.seen disk)) }
+    ensures is_bad { D.tells → IsNoIndex N.magic (D.seen disk) → IfOk result (λ i. ⊥) }
+    // That its journal is cut is told without memory.
+    ensures is_cut { D.tells → (place : ℕ) → IsBad place (D.seen disk JOURNAL) → MatchResult result
+        (λ i. ⊥) (λ e. (e.0 ≡ Status.DiskFailed) ⊎ (e.0 ≡ Status.BadIndex)) }
+    // Then it is as it was, whatever is told of it.
+    ensures kept { D.tells → IsNoIndex N.magic (D.seen disk)
+        → IfErr result (λ e. IsAsBefore ⟦<D as Disk>⟧ disk e.1) }
+    ensures uncounted { IfOk result (λ i. ⟦<Index<LogStore<D, N>> as el_model::Ledger>⟧.faults i
+        ≡ D.faults disk) }
+    ensures counted { IfErr result (λ e. e.0 ≡ Status.DiskFailed
+        → RoseBy (D.faults disk) (D.faults e.1) 1) }
+    ensures others_uncounted { IfErr result (λ e. e.0 ≢ Status.DiskFailed
+        → D.faults e.1 ≡ D.faults disk) }
+{
+    // A law: an image stands for one index, so that what a crash leaves has one meaning.
+    images_stand_in_one_way();
+    let store = match open_log::<D, N>(alloc, disk) {
+        Ok(store) => store,
+        Err((fault, disk)) => return Err((status_of(fault), disk)),
+    };
+    match Index::over(alloc, store) {
+        Ok(index) => Ok(index),
+        Err((_, store)) => Err((Status::DiskFailed, store.into_disk())),
+    }
+}

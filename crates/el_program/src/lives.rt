@@ -1,0 +1,95 @@
+// Lives of the program.
+ghost use Rattle.std.specs.Prelude.{◌≡◌, ℕ, List, [], length};
+ghost use Rattle.std.specs.List.{AllByRecursion};
+ghost use Rattle.el_chain.specs.Chains.{Chain};
+ghost use Rattle.el_outside.specs.Disk.{Image};
+ghost use Rattle.el_words.specs.Commands.{IsServe};
+ghost use Rattle.el_words.specs.Words.{texts};
+ghost use Rattle.el_program.specs.Calls.{Call};
+ghost use Rattle.el_program.specs.IndexDisks.{ImageMeans, LeavesOneOf, IsCall};
+ghost use Rattle.el_program.specs.Lives.{AreLives, AreOver, GoOn, IsFresh, IsLeftBy, last_disk};
+ghost use Rattle.el_program.specs.within.Lived.{Lived};
+
+use crate::serving::serve;
+use crate::status::Status;
+use el_outside::{Archive, Disk, Link};
+use std::alloc::Global;
+
+/// Lives that follow each other on one disk, each a call of `serve`, however each ended: each is a run from
+/// the chain that its opening found, and that is the one that the life before acknowledged last, or the one
+/// that then was in flight. The first life finds empty files, which stand for no blocks.
+pub fn lives_go_on<D: Disk, A: Archive, K: Link>()
+    ensures empty { (magic : List ℕ) (image : Image) → ((f : ℕ) → image f ≡ [])
+        → ImageMeans magic image [] }
+    ensures go_on { (magic : List ℕ) (disk : D) (was flight : Chain) (lives : List (Call D A K)) → D.tells
+        → LeavesOneOf ⟦<D as Disk>⟧ magic disk was flight → AreLives ⟦<D as Disk>⟧ disk lives
+        → AllByRecursion (λ l. IsServe l.words magic) lives
+        → AllByRecursion (IsCall ⟦<D as Disk>⟧ ⟦<A as Archive>⟧ ⟦<K as Link>⟧) lives
+        → GoOn ⟦<D as Disk>⟧ ⟦<A as Archive>⟧ ⟦<K as Link>⟧ was flight lives }
+{}
+
+/// What comes between two lives: a crash at any moment, or an orderly end.
+pub trait Between<D: Disk> {
+    /// The disk of the next life: one that reads as an image that this one may leave, and has no others.
+    fn next(&mut self, disk: D) -> D
+        ensures left { D.tells → IsLeftBy ⟦<D as Disk>⟧ disk result };
+}
+
+// Lives one after the other, the first on what this disk leaves, which stands for the one chain or the other.
+fn live_on<D: Disk, A: Archive, K: Link, B: Between<D>>(
+    alloc: Global,
+    words: &[String],
+    disk: D,
+    between: &mut B,
+    turns: u64,
+    archives: &mut [A],
+    links: &mut [K],
+    ends: &mut [Status],
+) -> D
+    requires links { length links.old ≡ length archives.old }
+    requires ends { length ends.old ≡ length archives.old }
+    ensures lived { (magic : List ℕ) (was flight : Chain) → D.tells → IsServe (texts words.now) magic
+        → LeavesOneOf ⟦<D as Disk>⟧ magic disk was flight
+        → Lived ⟦<D as Disk>⟧ ⟦<A as Archive>⟧ ⟦<K as Link>⟧ disk was flight (texts words.now) turns
+        archives.old archives.new links.old links.new ends.new result }
+{
+    let Some((archive, archives)) = archives.split_first_mut() else {
+        return disk;
+    };
+    let Some((link, links)) = links.split_first_mut() else {
+        return disk;
+    };
+    let Some((end, ends)) = ends.split_first_mut() else {
+        return disk;
+    };
+    let disk = between.next(disk);
+    let (status, disk) = serve(alloc, words, disk, archive, link, turns);
+    *end = status;
+    live_on(alloc, words, disk, between, turns, archives, links, ends)
+}
+
+/// Lives of the program, one after the other, one for each of the links, over the block files beside it. The
+/// first begins on a disk whose files are empty, each next on what the one before may leave. It writes down
+/// how each ends, and gives back the disk as the last leaves it.
+pub fn live<D: Disk, A: Archive, K: Link, B: Between<D>>(
+    alloc: Global,
+    words: &[String],
+    disk: D,
+    between: &mut B,
+    turns: u64,
+    archives: &mut [A],
+    links: &mut [K],
+    ends: &mut [Status],
+) -> D
+    requires links { length links.old ≡ length archives.old }
+    requires ends { length ends.old ≡ length archives.old }
+    // They go on from the empty chain: each is a run from the chain that the one before acknowledged last, or
+    // from the one that then was in flight.
+    ensures whole { (magic : List ℕ) → D.tells → IsServe (texts words.now) magic
+        → IsFresh ⟦<D as Disk>⟧ disk → (lives : List (Call D A K))
+        × AreOver lives (texts words.now) turns archives.old archives.new links.old links.new ends.new
+        × AreLives ⟦<D as Disk>⟧ disk lives × (result ≡ last_disk disk lives)
+        × GoOn ⟦<D as Disk>⟧ ⟦<A as Archive>⟧ ⟦<K as Link>⟧ [] [] lives }
+{
+    live_on(alloc, words, disk, between, turns, archives, links, ends)
+}

@@ -1,0 +1,215 @@
+// From the words of the command line to the end of the program.
+ghost use Rattle.std.specs.Prelude.{◌≡◌, ◌⊎◌, ◌-◌, ◌^◌, List, drop, IfOk};
+ghost use Rattle.std.specs.Process.{exit_status};
+ghost use Rattle.el_words.specs.Options.{Word};
+ghost use Rattle.el_words.specs.Words.{texts};
+ghost use Rattle.el_words.specs.Commands.{IsNoCommand};
+ghost use Rattle.el_program.specs.within.Devices.{folder_of, index_of, ports_of, IsServeCommand, IsOnceCommand};
+ghost use Rattle.el_program.specs.Calls.{Call};
+ghost use Rattle.el_program.specs.IndexDisks.{IsCall};
+ghost use Rattle.el_program.specs.Program.{IsServing};
+ghost use Rattle.el_program.specs.Statuses.{code_of};
+
+use crate::failures::{Failing, tell_cause, tell_commands};
+use crate::serving::serve;
+use crate::status::Status;
+use el_base::OutOfMemory;
+use el_net::{
+    BlockFiles, BlockFolder, IndexFolder, NoDisk, NoFiles, NoLink, StandardLink, TcpLink,
+    index_files,
+};
+use el_open_files::FileDisk;
+use el_outside::{Disk, Link};
+use el_sockets::Ports;
+use el_words::{Command, read_words};
+use std::alloc::Global;
+use std::process::ExitCode;
+use std::{env, io};
+
+// At most this many calls of `next` are made: more than a program makes in its life.
+const TURNS: u64 = u64::MAX;
+
+// The words after the first, which is the program's name.
+fn after_name(words: Vec<String>) -> Vec<String>
+    ensures { result.items ≡ drop 1 words.items }
+{
+    let mut words = words;
+    if !words.is_empty() {
+        let _name = words.remove(0);
+    }
+    words
+}
+
+// The words after the program's name. None where one is no text, since no command has such a word.
+fn words_of(rt: &HostRuntime) -> Result<Vec<String>, OutOfMemory> {
+    match env::args(rt) {
+        Ok(words) => Ok(after_name(words.collect(rt.alloc())?)),
+        Err(e) if e.kind() == io::ErrorKind::OutOfMemory => Err(OutOfMemory),
+        Err(_) => Ok(Vec::new(rt.alloc())),
+    }
+}
+
+// The block files that the command asks for: those of its folder.
+fn files_of(
+    rt: HostRuntime,
+    alloc: Global,
+    command: &Command,
+) -> Result<BlockFiles<BlockFolder<HostRuntime>>, OutOfMemory>
+    ensures { IfOk result (λ files. (files.folder ≡ folder_of command.now) × (files.faults ≡ 0)) }
+{
+    let folder = match command {
+        Command::Serve(said) => &said.blocks,
+        Command::Once { blocks, .. } => blocks,
+    };
+    BlockFiles::new(rt, alloc, folder.as_str())
+}
+
+// The index that the command asks for: the files of its folder. `once` asks for none.
+fn disk_of(
+    rt: HostRuntime,
+    alloc: Global,
+    command: &Command,
+) -> Result<FileDisk<IndexFolder<HostRuntime>>, OutOfMemory>
+    ensures { IfOk result (λ disk. (disk.files ≡ index_of command.now) × (disk.faults ≡ 0)) }
+{
+    let folder = match command {
+        Command::Serve(said) => said.index.as_str(),
+        Command::Once { .. } => "",
+    };
+    index_files(rt, alloc, folder)
+}
+
+// Serves the words over a disk, the block files of their command and a link: a call of `serve` with them ends
+// so.
+fn serve_over<D: Disk + Failing + Drop, K: Link + Failing>(
+    rt: &HostRuntime,
+    words: &[String],
+    command: &Command,
+    disk: D,
+    link: &mut K,
+) -> Result<Status, OutOfMemory>
+    ensures ends { IfOk result (λ status. (c : Call _ _ _)
+        × IsCall ⟦<D as Disk>⟧ ⟦<BlockFiles<BlockFolder<HostRuntime>> as el_outside::Archive>⟧ ⟦<K as Link>⟧ c
+        × (c.words ≡ texts words.now) × (c.turns ≡ 2 ^ 64 - 1) × (c.before.disk ≡ disk)
+        × (c.before.files.folder ≡ folder_of command.now)
+        × (c.before.link ≡ link.old) × (c.after.link ≡ link.new) × (c.status ≡ status)) }
+    ensures refused { IsNoCommand (texts words.now) → IfOk result (λ status. status ≡ Status.Usage) }
+    ensures lawful { IfOk result (λ status. status ≡ Status.Usage → IsNoCommand (texts words.now)) }
+{
+    let mut archive = files_of(rt.clone()?, rt.alloc(), command)?;
+    let (status, disk) = serve(rt.alloc(), words, disk, &mut archive, link, TURNS);
+    tell_cause(rt, status, &disk, &archive, &*link);
+    Ok(status)
+}
+
+// What is told once the ports are open: the network, the folders and the ports. Nothing for `once`.
+fn start_line(alloc: Global, command: &Command) -> Result<String, OutOfMemory> {
+    match command {
+        Command::Serve(said) => {
+            let network = said.settings.network.name();
+            let blocks = said.blocks.as_str();
+            let index = said.index.as_str();
+            let client_port = said.settings.client_port;
+            let node_port = said.settings.node_port;
+            Ok(format!(in alloc;
+                "electrum_serve: serving {network}, blocks {blocks}, index {index}, \
+                 clients on port {client_port}, node on port {node_port}\n"
+            )?)
+        }
+        Command::Once { .. } => Ok(String::new(alloc)),
+    }
+}
+
+// Serves the command of these words over its devices: for `serve` the files of its index and two ports, for
+// `once` the standard streams.
+fn serve_command(
+    rt: &HostRuntime,
+    words: &[String],
+    command: &Command,
+) -> Result<Status, OutOfMemory>
+    ensures serve { IsServeCommand command.now → IfOk result (λ status. (c : Call _ _ _)
+        × IsCall ⟦<FileDisk<IndexFolder<HostRuntime>> as Disk>⟧
+        ⟦<BlockFiles<BlockFolder<HostRuntime>> as el_outside::Archive>⟧ ⟦<TcpLink<HostRuntime> as Link>⟧ c
+        × (c.words ≡ texts words.now) × (c.turns ≡ 2 ^ 64 - 1) × (c.before.disk.files ≡ index_of command.now)
+        × (c.before.files.folder ≡ folder_of command.now) × (c.before.link.asked ≡ ports_of command.now)
+        × (c.status ≡ status)) }
+    ensures once { IsOnceCommand command.now → IfOk result (λ status. (c : Call _ _ _)
+        × IsCall ⟦<NoDisk as Disk>⟧ ⟦<BlockFiles<BlockFolder<HostRuntime>> as el_outside::Archive>⟧
+        ⟦<StandardLink<HostRuntime> as Link>⟧ c
+        × (c.words ≡ texts words.now) × (c.turns ≡ 2 ^ 64 - 1)
+        × (c.before.files.folder ≡ folder_of command.now) × (c.status ≡ status)) }
+    ensures refused { IsNoCommand (texts words.now) → IfOk result (λ status. status ≡ Status.Usage) }
+    ensures lawful { IfOk result (λ status. status ≡ Status.Usage → IsNoCommand (texts words.now)) }
+{
+    match command {
+        Command::Serve(said) => {
+            let disk = disk_of(rt.clone()?, rt.alloc(), command)?;
+            let ports = Ports {
+                clients: said.settings.client_port,
+                node: said.settings.node_port,
+            };
+            let line = start_line(rt.alloc(), command)?;
+            let mut link = TcpLink::new(rt.clone()?, rt.alloc(), ports, line)?;
+            serve_over(rt, words, command, disk, &mut link)
+        }
+        Command::Once { .. } => {
+            let mut link = StandardLink::new(rt.clone()?);
+            serve_over(rt, words, command, NoDisk::new(), &mut link)
+        }
+    }
+}
+
+// Serves words that are no command over devices that have nothing.
+fn serve_nobody(rt: &HostRuntime, words: &[String]) -> Status
+    requires { IsNoCommand (texts words.now) }
+    ensures { result ≡ Status.Usage }
+{
+    let (status, _) = serve(
+        rt.alloc(),
+        words,
+        NoDisk::new(),
+        &mut NoFiles::new(),
+        &mut NoLink { calls: 0 },
+        TURNS,
+    );
+    status
+}
+
+// Serves the words over the devices that they ask for.
+fn serve_words(rt: &HostRuntime, words: &[String]) -> Result<Status, OutOfMemory>
+    ensures serving { IfOk result (IsServing ⟦<FileDisk<IndexFolder<HostRuntime>> as Disk>⟧ ⟦<NoDisk as Disk>⟧
+        ⟦<BlockFiles<BlockFolder<HostRuntime>> as el_outside::Archive>⟧ ⟦<TcpLink<HostRuntime> as Link>⟧
+        ⟦<StandardLink<HostRuntime> as Link>⟧ (texts words.now)) }
+    ensures refused { IsNoCommand (texts words.now) → IfOk result (λ status. status ≡ Status.Usage) }
+    ensures lawful { IfOk result (λ status. status ≡ Status.Usage → IsNoCommand (texts words.now)) }
+{
+    match read_words(rt.alloc(), words)? {
+        Some(command) => serve_command(rt, words, &command),
+        None => {
+            tell_commands(rt);
+            Ok(serve_nobody(rt, words))
+        }
+    }
+}
+
+/// Serves the words that the program was started with, with no end of turns, and answers how that ended. What
+/// the words are is the system's to say; a word that is no text counts as no command.
+pub fn serve_all(rt: &HostRuntime) -> Status
+    ensures { (result ≡ Status.OutOfMemory) ⊎ ((words : List Word)
+        × IsServing ⟦<FileDisk<IndexFolder<HostRuntime>> as Disk>⟧ ⟦<NoDisk as Disk>⟧
+        ⟦<BlockFiles<BlockFolder<HostRuntime>> as el_outside::Archive>⟧ ⟦<TcpLink<HostRuntime> as Link>⟧
+        ⟦<StandardLink<HostRuntime> as Link>⟧ words result) }
+{
+    match words_of(rt) {
+        Ok(words) => serve_words(rt, words.as_slice()).unwrap_or(Status::OutOfMemory),
+        Err(_) => Status::OutOfMemory,
+    }
+}
+
+/// Tells on standard error how the program ended, and gives its exit status.
+pub fn tell_end(rt: &HostRuntime, status: Status) -> ExitCode
+    ensures { exit_status result ≡ code_of status }
+{
+    let _ = eprint!(rt; "{}", status.line());
+    ExitCode::from(status.code())
+}

@@ -1,0 +1,247 @@
+// The whole of the program.
+ghost use Rattle.std.specs.Prelude.{◌≡◌, ◌≢◌, ◌<◌, ℕ, List, [], IfOk, IsErrOf};
+ghost use Rattle.el_outside.specs.Counts.{OnlyReads};
+ghost use Rattle.el_outside.specs.Files.{AllGrow, IsFile};
+ghost use Rattle.el_outside.specs.Trace.{Trace};
+ghost use Rattle.el_chain.specs.declared.node.Node as shape;
+ghost use Rattle.el_chain.specs.Chains.{Chain};
+ghost use Rattle.el_words.specs.Words.{network_magic, texts};
+ghost use Rattle.el_words.specs.Commands.{IsNoCommand, IsServe};
+ghost use Rattle.el_program.specs.IndexDisks.{LeavesOneOf, IsNoIndex, IsAsBefore, IsIndexDisk, IsCall};
+ghost use Rattle.el_loop.specs.Counts.{counts_of, devices};
+ghost use Rattle.el_program.specs.Calls.{call};
+ghost use Rattle.el_program.specs.File.{GivesNoChain};
+ghost use Rattle.el_program.specs.Opened.{IsRead, all_added};
+ghost use Rattle.el_program.specs.Statuses.{ShowsCause};
+ghost use Rattle.el_loop.specs.Runs.{WentBy};
+ghost use Rattle.el_program.specs.Ends.{OnceEnds, IndexEnds, IsUnserved, IsUnopened};
+ghost use Rattle.el_program.specs.within.Unread.{unread_status};
+
+use crate::file::{FileFault, read_chain};
+use crate::index_disk::open_index;
+use crate::opening::tree_of;
+use crate::starting::serve_index;
+use crate::status::Status;
+use el_headers::HeaderTree;
+use el_loop::{RunOptions, serve_from};
+use el_mempool::PoolLimits;
+use el_outside::{Archive, Disk, Link};
+use el_plain::PlainLedger;
+use el_redo::{Mainnet, NetworkMagic, Regtest, Testnet3};
+use el_words::{Network, greatest_limits, once_of, serve_of};
+use std::alloc::Global;
+
+// How the program ends where file 0 can't be read.
+fn status_of(fault: FileFault) -> Status
+    ensures { result ≡ unread_status fault }
+{
+    match fault {
+        FileFault::Failed => Status::ArchiveFailed,
+        FileFault::Memory => Status::OutOfMemory,
+        FileFault::Bad => Status::BadChain,
+    }
+}
+
+// The chain of file 0, and the tree of its records.
+fn open_file<A: Archive>(
+    alloc: Global,
+    archive: &mut A,
+    magic: [u8; 4],
+) -> Result<(HeaderTree, PlainLedger), FileFault>
+    ensures opened { IfOk result (λ r. (nodes : List shape.Node)
+        × IsRead A.tells (A.bytes archive.old) (A.bytes archive.new) magic nodes r.1
+        × (r.0 ≡ all_added [] nodes)) }
+    ensures bad { IsErrOf result FileFault.Bad → A.tells → (file : List ℕ)
+        × IsFile (A.bytes archive.old 0) file (A.bytes archive.new 0) × GivesNoChain magic file }
+    ensures only_reads { OnlyReads A.tells (A.bytes archive.old) (A.bytes archive.new)
+        (A.faults archive.old) (A.faults archive.new) FileFault.Failed result }
+{
+    let (nodes, chain) = match read_chain(alloc, archive, magic) {
+        Ok(read) => read,
+        Err(fault) => return Err(fault),
+    };
+    match tree_of(alloc, &[], nodes.as_slice()) {
+        Ok(tree) => Ok((tree, PlainLedger::over(chain))),
+        Err(_) => Err(FileFault::Memory),
+    }
+}
+
+// `serve`: a node and clients, from the index on the disk and the headers of all block files.
+fn serve_disk<D: Disk, N: NetworkMagic, A: Archive, K: Link>(
+    alloc: Global,
+    limits: PoolLimits,
+    disk: D,
+    archive: &mut A,
+    link: &mut K,
+    turns: u64,
+) -> (Status, D)
+    ensures ends { (was flight chain : Chain) → IsIndexDisk ⟦<D as Disk>⟧ N.magic disk was flight chain
+        → (traffic : Trace)
+        × WentBy ⟦<K as Link>⟧ link.old link.new traffic
+        × IndexEnds ⟦<A as Archive>⟧ N.magic limits was flight chain
+        (LeavesOneOf ⟦<D as Disk>⟧ N.magic result.1) (counts_of D.faults ⟦<A as Archive>⟧ ⟦<K as Link>⟧ turns
+        (devices disk archive.old link.old) (devices result.1 archive.new link.new))
+        archive.old archive.new traffic result.0 }
+    ensures bad { D.tells → result.0 ≡ Status.BadIndex → IsNoIndex N.magic (D.seen disk) }
+    ensures is_bad { D.tells → IsNoIndex N.magic (D.seen disk) → IsUnopened result.0 }
+    // Then the index is as it was, whatever is told of it; where that is told, nothing was counted.
+    ensures kept { D.tells → IsNoIndex N.magic (D.seen disk) → IsAsBefore ⟦<D as Disk>⟧ disk result.1 }
+    ensures kept_counts { result.0 ≡ Status.BadIndex → D.faults result.1 ≡ D.faults disk }
+    ensures kept_files { result.0 ≡ Status.BadIndex → archive.new ≡ archive.old }
+    ensures causes { ShowsCause (counts_of D.faults ⟦<A as Archive>⟧ ⟦<K as Link>⟧ turns
+        (devices disk archive.old link.old) (devices result.1 archive.new link.new)) result.0 }
+    ensures read { result.0 ≢ Status.Usage }
+    ensures unserved { IsUnserved result.0 → link.new ≡ link.old }
+    ensures keeps { A.tells → AllGrow (A.bytes archive.old) (A.bytes archive.new) }
+{
+    match open_index::<D, N>(alloc, disk) {
+        Ok(index) => {
+            let (status, index) = serve_index(
+                alloc,
+                index,
+                N::magic(),
+                limits,
+                archive,
+                link,
+                turns,
+            );
+            (status, index.into_rows().into_disk())
+        }
+        Err((status, disk)) => (status, disk),
+    }
+}
+
+// `serve` for a network.
+fn serve_network<D: Disk, A: Archive, K: Link>(
+    alloc: Global,
+    network: Network,
+    limits: PoolLimits,
+    disk: D,
+    archive: &mut A,
+    link: &mut K,
+    turns: u64,
+) -> (Status, D)
+    ensures ends { (was flight chain : Chain)
+        → IsIndexDisk ⟦<D as Disk>⟧ (network_magic network) disk was flight chain
+        → (traffic : Trace)
+        × WentBy ⟦<K as Link>⟧ link.old link.new traffic
+        × IndexEnds ⟦<A as Archive>⟧ (network_magic network) limits was flight chain
+        (LeavesOneOf ⟦<D as Disk>⟧ (network_magic network) result.1)
+        (counts_of D.faults ⟦<A as Archive>⟧ ⟦<K as Link>⟧ turns
+        (devices disk archive.old link.old) (devices result.1 archive.new link.new))
+        archive.old archive.new traffic result.0 }
+    ensures bad { D.tells → result.0 ≡ Status.BadIndex → IsNoIndex (network_magic network) (D.seen disk) }
+    ensures is_bad { D.tells → IsNoIndex (network_magic network) (D.seen disk) → IsUnopened result.0 }
+    // Then the index is as it was, whatever is told of it; where that is told, nothing was counted.
+    ensures kept { D.tells → IsNoIndex (network_magic network) (D.seen disk)
+        → IsAsBefore ⟦<D as Disk>⟧ disk result.1 }
+    ensures kept_counts { result.0 ≡ Status.BadIndex → D.faults result.1 ≡ D.faults disk }
+    ensures kept_files { result.0 ≡ Status.BadIndex → archive.new ≡ archive.old }
+    ensures causes { ShowsCause (counts_of D.faults ⟦<A as Archive>⟧ ⟦<K as Link>⟧ turns
+        (devices disk archive.old link.old) (devices result.1 archive.new link.new)) result.0 }
+    ensures read { result.0 ≢ Status.Usage }
+    ensures unserved { IsUnserved result.0 → link.new ≡ link.old }
+    ensures keeps { A.tells → AllGrow (A.bytes archive.old) (A.bytes archive.new) }
+{
+    match network {
+        Network::Main => serve_disk::<D, Mainnet, A, K>(alloc, limits, disk, archive, link, turns),
+        Network::Testnet3 => serve_disk::<D, Testnet3, A, K>(
+            alloc, limits, disk, archive, link, turns,
+        ),
+        Network::Regtest => serve_disk::<D, Regtest, A, K>(
+            alloc, limits, disk, archive, link, turns,
+        ),
+    }
+}
+
+// `once`: clients without a node, from the chain and the headers of file 0.
+fn serve_file<A: Archive, K: Link>(
+    alloc: Global,
+    magic: [u8; 4],
+    archive: &mut A,
+    link: &mut K,
+    turns: u64,
+) -> Status
+    ensures ends { (disk : ℕ) → (traffic : Trace)
+        × WentBy ⟦<K as Link>⟧ link.old link.new traffic
+        × OnceEnds A.tells magic (counts_of (λ d. d) ⟦<A as Archive>⟧ ⟦<K as Link>⟧ turns
+        (devices disk archive.old link.old) (devices disk archive.new link.new))
+        (A.bytes archive.old) (A.bytes archive.new) traffic result }
+    ensures causes { (disk : ℕ) → ShowsCause (counts_of (λ d. d) ⟦<A as Archive>⟧ ⟦<K as Link>⟧ turns
+        (devices disk archive.old link.old) (devices disk archive.new link.new)) result }
+    ensures unserved { IsUnserved result → link.new ≡ link.old }
+    ensures keeps { A.tells → AllGrow (A.bytes archive.old) (A.bytes archive.new) }
+{
+    match open_file(alloc, archive, magic) {
+        Ok((tree, ledger)) => {
+            let options = RunOptions {
+                magic,
+                limits: greatest_limits(),
+                node: false,
+                turns,
+            };
+            let (end, _) = serve_from(alloc, ledger, tree, archive, link, options);
+            Status::of_end(end)
+        }
+        Err(fault) => status_of(fault),
+    }
+}
+
+/// Does all that the program does. With the words of `serve` it opens the index on the disk, finds the
+/// headers of all block files, and answers the node and the clients of the link, from the chain to which the
+/// node leads it. With those of `once` it reads file 0, and answers the link's clients from its chain,
+/// without the disk. It ends as the link does, or fails, and makes at most `turns` calls of `next`. The disk
+/// comes back as it stands; where it is no index of the network, it stands for what it stood for before.
+pub fn serve<D: Disk, A: Archive, K: Link>(
+    alloc: Global,
+    words: &[String],
+    disk: D,
+    archive: &mut A,
+    link: &mut K,
+    turns: u64,
+) -> (Status, D)
+    // What was sent and closed is a run from what the disk and the block files gave, each status has its
+    // cause, and what a crash may leave in the end is the chain that is acknowledged or the one in flight.
+    ensures ends { IsCall ⟦<D as Disk>⟧ ⟦<A as Archive>⟧ ⟦<K as Link>⟧ (call (texts words.now) turns
+        (devices disk archive.old link.old) (devices result.1 archive.new link.new) result.0) }
+    // The index is bad exactly where the disk stands for no tables of the network.
+    ensures bad { D.tells → result.0 ≡ Status.BadIndex → (magic : List ℕ) → IsServe (texts words.now) magic
+        → IsNoIndex magic (D.seen disk) }
+    ensures is_bad { D.tells → (magic : List ℕ) → IsServe (texts words.now) magic
+        → IsNoIndex magic (D.seen disk) → IsUnopened result.0 }
+    // Then the index is as it was, whatever is told of it; where that is told, nothing was counted.
+    ensures kept { D.tells → (magic : List ℕ) → IsServe (texts words.now) magic
+        → IsNoIndex magic (D.seen disk) → IsAsBefore ⟦<D as Disk>⟧ disk result.1 }
+    ensures kept_counts { result.0 ≡ Status.BadIndex → D.faults result.1 ≡ D.faults disk }
+    ensures kept_files { result.0 ≡ Status.BadIndex → archive.new ≡ archive.old }
+    // Whatever the devices tell, a failure that ends the run was counted.
+    ensures causes { ShowsCause (counts_of D.faults ⟦<A as Archive>⟧ ⟦<K as Link>⟧ turns
+        (devices disk archive.old link.old) (devices result.1 archive.new link.new)) result.0 }
+    // Other words are refused, and then no device is called.
+    ensures refused { IsNoCommand (texts words.now) → result.0 ≡ Status.Usage }
+    ensures lawful { result.0 ≡ Status.Usage → IsNoCommand (texts words.now) }
+    ensures unread { result.0 ≡ Status.Usage → archive.new ≡ archive.old }
+    // The disk is called only for an index, and the link only to serve.
+    ensures untouched { ((magic : List ℕ) → IsServe (texts words.now) magic → ⊥) → result.1 ≡ disk }
+    ensures unserved { IsUnserved result.0 → link.new ≡ link.old }
+    ensures keeps { A.tells → AllGrow (A.bytes archive.old) (A.bytes archive.new) }
+{
+    if let Some(settings) = serve_of(words) {
+        return serve_network::<D, A, K>(
+            alloc,
+            settings.network,
+            settings.limits,
+            disk,
+            archive,
+            link,
+            turns,
+        );
+    }
+    match once_of(words) {
+        Some(network) => (
+            serve_file::<A, K>(alloc, network.magic(), archive, link, turns),
+            disk,
+        ),
+        None => (Status::Usage, disk),
+    }
+}

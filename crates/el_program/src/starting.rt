@@ -1,0 +1,72 @@
+// A run from an index that is open.
+ghost use Rattle.std.specs.Prelude.{◌≡◌};
+ghost use Rattle.el_outside.specs.Files.{AllGrow};
+ghost use Rattle.el_outside.specs.Trace.{Trace};
+ghost use Rattle.el_chain.specs.Chains.{Chain};
+ghost use Rattle.el_model.specs.Keeping.{LeavesEither};
+ghost use Rattle.el_loop.specs.Counts.{counts_of, devices};
+ghost use Rattle.el_loop.specs.Runs.{WentBy};
+ghost use Rattle.el_program.specs.Ends.{ServeEnds, IsUnserved, IsOpenedEnd};
+ghost use Rattle.el_program.specs.Statuses.{ShowsCause};
+ghost use Rattle.el_program.specs.within.Unread.{start_status};
+
+use crate::opening::{StartFault, open_headers};
+use crate::status::Status;
+use el_loop::{RunOptions, serve_from};
+use el_mempool::PoolLimits;
+use el_model::Ledger;
+use el_outside::{Archive, Link};
+use std::alloc::Global;
+
+// How the program ends where nobody can be served from an index that is open.
+fn status_of(fault: StartFault) -> Status
+    ensures { result ≡ start_status fault }
+{
+    match fault {
+        StartFault::DiskFailed => Status::DiskFailed,
+        StartFault::ArchiveFailed => Status::ArchiveFailed,
+        StartFault::OtherChain => Status::OtherChain,
+        StartFault::Memory => Status::OutOfMemory,
+    }
+}
+
+/// Serves a node and clients from an index that is open, with these limits of the unconfirmed set. The ledger
+/// comes back as it stands.
+pub fn serve_index<G: Ledger, A: Archive, K: Link>(
+    alloc: Global,
+    ledger: G,
+    magic: [u8; 4],
+    limits: PoolLimits,
+    archive: &mut A,
+    link: &mut K,
+    turns: u64,
+) -> (Status, G)
+    requires live { G.is_live ledger }
+    ensures ends { (chain : Chain) → G.stands ledger chain → (traffic : Trace)
+        × WentBy ⟦<K as Link>⟧ link.old link.new traffic
+        × ServeEnds ⟦<A as Archive>⟧ magic limits chain
+        (LeavesEither G.tells_crash G.means G.moment G.left_since result.1)
+        (counts_of G.faults ⟦<A as Archive>⟧ ⟦<K as Link>⟧ turns
+        (devices ledger archive.old link.old) (devices result.1 archive.new link.new))
+        archive.old archive.new traffic result.0 }
+    ensures causes { ShowsCause (counts_of G.faults ⟦<A as Archive>⟧ ⟦<K as Link>⟧ turns
+        (devices ledger archive.old link.old) (devices result.1 archive.new link.new)) result.0 }
+    ensures opened { IsOpenedEnd result.0 }
+    ensures unserved { IsUnserved result.0 → link.new ≡ link.old }
+    ensures keeps { A.tells → AllGrow (A.bytes archive.old) (A.bytes archive.new) }
+{
+    let mut ledger = ledger;
+    match open_headers(alloc, &mut ledger, archive, magic) {
+        Ok(tree) => {
+            let options = RunOptions {
+                magic,
+                limits,
+                node: true,
+                turns,
+            };
+            let (end, ledger) = serve_from(alloc, ledger, tree, archive, link, options);
+            (Status::of_end(end), ledger)
+        }
+        Err(fault) => (status_of(fault), ledger),
+    }
+}

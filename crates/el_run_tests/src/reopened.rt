@@ -1,0 +1,108 @@
+// Lives over what a life before left on the disk.
+use el_mem_disk::MemDisk;
+use el_program::Status;
+use el_trials::Step::{Opens, Says};
+use el_trials::{
+    Files, Life, NO_FILES, SERVE, SERVE_MAIN, Step, expect_ended, expect_sent, fresh_disk, life_on,
+};
+use std::alloc::Global;
+use std::test::Fail;
+
+// What comes in a life that nobody is served in.
+const UNSERVED: &[Step<'static>] = &[Opens(1), Says(0, "tip {a0}\n"), Says(1, "{}\n")];
+
+// What a client asks, after the node.
+const ASKS: &[Step<'static>] = &[
+    Opens(1),
+    Says(0, "tip {z-d1}\n"),
+    Says(
+        1,
+        "{asks-balance}{script101}{asked}\n{asks}{script101}{asked}\n{gets}{shared-txid}{asked}\n",
+    ),
+];
+
+// The files of a first life on regtest, and what the node says; the words, the files and what comes in a
+// second one, how that ends, and what is sent; and what the index alone then answers to the first one's node.
+struct Lives {
+    files: Files,
+    first: &'static str,
+    words: &'static str,
+    second: (Files, &'static [Step<'static>]),
+    status: Status,
+    sent: &'static str,
+    kept: &'static str,
+}
+
+const LIVES: &[Lives] = &[
+    // another network's words
+    Lives {
+        files: Files::Branch(1),
+        first: "tip {a0}\n",
+        words: SERVE_MAIN,
+        second: (Files::Branch(1), UNSERVED),
+        status: Status::BadIndex,
+        sent: "",
+        kept: "0 at {a0} 0\n",
+    },
+    // another first block alone
+    Lives {
+        files: Files::Branch(1),
+        first: "tip {a0}\n",
+        words: SERVE,
+        second: (Files::Foreign, UNSERVED),
+        status: Status::OtherChain,
+        sent: "",
+        kept: "0 at {a0} 0\n",
+    },
+    // an index of no blocks is of no other chain
+    Lives {
+        files: Files::Branch(1),
+        first: "",
+        words: SERVE,
+        second: (Files::Foreign, UNSERVED),
+        status: Status::Ended,
+        sent: "0 refused unknown {a0}\n1 {invalid}\n",
+        kept: "",
+    },
+    // what the coins of a script hold together, and its history, from the index; a transaction's bytes are
+    // gone
+    Lives {
+        files: Files::Forks,
+        first: "tip {z-d1}\n",
+        words: SERVE,
+        second: (NO_FILES, ASKS),
+        status: Status::Ended,
+        sent: "0 at {z-d1} 1\n1 {holds}7500000000{held}\n\
+               1 {lists}{z-entry},{z1-entry},{shared-entry}{listed}\n1 {changed}\n",
+        kept: "0 at {z-d1} 1\n",
+    },
+];
+
+// The disk after the first life, in which the node says this.
+fn first_life(alloc: Global, files: Files, said: &str) -> Result<MemDisk, Fail> {
+    let steps = [Says(0, said)];
+    let life = life_on(alloc, SERVE, fresh_disk(alloc), files, steps.as_slice())?;
+    Ok(life.disk)
+}
+
+// How the second life ends, and what is sent; and what is sent in the third one.
+fn run(alloc: Global, lives: &Lives) -> Result<(Status, String, String), Fail> {
+    let disk = first_life(alloc, lives.files, lives.first)?;
+    let (files, steps) = lives.second;
+    let Life { status, text, disk } = life_on(alloc, lives.words, disk, files, steps)?;
+    let asks = [Says(0, lives.first)];
+    let third = life_on(alloc, SERVE, disk, NO_FILES, asks.as_slice())?;
+    Ok((status, text, third.text))
+}
+
+#[test]
+fn an_index_of_an_earlier_life(rt: HostRuntime) -> Result<(), Fail> {
+    let alloc = rt.alloc();
+    for lives in LIVES {
+        let (status, sent, kept) = run(alloc, lives)?;
+        let wanted = (lives.status, lives.sent);
+        expect_ended(alloc, (status, sent.as_str()), wanted)?;
+        expect_sent(alloc, kept.as_str(), lives.kept)?;
+    }
+    Ok(())
+}

@@ -1,0 +1,5 @@
+pub mod Plans
+pub mod Prefixes
+pub mod Side
+pub mod NodeSteps
+pub mod UnderWay

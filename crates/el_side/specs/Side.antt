@@ -1,0 +1,193 @@
+-- The side of the world that the node leads, and what each of its lines does to it. The device of each failed
+-- call stands among `losses`. `tells` is whether the block files tell their bytes.
+use Rattle.std.specs.Prelude.{◌≡◌, ◌≤◌, ◌<◌, ◌&&◌, ℕ, true, false, not, if◌then◌else◌, MatchBool, List, [], ◌∷◌, ◌++◌, length, drop, Option, Some, None, IfSome}
+use Rattle.el_base.specs.declared.hash.Hash32.{Hash32}
+use Rattle.el_outside.specs.Devices.{Device, archive}
+use Rattle.el_outside.specs.Files.{AllGrow, IsFile}
+use Rattle.el_tx.specs.declared.types.Tx.{Tx}
+use Rattle.el_tx.specs.Encoding.{Encodes}
+use Rattle.el_tx.specs.Hashing.{txid}
+use Rattle.el_chain.specs.declared.node.Node.{Node}
+use Rattle.el_chain.specs.declared.moves.MoveFault.{MoveFault}
+use Rattle.el_chain.specs.Chains.{Chain}
+use Rattle.el_chain.specs.Headers.{IsPath, is_known, is_second, added}
+use Rattle.el_chain.specs.Moves.{Moves, IsRefused, shorter, max_back}
+use Rattle.el_chain.specs.Records.{node_at, IsNode}
+use Rattle.el_mempool.specs.declared.entry.PoolLimits.{PoolLimits}
+use Rattle.el_mempool.specs.declared.fault.PoolFault.{PoolFault}
+use Rattle.el_mempool.specs.Refusals.{tx_refusal, is_kept}
+use Rattle.el_mempool.specs.Sift.{sift, other_than}
+use Rattle.el_lines.specs.Lines.{LineEvent, line, too_long}
+use Rattle.el_lines.specs.NodeLines.{NodeLine, block, tip, tx, dropped, ReadsNodeLine}
+use Rattle.el_lines.specs.NodeAnswers.{move_refused, pool_refused}
+use Rattle.el_lines.specs.declared.node_answer.NodeAnswer.{NodeAnswer}
+use Rattle.el_lines.specs.declared.node_answer.NodeAnswer.TheVariants as say
+use Rattle.el_lines.specs.declared.node_answer.NodeRefusal.{NodeRefusal}
+use Rattle.el_lines.specs.declared.node_answer.NodeRefusal.TheVariants as refusal
+use Rattle.el_side.specs.Plans.{back_of, rest_of, IsMoving, plan_of, left_of}
+use Rattle.el_model.specs.Queries.{height_of, tip_of}
+
+-- What the node leads: the chain that is answered from; the magic of the network; how much may be kept; the
+-- unconfirmed transactions that are kept, in order of arrival; the nodes that were found; the blocks that its
+-- last tip line is still to put in; and the bytes of the block files as its last line left them.
+pub record Side : Type 0 where
+  pub chain : Chain
+  pub magic : List ℕ
+  pub limits : PoolLimits
+  pub kept : List Tx
+  pub found : List Node
+  pub ahead : List Node
+  pub files : ℕ → List ℕ
+
+-- the side of a chain before the node said anything
+abbrev pub quiet_side : Chain → List ℕ → PoolLimits → List Node → (ℕ → List ℕ) → Side
+quiet_side chain magic limits found files = record {
+  chain = chain;
+  magic = magic;
+  limits = limits;
+  kept = [];
+  found = found;
+  ahead = [];
+  files = files;
+}
+
+-- What is found at a place of a block file, as the file was at some moment of the line. `files` are the block
+-- files as the line leaves them.
+pub record LooksUp (tells : Type 0) (side : Side) (file at : ℕ) (found : Option Node) (files : ℕ → List ℕ)
+    : Type 0 where
+  pub node : IfSome found IsNode
+  pub grows : tells → AllGrow side.files files
+  pub record_is : tells → (bytes : List ℕ) × IsFile (side.files file) bytes (files file)
+      × (found ≡ node_at side.magic file at (drop at bytes) (length (drop at bytes)))
+
+-- what the node is answered where this stands at a place
+abbrev pub found_answer : List Node → Option Node → NodeAnswer
+found_answer known None = say.Refused refusal.Place
+found_answer known (Some n) =
+    if not (is_known known n.hash) && is_second known n then say.Refused (refusal.Genesis n.hash)
+    else say.Block n.hash
+
+-- the nodes that are then found
+abbrev pub found_after : List Node → Option Node → List Node
+found_after known None = known
+found_after known (Some n) = added known n
+
+-- A line that tells a place of the block files.
+pub data Looks (tells : Type 0) (side : Side) (file at : ℕ) (answer : NodeAnswer) (losses : List Device)
+    (next : Side) : Type 0 where
+  -- what stands at the place joins what was found
+  looks : (found : Option Node) (files : ℕ → List ℕ) → LooksUp tells side file at found files
+      → answer ≡ found_answer side.found found
+      → next ≡ record side { found = found_after side.found found; files = files } → losses ≡ []
+      → Looks tells side file at answer losses next
+  -- the block files failed
+  fails : (files : ℕ → List ℕ) → (tells → AllGrow side.files files) → answer ≡ say.Refused refusal.Archive
+      → next ≡ record side { files = files } → losses ≡ archive ∷ []
+      → Looks tells side file at answer losses next
+
+-- the transactions that are kept once a move left these blocks to put in: with the last move of a line they
+-- are sifted over the chain
+abbrev pub kept_after : List Node → Chain → List Tx → List Tx
+kept_after [] chain kept = sift chain kept
+kept_after (n ∷ ns) chain kept = kept
+
+-- One move of a tip line, where so many blocks are to be taken back and these are to be put in. The node is
+-- answered, and the side is then `next`.
+pub data Moving (tells : Type 0) (side : Side) (back : ℕ) (rest : List Node) (answer : NodeAnswer)
+    (losses : List Device) (next : Side) : Type 0 where
+  -- it is done, and the node is told where the chain ends
+  commits : (files : ℕ → List ℕ) (blocks : Chain) → (tells → AllGrow side.files files)
+      → Moves tells files side.chain (plan_of back rest) blocks
+      → next ≡ record side {
+        chain = shorter back side.chain ++ blocks;
+        kept = kept_after (left_of rest) (shorter back side.chain ++ blocks) side.kept;
+        ahead = left_of rest;
+        files = files;
+      }
+      → answer ≡ say.At (tip_of next.chain) (height_of next.chain) → losses ≡ []
+      → Moving tells side back rest answer losses next
+  -- it is refused for one of its blocks, and ends the line, after which the kept ones are sifted
+  refuses : (files : ℕ → List ℕ) (e : MoveFault) → (tells → AllGrow side.files files)
+      → move_refused e ≡ Some answer → IsRefused tells files side.chain (plan_of back rest) e
+      → next ≡ record side { kept = sift side.chain side.kept; ahead = []; files = files } → losses ≡ []
+      → Moving tells side back rest answer losses next
+  -- the block files failed, which ends it too
+  fails : (files : ℕ → List ℕ) → (tells → AllGrow side.files files) → answer ≡ say.Refused refusal.Archive
+      → next ≡ record side { kept = sift side.chain side.kept; ahead = []; files = files }
+      → losses ≡ archive ∷ [] → Moving tells side back rest answer losses next
+
+-- A tip line along the path to its block, up to its first move.
+pub data GoesAlong (tells : Type 0) (side : Side) (path : List Node) (answer : NodeAnswer)
+    (losses : List Device) (next : Side) : Type 0 where
+  -- too many blocks would be taken back
+  deep : max_back < back_of side.chain path
+      → answer ≡ say.Refused (refusal.Deep (back_of side.chain path)) → next ≡ side → losses ≡ []
+      → GoesAlong tells side path answer losses next
+  -- the chain ends there
+  there : back_of side.chain path ≡ 0 → rest_of side.chain path ≡ []
+      → answer ≡ say.At (tip_of side.chain) (height_of side.chain) → next ≡ side → losses ≡ []
+      → GoesAlong tells side path answer losses next
+  moves : back_of side.chain path ≤ max_back → IsMoving (back_of side.chain path) (rest_of side.chain path)
+      → Moving tells side (back_of side.chain path) (rest_of side.chain path) answer losses next
+      → GoesAlong tells side path answer losses next
+
+-- A tip line, up to its first move.
+pub data Tips (tells : Type 0) (side : Side) (h : Hash32) (answer : NodeAnswer) (losses : List Device)
+    (next : Side) : Type 0 where
+  unknown : is_known side.found h ≡ false → answer ≡ say.Refused (refusal.Unknown h) → next ≡ side
+      → losses ≡ [] → Tips tells side h answer losses next
+  unconnected : is_known side.found h ≡ true → ((path : List Node) → IsPath side.found h path → ⊥)
+      → answer ≡ say.Refused (refusal.Unconnected h) → next ≡ side → losses ≡ []
+      → Tips tells side h answer losses next
+  along : (path : List Node) → IsPath side.found h path → GoesAlong tells side path answer losses next
+      → Tips tells side h answer losses next
+
+-- A line that tells an unconfirmed transaction by its bytes.
+pub data Adds (side : Side) (bytes : List ℕ) (answer : NodeAnswer) (losses : List Device) (next : Side)
+    : Type 0 where
+  -- it joins the kept ones, as the last
+  joins : (t : Tx) → Encodes bytes t → tx_refusal side.limits side.chain side.kept t ≡ None
+      → answer ≡ say.Tx (txid t) → next ≡ record side { kept = side.kept ++ t ∷ [] } → losses ≡ []
+      → Adds side bytes answer losses next
+  -- this is the first refusal of it
+  refuses : (t : Tx) (e : PoolFault) → Encodes bytes t
+      → tx_refusal side.limits side.chain side.kept t ≡ Some e → pool_refused (txid t) e ≡ Some answer
+      → next ≡ side → losses ≡ [] → Adds side bytes answer losses next
+  -- the bytes are not one whole transaction
+  misread : ((t : Tx) → Encodes bytes t → ⊥) → answer ≡ say.Refused refusal.Form → next ≡ side
+      → losses ≡ [] → Adds side bytes answer losses next
+
+-- A line that takes the transaction with that txid out of the kept ones, with those that spend it.
+abbrev pub Drops : Side → Hash32 → NodeAnswer → List Device → Side → Type 0
+Drops side id answer losses next =
+    MatchBool (is_kept id side.kept)
+    ((answer ≡ say.Gone id) × (next ≡ record side { kept = sift side.chain (other_than id side.kept) })
+    × (losses ≡ []))
+    ((answer ≡ say.Refused (refusal.Absent id)) × (next ≡ side) × (losses ≡ []))
+
+-- what a line of the node says, if it says something
+abbrev pub IsSaid : List ℕ → Option NodeLine → Type 0
+IsSaid bytes (Some said) = ReadsNodeLine bytes said
+IsSaid bytes None = (said : NodeLine) → ReadsNodeLine bytes said → ⊥
+
+-- the line is refused for this, and does nothing
+abbrev pub Refuses : Side → NodeRefusal → NodeAnswer → List Device → Side → Type 0
+Refuses side why answer losses next = (answer ≡ say.Refused why) × (next ≡ side) × (losses ≡ [])
+
+-- A line of the node that says this.
+abbrev pub Orders : Type 0 → Side → Option NodeLine → NodeAnswer → List Device → Side → Type 0
+Orders tells side (Some (block file at)) answer losses next = Looks tells side file at answer losses next
+-- the chain is to end in that block
+Orders tells side (Some (tip hash)) answer losses next =
+    Tips tells side (record { 0 = hash }) answer losses next
+-- an unconfirmed transaction came, or one went
+Orders tells side (Some (tx bytes)) answer losses next = Adds side bytes answer losses next
+Orders tells side (Some (dropped id)) answer losses next = Drops side (record { 0 = id }) answer losses next
+-- it says nothing
+Orders tells side None answer losses next = Refuses side refusal.Line answer losses next
+
+-- What is met in the node's bytes: a line, or one that is too long and refused.
+abbrev pub OrdersLine : Type 0 → Side → LineEvent → NodeAnswer → List Device → Side → Type 0
+OrdersLine tells side (line bytes) answer losses next =
+    (said : Option NodeLine) × IsSaid bytes said × Orders tells side said answer losses next
+OrdersLine tells side too_long answer losses next = Refuses side refusal.Long answer losses next

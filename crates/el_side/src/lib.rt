@@ -1,0 +1,8 @@
+//! What the node leads: its side of the world, the steps of its lines, and what the server holds for them.
+#![tactic(auto)]
+
+mod holdings;
+mod laws;
+
+pub use holdings::Holdings;
+pub use laws::{common_is_the_prefix, moves_are_the_plan};

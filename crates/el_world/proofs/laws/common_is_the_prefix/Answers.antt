@@ -1,5 +1,0 @@
-use Rattle.el_world.proofs.Prefixes.{prefix_is}
-use Rattle.el_world.proofs.laws.common_is_the_prefix.Goals as goal
-
-pub returns : goal.returns
-returns c = prefix_is

@@ -1,9 +1,0 @@
-use Rattle.electrum_serve.proofs.LifeLemmas.{lives_go, empty_means}
-use Rattle.electrum_serve.proofs.lives.lives_go_on.Goals as goal
-
-pub returns-clause-empty : goal.returns-clause-empty
-returns-clause-empty g c = λ magic image none. empty_means magic image none
-
-pub returns-clause-go_on : goal.returns-clause-go_on
-returns-clause-go_on g c = λ magic d was flight lives told left are serves calls.
-    lives_go _ _ _ magic d was flight lives told left are serves calls

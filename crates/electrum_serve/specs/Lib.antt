@@ -1,9 +1,0 @@
-pub mod File
-pub mod Statuses
-pub mod Opened
-pub mod OtherChain
-pub mod Ends
-pub mod Calls
-pub mod IndexDisks
-pub mod Lives
-pub mod within
