@@ -9,7 +9,9 @@ usage: .ci/docs.py [PASSED FAILED]    checks; the last line is 'N passed, M fail
 2. Each word of the tables of docs/RULES.md stands in the file that the table names for it.
 3. Each file and crate that a page names is there, and each name in a crate's README.md stands in its sources, or in those
    of a crate that it names.
-4. Each crate has a README.md and a comment in crates.txt; no page and no line is too long.
+4. Each crate has a README.md and a comment above its line in crates.txt; no page and no line is too long.
+5. Each number of NUMBERS stands on its page as the sources have it, and docs/OPERATING.md has no other large number than
+   these and those of OTHER_NUMBERS.
 """
 
 import os
@@ -22,7 +24,44 @@ CRATES = os.path.join(TOP, "crates")
 
 # The functions whose clauses are the claim, and the headings of their lists in docs/STATEMENT.md. The second list has what
 # isn't in the first.
-CLAIM = [("lives", ("electrum_serve", "live")), ("serve", ("electrum_serve", "serve"))]
+CLAIM = [("lives", ("el_program", "live")), ("serve", ("el_program", "serve"))]
+
+# What a page says of a number, and the crate and the constant that it is; `{0}` is it without commas.
+NUMBERS = [
+    ("docs/OPERATING.md", "`--pool-count`, from 1 to {},", "el_words", "MAX_POOL_COUNT"),
+    ("docs/OPERATING.md", "`--pool-bytes`, from 1 to {},", "el_words", "MAX_POOL_BYTES"),
+    ("docs/OPERATING.md", "in the file `{0}.idx`", "el_journal", "JOURNAL"),
+    ("docs/OPERATING.md", "with more than {} unsent bytes isn't read", "el_sockets", "STALLED_FROM"),
+    ("docs/OPERATING.md", "a message would make them more than {} is gone", "el_sockets", "UNSENT_LIMIT"),
+    ("docs/OPERATING.md", "At most {} clients are connected", "el_outside", "CLIENT_LIMIT"),
+    ("docs/OPERATING.md", "with numbers below {}.", "el_outside", "MOST_FILES"),
+    ("docs/OPERATING.md", "**{} clients.**", "el_outside", "CLIENT_LIMIT"),
+    ("docs/OPERATING.md", "up to {} bytes of unsent replies", "el_sockets", "UNSENT_LIMIT"),
+    ("docs/OPERATING.md", "answers at most {} headers", "el_methods", "HEADER_LIMIT"),
+    ("docs/OPERATING.md", "`history too large`: more than {} entries", "el_methods", "ENTRY_LIMIT"),
+    ("docs/OPERATING.md", "`too many subscriptions`: {};", "el_sessions", "SUBSCRIPTION_LIMIT"),
+    ("docs/OPERATING.md", "the replies before have more than {} bytes", "el_replies", "BATCH_LIMIT"),
+    ("docs/OPERATING.md", "A line has more than {} bytes without", "el_lines", "LINE_LIMIT"),
+    ("docs/OPERATING.md", "{} others are connected", "el_outside", "CLIENT_LIMIT"),
+    ("docs/OPERATING.md", "would be taken back, and that is more than {} |", "el_chain", "MAX_BACK"),
+    ("docs/OPERATING.md", "`refused long {0}`", "el_lines", "NODE_LINE_LIMIT"),
+    ("docs/OPERATING.md", "each of at most {} new blocks", "el_chain", "MAX_FORWARD"),
+    ("docs/OPERATING.md", "a weight above {} |", "el_block", "MAX_BLOCK_WEIGHT"),
+    ("docs/OPERATING.md", "coins above {} satoshi", "el_tx", "MAX_MONEY"),
+    ("docs/OPERATING.md", "a table of the index beyond {} rows", "el_row_formats", "MAX_NUMBER"),
+    ("docs/OPERATING.md", "or more than {} bytes would be unsent to it", "el_sockets", "UNSENT_LIMIT"),
+    ("docs/OPERATING.md", "the block files in pieces of {} bytes", "el_files", "PIECE_SIZE"),
+    ("docs/OPERATING.md", "There are {} buckets", "el_row_formats", "BUCKET_COUNT"),
+    ("docs/OPERATING.md", "A reply lists at most {} entries", "el_methods", "ENTRY_LIMIT"),
+    ("docs/OPERATING.md", "A table has at most {} rows", "el_row_formats", "MAX_NUMBER"),
+    ("README.md", "It serves up to {} of them at once", "el_outside", "CLIENT_LIMIT"),
+    ("README.md", "Up to {} clients at a time", "el_outside", "CLIENT_LIMIT"),
+    ("README.md", "and {} subscriptions of each", "el_sessions", "SUBSCRIPTION_LIMIT"),
+    ("README.md", "reorganisations of up to {} blocks", "el_chain", "MAX_BACK"),
+    ("README.md", "{} connections, also silent ones", "el_outside", "CLIENT_LIMIT"),
+]
+# Large numbers of docs/OPERATING.md that are no constant: ports, two heights, what the first move writes, and an example.
+OTHER_NUMBERS = {"65,535", "1,024", "91,722", "91,880", "1,703,936", "1,000,000"}
 
 README_LINES = 150
 CRATE_README_LINES = 20
@@ -42,9 +81,16 @@ def read(*path):
 
 
 def crates():
-    """The crates in the order of crates.txt, each with its line."""
-    lines = [line for line in read("crates.txt").splitlines() if line.strip() and not line.startswith("#")]
-    return {WORD.match(line).group(): line for line in lines}
+    """The crates in the order of crates.txt, each with the comment on the lines above its own."""
+    found, comment = {}, []
+    for line in read("crates.txt").splitlines():
+        if line.startswith("#"):
+            comment.append(line)
+            continue
+        if line.strip():
+            found[WORD.match(line).group()] = " ".join(comment)
+        comment = []
+    return found
 
 
 class Source:
@@ -315,11 +361,38 @@ def wrong_sizes():
         most = CRATE_README_LINES if crate else README_LINES if page == "README.md" else None
         if most and read(page).count("\n") > most:
             yield f"{page}: more than {most} lines"
-    for crate, line in crates().items():
+    for crate, comment in crates().items():
         if not os.path.isfile(os.path.join(CRATES, crate, "README.md")):
             yield f"crates/{crate}: no README.md"
-        if "#" not in line:
+        if not comment:
             yield f"crates.txt: no comment on {crate}"
+
+
+def constant(crate, name):
+    """The value of a constant of a crate; None where it isn't there, or is no number."""
+    folder = os.path.join(CRATES, crate, "src")
+    for at, _, files in os.walk(folder):
+        for file in sorted(files):
+            found = re.search(rf"\bconst {name}: \w+ = ([\d_]+);", read(at, file)) if file.endswith(".rt") else None
+            if found:
+                return int(found.group(1).replace("_", ""))
+    return None
+
+
+def wrong_numbers():
+    """Numbers of pages that aren't those of the sources, and large ones of which that isn't looked at."""
+    known = set(OTHER_NUMBERS)
+    for page, words, crate, name in NUMBERS:
+        value = constant(crate, name)
+        if value is None:
+            yield f"{crate}: no constant {name}"
+            continue
+        shown = f"{value:,}"
+        known.add(shown)
+        if words.replace("{0}", str(value)).replace("{}", shown) not in " ".join(read(page).split()):
+            yield f"{page}: doesn't say of {name}, which is {shown}: {words}"
+    for number in sorted(set(re.findall(r"\d{1,3}(?:,\d{3})+", plain("docs/OPERATING.md"))) - known):
+        yield f"docs/OPERATING.md: {number} is compared with no constant: give it a line in NUMBERS"
 
 
 def main(given):
@@ -329,7 +402,7 @@ def main(given):
             it.write(page)
         return 0
     passed, failed = (int(given[0]), int(given[1])) if len(given) == 2 else (0, 0)
-    for check in (wrong_lists, wrong_rules, wrong_names, wrong_words, wrong_sizes):
+    for check in (wrong_lists, wrong_rules, wrong_names, wrong_words, wrong_sizes, wrong_numbers):
         wrong = list(check())
         for line in wrong:
             print(f"docs: {line}")

@@ -9,10 +9,12 @@ by Python's JSON reader. The blocks are the first two of Bitcoin's main network,
 own. The last line is 'N passed, M failed', with the given counts added.
 """
 
+import fcntl
 import hashlib
 import itertools
 import json
 import os
+import resource
 import shutil
 import signal
 import socket
@@ -70,15 +72,31 @@ INVALID = b'{"error":{"code":-32600,"message":"invalid request"},"id":null,"json
 # A user who may do little.
 NOBODY = 65534
 
-# How the program ends: its exit status, and its words on standard error.
+# How the program ends: its exit status, and its words on standard error, before which lines may tell the cause.
+COMMANDS = b"""\
+electrum_serve once --blocks DIR --network NET
+electrum_serve serve --blocks DIR --index DIR --network NET --client-port N --node-port N [--pool-count N] [--pool-bytes N]
+NET: main, testnet3 or regtest
+"""
 ENDED = (0, "ended")
-USAGE = (2, "usage")
+USAGE = (2, "usage", COMMANDS)
 BAD_INDEX = (3, "bad index")
 FILES_FAILED = (4, "block files failed")
 DISK_FAILED = (5, "index device failed")
 LINK_FAILED = (6, "link failed")
 OTHER_CHAIN = (9, "other chain")
 BAD_CHAIN = (10, "bad chain")
+
+# What the system says.
+NOT_THERE = "No such file or directory (os error 2)"
+NO_RIGHTS = "Permission denied (os error 13)"
+A_FOLDER = "Is a directory (os error 21)"
+TAKEN = "Address already in use (os error 98)"
+
+
+def because(end, *cause):
+    """An end, with the line that tells its cause: a folder, file, port or stream, and what was said of it."""
+    return (*end, b"electrum_serve: %s\n" % ": ".join(cause).encode())
 
 
 def record(block, magic=MAIN):
@@ -444,11 +462,16 @@ class Peer:
 class Served:
     """The program, which serves on two ports."""
 
-    def __init__(self, program, folder="a", network="main", ports=None, more=()):
+    def __init__(self, program, folder="a", network="main", ports=None, more=(), waits=True, **how):
         self.client_port, self.node_port = ports or free_ports()
         words = serve(folder, network, str(self.client_port), str(self.node_port))
-        self.started = start(program, [*words, *more], stdin=subprocess.DEVNULL, stdout=subprocess.PIPE)
+        self.started = start(program, [*words, *more], stdin=subprocess.DEVNULL, stdout=subprocess.PIPE, **how)
+        self.serves = self.comes() if waits else b""
+
+    def comes(self):
+        """What it says first: once its ports are open, the line that tells what is served."""
         self.serves = self.started.stderr.readline()
+        return self.serves
 
     def client(self):
         return Peer(self.client_port)
@@ -572,7 +595,7 @@ def options_in_any_order(program):
             order.insert(place, option)
         orders.append(order)
     lines = [["serve", *itertools.chain(*order)] for order in orders]
-    return all_end_so(program, lines, (b"", DISK_FAILED))
+    return all_end_so(program, lines, (b"", because(DISK_FAILED, "index folder index", NOT_THERE)))
 
 
 def options_of_once_in_any_order(program):
@@ -588,7 +611,7 @@ def numbers_at_their_bounds(program):
         ("1000 ", "1 "), ("1000 ", "1000000 "), ("1000 ", "0001000000 "), ("2000000", "1"), ("2000000", "300000000"),
         (" --pool-count 1000", ""), (" --pool-bytes 2000000", ""), (" --pool-count 1000 --pool-bytes 2000000", ""),
     )]
-    return all_end_so(program, lines, (b"", DISK_FAILED))
+    return all_end_so(program, lines, (b"", because(DISK_FAILED, "index folder index", NOT_THERE)))
 
 
 def serves_two_files(program):
@@ -608,7 +631,7 @@ def serves_blocks_in_any_order(program):
 
 def serves_no_folder(program):
     os.mkdir("index")
-    return ask_served(program, "a", ONE), (b"", FILES_FAILED)
+    return ask_served(program, "a", ONE), (b"", because(FILES_FAILED, "block folder a", NOT_THERE))
 
 
 def serves_again_over_its_index(program):
@@ -617,7 +640,7 @@ def serves_again_over_its_index(program):
     os.mkdir("index")
     for _ in range(3):
         did = ask_served(program, "a", ONE)
-        if did != as_wanted((NONE_FOUND, ENDED)) or held("index") != {"10.idx": b"\0"}:
+        if did != as_wanted((NONE_FOUND, ENDED)) or held("index") != {"10.idx": b"\0", "lock": b""}:
             return (did, held("index")), (NONE_FOUND, ENDED)
     return did, (NONE_FOUND, ENDED)
 
@@ -670,43 +693,125 @@ def index_of_two_commits(program):
     return ask_served(program, "a", given), (FOUND + replies([(1, BLOCK1_TXID)], 2), ENDED)
 
 
-def index_on_a_full_disk(program):
+def index_that_is_a_device(program):
+    # it can't be cut
     put("a/blk00000.dat", GOOD)
     os.mkdir("index")
     os.symlink("/dev/full", "index/10.idx")
-    return ask_served(program, "a", ONE), (b"", DISK_FAILED)
+    why = "Invalid argument (os error 22)"
+    return ask_served(program, "a", ONE), (b"", because(DISK_FAILED, "index file index/10.idx", why))
+
+
+def index_without_room(program):
+    # a file may have 65,536 bytes here, and the first move is larger: nothing is acknowledged, and what was written of it is
+    # no harm to a next start with room
+    put("a/blk00000.dat", GOOD)
+    os.mkdir("index")
+    limit = (65_536, resource.RLIM_INFINITY)
+    before = resource.getrlimit(resource.RLIMIT_FSIZE)
+    resource.setrlimit(resource.RLIMIT_FSIZE, limit)
+    it = Served(program, restore_signals=False)
+    resource.setrlimit(resource.RLIMIT_FSIZE, before)
+    node = it.node()
+    did = it.ends(node.says_all(tip_line(BLOCK1)), node)
+    wanted = (b"", because(DISK_FAILED, "index file index/10.idx", "File too large (os error 27)"))
+    if did != as_wanted(wanted):
+        return did, wanted
+    it = Served(program)
+    node = it.node()
+    return it.ends(node.asks(tip_line(BLOCK1)), node), (at_line(BLOCK1, 1), ENDED)
 
 
 def index_without_a_folder(program):
     put("a/blk00000.dat", GOOD)
-    return ask_served(program, "a", ONE), (b"", DISK_FAILED)
+    return ask_served(program, "a", ONE), (b"", because(DISK_FAILED, "index folder index", NOT_THERE))
 
 
 def index_that_is_no_folder(program):
     put("a/blk00000.dat", GOOD)
     put("index", b"")
-    return ask_served(program, "a", ONE), (b"", DISK_FAILED)
+    why = "Not a directory (os error 20)"
+    return ask_served(program, "a", ONE), (b"", because(DISK_FAILED, "index folder index", why))
 
 
 def index_that_cannot_be_written(program):
     put("a/blk00000.dat", GOOD)
     os.makedirs("index/10.idx")
-    return ask_served(program, "a", ONE), (b"", DISK_FAILED)
+    return ask_served(program, "a", ONE), (b"", because(DISK_FAILED, "index file index/10.idx", A_FOLDER))
 
 
-def index_that_may_not_be_read(program):
-    # root may read every file: a program of root's runs here as another user, from a copy that this one may run
-    put("a/blk00000.dat", GOOD)
-    put("index/10.idx", index_of([GENESIS]))
-    os.chmod("index/10.idx", 0)
+def runs_without_rights(program):
+    """How the program ends where it serves. Root may read and write every file: a program of root's runs here as another
+    user, from a copy that this one may run."""
     who = {}
     if os.geteuid() == 0:
         os.chmod(".", 0o755)
         program = shutil.copy(program, os.path.abspath("program"))
         who = {"user": NOBODY, "group": NOBODY, "extra_groups": []}
     words = serve("a", "main", *(str(port) for port in free_ports()))
-    started = start(program, words, stdin=subprocess.DEVNULL, stdout=subprocess.PIPE, **who)
-    return ends(started, None), (b"", DISK_FAILED)
+    return ends(start(program, words, stdin=subprocess.DEVNULL, stdout=subprocess.PIPE, **who), None)
+
+
+def index_that_may_not_be_read(program):
+    put("a/blk00000.dat", GOOD)
+    put("index/10.idx", index_of([GENESIS]))
+    put("index/lock", b"")
+    os.chmod("index/10.idx", 0)
+    os.chmod("index/lock", 0o666)
+    return runs_without_rights(program), (b"", because(DISK_FAILED, "index file index/10.idx", NO_RIGHTS))
+
+
+def index_without_rights(program):
+    put("a/blk00000.dat", GOOD)
+    os.mkdir("index")
+    os.chmod("index", 0o555)
+    return runs_without_rights(program), (b"", because(DISK_FAILED, "index folder index", NO_RIGHTS))
+
+
+HELD = because(DISK_FAILED, "index folder index", "another program holds it")
+
+
+def second_server_on_one_index(program):
+    # it ends at once, and the first one goes on; after this one's end a third one has the folder
+    os.mkdir("index")
+    put("a/blk00000.dat", GOOD)
+    first = Served(program)
+    node = first.node()
+    told = node.asks(tip_line(GENESIS))
+    did = ask_served(program, "a", ONE)
+    if did != as_wanted((b"", HELD)):
+        first.killed()
+        return did, (b"", HELD)
+    told += node.asks(tip_line(BLOCK1))
+    did = first.ends(told, node)
+    if did != as_wanted((at_line(GENESIS, 0) + at_line(BLOCK1, 1), ENDED)):
+        return did, (at_line(GENESIS, 0) + at_line(BLOCK1, 1), ENDED)
+    return ask_served(program, "a", ONE), (FOUND, ENDED)
+
+
+def lock_after_a_kill(program):
+    # a killed program holds its folder no more
+    os.mkdir("index")
+    put("a/blk00000.dat", GOOD)
+    for _ in range(3):
+        first = Served(program)
+        did = ask_served(program, "a", ONE)
+        first.killed()
+        if did != as_wanted((b"", HELD)):
+            return did, (b"", HELD)
+    return ask_served(program, "a", ONE), (NONE_FOUND, ENDED)
+
+
+def folder_that_another_program_holds(program):
+    # the lock is the file's, and not the program's own: any other program's holds the folder too
+    os.mkdir("index")
+    os.mkdir("a")
+    with open("index/lock", "wb") as lock:
+        fcntl.flock(lock, fcntl.LOCK_EX)
+        did = ask_served(program, "a", ONE)
+    if did != as_wanted((b"", HELD)):
+        return did, (b"", HELD)
+    return ask_served(program, "a", ONE), (NONE_FOUND, ENDED)
 
 
 def index_that_is_cut(program):
@@ -730,30 +835,32 @@ def words_that_are_no_text(program):
 
 def folder_that_is_not_there(program):
     put("blk00000.dat", GOOD)
-    return run(program, once("a"), ONE), (b"", FILES_FAILED)
+    return run(program, once("a"), ONE), (b"", because(FILES_FAILED, "block folder a", NOT_THERE))
 
 
 def folder_that_is_a_file(program):
     put("a", GOOD)
-    return run(program, once("a"), ONE), (b"", FILES_FAILED)
+    return run(program, once("a"), ONE), (b"", because(FILES_FAILED, "block folder a", "not a directory"))
 
 
 def folder_below_a_file(program):
     put("a", GOOD)
-    return run(program, once("a/b"), ONE), (b"", FILES_FAILED)
+    why = "Not a directory (os error 20)"
+    return run(program, once("a/b"), ONE), (b"", because(FILES_FAILED, "block folder a/b", why))
 
 
 def file_that_can_not_be_opened(program):
     os.mkdir("a")
     os.symlink("blk00000.dat", "a/blk00000.dat")
-    return run(program, once("a"), ONE), (b"", FILES_FAILED)
+    why = "Too many levels of symbolic links (os error 40)"
+    return run(program, once("a"), ONE), (b"", because(FILES_FAILED, "block file a/blk00000.dat", why))
 
 
 def file_that_can_not_be_read(program):
     # a folder is opened as a file is, and has a size; with many names in it one that no record is too long for
     for number in range(100):
         put("a/blk00000.dat/a-file-with-a-long-name-%d" % number, b"")
-    return run(program, once("a"), ONE), (b"", FILES_FAILED)
+    return run(program, once("a"), ONE), (b"", because(FILES_FAILED, "block file a/blk00000.dat", A_FOLDER))
 
 
 def no_file(program):
@@ -792,18 +899,19 @@ def masked_file_without_its_mask(program):
 
 def mask_of_another_length(program):
     put("a/blk00000.dat", GOOD)
+    wanted = (b"", because(FILES_FAILED, "mask a/xor.dat", "it hasn't eight bytes"))
     for mask in (b"", bytes(7), bytes(9), MASK + MASK):
         put("a/xor.dat", mask)
         did = run(program, once("a"), ONE)
-        if did != as_wanted((b"", FILES_FAILED)):
-            return did, (b"", FILES_FAILED)
-    return did, (b"", FILES_FAILED)
+        if did != as_wanted(wanted):
+            break
+    return did, wanted
 
 
 def mask_that_can_not_be_read(program):
     os.makedirs("a/xor.dat")
     put("a/blk00000.dat", GOOD)
-    return run(program, once("a"), ONE), (b"", FILES_FAILED)
+    return run(program, once("a"), ONE), (b"", because(FILES_FAILED, "mask a/xor.dat", A_FOLDER))
 
 
 def record_far_in_the_file(program):
@@ -1475,7 +1583,11 @@ def node_that_leaves_in_a_line(program):
     node, client = it.node(), it.client()
     node.says(tip_line(chain[-1]))
     node.resets()
-    return it.ends(client.rest(), node), (b"", LINK_FAILED)
+    wrote, said, status = it.ends(client.rest(), node)
+    # by the moment at which the system notices, it says that the pipe is broken or the connection reset
+    for why in (b"Broken pipe (os error 32)", b"Connection reset by peer (os error 104)"):
+        said = said.replace(why, b"it left")
+    return (wrote, said, status), (b"", because(LINK_FAILED, f"node on port {it.node_port}", "it left"))
 
 
 def killed_after_a_move(program):
@@ -1535,15 +1647,52 @@ def stopped_by_a_signal(program):
 
 
 def port_that_is_taken(program):
+    # the other one is closed again, and the index and the block files were opened before
     os.mkdir("index")
     os.mkdir("a")
-    results = []
-    for place in range(2):
+    for place, name in enumerate(("client port", "node port")):
         ports = free_ports()
         with socket.create_server(("127.0.0.1", ports[place])):
-            words = serve("a", "main", *(str(port) for port in ports))
-            results.append(run(program, words))
-    return results[0] if results[0] != as_wanted((b"", LINK_FAILED)) else results[1], (b"", LINK_FAILED)
+            did = run(program, serve("a", "main", *(str(port) for port in ports)))
+        wanted = (b"", because(LINK_FAILED, f"{name} {ports[place]}", TAKEN))
+        if did != as_wanted(wanted):
+            break
+    return did, wanted
+
+
+def is_refused(port):
+    """Whether nobody listens at the port."""
+    try:
+        Peer(port).leaves()
+    except ConnectionRefusedError:
+        return True
+    return False
+
+
+def opening(path):
+    """Opens a pipe for writing once another one waits to read it; fails where that doesn't come."""
+    for _ in range(1_200):
+        try:
+            return os.open(path, os.O_WRONLY | os.O_NONBLOCK)
+        except OSError:
+            time.sleep(0.05)
+    raise OSError("nobody waits to read " + path)
+
+
+def ports_that_open_as_it_serves(program):
+    # a block file that is a pipe holds the program in its opening until somebody opens the other end; a pipe has no bytes
+    os.mkdir("index")
+    os.mkdir("a")
+    os.mkfifo("a/blk00000.dat")
+    it = Served(program, waits=False)
+    refused = []
+    for _ in range(20):
+        time.sleep(0.05)
+        refused += [is_refused(it.client_port), is_refused(it.node_port)]
+    os.close(opening("a/blk00000.dat"))
+    os.unlink("a/blk00000.dat")
+    told = b"electrum_serve: serving main, " in it.comes() and it.client().says_all(ONE)
+    return it.ends((all(refused), told)), ((True, NONE_FOUND), ENDED)
 
 
 def input_in_pieces(program):
@@ -1571,7 +1720,7 @@ def input_that_can_not_be_read(program):
     folder = os.open("a", os.O_RDONLY)
     did = ends(start(program, once("a"), stdin=folder, stdout=subprocess.PIPE), None)
     os.close(folder)
-    return did, (b"", LINK_FAILED)
+    return did, (b"", because(LINK_FAILED, "standard input", A_FOLDER))
 
 
 def closed_output(program):
@@ -1648,6 +1797,7 @@ CASES = [
     killed_in_a_move,
     stopped_by_a_signal,
     port_that_is_taken,
+    ports_that_open_as_it_serves,
     serves_no_folder,
     serves_again_over_its_index,
     serves_from_an_index_made_elsewhere,
@@ -1656,11 +1806,16 @@ CASES = [
     index_of_another_chain,
     index_of_another_chain_in_a_later_file,
     index_of_two_commits,
-    index_on_a_full_disk,
+    index_that_is_a_device,
+    index_without_room,
     index_without_a_folder,
     index_that_is_no_folder,
     index_that_cannot_be_written,
     index_that_may_not_be_read,
+    index_without_rights,
+    second_server_on_one_index,
+    lock_after_a_kill,
+    folder_that_another_program_holds,
     index_that_is_cut,
     index_that_is_none,
     words_that_are_no_text,
@@ -1700,8 +1855,8 @@ CASES = [
 
 def as_wanted(wanted):
     """What a program does that does as it is to do."""
-    wrote, (status, words) = wanted
-    return wrote, b"electrum_serve: %s\n" % words.encode(), status
+    wrote, (status, words, *causes) = wanted
+    return wrote, b"".join(causes) + b"electrum_serve: %s\n" % words.encode(), status
 
 
 def try_case(program, case):
@@ -1733,7 +1888,8 @@ def main(given):
                 failed += 1
         print(f"tries: {len(CASES)} cases of the built program")
     else:
-        print("tries: skipped: the program was not built")
+        print(f"tries: FAILED: the program was not built: {program}")
+        failed += 1
     print(f"{passed} passed, {failed} failed")
     return 1 if failed else 0
 
