@@ -1,0 +1,10 @@
+pub mod Rows
+pub mod Laid
+pub mod Stands
+pub mod Commits
+pub mod Runs
+pub mod Facts
+pub mod Rewrites
+pub mod MetaWrites
+pub mod StoreLemmas
+pub mod Puts

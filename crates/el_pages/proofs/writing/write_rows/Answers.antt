@@ -1,0 +1,60 @@
+use Rattle.std.proofs.Common.{◌≡◌, [], drop, map, refl, sym, ap, ◌∙◌, arith}
+use Rattle.std.proofs.lemmas.List.{drop_all}
+use Rattle.el_redone.specs.Redone.{overlaid, into}
+use Rattle.el_redone.specs.Steps.{WillBe}
+use Rattle.el_redone.proofs.Runs.{no_calls, goes_on}
+use Rattle.el_pages.specs.declared.layout.TheConstants.{FORMAT_1}
+use Rattle.el_pages.specs.Records.{write_of}
+use Rattle.el_pages.proofs.Rewrites.{run_covered, run_reach, next_fits, next_gives}
+use Rattle.el_pages.proofs.writing.write_rows.Goals as goal
+
+pub loop-k-init : goal.loop-k-init
+loop-k-init g c = record {
+  within = omega arith;
+  fits = λ told f lt. c.requires.fits told f lt;
+  gives = λ told f lt. refl;
+  crash = λ told files ws meta file is each. no_calls g.D.Disk c.args.disk.now (WillBe 0 9 files ws file) each;
+  calls = omega arith;
+  faults = refl;
+}
+
+pub loop-k-preserved : goal.loop-k-preserved
+loop-k-preserved g c =
+    let was = c.loop-k.invariant in
+    let run = c.run-run.result in
+    let changes = c.args.sealed.now.changes in
+    record {
+      within = omega (arith, c.run-run.ensures.within);
+      fits = λ told. next_fits changes c.loop-k.k run.table run.first run.rows run.bytes.now c.run-run.ensures.some c.run-run.ensures.long c.run-run.ensures.each (g.D.Disk.seen c.loop-k.disk) (was.fits told) (g.D.Disk.seen c.write_run.new.disk)
+          (c.in_ok-write_run.ensures.written told) (c.write_run.ensures.others told);
+      gives = λ told f lt. next_gives changes c.loop-k.k run.table run.first run.rows run.bytes.now c.run-run.ensures.some c.run-run.ensures.long c.run-run.ensures.each (g.D.Disk.seen c.loop-k.disk) (was.fits told) (g.D.Disk.seen c.write_run.new.disk)
+          (c.in_ok-write_run.ensures.written told) (c.write_run.ensures.others told) f lt ∙ was.gives told f lt;
+      crash = λ told files ws meta file is each. goes_on g.D.Disk (λ d t u i le left. g.met.D.Disk.earlier d t u i told le left) c.args.disk.now c.loop-k.disk c.write_run.new.disk (WillBe 0 9 files ws file)
+          (was.crash told files ws meta file is each)
+          (c.write_run.ensures.crash told files ws file (run_covered changes c.loop-k.k run.table run.first run.rows run.bytes.now c.run-run.ensures.some c.run-run.ensures.long c.run-run.ensures.each meta ws is));
+      calls = omega (arith, c.write_run.ensures.called, was.calls, c.run-run.ensures.some);
+      faults = c.in_ok-write_run.ensures.cause.uncounted ∙ was.faults;
+    }
+
+pub write_run-requires-clause-reach : goal.write_run-requires-clause-reach
+write_run-requires-clause-reach g c told =
+    let run = c.run-run.result in
+    run_reach c.args.sealed.now.changes c.loop-k.k run.table run.first run.rows run.bytes.now c.run-run.ensures.some c.run-run.ensures.long c.run-run.ensures.each (g.D.Disk.seen c.loop-k.disk) (c.loop-k.invariant.fits told)
+
+pub returns-in_err-write_run-clause-crash : goal.returns-in_err-write_run-clause-crash
+returns-in_err-write_run-clause-crash g c told files ws meta file is each =
+    let run = c.run-run.result in
+    goes_on g.D.Disk (λ d t u i le left. g.met.D.Disk.earlier d t u i told le left) c.args.disk.now c.loop-k.disk c.write_run.new.disk (WillBe 0 9 files ws file)
+    (c.loop-k.invariant.crash told files ws meta file is each)
+    (c.write_run.ensures.crash told files ws file (run_covered c.args.sealed.now.changes c.loop-k.k run.table run.first run.rows run.bytes.now c.run-run.ensures.some c.run-run.ensures.long c.run-run.ensures.each meta ws is))
+
+pub returns-clause-written : goal.returns-clause-written
+returns-clause-written g c told f lt =
+    let none : drop c.loop-k.k c.args.sealed.now.changes ≡ [] = drop_all c.loop-k.k c.args.sealed.now.changes (omega arith) in
+    ap (λ cs. overlaid (into f (map (write_of FORMAT_1) cs)) (g.D.Disk.seen c.loop-k.disk f)) (sym none) ∙ c.loop-k.invariant.gives told f lt
+
+pub returns-in_err-write_run-clause-calls : goal.returns-in_err-write_run-clause-calls
+returns-in_err-write_run-clause-calls g c = omega (arith, c.write_run.ensures.called, c.loop-k.invariant.calls, c.loop-k-test.true, c.changes.ensures)
+
+pub returns-clause-calls : goal.returns-clause-calls
+returns-clause-calls g c = omega (arith, c.loop-k.invariant.calls, c.loop-k.invariant.within)

@@ -1,0 +1,80 @@
+-- A store over the files of a disk.
+use Rattle.std.specs.Prelude.{◌≡◌, ◌≤◌, ◌<◌, ℕ, List, [], length}
+use Rattle.std.proofs.lemmas.List.FromFn.{length-map-range_with_len}
+use Rattle.std.proofs.Common.{sym, ◌∙◌, subst, inl, inr, refl}
+use Rattle.el_outside.specs.declared.disk.Disk as disk
+use Rattle.el_outside.specs.Disk.{Image}
+use Rattle.el_row_formats.specs.declared.table.Table.{Table}
+use Rattle.el_row_formats.specs.Tables.{Tables, row_at}
+use Rattle.el_rows.specs.Changes.{count_at}
+use Rattle.el_pages.specs.Layouts.{file_of, size_in, rows_in}
+use Rattle.el_redo.specs.RedoBody.{head_bytes}
+use Rattle.el_redone.specs.Redone.{IsClosed}
+use Rattle.el_redone.specs.Steps.{IsAtRest}
+use Rattle.el_pages.specs.declared.layout.TheConstants.{FORMAT_1}
+use Rattle.el_pages.specs.Indexes.{HasCounts, Shows, tables_in}
+use Rattle.el_redo.specs.declared.network.NetworkMagic as network
+use Rattle.el_pages.specs.declared.store.Pages.{Pages}
+
+-- Over a disk that tells: all files are on the disk and the gate is closed; the files are those that the disk
+-- had at the last commit, or at the opening; and they have tables with these counts.
+pub record IsKept {D : Type 0} (G : disk.Ghosts D) (magic : List ℕ) (now told : D)
+    (counts : List ℕ) : Type 0 where
+  pub rest : IsAtRest G 0 9 now
+  pub same : (f : ℕ) → 0 ≤ f → f < 9 → G.seen now f ≡ G.seen told f
+  pub has : HasCounts FORMAT_1 (head_bytes magic) (G.seen told) counts
+
+-- the tables of a store: so many rows of the files that the disk had then
+abbrev pub lists_in : {D : Type 0} → disk.Ghosts D → D → List ℕ → Tables
+lists_in G told counts = tables_in FORMAT_1 (G.seen told) counts
+
+-- the disk below a store
+abbrev pub disk_below : {D N : Type 0} {G : disk.Ghosts D} {H : network.Ghosts N} → Pages D N G H → D
+disk_below store = store.disk
+
+-- the rows of a store
+abbrev pub rows_of : {D N : Type 0} {G : disk.Ghosts D} {H : network.Ghosts N} → Pages D N G H → Tables
+rows_of {D} {N} {G} {H} store = lists_in G store.told.value store.counts
+
+-- a store over a disk that tells has what its files have
+abbrev pub IsLive : {D N : Type 0} {G : disk.Ghosts D} {H : network.Ghosts N} → Pages D N G H → Type 0
+IsLive {D} {N} {G} {H} store = G.tells → IsKept G H.magic store.disk store.told.value store.counts
+
+-- between calls each image that a crash may leave stands for the store's tables
+pub kept_shows : {D : Type 0} (G : disk.Ghosts D) (magic : List ℕ) (now told : D) (counts : List ℕ)
+    (image : Image)
+    → IsKept G magic now told counts → G.left_since now (G.moment now) image
+    → Shows FORMAT_1 (head_bytes magic) image (lists_in G told counts)
+kept_shows G magic now told counts image kept left = record {
+  files = G.seen told;
+  stands = record {
+    writes = [];
+    pending = inl (
+      inr (subst (λ (b : List ℕ). IsClosed b) (sym (kept.rest.redo_on_disk image left))
+          kept.rest.closed),
+      refl,
+    );
+    same = λ f low lt. kept.rest.on_disk f low lt image left ∙ kept.same f low lt;
+    fits = λ f low lt. tt;
+  };
+  counts = counts;
+  has = kept.has;
+  same = λ t. refl;
+}
+
+pub live_shows : {D N : Type 0} {G : disk.Ghosts D} {H : network.Ghosts N} (store : Pages D N G H)
+    (image : Image) → G.tells → IsLive store
+    → G.left_since (disk_below store) (G.moment (disk_below store)) image
+    → Shows FORMAT_1 (head_bytes H.magic) image (rows_of store)
+live_shows {D} {N} {G} {H} store image told live left =
+    kept_shows G H.magic store.disk store.told.value store.counts image (live told) left
+
+-- how many rows there are
+rows_long : (size : ℕ) (file : List ℕ) (count : ℕ) → length (rows_in size file count) ≡ count
+unfolding rows_in
+rows_long size file count = length-map-range_with_len (row_at size file) 0 count
+
+pub lists_long : {D : Type 0} (G : disk.Ghosts D) (told : D) (counts : List ℕ) (t : Table)
+    → length (lists_in G told counts t) ≡ count_at counts t
+lists_long G told counts t =
+    rows_long (size_in FORMAT_1 t) (G.seen told (file_of FORMAT_1 t)) (count_at counts t)

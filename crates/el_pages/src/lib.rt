@@ -1,0 +1,13 @@
+//! Tables in files of fixed rows. A redo record keeps commits whole: all of one is in the files, or none.
+#![tactic(auto)]
+
+mod committing;
+mod layout;
+mod meta;
+mod reading;
+mod staging;
+mod store;
+mod writing;
+
+pub use layout::{FORMAT_1, FORMAT_2, LETTERS, Layout};
+pub use store::Pages;

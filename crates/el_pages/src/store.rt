@@ -1,0 +1,150 @@
+// A store of tables in files.
+ghost use Rattle.std.specs.Prelude.{◌≡◌, ◌↔◌, ◌≤◌, ℕ, length};
+ghost use Rattle.el_outside.specs.Disk.{Image};
+ghost use Rattle.el_row_formats.specs.declared.table.Table.{Table};
+ghost use Rattle.el_row_formats.specs.Tables.{limit_of};
+ghost use Rattle.el_rows.specs.Changes.{count_at};
+
+use crate::committing::commit_on;
+use crate::meta::counts_of;
+use crate::reading::read_row;
+use el_base::GhostCount;
+use el_outside::{Disk, DiskFailed};
+use el_redo::NetworkMagic;
+use el_row_formats::{TABLES, Table};
+use el_rows::{CommitFault, Rows, Sealed};
+use std::marker::PhantomData;
+use std::snapshot::Snapshot;
+
+/// Tables in the files of a disk, for the network that its type names: row i of a table stands in its file
+/// from i row sizes on. A commit takes no memory: it writes a redo record through a buffer that was taken at
+/// the opening, then the rows, and each is in all files or in none. After a commit that met a disk fault the
+/// store is no longer live, and the disk is opened again.
+#[derive(Drop)]
+pub struct Pages<D: Disk, N: NetworkMagic> {
+    network: PhantomData<N>,
+    disk: D,
+    // The disk at the last commit, or at the opening.
+    told: Snapshot<D>,
+    counts: [u64; TABLES],
+    buffer: Vec<u8>,
+    reads: GhostCount,
+    ghost limited: { (t : Table) → count_at counts t ≤ limit_of t },
+    ghost big: { 256 ≤ length buffer.items },
+}
+
+impl<D: Disk, N: NetworkMagic> Pages<D, N> {
+    ghost use Rattle.el_row_formats.specs.Tables.{Tables};
+    ghost use Rattle.el_redo.specs.RedoBody.{head_bytes};
+    ghost use Rattle.el_pages.specs.declared.layout.TheConstants.{FORMAT_1};
+    ghost use Rattle.el_pages.specs.Indexes.{HasCounts, Shows, tables_in};
+    ghost use Rattle.el_pages.specs.Stores.{disk_below, rows_of, IsLive};
+    ghost use Rattle.el_redone.specs.Steps.{IsAtRest};
+
+    /// The store over a disk whose files are at rest and have tables with these counts. Its commits write
+    /// their redo records through the buffer. It takes no memory.
+    pub fn new(disk: D, counts: [u64; TABLES], buffer: Vec<u8>) -> Pages<D, N>
+        requires limited { (t : Table) → count_at counts t ≤ limit_of t }
+        requires big { 256 ≤ length buffer.items }
+        ensures live { (D.tells → IsAtRest ⟦<D as Disk>⟧ 0 9 disk)
+            → (D.tells → HasCounts FORMAT_1 (head_bytes N.magic) (D.seen disk) counts) → IsLive result }
+        ensures rows { rows_of result ≡ tables_in FORMAT_1 (D.seen disk) counts }
+        ensures disk { disk_below result ≡ disk }
+    {
+        Pages {
+            network: PhantomData,
+            told: Snapshot::of(&disk),
+            disk,
+            counts,
+            buffer,
+            reads: GhostCount::new(),
+        }
+    }
+
+    /// The disk, as it stands, also after a failure. What a crash leaves of the store is what it leaves of
+    /// the disk.
+    pub fn into_disk(self) -> D
+        ensures disk { result ≡ disk_below self }
+        ensures moment { ⟦<Pages<D, N> as Rows>⟧.moment self ≡ D.moment result }
+        ensures left { D.tells → (t : ℕ) (image : Image)
+            → ⟦<Pages<D, N> as Rows>⟧.left_since self t image ↔ D.left_since result t image }
+        ensures shows { (image : Image) (tables : Tables)
+            → ⟦<Pages<D, N> as Rows>⟧.shows image tables ↔ Shows FORMAT_1 (head_bytes N.magic) image tables }
+        ensures faults { ⟦<Pages<D, N> as Rows>⟧.faults self ≡ D.faults result }
+    {
+        let Pages {
+            network: _,
+            disk,
+            told: _,
+            counts: _,
+            buffer: _,
+            reads: _,
+        } = self;
+        disk
+    }
+}
+
+impl<D: Disk, N: NetworkMagic> Rows for Pages<D, N> {
+    ghost use Rattle.std.specs.Prelude.{◌≡◌, ℕ};
+    ghost use Rattle.el_outside.specs.Disk.{Image};
+    ghost use Rattle.el_redo.specs.RedoBody.{head_bytes};
+    ghost use Rattle.el_rows.specs.Changes.{count_at};
+    ghost use Rattle.el_pages.specs.declared.layout.TheConstants.{FORMAT_1};
+    ghost use Rattle.el_pages.specs.Indexes.{Shows};
+    ghost use Rattle.el_pages.specs.Stores.{IsKept, kept_shows, lists_in, lists_long};
+
+    ghost tells = { D.tells };
+
+    ghost tells_crash = { D.tells };
+
+    ghost lists = { λ s. lists_in ⟦<D as Disk>⟧ s.told.value s.counts };
+
+    ghost counts = { λ s t. count_at s.counts t };
+
+    ghost is_live = { λ s. D.tells → IsKept ⟦<D as Disk>⟧ N.magic s.disk s.told.value s.counts };
+
+    ghost moment = { λ s. D.moment s.disk };
+
+    ghost Left = { Image };
+
+    ghost shows = { λ image tables. Shows FORMAT_1 (head_bytes N.magic) image tables };
+
+    ghost left_since = { λ s t image. D.tells × D.left_since s.disk t image };
+
+    ghost faults = { λ s. D.faults s.disk };
+
+    ghost reads = { λ s. s.reads };
+
+    ghost counted = { λ s t told. lists_long ⟦<D as Disk>⟧ s.told.value s.counts t };
+
+    ghost earlier = { λ s t u image le left.
+        (left.0, D.earlier s.disk t u image left.0 le left.1) };
+
+    ghost leaves_lists = { λ s image told live left.
+        kept_shows ⟦<D as Disk>⟧ N.magic s.disk s.told.value s.counts image (live told) left.1 };
+
+    fn count(&self, t: Table) -> u64 {
+        self.counts[t.index()]
+    }
+
+    fn row(&mut self, t: Table, i: u64, buf: &mut [u8]) -> Result<(), DiskFailed> {
+        self.reads.tick();
+        read_row(&mut self.disk, t, i, buf)
+    }
+
+    fn commit(&mut self, sealed: &Sealed) -> Result<(), CommitFault> {
+        match commit_on(
+            &mut self.disk,
+            &mut self.buffer,
+            N::magic(),
+            &self.counts,
+            sealed,
+        ) {
+            Ok(()) => {}
+            Err(DiskFailed) => return Err(CommitFault::DiskFailed),
+        }
+        self.told = Snapshot::of(&self.disk);
+        self.counts = counts_of(sealed);
+        Ok(())
+    }
+}
