@@ -2,6 +2,7 @@
 use Rattle.std.proofs.Common.{◌≡◌, inl, inr, ℕ, zero, suc, ◌<◌, ◌≤◌, true, false, nat_lt, List, [], ◌∷◌, ◌++◌, length, map, drop, slice_get, Option, Some, None, refl, sym, ap, ◌∙◌, append-nil, subst, eq-eqb, arith, length-append, length-drop}
 use Rattle.std.specs.List.{AllByRecursion, AllZip, flat_map}
 use Rattle.std.proofs.lemmas.List.{length-map}
+use Rattle.el_outside.specs.declared.archive.Archive as archive
 use Rattle.el_outside.specs.Trace.{ArrivalWithBytes, opened, brought, closed}
 use Rattle.el_chain.specs.Chains.{Chain}
 use Rattle.el_chain.specs.declared.node.Node.{Node}
@@ -21,12 +22,12 @@ use Rattle.el_core.proofs.Tellings.{none_waits}
 use Rattle.el_core.proofs.Sessions.{said_all, gone_stands, zip_push, zip_length, zip_all}
 
 -- turns that do the same as what was done at once
-pub quiet_turns : (tells : Type 0) (world next : World) (done : List Event) → IsStill world → AllTold world → Quietly world done next → Turns tells world done [] [] [] next
-quiet_turns tells world next done still all_told none = run.none
-quiet_turns tells world next done still all_told (joined p few) =
+pub quiet_turns : {A : Type 0} (f : archive.Ghosts A) (world next : World) (done : List Event) → IsStill world → AllTold world → Quietly world done next → Turns f world done [] [] [] next
+quiet_turns f world next done still all_told none = run.none
+quiet_turns f world next done still all_told (joined p few) =
     run.more [] [] [] [] world (joins p ∷ []) nothing [] (with_client p world) [] [] [] (with_client p world) run.none
     (run.takes (joins p) still all_told refl (rw few (refl, refl, refl))) (run.all (with_client p world) None)
-quiet_turns tells world next done still all_told (departed p) =
+quiet_turns f world next done still all_told (departed p) =
     run.more [] [] [] [] world (leaves p ∷ []) nothing [] (without_client p world) [] [] [] (without_client p world) run.none
     (run.takes (leaves p) still all_told refl (refl, refl, refl)) (run.all (without_client p world) None)
 

@@ -143,12 +143,12 @@ module _ {G A : Type 0} (l : ledger.Ghosts G) (f : archive.Ghosts A) where
 
   pub led_begun : (s mid : State G) (new : G) (before after : A) (tip : Option Hash32) (e : LineEvent) (answer : NodeAnswer) (found ahead : List Node) (moved changed : List Hash32) (holdings : Holdings) → mid ≡ begun_at tip s
       → ((side : Side) (start : Chain) → IsAt l f mid.ledger mid.holdings before side start → IsFrom mid.holdings side
-      → Leads l f (OrdersLine f.tells side e) mid.ledger new before after side start answer found ahead moved changed holdings)
+      → Leads l f (OrdersLine f side e) mid.ledger new before after side start answer found ahead moved changed holdings)
       → (side : Side) (start : Chain) → IsAt l f s.ledger s.holdings before side start → IsFrom s.holdings side
-      → Leads l f (OrdersLine f.tells side e) s.ledger new before after side start answer found ahead moved changed holdings
+      → Leads l f (OrdersLine f side e) s.ledger new before after side start answer found ahead moved changed holdings
   led_begun s mid new before after tip e answer found ahead moved changed holdings same led =
       subst (λ (m : State G). (side : Side) (start : Chain) → IsAt l f m.ledger m.holdings before side start → IsFrom m.holdings side
-      → Leads l f (OrdersLine f.tells side e) m.ledger new before after side start answer found ahead moved changed holdings) same led
+      → Leads l f (OrdersLine f side e) m.ledger new before after side start answer found ahead moved changed holdings) same led
 
   pub keeps_begun : (s mid : State G) (new : G) (before after : A) (tip : Option Hash32) (result : Result Outs QueryFault) → mid ≡ begun_at tip s → NodeKeeps l f mid.ledger new before after result → NodeKeeps l f s.ledger new before after result
   keeps_begun s mid new before after tip result same keeps = subst (λ (m : State G). NodeKeeps l f m.ledger new before after result) same keeps
@@ -171,7 +171,7 @@ module _ {G A : Type 0} (l : ledger.Ghosts G) (f : archive.Ghosts A) where
   -- `base` and `start` are as the turn began, `old` and `world` as the step began
   built : (leads : NodeAnswer → List Device → Side → Type 0) (base old new : State G) (before after : A) (start world : World) (left : List Event) (o : Outs) (r : NodeTurned leads old new before after world left o)
       (done ordered : List Event) → old.ledger ≡ base.ledger → world.side ≡ start.side → left ≡ done ++ (ordered ++ r.stood.said)
-      → OneTurn f.tells start done (outs_of o) r.answered.led.losses (record world { side = r.answered.led.next })
+      → OneTurn f start done (outs_of o) r.answered.led.losses (record world { side = r.answered.led.next })
       → ((q : ℕ) → old.speaker ≡ Some q → (ordered ≡ []) × NoneWaits world.sessions) → ((q : ℕ) → old.surplus ≡ Some q → (ordered ≡ []) × NoneWaits world.sessions)
       → NodeLeaves new.node world.heard ordered → TookTurn l f base new before after start left (outs_of o)
   built leads base old new before after start world left o r done ordered ledger_is side_is whole turn spoken surplus_so node =
@@ -228,11 +228,11 @@ module _ {G A : Type 0} (l : ledger.Ghosts G) (f : archive.Ghosts A) where
 
   -- it has begun, and is worked
   pub node_step : (base old new : State G) (before after : A) (start : World) (left : List Event) (o : Outs) (e : LineEvent)
-      (r : NodeTurned (OrdersLine f.tells start.side e) old new before after (begun start) left o) → NextOrder new.node start.heard r.stood.ordered e → IsStill start → AllTold start → old.ledger ≡ base.ledger
+      (r : NodeTurned (OrdersLine f start.side e) old new before after (begun start) left o) → NextOrder new.node start.heard r.stood.ordered e → IsStill start → AllTold start → old.ledger ≡ base.ledger
       → TookTurn l f base new before after start left (outs_of o)
   node_step base old new before after start left o e r n still all_told ledger_is =
       let a = r.answered in
-      built (OrdersLine f.tells start.side e) base old new before after start (begun start) left o r (orders e ∷ []) n.rest ledger_is refl
+      built (OrdersLine f start.side e) base old new before after start (begun start) left o r (orders e ∷ []) n.rest ledger_is refl
       (rest_after left r.stood.said r.stood.ordered n.rest e r.stood.left_is n.first_is)
       (run.takes (orders e) still all_told refl (record { answer = a.answer; side = a.led.next; led = a.led.led; outs_is = a.sends; next_is = refl }))
       (never old.speaker r.stood.ordered n.rest e _ _ n.first_is r.stood.speaker_last) (never old.surplus r.stood.ordered n.rest e _ _ n.first_is r.stood.surplus_last)

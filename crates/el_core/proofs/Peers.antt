@@ -169,7 +169,7 @@ module _ {G A : Type 0} (l : ledger.Ghosts G) (f : archive.Ghosts A) where
   }
 
   built : (old new : State G) (before after : A) (world : World) (left : List Event) (o : Outs) (r : Beside old new world left) (told : f.tells → AllGrow world.side.files (f.bytes after)) (ss : List Session)
-      (done rest : List Event) (losses : List Device) → left ≡ done ++ rest → OneTurn f.tells world done o losses (record world { sessions = ss }) → SessionsAre new.clients new.speaker new.surplus ss rest
+      (done rest : List Event) (losses : List Device) → left ≡ done ++ rest → OneTurn f world done o losses (record world { sessions = ss }) → SessionsAre new.clients new.speaker new.surplus ss rest
       → ((q : ℕ) → new.speaker ≡ Some q → NoneWaits ss) → new.surplus ≡ None → Tellings world.side r.stood.start old.touched ss
       → AllByRecursion (GoesTo (record world { sessions = ss }) new.surplus o.closing) o.messages → Lost l f old.ledger new.ledger before after losses
       → TookTurn l f old new before after world left o
@@ -207,21 +207,21 @@ module _ {G A : Type 0} (l : ledger.Ghosts G) (f : archive.Ghosts A) where
 
   -- the client is closed, with these events done
   goes : (old new : State G) (before after : A) (world : World) (left : List Event) (o : Outs) (r : Beside old new world left) (told : f.tells → AllGrow world.side.files (f.bytes after)) (p i : ℕ) (c : ClientState) (w : Speaking old world r.stood.said p i c)
-      (done rest : List Event) (losses : List Device) → left ≡ done ++ rest → OneTurn f.tells world done o losses (without_client p world) → AllVoid (filter (λ (y : Session). not (is_peer p y)) world.sessions) rest
+      (done rest : List Event) (losses : List Device) → left ≡ done ++ rest → OneTurn f world done o losses (without_client p world) → AllVoid (filter (λ (y : Session). not (is_peer p y)) world.sessions) rest
       → new.clients ≡ replaced i None old.clients → new.speaker ≡ None → new.surplus ≡ None → ((next : World) → AllByRecursion (GoesTo next None o.closing) o.messages) → Lost l f old.ledger new.ledger before after losses
       → TookTurn l f old new before after world left o
   goes old new before after world left o r told p i c w done rest losses whole turn void clients speaker unused sends rose =
       let gone_is = one_filtered p world.sessions i w.session w.are.rising w.session_at w.peer in
       let void' : AllVoid (replaced i None world.sessions) rest = subst (λ (ss : List Session). AllVoid ss rest) gone_is void in
-      let turn' : OneTurn f.tells world done o losses (record world { sessions = replaced i None world.sessions }) =
-      subst (λ (ss : List Session). OneTurn f.tells world done o losses (record world { sessions = ss })) gone_is turn in
+      let turn' : OneTurn f world done o losses (record world { sessions = replaced i None world.sessions }) =
+      subst (λ (ss : List Session). OneTurn f world done o losses (record world { sessions = ss })) gone_is turn in
       built old new before after world left o r told (replaced i None world.sessions) done rest losses whole turn'
       (rw (clients, speaker, unused) (speaker_changes old.clients world.sessions p i c w.session r.stood.said rest None None None w.are w.session_at w.peer (inr refl) tt tt void'))
       (λ q e. absurd (no_some q (sym e ∙ speaker))) unused (tellings_replaced world.side r.stood.start old.touched world.sessions i None r.stood.tellings tt tt r.still) (rw unused (sends (record world { sessions = replaced i None world.sessions }))) rose
 
   -- the client stays with this session, and these events are left
   stays : (old new : State G) (before after : A) (world : World) (left : List Event) (o : Outs) (r : Beside old new world left) (told : f.tells → AllGrow world.side.files (f.bytes after)) (p i : ℕ) (c now : ClientState) (x : Session) (w : Speaking old world r.stood.said p i c)
-      (done rest : List Event) (losses : List Device) → x.peer ≡ w.session.peer → x.waits ≡ w.session.waits → status_told.AllTold (status world.side.chain world.side.kept) x.client.subs → left ≡ done ++ rest → OneTurn f.tells world done o losses (record world { sessions = replaced i (Some x) world.sessions })
+      (done rest : List Event) (losses : List Device) → x.peer ≡ w.session.peer → x.waits ≡ w.session.waits → status_told.AllTold (status world.side.chain world.side.kept) x.client.subs → left ≡ done ++ rest → OneTurn f world done o losses (record world { sessions = replaced i (Some x) world.sessions })
       → IsSession (Some p) rest now x → new.clients ≡ replaced i (Some now) old.clients → new.speaker ≡ Some p → new.surplus ≡ None
       → AllByRecursion (GoesTo (record world { sessions = replaced i (Some x) world.sessions }) None o.closing) o.messages → Lost l f old.ledger new.ledger before after losses
       → TookTurn l f old new before after world left o
@@ -248,7 +248,7 @@ module _ {G A : Type 0} (l : ledger.Ghosts G) (f : archive.Ghosts A) where
   -- it is closed after its next event
   closed_step : (old new : State G) (before after : A) (world : World) (left : List Event) (o : Outs) (r : Beside old new world left) (told : f.tells → AllGrow world.side.files (f.bytes after)) (p i : ℕ) (c : ClientState) (b : LineState)
       (e : LineEvent) (losses : List Device) (w : Speaking old world r.stood.said p i c) → c.peer ≡ p → c.lost ≡ false → Gives c.buffer e b → new.clients ≡ replaced i None old.clients → new.speaker ≡ None → new.surplus ≡ None
-      → Takes f.tells world (says p e) o losses (without_client p world) → ((next : World) → AllByRecursion (GoesTo next None o.closing) o.messages) → Lost l f old.ledger new.ledger before after losses
+      → Takes f world (says p e) o losses (without_client p world) → ((next : World) → AllByRecursion (GoesTo next None o.closing) o.messages) → Lost l f old.ledger new.ledger before after losses
       → TookTurn l f old new before after world left o
   closed_step old new before after world left o r told p i c b e losses w peer_is kept gives clients speaker unused takes sends rose =
       let n = next_event c b e w.session.heard r.stood.said kept w.is.limit w.hears gives in
@@ -270,7 +270,7 @@ module _ {G A : Type 0} (l : ledger.Ghosts G) (f : archive.Ghosts A) where
 
   -- what its session's line comes to is what the line comes to
   line_takes : (old : State G) (world : World) (said : List Event) (o : Outs) (p i : ℕ) (c : ClientState) (w : Speaking old world said p i c) (bytes : List ℕ) (losses : List Device) (next : World)
-      → model.IsAnswered f.tells world p bytes w.session o losses next → Takes f.tells world (says p (line bytes)) o losses next
+      → model.IsAnswered f.tells world p bytes w.session o losses next → Takes f world (says p (line bytes)) o losses next
   line_takes old world said o p i c w bytes losses next answered =
       rw (one_found p world.sessions i w.session w.are.rising w.session_at w.peer) answered
 
@@ -420,7 +420,7 @@ module _ {G A : Type 0} (l : ledger.Ghosts G) (f : archive.Ghosts A) where
       (ap (λ (s : State G). s.clients) next) (ap (λ (s : State G). s.speaker) next) (ap (λ (s : State G). s.surplus) next ∙ unused) turn
 
   -- lines of clients that are none of these have no effect
-  void_event : (world : World) (e : Event) → (p : ℕ) × IsSaidBy p e × (find (is_peer p) world.sessions ≡ None) → Takes f.tells world e nothing [] world
+  void_event : (world : World) (e : Event) → (p : ℕ) × IsSaidBy p e × (find (is_peer p) world.sessions ≡ None) → Takes f world e nothing [] world
   void_event world (joins q) v = absurd v.1
   void_event world (leaves q) v = absurd v.1
   void_event world (orders q) v = absurd v.1
@@ -431,10 +431,10 @@ module _ {G A : Type 0} (l : ledger.Ghosts G) (f : archive.Ghosts A) where
       let n : find (is_peer q) world.sessions ≡ None = rw v.1 v.2 in
       if_false _ _ _ (none_there q world.sessions (found_none q world.sessions n)) (refl, refl, refl)
 
-  void_more : (world : World) (done left : List Event) → IsStill world → AllTold world → AllVoid world.sessions left → Turns f.tells world done [] [] [] world → Turns f.tells world (done ++ left) [] [] [] world
+  void_more : (world : World) (done left : List Event) → IsStill world → AllTold world → AllVoid world.sessions left → Turns f world done [] [] [] world → Turns f world (done ++ left) [] [] [] world
   void_more world done [] still all_told void turns = rw (append-nil done) turns
   void_more world done (e ∷ es) still all_told void turns =
-      let one : Turns f.tells world (done ++ e ∷ []) [] [] [] world =
+      let one : Turns f world (done ++ e ∷ []) [] [] [] world =
       run.more done [] [] [] world (e ∷ []) nothing [] world [] [] [] world turns (run.takes e still all_told refl (void_event world e void.0)) (run.all world None) in
       let more = void_more world (done ++ e ∷ []) es still all_told void.1 one in
       rw (append_assoc done (e ∷ []) es) at more
@@ -448,7 +448,7 @@ module _ {G A : Type 0} (l : ledger.Ghosts G) (f : archive.Ghosts A) where
 
   -- nobody spoke, or the one that spoke has no line left
   done_so : (old new : State G) (world : World) (left : List Event) (r : Beside old new world left) → SessionsAre new.clients None None world.sessions [] → new.speaker ≡ None → new.surplus ≡ None
-      → AllVoid world.sessions r.stood.said → IsDone l.stands f.tells world left new
+      → AllVoid world.sessions r.stood.said → IsDone l.stands f world left new
   done_so old new world left r are speaker unused void = record {
     turns = void_more world [] left r.still r.all_told (rw (left_said old new world left r) void) run.none;
     still = r.still;
@@ -459,7 +459,7 @@ module _ {G A : Type 0} (l : ledger.Ghosts G) (f : archive.Ghosts A) where
 
   -- no line of the one that speaks is left
   waited : (tells : Type 0) (side : Side) (rose : List Device → Type 0) (old new : State G) (world : World) (left : List Event) (r : Beside old new world left) (p i : ℕ) (c : ClientState) (now : Option ClientState) (w : Speaking old world r.stood.said p i c)
-      → new.clients ≡ replaced i now old.clients → new.speaker ≡ None → new.surplus ≡ None → ClientTurn tells side rose c None now → IsDone l.stands f.tells world left new
+      → new.clients ≡ replaced i now old.clients → new.speaker ≡ None → new.surplus ≡ None → ClientTurn tells side rose c None now → IsDone l.stands f world left new
   waited tells side rose old new world left r p i c now w clients speaker unused (loses o' lost some is gone_is still) = absurd (no_outs o' (sym some))
   waited tells side rose old new world left r p i c now w clients speaker unused (departs o' kept next_line some is gone_is still) = absurd (no_outs o' (sym some))
   waited tells side rose old new world left r p i c now w clients speaker unused (answers o' e b session st kept limit gives a now_is some) = absurd (no_outs o' (sym some))
@@ -482,7 +482,7 @@ module _ {G A : Type 0} (l : ledger.Ghosts G) (f : archive.Ghosts A) where
 
   -- where a turn finds nothing to do, nothing is left
   pub peers_none : (tells : Type 0) (side : Side) (rose : List Device → Type 0) (old new : State G) (world : World) (left : List Event) (o : Option code.Outs) (r : Beside old new world left)
-      → PeersTurn tells side rose old o new → IfNone o (IsDone l.stands f.tells world left new)
+      → PeersTurn tells side rose old o new → IfNone o (IsDone l.stands f world left new)
   peers_none tells side rose old new world left (Some o) r turn = tt
   peers_none tells side rose old new world left None r (closes p o' is some outs_is next still) = absurd (no_outs o' (sym some))
   peers_none tells side rose old new world left None r (has_turn unused (nobody no_speaker none_is next still)) =

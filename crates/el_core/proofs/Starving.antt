@@ -34,10 +34,6 @@ data Ends (told : Type 0) (files : ℕ → List ℕ) (chain : Chain) (is_move : 
   moved : (p : Plan) (blocks : Chain) → is_move p → Moves told files chain p blocks → next ≡ target p chain blocks → losses ≡ [] → Ends told files chain is_move answer losses next
 
 module _ (told : Type 0) (side : Side) (P : Plan → Type 0) (answer : NodeAnswer) (losses : List Device) (next : Side) (files : ℕ → List ℕ) where
-  of_place : (file at : ℕ) → Looks told side file at answer losses next → Ends told files side.chain P answer losses next.chain
-  of_place file at (side_of.looks found read up answer_is next_is none) = stays (ap (λ (s : Side). s.chain) next_is) none
-  of_place file at (side_of.fails read more answer_is next_is one) = lost answer_is (ap (λ (s : Side). s.chain) next_is) one
-
   of_tx : (bytes : List ℕ) → Adds side bytes answer losses next → Ends told files side.chain P answer losses next.chain
   of_tx bytes (side_of.joins t encodes right answer_is next_is none) = stays (ap (λ (s : Side). s.chain) next_is) none
   of_tx bytes (side_of.refuses t e encodes why answer_is next_is none) = stays (ap (λ (s : Side). s.chain) next_is) none
@@ -74,16 +70,22 @@ module _ (told : Type 0) (side : Side) where
       (λ p is. record { bytes = bytes; hash = hash; path = path; met_is = refl; reads = reads; is_path = is_path; few = few; moving = moving; plan_is = is })
       (of_moving (back_of side.chain path) (rest_of side.chain path) answer losses next files grows move)
 
-  of_said : (bytes : List ℕ) (answer : NodeAnswer) (losses : List Device) (next : Side) (files : ℕ → List ℕ) (said : Option NodeLine) → (told → AllGrow next.files files) → IsSaid bytes said → Orders told side said answer losses next
-      → Ends told files side.chain (IsFirstMove side (line bytes)) answer losses next.chain
-  of_said bytes answer losses next files None grows says orders = stays (ap (λ (s : Side). s.chain) orders.1) orders.2
-  of_said bytes answer losses next files (Some (block file at)) grows says orders = of_place told side (IsFirstMove side (line bytes)) answer losses next files file at orders
-  of_said bytes answer losses next files (Some (tip hash)) grows says orders = of_tip bytes hash answer losses next files grows says orders
-  of_said bytes answer losses next files (Some (tx b)) grows says orders = of_tx told side (IsFirstMove side (line bytes)) answer losses next files b orders
-  of_said bytes answer losses next files (Some (dropped id)) grows says orders = of_drop told side (IsFirstMove side (line bytes)) answer losses next files (record { 0 = id }) orders
+module _ {A : Type 0} (f : archives.Ghosts A) (side : Side) where
+  of_place : (P : Plan → Type 0) (answer : NodeAnswer) (losses : List Device) (next : Side) (files : ℕ → List ℕ) (file at : ℕ) → Looks f side file at answer losses next
+      → Ends f.tells files side.chain P answer losses next.chain
+  of_place P answer losses next files file at (side_of.looks found read up answer_is next_is none) = stays (ap (λ (s : Side). s.chain) next_is) none
+  of_place P answer losses next files file at (side_of.fails read more answer_is next_is one) = lost answer_is (ap (λ (s : Side). s.chain) next_is) one
 
-  of_line : (e : LineEvent) (answer : NodeAnswer) (losses : List Device) (next : Side) (files : ℕ → List ℕ) → (told → AllGrow next.files files) → OrdersLine told side e answer losses next
-      → Ends told files side.chain (IsFirstMove side e) answer losses next.chain
+  of_said : (bytes : List ℕ) (answer : NodeAnswer) (losses : List Device) (next : Side) (files : ℕ → List ℕ) (said : Option NodeLine) → (f.tells → AllGrow next.files files) → IsSaid bytes said → Orders f side said answer losses next
+      → Ends f.tells files side.chain (IsFirstMove side (line bytes)) answer losses next.chain
+  of_said bytes answer losses next files None grows says orders = stays (ap (λ (s : Side). s.chain) orders.1) orders.2
+  of_said bytes answer losses next files (Some (block file at)) grows says orders = of_place (IsFirstMove side (line bytes)) answer losses next files file at orders
+  of_said bytes answer losses next files (Some (tip hash)) grows says orders = of_tip f.tells side bytes hash answer losses next files grows says orders
+  of_said bytes answer losses next files (Some (tx b)) grows says orders = of_tx f.tells side (IsFirstMove side (line bytes)) answer losses next files b orders
+  of_said bytes answer losses next files (Some (dropped id)) grows says orders = of_drop f.tells side (IsFirstMove side (line bytes)) answer losses next files (record { 0 = id }) orders
+
+  of_line : (e : LineEvent) (answer : NodeAnswer) (losses : List Device) (next : Side) (files : ℕ → List ℕ) → (f.tells → AllGrow next.files files) → OrdersLine f side e answer losses next
+      → Ends f.tells files side.chain (IsFirstMove side e) answer losses next.chain
   of_line too_long answer losses next files grows orders = stays (ap (λ (s : Side). s.chain) orders.1) orders.2
   of_line (line bytes) answer losses next files grows orders = of_said bytes answer losses next files orders.0 grows orders.1 orders.2
 
@@ -129,8 +131,8 @@ module _ {G A : Type 0} (l : ledger.Ghosts G) (f : archives.Ghosts A) where
 
   -- after a line, whose answer isn't that the block files failed
   pub line_starves : (old new : G) (before after : A) (side : Side) (start : Chain) (e : LineEvent) (answer : NodeAnswer) (found ahead : List Node) (touched changed : List Hash32) (holdings : Holdings)
-      → (answer ≡ say.Refused refusal.Archive → ⊥) → Leads l f (OrdersLine f.tells side e) old new before after side start answer found ahead touched changed holdings
+      → (answer ≡ say.Refused refusal.Archive → ⊥) → Leads l f (OrdersLine f side e) old new before after side start answer found ahead touched changed holdings
       → StopsAt l f old new before after side.chain false (IsFirstMove side e) fault.Memory
   line_starves old new before after side start e answer found ahead touched changed holdings apart led =
       ends_stops old new before after side.chain led.next.chain false (IsFirstMove side e) answer led.losses (λ says. absurd (apart says)) led.went led.rose
-      (of_line f.tells side e answer led.losses led.next (f.bytes after) led.told led.led)
+      (of_line f side e answer led.losses led.next (f.bytes after) led.told led.led)

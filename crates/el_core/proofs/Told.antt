@@ -107,7 +107,7 @@ module _ {G A : Type 0} (l : ledger.Ghosts G) (f : archive.Ghosts A) where
       → SessionsAre old.clients None None world.sessions r.stood.said → old.speaker ≡ None → old.surplus ≡ None → slice_get world.sessions i ≡ Some x
       → new.clients ≡ replaced i now old.clients → Both (IsSession None r.stood.said) now session → IfThere (λ (n : Session). n.peer ≡ x.peer) session
       → IfThere (λ (n : Session). status_told.AllTold (status world.side.chain world.side.kept) n.client.subs) session
-      → OneTurn f.tells world [] o losses (record world { sessions = replaced i session world.sessions })
+      → OneTurn f world [] o losses (record world { sessions = replaced i session world.sessions })
       → AllByRecursion (GoesTo (record world { sessions = replaced i session world.sessions }) None o.closing) o.messages → RoseBy (l.faults old.ledger) (l.faults new.ledger) (failures device.disk losses)
       → failures device.link losses ≡ 0 → failures device.archive losses ≡ 0
       → TookTurn l f old new files files world left o

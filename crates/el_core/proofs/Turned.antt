@@ -133,7 +133,7 @@ module _ {G A : Type 0} (l : ledger.Ghosts G) (f : archive.Ghosts A) where
       → new.holdings.magic ≡ read.holdings.magic
       → (new.clients ≡ all_wait read.clients) × (new.before ≡ l.tip read.ledger)
       → ((side : Side) (start : Chain) → IsAt l f read.ledger read.holdings before side start → IsFrom read.holdings side
-      → Answered l f (OrdersLine f.tells side e) (begun_at (l.tip read.ledger) read) new before after side start o)
+      → Answered l f (OrdersLine f side e) (begun_at (l.tip read.ledger) read) new before after side start o)
       → TookTurn l f old new before after world left (outs_of o)
   unfolding begun_stands
   node_turned old read new before after world left o e tip_is stood told still quiet_all same limit gives then magic begins turn =
@@ -154,7 +154,7 @@ module _ {G A : Type 0} (l : ledger.Ghosts G) (f : archive.Ghosts A) where
           moved = a.moved;
           changed = a.changed;
           sends = a.sends;
-          led = subst (λ (k : G). Leads l f (OrdersLine f.tells world.side e) k new.ledger before after world.side stood.start a.answer new.holdings.tree new.ahead a.moved a.changed new.holdings) ledger_is a.led;
+          led = subst (λ (k : G). Leads l f (OrdersLine f world.side e) k new.ledger before after world.side stood.start a.answer new.holdings.tree new.ahead a.moved a.changed new.holdings) ledger_is a.led;
           covers = subst (λ (cs : List ClientState). CoversAll (all_wait cs) [] a.moved a.changed new.touched) clients_is a.covers;
         };
         magic = magic ∙ ap (λ (s : State G). s.holdings.magic) same;
@@ -215,7 +215,7 @@ module _ {G A : Type 0} (l : ledger.Ghosts G) (f : archive.Ghosts A) where
       → old.ahead ≡ [] → waiting old.clients ≡ [] → HasGivenAll old.node → new ≡ record old { ledger = new.ledger; clients = new.clients; speaker = new.speaker; surplus = new.surplus }
       → Asked l old.ledger new.ledger
       → ((side : Side) → IsSettled l f old.ledger old.holdings before side → PeersTurn f.tells side (Lost l f old.ledger new.ledger before after) old o new)
-      → IfNone o (IsDone l.stands f.tells world left new)
+      → IfNone o (IsDone l.stands f world left new)
   peers_ended old new before after world left o own live stood still quiet_all all same asked turn =
       peers_none l f _ _ _ old new world left o (beside old new world left own live stood still quiet_all all same asked)
       (peers_any old new before after world left o stood still turn)

@@ -67,7 +67,7 @@ pub record TookTurn {G A : Type 0} (of_ledger : ledger.Ghosts G) (of_files : arc
   pub losses : List Device
   pub next : World
   pub whole : left ≡ done ++ rest
-  pub turn : OneTurn of_files.tells world done outs losses next
+  pub turn : OneTurn of_files world done outs losses next
   pub stood : Stands of_ledger.stands new next rest
   pub moved : Moved of_ledger old.ledger new.ledger world.side.chain next.side.chain
   pub told : of_files.tells → AllGrow next.side.files (of_files.bytes after)
@@ -77,9 +77,9 @@ pub record TookTurn {G A : Type 0} (of_ledger : ledger.Ghosts G) (of_files : arc
 
 -- No event is left, but perhaps lines of a client that is closed, which have no effect. Everyone was told of
 -- the node's last line, and of each subscription the status that was told last is its status.
-pub record IsDone {G : Type 0} (stands : G → Chain → Type 0) (tells : Type 0) (world : World)
+pub record IsDone {G A : Type 0} (stands : G → Chain → Type 0) (of_files : archive.Ghosts A) (world : World)
     (left : List Event) (s : State G) : Type 0 where
-  pub turns : Turns tells world left [] [] [] world
+  pub turns : Turns of_files world left [] [] [] world
   pub still : IsStill world
   pub told : AllTold world
   pub statuses : AllByRecursion (λ (x : Session).
@@ -92,9 +92,9 @@ stop_of fault.DiskFailed = by_disk
 stop_of fault.Memory = by_memory
 
 -- it stops in the turn itself, and not in sending what that gave
-abbrev pub IsWithin : {tells : Type 0} {world : World} {left : List Event} {stop : Stop} {sent : List Message}
-    {closings : List Closing} {losses : List Device}
-    → Stops tells world left stop sent closings losses → Type 0
+abbrev pub IsWithin : {A : Type 0} {of_files : archive.Ghosts A} {world : World} {left : List Event}
+    {stop : Stop} {sent : List Message} {closings : List Closing} {losses : List Device}
+    → Stops of_files world left stop sent closings losses → Type 0
 IsWithin (disk_failed by nodes silent closed lost) = Unit {0}
 IsWithin (sift_failed by busy silent closed lost) = Unit {0}
 IsWithin (no_memory by nodes silent closed lost) = Unit {0}
@@ -103,9 +103,9 @@ IsWithin (unsent done rest outs failed after front back m lost last next whole t
     ⊥
 
 -- The block files had failed in it, so that no move was made.
-abbrev pub KeepsChain : {tells : Type 0} {world : World} {left : List Event} {stop : Stop}
-    {sent : List Message} {closings : List Closing} {losses : List Device}
-    → Stops tells world left stop sent closings losses → Type 0
+abbrev pub KeepsChain : {A : Type 0} {of_files : archive.Ghosts A} {world : World} {left : List Event}
+    {stop : Stop} {sent : List Message} {closings : List Closing} {losses : List Device}
+    → Stops of_files world left stop sent closings losses → Type 0
 KeepsChain (disk_failed by nodes silent closed lost) = ⊥
 KeepsChain (sift_failed by busy silent closed lost) = Unit {0}
 KeepsChain (no_memory by nodes silent closed lost) = ⊥
@@ -118,7 +118,7 @@ KeepsChain (unsent done rest outs failed after front back m lost last next whole
 pub record TurnFailed {G A : Type 0} (of_ledger : ledger.Ghosts G) (of_files : archive.Ghosts A)
     (old new : G) (before after : A) (world : World) (left : List Event) (e : QueryFault) : Type 0 where
   pub losses : List Device
-  pub stops : Stops of_files.tells world left (stop_of e) [] [] losses
+  pub stops : Stops of_files world left (stop_of e) [] [] losses
   pub within : IsWithin stops
   pub rose : (of_link : ℕ) → Rose (failed_calls of_ledger of_files of_link old before)
       (failed_calls of_ledger of_files of_link new after) losses

@@ -281,8 +281,8 @@ impl<G: Ledger> Server<G> {
         ensures node { (side : Side) (start : Chain)
             → IsAt ⟦<G as Ledger>⟧ ⟦<A as Archive>⟧ self.old.ledger self.old.holdings archive.old side start
             → IsFrom self.old.holdings side → IfOk result (Answered ⟦<G as Ledger>⟧ ⟦<A as Archive>⟧
-            (OrdersLine A.tells side (as_listed met)) (begun_at (G.tip self.old.ledger) self.old) self.new
-            archive.old archive.new side start) }
+            (OrdersLine ⟦<A as Archive>⟧ side (as_listed met)) (begun_at (G.tip self.old.ledger) self.old)
+            self.new archive.old archive.new side start) }
         ensures sends { IfOk result (λ o. (text : List ℕ) × (outs_of o ≡ reply_to 0 text)) }
         ensures stopped { (side : Side) (start : Chain)
             → IsAt ⟦<G as Ledger>⟧ ⟦<A as Archive>⟧ self.old.ledger self.old.holdings archive.old side start
@@ -490,7 +490,7 @@ impl<G: Ledger> Server<G> {
             archive.old archive.new world left (outs_of o))) }
         // Where nothing is done, nothing is left, and everyone was told.
         ensures done { (world : World) (left : List Event) → Stands G.stands self.old world left
-            → IfOk result (λ found. IfNone found (IsDone G.stands A.tells world left self.new)) }
+            → IfOk result (λ found. IfNone found (IsDone G.stands ⟦<A as Archive>⟧ world left self.new)) }
         ensures unchanged { IfOk result (λ found. IfNone found
             ((G.faults self.new.ledger ≡ G.faults self.old.ledger)
             × (A.faults archive.new ≡ A.faults archive.old))) }

@@ -61,13 +61,14 @@ not_client trace sessions p new all' = elim (either (some_peer p sessions)) [
 ]
 
 -- events that are done with an arrival, as turns
-pub quietly_turns : (tells : Type 0) (world : World) (done : List Event) (next : World) → IsStill world
-    → AllTold world → Quietly world done next → Turns tells world done [] [] [] next
-quietly_turns tells world done next still told none = no_turns
-quietly_turns tells world done next still told (joined p few) =
+pub quietly_turns : {A : Type 0} (of_files : archive.Ghosts A) (world : World) (done : List Event)
+    (next : World) → IsStill world
+    → AllTold world → Quietly world done next → Turns of_files world done [] [] [] next
+quietly_turns of_files world done next still told none = no_turns
+quietly_turns of_files world done next still told (joined p few) =
     more [] [] [] [] world _ nothing [] next [] [] [] next no_turns
     (takes _ still told refl (rw few (refl, refl, refl))) (all next None)
-quietly_turns tells world done next still told (departed p) =
+quietly_turns of_files world done next still told (departed p) =
     more [] [] [] [] world _ nothing [] next [] [] [] next no_turns (takes _ still told refl (refl, refl, refl))
     (all next None)
 
@@ -134,9 +135,9 @@ module _ {G A K : Type 0} (of_ledger : ledger.Ghosts G) (of_files : archive.Ghos
       → Finished of_ledger of_files of_link (after_hearing a world) (events world a) (snapshot old files k)
       now
   arrival_done a world old taken files k now still told same t f =
-      let q = quietly_turns of_files.tells (after_hearing a world) t.done t.next
+      let q = quietly_turns of_files (after_hearing a world) t.done t.next
       (still_after a world ∙ still) (told_after a world told) t.quietly in
-      let turns = turns_then of_files.tells (after_hearing a world) t.next f.world t.done t.left [] f.messages
+      let turns = turns_then of_files (after_hearing a world) t.next f.world t.done t.left [] f.messages
       []
       f.closings [] f.losses q f.turns in
       record {
@@ -160,11 +161,11 @@ module _ {G A K : Type 0} (of_ledger : ledger.Ghosts G) (of_files : archive.Ghos
       → Stopped of_ledger of_files of_link leaves t.next t.left stop (snapshot taken files k) now
       → StoppedIn of_ledger of_files of_link leaves world a stop (snapshot old files k) now
   arrival_stopped leaves a world old taken files k now stop still told same t f =
-      let q = quietly_turns of_files.tells (after_hearing a world) t.done t.next
+      let q = quietly_turns of_files (after_hearing a world) t.done t.next
       (still_after a world ∙ still) (told_after a world told) t.quietly in
       let whole = t.whole ∙ ap (λ (l : List Event). t.done ++ l) f.whole
       ∙ sym (append_assoc t.done f.done f.left) in
-      let turns = turns_then of_files.tells (after_hearing a world) t.next f.world t.done f.done [] f.messages
+      let turns = turns_then of_files (after_hearing a world) t.next f.world t.done f.done [] f.messages
       []
       f.closings [] f.losses q f.turns in
       record {

@@ -63,15 +63,16 @@ link_rose low high of_files of_ledger losses alone rose device.archive = rw alon
 link_rose low high of_files of_ledger losses alone rose device.disk = rw alone.no_disk (rose_none of_ledger)
 
 -- turns after turns
-pub turns_then : (tells : Type 0) (first world last : World) (done es : List Event) (ms ns : List Message)
+pub turns_then : {A : Type 0} (of_files : archive.Ghosts A) (first world last : World)
+    (done es : List Event) (ms ns : List Message)
     (cs ds : List Closing) (ls ks : List Device)
-    → Turns tells first done ms cs ls world → Turns tells world es ns ds ks last
-    → Turns tells first (done ++ es) (ms ++ ns) (cs ++ ds) (ls ++ ks) last
-turns_then tells first world last done es ms ns cs ds ls ks before none =
+    → Turns of_files first done ms cs ls world → Turns of_files world es ns ds ks last
+    → Turns of_files first (done ++ es) (ms ++ ns) (cs ++ ds) (ls ++ ks) last
+turns_then of_files first world last done es ms ns cs ds ls ks before none =
     rw (append-nil done, append-nil ms, append-nil cs, append-nil ls) before
-turns_then tells first world last done es ms ns cs ds ls ks before
+turns_then of_files first world last done es ms ns cs ds ls ks before
     (more past ms' cs' ls' mid now outs failed left sent closed lost next so_far turn delivers) =
-    let one : Turns tells first (done ++ (past ++ now)) (ms ++ (ms' ++ sent)) (cs ++ (cs' ++ closed))
+    let one : Turns of_files first (done ++ (past ++ now)) (ms ++ (ms' ++ sent)) (cs ++ (cs' ++ closed))
     (ls ++ (ls' ++ (failed ++ lost))) next =
     rw (
       ← append_assoc done past now,
@@ -80,13 +81,13 @@ turns_then tells first world last done es ms ns cs ds ls ks before
       ← append_assoc ls ls' (failed ++ lost),
     )
     (more (done ++ past) (ms ++ ms') (cs ++ cs') (ls ++ ls') mid now outs failed left sent closed lost next
-    (turns_then tells first world mid done past ms ms' cs cs' ls ls' before so_far) turn delivers) in
+    (turns_then of_files first world mid done past ms ms' cs cs' ls ls' before so_far) turn delivers) in
     one
 
 -- the block files where a turn failed, and the chain that is then in flight
-within_files : {tells : Type 0} {world : World} {left : List Event} {stop : Stop} {sent : List Message}
-    {closings : List Closing} {losses : List Device} (stops : Stops tells world left stop sent closings
-    losses)
+within_files : {A : Type 0} {of_files : archive.Ghosts A} {world : World} {left : List Event} {stop : Stop}
+    {sent : List Message} {closings : List Closing} {losses : List Device}
+    (stops : Stops of_files world left stop sent closings losses)
     → IsWithin stops → files_at stops ≡ world.side.files
 within_files (disk_failed by nodes silent closed lost) within = refl
 within_files (sift_failed by busy silent closed lost) within = refl
@@ -96,11 +97,11 @@ within_files (unsent done rest outs failed after front back m lost last next who
     all')
     within = absurd within
 
-within_flies : {tells : Type 0} {world : World} {left : List Event} {stop : Stop} {sent : List Message}
-    {closings : List Closing} {losses : List Device}
-    (stops : Stops tells world left stop sent closings losses) → IsWithin stops → (now : ℕ → List ℕ)
-    (next : Chain) → (tells → AllGrow world.side.files now) → IsUnderWay tells now world.side.chain
-    (IsMoveOf world left) next
+within_flies : {A : Type 0} {of_files : archive.Ghosts A} {world : World} {left : List Event} {stop : Stop}
+    {sent : List Message} {closings : List Closing} {losses : List Device}
+    (stops : Stops of_files world left stop sent closings losses) → IsWithin stops → (now : ℕ → List ℕ)
+    (next : Chain) → (of_files.tells → AllGrow world.side.files now)
+    → IsUnderWay of_files.tells now world.side.chain (IsMoveOf world left) next
     → (KeepsChain stops → next ≡ world.side.chain) → FliesAt stops now next
 within_flies (disk_failed by nodes silent closed lost) within now next grows way kept =
     (now, λ told. (grows told, all_grow_none now), way)
@@ -142,8 +143,8 @@ module _ {G A K : Type 0} (of_ledger : ledger.Ghosts G) (of_files : archive.Ghos
       → (of_link.tells → ClientsAreOpen s world (of_link.trace k))
       → CanDeliver of_ledger.stands of_link.tells turned t.next t.rest outs (of_link.trace k)
   can_deliver world left outs s turned files files' k stood t are =
-      let one = turn_to_one of_files.tells world t.done outs t.losses t.next t.turn in
-      let then' = λ (told : of_link.tells). after_turn of_ledger.stands of_files.tells (of_link.trace k) s world
+      let one = turn_to_one of_files world t.done outs t.losses t.next t.turn in
+      let then' = λ (told : of_link.tells). after_turn of_ledger.stands of_files (of_link.trace k) s world
       left t.rest t.done outs t.losses t.next stood t.whole t.turn (are told) in
       record {
         stood = t.stood;
@@ -208,7 +209,7 @@ module _ {G A K : Type 0} (of_ledger : ledger.Ghosts G) (of_files : archive.Ghos
           are_open = λ told. record {
             sessions = d.are_open told;
             surplus = λ q e.
-                let w = still_waiting of_ledger.stands of_files.tells s turned p.world p.left t.rest t.done
+                let w = still_waiting of_ledger.stands of_files s turned p.world p.left t.rest t.done
                 outs
                 t.losses t.next q p.stood t.whole t.turn t.stood (sym d.surplus ∙ e) in
                 let here = (p.ready.are_open told).surplus q w.waited in
@@ -223,13 +224,13 @@ module _ {G A K : Type 0} (of_ledger : ledger.Ghosts G) (of_files : archive.Ghos
   pub finished : (first : World) (all' : List Event) (before : Snapshot G A K) (s turned : State G)
       (files files' : A) (k : K)
       → (p : Progress of_ledger of_files of_link first all' before (snapshot s files k))
-      → IsDone of_ledger.stands of_files.tells p.world p.left turned → turned.surplus ≡ None
+      → IsDone of_ledger.stands of_files p.world p.left turned → turned.surplus ≡ None
       → (of_ledger.faults turned.ledger ≡ of_ledger.faults s.ledger)
       × (of_files.faults files' ≡ of_files.faults files)
       → (of_files.tells → AllGrow (of_files.bytes files) (of_files.bytes files'))
       → Finished of_ledger of_files of_link first all' before (snapshot turned files' k)
   finished first all' before s turned files files' k p d unused same grows =
-      let both = turns_then of_files.tells first p.world p.world p.done p.left p.messages [] p.closings []
+      let both = turns_then of_files first p.world p.world p.done p.left p.messages [] p.closings []
       p.losses [] p.turns d.turns in
       record {
         messages = p.messages;

@@ -60,9 +60,10 @@ opened_open old s world next p before after (inr (inr then)) are new goes = reco
   surplus = λ q e. absurd (let f = sym then.1 ∙ e in cc);
 }
 
-run_none : (tells : Type 0) (first : World) (node : Bool) → Run tells first (taken node []) [] [] [] first
-run_none tells first true = none
-run_none tells first false = none
+run_none : {A : Type 0} (of_files : archive.Ghosts A) (first : World) (node : Bool)
+    → Run of_files first (taken node []) [] [] [] first
+run_none of_files first true = none
+run_none of_files first false = none
 
 still_open : {G : Type 0} (old s : State G) (world next : World) (a : ArrivalWithBytes) (before after : Trace)
     → (next ≡ world) × (s.surplus ≡ None) → ClientsAreOpen old world before
@@ -160,7 +161,7 @@ module _ {G A K : Type 0} (of_ledger : ledger.Ghosts G) (of_files : archive.Ghos
     closings = [];
     losses = [];
     world = first;
-    run = run_none of_files.tells first node;
+    run = run_none of_files first node;
     told = rw nobody refl;
     statuses = rw nobody tt;
     stood = stood;
@@ -216,7 +217,7 @@ module _ {G A K : Type 0} (of_ledger : ledger.Ghosts G) (of_files : archive.Ghos
       (snapshot mid.server mid.files k) now
       → (traffic : Trace) × (of_link.tells → GoesOn (of_link.trace before.link) (of_link.trace now.link)
       traffic.arrivals traffic.messages traffic.closings)
-      × IsHalted of_files.tells first node leaves (of_files.bytes now.files) (run_counts turns before now)
+      × IsHalted of_files first node leaves (of_files.bytes now.files) (run_counts turns before now)
       traffic
       stop
   told_stopped leaves first node count turns a before mid k now stop g took same one lt f =
@@ -271,7 +272,7 @@ module _ {G A K : Type 0} (of_ledger : ledger.Ghosts G) (of_files : archive.Ghos
     pub closings : List Closing
     pub losses : List Device
     pub world : World
-    pub run : Run of_files.tells first (taken node (front ++ a ∷ [])) messages closings losses world
+    pub run : Run of_files first (taken node (front ++ a ∷ [])) messages closings losses world
     pub told : AllTold world
     pub statuses : StatusesAreTold world
     pub stood : Stands of_ledger.stands now.server world []
@@ -339,7 +340,7 @@ module _ {G A K : Type 0} (of_ledger : ledger.Ghosts G) (of_files : archive.Ghos
   Told first node leaves turns before now e = (traffic : Trace)
       × (of_link.tells → GoesOn (of_link.trace before.link) (of_link.trace now.link)
       traffic.arrivals traffic.messages traffic.closings)
-      × RunEnds of_files.tells first node leaves (of_files.bytes now.files) (run_counts turns before now)
+      × RunEnds of_files first node leaves (of_files.bytes now.files) (run_counts turns before now)
       traffic e
 
   -- the last arrival ended the run
@@ -437,7 +438,7 @@ module _ {G A K : Type 0} (of_ledger : ledger.Ghosts G) (of_files : archive.Ghos
       (before now : Snapshot G A K) (halt : Halt)
       → ((traffic : Trace) × (of_link.tells → GoesOn (of_link.trace before.link) (of_link.trace now.link)
       traffic.arrivals traffic.messages traffic.closings)
-      × IsHalted of_files.tells first node leaves (of_files.bytes now.files) (run_counts turns before now)
+      × IsHalted of_files first node leaves (of_files.bytes now.files) (run_counts turns before now)
       traffic
       (stop_of halt))
       → Told first node leaves turns before now (end_of halt)

@@ -3,6 +3,7 @@ use Rattle.std.proofs.Common.{◌≡◌, inl, inr, ℕ, ◌==◌, true, false, n
 use Rattle.std.specs.Prelude.{find}
 use Rattle.std.specs.List.{AllByRecursion, AllZip, list_any}
 use Rattle.std.specs.Option.{option_to_list}
+use Rattle.el_outside.specs.declared.archive.Archive as archive
 use Rattle.el_outside.specs.Trace.{Trace, Message}
 use Rattle.el_outside.specs.declared.link.Why.{Why}
 use Rattle.el_outside.specs.declared.link.Why.TheVariants as why
@@ -142,21 +143,23 @@ waiting stands s world left p rest stood is =
     let said = first_said _ stood.said p rest split in
     joins_too_many s.clients s.speaker s.surplus world.sessions p rest (rw said stood.sessions)
 
-by_event : {G : Type 0} (stands : G → Chain → Type 0) (tells : Type 0) (trace : Trace) (s : State G)
+by_event : {G A : Type 0} (stands : G → Chain → Type 0) (of_files : archive.Ghosts A) (trace : Trace)
+    (s : State G)
     (world : World) (left rest : List Event) (event : Event) (outs : Outs) (losses : List Device)
     (next : World)
-    → Stands stands s world left → left ≡ event ∷ rest → Takes tells world event outs losses next
+    → Stands stands s world left → left ≡ event ∷ rest → Takes of_files world event outs losses next
     → ClientsAreOpen s world trace → After trace outs next
-by_event stands tells trace s world left rest (joins p) outs losses next stood is t are =
+by_event stands of_files trace s world left rest (joins p) outs losses next stood is t are =
     let w = waiting stands s world left p rest stood is in
     let e = rw w.1 at t in
     let here = are.surplus p w.0 in
     record { sessions = rw e.1 are.sessions; closing = rw (e.0, e.1) here }
-by_event stands tells trace s world left rest (leaves p) outs losses next stood is t are =
+by_event stands of_files trace s world left rest (leaves p) outs losses next stood is t are =
     record { sessions = rw t.1 (all_but trace world.sessions p are.sessions); closing = rw t.0 tt }
-by_event stands tells trace s world left rest (says p (line bytes)) outs losses next stood is t are =
-    by_line tells trace world p bytes (find (is_peer p) world.sessions) outs losses next refl t are.sessions
-by_event stands tells trace s world left rest (says p too_long) outs losses next stood is t are =
+by_event stands of_files trace s world left rest (says p (line bytes)) outs losses next stood is t are =
+    by_line of_files.tells trace world p bytes (find (is_peer p) world.sessions) outs losses next refl t
+    are.sessions
+by_event stands of_files trace s world left rest (says p too_long) outs losses next stood is t are =
     elim (either (is_client p world)) [
       | inl h ↦ let e = rw h at t in shut trace world p why.Long outs next h
           (ap (λ (o : Outs). o.closing) e.0) e.1 are.sessions
@@ -164,7 +167,7 @@ by_event stands tells trace s world left rest (says p too_long) outs losses next
           (record { none = ap (λ (o : Outs). o.closing) e.0; same = ap (λ (w : World). peers w.sessions) e.1 })
           are.sessions
     ]
-by_event stands tells trace s world left rest (orders met) outs losses next stood is t are =
+by_event stands of_files trace s world left rest (orders met) outs losses next stood is t are =
     quiet_after trace world outs next (by_line_of_node _ world outs losses next t) are.sessions
 
 -- who is told, or closed since the index's device failed
@@ -176,18 +179,20 @@ by_notice trace world outs losses next (fails session is outs_is next_is lost) a
     shut trace world session.peer why.Disk outs next (who_is_client world.sessions _ session is)
     (ap (λ (o : Outs). o.closing) outs_is) next_is are
 
-pub after_turn : {G : Type 0} (stands : G → Chain → Type 0) (tells : Type 0) (trace : Trace) (s : State G)
+pub after_turn : {G A : Type 0} (stands : G → Chain → Type 0) (of_files : archive.Ghosts A) (trace : Trace)
+    (s : State G)
     (world : World) (left rest done : List Event) (outs : Outs) (losses : List Device)
     (next : World) → Stands stands s world left → left ≡ done ++ rest
-    → OneTurn tells world done outs losses next → ClientsAreOpen s world trace → After trace outs next
-after_turn stands tells trace s world left rest done outs losses next stood whole
+    → OneTurn of_files world done outs losses next → ClientsAreOpen s world trace → After trace outs next
+after_turn stands of_files trace s world left rest done outs losses next stood whole
     (takes event still all_told is t) are =
-    by_event stands tells trace s world left rest event outs losses next stood (rw is at whole) t are
-after_turn stands tells trace s world left rest done outs losses next stood whole (works busy is t) are =
+    by_event stands of_files trace s world left rest event outs losses next stood (rw is at whole) t are
+after_turn stands of_files trace s world left rest done outs losses next stood whole (works busy is t) are =
     quiet_after trace world outs next (by_lead _ world outs losses next t) are.sessions
-after_turn stands tells trace s world left rest done outs losses next stood whole (notifies still is t) are =
+after_turn stands of_files trace s world left rest done outs losses next stood whole (notifies still is t)
+    are =
     by_notice trace world outs losses next t are.sessions
-after_turn stands tells trace s world left rest done outs losses next stood whole
+after_turn stands of_files trace s world left rest done outs losses next stood whole
     (departs p client is closes gone lost) are =
     shut trace world p why.Memory outs next client (ap (λ (o : Outs). o.closing) closes) gone are.sessions
 
@@ -261,13 +266,14 @@ no_more_after q [] is = cc
 no_more_after q (y ∷ ys) is = cc
 
 -- the turn was one of the node
-by_node : (tells : Type 0) (world : World) (met : List LineEvent) (event : Event) (rest ys : List Event)
+by_node : {A : Type 0} (of_files : archive.Ghosts A) (world : World) (met : List LineEvent) (event : Event)
+    (rest ys : List Event)
     (q : ℕ) (outs : Outs) (losses : List Device) (next : World) → map orders met ++ joins q ∷ [] ≡ event ∷
     rest
-    → rest ≡ ys ++ joins q ∷ [] → Takes tells world event outs losses next → Quietly world outs next
-by_node tells world [] event rest ys q outs losses next split more t =
+    → rest ≡ ys ++ joins q ∷ [] → Takes of_files world event outs losses next → Quietly world outs next
+by_node of_files world [] event rest ys q outs losses next split more t =
     absurd (let e : [] ≡ ys ++ joins q ∷ [] = cc in no_more_after q ys e)
-by_node tells world (m ∷ ms) event rest ys q outs losses next split more t =
+by_node of_files world (m ∷ ms) event rest ys q outs losses next split more t =
     let is : event ≡ orders m = cc in
     by_line_of_node _ world outs losses next (rw is at t)
 
@@ -302,12 +308,13 @@ stays_told world outs losses next q (fails session is outs_is next_is lost) =
     (ap (λ (o : Outs). o.closing) outs_is) next_is
 
 -- Where a client too many waits after a turn, it waited before, and stays as it was.
-pub still_waiting : {G : Type 0} (stands : G → Chain → Type 0) (tells : Type 0) (s turned : State G)
+pub still_waiting : {G A : Type 0} (stands : G → Chain → Type 0) (of_files : archive.Ghosts A)
+    (s turned : State G)
     (world : World) (left rest done : List Event) (outs : Outs) (losses : List Device)
     (next : World) (q : ℕ) → Stands stands s world left → left ≡ done ++ rest
-    → OneTurn tells world done outs losses next → Stands stands turned next rest → turned.surplus ≡ Some q
+    → OneTurn of_files world done outs losses next → Stands stands turned next rest → turned.surplus ≡ Some q
     → StillWaits s.surplus world outs next q
-still_waiting stands tells s turned world left rest done outs losses next q stood whole turn later is =
+still_waiting stands of_files s turned world left rest done outs losses next q stood whole turn later is =
     let now = waits_now turned.clients turned.speaker turned.surplus next.sessions later.said q
     later.sessions is in
     let more : rest ≡ later.ordered ++ joins q ∷ [] =
@@ -328,7 +335,7 @@ still_waiting stands tells s turned world left rest done outs losses next q stoo
             ∙ ap (λ (l : List Event). stood.ordered ++ l) (sym then'.is) ∙ sym stood.left_is
             ∙ whole ∙ ap (λ (l : List Event). l ++ rest) one in
             stays_by world outs next q
-            (by_node tells world _ event rest later.ordered q outs losses next both more t)
+            (by_node of_files world _ event rest later.ordered q outs losses next both more t)
         | works busy none t ↦ stays_by world outs next q (by_lead _ world outs losses next t)
         | notifies still none t ↦ stays_told world outs losses next q t
         | departs p client none closes gone lost ↦ stays_apart world outs next p q why.Memory client
@@ -349,16 +356,16 @@ lead_to_one : (leads : NodeAnswer → List Device → Side → Type 0) (world : 
     (losses : List Device) (next : World) → IsLed leads world outs losses next → ToOne outs
 lead_to_one leads world outs losses next l = (0, rw l.outs_is (refl, tt))
 
-event_to_one : (tells : Type 0) (world : World) (event : Event) (outs : Outs) (losses : List Device)
-    (next : World) → Takes tells world event outs losses next → ToOne outs
-event_to_one tells world (joins p) outs losses next t =
+event_to_one : {A : Type 0} (of_files : archive.Ghosts A) (world : World) (event : Event) (outs : Outs)
+    (losses : List Device) (next : World) → Takes of_files world event outs losses next → ToOne outs
+event_to_one of_files world (joins p) outs losses next t =
     elim (either (nat_lt (length world.sessions) client_limit)) [
       | inl h ↦ let e = rw h at t in (0, rw e.0 tt)
       | inr h ↦ let e = rw h at t in (0, rw e.0 tt)
     ]
-event_to_one tells world (leaves p) outs losses next t = (0, rw t.0 tt)
-event_to_one tells world (says p (line bytes)) outs losses next t =
-    line_to_one tells world p bytes (find (is_peer p) world.sessions) outs losses next t
+event_to_one of_files world (leaves p) outs losses next t = (0, rw t.0 tt)
+event_to_one of_files world (says p (line bytes)) outs losses next t =
+    line_to_one of_files.tells world p bytes (find (is_peer p) world.sessions) outs losses next t
   where
     line_to_one : (tells : Type 0) (world : World) (p : ℕ) (bytes : List ℕ) (found : Option Session)
         (outs : Outs) (losses : List Device) (next : World) → Replied tells world p bytes found outs losses next
@@ -370,11 +377,11 @@ event_to_one tells world (says p (line bytes)) outs losses next t =
         (starved e kept comes outs_is next_is) = (p, rw outs_is tt)
     line_to_one tells world p bytes (Some session) outs losses next
         (uncounted reply kept comes more outs_is next_is) = (p, rw outs_is tt)
-event_to_one tells world (says p too_long) outs losses next t = elim (either (is_client p world)) [
+event_to_one of_files world (says p too_long) outs losses next t = elim (either (is_client p world)) [
   | inl h ↦ let e = rw h at t in (0, rw e.0 tt)
   | inr h ↦ let e = rw h at t in (0, rw e.0 tt)
 ]
-event_to_one tells world (orders met) outs losses next t = lead_to_one _ (begun world) outs losses next t
+event_to_one of_files world (orders met) outs losses next t = lead_to_one _ (begun world) outs losses next t
 
 notice_to_one : (world : World) (outs : Outs) (losses : List Device) (next : World)
     → Notifies world outs losses next → ToOne outs
@@ -383,10 +390,11 @@ notice_to_one world outs losses next (is_told session is outs_is next_is lossles
     (session.peer, rw outs_is (all_to session.peer told))
 notice_to_one world outs losses next (fails session is outs_is next_is lost) = (0, rw outs_is tt)
 
-pub turn_to_one : (tells : Type 0) (world : World) (done : List Event) (outs : Outs) (losses : List Device)
-    (next : World) → OneTurn tells world done outs losses next → ToOne outs
-turn_to_one tells world done outs losses next (takes event still all_told is t) =
-    event_to_one tells world event outs losses next t
-turn_to_one tells world done outs losses next (works busy is t) = lead_to_one _ world outs losses next t
-turn_to_one tells world done outs losses next (notifies still is t) = notice_to_one world outs losses next t
-turn_to_one tells world done outs losses next (departs p client is closes gone lost) = (0, rw closes tt)
+pub turn_to_one : {A : Type 0} (of_files : archive.Ghosts A) (world : World) (done : List Event)
+    (outs : Outs) (losses : List Device) (next : World) → OneTurn of_files world done outs losses next → ToOne outs
+turn_to_one of_files world done outs losses next (takes event still all_told is t) =
+    event_to_one of_files world event outs losses next t
+turn_to_one of_files world done outs losses next (works busy is t) = lead_to_one _ world outs losses next t
+turn_to_one of_files world done outs losses next (notifies still is t) =
+    notice_to_one world outs losses next t
+turn_to_one of_files world done outs losses next (departs p client is closes gone lost) = (0, rw closes tt)

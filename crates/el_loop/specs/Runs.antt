@@ -3,6 +3,7 @@ use Rattle.std.specs.Prelude.{◌≡◌, ◌⊎◌, ℕ, ◌+◌, ◌≤◌, Lis
 use Rattle.std.specs.List.{AllByRecursion}
 use Rattle.el_outside.specs.Counts.{RoseBy}
 use Rattle.el_outside.specs.Files.{AllGrow}
+use Rattle.el_outside.specs.declared.archive.Archive as archive
 use Rattle.el_outside.specs.declared.link.Link as links
 use Rattle.el_outside.specs.Trace.{Trace, GoesOn, ArrivalWithBytes, opened, brought, closed, quiet, ended}
 use Rattle.el_chain.specs.Chains.{Chain}
@@ -74,27 +75,29 @@ StatusesAreTold world = AllByRecursion
     (λ (session : Session). AllTold (status world.side.chain world.side.kept) session.client.subs)
     world.sessions
 
--- The traffic is that of a run from the first world, all turns of which were made. `tells` is whether the
--- block files tell their bytes, and `files` are those as they are in the end. `leaves` says of two chains
--- that all that a crash may leave in the end stands for the one, which is acknowledged, or for the other,
--- which is in flight.
-pub record IsRun (tells : Type 0) (first : World) (node : Bool) (leaves : Chain → Chain → Type 0)
-    (files : ℕ → List ℕ) (c : Counts) (t : Trace) (failed : List Device) : Type 0 where
+-- The traffic is that of a run from the first world, all turns of which were made. `of_files` is what the
+-- type of the block files says of them, and `files` are their bytes as they are in the end. `leaves` says of
+-- two chains that all that a crash may leave in the end stands for the one, which is acknowledged, or for the
+-- other, which is in flight.
+pub record IsRun {A : Type 0} (of_files : archive.Ghosts A) (first : World) (node : Bool)
+    (leaves : Chain → Chain → Type 0) (files : ℕ → List ℕ) (c : Counts) (t : Trace) (failed : List Device)
+    : Type 0 where
   pub losses : List Device
   pub world : World
-  pub run : Run tells first (taken node t.arrivals) t.messages t.closings losses world
+  pub run : Run of_files first (taken node t.arrivals) t.messages t.closings losses world
   pub statuses : StatusesAreTold world
-  pub grown : tells → AllGrow world.side.files files
+  pub grown : of_files.tells → AllGrow world.side.files files
   pub counted : IsCounted c t losses failed
   pub crash : leaves world.side.chain world.side.chain
 
 -- The traffic is that of a run that stopped so in its last arrival. `files` are the block files as they are
 -- in the end: they have all that each turn had of them.
-pub record IsHalted (tells : Type 0) (first : World) (node : Bool) (leaves : Chain → Chain → Type 0)
-    (files : ℕ → List ℕ) (c : Counts) (t : Trace) (stop : Stop) : Type 0 where
+pub record IsHalted {A : Type 0} (of_files : archive.Ghosts A) (first : World) (node : Bool)
+    (leaves : Chain → Chain → Type 0) (files : ℕ → List ℕ) (c : Counts) (t : Trace) (stop : Stop)
+    : Type 0 where
   pub losses : List Device
-  pub halts : Halts tells first stop (taken node t.arrivals) t.messages t.closings losses
-  pub grown : tells → AllGrow (files_left halts.stops) files
+  pub halts : Halts of_files first stop (taken node t.arrivals) t.messages t.closings losses
+  pub grown : of_files.tells → AllGrow (files_left halts.stops) files
   pub counted : IsCounted c t losses []
   pub last : NoneEndsBefore t.arrivals
   pub flight : Chain
@@ -102,21 +105,21 @@ pub record IsHalted (tells : Type 0) (first : World) (node : Bool) (leaves : Cha
   pub crash : leaves (acked halts.stops) flight
 
 -- How a run ends.
-abbrev pub RunEnds : Type 0 → World → Bool → (Chain → Chain → Type 0) → (ℕ → List ℕ) → Counts → Trace
-    → End → Type 0
+abbrev pub RunEnds : {A : Type 0} → archive.Ghosts A → World → Bool → (Chain → Chain → Type 0)
+    → (ℕ → List ℕ) → Counts → Trace → End → Type 0
 -- nothing comes any more, or peer 0 left
-RunEnds tells first node leaves files c t end.Ended =
-    IsRun tells first node leaves files c t [] × LastEnds t.arrivals
+RunEnds of_files first node leaves files c t end.Ended =
+    IsRun of_files first node leaves files c t [] × LastEnds t.arrivals
 -- the last call of `next` failed, or an answer to the node couldn't be sent
-RunEnds tells first node leaves files c t end.LinkFailed =
-    (IsRun tells first node leaves files c t next_failed × NoneEnds t.arrivals)
-    ⊎ IsHalted tells first node leaves files c t by_link
+RunEnds of_files first node leaves files c t end.LinkFailed =
+    (IsRun of_files first node leaves files c t next_failed × NoneEnds t.arrivals)
+    ⊎ IsHalted of_files first node leaves files c t by_link
 -- all calls of `next` were made, and none ended the run
-RunEnds tells first node leaves files c t end.TurnsSpent =
-    IsRun tells first node leaves files c t [] × NoneEnds t.arrivals × (length t.arrivals ≡ c.turns)
+RunEnds of_files first node leaves files c t end.TurnsSpent =
+    IsRun of_files first node leaves files c t [] × NoneEnds t.arrivals × (length t.arrivals ≡ c.turns)
 -- a call of the index's device failed in a turn of the node
-RunEnds tells first node leaves files c t end.DiskFailed =
-    IsHalted tells first node leaves files c t by_disk
+RunEnds of_files first node leaves files c t end.DiskFailed =
+    IsHalted of_files first node leaves files c t by_disk
 -- no memory was found for bytes of the node, for a new client, in a turn of the node, or for an answer to it
-RunEnds tells first node leaves files c t end.OutOfMemory =
-    IsHalted tells first node leaves files c t by_memory
+RunEnds of_files first node leaves files c t end.OutOfMemory =
+    IsHalted of_files first node leaves files c t by_memory

@@ -15,7 +15,7 @@ use el_outside::Archive;
 pub fn no_block_is_invented<G: Ledger, A: Archive>()
     ensures none_had { (first : World) (node : Bool) (ledger : G) (files : ℕ → List ℕ) (c : Counts)
         (t : Trace) (stop : Stop)
-        (h : IsHalted A.tells first node
+        (h : IsHalted ⟦<A as Archive>⟧ first node
         (LeavesEither G.tells_crash G.means G.moment G.left_since ledger) files c t stop)
         → A.tells → (file : ℕ) → files file ≡ [] → files_left h.halts.stops file ≡ [] }
 {}

@@ -157,7 +157,7 @@ pub fn run<G: Ledger, A: Archive, K: Link>(
         → first.side.files ≡ A.bytes archive.old
         → (traffic : Trace)
         × WentBy ⟦<K as Link>⟧ link.old link.new traffic
-        × RunEnds A.tells first options.node
+        × RunEnds ⟦<A as Archive>⟧ first options.node
         (LeavesEither G.tells_crash G.means G.moment G.left_since server.new.ledger)
         (A.bytes archive.new) (counts_of G.faults ⟦<A as Archive>⟧ ⟦<K as Link>⟧ options.turns
         (devices server.old.ledger archive.old link.old)

@@ -33,7 +33,7 @@ pub fn serve_from<G: Ledger, A: Archive, K: Link>(
     // What was sent and closed is a run from the chain that the ledger stands for, and so it ends.
     ensures ends { (chain : Chain) → G.stands ledger chain → (traffic : Trace)
         × WentBy ⟦<K as Link>⟧ link.old link.new traffic
-        × RunEnds A.tells (initial_world chain options.magic options.limits tree
+        × RunEnds ⟦<A as Archive>⟧ (initial_world chain options.magic options.limits tree
         (A.bytes archive.old)) options.node
         (LeavesEither G.tells_crash G.means G.moment G.left_since result.1)
         (A.bytes archive.new) (counts_of G.faults ⟦<A as Archive>⟧ ⟦<K as Link>⟧ options.turns

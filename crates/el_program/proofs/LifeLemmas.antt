@@ -51,10 +51,11 @@ module _ (P : Chain → Chain → Type 0) where
   both : (a b : Chain) → these a b a b
   both a b = (refl, refl)
 
-  run_pinned : (tells : Type 0) (first : World) (node : Bool) (files : ℕ → List ℕ) (c : Counts) (t : Trace)
-      (failed : List Device) → IsRun tells first node P files c t failed
-      → Pinned P (λ Q. IsRun tells first node Q files c t failed)
-  run_pinned tells first node files c t failed r = record {
+  run_pinned : {A : Type 0} (of_files : archive.Ghosts A) (first : World) (node : Bool)
+      (files : ℕ → List ℕ) (c : Counts) (t : Trace) (failed : List Device)
+      → IsRun of_files first node P files c t failed
+      → Pinned P (λ Q. IsRun of_files first node Q files c t failed)
+  run_pinned of_files first node files c t failed r = record {
     acked = r.world.side.chain;
     flight = r.world.side.chain;
     leaves = r.crash;
@@ -69,10 +70,11 @@ module _ (P : Chain → Chain → Type 0) where
     };
   }
 
-  halt_pinned : (tells : Type 0) (first : World) (node : Bool) (files : ℕ → List ℕ) (c : Counts) (t : Trace)
-      (stop : Stop) → IsHalted tells first node P files c t stop
-      → Pinned P (λ Q. IsHalted tells first node Q files c t stop)
-  halt_pinned tells first node files c t stop h = record {
+  halt_pinned : {A : Type 0} (of_files : archive.Ghosts A) (first : World) (node : Bool)
+      (files : ℕ → List ℕ) (c : Counts) (t : Trace) (stop : Stop)
+      → IsHalted of_files first node P files c t stop
+      → Pinned P (λ Q. IsHalted of_files first node Q files c t stop)
+  halt_pinned of_files first node files c t stop h = record {
     acked = acked h.halts.stops;
     flight = h.flight;
     leaves = h.crash;
@@ -94,19 +96,20 @@ module _ (P : Chain → Chain → Type 0) where
       let ends = more (these k.acked k.flight) k.ends in
       record { acked = k.acked; flight = k.flight; leaves = k.leaves; ends = ends }
 
-  ends_pinned : (tells : Type 0) (first : World) (node : Bool) (files : ℕ → List ℕ) (c : Counts) (t : Trace)
-      (e : End) → RunEnds tells first node P files c t e
-      → Pinned P (λ Q. RunEnds tells first node Q files c t e)
-  ends_pinned tells first node files c t end.Ended r =
-      with_more (λ X k. (k, r.1)) (run_pinned tells first node files c t _ r.0)
-  ends_pinned tells first node files c t end.DiskFailed r = halt_pinned tells first node files c t _ r
-  ends_pinned tells first node files c t end.LinkFailed (inl r) =
-      with_more (λ X k. inl (k, r.1)) (run_pinned tells first node files c t _ r.0)
-  ends_pinned tells first node files c t end.LinkFailed (inr r) =
-      with_more (λ X k. inr k) (halt_pinned tells first node files c t _ r)
-  ends_pinned tells first node files c t end.OutOfMemory r = halt_pinned tells first node files c t _ r
-  ends_pinned tells first node files c t end.TurnsSpent r =
-      with_more (λ X k. (k, r.1, r.2)) (run_pinned tells first node files c t _ r.0)
+  ends_pinned : {A : Type 0} (of_files : archive.Ghosts A) (first : World) (node : Bool)
+      (files : ℕ → List ℕ) (c : Counts) (t : Trace) (e : End)
+      → RunEnds of_files first node P files c t e
+      → Pinned P (λ Q. RunEnds of_files first node Q files c t e)
+  ends_pinned of_files first node files c t end.Ended r =
+      with_more (λ X k. (k, r.1)) (run_pinned of_files first node files c t _ r.0)
+  ends_pinned of_files first node files c t end.DiskFailed r = halt_pinned of_files first node files c t _ r
+  ends_pinned of_files first node files c t end.LinkFailed (inl r) =
+      with_more (λ X k. inl (k, r.1)) (run_pinned of_files first node files c t _ r.0)
+  ends_pinned of_files first node files c t end.LinkFailed (inr r) =
+      with_more (λ X k. inr k) (halt_pinned of_files first node files c t _ r)
+  ends_pinned of_files first node files c t end.OutOfMemory r = halt_pinned of_files first node files c t _ r
+  ends_pinned of_files first node files c t end.TurnsSpent r =
+      with_more (λ X k. (k, r.1, r.2)) (run_pinned of_files first node files c t _ r.0)
 
   module _ {A : Type 0} (of_files : archive.Ghosts A) (magic : List ℕ)
       (limits : PoolLimits) (chain : Chain) (c : Counts) (before after : A) (t : Trace) where
@@ -119,7 +122,7 @@ module _ (P : Chain → Chain → Type 0) where
       same = r.same;
       grows = r.grows;
       run = k;
-    }) (ends_pinned of_files.tells _ true (of_files.bytes after) c t e r.run)
+    }) (ends_pinned of_files _ true (of_files.bytes after) c t e r.run)
 
     alone : {Q : (Chain → Chain → Type 0) → Type 0} → (a b : Chain) → P a b → Q (these a b) → Pinned P Q
     alone a b leaves ends = record { acked = a; flight = b; leaves = leaves; ends = ends }

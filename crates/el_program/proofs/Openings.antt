@@ -31,11 +31,9 @@ pub are_nodes : {gave : ℕ → ℕ → List ℕ → Type 0} {magic : List ℕ} 
     → AppendsOnly (IsFoundBelow gave magic count) [] ns → AllByRecursion IsNode ns
 are_nodes {gave} {magic} count ns only = rw only.appended (are_nodes' gave magic count only.more only.each)
 
--- and of each the head was read
-pub are_read : {gave : ℕ → ℕ → List ℕ → Type 0} {magic : List ℕ} (count : ℕ) (ns : List Node)
-    → AppendsOnly (IsFoundBelow gave magic count) [] ns
-    → AllByRecursion (IsFoundBelow gave magic count) ns
-are_read count ns only = rw only.appended only.each
+-- and each was found so
+pub are_found : {P : Node → Type 0} (ns : List Node) → AppendsOnly P [] ns → AllByRecursion P ns
+are_found ns only = rw only.appended only.each
 
 all_added_more : (found ns : List Node) (n : Node)
     → all_added found (ns ++ n ∷ []) ≡ added (all_added found ns) n

@@ -109,10 +109,10 @@ module _ (c : Counts) (of_before of_after : Faults) (rises : (losses : List Devi
   counted_told t losses failed k =
       record { calls = k.calls; turns = k.turns; rose = rises (losses ++ failed) k.rose }
 
-  run_told : (tells : Type 0) (first : World) (node : Bool) (files : ℕ → List ℕ) (t : Trace)
-      (failed : List Device) → IsRun tells first node P files c t failed
-      → IsRun tells first node Q files told t failed
-  run_told tells first node files t failed r = record {
+  run_told : {A : Type 0} (of_files : block_files.Ghosts A) (first : World) (node : Bool)
+      (files : ℕ → List ℕ) (t : Trace) (failed : List Device) → IsRun of_files first node P files c t failed
+      → IsRun of_files first node Q files told t failed
+  run_told of_files first node files t failed r = record {
     losses = r.losses;
     world = r.world;
     run = r.run;
@@ -122,9 +122,10 @@ module _ (c : Counts) (of_before of_after : Faults) (rises : (losses : List Devi
     crash = gives r.world.side.chain r.world.side.chain r.crash;
   }
 
-  halt_told : (tells : Type 0) (first : World) (node : Bool) (files : ℕ → List ℕ) (t : Trace) (stop : Stop)
-      → IsHalted tells first node P files c t stop → IsHalted tells first node Q files told t stop
-  halt_told tells first node files t stop h = record {
+  halt_told : {A : Type 0} (of_files : block_files.Ghosts A) (first : World) (node : Bool)
+      (files : ℕ → List ℕ) (t : Trace) (stop : Stop)
+      → IsHalted of_files first node P files c t stop → IsHalted of_files first node Q files told t stop
+  halt_told of_files first node files t stop h = record {
     losses = h.losses;
     halts = h.halts;
     grown = h.grown;
@@ -135,17 +136,20 @@ module _ (c : Counts) (of_before of_after : Faults) (rises : (losses : List Devi
     crash = gives _ h.flight h.crash;
   }
 
-  pub ends_told : (tells : Type 0) (first : World) (node : Bool) (files : ℕ → List ℕ) (t : Trace)
-      (e : End) → RunEnds tells first node P files c t e → RunEnds tells first node Q files told t e
-  ends_told tells first node files t end.Ended r = (run_told tells first node files t _ r.0, r.1)
-  ends_told tells first node files t end.DiskFailed r = halt_told tells first node files t _ r
-  ends_told tells first node files t end.LinkFailed (inl r) = inl (
-    run_told tells first node files t _ r.0,
+  pub ends_told : {A : Type 0} (of_files : block_files.Ghosts A) (first : World) (node : Bool)
+      (files : ℕ → List ℕ) (t : Trace) (e : End)
+      → RunEnds of_files first node P files c t e → RunEnds of_files first node Q files told t e
+  ends_told of_files first node files t end.Ended r = (run_told of_files first node files t _ r.0, r.1)
+  ends_told of_files first node files t end.DiskFailed r = halt_told of_files first node files t _ r
+  ends_told of_files first node files t end.LinkFailed (inl r) = inl (
+    run_told of_files first node files t _ r.0,
     r.1,
   )
-  ends_told tells first node files t end.LinkFailed (inr r) = inr (halt_told tells first node files t _ r)
-  ends_told tells first node files t end.OutOfMemory r = halt_told tells first node files t _ r
-  ends_told tells first node files t end.TurnsSpent r = (run_told tells first node files t _ r.0, r.1, r.2)
+  ends_told of_files first node files t end.LinkFailed (inr r) =
+      inr (halt_told of_files first node files t _ r)
+  ends_told of_files first node files t end.OutOfMemory r = halt_told of_files first node files t _ r
+  ends_told of_files first node files t end.TurnsSpent r =
+      (run_told of_files first node files t _ r.0, r.1, r.2)
 
   silent_told : (t : Trace) (losses : List Device) → IsSilent c t losses → IsSilent told t losses
   silent_told t losses k =
@@ -161,7 +165,7 @@ module _ (c : Counts) (of_before of_after : Faults) (rises : (losses : List Devi
     scanned = r.scanned;
     same = r.same;
     grows = r.grows;
-    run = ends_told of_files.tells _ true (of_files.bytes after) t e r.run;
+    run = ends_told of_files _ true (of_files.bytes after) t e r.run;
   }
 
   pub serve_told : {A : Type 0} (of_files : block_files.Ghosts A)
@@ -299,30 +303,31 @@ unopened_ends was flight leaves turns calls of_link of_archive low high s good i
     ]
 
 -- clients were served without a node
-pub served_once : (tells : Type 0) (magic : List ℕ) (c : Counts) (before after : ℕ → List ℕ)
-    (t : Trace) (e : End) → e ≢ end.DiskFailed → IsServedOnce tells magic c before after t e
-    → OnceEnds tells magic c before after t (status_of_end e)
-served_once tells magic c before after t end.Ended safe served = served
-served_once tells magic c before after t end.DiskFailed safe served = absurd (safe refl)
-served_once tells magic c before after t end.LinkFailed safe served = served
-served_once tells magic c before after t end.OutOfMemory safe served = inr served
-served_once tells magic c before after t end.TurnsSpent safe served = served
+pub served_once : {A : Type 0} (of_files : block_files.Ghosts A) (magic : List ℕ) (c : Counts)
+    (before after : ℕ → List ℕ) (t : Trace) (e : End) → e ≢ end.DiskFailed
+    → IsServedOnce of_files magic c before after t e
+    → OnceEnds of_files magic c before after t (status_of_end e)
+served_once of_files magic c before after t end.Ended safe served = served
+served_once of_files magic c before after t end.DiskFailed safe served = absurd (safe refl)
+served_once of_files magic c before after t end.LinkFailed safe served = served
+served_once of_files magic c before after t end.OutOfMemory safe served = inr served
+served_once of_files magic c before after t end.TurnsSpent safe served = served
 
 -- the block files can't be read
-pub unread_ends : {T : Type 0} (tells : Type 0) (magic : List ℕ) (turns calls of_link low high of_disk : ℕ)
-    (before after : ℕ → List ℕ) (e : FileFault)
-    → OnlyReads {T = T} tells before after low high fault.Failed (Err e)
-    → (e ≡ fault.Bad → IsBadFile tells magic before after)
-    → OnceEnds tells magic
+pub unread_ends : {A T : Type 0} (of_files : block_files.Ghosts A) (magic : List ℕ)
+    (turns calls of_link low high of_disk : ℕ) (before after : ℕ → List ℕ) (e : FileFault)
+    → OnlyReads {T = T} of_files.tells before after low high fault.Failed (Err e)
+    → (e ≡ fault.Bad → IsBadFile of_files.tells magic before after)
+    → OnceEnds of_files magic
     (counts turns calls calls (faults of_link low of_disk) (faults of_link high of_disk))
     before after no_traffic (unread_status e)
-unread_ends tells magic turns calls of_link low high of_disk before after fault.Failed reads bad =
+unread_ends of_files magic turns calls of_link low high of_disk before after fault.Failed reads bad =
     silent turns calls of_link low high of_disk of_disk (archive ∷ []) refl (reads.counted refl)
     (rose_none of_disk)
-unread_ends tells magic turns calls of_link low high of_disk before after fault.Memory reads bad =
+unread_ends of_files magic turns calls of_link low high of_disk before after fault.Memory reads bad =
     inl (silent turns calls of_link low high of_disk of_disk [] refl
     (rose_still low high (reads.others_uncounted (λ e. cc))) (rose_none of_disk))
-unread_ends tells magic turns calls of_link low high of_disk before after fault.Bad reads bad = (
+unread_ends of_files magic turns calls of_link low high of_disk before after fault.Bad reads bad = (
   bad refl,
   silent turns calls of_link low high of_disk of_disk [] refl
       (rose_still low high (reads.others_uncounted (λ e. cc))) (rose_none of_disk),

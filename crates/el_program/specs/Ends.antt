@@ -38,7 +38,7 @@ pub record IsServed {A : Type 0} (of_files : block_files.Ghosts A)
   pub scanned : IsScanned of_files magic before now nodes
   pub same : is_other_chain (nodes_of_chain chain) nodes ≡ false
   pub grows : of_files.tells → AllGrow (of_files.bytes now) (of_files.bytes after)
-  pub run : RunEnds of_files.tells (initial_world chain magic limits
+  pub run : RunEnds of_files (initial_world chain magic limits
       (all_added (all_added [] (nodes_of_chain chain)) nodes) (of_files.bytes now))
       true leaves (of_files.bytes after) c t e
 
@@ -105,15 +105,16 @@ IsUnopened status.OutOfMemory = Unit {0}
 IsUnopened other = ⊥
 
 -- Clients were served without a node, from the chain that file 0 gives, with its headers. Nothing unconfirmed
--- comes, so that no limit is met. No crash is spoken of.
-pub record IsServedOnce (tells : Type 0) (magic : List ℕ) (c : Counts) (before after : ℕ → List ℕ)
-    (t : Trace) (e : End) : Type 0 where
+-- comes, so that no limit is met. No crash is spoken of. `before` and `after` are the bytes of the block
+-- files before the call and after it.
+pub record IsServedOnce {A : Type 0} (of_files : block_files.Ghosts A) (magic : List ℕ) (c : Counts)
+    (before after : ℕ → List ℕ) (t : Trace) (e : End) : Type 0 where
   pub now : ℕ → List ℕ
   pub nodes : List Node
   pub chain : Chain
-  pub read : IsRead tells before now magic nodes chain
-  pub grows : tells → AllGrow now after
-  pub run : RunEnds tells (initial_world chain magic greatest_limits (all_added [] nodes) now) false
+  pub read : IsRead of_files before now magic nodes chain
+  pub grows : of_files.tells → AllGrow now after
+  pub run : RunEnds of_files (initial_world chain magic greatest_limits (all_added [] nodes) now) false
       (λ acked flight. Unit {0}) after c t e
 
 -- file 0, as it was when its size was told, gives no chain
@@ -122,20 +123,23 @@ IsBadFile tells magic before after =
     tells → (file : List ℕ) × IsFile (before 0) file (after 0) × GivesNoChain magic file
 
 -- How a call with the words of `once` ends.
-abbrev pub OnceEnds : Type 0 → List ℕ → Counts → (ℕ → List ℕ) → (ℕ → List ℕ) → Trace → Status → Type 0
-OnceEnds tells magic c before after t status.Ended = IsServedOnce tells magic c before after t end.Ended
-OnceEnds tells magic c before after t status.LinkFailed =
-    IsServedOnce tells magic c before after t end.LinkFailed
-OnceEnds tells magic c before after t status.TurnsSpent =
-    IsServedOnce tells magic c before after t end.TurnsSpent
+abbrev pub OnceEnds : {A : Type 0} → block_files.Ghosts A → List ℕ → Counts → (ℕ → List ℕ) → (ℕ → List ℕ)
+    → Trace → Status → Type 0
+OnceEnds of_files magic c before after t status.Ended =
+    IsServedOnce of_files magic c before after t end.Ended
+OnceEnds of_files magic c before after t status.LinkFailed =
+    IsServedOnce of_files magic c before after t end.LinkFailed
+OnceEnds of_files magic c before after t status.TurnsSpent =
+    IsServedOnce of_files magic c before after t end.TurnsSpent
 -- a call of the block files failed before the first arrival
-OnceEnds tells magic c before after t status.ArchiveFailed = IsSilent c t (archive ∷ [])
+OnceEnds of_files magic c before after t status.ArchiveFailed = IsSilent c t (archive ∷ [])
 -- out of memory before the first arrival, or in the run
-OnceEnds tells magic c before after t status.OutOfMemory =
-    IsSilent c t [] ⊎ IsServedOnce tells magic c before after t end.OutOfMemory
+OnceEnds of_files magic c before after t status.OutOfMemory =
+    IsSilent c t [] ⊎ IsServedOnce of_files magic c before after t end.OutOfMemory
 -- file 0 gives no chain
-OnceEnds tells magic c before after t status.BadChain = IsBadFile tells magic before after × IsSilent c t []
-OnceEnds tells magic c before after t other = ⊥
+OnceEnds of_files magic c before after t status.BadChain =
+    IsBadFile of_files.tells magic before after × IsSilent c t []
+OnceEnds of_files magic c before after t other = ⊥
 
 -- the statuses with which nobody was served
 abbrev pub IsUnserved : Status → Type 0
@@ -159,5 +163,5 @@ pub data Ends {A : Type 0} (of_files : block_files.Ghosts A)
       → IndexEnds of_files magic asked.said.settings.limits was flight chain (leaves magic) c before after t s
       → Ends of_files words was flight chain leaves c before after t s
   once : (magic : List ℕ) → IsOnce words magic
-      → OnceEnds of_files.tells magic c (of_files.bytes before) (of_files.bytes after) t s
+      → OnceEnds of_files magic c (of_files.bytes before) (of_files.bytes after) t s
       → Ends of_files words was flight chain leaves c before after t s

@@ -11,7 +11,7 @@ use Rattle.el_chain.specs.Chains.{Chain}
 use Rattle.el_chain.specs.Faults.{IsGood}
 use Rattle.el_chain.specs.Headers.{added}
 use Rattle.el_chain.specs.Records.{GivesChain, IsNode, records, records_of_files}
-use Rattle.el_files.specs.Scanning.{AllFiles, IsFoundBelow}
+use Rattle.el_files.specs.Scanning.{AllFiles, IsFoundIn, IsFoundBelow}
 
 -- the nodes that are found once these were added, in their order, to those found before
 abbrev pub all_added : List Node → List Node → List Node
@@ -38,12 +38,13 @@ pub record IsScanned {A : Type 0} (of_files : block_files.Ghosts A) (magic : Lis
   pub keeps : of_files.tells → AllGrow (of_files.bytes before) (of_files.bytes now)
 
 -- The nodes are those of the records of file 0, as it was when its size was told, and these give the chain.
--- `before` and `now` are the block files before that was read and after.
-pub record IsRead (tells : Type 0) (before now : ℕ → List ℕ) (magic : List ℕ) (nodes : List Node)
-    (chain : Chain)
-    : Type 0 where
+-- Whatever the file tells, the head of each node's record was read from it. `before` and `now` are the bytes
+-- of the block files before that was read and after.
+pub record IsRead {A : Type 0} (of_files : block_files.Ghosts A) (before now : ℕ → List ℕ) (magic : List ℕ)
+    (nodes : List Node) (chain : Chain) : Type 0 where
   pub each : AllByRecursion IsNode nodes
+  pub read : AllByRecursion (IsFoundIn of_files.gave magic 0) nodes
   pub good : IsGood chain
-  pub of_file : tells → (file : List ℕ) × IsFile (before 0) file (now 0) × GivesChain magic 0 file chain
-      × (nodes ≡ records magic 0 file)
-  pub keeps : tells → AllGrow before now
+  pub of_file : of_files.tells → (file : List ℕ) × IsFile (before 0) file (now 0)
+      × GivesChain magic 0 file chain × (nodes ≡ records magic 0 file)
+  pub keeps : of_files.tells → AllGrow before now

@@ -8,6 +8,7 @@ ghost use Rattle.el_chain.specs.Chains.{tip};
 ghost use Rattle.el_chain.specs.Faults.{IsGood, IsNext};
 ghost use Rattle.el_chain.specs.Records.{GivesChain, IsNode, IsBlockOf, block_at, records};
 ghost use Rattle.el_block.specs.declared.block.Block as shape;
+ghost use Rattle.el_files.specs.Scanning.{IsFoundIn};
 ghost use Rattle.el_program.specs.File.{GivesNoChain};
 ghost use Rattle.el_program.specs.within.Unread.{read_fault};
 
@@ -98,6 +99,7 @@ fn scan_first<A: Archive>(
         × IsFile (A.bytes archive.old 0) file (A.bytes archive.new 0)
         × (found.items ≡ records magic 0 file)) }
     ensures nodes { IfOk result (λ found. AllByRecursion IsNode found.items) }
+    ensures heads { IfOk result (λ found. AllByRecursion (IsFoundIn A.gave magic 0) found.items) }
     ensures never_bad { IsErrOf result FileFault.Bad → ⊥ }
     ensures only_reads { OnlyReads A.tells (A.bytes archive.old) (A.bytes archive.new)
         (A.faults archive.old) (A.faults archive.new) FileFault.Failed result }
@@ -177,6 +179,8 @@ pub fn read_chain<A: Archive>(
 ) -> Result<(Vec<Node>, PlainChain), FileFault>
     ensures good { IfOk result (λ r. IsGood r.1) }
     ensures nodes { IfOk result (λ r. AllByRecursion IsNode r.0.items) }
+    // Whatever the file tells, the head of each record was read from it.
+    ensures heads { IfOk result (λ r. AllByRecursion (IsFoundIn A.gave magic 0) r.0.items) }
     // The file gives the chain, and these are its records.
     ensures read { A.tells → IfOk result (λ r. (file : List ℕ)
         × IsFile (A.bytes archive.old 0) file (A.bytes archive.new 0) × GivesChain magic 0 file r.1

@@ -49,7 +49,7 @@ fn open_file<A: Archive>(
     magic: [u8; 4],
 ) -> Result<(HeaderTree, PlainLedger), FileFault>
     ensures opened { IfOk result (λ r. (nodes : List shape.Node)
-        × IsRead A.tells (A.bytes archive.old) (A.bytes archive.new) magic nodes r.1
+        × IsRead ⟦<A as Archive>⟧ (A.bytes archive.old) (A.bytes archive.new) magic nodes r.1
         × (r.0 ≡ all_added [] nodes)) }
     ensures bad { IsErrOf result FileFault.Bad → A.tells → (file : List ℕ)
         × IsFile (A.bytes archive.old 0) file (A.bytes archive.new 0) × GivesNoChain magic file }
@@ -164,7 +164,7 @@ fn serve_file<A: Archive, K: Link>(
 ) -> Status
     ensures ends { (disk : ℕ) → (traffic : Trace)
         × WentBy ⟦<K as Link>⟧ link.old link.new traffic
-        × OnceEnds A.tells magic (counts_of (λ d. d) ⟦<A as Archive>⟧ ⟦<K as Link>⟧ turns
+        × OnceEnds ⟦<A as Archive>⟧ magic (counts_of (λ d. d) ⟦<A as Archive>⟧ ⟦<K as Link>⟧ turns
         (devices disk archive.old link.old) (devices disk archive.new link.new))
         (A.bytes archive.old) (A.bytes archive.new) traffic result }
     ensures causes { (disk : ℕ) → ShowsCause (counts_of (λ d. d) ⟦<A as Archive>⟧ ⟦<K as Link>⟧ turns

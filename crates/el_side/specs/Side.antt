@@ -1,9 +1,11 @@
 -- The side of the world that the node leads, and what each of its lines does to it. The device of each failed
--- call stands among `losses`. `tells` is whether the block files tell their bytes.
+-- call stands among `losses`. `of_files` is what the type of the block files says of them: whether they tell
+-- their bytes, and which bytes their reads gave; `tells` is the former alone.
 use Rattle.std.specs.Prelude.{◌≡◌, ◌≤◌, ◌<◌, ◌&&◌, ℕ, true, false, not, if◌then◌else◌, MatchBool, List, [], ◌∷◌, ◌++◌, length, drop, Option, Some, None, IfSome}
 use Rattle.el_base.specs.declared.hash.Hash32.{Hash32}
 use Rattle.el_outside.specs.Devices.{Device, archive}
 use Rattle.el_outside.specs.Files.{AllGrow, IsFile}
+use Rattle.el_outside.specs.declared.archive.Archive as block_files
 use Rattle.el_tx.specs.declared.types.Tx.{Tx}
 use Rattle.el_tx.specs.Encoding.{Encodes}
 use Rattle.el_tx.specs.Hashing.{txid}
@@ -12,7 +14,8 @@ use Rattle.el_chain.specs.declared.moves.MoveFault.{MoveFault}
 use Rattle.el_chain.specs.Chains.{Chain}
 use Rattle.el_chain.specs.Headers.{IsPath, is_known, is_second, added}
 use Rattle.el_chain.specs.Moves.{Moves, IsRefused, shorter, max_back}
-use Rattle.el_chain.specs.Records.{node_at, IsNode}
+use Rattle.el_chain.specs.Records.{node_at}
+use Rattle.el_files.specs.Scanning.{IsFoundAt}
 use Rattle.el_mempool.specs.declared.entry.PoolLimits.{PoolLimits}
 use Rattle.el_mempool.specs.declared.fault.PoolFault.{PoolFault}
 use Rattle.el_mempool.specs.Refusals.{tx_refusal, is_kept}
@@ -51,13 +54,13 @@ quiet_side chain magic limits found files = record {
   files = files;
 }
 
--- What is found at a place of a block file, as the file was at some moment of the line. `files` are the block
--- files as the line leaves them.
-pub record LooksUp (tells : Type 0) (side : Side) (file at : ℕ) (found : Option Node) (files : ℕ → List ℕ)
-    : Type 0 where
-  pub node : IfSome found IsNode
-  pub grows : tells → AllGrow side.files files
-  pub record_is : tells → (bytes : List ℕ) × IsFile (side.files file) bytes (files file)
+-- What is found at a place of a block file, as the file was at some moment of the line. Whatever the file
+-- tells, the head of the record was read from it. `files` are the block files as the line leaves them.
+pub record LooksUp {A : Type 0} (of_files : block_files.Ghosts A) (side : Side) (file at : ℕ)
+    (found : Option Node) (files : ℕ → List ℕ) : Type 0 where
+  pub read : IfSome found (IsFoundAt of_files.gave side.magic file at)
+  pub grows : of_files.tells → AllGrow side.files files
+  pub record_is : of_files.tells → (bytes : List ℕ) × IsFile (side.files file) bytes (files file)
       × (found ≡ node_at side.magic file at (drop at bytes) (length (drop at bytes)))
 
 -- what the node is answered where this stands at a place
@@ -73,17 +76,18 @@ found_after known None = known
 found_after known (Some n) = added known n
 
 -- A line that tells a place of the block files.
-pub data Looks (tells : Type 0) (side : Side) (file at : ℕ) (answer : NodeAnswer) (losses : List Device)
-    (next : Side) : Type 0 where
+pub data Looks {A : Type 0} (of_files : block_files.Ghosts A) (side : Side) (file at : ℕ)
+    (answer : NodeAnswer) (losses : List Device) (next : Side) : Type 0 where
   -- what stands at the place joins what was found
-  looks : (found : Option Node) (files : ℕ → List ℕ) → LooksUp tells side file at found files
+  looks : (found : Option Node) (files : ℕ → List ℕ) → LooksUp of_files side file at found files
       → answer ≡ found_answer side.found found
       → next ≡ record side { found = found_after side.found found; files = files } → losses ≡ []
-      → Looks tells side file at answer losses next
+      → Looks of_files side file at answer losses next
   -- the block files failed
-  fails : (files : ℕ → List ℕ) → (tells → AllGrow side.files files) → answer ≡ say.Refused refusal.Archive
+  fails : (files : ℕ → List ℕ) → (of_files.tells → AllGrow side.files files)
+      → answer ≡ say.Refused refusal.Archive
       → next ≡ record side { files = files } → losses ≡ archive ∷ []
-      → Looks tells side file at answer losses next
+      → Looks of_files side file at answer losses next
 
 -- the transactions that are kept once a move left these blocks to put in: with the last move of a line they
 -- are sifted over the chain
@@ -175,19 +179,23 @@ abbrev pub Refuses : Side → NodeRefusal → NodeAnswer → List Device → Sid
 Refuses side why answer losses next = (answer ≡ say.Refused why) × (next ≡ side) × (losses ≡ [])
 
 -- A line of the node that says this.
-abbrev pub Orders : Type 0 → Side → Option NodeLine → NodeAnswer → List Device → Side → Type 0
-Orders tells side (Some (block file at)) answer losses next = Looks tells side file at answer losses next
+abbrev pub Orders : {A : Type 0} → block_files.Ghosts A → Side → Option NodeLine → NodeAnswer → List Device
+    → Side → Type 0
+Orders of_files side (Some (block file at)) answer losses next =
+    Looks of_files side file at answer losses next
 -- the chain is to end in that block
-Orders tells side (Some (tip hash)) answer losses next =
-    Tips tells side (record { 0 = hash }) answer losses next
+Orders of_files side (Some (tip hash)) answer losses next =
+    Tips of_files.tells side (record { 0 = hash }) answer losses next
 -- an unconfirmed transaction came, or one went
-Orders tells side (Some (tx bytes)) answer losses next = Adds side bytes answer losses next
-Orders tells side (Some (dropped id)) answer losses next = Drops side (record { 0 = id }) answer losses next
+Orders of_files side (Some (tx bytes)) answer losses next = Adds side bytes answer losses next
+Orders of_files side (Some (dropped id)) answer losses next =
+    Drops side (record { 0 = id }) answer losses next
 -- it says nothing
-Orders tells side None answer losses next = Refuses side refusal.Line answer losses next
+Orders of_files side None answer losses next = Refuses side refusal.Line answer losses next
 
 -- What is met in the node's bytes: a line, or one that is too long and refused.
-abbrev pub OrdersLine : Type 0 → Side → LineEvent → NodeAnswer → List Device → Side → Type 0
-OrdersLine tells side (line bytes) answer losses next =
-    (said : Option NodeLine) × IsSaid bytes said × Orders tells side said answer losses next
-OrdersLine tells side too_long answer losses next = Refuses side refusal.Long answer losses next
+abbrev pub OrdersLine : {A : Type 0} → block_files.Ghosts A → Side → LineEvent → NodeAnswer → List Device
+    → Side → Type 0
+OrdersLine of_files side (line bytes) answer losses next =
+    (said : Option NodeLine) × IsSaid bytes said × Orders of_files side said answer losses next
+OrdersLine of_files side too_long answer losses next = Refuses side refusal.Long answer losses next

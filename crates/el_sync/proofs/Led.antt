@@ -82,8 +82,8 @@ touches_kept side start kept moved changed is change = record {
 }
 
 -- what a line says, after which other transactions are kept
-pub said_after : {tells : Type 0} (pool : PoolState) (side : Side) (changed : List Hash32) (answer : NodeAnswer) (bytes : List ℕ) (said : NodeLine) (losses : List Device) → ReadsNodeLine bytes said
-    → StandsAfter pool side changed (Orders tells side (Some said) answer losses) → StandsAfter pool side changed (OrdersLine tells side (line bytes) answer losses)
+pub said_after : {A : Type 0} {of_files : archives.Ghosts A} (pool : PoolState) (side : Side) (changed : List Hash32) (answer : NodeAnswer) (bytes : List ℕ) (said : NodeLine) (losses : List Device) → ReadsNodeLine bytes said
+    → StandsAfter pool side changed (Orders of_files side (Some said) answer losses) → StandsAfter pool side changed (OrdersLine of_files side (line bytes) answer losses)
 said_after pool side changed answer bytes said losses reads after = record { kept = after.kept; done = (Some said, reads, after.done); stood = after.stood; changes = after.changes }
 
 module _ {G A : Type 0} (of_ledger : ledgers.Ghosts G) (of_files : archives.Ghosts A) where
@@ -271,9 +271,9 @@ path_move chain path rest back p few is rest_is moving plan =
 
 module _ {A : Type 0} (of_files : archives.Ghosts A) where
   pub place_there : (a b : A) (side : Side) (file at : ℕ) (node : Option Node) → (of_files.tells → AllGrow side.files (of_files.bytes a)) → (of_files.tells → AllGrow (of_files.bytes a) (of_files.bytes b))
-      → side_of.LooksUp of_files.tells (record side { files = of_files.bytes a }) file at node (of_files.bytes b) → side_of.LooksUp of_files.tells side file at node (of_files.bytes b)
+      → side_of.LooksUp of_files (record side { files = of_files.bytes a }) file at node (of_files.bytes b) → side_of.LooksUp of_files side file at node (of_files.bytes b)
   place_there a b side file at node told grows up = record {
-    node = up.node;
+    read = up.read;
     grows = λ t. all_grow_more side.files (of_files.bytes a) (of_files.bytes b) (told t) (grows t);
     record_is = λ t. (
       (up.record_is t).0,
@@ -284,7 +284,7 @@ module _ {A : Type 0} (of_files : archives.Ghosts A) where
 
   pub place_looked : (a b : A) (holdings : Holdings) (side : Side) (file at : ℕ) (node : Option Node) (answer : NodeAnswer) (tree : List Node) → IsFrom holdings side
       → (of_files.tells → AllGrow side.files (of_files.bytes a)) → (of_files.tells → AllGrow (of_files.bytes a) (of_files.bytes b))
-      → side_of.LooksUp of_files.tells (record side { files = of_files.bytes a }) file at node (of_files.bytes b) → tree ≡ found_after holdings.tree node
+      → side_of.LooksUp of_files (record side { files = of_files.bytes a }) file at node (of_files.bytes b) → tree ≡ found_after holdings.tree node
       → answer ≡ found_answer holdings.tree node → of_files.faults b ≡ of_files.faults a → Looked of_files a b side file at answer tree
   place_looked a b holdings side file at node answer tree from told grows up joined says same = record {
     losses = [];
@@ -310,7 +310,7 @@ module _ {G A : Type 0} (of_ledger : ledgers.Ghosts G) (of_files : archives.Ghos
   pub block_leads : (l : G) (a b : A) (side : Side) (start : Chain) (holdings holdings_new : Holdings) (bytes : List ℕ) (file at : ℕ) (answer said : NodeAnswer) (tree left : List Node) (moved changed : List Hash32)
       → IsAt of_ledger of_files l holdings a side start → side.ahead ≡ [] → holdings_new ≡ record holdings { tree = tree }
       → ReadsNodeLine bytes (line_said.block file at) → Looked of_files a b side file at answer tree → said ≡ answer → left ≡ [] → Moved of_ledger l l side.chain side.chain
-      → Leads of_ledger of_files (OrdersLine of_files.tells side (line bytes)) l l a b side start said tree left moved changed holdings_new
+      → Leads of_ledger of_files (OrdersLine of_files side (line bytes)) l l a b side start said tree left moved changed holdings_new
   block_leads l a b side start holdings holdings_new bytes file at answer said tree left moved changed here still same reads looked says none went = record {
     losses = looked.losses;
     next = record side { found = tree; files = of_files.bytes b };
@@ -327,7 +327,7 @@ module _ {G A : Type 0} (of_ledger : ledgers.Ghosts G) (of_files : archives.Ghos
         (rw (archive_alone disk looked.looks (λ e. cc)) (rose_still _ _ refl));
   }
     where
-      archive_alone : (device : Device) {losses : List Device} {next : Side} → Looks of_files.tells side file at answer losses next → (device ≡ archive → ⊥) → failures device losses ≡ 0
+      archive_alone : (device : Device) {losses : List Device} {next : Side} → Looks of_files side file at answer losses next → (device ≡ archive → ⊥) → failures device losses ≡ 0
       archive_alone device (side_of.looks found files up says' is lost) other = ap (failures device) lost
       archive_alone link (side_of.fails files g says' is lost) other = ap (failures link) lost
       archive_alone disk (side_of.fails files g says' is lost) other = ap (failures disk) lost
@@ -336,10 +336,10 @@ module _ {G A : Type 0} (of_ledger : ledgers.Ghosts G) (of_files : archives.Ghos
   -- one that is refused as none of a node: it says nothing, or something that is refused
   pub refused_leads : (s : Step) (l : G) (a : A) (side : Side) (start : Chain) (holdings : Holdings) (bytes : List ℕ) (said : Option NodeLine) (tree : List Node)
       → IsAt of_ledger of_files l holdings a side start → side.ahead ≡ []
-      → side.found ≡ tree → IsSaid bytes said → ((answer : NodeAnswer) → answer ≡ say.Refused refusal.Line → Orders of_files.tells side said answer [] side) → s.answer ≡ say.Refused refusal.Line → s.left ≡ []
-      → Moved of_ledger l l side.chain side.chain → Leads of_ledger of_files (OrdersLine of_files.tells side (line bytes)) l l a a side start s.answer tree s.left s.moved s.changed holdings
+      → side.found ≡ tree → IsSaid bytes said → ((answer : NodeAnswer) → answer ≡ say.Refused refusal.Line → Orders of_files side said answer [] side) → s.answer ≡ say.Refused refusal.Line → s.left ≡ []
+      → Moved of_ledger l l side.chain side.chain → Leads of_ledger of_files (OrdersLine of_files side (line bytes)) l l a a side start s.answer tree s.left s.moved s.changed holdings
   refused_leads s l a side start holdings bytes said tree here still same is orders says none moved =
-      answered of_ledger of_files l l a a side start holdings (OrdersLine of_files.tells side (line bytes)) s.answer tree s.left s.moved s.changed here still (said, is, orders s.answer says) (sym same) none
+      answered of_ledger of_files l l a a side start holdings (OrdersLine of_files side (line bytes)) s.answer tree s.left s.moved s.changed here still (said, is, orders s.answer says) (sym same) none
       (λ t. all_grow_none (of_files.bytes a)) moved refl refl
 
 -- ---- what every step keeps

@@ -55,7 +55,7 @@ fn order_block<A: Archive>(
     // That the files failed, or have no record there, is told without memory.
     ensures there { (side : Side) → IsFrom holdings.old side
         → (A.tells → AllGrow side.files (A.bytes archive.old)) → OnErr result ((node : node_shape.Node)
-        × LooksUp A.tells side file at (Some node) (A.bytes archive.new)) }
+        × LooksUp ⟦<A as Archive>⟧ side file at (Some node) (A.bytes archive.new)) }
 {
     match record_at(archive, holdings.magic, file, at) {
         Err(_) => Ok(NodeAnswer::Refused(NodeRefusal::Archive)),
@@ -223,7 +223,7 @@ fn order_line<G: Ledger, A: Archive>(
     ensures node { (side : Side) (start : Chain)
         → IsAt ⟦<G as Ledger>⟧ ⟦<A as Archive>⟧ ledger.old holdings.old archive.old side start
         → IsFrom holdings.old side → IfOk result (λ s.
-        Leads ⟦<G as Ledger>⟧ ⟦<A as Archive>⟧ (OrdersLine A.tells side (line text.now))
+        Leads ⟦<G as Ledger>⟧ ⟦<A as Archive>⟧ (OrdersLine ⟦<A as Archive>⟧ side (line text.now))
         ledger.old ledger.new archive.old archive.new side start s.answer holdings.new.tree s.left s.moved
         s.changed holdings.new) }
     ensures stopped { (side : Side) (start : Chain)
@@ -234,7 +234,7 @@ fn order_line<G: Ledger, A: Archive>(
     ensures memory { (side : Side) (start : Chain)
         → IsAt ⟦<G as Ledger>⟧ ⟦<A as Archive>⟧ ledger.old holdings.old archive.old side start
         → IsFrom holdings.old side → IsErrOf result turn_fault.Memory
-        → WantsMemory A.tells side (A.bytes archive.new) (line text.now) }
+        → WantsMemory ⟦<A as Archive>⟧ side (A.bytes archive.new) (line text.now) }
     ensures untouched { IfOk result TouchesNoFailed }
     ensures rows { (side : Side) (start : Chain)
         → IsAt ⟦<G as Ledger>⟧ ⟦<A as Archive>⟧ ledger.old holdings.old archive.old side start
@@ -285,7 +285,7 @@ pub fn order<G: Ledger, A: Archive>(
     ensures node { (side : Side) (start : Chain)
         → IsAt ⟦<G as Ledger>⟧ ⟦<A as Archive>⟧ ledger.old holdings.old archive.old side start
         → IsFrom holdings.old side → IfOk result (λ s.
-        Leads ⟦<G as Ledger>⟧ ⟦<A as Archive>⟧ (OrdersLine A.tells side (as_listed met))
+        Leads ⟦<G as Ledger>⟧ ⟦<A as Archive>⟧ (OrdersLine ⟦<A as Archive>⟧ side (as_listed met))
         ledger.old ledger.new archive.old archive.new side start s.answer holdings.new.tree s.left s.moved
         s.changed holdings.new) }
     ensures stopped { (side : Side) (start : Chain)
@@ -297,7 +297,7 @@ pub fn order<G: Ledger, A: Archive>(
     ensures memory { (side : Side) (start : Chain)
         → IsAt ⟦<G as Ledger>⟧ ⟦<A as Archive>⟧ ledger.old holdings.old archive.old side start
         → IsFrom holdings.old side → IsErrOf result turn_fault.Memory
-        → WantsMemory A.tells side (A.bytes archive.new) (as_listed met) }
+        → WantsMemory ⟦<A as Archive>⟧ side (A.bytes archive.new) (as_listed met) }
     ensures untouched { IfOk result TouchesNoFailed }
     // How many rows are read, where no move is made and no transaction told.
     ensures rows { (side : Side) (start : Chain)

@@ -4,6 +4,7 @@
 use Rattle.std.specs.Prelude.{◌≡◌, ℕ, List, ◌∷◌}
 use Rattle.el_outside.specs.Devices.{Device}
 use Rattle.el_outside.specs.Files.{AllGrow}
+use Rattle.el_outside.specs.declared.archive.Archive as block_files
 use Rattle.el_outside.specs.Trace.{ArrivalWithBytes, Message, Closing}
 use Rattle.el_chain.specs.declared.moves.Plan.{Plan}
 use Rattle.el_chain.specs.Chains.{Chain}
@@ -21,19 +22,21 @@ pub data IsMoveOf (world : World) (left : List Event) (p : Plan) : Type 0 where
       → IsFirstMove world.side met p → IsMoveOf world left p
 
 -- The chain may be in flight where a turn stops. `now` are the block files as they are in the end.
-abbrev pub FliesAt : {tells : Type 0} {world : World} {left : List Event} {stop : Stop} {sent : List Message}
-    {closings : List Closing} {losses : List Device}
-    → Stops tells world left stop sent closings losses → (ℕ → List ℕ) → Chain → Type 0
+abbrev pub FliesAt : {A : Type 0} {of_files : block_files.Ghosts A} {world : World} {left : List Event}
+    {stop : Stop} {sent : List Message} {closings : List Closing} {losses : List Device}
+    → Stops of_files world left stop sent closings losses → (ℕ → List ℕ) → Chain → Type 0
 -- a move may have begun, whose blocks were read in the turn
-FliesAt {tells = tells} {world = world} {left = left} (disk_failed by nodes silent closed lost) now flight =
-    (files : ℕ → List ℕ) × (tells → AllGrow world.side.files files × AllGrow files now)
-    × IsUnderWay tells files world.side.chain (IsMoveOf world left) flight
+FliesAt {of_files = of_files} {world = world} {left = left} (disk_failed by nodes silent closed lost) now
+    flight =
+    (files : ℕ → List ℕ) × (of_files.tells → AllGrow world.side.files files × AllGrow files now)
+    × IsUnderWay of_files.tells files world.side.chain (IsMoveOf world left) flight
 -- the block files had failed, so that nothing was moved
 FliesAt {world = world} (sift_failed by busy silent closed lost) now flight = flight ≡ world.side.chain
 -- no memory was found before a move, or after it, for the sift
-FliesAt {tells = tells} {world = world} {left = left} (no_memory by nodes silent closed lost) now flight =
-    (files : ℕ → List ℕ) × (tells → AllGrow world.side.files files × AllGrow files now)
-    × IsUnderWay tells files world.side.chain (IsMoveOf world left) flight
+FliesAt {of_files = of_files} {world = world} {left = left} (no_memory by nodes silent closed lost) now
+    flight =
+    (files : ℕ → List ℕ) × (of_files.tells → AllGrow world.side.files files × AllGrow files now)
+    × IsUnderWay of_files.tells files world.side.chain (IsMoveOf world left) flight
 -- nothing was moved
 FliesAt {world = world} (untold by busy silent closed lost) now flight = flight ≡ world.side.chain
 -- what the turn gave wasn't sent: it is what the turn left
@@ -41,17 +44,19 @@ FliesAt (unsent done rest outs failed after front back m lost last next whole tu
     flight = flight ≡ after.side.chain
 
 -- the chain that is acknowledged where a run stops
-abbrev pub acked : {tells : Type 0} {world : World} {arrival : ArrivalWithBytes} {stop : Stop}
+abbrev pub acked : {A : Type 0} {of_files : block_files.Ghosts A} {world : World}
+    {arrival : ArrivalWithBytes} {stop : Stop}
     {messages : List Message} {closings : List Closing} {losses : List Device}
-    → StopsIn tells world arrival stop messages closings losses → Chain
+    → StopsIn of_files world arrival stop messages closings losses → Chain
 acked {world = world} (unheard starves by silent closed lost) = world.side.chain
 acked (in_turn done left past sent past_closings closed past_losses lost mid whole turns stops a b c) =
     mid.side.chain
 
 -- the chain may be in flight where a run stops
-abbrev pub Flies : {tells : Type 0} {world : World} {arrival : ArrivalWithBytes} {stop : Stop}
+abbrev pub Flies : {A : Type 0} {of_files : block_files.Ghosts A} {world : World}
+    {arrival : ArrivalWithBytes} {stop : Stop}
     {messages : List Message} {closings : List Closing} {losses : List Device}
-    → StopsIn tells world arrival stop messages closings losses → (ℕ → List ℕ) → Chain → Type 0
+    → StopsIn of_files world arrival stop messages closings losses → (ℕ → List ℕ) → Chain → Type 0
 Flies {world = world} (unheard starves by silent closed lost) now flight = flight ≡ world.side.chain
 Flies (in_turn done left past sent past_closings closed past_losses lost mid whole turns stops a b c) now
     flight = FliesAt stops now flight

@@ -8,28 +8,29 @@
 use Rattle.std.specs.Prelude.{◌≡◌, ◌⊎◌, ℕ, ◌==◌, List, [], ◌∷◌, ◌++◌, filter, true, not, if◌then◌else◌, Option, Some, None}
 use Rattle.std.specs.Option.{option_to_list}
 use Rattle.el_outside.specs.Devices.{Device, link, archive, disk}
+use Rattle.el_outside.specs.declared.archive.Archive as block_files
 use Rattle.el_outside.specs.Trace.{ArrivalWithBytes, opened, brought, Message, Closing}
 use Rattle.el_outside.specs.declared.link.Why.{Why}
 use Rattle.el_outside.specs.declared.link.Why.TheVariants as why
 use Rattle.el_world.specs.World.{World, Event, orders, Outs, Takes, Works, Notifies, IsStill, IsBusy, AllTold, events, after_hearing, is_client, without_client, closes_memory}
 
 -- One turn, by which these events, one at most, are done. The device of each failed call stands among
--- `losses`: it was answered or closed for.
-pub data OneTurn (tells : Type 0) (world : World) (done : List Event) (outs : Outs) (losses : List Device)
-    (next : World) : Type 0 where
+-- `losses`: it was answered or closed for. `of_files` is what the type of the block files says of them.
+pub data OneTurn {A : Type 0} (of_files : block_files.Ghosts A) (world : World) (done : List Event)
+    (outs : Outs) (losses : List Device) (next : World) : Type 0 where
   -- an event is taken; the node's last tip line left nothing to do, and everyone was told of it
   takes : (event : Event) → IsStill world → AllTold world → done ≡ event ∷ []
-      → Takes tells world event outs losses next → OneTurn tells world done outs losses next
+      → Takes of_files world event outs losses next → OneTurn of_files world done outs losses next
   -- the next move of that line
-  works : IsBusy world → done ≡ [] → Works tells world outs losses next
-      → OneTurn tells world done outs losses next
+  works : IsBusy world → done ≡ [] → Works of_files.tells world outs losses next
+      → OneTurn of_files world done outs losses next
   -- a client is told of the node's last line
   notifies : IsStill world → done ≡ [] → Notifies world outs losses next
-      → OneTurn tells world done outs losses next
+      → OneTurn of_files world done outs losses next
   -- A client is closed as out of memory, for its bytes, a line of them, or what it was to be told. Its lines,
   -- which are left, will have no effect.
   departs : (p : ℕ) → is_client p world ≡ true → done ≡ [] → outs ≡ closes_memory p
-      → next ≡ without_client p world → losses ≡ [] → OneTurn tells world done outs losses next
+      → next ≡ without_client p world → losses ≡ [] → OneTurn of_files world done outs losses next
 
 -- why a client may be closed before a message to it: it couldn't be sent, or no memory was found for that
 abbrev pub IsDeparture : Why → Type 0
@@ -75,31 +76,31 @@ pub data Delivers : World → List Message → Option Closing → List Message �
 
 -- Turns, one after the other, from the first world to the last, with the events that were done, all that was
 -- sent and closed, and each failure of a device.
-pub data Turns (tells : Type 0) (first : World)
+pub data Turns {A : Type 0} (of_files : block_files.Ghosts A) (first : World)
     : List Event → List Message → List Closing → List Device → World → Type 0 where
-  none : Turns tells first [] [] [] [] first
+  none : Turns of_files first [] [] [] [] first
   more : (past : List Event) (messages : List Message) (closings : List Closing) (losses : List Device)
       (world : World) (done : List Event) (outs : Outs) (failed : List Device) (left : World)
       (sent : List Message) (closed : List Closing) (lost : List Device) (next : World)
-      → Turns tells first past messages closings losses world
-      → OneTurn tells world done outs failed left
+      → Turns of_files first past messages closings losses world
+      → OneTurn of_files world done outs failed left
       → Delivers left outs.messages outs.closing sent closed lost next
-      → Turns tells first (past ++ done) (messages ++ sent) (closings ++ closed)
+      → Turns of_files first (past ++ done) (messages ++ sent) (closings ++ closed)
       (losses ++ (failed ++ lost)) next
 
 -- Arrivals, one after the other, from the first world to the last: the bytes of each are heard, and its
 -- events are done, with all that they leave to do and to tell, before the next arrives.
-pub data Run (tells : Type 0) (first : World)
+pub data Run {A : Type 0} (of_files : block_files.Ghosts A) (first : World)
     : List ArrivalWithBytes → List Message → List Closing → List Device → World → Type 0 where
-  none : Run tells first [] [] [] [] first
+  none : Run of_files first [] [] [] [] first
   more : (arrivals : List ArrivalWithBytes) (messages : List Message) (closings : List Closing)
       (losses : List Device) (world : World) (arrival : ArrivalWithBytes)
       (more_messages : List Message) (more_closings : List Closing) (more_losses : List Device) (next : World)
-      → Run tells first arrivals messages closings losses world
-      → Turns tells (after_hearing arrival world) (events world arrival)
+      → Run of_files first arrivals messages closings losses world
+      → Turns of_files (after_hearing arrival world) (events world arrival)
       more_messages more_closings more_losses next
       → IsStill next → AllTold next
-      → Run tells first (arrivals ++ arrival ∷ []) (messages ++ more_messages) (closings ++ more_closings)
+      → Run of_files first (arrivals ++ arrival ∷ []) (messages ++ more_messages) (closings ++ more_closings)
       (losses ++ more_losses) next
 
 -- why a run stops among the turns of an arrival: a call of the index's device failed (status 5), the node
@@ -123,32 +124,32 @@ LostBy by_link losses = losses ≡ link ∷ []
 LostBy by_memory losses = losses ≡ []
 
 -- The turn in which a run stops, where these events are left, with what of it was sent, closed and lost.
-pub data Stops (tells : Type 0) (world : World) (left : List Event) (stop : Stop) (sent : List Message)
-    (closings : List Closing) (losses : List Device) : Type 0 where
+pub data Stops {A : Type 0} (of_files : block_files.Ghosts A) (world : World) (left : List Event)
+    (stop : Stop) (sent : List Message) (closings : List Closing) (losses : List Device) : Type 0 where
   -- a call of the index's device failed in a turn of the node
   disk_failed : stop ≡ by_disk → IsNodesTurn world left → sent ≡ [] → closings ≡ [] → losses ≡ disk ∷ []
-      → Stops tells world left stop sent closings losses
+      → Stops of_files world left stop sent closings losses
   -- it failed in the sift after a later move of a tip line, for which the block files had failed
   sift_failed : stop ≡ by_disk → IsBusy world → sent ≡ [] → closings ≡ [] → losses ≡ archive ∷ disk ∷ []
-      → Stops tells world left stop sent closings losses
+      → Stops of_files world left stop sent closings losses
   -- no memory was found for a turn of the node
   no_memory : stop ≡ by_memory → IsNodesTurn world left → sent ≡ [] → closings ≡ [] → losses ≡ []
-      → Stops tells world left stop sent closings losses
+      → Stops of_files world left stop sent closings losses
   -- nor in the sift after a later move of a tip line, for which the block files had failed
   untold : stop ≡ by_memory → IsBusy world → sent ≡ [] → closings ≡ [] → losses ≡ archive ∷ []
-      → Stops tells world left stop sent closings losses
+      → Stops of_files world left stop sent closings losses
   -- a message to the node wasn't sent, after those before it
   unsent : (done rest : List Event) (outs : Outs) (failed : List Device) (after : World)
       (front more : List Message) (m : Message) (lost last : List Device) (next : World)
-      → left ≡ done ++ rest → OneTurn tells world done outs failed after
+      → left ≡ done ++ rest → OneTurn of_files world done outs failed after
       → outs.messages ≡ front ++ m ∷ more → m.peer ≡ 0
       → Delivers after front None sent closings lost next → LostBy stop last
-      → losses ≡ failed ++ (lost ++ last) → Stops tells world left stop sent closings losses
+      → losses ≡ failed ++ (lost ++ last) → Stops of_files world left stop sent closings losses
 
 -- the block files as the turns left them, the last of which is the one in which the run stops, if it was made
-abbrev pub files_at : {tells : Type 0} {world : World} {left : List Event} {stop : Stop} {sent : List Message}
-    {closings : List Closing} {losses : List Device}
-    → Stops tells world left stop sent closings losses → ℕ → List ℕ
+abbrev pub files_at : {A : Type 0} {of_files : block_files.Ghosts A} {world : World} {left : List Event}
+    {stop : Stop} {sent : List Message} {closings : List Closing} {losses : List Device}
+    → Stops of_files world left stop sent closings losses → ℕ → List ℕ
 files_at {world = world} (disk_failed by nodes silent closed lost) = world.side.files
 files_at {world = world} (sift_failed by busy silent closed lost) = world.side.files
 files_at {world = world} (no_memory by nodes silent closed lost) = world.side.files
@@ -163,31 +164,34 @@ MayStarve (brought p bytes) = p ≡ 0
 MayStarve other = ⊥
 
 -- Where in an arrival a run stops, with all that was sent, closed and lost in it.
-pub data StopsIn (tells : Type 0) (world : World) (arrival : ArrivalWithBytes) (stop : Stop)
-    (messages : List Message) (closings : List Closing) (losses : List Device) : Type 0 where
+pub data StopsIn {A : Type 0} (of_files : block_files.Ghosts A) (world : World) (arrival : ArrivalWithBytes)
+    (stop : Stop) (messages : List Message) (closings : List Closing) (losses : List Device)
+    : Type 0 where
   -- before its turns: no memory was found for it
   unheard : MayStarve arrival → stop ≡ by_memory → messages ≡ [] → closings ≡ [] → losses ≡ []
-      → StopsIn tells world arrival stop messages closings losses
+      → StopsIn of_files world arrival stop messages closings losses
   -- in a turn, after those before it
   in_turn : (done left : List Event) (past sent : List Message) (past_closings closed : List Closing)
       (past_losses lost : List Device) (mid : World)
       → events world arrival ≡ done ++ left
-      → Turns tells (after_hearing arrival world) done past past_closings past_losses mid
-      → Stops tells mid left stop sent closed lost
+      → Turns of_files (after_hearing arrival world) done past past_closings past_losses mid
+      → Stops of_files mid left stop sent closed lost
       → messages ≡ past ++ sent → closings ≡ past_closings ++ closed → losses ≡ past_losses ++ lost
-      → StopsIn tells world arrival stop messages closings losses
+      → StopsIn of_files world arrival stop messages closings losses
 
 -- the block files as the turns of the arrival left them
-abbrev pub files_left : {tells : Type 0} {world : World} {arrival : ArrivalWithBytes} {stop : Stop}
+abbrev pub files_left : {A : Type 0} {of_files : block_files.Ghosts A} {world : World}
+    {arrival : ArrivalWithBytes} {stop : Stop}
     {messages : List Message} {closings : List Closing} {losses : List Device}
-    → StopsIn tells world arrival stop messages closings losses → ℕ → List ℕ
+    → StopsIn of_files world arrival stop messages closings losses → ℕ → List ℕ
 files_left {world = world} (unheard starves by silent closed lost) = world.side.files
 files_left (in_turn done left past sent past_closings closed past_losses lost mid whole turns stops a b c) =
     files_at stops
 
 -- A run that stops in its last arrival.
-pub record Halts (tells : Type 0) (first : World) (stop : Stop) (arrivals : List ArrivalWithBytes)
-    (messages : List Message) (closings : List Closing) (losses : List Device) : Type 0 where
+pub record Halts {A : Type 0} (of_files : block_files.Ghosts A) (first : World) (stop : Stop)
+    (arrivals : List ArrivalWithBytes) (messages : List Message) (closings : List Closing)
+    (losses : List Device) : Type 0 where
   pub past : List ArrivalWithBytes
   pub last : ArrivalWithBytes
   pub whole : arrivals ≡ past ++ last ∷ []
@@ -196,12 +200,12 @@ pub record Halts (tells : Type 0) (first : World) (stop : Stop) (arrivals : List
   pub past_closings : List Closing
   pub past_losses : List Device
   pub world : World
-  pub run : Run tells first past past_messages past_closings past_losses world
+  pub run : Run of_files first past past_messages past_closings past_losses world
   -- the last
   pub sent : List Message
   pub closed : List Closing
   pub lost : List Device
-  pub stops : StopsIn tells world last stop sent closed lost
+  pub stops : StopsIn of_files world last stop sent closed lost
   pub messages_are : messages ≡ past_messages ++ sent
   pub closings_are : closings ≡ past_closings ++ closed
   pub losses_are : losses ≡ past_losses ++ lost

@@ -4,6 +4,7 @@ use Rattle.std.specs.List.{list_any, flat_map}
 use Rattle.std.specs.Option.{option_to_list}
 use Rattle.el_outside.specs.Devices.{Device, disk}
 use Rattle.el_outside.specs.Trace.{ArrivalWithBytes, opened, brought, closed, quiet, ended, Message, Closing}
+use Rattle.el_outside.specs.declared.archive.Archive as block_files
 use Rattle.el_outside.specs.declared.link.Why.TheVariants as why
 use Rattle.el_base.specs.declared.hash.Hash32.{Hash32}
 use Rattle.el_base.specs.declared.memory.OutOfMemory.{OutOfMemory}
@@ -244,26 +245,27 @@ begun world = record world {
 
 -- One event: what it sends and closes, the device of each call that failed and was answered so, and the world
 -- after it. Of a tip line it is the first move; what the line leaves to do stands in the world, and is worked
--- off before the next event. `tells` is whether the block files tell their bytes.
-abbrev pub Takes : Type 0 → World → Event → Outs → List Device → World → Type 0
+-- off before the next event. `of_files` is what the type of the block files says of them.
+abbrev pub Takes : {A : Type 0} → block_files.Ghosts A → World → Event → Outs → List Device → World
+    → Type 0
 -- a client joins, unless there would be too many
-Takes tells world (joins p) outs losses next =
+Takes of_files world (joins p) outs losses next =
     MatchBool (nat_lt (length world.sessions) client_limit)
     (OnlyDoes nothing (with_client p world) outs losses next)
     (OnlyDoes (closes_surplus p) world outs losses next)
 -- a client leaves
-Takes tells world (leaves p) outs losses next = OnlyDoes nothing (without_client p world) outs losses next
+Takes of_files world (leaves p) outs losses next = OnlyDoes nothing (without_client p world) outs losses next
 -- a line of a client
-Takes tells world (says p (line bytes)) outs losses next =
-    Replied tells world p bytes (find (is_peer p) world.sessions) outs losses next
+Takes of_files world (says p (line bytes)) outs losses next =
+    Replied of_files.tells world p bytes (find (is_peer p) world.sessions) outs losses next
 -- a line that is too long closes its client
-Takes tells world (says p too_long) outs losses next =
+Takes of_files world (says p too_long) outs losses next =
     MatchBool (is_client p world)
     (OnlyDoes (closes_long p) (without_client p world) outs losses next)
     (OnlyDoes nothing world outs losses next)
 -- a line of the node
-Takes tells world (orders met) outs losses next =
-    IsLed (OrdersLine tells world.side met) (begun world) outs losses next
+Takes of_files world (orders met) outs losses next =
+    IsLed (OrdersLine of_files world.side met) (begun world) outs losses next
 
 -- nothing is left to do before the next event
 abbrev pub IsStill : World → Type 0

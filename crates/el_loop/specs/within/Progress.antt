@@ -97,7 +97,7 @@ module _ {G A K : Type 0} (of_ledger : ledger.Ghosts G) (of_files : archive.Ghos
     pub losses : List Device
     pub world : World
     pub whole : all ≡ done ++ left
-    pub turns : Turns of_files.tells first done messages closings losses world
+    pub turns : Turns of_files first done messages closings losses world
     pub stood : Stands of_ledger.stands now.server world left
     pub went : WentOn before now [] messages closings losses
     pub ready : IsReady world now
@@ -108,7 +108,7 @@ module _ {G A K : Type 0} (of_ledger : ledger.Ghosts G) (of_files : archive.Ghos
     pub closings : List Closing
     pub losses : List Device
     pub world : World
-    pub turns : Turns of_files.tells first all messages closings losses world
+    pub turns : Turns of_files first all messages closings losses world
     pub still : IsStill world
     pub told : AllTold world
     pub statuses : StatusesAreTold world
@@ -127,11 +127,11 @@ module _ {G A K : Type 0} (of_ledger : ledger.Ghosts G) (of_files : archive.Ghos
     pub closings : List Closing
     pub losses : List Device
     pub world : World
-    pub turns : Turns of_files.tells first done messages closings losses world
+    pub turns : Turns of_files first done messages closings losses world
     pub sent : List Message
     pub closed : List Closing
     pub lost : List Device
-    pub stops : Stops of_files.tells world left stop sent closed lost
+    pub stops : Stops of_files world left stop sent closed lost
     pub grown : of_files.tells → AllGrow (files_at stops) (of_files.bytes now.files)
     pub went : WentOn before now [] (messages ++ sent) (closings ++ closed) (losses ++ lost)
     pub flight : Chain
@@ -144,7 +144,7 @@ module _ {G A K : Type 0} (of_ledger : ledger.Ghosts G) (of_files : archive.Ghos
     pub messages : List Message
     pub closings : List Closing
     pub losses : List Device
-    pub stops : StopsIn of_files.tells world arrival stop messages closings losses
+    pub stops : StopsIn of_files world arrival stop messages closings losses
     pub grown : of_files.tells → AllGrow (files_left stops) (of_files.bytes now.files)
     pub went : WentOn before now [] messages closings losses
     pub flight : Chain
@@ -158,7 +158,7 @@ module _ {G A K : Type 0} (of_ledger : ledger.Ghosts G) (of_files : archive.Ghos
     pub closings : List Closing
     pub losses : List Device
     pub world : World
-    pub run : Run of_files.tells first (taken node arrivals) messages closings losses world
+    pub run : Run of_files first (taken node arrivals) messages closings losses world
     pub told : AllTold world
     pub statuses : StatusesAreTold world
     pub stood : Stands of_ledger.stands now.server world []

@@ -109,7 +109,7 @@ NamesItself other = ⊥
 pub record Looked {A : Type 0} (of_files : archives.Ghosts A) (files_old files_new : A) (side : Side)
     (file at : ℕ) (answer : NodeAnswer) (found : List Node) : Type 0 where
   pub losses : List Device
-  pub looks : Looks of_files.tells side file at answer losses
+  pub looks : Looks of_files side file at answer losses
       (record side { found = found; files = of_files.bytes files_new })
   pub rose : RoseBy (of_files.faults files_old) (of_files.faults files_new) (failures archive losses)
 

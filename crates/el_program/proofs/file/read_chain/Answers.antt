@@ -60,6 +60,9 @@ returns-clause-good g c = c.loop-node.invariant.good
 pub returns-clause-nodes : goal.returns-clause-nodes
 returns-clause-nodes g c = c.in-Ok.ensures.nodes
 
+pub returns-clause-heads : goal.returns-clause-heads
+returns-clause-heads g c = c.in-Ok.ensures.heads
+
 pub returns-clause-read : goal.returns-clause-read
 returns-clause-read g c = λ told.
     let scanned = c.in-Ok.ensures.scanned told in

@@ -16,7 +16,7 @@ returns-in-Ok-clause-ends g c = λ disk.
     (c.serve_from-end.ensures.ends c.in-Ok.ledger plain) in (
       r.0,
       r.1,
-      rw c.of_end.ensures (served_once g.A.Archive.tells c.args.magic _ _ _ r.0 _
+      rw c.of_end.ensures (served_once g.A.Archive c.args.magic _ _ _ r.0 _
           (λ failed. let rose = c.serve_from-end.ensures.causes.rose device.disk (rw failed refl) in omega
           arith) (record {
             now = g.A.Archive.bytes c.open_file.new.archive;
@@ -29,7 +29,7 @@ returns-in-Ok-clause-ends g c = λ disk.
                 (faults (g.K.Link.faults c.serve_from-end.new.link)
                 (g.A.Archive.faults c.serve_from-end.new.archive) disk)
                 (with_disk _ _ _ _ disk)
-                _ _ (λ acked flight left. tt) g.A.Archive.tells _ _ _ r.0 _ r.2;
+                _ _ (λ acked flight left. tt) g.A.Archive _ _ _ r.0 _ r.2;
           })),
     )
 
@@ -41,7 +41,7 @@ pub returns-in-Err-clause-ends : goal.returns-in-Err-clause-ends
 returns-in-Err-clause-ends g c = λ disk. (
   no_traffic,
   λ t. goes_none _,
-  rw c.status_of.ensures (unread_ends g.A.Archive.tells c.args.magic _ _ _ _ _ disk _ _ c.in-Err.fault
+  rw c.status_of.ensures (unread_ends g.A.Archive c.args.magic _ _ _ _ _ disk _ _ c.in-Err.fault
       c.in-Err.ensures.only_reads (λ e. c.in-Err.ensures.bad (ap Err e))),
 )
 

@@ -19,7 +19,7 @@ pub returns-in-Ok-Tip-clause-node : goal.returns-in-Ok-Tip-clause-node
 returns-in-Ok-Tip-clause-node g c = λ side start at from.
     IfOk-weaker c.order_tip.result _ _ (λ s leads.
     leads_in g.G.Ledger g.A.Archive c.args.ledger.now c.order_tip.new.ledger c.args.archive.now c.order_tip.new.archive side start
-    (Tips g.A.Archive.tells side c.in-Ok-Tip.h) (OrdersLine g.A.Archive.tells side (line c.args.text.now)) s.answer side.found c.order_tip.new.holdings.tree s.left s.moved s.changed c.order_tip.new.holdings (from.found ∙ sym c.order_tip.ensures.tree)
+    (Tips g.A.Archive.tells side c.in-Ok-Tip.h) (OrdersLine g.A.Archive side (line c.args.text.now)) s.answer side.found c.order_tip.new.holdings.tree s.left s.moved s.changed c.order_tip.new.holdings (from.found ∙ sym c.order_tip.ensures.tree)
     (λ losses next led. (Some (said.tip c.in-Ok-Tip.h.0), rw c.in-Ok-Tip.field-0-is at c.in-Ok-Tip.ensures.read, led)) leads)
     (c.order_tip.ensures.tip side start at from.found from.still)
 

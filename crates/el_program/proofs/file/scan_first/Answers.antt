@@ -1,0 +1,5 @@
+use Rattle.el_program.proofs.Openings.{are_found}
+use Rattle.el_program.proofs.file.scan_first.Goals as goal
+
+pub returns-in-Ok-clause-heads : goal.returns-in-Ok-clause-heads
+returns-in-Ok-clause-heads g c = are_found _ (rw c.new-found.ensures.items at c.in-Ok.ensures.nodes)
