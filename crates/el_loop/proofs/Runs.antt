@@ -15,7 +15,8 @@ use Rattle.el_outside.proofs.Traces.{goes_none, goes_more, rose_more, rose_none,
 use Rattle.el_chain.specs.Chains.{Chain}
 use Rattle.el_model.specs.declared.ledger.Ledger as ledger
 use Rattle.el_world.specs.World.{World, new_session, after_hearing, events, without_node, without_client, AllTold}
-use Rattle.el_world.specs.Run.{Run, none, more, Stop}
+use Rattle.el_world.specs.Run.{Run, none, more, Stop, Halts}
+use Rattle.el_world.proofs.LastTold.{run_last_told, halt_last_told}
 use Rattle.el_lines.proofs.Cuts.{either}
 use Rattle.el_core.specs.State.{State, Stands}
 use Rattle.el_core.specs.Arrivals.{IsAfterArrival}
@@ -209,7 +210,7 @@ module _ {G A K : Type 0} (of_ledger : ledger.Ghosts G) (of_files : archive.Ghos
   -- the run stops in an arrival
   pub told_stopped : (leaves : Chain → Chain → Type 0) (first : World) (node : Bool) (count turns : ℕ)
       (a : ArrivalWithBytes) (before mid : Snapshot G A K) (k : K) (now : Snapshot G A K) (stop : Stop)
-      (g : Going of_ledger of_files of_link first node count before mid)
+      → first.sessions ≡ [] → (g : Going of_ledger of_files of_link first node count before mid)
       → (of_link.tells → GoesOn (of_link.trace mid.link) (of_link.trace k) (a ∷ []) [] [])
       → of_link.faults k ≡ of_link.faults mid.link
       → RoseBy (of_link.calls mid.link) (of_link.calls now.link) 1 → count < turns
@@ -220,10 +221,28 @@ module _ {G A K : Type 0} (of_ledger : ledger.Ghosts G) (of_files : archive.Ghos
       × IsHalted of_files first node leaves (of_files.bytes now.files) (run_counts turns before now)
       traffic
       stop
-  told_stopped leaves first node count turns a before mid k now stop g took same one lt f =
+  told_stopped leaves first node count turns a before mid k now stop nobody g took same one lt f =
       let went = went_further a before mid k now g.arrivals g.messages f.messages g.closings f.closings
       g.losses
-      f.losses g.went took same f.went in (
+      f.losses g.went took same f.went in
+      let halts : Halts of_files.tells first stop (taken node (g.arrivals ++ a ∷ [])) (g.messages ++ f.messages)
+      (g.closings ++ f.closings) (g.losses ++ f.losses) = record {
+        past = taken node g.arrivals;
+        last = taken_one node a;
+        whole = taken_more node g.arrivals a;
+        past_messages = g.messages;
+        past_closings = g.closings;
+        past_losses = g.losses;
+        world = g.world;
+        run = g.run;
+        sent = f.messages;
+        closed = f.closings;
+        lost = f.losses;
+        stops = f.stops;
+        messages_are = refl;
+        closings_are = refl;
+        losses_are = refl;
+      } in (
         record {
           arrivals = g.arrivals ++ a ∷ [];
           messages = g.messages ++ f.messages;
@@ -232,23 +251,7 @@ module _ {G A K : Type 0} (of_ledger : ledger.Ghosts G) (of_files : archive.Ghos
         went.trace,
         record {
           losses = g.losses ++ f.losses;
-          halts = record {
-            past = taken node g.arrivals;
-            last = taken_one node a;
-            whole = taken_more node g.arrivals a;
-            past_messages = g.messages;
-            past_closings = g.closings;
-            past_losses = g.losses;
-            world = g.world;
-            run = g.run;
-            sent = f.messages;
-            closed = f.closings;
-            lost = f.losses;
-            stops = f.stops;
-            messages_are = refl;
-            closings_are = refl;
-            losses_are = refl;
-          };
+          halts = halts;
           grown = f.grown;
           counted = record {
             calls = rw (length-append g.arrivals (a ∷ []), add-zero)
@@ -260,6 +263,7 @@ module _ {G A K : Type 0} (of_ledger : ledger.Ghosts G) (of_files : archive.Ghos
           last = record { front = g.arrivals; last = a; whole = refl; before = g.none_ends };
           flight = f.flight;
           is_flight = f.is_flight;
+          acknowledged = halt_last_told nobody halts;
           crash = f.crash;
         },
       )
@@ -346,10 +350,10 @@ module _ {G A K : Type 0} (of_ledger : ledger.Ghosts G) (of_files : archive.Ghos
   -- the last arrival ended the run
   pub told_ended : (leaves : Chain → Chain → Type 0) (first : World) (node : Bool) (count turns : ℕ)
       (a : ArrivalWithBytes) (before now : Snapshot G A K)
-      → ((chain : Chain) → of_ledger.stands now.server.ledger chain → leaves chain chain)
+      → ((chain : Chain) → of_ledger.stands now.server.ledger chain → leaves chain chain) → first.sessions ≡ []
       → Further first node count a before now → is_end a ≡ true → count < turns
       → Told first node leaves turns before now end.Ended
-  told_ended leaves first node count turns a before now own f stop lt = (
+  told_ended leaves first node count turns a before now own nobody f stop lt = (
     record { arrivals = f.front ++ a ∷ []; messages = f.messages; closings = f.closings },
     f.went.trace,
     (
@@ -364,6 +368,7 @@ module _ {G A K : Type 0} (of_ledger : ledger.Ghosts G) (of_files : archive.Ghos
           turns = let h = f.counted in simp length-append (omega arith);
           rose = rw (append-nil f.losses) f.went.rose;
         };
+        acknowledged = run_last_told nobody f.run;
         crash = own f.world.side.chain f.stood.chain;
       },
       record { front = f.front; last = a; whole = refl; before = f.none_ends; ends = stop },
@@ -373,10 +378,10 @@ module _ {G A K : Type 0} (of_ledger : ledger.Ghosts G) (of_files : archive.Ghos
   -- the turns are spent
   pub told_spent : (leaves : Chain → Chain → Type 0) (first : World) (node : Bool) (count turns : ℕ)
       (before now : Snapshot G A K)
-      → ((chain : Chain) → of_ledger.stands now.server.ledger chain → leaves chain chain)
+      → ((chain : Chain) → of_ledger.stands now.server.ledger chain → leaves chain chain) → first.sessions ≡ []
       → Going of_ledger of_files of_link first node count before now → count ≡ turns
       → Told first node leaves turns before now end.TurnsSpent
-  told_spent leaves first node count turns before now own g spent = (
+  told_spent leaves first node count turns before now own nobody g spent = (
     record { arrivals = g.arrivals; messages = g.messages; closings = g.closings },
     g.went.trace,
     (
@@ -391,6 +396,7 @@ module _ {G A K : Type 0} (of_ledger : ledger.Ghosts G) (of_files : archive.Ghos
           turns = let h = g.counted in omega arith;
           rose = rw (append-nil g.losses) g.went.rose;
         };
+        acknowledged = run_last_told nobody g.run;
         crash = own g.world.side.chain g.stood.chain;
       },
       g.none_ends,
@@ -401,13 +407,13 @@ module _ {G A K : Type 0} (of_ledger : ledger.Ghosts G) (of_files : archive.Ghos
   -- a call of `next` failed
   pub told_failed : (leaves : Chain → Chain → Type 0) (first : World) (node : Bool) (count turns : ℕ)
       (before mid : Snapshot G A K) (k : K)
-      → ((chain : Chain) → of_ledger.stands mid.server.ledger chain → leaves chain chain)
+      → ((chain : Chain) → of_ledger.stands mid.server.ledger chain → leaves chain chain) → first.sessions ≡ []
       → Going of_ledger of_files of_link first node count before mid
       → (of_link.tells → of_link.trace k ≡ of_link.trace mid.link)
       → RoseBy (of_link.faults mid.link) (of_link.faults k) 1
       → RoseBy (of_link.calls mid.link) (of_link.calls k) 1 → count < turns
       → Told first node leaves turns before (snapshot mid.server mid.files k) end.LinkFailed
-  told_failed leaves first node count turns before mid k own g same rose one lt = (
+  told_failed leaves first node count turns before mid k own nobody g same rose one lt = (
     record { arrivals = g.arrivals; messages = g.messages; closings = g.closings },
     λ t. rw (same t) (g.went.trace t),
     inl (
@@ -427,6 +433,7 @@ module _ {G A K : Type 0} (of_ledger : ledger.Ghosts G) (of_files : archive.Ghos
               g.went.rose (rose_next (of_link.faults mid.link) (of_link.faults k) (of_files.faults mid.files)
               (of_ledger.faults mid.server.ledger) rose);
         };
+        acknowledged = run_last_told nobody g.run;
         crash = own g.world.side.chain g.stood.chain;
       },
       g.none_ends,

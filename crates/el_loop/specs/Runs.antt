@@ -12,6 +12,7 @@ use Rattle.el_world.specs.World.{World, Session, without_node}
 use Rattle.el_outside.specs.Devices.{Device, link}
 use Rattle.el_world.specs.Run.{Run, Halts, Stop, by_disk, by_link, by_memory, files_left}
 use Rattle.el_world.specs.Flights.{acked, Flies}
+use Rattle.el_world.specs.LastTold.{IsLastTold}
 use Rattle.el_outside.specs.Devices.{Rose}
 use Rattle.el_loop.specs.Counts.{Counts}
 use Rattle.el_loop.specs.declared.end.End.{End}
@@ -78,7 +79,7 @@ StatusesAreTold world = AllByRecursion
 -- The traffic is that of a run from the first world, all turns of which were made. `of_files` is what the
 -- type of the block files says of them, and `files` are their bytes as they are in the end. `leaves` says of
 -- two chains that all that a crash may leave in the end stands for the one, which is acknowledged, or for the
--- other, which is in flight.
+-- other, which is in flight; acknowledged is the one that the node was told last.
 pub record IsRun {A : Type 0} (of_files : archive.Ghosts A) (first : World) (node : Bool)
     (leaves : Chain → Chain → Type 0) (files : ℕ → List ℕ) (c : Counts) (t : Trace) (failed : List Device)
     : Type 0 where
@@ -88,6 +89,7 @@ pub record IsRun {A : Type 0} (of_files : archive.Ghosts A) (first : World) (nod
   pub statuses : StatusesAreTold world
   pub grown : of_files.tells → AllGrow world.side.files files
   pub counted : IsCounted c t losses failed
+  pub acknowledged : IsLastTold first.side.chain t.messages world.side.chain
   pub crash : leaves world.side.chain world.side.chain
 
 -- The traffic is that of a run that stopped so in its last arrival. `files` are the block files as they are
@@ -102,6 +104,7 @@ pub record IsHalted {A : Type 0} (of_files : archive.Ghosts A) (first : World) (
   pub last : NoneEndsBefore t.arrivals
   pub flight : Chain
   pub is_flight : Flies halts.stops files flight
+  pub acknowledged : IsLastTold first.side.chain t.messages (acked halts.stops)
   pub crash : leaves (acked halts.stops) flight
 
 -- How a run ends.

@@ -66,6 +66,7 @@ module _ (P : Chain → Chain → Type 0) where
       statuses = r.statuses;
       grown = r.grown;
       counted = r.counted;
+      acknowledged = r.acknowledged;
       crash = both r.world.side.chain r.world.side.chain;
     };
   }
@@ -86,6 +87,7 @@ module _ (P : Chain → Chain → Type 0) where
       last = h.last;
       flight = h.flight;
       is_flight = h.is_flight;
+      acknowledged = h.acknowledged;
       crash = both (acked h.halts.stops) h.flight;
     };
   }

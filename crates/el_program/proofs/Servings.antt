@@ -119,6 +119,7 @@ module _ (c : Counts) (of_before of_after : Faults) (rises : (losses : List Devi
     statuses = r.statuses;
     grown = r.grown;
     counted = counted_told t r.losses failed r.counted;
+    acknowledged = r.acknowledged;
     crash = gives r.world.side.chain r.world.side.chain r.crash;
   }
 
@@ -133,6 +134,7 @@ module _ (c : Counts) (of_before of_after : Faults) (rises : (losses : List Devi
     last = h.last;
     flight = h.flight;
     is_flight = h.is_flight;
+    acknowledged = h.acknowledged;
     crash = gives _ h.flight h.crash;
   }
 

@@ -1,1 +1,3 @@
 pub mod KeepTold
+pub mod LastTold
+mod NodeTexts

@@ -1,11 +1,15 @@
-// What holds of the definitions. The function states a law and does nothing when it runs.
-ghost use Rattle.std.specs.Prelude.{◌≡◌, ℕ, List, Ok};
+// What holds of the definitions. Each function states a law and does nothing when it runs.
+ghost use Rattle.std.specs.Prelude.{◌≡◌, ℕ, List, [], Ok};
 ghost use Rattle.el_outside.specs.Devices.{Device};
+ghost use Rattle.el_outside.specs.Trace.{ArrivalWithBytes, Message, Closing};
 ghost use Rattle.el_sessions.specs.declared.session.Session as client;
 ghost use Rattle.el_replies.specs.declared.line.LineReply as line;
 ghost use Rattle.el_side.specs.Side.{Side};
 ghost use Rattle.el_subs.specs.Told.{status, AllTold};
-ghost use Rattle.el_world.specs.World.{Comes};
+ghost use Rattle.el_world.specs.World.{World, Comes};
+ghost use Rattle.el_world.specs.Run.{Run, Halts, Stop};
+ghost use Rattle.el_world.specs.Flights.{acked};
+ghost use Rattle.el_world.specs.LastTold.{IsLastTold};
 
 use el_outside::Archive;
 
@@ -16,4 +20,18 @@ pub fn replies_keep_told<A: Archive>()
         (reply : line.LineReply) → AllTold (status side.chain side.kept) was.subs
         → Comes A.tells side bytes was losses now (Ok reply)
         → AllTold (status side.chain side.kept) now.subs }
+{}
+
+/// The chain of a world is the one that the node was told last, by the last `at` line that was sent in the
+/// run; where none was sent, it is the chain with which the run began. Where a run stops, this is the chain
+/// that is acknowledged.
+pub fn acknowledged_is_told_last<A: Archive>()
+    ensures run { (first world : World) (arrivals : List ArrivalWithBytes) (messages : List Message)
+        (closings : List Closing) (losses : List Device) → first.sessions ≡ []
+        → Run ⟦<A as Archive>⟧ first arrivals messages closings losses world
+        → IsLastTold first.side.chain messages world.side.chain }
+    ensures halts { (first : World) (stop : Stop) (arrivals : List ArrivalWithBytes) (messages : List Message)
+        (closings : List Closing) (losses : List Device) → first.sessions ≡ []
+        → (h : Halts ⟦<A as Archive>⟧ first stop arrivals messages closings losses)
+        → IsLastTold first.side.chain messages (acked h.stops) }
 {}

@@ -4,4 +4,4 @@
 
 mod laws;
 
-pub use laws::replies_keep_told;
+pub use laws::{acknowledged_is_told_last, replies_keep_told};

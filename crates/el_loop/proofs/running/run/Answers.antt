@@ -27,7 +27,7 @@ returns-clause-ends g c = λ first stood nobody files.
     told_spent g.G.Ledger g.A.Archive g.K.Link _ first c.args.options.node c.loop-turn._turn
     c.args.options.turns _ (snapshot c.loop-turn.server c.loop-turn.archive c.loop-turn.link)
     (λ chain stood told left now. inl (g.met.G.Ledger.leaves_own c.loop-turn.server.ledger chain left told
-    c.loop-turn.invariant.live stood now))
+    c.loop-turn.invariant.live stood now)) nobody
     (c.loop-turn.invariant.going first stood nobody files) (let h = c.loop-turn-test.false in
     let k = c.loop-turn.auto._turn-end in omega arith)
 
@@ -55,7 +55,7 @@ returns-in_default-clause-ends g c = λ first stood nobody files.
     told_failed g.G.Ledger g.A.Archive g.K.Link _ first c.args.options.node c.loop-turn._turn
     c.args.options.turns _ (snapshot c.loop-turn.server c.loop-turn.archive c.loop-turn.link) c.next.new.self
     (λ chain stood told left now. inl (g.met.G.Ledger.leaves_own c.loop-turn.server.ledger chain left told
-    c.loop-turn.invariant.live stood now))
+    c.loop-turn.invariant.live stood now)) nobody
     (c.loop-turn.invariant.going first stood nobody files) c.in_default.ensures.none_taken
     c.in_default.ensures.cause.counted c.next.ensures.called c.loop-turn-test.true
 
@@ -78,7 +78,7 @@ returns-in-Err-clause-ends g c = λ first stood nobody files.
     (told_stopped g.G.Ledger g.A.Archive g.K.Link _ first c.args.options.node c.loop-turn._turn
     c.args.options.turns (with_bytes c.in-Ok.arrival c.next.new.buf) _
     (snapshot c.loop-turn.server c.loop-turn.archive c.loop-turn.link) c.next.new.self _
-    (stop_of c.in-Err.halt)
+    (stop_of c.in-Err.halt) nobody
     going c.in-Ok.ensures.took c.in-Ok.ensures.cause.uncounted
     (rw c.serve_arrival.ensures.same_calls c.next.ensures.called)
     c.loop-turn-test.true (rw is at stopped)))
@@ -103,7 +103,7 @@ returns-then-ends-clause-ends g c = λ first stood nobody files.
     c.args.options.turns (with_bytes c.in-Ok.arrival c.next.new.buf) _
     (snapshot c.serve_arrival.new.server c.serve_arrival.new.archive c.serve_arrival.new.link)
     (λ chain stood told left now. inl (g.met.G.Ledger.leaves_own c.serve_arrival.new.server.ledger chain left
-    told c.in_default-serve_arrival.ensures.live stood now))
+    told c.in_default-serve_arrival.ensures.live stood now)) nobody
     (one_further g.G.Ledger g.A.Archive g.K.Link first c.args.options.node c.loop-turn._turn
     (with_bytes c.in-Ok.arrival c.next.new.buf) _
     (snapshot c.loop-turn.server c.loop-turn.archive c.loop-turn.link) c.next.new.self _

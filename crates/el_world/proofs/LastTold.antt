@@ -1,0 +1,461 @@
+-- The chain of a world is the one that the node was told last, through turns, runs and stops.
+use Rattle.std.proofs.Common.{◌≡◌, ◌≢◌, inl, inr, ℕ, suc, ◌==◌, Bool, true, false, not, if◌then◌else◌, nat_lt, List, [], ◌∷◌, ◌++◌, map, length, append_assoc, Option, None, Some, refl, sym, ap, ◌∙◌, eqb-true, eq-eqb, subst, true≢false, arith, length-append}
+use Rattle.std.specs.Prelude.{find, MatchBool}
+use Rattle.std.specs.List.{AllByRecursion, list_any, flat_map}
+use Rattle.std.specs.Option.{option_to_list}
+use Rattle.el_base.proofs.Lists.{all_append, all_filter, all_mid, all_weaker}
+use Rattle.el_outside.specs.Devices.{Device}
+use Rattle.el_outside.specs.declared.archive.Archive as block_files
+use Rattle.el_outside.specs.Trace.{ArrivalWithBytes, opened, brought, closed, quiet, ended, Message, Closing}
+use Rattle.el_chain.specs.Chains.{Chain}
+use Rattle.el_lines.specs.Lines.{LineEvent, line, too_long, added_lines}
+use Rattle.el_lines.specs.NodeAnswers.{text_of, node_limit}
+use Rattle.el_lines.proofs.Cuts.{either}
+use Rattle.el_lines.specs.declared.node_answer.NodeAnswer.{NodeAnswer}
+use Rattle.el_replies.specs.declared.line.LineReply.{LineReply}
+use Rattle.el_sessions.specs.declared.session.Session as client
+use Rattle.el_side.specs.Side.{Side, Moving, OrdersLine}
+use Rattle.el_world.specs.World as world_of
+use Rattle.el_world.specs.World.{World, Session, Event, Outs, Takes, IsLed, IsAnswered, Replied, Notifies, is_peer, is_client, with_session, without_client, hearing, after_hearing, lines_said, events, client_limit, told, after_reply}
+use Rattle.el_world.specs.Run as run_of
+use Rattle.el_world.specs.Run.{OneTurn, Delivers, Turns, Run, Stop, Stops, StopsIn, Halts}
+use Rattle.el_world.specs.Flights.{acked}
+use Rattle.el_world.specs.LastTold as told_of
+use Rattle.el_world.specs.LastTold.{IsLastTold, IsNoAtLine, at_line}
+use Rattle.el_world.proofs.NodeTexts.{TellsEnd, tells, stays, no_at_text, busy_some, of_moving, of_line}
+
+-- ---- lists of messages
+
+told_joined : (before mid after : Chain) (ms ns : List Message) → IsLastTold before ms mid → IsLastTold mid ns after
+    → IsLastTold before (ms ++ ns) after
+told_joined before mid after ms ns first (told_of.told front rest h height whole none tip top) =
+    told_of.told (ms ++ front) rest h height (rw whole (sym (append_assoc ms front (at_line h height ∷ rest)))) none tip top
+told_joined before mid after ms ns (told_of.told front rest h height whole none tip top) (told_of.untold more same) =
+    told_of.told front (rest ++ ns) h height (rw whole (append_assoc front (at_line h height ∷ rest) ns))
+    (all_append IsNoAtLine rest ns none more) (rw same tip) (rw same top)
+told_joined before mid after ms ns (told_of.untold none as_before) (told_of.untold more same) =
+    told_of.untold (all_append IsNoAtLine ms ns none more) (same ∙ as_before)
+
+-- messages to clients
+abbrev pub ToClients : List Message → Type 0
+ToClients ms = AllByRecursion (λ (m : Message). m.peer ≢ 0) ms
+
+clients_told : (chain : Chain) (ms : List Message) → ToClients ms → IsLastTold chain ms chain
+clients_told chain ms all =
+    told_of.untold (all_weaker (λ (m : Message). m.peer ≢ 0) IsNoAtLine ms
+    (λ m not_so h height e. not_so (ap (λ (x : Message). x.peer) e)) all) refl
+
+-- ---- peer 0 is no client
+
+abbrev pub NoNode : World → Type 0
+NoNode world = AllByRecursion (λ (s : Session). s.peer ≢ 0) world.sessions
+
+no_client : (ss : List Session) → AllByRecursion (λ (s : Session). s.peer ≢ 0) ss
+    → list_any (is_peer 0) ss ≡ true → ⊥
+no_client [] all is = true≢false (sym is)
+no_client (s ∷ ss) all is = elim (either (is_peer 0 s)) [
+  | inl h ↦ all.0 (eqb-true s.peer 0 h)
+  | inr h ↦ no_client ss all.1 (rw h at is)
+]
+
+found_client : (p : Session → Bool) (ss : List Session) (s : Session)
+    → AllByRecursion (λ (s : Session). s.peer ≢ 0) ss → find p ss ≡ Some s → s.peer ≢ 0
+found_client p [] s all is = absurd cc
+found_client p (x ∷ ss) s all is = elim (either (p x)) [
+  | inl h ↦ let found : Some x ≡ Some s = rw h at is in let same : x ≡ s = cc in rw (← same) all.0
+  | inr h ↦ found_client p ss s all.1 (rw h at is)
+]
+
+found_peer : (p : ℕ) (ss : List Session) (s : Session) → find (is_peer p) ss ≡ Some s → s.peer ≡ p
+found_peer p [] s is = absurd cc
+found_peer p (x ∷ ss) s is = elim (either (is_peer p x)) [
+  | inl h ↦ let found : Some x ≡ Some s = rw h at is in let same : x ≡ s = cc in rw (← same) (eqb-true x.peer p h)
+  | inr h ↦ found_peer p ss s (rw h at is)
+]
+
+without_no_node : (p : ℕ) (world : World) → NoNode world → NoNode (without_client p world)
+without_no_node p world all =
+    all_filter (λ (s : Session). s.peer ≢ 0) (λ (s : Session). not (is_peer p s)) world.sessions all
+
+mapped : (f : Session → Session) (ss : List Session) → ((s : Session) → s.peer ≢ 0 → (f s).peer ≢ 0)
+    → AllByRecursion (λ (s : Session). s.peer ≢ 0) ss → AllByRecursion (λ (s : Session). s.peer ≢ 0) (map f ss)
+mapped f [] keeps all = tt
+mapped f (s ∷ ss) keeps all = (keeps s all.0, mapped f ss keeps all.1)
+
+with_no_node : (p : ℕ) (now : Session) (world : World) → now.peer ≢ 0 → NoNode world
+    → NoNode (with_session p now world)
+with_no_node p now world not_so all =
+    mapped (λ (s : Session). if is_peer p s then now else s) world.sessions (λ s is. by s is (is_peer p s)) all
+  where
+    by : (s : Session) → s.peer ≢ 0 → (b : Bool) → (if b then now else s).peer ≢ 0
+    by s is true = not_so
+    by s is false = is
+
+begun_no_node : (world : World) → NoNode world → NoNode (world_of.begun world)
+begun_no_node world all =
+    mapped (λ (s : Session). record s { waits = true }) world.sessions (λ s is. is) all
+
+-- ---- one turn
+
+-- an event in which no peer 0 joins
+abbrev pub IsOfPeers : Event → Type 0
+IsOfPeers (world_of.joins p) = p ≢ 0
+IsOfPeers other = Unit {0}
+
+-- a turn speaks to clients alone and leaves the side, or to the node, of whose side it tells the end
+pub data Turned (world : World) (outs : Outs) (left : World) : Type 0 where
+  to_clients : ToClients outs.messages → left.side ≡ world.side → NoNode left → Turned world outs left
+  to_node : (answer : NodeAnswer) → outs ≡ world_of.to_node (text_of answer)
+      → TellsEnd world.side.chain answer left.side.chain → NoNode left → Turned world outs left
+
+led : (leads : NodeAnswer → List Device → Side → Type 0) (world first : World) (outs : Outs)
+    (losses : List Device) (left : World) → NoNode first
+    → ((answer : NodeAnswer) (side : Side) → leads answer losses side
+    → TellsEnd world.side.chain answer side.chain)
+    → IsLed leads first outs losses left → Turned world outs left
+led leads world first outs losses left all ends l =
+    to_node l.answer l.outs_is (rw l.next_is (ends l.answer l.side l.led)) (rw l.next_is all)
+
+-- texts to one client
+all_to : (p : ℕ) (texts : List (List ℕ)) → p ≢ 0
+    → ToClients (map (λ (t : List ℕ). record { peer = p; text = t }) texts)
+all_to p [] not_so = tt
+all_to p (t ∷ ts) not_so = (not_so, all_to p ts not_so)
+
+replied_no_node : (p : ℕ) (reply : LineReply) (session : Session) (kept : client.Session) (world : World)
+    → session.peer ≢ 0 → NoNode world → NoNode (after_reply p reply session kept world)
+replied_no_node p reply session kept world client' all = by reply.closes
+  where
+    by : (b : Bool) → NoNode (if b then without_client p world
+        else with_session p (record session { client = kept }) world)
+    by true = without_no_node p world all
+    by false = with_no_node p (record session { client = kept }) world client' all
+
+replied_side : (p : ℕ) (reply : LineReply) (session : Session) (kept : client.Session) (world : World)
+    → (after_reply p reply session kept world).side ≡ world.side
+replied_side p reply session kept world = by reply.closes
+  where
+    by : (b : Bool) → (if b then without_client p world
+        else with_session p (record session { client = kept }) world).side ≡ world.side
+    by true = refl
+    by false = refl
+
+module _ {A : Type 0} (of_files : block_files.Ghosts A) (world : World) (all : NoNode world) where
+  answered : (p : ℕ) (bytes : List ℕ) (session : Session) (outs : Outs) (losses : List Device) (left : World)
+      → find (is_peer p) world.sessions ≡ Some session
+      → IsAnswered of_files.tells world p bytes session outs losses left → Turned world outs left
+  answered p bytes session outs losses left is (world_of.replied reply kept comes o n) =
+      let client' = found_client (is_peer p) world.sessions session all is in
+      let not_so : p ≢ 0 = rw (← found_peer p world.sessions session is) client' in
+      rw (o, n) (to_clients (all_to p (option_to_list reply.text) not_so)
+      (replied_side p reply session kept world) (replied_no_node p reply session kept world client' all))
+  answered p bytes session outs losses left is (world_of.starved e kept comes o n) =
+      rw (o, n) (to_clients tt refl (without_no_node p world all))
+  answered p bytes session outs losses left is (world_of.uncounted reply kept comes more o n) =
+      rw (o, n) (to_clients tt refl (without_no_node p world all))
+
+  replied : (p : ℕ) (bytes : List ℕ) (found : Option Session) (outs : Outs) (losses : List Device)
+      (left : World) → find (is_peer p) world.sessions ≡ found
+      → Replied of_files.tells world p bytes found outs losses left → Turned world outs left
+  replied p bytes None outs losses left is r = rw (r.0, r.1) (to_clients tt refl all)
+  replied p bytes (Some session) outs losses left is r = answered p bytes session outs losses left is r
+
+  taken : (event : Event) (outs : Outs) (losses : List Device) (left : World) → IsOfPeers event
+      → Takes of_files world event outs losses left → Turned world outs left
+  taken (world_of.joins p) outs losses left client' t =
+      by (nat_lt (length world.sessions) client_limit) t
+    where
+      by : (b : Bool) → MatchBool b (world_of.OnlyDoes world_of.nothing (world_of.with_client p world) outs losses left)
+          (world_of.OnlyDoes (world_of.closes_surplus p) world outs losses left) → Turned world outs left
+      by true d = rw (d.0, d.1) (to_clients tt refl
+          (all_append (λ (s : Session). s.peer ≢ 0) world.sessions (world_of.new_session p ∷ []) all (client', tt)))
+      by false d = rw (d.0, d.1) (to_clients tt refl all)
+  taken (world_of.leaves p) outs losses left client' t =
+      rw (t.0, t.1) (to_clients tt refl (without_no_node p world all))
+  taken (world_of.says p (line bytes)) outs losses left client' t =
+      replied p bytes (find (is_peer p) world.sessions) outs losses left refl t
+  taken (world_of.says p too_long) outs losses left client' t = by (is_client p world) t
+    where
+      by : (b : Bool) → MatchBool b (world_of.OnlyDoes (world_of.closes_long p) (without_client p world) outs losses left)
+          (world_of.OnlyDoes world_of.nothing world outs losses left) → Turned world outs left
+      by true d = rw (d.0, d.1) (to_clients tt refl (without_no_node p world all))
+      by false d = rw (d.0, d.1) (to_clients tt refl all)
+  taken (world_of.orders met) outs losses left client' t =
+      led (OrdersLine of_files world.side met) world (world_of.begun world) outs losses left
+      (begun_no_node world all) (λ answer side o. of_line of_files world.side answer losses side met o) t
+
+  notified : (outs : Outs) (losses : List Device) (left : World) → Notifies world outs losses left
+      → Turned world outs left
+  notified outs losses left (world_of.tells session is o n z) =
+      let client' = found_client (λ (s : Session). s.waits) world.sessions session all is in
+      rw (o, n) (to_clients (all_to session.peer _ client') refl
+      (with_no_node session.peer (told world session) world client' all))
+  notified outs losses left (world_of.fails session is o n z) =
+      rw (o, n) (to_clients tt refl (without_no_node session.peer world all))
+
+  turned : (done : List Event) (outs : Outs) (losses : List Device) (left : World)
+      → AllByRecursion IsOfPeers done → OneTurn of_files world done outs losses left → Turned world outs left
+  turned done outs losses left of_peers (run_of.takes event still everyone d t) =
+      taken event outs losses left (rw d at of_peers).0 t
+  turned done outs losses left of_peers (run_of.works busy d w) =
+      led (Moving of_files.tells world.side 0 world.side.ahead) world world outs losses left all
+      (λ answer side m. of_moving of_files world.side answer losses side 0 world.side.ahead
+      (inr (busy_some world.side.ahead busy)) m) w
+  turned done outs losses left of_peers (run_of.notifies still d n) = notified outs losses left n
+  turned done outs losses left of_peers (run_of.departs p is d o n z) =
+      rw (o, n) (to_clients tt refl (without_no_node p world all))
+
+-- ---- what of it is sent
+
+same_side : {world next : World} {messages sent : List Message} {closing : Option Closing}
+    {closings : List Closing} {losses : List Device}
+    → Delivers world messages closing sent closings losses next → next.side ≡ world.side
+same_side (run_of.all world closing) = refl
+same_side (run_of.sends world m messages closing sent closings losses next d) = same_side d
+same_side (run_of.loses world m messages closing reason sent closings losses next is departs d) = same_side d
+
+still_no_node : {world next : World} {messages sent : List Message} {closing : Option Closing}
+    {closings : List Closing} {losses : List Device}
+    → Delivers world messages closing sent closings losses next → NoNode world → NoNode next
+still_no_node (run_of.all world closing) none = none
+still_no_node (run_of.sends world m messages closing sent closings losses next d) none = still_no_node d none
+still_no_node (run_of.loses world m messages closing reason sent closings losses next is departs d) none =
+    still_no_node d (without_no_node m.peer world none)
+
+sent_to_clients : {world next : World} {messages sent : List Message} {closing : Option Closing}
+    {closings : List Closing} {losses : List Device}
+    → Delivers world messages closing sent closings losses next → ToClients messages → ToClients sent
+sent_to_clients (run_of.all world closing) to = tt
+sent_to_clients (run_of.sends world m messages closing sent closings losses next d) to =
+    (to.0, sent_to_clients d to.1)
+sent_to_clients (run_of.loses world m messages closing reason sent closings losses next is departs d) to =
+    sent_to_clients d (all_filter (λ (m : Message). m.peer ≢ 0) _ messages to.1)
+
+-- a message to the node goes out
+sent_to_node : (world next : World) (text : List ℕ) (sent : List Message) (closings : List Closing)
+    (losses : List Device) → NoNode world
+    → Delivers world (record { peer = 0; text = text } ∷ []) None sent closings losses next
+    → sent ≡ record { peer = 0; text = text } ∷ []
+sent_to_node world next text sent closings losses none
+    (run_of.sends w m messages closing more c l n (run_of.all w' closing')) = refl
+sent_to_node world next text sent closings losses none
+    (run_of.loses w m messages closing reason more c l n (inl is) departs d) =
+    absurd (no_client world.sessions none is)
+sent_to_node world next text sent closings losses none
+    (run_of.loses w m messages closing reason more c l n (inr is) departs d) = absurd is
+
+-- what the node was told in turns, and that it is no client after them
+pub record Tells (first : World) (messages : List Message) (world : World) : Type 0 where
+  pub told : IsLastTold first.side.chain messages world.side.chain
+  pub none : NoNode world
+
+delivered : (world left next : World) (outs : Outs) (sent : List Message) (closings : List Closing)
+    (losses : List Device) → Turned world outs left
+    → Delivers left outs.messages outs.closing sent closings losses next → Tells world sent next
+delivered world left next outs sent closings losses (to_clients to same none) d = record {
+  told = rw (same_side d ∙ same) (clients_told world.side.chain sent (sent_to_clients d to));
+  none = still_no_node d none;
+}
+delivered world left next outs sent closings losses (to_node answer o ends none) d =
+    let d' = rw o at d in
+    let one = sent_to_node left next (text_of answer) sent closings losses none d' in
+    record { told = rw (one, same_side d) (by ends); none = still_no_node d none }
+  where
+    by : TellsEnd world.side.chain answer left.side.chain
+        → IsLastTold world.side.chain (record { peer = 0; text = text_of answer } ∷ []) left.side.chain
+    by (tells h height e tip top) = rw e (told_of.told [] [] h height refl tt tip top)
+    by (stays not_so same) = told_of.untold
+        ((λ h height e. no_at_text answer not_so h height (ap (λ (x : Message). x.text) e)), tt) same
+
+tells_joined : (first mid world : World) (ms ns : List Message) → Tells first ms mid → Tells mid ns world
+    → Tells first (ms ++ ns) world
+tells_joined first mid world ms ns a b = record {
+  told = told_joined first.side.chain mid.side.chain world.side.chain ms ns a.told b.told;
+  none = b.none;
+}
+
+nothing_told : (world : World) → NoNode world → Tells world [] world
+nothing_told world none = record { told = told_of.untold tt refl; none = none }
+
+all_front : (xs ys : List Event) → AllByRecursion IsOfPeers (xs ++ ys) → AllByRecursion IsOfPeers xs
+all_front [] ys all = tt
+all_front (x ∷ xs) ys all = (all.0, all_front xs ys all.1)
+
+all_back : (xs ys : List Event) → AllByRecursion IsOfPeers (xs ++ ys) → AllByRecursion IsOfPeers ys
+all_back [] ys all = all
+all_back (x ∷ xs) ys all = all_back xs ys all.1
+
+turns_tell : {A : Type 0} {of_files : block_files.Ghosts A} {first world : World} {past : List Event} {messages : List Message}
+    {closings : List Closing} {losses : List Device}
+    → Turns of_files first past messages closings losses world → NoNode first
+    → AllByRecursion IsOfPeers past → Tells first messages world
+turns_tell {first = first} run_of.none none of_peers = nothing_told first none
+turns_tell {A} {of_files} {first} (run_of.more past messages closings losses world done outs failed left sent closed'
+    lost next turns turn d) none of_peers =
+    let before = turns_tell turns none (all_front past done of_peers) in
+    tells_joined first world next messages sent before
+    (delivered world left next outs sent closed' lost
+    (turned of_files world before.none done outs failed left (all_back past done of_peers) turn) d)
+
+-- ---- arrivals
+
+said_of_peers : (p : ℕ) (ls : List LineEvent) → AllByRecursion IsOfPeers (map (world_of.says p) ls)
+said_of_peers p [] = tt
+said_of_peers p (l ∷ ls) = (tt, said_of_peers p ls)
+
+ordered_of_peers : (ls : List LineEvent) → AllByRecursion IsOfPeers (map world_of.orders ls)
+ordered_of_peers [] = tt
+ordered_of_peers (l ∷ ls) = (tt, ordered_of_peers ls)
+
+lines_of_peers : (p : ℕ) (bytes : List ℕ) (ss : List Session)
+    → AllByRecursion IsOfPeers (flat_map (lines_said p bytes) ss)
+lines_of_peers p bytes [] = tt
+lines_of_peers p bytes (s ∷ ss) =
+    all_append IsOfPeers (lines_said p bytes s) (flat_map (lines_said p bytes) ss) (by (is_peer p s))
+    (lines_of_peers p bytes ss)
+  where
+    by : (b : Bool) → AllByRecursion IsOfPeers
+        (if b then map (world_of.says p) (added_lines world_of.line_limit s.heard bytes) else [])
+    by true = said_of_peers p _
+    by false = tt
+
+events_of_peers : (world : World) (arrival : ArrivalWithBytes) → AllByRecursion IsOfPeers (events world arrival)
+events_of_peers world (opened p) = by (p == 0) refl
+  where
+    by : (b : Bool) → (p == 0) ≡ b → AllByRecursion IsOfPeers (if b then [] else world_of.joins p ∷ [])
+    by true e = tt
+    by false e = (λ is. true≢false (sym (eq-eqb p 0 is) ∙ e), tt)
+events_of_peers world (brought p bytes) = by (p == 0)
+  where
+    by : (b : Bool) → AllByRecursion IsOfPeers (if b then map world_of.orders (added_lines node_limit world.heard bytes)
+        else flat_map (lines_said p bytes) world.sessions)
+    by true = ordered_of_peers _
+    by false = lines_of_peers p bytes world.sessions
+events_of_peers world (closed p) = (tt, tt)
+events_of_peers world quiet = tt
+events_of_peers world ended = tt
+
+-- what an arrival brings changes no side, and makes no client of the node
+heard_side : (arrival : ArrivalWithBytes) (world : World) → (after_hearing arrival world).side ≡ world.side
+heard_side (opened p) world = refl
+heard_side (brought p bytes) world = by (p == 0)
+  where
+    by : (b : Bool) → (if b then record world { heard = world.heard ++ bytes }
+        else record world { sessions = map (hearing p bytes) world.sessions }).side ≡ world.side
+    by true = refl
+    by false = refl
+heard_side (closed p) world = refl
+heard_side quiet world = refl
+heard_side ended world = refl
+
+heard_no_node : (arrival : ArrivalWithBytes) (world : World) → NoNode world
+    → NoNode (after_hearing arrival world)
+heard_no_node (opened p) world none = none
+heard_no_node (brought p bytes) world none = by (p == 0)
+  where
+    hears : (s : Session) → s.peer ≢ 0 → (b : Bool)
+        → (if b then record s { heard = s.heard ++ bytes } else s).peer ≢ 0
+    hears s is true = is
+    hears s is false = is
+
+    by : (b : Bool) → NoNode (if b then record world { heard = world.heard ++ bytes }
+        else record world { sessions = map (hearing p bytes) world.sessions })
+    by true = none
+    by false = mapped (hearing p bytes) world.sessions (λ s is. hears s is (is_peer p s)) none
+heard_no_node (closed p) world none = none
+heard_no_node quiet world none = none
+heard_no_node ended world none = none
+
+heard_tells : (arrival : ArrivalWithBytes) (world next : World) (messages : List Message)
+    → Tells (after_hearing arrival world) messages next → Tells world messages next
+heard_tells arrival world next messages t = record {
+  told = rw (heard_side arrival world) at t.told;
+  none = t.none;
+}
+
+run_tells : {A : Type 0} {of_files : block_files.Ghosts A} {first world : World} {arrivals : List ArrivalWithBytes}
+    {messages : List Message} {closings : List Closing} {losses : List Device}
+    → Run of_files first arrivals messages closings losses world → NoNode first → Tells first messages world
+run_tells {first = first} run_of.none none = nothing_told first none
+run_tells {A} {of_files} {first} (run_of.more arrivals messages closings losses world arrival more_messages
+    more_closings more_losses next run turns still everyone) none =
+    let before = run_tells run none in
+    tells_joined first world next messages more_messages before
+    (heard_tells arrival world next more_messages
+    (turns_tell turns (heard_no_node arrival world before.none) (events_of_peers world arrival)))
+
+-- ---- where a run stops
+
+first_alone : (x m : Message) (front more : List Message) → x ∷ [] ≡ front ++ m ∷ more → front ≡ []
+first_alone x m [] more e = refl
+first_alone x m (y ∷ ys) more e =
+    let one : 1 ≡ suc (length (ys ++ m ∷ more)) = ap (λ (ms : List Message). length ms) e in
+    let many = length-append ys (m ∷ more) in
+    absurd (omega (arith, one, many))
+
+nothing_sent : {w n : World} {s : List Message} {c : List Closing} {l : List Device}
+    → Delivers w [] None s c l n → s ≡ []
+nothing_sent (run_of.all w closing) = refl
+
+-- of the turn in which it stops the node gets no `at` line
+stop_tells : {A : Type 0} {of_files : block_files.Ghosts A} (world : World) {left : List Event} {stop : Stop} {sent : List Message}
+    {closings : List Closing} {losses : List Device} → NoNode world → AllByRecursion IsOfPeers left
+    → Stops of_files world left stop sent closings losses
+    → IsLastTold world.side.chain sent world.side.chain
+stop_tells world none of_peers (run_of.disk_failed by_ nodes sent_none closed_none lost) = rw sent_none (told_of.untold tt refl)
+stop_tells world none of_peers (run_of.sift_failed by_ busy sent_none closed_none lost) = rw sent_none (told_of.untold tt refl)
+stop_tells world none of_peers (run_of.no_memory by_ nodes sent_none closed_none lost) = rw sent_none (told_of.untold tt refl)
+stop_tells world none of_peers (run_of.untold by_ busy sent_none closed_none lost) = rw sent_none (told_of.untold tt refl)
+stop_tells {A} {of_files} world {sent = sent} none of_peers
+    (run_of.unsent done rest outs failed after front more m lost last next whole turn cut node d by_ z) =
+    by (turned of_files world none done outs failed after (all_front done rest (rw whole at of_peers)) turn)
+  where
+    by : Turned world outs after → IsLastTold world.side.chain sent world.side.chain
+    by (to_clients to same none') =
+        absurd (all_mid (λ (x : Message). x.peer ≢ 0) front m more (rw cut at to) node)
+    by (to_node answer o ends none') =
+        let messages : (world_of.to_node (text_of answer)).messages ≡ front ++ m ∷ more =
+        sym (ap (λ (x : Outs). x.messages) o) ∙ cut in
+        let alone = first_alone _ m front more messages in
+        rw (nothing_sent (rw alone at d)) (told_of.untold tt refl)
+
+stops_in_tells : {A : Type 0} {of_files : block_files.Ghosts A} (world : World) (arrival : ArrivalWithBytes) {stop : Stop}
+    {messages : List Message} {closings : List Closing} {losses : List Device} → NoNode world
+    → (s : StopsIn of_files world arrival stop messages closings losses)
+    → IsLastTold world.side.chain messages (acked s)
+stops_in_tells world arrival {messages = messages} none (run_of.unheard starves by_ sent_none closed_none lost) =
+    let r : IsLastTold world.side.chain messages world.side.chain = rw sent_none (told_of.untold tt refl) in
+    r
+stops_in_tells world arrival {messages = messages} none (run_of.in_turn done left past sent past_closings closed'
+    past_losses lost mid whole turns stops a b c) =
+    let of_peers = rw whole at (events_of_peers world arrival) in
+    let before = heard_tells arrival world mid past
+    (turns_tell turns (heard_no_node arrival world none) (all_front done left of_peers)) in
+    let r : IsLastTold world.side.chain messages mid.side.chain =
+    rw a (told_joined world.side.chain mid.side.chain mid.side.chain past sent before.told
+    (stop_tells mid before.none (all_back done left of_peers) stops)) in
+    r
+
+halt_tells : {A : Type 0} {of_files : block_files.Ghosts A} {first : World} {stop : Stop} {arrivals : List ArrivalWithBytes}
+    {messages : List Message} {closings : List Closing} {losses : List Device}
+    (h : Halts of_files first stop arrivals messages closings losses) → NoNode first
+    → IsLastTold first.side.chain messages (acked h.stops)
+halt_tells {first = first} h none =
+    let before = run_tells h.run none in
+    subst (λ (ms : List Message). IsLastTold first.side.chain ms (acked h.stops)) (sym h.messages_are)
+    (told_joined first.side.chain h.world.side.chain (acked h.stops) h.past_messages h.sent before.told
+    (stops_in_tells h.world h.last before.none h.stops))
+
+-- ---- from a world without clients
+
+pub run_last_told : {A : Type 0} {of_files : block_files.Ghosts A} {first world : World} {arrivals : List ArrivalWithBytes}
+    {messages : List Message} {closings : List Closing} {losses : List Device} → first.sessions ≡ []
+    → Run of_files first arrivals messages closings losses world
+    → IsLastTold first.side.chain messages world.side.chain
+run_last_told nobody run = (run_tells run (rw nobody tt)).told
+
+pub halt_last_told : {A : Type 0} {of_files : block_files.Ghosts A} {first : World} {stop : Stop} {arrivals : List ArrivalWithBytes}
+    {messages : List Message} {closings : List Closing} {losses : List Device} → first.sessions ≡ []
+    → (h : Halts of_files first stop arrivals messages closings losses)
+    → IsLastTold first.side.chain messages (acked h.stops)
+halt_last_told nobody h = halt_tells h (rw nobody tt)
