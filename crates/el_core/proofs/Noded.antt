@@ -94,6 +94,7 @@ module _ {G A : Type 0} (l : ledger.Ghosts G) (f : archive.Ghosts A) where
     keeps = λ t. all_grow_none (f.bytes files);
     archive_more = omega arith;
     disk_rose = record { counted = λ e. absurd cc; uncounted = tt; others_uncounted = λ other. refl };
+    beside = λ told. refl;
   }
 
   -- what the step kept, the turn keeps
@@ -104,6 +105,7 @@ module _ {G A : Type 0} (l : ledger.Ghosts G) (f : archive.Ghosts A) where
     keeps = k.keeps;
     archive_more = k.archive_more;
     disk_rose = record { counted = λ e. absurd cc; uncounted = k.disk_rose.uncounted; others_uncounted = tt };
+    beside = k.beside;
   }
 
   pub keeps_err : (old new : G) (before after : A) (again : Bool) (e : QueryFault) → NodeStep l f old new before after again (Err e) → NodeKeeps l f old new before after (Err e)
@@ -117,6 +119,7 @@ module _ {G A : Type 0} (l : ledger.Ghosts G) (f : archive.Ghosts A) where
       uncounted = tt;
       others_uncounted = k.disk_rose.others_uncounted;
     };
+    beside = k.beside;
   }
 
   -- no memory was found for what it touched
@@ -127,6 +130,7 @@ module _ {G A : Type 0} (l : ledger.Ghosts G) (f : archive.Ghosts A) where
     keeps = k.keeps;
     archive_more = k.archive_more;
     disk_rose = record { counted = λ e. absurd cc; uncounted = tt; others_uncounted = λ other. k.disk_rose.uncounted };
+    beside = k.beside;
   }
 
   pub found_same : (leads : NodeAnswer → List Device → Side → Type 0) (old new : G) (before after : A) (side : Side) (start : Chain) (answer : NodeAnswer) (found same ahead : List Node) (moved changed : List Hash32) (holdings : Holdings) → found ≡ same

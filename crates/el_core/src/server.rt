@@ -5,7 +5,7 @@ ghost use Rattle.el_outside.specs.Files.{AllGrow};
 ghost use Rattle.el_chain.specs.declared.moves.Plan as moves;
 ghost use Rattle.el_chain.specs.Chains.{Chain};
 ghost use Rattle.el_side.specs.UnderWay.{IsFirstMove};
-ghost use Rattle.el_model.specs.LedgerCalls.{Asked};
+ghost use Rattle.el_model.specs.LedgerCalls.{Asked, KeepsBeside};
 ghost use Rattle.el_model.specs.declared.fault.QueryFault.TheVariants as turn_fault;
 ghost use Rattle.el_lines.specs.Lines.{too_long};
 ghost use Rattle.el_side.specs.NodeSteps.{IsAt};
@@ -348,6 +348,7 @@ impl<G: Ledger> Server<G> {
             (λ n. RoseBy (G.faults self.old.ledger) (G.faults self.new.ledger) n)
             c (outs_of result) left) i self.old.clients self.new.clients }
         ensures disk_more { G.faults self.old.ledger ≤ G.faults self.new.ledger }
+        ensures beside { KeepsBeside ⟦<G as Ledger>⟧ self.old.ledger self.new.ledger }
         ensures same { self.new ≡ record self.old {
           ledger = self.new.ledger;
           clients = self.new.clients;
@@ -523,6 +524,7 @@ impl<G: Ledger> Server<G> {
         // Also over a ledger that stands for no chain, and also where it fails.
         ensures archive_more { A.faults archive.old ≤ A.faults archive.new }
         ensures disk_more { G.faults self.old.ledger ≤ G.faults self.new.ledger }
+        ensures beside { KeepsBeside ⟦<G as Ledger>⟧ self.old.ledger self.new.ledger }
         ensures disk_counted { IsErrOf result turn_fault.DiskFailed
             → RoseBy (G.faults self.old.ledger) (G.faults self.new.ledger) 1 }
     {

@@ -2,12 +2,14 @@
 use Rattle.std.specs.Prelude.{IfSome, MatchOption}
 use Rattle.std.proofs.Common.{◌≡◌, inl, inr, ⊎_elim, ℕ, zero, suc, ◌+◌, ◌<◌, ◌≤◌, Option, None, Some, List, length, refl, sym, ap, ◌∙◌, subst, arith}
 use Rattle.el_base.specs.declared.hash.Hash32.{Hash32}
-use Rattle.el_outside.specs.Moments.{LeavesOnly}
+use Rattle.el_outside.specs.Moments.{KeepsBelow, LeavesOnly}
 use Rattle.el_outside.proofs.Moments.{joined, weaker, still_only}
 use Rattle.el_row_formats.specs.declared.table.Table.{Table}
 use Rattle.el_row_formats.specs.declared.table.Table.TheVariants as table
 use Rattle.el_row_formats.specs.Tables.{Tables}
-use Rattle.el_rows.specs.Reads.{OnlyRead, IsEither}
+use Rattle.el_rows.specs.declared.rows.Rows as rows_below
+use Rattle.el_rows.specs.Reads.{IsEither}
+use Rattle.el_rows.specs.Transaction.{WasRead}
 use Rattle.el_chain.specs.Chains.{Chain}
 use Rattle.el_model.specs.Keeping.{Quiet, Either}
 use Rattle.el_model.specs.Queries.{blocks_in}
@@ -45,15 +47,14 @@ rows_of_ids reads old below mid new None opened closed few = tt
 rows_of_ids reads old below mid new (Some found) opened closed few =
     rows_read reads old below mid new (1 + length found) opened closed few
 
-module _ {R C : Type 0} (lists : R → Tables) (counts : R → Table → ℕ) (is_live : R → Type 0) (tells_crash : Type 0) (moment : R → ℕ) (left_since : R → ℕ → C → Type 0) where
+module _ {R : Type 0} (G : rows_below.Ghosts R) where
   -- E is an index, which holds the rows
-  pub quiet : {E : Type 0} (tells : Type 0) (rows : E → R) (tip : E → Option Hash32) (old new : E) (mid : R) → rows new ≡ mid → tip new ≡ tip old → is_live (rows old)
-      → OnlyRead lists counts is_live tells_crash moment left_since (rows old) mid
-      → Quiet (λ e. is_live (rows e)) (λ e. top (counts (rows e) table.Blocks)) tip (λ e. buckets_in (lists (rows e))) (λ e chain. IsIndexOf tells (lists (rows e)) (tip e) chain)
-      tells_crash (λ e. moment (rows e)) (λ e t c. left_since (rows e) t c) old new
-  quiet {E} tells rows tip old new mid is kept live reads' =
-      let reads : OnlyRead lists counts is_live tells_crash moment left_since (rows old) (rows new) =
-      subst (λ (r : R). OnlyRead lists counts is_live tells_crash moment left_since (rows old) r) (sym is) reads' in
+  pub quiet : {E : Type 0} (rows : E → R) (tip : E → Option Hash32) (old new : E) (mid : R) → rows new ≡ mid → tip new ≡ tip old → G.is_live (rows old)
+      → WasRead G (rows old) mid
+      → Quiet (λ e. G.is_live (rows e)) (λ e. top (G.counts (rows e) table.Blocks)) tip (λ e. buckets_in (G.lists (rows e))) (λ e chain. IsIndexOf G.tells (G.lists (rows e)) (tip e) chain)
+      (KeepsBelow G.tells_crash (λ e. G.moment (rows e)) (λ e t c. G.left_since (rows e) t c) (λ e. G.beside (rows e))) old new
+  quiet {E} rows tip old new mid is kept live reads' =
+      let reads : WasRead G (rows old) (rows new) = subst (λ (r : R). WasRead G (rows old) r) (sym is) reads' in
       record {
         stays = record {
           still_live = λ l. reads.live;
@@ -72,27 +73,34 @@ module _ {R C : Type 0} (lists : R → Tables) (counts : R → Table → ℕ) (i
             last = sym kept ∙ s.last;
           };
         };
-        crash = λ told. record { later = (reads.crash told).later; before = (reads.crash told).before };
+        below = record {
+          crash = λ told. record { later = (reads.below.crash told).later; before = (reads.below.crash told).before };
+          files = reads.below.files;
+        };
       }
 
+  -- what stands beside rows that were read, and then given back
+  pub beside_read : (old mid new : R) → WasRead G old mid → new ≡ mid → G.tells_crash → G.beside new ≡ G.beside old
+  beside_read old mid new reads is told = ap G.beside is ∙ reads.below.files told
+
   -- The law `leaves_lists` of the rows, which are live.
-  module _ (shows : C → Tables → Type 0) (leaves_lists : (r : R) (c : C) → tells_crash → is_live r → left_since r (moment r) c → shows c (lists r)) where
+  module _ (leaves_lists : (r : R) (c : G.Left) → G.tells_crash → G.is_live r → G.left_since r (G.moment r) c → G.shows c (G.lists r)) where
     -- only rows were read: a crash since leaves the old chain
-    pub only_read : (old mid new : R) (chain next : Chain) → is_live old → OnlyRead lists counts is_live tells_crash moment left_since old mid → StandFor (lists old) chain → new ≡ mid → tells_crash
-        → LeavesOnly moment left_since old new (Either (Means shows) chain next)
+    pub only_read : (old mid new : R) (chain next : Chain) → G.is_live old → WasRead G old mid → StandFor (G.lists old) chain → new ≡ mid → G.tells_crash
+        → LeavesOnly G.moment G.left_since old new (Either (Means G.shows) chain next)
     only_read old mid new chain next live reads stands is told =
-        subst (λ (r : R). LeavesOnly moment left_since old r (Either (Means shows) chain next)) (sym is)
-        (still_only moment left_since old mid (Either (Means shows) chain next) (reads.crash told) (λ c left. inl (lists old, leaves_lists old c told live left, stands)))
+        subst (λ (r : R). LeavesOnly G.moment G.left_since old r (Either (Means G.shows) chain next)) (sym is)
+        (still_only G.moment G.left_since old mid (Either (Means G.shows) chain next) (reads.below.crash told) (λ c left. inl (G.lists old, leaves_lists old c told live left, stands)))
 
     -- and then a commit was begun: it leaves that or the target
-    pub begun : (old mid new : R) (under : Tables) (chain next : Chain) → is_live old → OnlyRead lists counts is_live tells_crash moment left_since old mid → StandFor (lists old) chain → StandFor under next
-        → LeavesOnly moment left_since mid new (IsEither shows (lists mid) under) → tells_crash → LeavesOnly moment left_since old new (Either (Means shows) chain next)
+    pub begun : (old mid new : R) (under : Tables) (chain next : Chain) → G.is_live old → WasRead G old mid → StandFor (G.lists old) chain → StandFor under next
+        → LeavesOnly G.moment G.left_since mid new (IsEither G.shows (G.lists mid) under) → G.tells_crash → LeavesOnly G.moment G.left_since old new (Either (Means G.shows) chain next)
     begun old mid new under chain next live reads stands target commit told =
-        let P : C → Type 0 = Either (Means shows) chain next in
-        joined moment left_since old mid new P
+        let P : G.Left → Type 0 = Either (Means G.shows) chain next in
+        joined G.moment G.left_since old mid new P
         (only_read old mid mid chain next live reads stands refl told)
-        (weaker moment left_since mid new (IsEither shows (lists mid) under) P
-        (λ c either. ⊎_elim (λ shown. inl (lists mid, shown, subst (λ (t : Tables). StandFor t chain) (sym reads.same) stands)) (λ shown. inr (under, shown, target)) either) commit)
+        (weaker G.moment G.left_since mid new (IsEither G.shows (G.lists mid) under) P
+        (λ c either. ⊎_elim (λ shown. inl (G.lists mid, shown, subst (λ (t : Tables). StandFor t chain) (sym reads.same) stands)) (λ shown. inr (under, shown, target)) either) commit)
 
 -- what a crash leaves of the rows it leaves of the index that holds them
 pub lifted : {R C E : Type 0} (moment : R → ℕ) (left_since : R → ℕ → C → Type 0) (rows : E → R) (old new : E) (mid : R) (P : C → Type 0) → rows new ≡ mid → LeavesOnly moment left_since (rows old) mid P

@@ -7,8 +7,7 @@ ghost use Rattle.el_model.specs.Keeping.{Either};
 ghost use Rattle.el_model.specs.Queries.{tip_of};
 ghost use Rattle.el_outside.specs.Counts.{CountsOnly};
 ghost use Rattle.el_outside.specs.Moments.{LeavesOnly};
-ghost use Rattle.el_rows.specs.Reads.{OnlyRead};
-ghost use Rattle.el_rows.specs.Transaction.{tables_in, ReadsRows, EditsRows};
+ghost use Rattle.el_rows.specs.Transaction.{tables_in, ReadsRows, EditsRows, WasRead};
 ghost use Rattle.el_row_formats.specs.declared.table.Table.{Table};
 ghost use Rattle.el_schema.specs.Standing.{StandFor};
 ghost use Rattle.el_index.specs.Means.{Means};
@@ -111,13 +110,14 @@ impl<R: Rows> Index<R> {
             ⊎ FaultInAt (shorter plan.now.back chain) plan.now.forward texts.now e) }
         // After any other fault only rows were read.
         ensures unchanged { IfErr result (λ e. e ≢ MoveFault.DiskFailed
-            → OnlyRead R.lists R.counts R.is_live R.tells_crash R.moment R.left_since
+            → WasRead ⟦<R as Rows>⟧
             self.old.rows self.new.rows) }
         ensures crash_failed { (chain : Chain) → R.tells → StandFor (R.lists self.old.rows) chain
             → FitsChain plan.now chain → IsErrOf result MoveFault.DiskFailed
             → (next : Chain) × FliesTo plan.now chain texts.now next
             × (R.tells_crash → LeavesOnly R.moment R.left_since self.old.rows self.new.rows
             (Either (Means R.shows) chain next)) }
+        ensures beside { R.tells_crash → R.beside self.new.rows ≡ R.beside self.old.rows }
         ensures cause { CountsOnly (R.faults self.old.rows) (R.faults self.new.rows)
             MoveFault.DiskFailed result }
         ensures no_archive { IfErr result (λ e. e ≢ MoveFault.ArchiveFailed) }

@@ -2,7 +2,7 @@
 ghost use Rattle.std.specs.Prelude.{◌≡◌, ◌≤◌, ◌+◌, IfOk, IfErr, MatchResult};
 ghost use Rattle.el_chain.specs.Chains.{Chain};
 ghost use Rattle.el_outside.specs.Counts.{RoseBy};
-ghost use Rattle.el_rows.specs.Reads.{OnlyRead};
+ghost use Rattle.el_rows.specs.Transaction.{WasRead};
 ghost use Rattle.el_schema.specs.Standing.{StandFor};
 ghost use Rattle.el_index.specs.Means.{IsIndexOf};
 
@@ -36,10 +36,8 @@ impl<R: Rows> Index<R> {
         ensures stands { (chain : Chain) → R.tells → StandFor (R.lists rows) chain
             → IfOk result (λ i. IsIndexOf R.tells (R.lists i.rows) i.tip chain) }
         // Rows were read and nothing else, also where that failed.
-        ensures reads { IfOk result (λ i. OnlyRead R.lists R.counts R.is_live R.tells_crash R.moment
-            R.left_since rows i.rows) }
-        ensures failed { IfErr result (λ e. OnlyRead R.lists R.counts R.is_live R.tells_crash R.moment
-            R.left_since rows e.1) }
+        ensures reads { IfOk result (λ i. WasRead ⟦<R as Rows>⟧ rows i.rows) }
+        ensures failed { IfErr result (λ e. WasRead ⟦<R as Rows>⟧ rows e.1) }
         ensures counted { IfOk result (λ i. R.faults i.rows ≡ R.faults rows) }
         ensures cause { IfErr result (λ e. RoseBy (R.faults rows) (R.faults e.1) 1) }
         ensures rows { MatchResult result (λ i. R.reads i.rows ≤ R.reads rows + 1)

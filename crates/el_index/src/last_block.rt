@@ -3,8 +3,7 @@ ghost use Rattle.std.specs.Prelude.{◌≡◌, ◌≤◌, ◌+◌, length, IfOk}
 ghost use Rattle.el_chain.specs.Chains.{Chain};
 ghost use Rattle.el_model.specs.Queries.{tip_of};
 ghost use Rattle.el_outside.specs.Counts.{HasCause};
-ghost use Rattle.el_rows.specs.Reads.{OnlyRead};
-ghost use Rattle.el_rows.specs.Transaction.{tables_in, reads_in, disk_failed, ReadsRows};
+ghost use Rattle.el_rows.specs.Transaction.{tables_in, reads_in, disk_failed, ReadsRows, WasRead};
 ghost use Rattle.el_row_formats.specs.declared.table.Table.{Table};
 ghost use Rattle.el_schema.specs.Standing.{StandFor};
 
@@ -37,7 +36,7 @@ pub(crate) fn hash_in<R: Rows>(alloc: Global, rows: &mut R) -> Result<Option<Has
     requires live { R.is_live rows.old }
     ensures last { (chain : Chain) → R.tells → StandFor (R.lists rows.old) chain
         → IfOk result (λ hash. hash ≡ tip_of chain) }
-    ensures reads { OnlyRead R.lists R.counts R.is_live R.tells_crash R.moment R.left_since
+    ensures reads { WasRead ⟦<R as Rows>⟧
         rows.old rows.new }
     ensures rows { R.reads rows.new ≤ R.reads rows.old + 1 }
     ensures cause { HasCause (R.faults rows.old) (R.faults rows.new) result }

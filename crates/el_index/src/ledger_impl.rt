@@ -56,6 +56,8 @@ impl<R: Rows> Ledger for Index<R> {
 
     ghost left_since = { λ l since left. R.left_since l.rows since left };
 
+    ghost beside = { λ l. R.beside l.rows };
+
     ghost height_is = { λ l chain stands. laws.height_is R.tells (R.lists l.rows) l.tip
         (R.counts l.rows table.Blocks) chain (R.counted l.rows table.Blocks) stands };
 

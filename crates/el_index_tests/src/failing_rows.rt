@@ -98,6 +98,8 @@ impl Rows for FailingRows {
 
     ghost left_since = { λ s t c. ⊥ };
 
+    ghost beside = { λ s f. [] };
+
     ghost faults = { λ s. s.faults };
 
     ghost counted = { λ s t told. absurd told };

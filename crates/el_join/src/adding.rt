@@ -2,7 +2,7 @@
 ghost use Rattle.std.specs.Prelude.{◌≡◌, ◌⊎◌, IfOk, IfErr, OnErr, List};
 ghost use Rattle.el_outside.specs.Counts.{CountsOnly};
 ghost use Rattle.el_chain.specs.Chains.{Chain};
-ghost use Rattle.el_model.specs.Keeping.{Quiet};
+ghost use Rattle.el_model.specs.LedgerCalls.{Asked};
 ghost use Rattle.el_tx.specs.declared.types.Tx as shape;
 ghost use Rattle.el_mempool.specs.Adding.{Joined};
 ghost use Rattle.el_mempool.specs.Refusals.{IsRefused};
@@ -48,8 +48,7 @@ pub fn add_to<G: Ledger>(
     ensures listed { AreListed listings.new (standing table.new.kept.entries) }
     ensures slots { HasFewSlots table.old → HasFewSlots table.new }
     ensures same { OnErr result (table.new.kept.entries ≡ table.old.kept.entries) }
-    ensures quiet { Quiet G.is_live G.height G.tip G.buckets G.stands G.tells_crash
-        G.moment G.left_since ledger.old ledger.new }
+    ensures quiet { Asked ⟦<G as Ledger>⟧ ledger.old ledger.new }
     ensures cause { CountsOnly (G.faults ledger.old) (G.faults ledger.new) PoolFault.DiskFailed result }
 {
     let entry = examine(alloc, table, limits, ledger, bytes)?;

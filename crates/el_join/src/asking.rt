@@ -3,7 +3,7 @@ ghost use Rattle.std.specs.Prelude.{◌≡◌, ◌⊎◌, None, Some, IfOk, IfEr
 ghost use Rattle.std.specs.Option.{is_some};
 ghost use Rattle.el_outside.specs.Counts.{HasCause, CountsOnly};
 ghost use Rattle.el_chain.specs.Chains.{Chain};
-ghost use Rattle.el_model.specs.Keeping.{Quiet};
+ghost use Rattle.el_model.specs.LedgerCalls.{Asked};
 ghost use Rattle.el_tx.specs.declared.types.Tx as shape;
 ghost use Rattle.el_mempool.specs.Sift as spec;
 ghost use Rattle.el_mempool.specs.Refusals.{missing};
@@ -31,8 +31,7 @@ pub fn named<G: Ledger>(
         option_map (λ (n : found_shape.FoundOutput). n.held) found ≡ spec.named chain kept outpoint.now) }
     ensures output { IfOk result (λ found. IfSome found (λ n.
         n.is_kept ≡ is_some (output_at table.now outpoint.now))) }
-    ensures quiet { Quiet G.is_live G.height G.tip G.buckets G.stands G.tells_crash
-        G.moment G.left_since ledger.old ledger.new }
+    ensures quiet { Asked ⟦<G as Ledger>⟧ ledger.old ledger.new }
     ensures cause { HasCause (G.faults ledger.old) (G.faults ledger.new) result }
 {
     output_or_coin(output_in(table, outpoint), ledger, outpoint)
@@ -60,8 +59,7 @@ pub fn sources_of<G: Ledger>(
     ensures missing { (chain : Chain) (kept : List shape.Tx) → IsOver table.now chain kept
         → G.stands ledger.old chain → IfErr result (λ e. (e ≡ PoolFault.Memory) ⊎ ((e ≡ PoolFault.DiskFailed)
         ⊎ (missing chain kept inputs.now ≡ Some e))) }
-    ensures quiet { Quiet G.is_live G.height G.tip G.buckets G.stands G.tells_crash
-        G.moment G.left_since ledger.old ledger.new }
+    ensures quiet { Asked ⟦<G as Ledger>⟧ ledger.old ledger.new }
     ensures cause { CountsOnly (G.faults ledger.old) (G.faults ledger.new) PoolFault.DiskFailed result }
 {
     let mut sources = Vec::with_capacity(alloc, inputs.len())?;

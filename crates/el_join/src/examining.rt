@@ -3,7 +3,7 @@ ghost use Rattle.std.specs.Prelude.{◌≡◌, ◌-◌, ◌≢◌, ◌⊎◌, No
 ghost use Rattle.indexmap.specs.IndexMap.{get};
 ghost use Rattle.el_outside.specs.Counts.{HasCause, CountsOnly};
 ghost use Rattle.el_chain.specs.Chains.{Chain};
-ghost use Rattle.el_model.specs.Keeping.{Quiet};
+ghost use Rattle.el_model.specs.LedgerCalls.{Asked};
 ghost use Rattle.el_tx.specs.declared.types.Tx as shape;
 ghost use Rattle.el_tx.specs.Hashing as hashing;
 ghost use Rattle.el_mempool.specs.Sift.{output_held, total_held};
@@ -36,8 +36,7 @@ fn known_of<G: Ledger>(
     ensures first { (chain : Chain) (kept : List shape.Tx) → IsOver table.now chain kept
         → G.stands ledger.old chain → IfOk result (λ refusal. refusal ≡ known_refusal chain kept tx.now) }
     ensures other { result ≢ Ok (Some PoolFault.DiskFailed) }
-    ensures quiet { Quiet G.is_live G.height G.tip G.buckets G.stands G.tells_crash
-        G.moment G.left_since ledger.old ledger.new }
+    ensures quiet { Asked ⟦<G as Ledger>⟧ ledger.old ledger.new }
     ensures cause { HasCause (G.faults ledger.old) (G.faults ledger.new) result }
 {
     if is_coinbase_form(tx) {
@@ -71,8 +70,7 @@ fn take_coins<G: Ledger>(
     ensures first { (chain : Chain) (kept : List shape.Tx) → IsOver table.now chain kept
         → G.stands ledger.old chain → IfErr result (λ e. (e ≡ PoolFault.Memory) ⊎ ((e ≡ PoolFault.DiskFailed)
         ⊎ (coin_refusal chain kept tx.now ≡ Some e))) }
-    ensures quiet { Quiet G.is_live G.height G.tip G.buckets G.stands G.tells_crash
-        G.moment G.left_since ledger.old ledger.new }
+    ensures quiet { Asked ⟦<G as Ledger>⟧ ledger.old ledger.new }
     ensures cause { CountsOnly (G.faults ledger.old) (G.faults ledger.new) PoolFault.DiskFailed result }
 {
     let inputs = tx.inputs.as_slice();
@@ -145,8 +143,7 @@ pub fn examine<G: Ledger>(
     ensures refused { (chain : Chain) (kept : List shape.Tx) → IsOver table.now chain kept
         → G.stands ledger.old chain → IfErr result (λ e. (e ≡ PoolFault.Memory) ⊎ ((e ≡ PoolFault.DiskFailed)
         ⊎ IsRefused limits.now chain kept bytes.now e)) }
-    ensures quiet { Quiet G.is_live G.height G.tip G.buckets G.stands G.tells_crash
-        G.moment G.left_since ledger.old ledger.new }
+    ensures quiet { Asked ⟦<G as Ledger>⟧ ledger.old ledger.new }
     ensures cause { CountsOnly (G.faults ledger.old) (G.faults ledger.new) PoolFault.DiskFailed result }
 {
     let tx = whole_tx(alloc, bytes)?;

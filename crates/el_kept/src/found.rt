@@ -3,7 +3,7 @@ ghost use Rattle.std.specs.Prelude.{◌≡◌, IfOk, IfSome, ◌||◌, pos, negs
 ghost use Rattle.std.specs.Option.{is_some};
 ghost use Rattle.el_outside.specs.Counts.{HasCause};
 ghost use Rattle.el_chain.specs.Chains.{Chain};
-ghost use Rattle.el_model.specs.Keeping.{Quiet};
+ghost use Rattle.el_model.specs.LedgerCalls.{Asked};
 ghost use Rattle.el_mempool.specs.Sift as spec;
 ghost use Rattle.el_kept.specs.Named.{found_by};
 
@@ -41,8 +41,7 @@ pub fn output_or_coin<G: Ledger>(
     ensures found { (chain : Chain) → G.stands ledger.old chain
         → IfOk result (λ found. found ≡ found_by output (spec.coin_named chain outpoint.now)) }
     ensures kept { IfOk result (λ found. IfSome found (λ n. n.is_kept ≡ is_some output)) }
-    ensures quiet { Quiet G.is_live G.height G.tip G.buckets G.stands G.tells_crash
-        G.moment G.left_since ledger.old ledger.new }
+    ensures quiet { Asked ⟦<G as Ledger>⟧ ledger.old ledger.new }
     ensures cause { HasCause (G.faults ledger.old) (G.faults ledger.new) result }
 {
     if let Some(held) = output {

@@ -66,6 +66,8 @@ impl Rows for VersionedRows {
 
     ghost left_since = { λ s t c. IsOneSince s.versions t c };
 
+    ghost beside = { λ s f. [] };
+
     ghost faults = { λ s. s.faults };
 
     ghost reads = { λ s. s.reads };

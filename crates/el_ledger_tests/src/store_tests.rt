@@ -2,7 +2,7 @@
 ghost use Rattle.std.specs.Prelude.{◌≡◌, ◌<◌, [], get_or, slice_set, OnOk, IsErrOf};
 ghost use Rattle.el_outside.specs.Counts.{CountsOnly};
 ghost use Rattle.el_rows.specs.Changes.{OnTable};
-ghost use Rattle.el_rows.specs.Reads.{OnlyRead};
+ghost use Rattle.el_rows.specs.Transaction.{WasRead};
 ghost use Rattle.el_row_formats.specs.declared.table.Table.{Table};
 
 use el_laws::VersionedRows;
@@ -21,7 +21,7 @@ fn copy_head<R: Rows>(alloc: Global, rows: &mut R, from: u64, to: u64) -> Result
         (slice_set (R.lists rows.old Table.TxHeads) to (get_or (R.lists rows.old Table.TxHeads) from []))) }
     ensures live { OnOk result (R.is_live rows.new) }
     ensures memory { IsErrOf result CommitFault.Memory
-        → OnlyRead R.lists R.counts R.is_live R.tells_crash R.moment R.left_since rows.old rows.new }
+        → WasRead ⟦<R as Rows>⟧ rows.old rows.new }
     ensures cause { CountsOnly (R.faults rows.old) (R.faults rows.new) CommitFault.DiskFailed result }
 {
     let mut txn = Txn::new(alloc, rows);

@@ -1,8 +1,11 @@
 -- A store, and what a crash leaves of it.
-use Rattle.std.proofs.Common.{◌≡◌, ◌⊎◌, inl, inr, ⊎_elim, ℕ, ◌≤◌, List, [], ◌∷◌, ◌++◌, length, sym, ap, ◌∙◌, subst, arith}
+use Rattle.std.proofs.Common.{◌≡◌, ◌⊎◌, inl, inr, ⊎_elim, ℕ, ◌≤◌, List, [], ◌∷◌, ◌++◌, length, refl, sym, ap, ◌∙◌, subst, arith}
+use Rattle.std.proofs.lemmas.Bool.{cases_eq}
 use Rattle.el_outside.specs.declared.disk.Disk as disk
 use Rattle.el_outside.specs.Disk.{Image}
-use Rattle.el_outside.specs.Moments.{LeavesOnly, LeftNow}
+use Rattle.el_outside.specs.Images.{at_file}
+use Rattle.el_outside.specs.Moments.{LeavesOnly, LeftNow, KeepsBelow}
+use Rattle.el_outside.proofs.Images.{at_here, at_other}
 use Rattle.el_outside.proofs.Moments.{joined, weaker}
 use Rattle.el_row_formats.specs.declared.table.Table.{Table}
 use Rattle.el_row_formats.specs.Tables.{Tables, tables_of}
@@ -32,13 +35,17 @@ module _ {D N : Type 0} (G : disk.Ghosts D) (magic : List ℕ) where
 
   -- the disk below is what it was
   pub rows_read : (old : LogStore D N) (rows : CountedRows) → tables_of rows.rows ≡ tables_of old.rows.rows → IsLive G magic old
-      → OnlyRead (λ (s : LogStore D N). tables_of s.rows.rows) (λ (s : LogStore D N) (t : Table). length (tables_of s.rows.rows t)) (IsLive G magic) G.tells (λ (s : LogStore D N). G.moment s.journal.disk) (IsLeft G)
+      → OnlyRead (λ (s : LogStore D N). tables_of s.rows.rows) (λ (s : LogStore D N) (t : Table). length (tables_of s.rows.rows t)) (IsLive G magic)
+      (KeepsBelow G.tells (λ (s : LogStore D N). G.moment s.journal.disk) (IsLeft G) (λ (s : LogStore D N). at_file (G.seen s.journal.disk) JOURNAL []))
       old (record old { rows = rows })
   rows_read old rows same live = record {
     same = same;
     count = ap (λ (l : Tables). let f : Table → ℕ = λ t. length (l t) in f) same;
     live = live_rows old rows same live;
-    crash = λ told. record { later = omega arith; before = λ t c le left. left };
+    below = record {
+      crash = λ told. record { later = omega arith; before = λ t c le left. left };
+      files = λ told. refl;
+    };
   }
 
   -- one commit more
@@ -82,6 +89,17 @@ module _ {D N : Type 0} (G : disk.Ghosts D) (magic : List ℕ) where
           (λ (step : Reached (LeftNow G.moment G.left_since old.journal.disk) (λ a b. HasEither kept.entries body b) c). inr (shows_either c step.2.here))
           (run.crash.before t c le left.1);
     }
+
+-- what stands beside the journal, where no other file changed
+pub beside_kept : {D : Type 0} (G : disk.Ghosts D) (step : List ℕ → List ℕ → Type 0) (old new : D) → OnlyJournal G step old new
+    → at_file (G.seen new) JOURNAL [] ≡ at_file (G.seen old) JOURNAL []
+beside_kept G step old new run = λ i f. pointwise f i
+  where
+    pointwise : (f : ℕ) → at_file (G.seen new) JOURNAL [] f ≡ at_file (G.seen old) JOURNAL [] f
+    pointwise f = ⊎_elim
+        (λ (is : f ≡ JOURNAL). ap (at_file (G.seen new) JOURNAL []) is ∙ at_here (G.seen new) JOURNAL [] ∙ sym (at_here (G.seen old) JOURNAL []) ∙ ap (at_file (G.seen old) JOURNAL []) (sym is))
+        (λ ne. at_other (G.seen new) JOURNAL [] f ne ∙ run.others f ne ∙ sym (at_other (G.seen old) JOURNAL [] f ne))
+        (cases_eq f JOURNAL)
 
 -- ---- an opening
 

@@ -143,6 +143,9 @@ pub fn open_log<D: Disk, N: NetworkMagic>(
     // it might have left before, with the same entries in its journal, or cut at the same place: whatever it
     // stood for, for this network or another, it stands for.
     ensures crash { D.tells → OnlyJournal ⟦<D as Disk>⟧ SameJournal disk (disk_in result) }
+    // Beside the rows stands what stood in the other files.
+    ensures beside { D.tells → IfOk result (λ store. (f : ℕ) → f ≢ JOURNAL
+        → ⟦<LogStore<D, N> as el_rows::Rows>⟧.beside store f ≡ D.seen disk f) }
     // Each entry's gate, its length and its bytes are read once, besides what an empty journal asks for.
     ensures calls { IfOk result (λ store.
         D.calls (disk_below store) ≤ D.calls disk + (3 * commits_of store + 4)) }

@@ -1,6 +1,8 @@
 // A store of commits in a journal.
-ghost use Rattle.std.specs.Prelude.{◌≡◌, ◌↔◌, ℕ, refl, length};
+ghost use Rattle.std.specs.Prelude.{◌≡◌, ◌≢◌, ◌↔◌, ℕ, [], refl, length};
 ghost use Rattle.el_outside.specs.Disk.{Image};
+ghost use Rattle.el_outside.specs.Images.{at_file};
+ghost use Rattle.el_journal.specs.declared.mark.TheConstants.{JOURNAL};
 ghost use Rattle.el_row_formats.specs.Tables.{Tables, tables_of};
 ghost use Rattle.el_logstore.specs.Images.{Shows};
 ghost use Rattle.el_logstore.specs.Stores.{IsLeft, IsLive, kept_shows, disk_below};
@@ -33,6 +35,8 @@ impl<D: Disk, N: NetworkMagic> LogStore<D, N> {
         ensures moment { ⟦<LogStore<D, N> as Rows>⟧.moment self ≡ D.moment result }
         ensures left { D.tells → (t : ℕ) (image : Image)
             → ⟦<LogStore<D, N> as Rows>⟧.left_since self t image ↔ D.left_since result t image }
+        ensures beside { (f : ℕ) → f ≢ JOURNAL
+            → ⟦<LogStore<D, N> as Rows>⟧.beside self f ≡ D.seen result f }
         ensures shows { (image : Image) (tables : Tables)
             → ⟦<LogStore<D, N> as Rows>⟧.shows image tables ↔ Shows N.magic image tables }
         ensures faults { ⟦<LogStore<D, N> as Rows>⟧.faults self ≡ D.faults result }
@@ -65,6 +69,8 @@ impl<D: Disk, N: NetworkMagic> Rows for LogStore<D, N> {
     ghost shows = { λ image tables. Shows N.magic image tables };
 
     ghost left_since = { λ s t image. IsLeft ⟦<D as Disk>⟧ s t image };
+
+    ghost beside = { λ s. at_file (D.seen s.journal.disk) JOURNAL [] };
 
     ghost faults = { λ s. D.faults s.journal.disk };
 

@@ -225,7 +225,7 @@ module _ {G A K : Type 0} (of_ledger : ledger.Ghosts G) (of_files : archive.Ghos
       let went = went_further a before mid k now g.arrivals g.messages f.messages g.closings f.closings
       g.losses
       f.losses g.went took same f.went in
-      let halts : Halts of_files.tells first stop (taken node (g.arrivals ++ a ∷ [])) (g.messages ++ f.messages)
+      let halts : Halts of_files first stop (taken node (g.arrivals ++ a ∷ [])) (g.messages ++ f.messages)
       (g.closings ++ f.closings) (g.losses ++ f.losses) = record {
         past = taken node g.arrivals;
         last = taken_one node a;

@@ -4,6 +4,7 @@ ghost use Rattle.el_outside.specs.Files.{AllGrow};
 ghost use Rattle.el_outside.specs.Trace.{Trace, with_bytes};
 ghost use Rattle.el_world.specs.World.{World, Event, AllTold, events, after_hearing};
 ghost use Rattle.el_model.specs.Keeping.{LeavesEither};
+ghost use Rattle.el_model.specs.LedgerCalls.{KeepsBeside};
 ghost use Rattle.el_core.specs.State.{State, Stands, AreUpTo, IsIdle};
 ghost use Rattle.el_core.specs.Arrivals.{with_all_bytes, IsAfterArrival, IsAbove, IsUpTo};
 ghost use Rattle.el_loop.specs.Counts.{counts_of, devices, IsCaused, failed_device};
@@ -48,6 +49,7 @@ fn work_off<G: Ledger, A: Archive, K: Link>(
     ensures archive_more { A.faults archive.old ≤ A.faults archive.new }
     ensures disk_counts { RisesFor (G.faults server.old.ledger) (G.faults server.new.ledger)
         Halt.Disk result }
+    ensures beside { KeepsBeside ⟦<G as Ledger>⟧ server.old.ledger server.new.ledger }
 {
     loop {
         match server.turn(archive) {
@@ -136,6 +138,7 @@ fn serve_arrival<G: Ledger, A: Archive, K: Link>(
     ensures archive_more { A.faults archive.old ≤ A.faults archive.new }
     ensures disk_counts { RisesFor (G.faults server.old.ledger) (G.faults server.new.ledger)
         Halt.Disk result }
+    ensures beside { KeepsBeside ⟦<G as Ledger>⟧ server.old.ledger server.new.ledger }
 {
     match server.take(arrival, bytes) {
         Ok(()) => work_off(server, archive, link),
@@ -166,6 +169,7 @@ pub fn run<G: Ledger, A: Archive, K: Link>(
         (devices server.old.ledger archive.old link.old)
         (devices server.new.ledger archive.new link.new)) (failed_device result) (result ≡ End.TurnsSpent) }
     ensures keeps { A.tells → AllGrow (A.bytes archive.old) (A.bytes archive.new) }
+    ensures beside { KeepsBeside ⟦<G as Ledger>⟧ server.old.ledger server.new.ledger }
 {
     let mut buf = [0u8; BUFFER_SIZE];
     for _turn in 0..options.turns {

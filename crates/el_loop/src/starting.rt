@@ -4,6 +4,7 @@ ghost use Rattle.el_outside.specs.Files.{AllGrow};
 ghost use Rattle.el_outside.specs.Trace.{Trace};
 ghost use Rattle.el_chain.specs.Chains.{Chain};
 ghost use Rattle.el_model.specs.Keeping.{LeavesEither};
+ghost use Rattle.el_model.specs.LedgerCalls.{KeepsBeside};
 ghost use Rattle.el_world.specs.World.{initial_world};
 ghost use Rattle.el_loop.specs.Counts.{counts_of, devices, IsCaused, failed_device};
 ghost use Rattle.el_loop.specs.Runs.{WentBy, RunEnds};
@@ -43,6 +44,8 @@ pub fn serve_from<G: Ledger, A: Archive, K: Link>(
         (devices ledger archive.old link.old) (devices result.1 archive.new link.new))
         (failed_device result.0) (result.0 ≡ End.TurnsSpent) }
     ensures keeps { A.tells → AllGrow (A.bytes archive.old) (A.bytes archive.new) }
+    // However it ends, the files beside the ledger's own stay.
+    ensures beside { KeepsBeside ⟦<G as Ledger>⟧ ledger result.1 }
 {
     let magic = options.magic;
     let pool = Pool::new(alloc, options.limits);

@@ -2,7 +2,7 @@
 ghost use Rattle.std.specs.Prelude.{◌≡◌, ◌+◌, ◌-◌, ◌^◌, ◌≤◌, ◌<◌, ◌||◌, ◌&&◌, min, nat_le, nat_lt, ℕ, IfOk, IfErr, MatchOption, Ok, length};
 ghost use Rattle.el_outside.specs.Counts.{RoseBy};
 ghost use Rattle.el_chain.specs.Chains.{Chain};
-ghost use Rattle.el_model.specs.Keeping.{Quiet};
+ghost use Rattle.el_model.specs.LedgerCalls.{Asked};
 ghost use Rattle.el_methods.specs.Results as defined;
 ghost use Rattle.el_methods.specs.Results.{header_count, headers_bytes};
 ghost use Rattle.el_methods.specs.RowBounds.{proof_rows};
@@ -73,8 +73,7 @@ fn headers_from<G: Ledger>(
         → IfOk result (λ v. v.items ≡ headers_bytes chain start count) }
     ensures never { IfErr result (λ e. (r : shape.Refusal) → e ≡ stop.Refused r → ⊥) }
     ensures rows { G.reads ledger.new ≤ G.reads ledger.old + count }
-    ensures quiet { Quiet G.is_live G.height G.tip G.buckets G.stands G.tells_crash
-        G.moment G.left_since ledger.old ledger.new }
+    ensures quiet { Asked ⟦<G as Ledger>⟧ ledger.old ledger.new }
     ensures counted { IsDiskCounted (λ n. RoseBy (G.faults ledger.old) (G.faults ledger.new) n) result }
 {
     let mut bytes = Vec::new(alloc);
@@ -135,8 +134,7 @@ fn headers_plain<G: Ledger>(
         → IsAnswer (Ok (defined.headers_value count (headers_bytes chain start count))) result }
     ensures printable { IsPrintableAnswer result }
     ensures rows { G.reads ledger.new ≤ G.reads ledger.old + count }
-    ensures quiet { Quiet G.is_live G.height G.tip G.buckets G.stands G.tells_crash
-        G.moment G.left_since ledger.old ledger.new }
+    ensures quiet { Asked ⟦<G as Ledger>⟧ ledger.old ledger.new }
     ensures counted { IsDiskCounted (λ n. RoseBy (G.faults ledger.old) (G.faults ledger.new) n) result }
 {
     match headers_from(alloc, ledger, start, count) {
@@ -166,8 +164,7 @@ fn headers_proved<G: Ledger>(
         (headers_bytes chain start count))) result }
     ensures printable { IsPrintableAnswer result }
     ensures rows { G.reads ledger.new ≤ G.reads ledger.old + (count + (cp_height + 1)) }
-    ensures quiet { Quiet G.is_live G.height G.tip G.buckets G.stands G.tells_crash
-        G.moment G.left_since ledger.old ledger.new }
+    ensures quiet { Asked ⟦<G as Ledger>⟧ ledger.old ledger.new }
     ensures counted { IsDiskCounted (λ n. RoseBy (G.faults ledger.old) (G.faults ledger.new) n) result }
 {
     let bytes = match headers_from(alloc, ledger, start, count) {
@@ -205,8 +202,7 @@ pub fn block_headers<G: Ledger>(
     ensures rows { (chain : Chain) → G.stands ledger.old chain
         → G.reads ledger.new ≤ G.reads ledger.old
         + (header_count chain start_height count + proof_rows cp_height) }
-    ensures quiet { Quiet G.is_live G.height G.tip G.buckets G.stands G.tells_crash
-        G.moment G.left_since ledger.old ledger.new }
+    ensures quiet { Asked ⟦<G as Ledger>⟧ ledger.old ledger.new }
     ensures counted { IsDiskCounted (λ n. RoseBy (G.faults ledger.old) (G.faults ledger.new) n) result }
 {
     let top = ledger.height();
@@ -247,8 +243,7 @@ pub fn headers_subscribe<G: Ledger>(
         → IsReplyWith (told_tip (defined.headers_subscribe chain)) is_told.old is_told.new result }
     ensures printable { IsPrintableAnswer result }
     ensures rows { G.reads ledger.new ≤ G.reads ledger.old + 1 }
-    ensures quiet { Quiet G.is_live G.height G.tip G.buckets G.stands G.tells_crash
-        G.moment G.left_since ledger.old ledger.new }
+    ensures quiet { Asked ⟦<G as Ledger>⟧ ledger.old ledger.new }
     ensures counted { IsDiskCounted (λ n. RoseBy (G.faults ledger.old) (G.faults ledger.new) n) result }
 {
     let Some(height) = ledger.height() else {

@@ -2,7 +2,7 @@
 ghost use Rattle.std.specs.Prelude.{◌≡◌, ◌≤◌, ◌<◌, ◌+◌, ℕ, IfOk, IfSome, IfNone, MatchOption, ok_or, Ok, codes, length};
 ghost use Rattle.el_outside.specs.Counts.{RoseBy};
 ghost use Rattle.el_chain.specs.Chains.{Chain};
-ghost use Rattle.el_model.specs.Keeping.{Quiet};
+ghost use Rattle.el_model.specs.LedgerCalls.{Asked};
 ghost use Rattle.el_model.specs.Queries.{header_at, hashes_to};
 ghost use Rattle.el_methods.specs.Results as defined;
 ghost use Rattle.el_methods.specs.Results.{hex};
@@ -41,8 +41,7 @@ fn header_alone<G: Ledger>(alloc: Global, ledger: &mut G, height: u32) -> Result
         → IsAnswer (defined.of_header chain height hex) result }
     ensures printable { IsPrintableAnswer result }
     ensures rows { G.reads ledger.new ≤ G.reads ledger.old + 1 }
-    ensures quiet { Quiet G.is_live G.height G.tip G.buckets G.stands G.tells_crash
-        G.moment G.left_since ledger.old ledger.new }
+    ensures quiet { Asked ⟦<G as Ledger>⟧ ledger.old ledger.new }
     ensures counted { IsDiskCounted (λ n. RoseBy (G.faults ledger.old) (G.faults ledger.new) n) result }
 {
     match ledger.header(height) {
@@ -88,8 +87,7 @@ fn header_among<G: Ledger>(
         → IsAnswer (Ok (defined.header_proof chain height cp_height header.now)) result }
     ensures printable { IsPrintableAnswer result }
     ensures rows { G.reads ledger.new ≤ G.reads ledger.old + (cp_height + 1) }
-    ensures quiet { Quiet G.is_live G.height G.tip G.buckets G.stands G.tells_crash
-        G.moment G.left_since ledger.old ledger.new }
+    ensures quiet { Asked ⟦<G as Ledger>⟧ ledger.old ledger.new }
     ensures counted { IsDiskCounted (λ n. RoseBy (G.faults ledger.old) (G.faults ledger.new) n) result }
 {
     match ledger.hashes(alloc, cp_height) {
@@ -119,8 +117,7 @@ fn header_proved<G: Ledger>(
         → IsAnswer (defined.of_header chain height (defined.header_proof chain height cp_height)) result }
     ensures printable { IsPrintableAnswer result }
     ensures rows { G.reads ledger.new ≤ G.reads ledger.old + (1 + (cp_height + 1)) }
-    ensures quiet { Quiet G.is_live G.height G.tip G.buckets G.stands G.tells_crash
-        G.moment G.left_since ledger.old ledger.new }
+    ensures quiet { Asked ⟦<G as Ledger>⟧ ledger.old ledger.new }
     ensures counted { IsDiskCounted (λ n. RoseBy (G.faults ledger.old) (G.faults ledger.new) n) result }
 {
     match ledger.header(height) {
@@ -143,8 +140,7 @@ pub fn block_header<G: Ledger>(
         → IsAnswer (defined.block_header chain height cp_height) result }
     ensures printable { IsPrintableAnswer result }
     ensures rows { G.reads ledger.new ≤ G.reads ledger.old + (1 + proof_rows cp_height) }
-    ensures quiet { Quiet G.is_live G.height G.tip G.buckets G.stands G.tells_crash
-        G.moment G.left_since ledger.old ledger.new }
+    ensures quiet { Asked ⟦<G as Ledger>⟧ ledger.old ledger.new }
     ensures counted { IsDiskCounted (λ n. RoseBy (G.faults ledger.old) (G.faults ledger.new) n) result }
 {
     let top = ledger.height();

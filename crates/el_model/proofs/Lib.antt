@@ -1,4 +1,3 @@
-pub mod Quiets
 pub mod LedgerMoves
 pub mod ReadBodies
 pub mod Findings

@@ -1,7 +1,7 @@
 -- What calls of a ledger leave as it was, and what a crash since then may leave.
 use Rattle.std.specs.Prelude.{◌≡◌, ◌⊎◌, ℕ, Option}
 use Rattle.el_base.specs.declared.hash.Hash32.{Hash32}
-use Rattle.el_outside.specs.Moments.{LeavesNoMore, LeftNow}
+use Rattle.el_outside.specs.Moments.{LeftNow}
 use Rattle.el_chain.specs.Chains.{Chain}
 
 -- Whether the ledger is live, its height, its tip, its number of buckets and the chains that it stands for
@@ -17,14 +17,13 @@ pub record Stays {S : Type 0} (is_live : S → Type 0) (height : S → Option �
   pub still_stands : (chain : Chain) → stands old chain → stands new chain
   pub stood : (chain : Chain) → stands new chain → stands old chain
 
--- A call has left the ledger as it was, and a crash during it or after it leaves no more than a crash just
--- before it might have left, whatever the ledger stands for.
-pub record Quiet {S C : Type 0} (is_live : S → Type 0) (height : S → Option ℕ)
+-- A call has left the ledger as it was, whatever it stands for, and what is below it is kept, as `keeps`
+-- says.
+pub record Quiet {S : Type 0} (is_live : S → Type 0) (height : S → Option ℕ)
     (tip : S → Option Hash32) (buckets : S → ℕ)
-    (stands : S → Chain → Type 0) (tells_crash : Type 0) (moment : S → ℕ)
-    (left_since : S → ℕ → C → Type 0) (old new : S) : Type 0 where
+    (stands : S → Chain → Type 0) (keeps : S → S → Type 0) (old new : S) : Type 0 where
   pub stays : Stays is_live height tip buckets stands old new
-  pub crash : tells_crash → LeavesNoMore moment left_since old new
+  pub below : keeps old new
 
 -- what a crash left stands for the one chain or for the other
 abbrev pub Either : {C : Type 0} → (C → Chain → Type 0) → Chain → Chain → C → Type 0

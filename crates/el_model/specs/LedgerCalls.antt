@@ -1,17 +1,22 @@
 -- What a call asks of a ledger and leaves of it, over all that the ledger's type tells.
-use Rattle.std.specs.Prelude.{ℕ}
+use Rattle.std.specs.Prelude.{◌≡◌, ℕ}
 use Rattle.el_outside.specs.declared.archive.Archive as archive
 use Rattle.el_outside.specs.Devices.{Faults, faults}
-use Rattle.el_outside.specs.Moments.{LeavesOnly}
+use Rattle.el_outside.specs.Moments.{KeepsBelow, LeavesOnly}
 use Rattle.el_chain.specs.Chains.{Chain}
 use Rattle.el_model.specs.Keeping.{Quiet, Either}
 use Rattle.el_model.specs.declared.ledger.Ledger as ledger
 
--- The ledger was asked alone: it is as it was, and a crash leaves no more than one before the call.
+-- The ledger was asked alone: it is as it was, the files beside its own are as they were, and a crash leaves
+-- no more than one before the call.
 abbrev pub Asked : {G : Type 0} → ledger.Ghosts G → G → G → Type 0
 Asked of_ledger old new =
     Quiet of_ledger.is_live of_ledger.height of_ledger.tip of_ledger.buckets of_ledger.stands
-    of_ledger.tells_crash of_ledger.moment of_ledger.left_since old new
+    (KeepsBelow of_ledger.tells_crash of_ledger.moment of_ledger.left_since of_ledger.beside) old new
+
+-- the files beside the ledger's own are as they were, where that is told
+abbrev pub KeepsBeside : {G : Type 0} → ledger.Ghosts G → G → G → Type 0
+KeepsBeside of_ledger old new = of_ledger.tells_crash → of_ledger.beside new ≡ of_ledger.beside old
 
 -- whatever a crash since the call's start leaves stands for the one chain or for the other
 abbrev pub CrashLeaves : {G : Type 0} → ledger.Ghosts G → G → G → Chain → Chain → Type 0

@@ -2,7 +2,8 @@
 ghost use Rattle.std.specs.Prelude.{◌≡◌, ◌≢◌, ◌≤◌, ◌+◌, ◌-◌, ◌*◌, ℕ, List, [], ◌++◌, length, Some, Option, IfOk, IfErr, IfSome, MatchOption, OnOk, IsErrOf};
 ghost use Rattle.el_base.specs.declared.hash.Hash32 as shape;
 ghost use Rattle.el_outside.specs.Counts.{HasCause, CountsOnly, OnlyReads};
-ghost use Rattle.el_outside.specs.Moments.{LeavesOnly};
+ghost use Rattle.el_outside.specs.Disk.{Image};
+ghost use Rattle.el_outside.specs.Moments.{KeepsBelow, LeavesOnly};
 ghost use Rattle.el_chain.specs.Chains.{Chain, zero_hash};
 ghost use Rattle.el_chain.specs.Faults.{IsGood};
 ghost use Rattle.el_chain.specs.History.{history};
@@ -60,6 +61,10 @@ pub trait Ledger {
     /// What a crash at some moment from that one on might have left, during a call or between two.
     ghost left_since: { Self → ℕ → Left → Type 0 };
 
+    /// What the disk below holds beside the ledger: the bytes of each file that is none of the ledger's, and
+    /// none for the ledger's own. It is told as what a crash leaves is, and each call keeps it.
+    ghost beside: { Self → Image };
+
     /// The height of the last block; None exactly for no blocks.
     fn height(&self) -> Option<u32>
         ensures { result ≡ height self.now };
@@ -75,8 +80,8 @@ pub trait Ledger {
         ensures header { (chain : Chain) → stands self.old chain
             → IfOk result (λ bytes. header_at chain h ≡ Some bytes) }
         ensures rows { reads self.new ≤ reads self.old + 1 }
-        ensures quiet { Quiet is_live height tip buckets stands tells_crash moment left_since
-            self.old self.new }
+        ensures quiet { Quiet is_live height tip buckets stands
+            (KeepsBelow tells_crash moment left_since beside) self.old self.new }
         ensures cause { HasCause (faults self.old) (faults self.new) result };
 
     /// Where the block of that height stands in the block files.
@@ -86,8 +91,8 @@ pub trait Ledger {
         ensures place { (chain : Chain) → stands self.old chain
             → IfOk result (λ place. place_at chain h ≡ Some place) }
         ensures rows { reads self.new ≤ reads self.old + 1 }
-        ensures quiet { Quiet is_live height tip buckets stands tells_crash moment left_since
-            self.old self.new }
+        ensures quiet { Quiet is_live height tip buckets stands
+            (KeepsBelow tells_crash moment left_since beside) self.old self.new }
         ensures cause { HasCause (faults self.old) (faults self.new) result };
 
     /// The block hashes of heights 0 to `upto`, in inner order.
@@ -99,8 +104,8 @@ pub trait Ledger {
         // Also where no chain is told.
         ensures len { IfOk result (λ found. length found.items ≡ upto + 1) }
         ensures rows { reads self.new ≤ reads self.old + (upto + 1) }
-        ensures quiet { Quiet is_live height tip buckets stands tells_crash moment left_since
-            self.old self.new }
+        ensures quiet { Quiet is_live height tip buckets stands
+            (KeepsBelow tells_crash moment left_since beside) self.old self.new }
         ensures cause { CountsOnly (faults self.old) (faults self.new) QueryFault.DiskFailed result };
 
     /// The history of a script hash (Electrum Protocol 1.4, `blockchain.scripthash.get_history`).
@@ -112,8 +117,8 @@ pub trait Ledger {
             → reads self.new ≤ reads self.old
             + (1 + asked.scripts_in_bucket chain (buckets self.old) script_hash.now.0
             + 2 * length (history chain script_hash.now.0)) }
-        ensures quiet { Quiet is_live height tip buckets stands tells_crash moment left_since
-            self.old self.new }
+        ensures quiet { Quiet is_live height tip buckets stands
+            (KeepsBelow tells_crash moment left_since beside) self.old self.new }
         ensures cause { CountsOnly (faults self.old) (faults self.new) QueryFault.DiskFailed result };
 
     /// The coins of a script hash, in chain order of their transactions, then by index.
@@ -126,8 +131,8 @@ pub trait Ledger {
             + (1 + asked.scripts_in_bucket chain (buckets self.old) script_hash.now.0
             + 2 * length (history chain script_hash.now.0)
             + asked.outputs_of_history chain script_hash.now.0) }
-        ensures quiet { Quiet is_live height tip buckets stands tells_crash moment left_since
-            self.old self.new }
+        ensures quiet { Quiet is_live height tip buckets stands
+            (KeepsBelow tells_crash moment left_since beside) self.old self.new }
         ensures cause { CountsOnly (faults self.old) (faults self.new) QueryFault.DiskFailed result };
 
     /// What the coins of a script hash hold together, in satoshi.
@@ -138,8 +143,8 @@ pub trait Ledger {
         ensures rows { (chain : Chain) → stands self.old chain
             → reads self.new ≤ reads self.old
             + (1 + asked.scripts_in_bucket chain (buckets self.old) script_hash.now.0) }
-        ensures quiet { Quiet is_live height tip buckets stands tells_crash moment left_since
-            self.old self.new }
+        ensures quiet { Quiet is_live height tip buckets stands
+            (KeepsBelow tells_crash moment left_since beside) self.old self.new }
         ensures cause { HasCause (faults self.old) (faults self.new) result };
 
     /// Where the newest transaction with that txid, in inner order, stands; None exactly where the chain has
@@ -151,8 +156,8 @@ pub trait Ledger {
         ensures rows { (chain : Chain) → stands self.old chain
             → reads self.new ≤ reads self.old
             + (2 + asked.txs_in_bucket chain (buckets self.old) txid.now.0) }
-        ensures quiet { Quiet is_live height tip buckets stands tells_crash moment left_since
-            self.old self.new }
+        ensures quiet { Quiet is_live height tip buckets stands
+            (KeepsBelow tells_crash moment left_since beside) self.old self.new }
         ensures cause { HasCause (faults self.old) (faults self.new) result };
 
     /// The txids of the block of that height, in inner order, as its transactions stand.
@@ -163,8 +168,8 @@ pub trait Ledger {
             → IfOk result (λ found. txids_at chain h ≡ Some found.items) }
         ensures rows { (chain : Chain) → stands self.old chain
             → IfSome (txids_at chain h) (λ ids. reads self.new ≤ reads self.old + (1 + length ids)) }
-        ensures quiet { Quiet is_live height tip buckets stands tells_crash moment left_since
-            self.old self.new }
+        ensures quiet { Quiet is_live height tip buckets stands
+            (KeepsBelow tells_crash moment left_since beside) self.old self.new }
         ensures cause { CountsOnly (faults self.old) (faults self.new) QueryFault.DiskFailed result };
 
     /// The coin of an outpoint; None exactly where the chain's coins lack it.
@@ -172,8 +177,8 @@ pub trait Ledger {
         requires live { is_live self.old }
         ensures coin { (chain : Chain) → stands self.old chain
             → IfOk result (λ found. found ≡ asked.coin_of chain o.now) }
-        ensures quiet { Quiet is_live height tip buckets stands tells_crash moment left_since
-            self.old self.new }
+        ensures quiet { Quiet is_live height tip buckets stands
+            (KeepsBelow tells_crash moment left_since beside) self.old self.new }
         ensures cause { HasCause (faults self.old) (faults self.new) result };
 
     /// The transaction that took the coin of the newest output with that outpoint; None exactly where there
@@ -182,8 +187,8 @@ pub trait Ledger {
         requires live { is_live self.old }
         ensures spender { (chain : Chain) → stands self.old chain
             → IfOk result (λ found. found ≡ asked.spender chain o.now) }
-        ensures quiet { Quiet is_live height tip buckets stands tells_crash moment left_since
-            self.old self.new }
+        ensures quiet { Quiet is_live height tip buckets stands
+            (KeepsBelow tells_crash moment left_since beside) self.old self.new }
         ensures cause { HasCause (faults self.old) (faults self.new) result };
 
     /// One move: `back` blocks are taken back and the blocks of `forward` are put in their place, all of it
@@ -223,7 +228,10 @@ pub trait Ledger {
             → IfErr result (IsRefused A.tells (A.bytes archive.new) chain plan.now) }
         // After any other refusal it is as it was, and a crash leaves the old chain alone.
         ensures unchanged { IfErr result (λ e. e ≢ stop.DiskFailed
-            → Quiet is_live height tip buckets stands tells_crash moment left_since self.old self.new) }
+            → Quiet is_live height tip buckets stands
+            (KeepsBelow tells_crash moment left_since beside) self.old self.new) }
+        // Whatever it answers, the files beside the ledger's own stay.
+        ensures beside { tells_crash → beside self.new ≡ beside self.old }
         ensures crash_failed { (chain : Chain) → stands self.old chain → IsErrOf result MoveFault.DiskFailed
             → (next : Chain) × InFlight A.tells (A.bytes archive.new) chain plan.now next
             × (tells_crash → LeavesOnly moment left_since self.old self.new (Either means chain next)) }

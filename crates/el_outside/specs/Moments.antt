@@ -1,6 +1,7 @@
 -- What a crash since some moment may have left. C is what is left: an image, or what a layer above makes of
 -- it.
-use Rattle.std.specs.Prelude.{◌⊎◌, ◌<◌, ◌≤◌, ℕ}
+use Rattle.std.specs.Prelude.{◌≡◌, ◌⊎◌, ◌<◌, ◌≤◌, ℕ}
+use Rattle.el_outside.specs.Disk.{Image}
 
 -- Time goes on: a crash since t might have left what it might have left before, or what it may leave now.
 pub record Elapses {C : Type 0} (before now : ℕ) (past since : ℕ → C → Type 0)
@@ -33,3 +34,10 @@ pub record LeavesNoMore {D C : Type 0} (moment : D → ℕ) (left_since : D → 
     (old new : D) : Type 0 where
   pub later : moment old ≤ moment new
   pub before : (t : ℕ) (c : C) → t ≤ moment old → left_since new t c → left_since old t c
+
+-- A call left what is below it as it was, where that is told: the files beside its own read as before, and a
+-- crash leaves no more than one just before the call might have left.
+pub record KeepsBelow {D C : Type 0} (tells : Type 0) (moment : D → ℕ)
+    (left_since : D → ℕ → C → Type 0) (beside : D → Image) (old new : D) : Type 0 where
+  pub crash : tells → LeavesNoMore moment left_since old new
+  pub files : tells → beside new ≡ beside old

@@ -1,6 +1,8 @@
 -- What calls leave of a store.
-use Rattle.std.proofs.Common.{◌≡◌, inl, inr, ⊎_elim, ℕ, ◌+◌, ◌*◌, ◌<◌, ◌≤◌, List, [], ◌++◌, length, get_or, map, sym, ◌∙◌, ap, subst, arith}
+use Rattle.std.proofs.Common.{◌≡◌, inl, inr, ⊎_elim, ℕ, ◌+◌, ◌*◌, ◌<◌, ◌≤◌, List, [], ◌++◌, length, get_or, map, nat_lt, if◌then◌else◌, sym, ◌∙◌, ap, subst, arith}
 use Rattle.std.proofs.Math.Path.{fun_ext}
+use Rattle.std.proofs.lemmas.Bool.{cases_lt}
+use Rattle.std.proofs.lemmas.Bool.Decides.{nat_tests}
 use Rattle.el_outside.specs.declared.disk.Disk as disk
 use Rattle.el_outside.specs.Disk.{Image, NothingNew}
 use Rattle.el_outside.specs.Moments.{LeftNow, LeavesOnly, LeavesNoMore, Passes}
@@ -16,10 +18,26 @@ use Rattle.el_pages.specs.declared.layout.TheConstants.{FORMAT_1}
 use Rattle.el_pages.specs.Layouts.{file_of, size_in, limit_in, rows_in}
 use Rattle.el_pages.specs.Records.{meta_of}
 use Rattle.el_pages.specs.Indexes.{HasCounts, HasMeta, HasNone, Shows, tables_in}
-use Rattle.el_pages.specs.Stores.{IsKept, lists_in}
+use Rattle.el_pages.specs.Stores.{IsKept, beside_in, lists_in}
 use Rattle.el_pages.proofs.Rows.{row_ends}
 use Rattle.el_pages.proofs.Laid.{sizes_1, get_or-rows_in}
 use Rattle.el_pages.proofs.Facts.{tables_same}
+
+-- what stands beside the store's files
+pub beside_at : (files : Image) (f : ℕ) → 9 < f → beside_in files f ≡ files f
+beside_at files f lt = grind (arith, nat_tests)
+
+pub beside_same : (a b : Image) → ((f : ℕ) → 9 < f → b f ≡ a f) → beside_in b ≡ beside_in a
+beside_same a b same = fun_ext each
+  where
+    none : (files : Image) (f : ℕ) → f ≤ 9 → beside_in files f ≡ []
+    none files f le = grind (arith, nat_tests)
+
+    each : (f : ℕ) → beside_in b f ≡ beside_in a f
+    each f = ⊎_elim
+        (λ (lt : 9 < f). beside_at b f lt ∙ same f lt ∙ sym (beside_at a f lt))
+        (λ (le : f ≤ 9). none b f le ∙ sym (none a f le))
+        (cases_lt 9 f)
 
 -- a read brings nothing
 pub no_more : {D : Type 0} (G : disk.Ghosts D) → ((d : D) (t u : ℕ) (c : Image) → t ≤ u → G.left_since d u c → G.left_since d t c) → (old new : D)

@@ -1,5 +1,5 @@
 -- A store over the files of a disk.
-use Rattle.std.specs.Prelude.{◌≡◌, ◌≤◌, ◌<◌, ℕ, List, [], length}
+use Rattle.std.specs.Prelude.{◌≡◌, ◌≤◌, ◌<◌, nat_lt, ℕ, List, [], length, if◌then◌else◌}
 use Rattle.std.proofs.lemmas.List.FromFn.{length-map-range_with_len}
 use Rattle.std.proofs.Common.{sym, ◌∙◌, subst, inl, inr, refl}
 use Rattle.el_outside.specs.declared.disk.Disk as disk
@@ -15,6 +15,11 @@ use Rattle.el_pages.specs.declared.layout.TheConstants.{FORMAT_1}
 use Rattle.el_pages.specs.Indexes.{HasCounts, Shows, tables_in}
 use Rattle.el_redo.specs.declared.network.NetworkMagic as network
 use Rattle.el_pages.specs.declared.store.Pages.{Pages}
+
+-- What a disk holds beside the store: the files after the redo file, and no bytes in the place of the
+-- store's own.
+abbrev pub beside_in : Image → Image
+beside_in files f = if nat_lt 9 f then files f else []
 
 -- Over a disk that tells: all files are on the disk and the gate is closed; the files are those that the disk
 -- had at the last commit, or at the opening; and they have tables with these counts.

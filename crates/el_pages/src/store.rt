@@ -1,5 +1,5 @@
 // A store of tables in files.
-ghost use Rattle.std.specs.Prelude.{◌≡◌, ◌↔◌, ◌≤◌, ℕ, length};
+ghost use Rattle.std.specs.Prelude.{◌≡◌, ◌↔◌, ◌≤◌, ◌<◌, ℕ, length};
 ghost use Rattle.el_outside.specs.Disk.{Image};
 ghost use Rattle.el_row_formats.specs.declared.table.Table.{Table};
 ghost use Rattle.el_row_formats.specs.Tables.{limit_of};
@@ -68,6 +68,7 @@ impl<D: Disk, N: NetworkMagic> Pages<D, N> {
         ensures moment { ⟦<Pages<D, N> as Rows>⟧.moment self ≡ D.moment result }
         ensures left { D.tells → (t : ℕ) (image : Image)
             → ⟦<Pages<D, N> as Rows>⟧.left_since self t image ↔ D.left_since result t image }
+        ensures beside { (f : ℕ) → 9 < f → ⟦<Pages<D, N> as Rows>⟧.beside self f ≡ D.seen result f }
         ensures shows { (image : Image) (tables : Tables)
             → ⟦<Pages<D, N> as Rows>⟧.shows image tables ↔ Shows FORMAT_1 (head_bytes N.magic) image tables }
         ensures faults { ⟦<Pages<D, N> as Rows>⟧.faults self ≡ D.faults result }
@@ -91,7 +92,7 @@ impl<D: Disk, N: NetworkMagic> Rows for Pages<D, N> {
     ghost use Rattle.el_rows.specs.Changes.{count_at};
     ghost use Rattle.el_pages.specs.declared.layout.TheConstants.{FORMAT_1};
     ghost use Rattle.el_pages.specs.Indexes.{Shows};
-    ghost use Rattle.el_pages.specs.Stores.{IsKept, kept_shows, lists_in, lists_long};
+    ghost use Rattle.el_pages.specs.Stores.{IsKept, kept_shows, beside_in, lists_in, lists_long};
 
     ghost tells = { D.tells };
 
@@ -110,6 +111,8 @@ impl<D: Disk, N: NetworkMagic> Rows for Pages<D, N> {
     ghost shows = { λ image tables. Shows FORMAT_1 (head_bytes N.magic) image tables };
 
     ghost left_since = { λ s t image. D.tells × D.left_since s.disk t image };
+
+    ghost beside = { λ s. beside_in (D.seen s.disk) };
 
     ghost faults = { λ s. D.faults s.disk };
 

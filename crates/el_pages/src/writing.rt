@@ -49,6 +49,7 @@ fn write_rows<D: Disk>(disk: &mut D, sealed: &Sealed) -> Result<(), DiskFailed>
         → Fits (into f (map (write_of FORMAT_1) sealed.now.changes)) (length (D.seen disk.old f)) }
     ensures written { D.tells → OnOk result ((f : ℕ) → f < 9 → D.seen disk.new f
         ≡ overlaid (into f (map (write_of FORMAT_1) sealed.now.changes)) (D.seen disk.old f)) }
+    ensures beside { D.tells → (f : ℕ) → 9 ≤ f → D.seen disk.new f ≡ D.seen disk.old f }
     ensures crash { D.tells → (files : Image) (ws : List Write) (meta record_file : List ℕ)
         → ws ≡ writes_of FORMAT_1 meta sealed.now.changes
         → EachNow ⟦<D as Disk>⟧ (WillBe 0 9 files ws record_file) disk.old
@@ -75,6 +76,7 @@ pub(crate) fn write_all<D: Disk>(
         → Fits (into f (writes_of FORMAT_1 meta.now sealed.now.changes)) (length (D.seen disk.old f)) }
     ensures written { D.tells → OnOk result ((f : ℕ) → f < 9 → D.seen disk.new f
         ≡ overlaid (into f (writes_of FORMAT_1 meta.now sealed.now.changes)) (D.seen disk.old f)) }
+    ensures beside { D.tells → (f : ℕ) → 9 ≤ f → D.seen disk.new f ≡ D.seen disk.old f }
     ensures durable { D.tells → OnOk result (AreOnDisk ⟦<D as Disk>⟧ 0 9 disk.new) }
     ensures crash { D.tells → (files : Image) (record_file : List ℕ)
         → EachNow ⟦<D as Disk>⟧

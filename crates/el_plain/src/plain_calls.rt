@@ -1,5 +1,5 @@
 // The plain ledger as a ledger.
-ghost use Rattle.std.specs.Prelude.{◌≡◌, ◌≤◌, ◌<◌, ◌^◌, ℕ, List, Option, None, Some, IfOk, MatchOption, length, map, take};
+ghost use Rattle.std.specs.Prelude.{◌≡◌, ◌≤◌, ◌<◌, ◌^◌, ℕ, List, [], Option, None, Some, IfOk, MatchOption, length, map, take};
 ghost use Rattle.el_base.specs.declared.hash.Hash32 as shape;
 ghost use Rattle.el_chain.specs.declared.placed.Placed as placed_shape;
 ghost use Rattle.el_block.specs.Blocks as block;
@@ -84,6 +84,8 @@ impl Ledger for PlainLedger {
     ghost moment = { λ l. 0 };
 
     ghost left_since = { λ l since left. ⊥ };
+
+    ghost beside = { λ l f. [] };
 
     ghost height_is = { plain_height };
 

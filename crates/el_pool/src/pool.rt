@@ -3,7 +3,7 @@ ghost use Rattle.std.specs.Prelude.{◌≡◌, ◌≤◌, ◌⊎◌, [], IfOk, I
 ghost use Rattle.std.specs.Option.{is_some};
 ghost use Rattle.el_outside.specs.Counts.{CountsOnly};
 ghost use Rattle.el_chain.specs.Chains.{Chain};
-ghost use Rattle.el_model.specs.Keeping.{Quiet};
+ghost use Rattle.el_model.specs.LedgerCalls.{Asked};
 ghost use Rattle.el_tx.specs.declared.types.Tx as shape;
 ghost use Rattle.el_tx.specs.Hashing.{txid};
 ghost use Rattle.el_mempool.specs.Adding.{Joined};
@@ -81,8 +81,7 @@ impl Pool {
             ⊎ ((e ≡ PoolFault.DiskFailed) ⊎ IsRefused self.old.limits chain kept bytes.now e)) }
         ensures same { OnErr result (self.new ≡ self.old) }
         ensures limits { self.new.limits ≡ self.old.limits }
-        ensures quiet { Quiet G.is_live G.height G.tip G.buckets G.stands G.tells_crash
-            G.moment G.left_since ledger.old ledger.new }
+        ensures quiet { Asked ⟦<G as Ledger>⟧ ledger.old ledger.new }
         ensures cause { CountsOnly (G.faults ledger.old) (G.faults ledger.new) PoolFault.DiskFailed result }
     {
         add_to(
@@ -125,8 +124,7 @@ impl Pool {
             → IfOk result (λ touched. StandsFor self.new.entries chain (sift chain kept)
             × AreChanged before kept chain (sift chain kept) touched) }
         ensures limits { self.new.limits ≡ self.old.limits }
-        ensures quiet { Quiet G.is_live G.height G.tip G.buckets G.stands G.tells_crash
-            G.moment G.left_since ledger.old ledger.new }
+        ensures quiet { Asked ⟦<G as Ledger>⟧ ledger.old ledger.new }
         ensures cause { CountsOnly (G.faults ledger.old) (G.faults ledger.new) QueryFault.DiskFailed result }
     {
         sift_table(self.alloc, &mut self.table, &mut self.listings, ledger)

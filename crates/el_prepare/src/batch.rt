@@ -99,9 +99,9 @@ fn joined(
     Ok((list, None))
 }
 
-/// What is prepared of several blocks: of those before the first bad one, in order, and that one's fault, each
-/// as `prepare_one` gives it. The list is cut into chunks of an eighth of its length, rounded up, which are
-/// prepared side by side where threads can be made; each enters the pace with its number, from 0, as it
+/// What is prepared of several blocks: of those before the first bad one, in order, and that one's fault,
+/// each as `prepare_one` gives it. The list is cut into chunks of an eighth of its length, rounded up, which
+/// are prepared side by side where threads can be made; each enters the pace with its number, from 0, as it
 /// begins. An empty list has no piece.
 ///
 /// # Errors

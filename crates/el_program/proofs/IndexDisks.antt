@@ -1,5 +1,5 @@
 -- What an opening of the index leaves of the disk.
-use Rattle.std.proofs.Common.{◌≡◌, ◌≢◌, ◌⊎◌, inl, inr, refl, ℕ, ◌≤◌, List, arith}
+use Rattle.std.proofs.Common.{◌≡◌, ◌≢◌, ◌⊎◌, inl, inr, refl, ℕ, ◌≤◌, ◌<◌, List, arith}
 use Rattle.el_outside.specs.declared.disk.Disk as disk
 use Rattle.el_outside.specs.Disk.{Image}
 use Rattle.el_outside.specs.Moments.{LeftNow}
@@ -14,6 +14,7 @@ use Rattle.el_redo.specs.declared.faults.OpenFault.{OpenFault}
 use Rattle.el_redo.specs.declared.faults.OpenFault.TheVariants as fault
 use Rattle.el_journal.specs.declared.mark.TheConstants.{JOURNAL}
 use Rattle.el_program.specs.IndexDisks.{ImageMeans, IsNoIndex, LeavesOneOf, StandsForAll, IsAsBefore}
+use Rattle.el_program.specs.OtherFiles.{last_file}
 use Rattle.el_program.specs.declared.status.Status.{Status}
 use Rattle.el_program.specs.declared.status.Status.TheVariants as status
 use Rattle.el_program.specs.within.Unread.{open_status}
@@ -60,11 +61,15 @@ same_index a b same = record {
     same_bad magic wanted place (inr lost) =
         inr (lost.0, (lost.1.0, same.entries lost.1.0 lost.1.1, lost.1.2))
 
+-- a file beyond the index's isn't the journal's
+pub past_journal : {f : ℕ} → last_file < f → f ≢ JOURNAL
+past_journal beyond = λ is. absurd (omega (arith, is, beyond))
+
 -- an opening that is stopped leaves the index as it was
 pub as_before : {D : Type 0} (G : disk.Ghosts D) (old new : D) → OnlyJournal G SameJournal old new
     → IsAsBefore G old new
 as_before {D} G old new only = record {
-  others = λ f beyond. only.others f (λ is. absurd (omega (arith, is, beyond)));
+  others = λ f beyond. only.others f (past_journal beyond);
   crash = record {
     later = only.crash.later;
     each = λ c left. reached c (only.crash.each c left);

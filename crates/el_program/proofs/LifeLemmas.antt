@@ -26,7 +26,7 @@ use Rattle.el_words.specs.Commands.{IsServe}
 use Rattle.el_program.specs.IndexDisks.{ImageMeans, LeavesOneOf, IsIndexDisk, IsCall}
 use Rattle.el_program.specs.Calls.{Call, CallEnds}
 use Rattle.el_program.specs.Ends.{serve, IndexEnds, UnopenedEnds, ServeEnds, IsServed}
-use Rattle.el_program.specs.Lives.{IsLeftBy, AreLives, GoOn, none, one}
+use Rattle.el_program.specs.Lives.{IsLeftBy, AreLives, GoOn, LeavesOthers, none, one}
 use Rattle.el_program.specs.within.Lived.{Lived}
 use Rattle.el_loop.specs.Counts.{Counts}
 use Rattle.el_loop.specs.Runs.{RunEnds, IsRun, IsHalted}
@@ -236,13 +236,13 @@ module _ {D A K : Type 0} (of_disk : disk.Ghosts D) (of_files : archive.Ghosts A
   -- one life, and those after it
   pub lived_more : (d : D) (was flight : Chain) (l : Call D A K) (files files_after : List A)
       (links links_after : List K) (ends : List Status) (left : D) (f : Found l was flight)
-      → IsLeftBy of_disk d l.before.disk
+      → IsLeftBy of_disk d l.before.disk → LeavesOthers of_disk l
       → Lived of_disk of_files of_link l.after.disk f.end.acked f.end.in_flight l.words l.turns files
       files_after links links_after ends left
       → Lived of_disk of_files of_link d was flight l.words l.turns (l.before.files ∷ files)
       (l.after.files ∷ files_after)
       (l.before.link ∷ links) (l.after.link ∷ links_after) (l.status ∷ ends) left
-  lived_more d was flight l files files_after links links_after ends left f is then = record {
+  lived_more d was flight l files files_after links links_after ends left f is kept then = record {
     lives = l ∷ then.lives;
     over = (
       record {
@@ -258,6 +258,7 @@ module _ {D A K : Type 0} (of_disk : disk.Ghosts D) (of_files : archive.Ghosts A
     );
     are = (is, then.are);
     last = then.last;
+    others = (kept, then.others);
     go_on = one_more was flight f.chain l then.lives f.from f.end then.go_on;
   }
 
@@ -269,7 +270,7 @@ pub lived_none : {D A K : Type 0} (of_disk : disk.Ghosts D) (of_files : archive.
     → length ends ≡ length files
     → Lived of_disk of_files of_link d was flight words turns files files links links ends d
 lived_none of_disk of_files of_link d was flight words turns [] [] [] e0 e1 e2 =
-    record { lives = []; over = tt; are = tt; last = refl; go_on = none was flight }
+    record { lives = []; over = tt; are = tt; last = refl; others = tt; go_on = none was flight }
 lived_none of_disk of_files of_link d was flight words turns [] [] (e ∷ es) e0 e1 e2 = absurd (omega arith)
 lived_none of_disk of_files of_link d was flight words turns [] (k ∷ ks) ends e0 e1 e2 = absurd (omega arith)
 lived_none of_disk of_files of_link d was flight words turns (a ∷ more) links ends e0 e1 e2 = absurd

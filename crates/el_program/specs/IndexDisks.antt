@@ -11,6 +11,7 @@ use Rattle.el_logstore.specs.Images.{Shows, IsBadIndex}
 use Rattle.el_index.specs.Means.{Means}
 use Rattle.el_words.specs.Commands.{IsServe}
 use Rattle.el_program.specs.Calls.{Call, CallEnds}
+use Rattle.el_program.specs.OtherFiles.{OthersStay}
 
 -- the image of a disk stands for the chain, as an index of the network with this magic
 abbrev pub ImageMeans : List ℕ → Image → Chain → Type 0
@@ -31,14 +32,10 @@ pub record StandsForAll (image other : Image) : Type 0 where
   pub chains : (magic : List ℕ) (chain : Chain) → ImageMeans magic image chain → ImageMeans magic other chain
   pub none : (magic : List ℕ) → IsNoIndex magic image → IsNoIndex magic other
 
--- the files of an index have numbers up to this one
-abbrev pub last_file : ℕ
-last_file = 10
-
 -- The index is as it was, for this network and every other: each image that a crash since then may leave
 -- stands for all for which one stands that it might have left before. No file beyond the index's changed.
 pub record IsAsBefore {D : Type 0} (G : disk.Ghosts D) (old new : D) : Type 0 where
-  pub others : (f : ℕ) → last_file < f → G.seen new f ≡ G.seen old f
+  pub others : OthersStay G old new
   pub crash : LeavesOnly G.moment G.left_since old new (λ image. (earlier : Image)
       × LeftNow G.moment G.left_since old earlier × StandsForAll earlier image)
 

@@ -4,6 +4,7 @@ pub mod Opened
 pub mod OtherChain
 pub mod Ends
 pub mod Calls
+pub mod OtherFiles
 pub mod IndexDisks
 pub mod Lives
 pub mod Program

@@ -7,6 +7,7 @@ use Rattle.el_outside.specs.Disk.{Image}
 use Rattle.el_outside.specs.Moments.{LeftNow}
 use Rattle.el_chain.specs.Chains.{Chain}
 use Rattle.el_program.specs.Calls.{Call, CallEnds}
+use Rattle.el_program.specs.OtherFiles.{OthersStay}
 use Rattle.el_program.specs.declared.status.Status.{Status}
 
 -- a disk is one that another may have left: it reads as one of its images, and has no others
@@ -29,6 +30,10 @@ AreLives of_disk d (l ∷ more) = IsLeftBy of_disk d l.before.disk × AreLives o
 abbrev pub last_disk : {D A K : Type 0} → D → List (Call D A K) → D
 last_disk d [] = d
 last_disk d (l ∷ more) = last_disk l.after.disk more
+
+-- a life left all files of its disk beyond the index's as they were
+abbrev pub LeavesOthers : {D A K : Type 0} → disk.Ghosts D → Call D A K → Type 0
+LeavesOthers of_disk l = OthersStay of_disk l.before.disk l.after.disk
 
 -- a life was lived over these block files and this link, and ended so
 pub record IsOver {D A K : Type 0} (l : Call D A K) (words : List (List ℕ)) (turns : ℕ)

@@ -1,10 +1,11 @@
 // The index on a disk.
-ghost use Rattle.std.specs.Prelude.{◌≡◌, ◌≢◌, ◌⊎◌, ℕ, IfOk, IfErr, MatchResult};
+ghost use Rattle.std.specs.Prelude.{◌≡◌, ◌≢◌, ◌⊎◌, ◌<◌, ℕ, IfOk, IfErr, MatchResult};
 ghost use Rattle.el_chain.specs.Chains.{Chain};
 ghost use Rattle.el_outside.specs.Counts.{RoseBy};
 ghost use Rattle.el_journal.specs.declared.mark.TheConstants.{JOURNAL};
 ghost use Rattle.el_journal.specs.Entries.{IsBad};
 ghost use Rattle.el_program.specs.IndexDisks.{LeavesOneOf, IsNoIndex, IsAsBefore, IsIndexDisk};
+ghost use Rattle.el_program.specs.OtherFiles.{OthersStay, last_file};
 ghost use Rattle.el_program.specs.within.Unread.{open_status};
 
 use crate::status::Status;
@@ -54,6 +55,10 @@ pub fn open_index<D: Disk, N: NetworkMagic>(
     // Then it is as it was, whatever is told of it.
     ensures kept { D.tells → IsNoIndex N.magic (D.seen disk)
         → IfErr result (λ e. IsAsBefore ⟦<D as Disk>⟧ disk e.1) }
+    // Beside the index stands what stood in the files beyond its own, which are as they were.
+    ensures beside { D.tells → IfOk result (λ i. (f : ℕ) → last_file < f
+        → ⟦<Index<LogStore<D, N>> as el_model::Ledger>⟧.beside i f ≡ D.seen disk f) }
+    ensures others { D.tells → IfErr result (λ e. OthersStay ⟦<D as Disk>⟧ disk e.1) }
     ensures uncounted { IfOk result (λ i. ⟦<Index<LogStore<D, N>> as el_model::Ledger>⟧.faults i
         ≡ D.faults disk) }
     ensures counted { IfErr result (λ e. e.0 ≡ Status.DiskFailed

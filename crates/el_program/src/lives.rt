@@ -7,7 +7,7 @@ ghost use Rattle.el_words.specs.Commands.{IsServe};
 ghost use Rattle.el_words.specs.Words.{texts};
 ghost use Rattle.el_program.specs.Calls.{Call};
 ghost use Rattle.el_program.specs.IndexDisks.{ImageMeans, LeavesOneOf, IsCall};
-ghost use Rattle.el_program.specs.Lives.{AreLives, AreOver, GoOn, IsFresh, IsLeftBy, last_disk};
+ghost use Rattle.el_program.specs.Lives.{AreLives, AreOver, GoOn, IsFresh, IsLeftBy, LeavesOthers, last_disk};
 ghost use Rattle.el_program.specs.within.Lived.{Lived};
 
 use crate::serving::serve;
@@ -84,11 +84,12 @@ pub fn live<D: Disk, A: Archive, K: Link, B: Between<D>>(
     requires links { length links.old ≡ length archives.old }
     requires ends { length ends.old ≡ length archives.old }
     // They go on from the empty chain: each is a run from the chain that the one before acknowledged last, or
-    // from the one that then was in flight.
+    // from the one that then was in flight. Each leaves the files beyond the index's as they were.
     ensures whole { (magic : List ℕ) → D.tells → IsServe (texts words.now) magic
         → IsFresh ⟦<D as Disk>⟧ disk → (lives : List (Call D A K))
         × AreOver lives (texts words.now) turns archives.old archives.new links.old links.new ends.new
         × AreLives ⟦<D as Disk>⟧ disk lives × (result ≡ last_disk disk lives)
+        × AllByRecursion (LeavesOthers ⟦<D as Disk>⟧) lives
         × GoOn ⟦<D as Disk>⟧ ⟦<A as Archive>⟧ ⟦<K as Link>⟧ [] [] lives }
 {
     live_on(alloc, words, disk, between, turns, archives, links, ends)

@@ -11,6 +11,7 @@ ghost use Rattle.el_program.specs.IndexDisks.{LeavesOneOf, IsNoIndex, IsAsBefore
 ghost use Rattle.el_loop.specs.Counts.{counts_of, devices};
 ghost use Rattle.el_program.specs.Calls.{call};
 ghost use Rattle.el_program.specs.File.{GivesNoChain};
+ghost use Rattle.el_program.specs.OtherFiles.{OthersStay};
 ghost use Rattle.el_program.specs.Opened.{IsRead, all_added};
 ghost use Rattle.el_program.specs.Statuses.{ShowsCause};
 ghost use Rattle.el_loop.specs.Runs.{WentBy};
@@ -88,6 +89,7 @@ fn serve_disk<D: Disk, N: NetworkMagic, A: Archive, K: Link>(
     ensures kept { D.tells → IsNoIndex N.magic (D.seen disk) → IsAsBefore ⟦<D as Disk>⟧ disk result.1 }
     ensures kept_counts { result.0 ≡ Status.BadIndex → D.faults result.1 ≡ D.faults disk }
     ensures kept_files { result.0 ≡ Status.BadIndex → archive.new ≡ archive.old }
+    ensures others { D.tells → OthersStay ⟦<D as Disk>⟧ disk result.1 }
     ensures causes { ShowsCause (counts_of D.faults ⟦<A as Archive>⟧ ⟦<K as Link>⟧ turns
         (devices disk archive.old link.old) (devices result.1 archive.new link.new)) result.0 }
     ensures read { result.0 ≢ Status.Usage }
@@ -137,6 +139,7 @@ fn serve_network<D: Disk, A: Archive, K: Link>(
         → IsAsBefore ⟦<D as Disk>⟧ disk result.1 }
     ensures kept_counts { result.0 ≡ Status.BadIndex → D.faults result.1 ≡ D.faults disk }
     ensures kept_files { result.0 ≡ Status.BadIndex → archive.new ≡ archive.old }
+    ensures others { D.tells → OthersStay ⟦<D as Disk>⟧ disk result.1 }
     ensures causes { ShowsCause (counts_of D.faults ⟦<A as Archive>⟧ ⟦<K as Link>⟧ turns
         (devices disk archive.old link.old) (devices result.1 archive.new link.new)) result.0 }
     ensures read { result.0 ≢ Status.Usage }
@@ -214,6 +217,8 @@ pub fn serve<D: Disk, A: Archive, K: Link>(
         → IsNoIndex magic (D.seen disk) → IsAsBefore ⟦<D as Disk>⟧ disk result.1 }
     ensures kept_counts { result.0 ≡ Status.BadIndex → D.faults result.1 ≡ D.faults disk }
     ensures kept_files { result.0 ≡ Status.BadIndex → archive.new ≡ archive.old }
+    // However it ends, no file of the disk beyond the index's changed.
+    ensures others { D.tells → OthersStay ⟦<D as Disk>⟧ disk result.1 }
     // Whatever the devices tell, a failure that ends the run was counted.
     ensures causes { ShowsCause (counts_of D.faults ⟦<A as Archive>⟧ ⟦<K as Link>⟧ turns
         (devices disk archive.old link.old) (devices result.1 archive.new link.new)) result.0 }

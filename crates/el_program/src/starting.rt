@@ -4,6 +4,7 @@ ghost use Rattle.el_outside.specs.Files.{AllGrow};
 ghost use Rattle.el_outside.specs.Trace.{Trace};
 ghost use Rattle.el_chain.specs.Chains.{Chain};
 ghost use Rattle.el_model.specs.Keeping.{LeavesEither};
+ghost use Rattle.el_model.specs.LedgerCalls.{KeepsBeside};
 ghost use Rattle.el_loop.specs.Counts.{counts_of, devices};
 ghost use Rattle.el_loop.specs.Runs.{WentBy};
 ghost use Rattle.el_program.specs.Ends.{ServeEnds, IsUnserved, IsOpenedEnd};
@@ -54,6 +55,7 @@ pub fn serve_index<G: Ledger, A: Archive, K: Link>(
     ensures opened { IsOpenedEnd result.0 }
     ensures unserved { IsUnserved result.0 → link.new ≡ link.old }
     ensures keeps { A.tells → AllGrow (A.bytes archive.old) (A.bytes archive.new) }
+    ensures beside { KeepsBeside ⟦<G as Ledger>⟧ ledger result.1 }
 {
     let mut ledger = ledger;
     match open_headers(alloc, &mut ledger, archive, magic) {

@@ -1,5 +1,5 @@
 // The first two steps of an opening.
-ghost use Rattle.std.specs.Prelude.{◌≡◌, ◌≢◌, ◌≤◌, ◌<◌, ◌+◌, ◌-◌, ℕ, [], ◌∷◌, length, OnOk};
+ghost use Rattle.std.specs.Prelude.{◌≡◌, ◌≢◌, ◌⊎◌, ◌≤◌, ◌<◌, ◌+◌, ◌-◌, ℕ, [], ◌∷◌, length, OnOk};
 ghost use Rattle.el_outside.specs.Counts.{HasCause};
 ghost use Rattle.el_outside.specs.Disk.{OnDisk};
 ghost use Rattle.el_outside.specs.Moments.{LeftNow};
@@ -43,6 +43,8 @@ pub fn begin<D: Disk>(disk: &mut D, span: Span) -> Result<(), DiskFailed>
         → OnOk result (D.seen disk.new span.redo ≡ D.seen disk.old span.redo) }
     ensures begun { D.tells → length (D.seen disk.old span.redo) < 2
         → OnOk result (D.seen disk.new span.redo ≡ 0 ∷ []) }
+    ensures beside { D.tells → (f : ℕ) → (f < span.first) ⊎ (span.redo < f)
+        → D.seen disk.new f ≡ D.seen disk.old f }
     ensures crash { D.tells → Leaves ⟦<D as Disk>⟧ (IsBegun ⟦<D as Disk>⟧ span.redo disk.old)
         disk.old disk.new }
     ensures calls { D.calls disk.new ≤ D.calls disk.old + (span.redo - span.first + 4) }

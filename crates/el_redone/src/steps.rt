@@ -1,5 +1,5 @@
 // The steps of a commit: what goes into the redo file and into the files, and when they go to the disk.
-ghost use Rattle.std.specs.Prelude.{◌≡◌, ◌≢◌, ◌≤◌, ◌<◌, ◌+◌, ◌-◌, ℕ, List, [], ◌∷◌, length, OnOk};
+ghost use Rattle.std.specs.Prelude.{◌≡◌, ◌≢◌, ◌⊎◌, ◌≤◌, ◌<◌, ◌+◌, ◌-◌, ℕ, List, [], ◌∷◌, length, OnOk};
 ghost use Rattle.el_outside.specs.Counts.{HasCause};
 ghost use Rattle.el_outside.specs.Disk.{Image, over, OnDisk};
 ghost use Rattle.el_outside.specs.Moments.{LeftNow};
@@ -103,6 +103,8 @@ pub fn write_covered<D: Disk>(
 pub fn sync_files<D: Disk>(disk: &mut D, span: Span) -> Result<(), DiskFailed>
     ensures durable { D.tells → OnOk result (AreOnDisk ⟦<D as Disk>⟧ span.first span.redo disk.new) }
     ensures seen { D.tells → OnOk result (D.seen disk.new ≡ D.seen disk.old) }
+    ensures beside { D.tells → (f : ℕ) → (f < span.first) ⊎ (span.redo ≤ f)
+        → D.seen disk.new f ≡ D.seen disk.old f }
     ensures crash { D.tells → Leaves ⟦<D as Disk>⟧ (LeftNow D.moment D.left_since disk.old)
         disk.old disk.new }
     ensures calls { D.calls disk.new ≤ D.calls disk.old + (span.redo - span.first) }

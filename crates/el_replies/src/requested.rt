@@ -3,7 +3,7 @@ ghost use Rattle.std.specs.Prelude.{◌≡◌, ◌≤◌, ℕ, List, IfOk, OnErr
 ghost use Rattle.el_outside.specs.Counts.{RoseBy};
 ghost use Rattle.el_outside.specs.Files.{AllGrow};
 ghost use Rattle.el_chain.specs.Chains.{Chain};
-ghost use Rattle.el_model.specs.Keeping.{Quiet};
+ghost use Rattle.el_model.specs.LedgerCalls.{Asked};
 ghost use Rattle.el_methods.specs.Archives.{HasAsked};
 ghost use Rattle.el_mempool.specs.Standing.{StandsFor};
 ghost use Rattle.el_tx.specs.declared.types.Tx as shape;
@@ -59,8 +59,7 @@ pub fn answer_request<G: Ledger, A: Archive>(
     ensures printable { IfOk result IsPrintableAnswer }
     ensures disk_more { G.faults ledger.old ≤ G.faults ledger.new }
     ensures archive_more { A.faults archive.old ≤ A.faults archive.new }
-    ensures quiet { Quiet G.is_live G.height G.tip G.buckets G.stands G.tells_crash
-        G.moment G.left_since ledger.old ledger.new }
+    ensures quiet { Asked ⟦<G as Ledger>⟧ ledger.old ledger.new }
     ensures grows { A.tells → AllGrow (A.bytes archive.old) (A.bytes archive.new) }
 {
     let call = match call_of(request.method.as_str(), &request.params) {

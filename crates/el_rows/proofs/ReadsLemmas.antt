@@ -1,30 +1,28 @@
 -- How reads go on.
-use Rattle.std.proofs.Common.{◌≡◌, ℕ, ◌∙◌, sym, refl, subst}
-use Rattle.el_outside.proofs.Moments.{no_call, no_more_joined}
-use Rattle.el_row_formats.specs.declared.table.Table.{Table}
-use Rattle.el_row_formats.specs.Tables.{Tables}
-use Rattle.el_rows.specs.Reads.{OnlyRead}
+use Rattle.std.proofs.Common.{◌≡◌, ◌∙◌, sym, refl, subst}
+use Rattle.el_outside.proofs.Moments.{below_none, below_joined}
+use Rattle.el_rows.specs.declared.rows.Rows as rows
+use Rattle.el_rows.specs.Transaction.{WasRead}
 
-module _ {R C : Type 0} (lists : R → Tables) (counts : R → Table → ℕ) (is_live : R → Type 0) (tells_crash : Type 0) (moment : R → ℕ) (left_since : R → ℕ → C → Type 0) where
+module _ {R : Type 0} (G : rows.Ghosts R) where
   -- reads after reads
-  pub read_joined : (old mid new : R) → OnlyRead lists counts is_live tells_crash moment left_since old mid → OnlyRead lists counts is_live tells_crash moment left_since mid new
-      → OnlyRead lists counts is_live tells_crash moment left_since old new
+  pub read_joined : (old mid new : R) → WasRead G old mid → WasRead G mid new → WasRead G old new
   read_joined old mid new first second = record {
     same = second.same ∙ first.same;
     count = second.count ∙ first.count;
     live = second.live;
-    crash = λ told. no_more_joined moment left_since old mid new (first.crash told) (second.crash told);
+    below = below_joined G.moment G.left_since G.tells_crash G.beside old mid new first.below second.below;
   }
 
   -- no reads
-  pub read_none : (old : R) → is_live old → OnlyRead lists counts is_live tells_crash moment left_since old old
+  pub read_none : (old : R) → G.is_live old → WasRead G old old
   read_none old live = record {
     same = refl;
     count = refl;
     live = live;
-    crash = λ told. no_call moment left_since old;
+    below = below_none G.moment G.left_since G.tells_crash G.beside old;
   }
 
   -- and nothing after them
-  pub read_same : (old mid new : R) → OnlyRead lists counts is_live tells_crash moment left_since old mid → new ≡ mid → OnlyRead lists counts is_live tells_crash moment left_since old new
-  read_same old mid new reads same = subst (λ (r : R). OnlyRead lists counts is_live tells_crash moment left_since old r) (sym same) reads
+  pub read_same : (old mid new : R) → WasRead G old mid → new ≡ mid → WasRead G old new
+  read_same old mid new reads same = subst (λ (r : R). WasRead G old r) (sym same) reads

@@ -27,7 +27,7 @@ module _ {R : Type 0} {G : rows.Ghosts R} {L : layer.Ghosts Edited} where
   pub nothing : (t : Open R Edited G L) → G.is_live t.rows.now → SoFar t t
   nothing t live = record {
     tables = refl;
-    only = read_none _ _ _ _ _ _ t.rows.now live;
+    only = read_none G t.rows.now live;
     borrow = refl;
     rose = omega arith;
     uncounted = refl;
@@ -45,7 +45,7 @@ module _ {R : Type 0} {G : rows.Ghosts R} {L : layer.Ghosts Edited} where
   -- edits alone
   pub made : {old mid new : Open R Edited G L} → EditedSoFar old mid → EditsAlone mid new → EditedSoFar old new
   made {old = old} {mid = mid} {new = new} so_far alone = record {
-    only = read_same _ _ _ _ _ _ old.rows.now mid.rows.now new.rows.now so_far.only alone.rows;
+    only = read_same G old.rows.now mid.rows.now new.rows.now so_far.only alone.rows;
     borrow = alone.borrow ∙ so_far.borrow;
     rose = subst (λ (r : R). reads_in old ≤ G.reads r) (sym alone.rows) so_far.rose;
     uncounted = subst (λ (r : R). G.faults r ≡ G.faults old.rows.now) (sym alone.rows) so_far.uncounted;
@@ -65,7 +65,7 @@ module _ {R : Type 0} {G : rows.Ghosts R} {L : layer.Ghosts Edited} {T E : Type 
   pub more : {old mid new : Open R Edited G L} → SoFar old mid → ReadsRows failure mid new (Ok x) → SoFar old new
   more {old = old} {mid = mid} {new = new} so_far read = record {
     tables = read.tables ∙ so_far.tables;
-    only = read_joined _ _ _ _ _ _ old.rows.now mid.rows.now new.rows.now so_far.only read.only;
+    only = read_joined G old.rows.now mid.rows.now new.rows.now so_far.only read.only;
     borrow = read.borrow ∙ so_far.borrow;
     rose = omega (arith, read.rose, so_far.rose);
     uncounted = read.cause.uncounted ∙ so_far.uncounted;
@@ -73,7 +73,7 @@ module _ {R : Type 0} {G : rows.Ghosts R} {L : layer.Ghosts Edited} {T E : Type 
 
   pub more_edits : {old mid new : Open R Edited G L} → EditedSoFar old mid → EditsRows failure mid new (Ok x) → EditedSoFar old new
   more_edits {old = old} {mid = mid} {new = new} so_far edits = record {
-    only = read_joined _ _ _ _ _ _ old.rows.now mid.rows.now new.rows.now so_far.only edits.only;
+    only = read_joined G old.rows.now mid.rows.now new.rows.now so_far.only edits.only;
     borrow = edits.borrow ∙ so_far.borrow;
     rose = omega (arith, edits.rose, so_far.rose);
     uncounted = edits.cause.uncounted ∙ so_far.uncounted;
@@ -82,7 +82,7 @@ module _ {R : Type 0} {G : rows.Ghosts R} {L : layer.Ghosts Edited} {T E : Type 
   -- a read among edits
   pub more_read : {old mid new : Open R Edited G L} → EditedSoFar old mid → ReadsRows failure mid new (Ok x) → EditedSoFar old new
   more_read {old = old} {mid = mid} {new = new} so_far read = record {
-    only = read_joined _ _ _ _ _ _ old.rows.now mid.rows.now new.rows.now so_far.only read.only;
+    only = read_joined G old.rows.now mid.rows.now new.rows.now so_far.only read.only;
     borrow = read.borrow ∙ so_far.borrow;
     rose = omega (arith, read.rose, so_far.rose);
     uncounted = read.cause.uncounted ∙ so_far.uncounted;

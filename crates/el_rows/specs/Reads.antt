@@ -1,6 +1,5 @@
 -- What calls of rows alone leave as it was.
 use Rattle.std.specs.Prelude.{◌≡◌, ◌⊎◌, ℕ}
-use Rattle.el_outside.specs.Moments.{LeavesNoMore}
 use Rattle.el_row_formats.specs.declared.table.Table.{Table}
 use Rattle.el_row_formats.specs.Tables.{Tables}
 
@@ -12,11 +11,11 @@ Same a b = (t : Table) → b t ≡ a t
 abbrev pub IsEither : {C : Type 0} → (C → Tables → Type 0) → Tables → Tables → C → Type 0
 IsEither shows a b c = shows c a ⊎ shows c b
 
--- Rows were read and nothing else: lists and counts stay, the store stays live, and a crash leaves no more
--- than one just before it might have left.
-pub record OnlyRead {R C : Type 0} (lists : R → Tables) (counts : R → Table → ℕ) (is_live : R → Type 0)
-    (tells_crash : Type 0) (moment : R → ℕ) (left_since : R → ℕ → C → Type 0) (old new : R) : Type 0 where
+-- Rows were read and nothing else: lists and counts stay, the store stays live, and what is below it is kept,
+-- as `keeps` says.
+pub record OnlyRead {R : Type 0} (lists : R → Tables) (counts : R → Table → ℕ) (is_live : R → Type 0)
+    (keeps : R → R → Type 0) (old new : R) : Type 0 where
   pub same : lists new ≡ lists old
   pub count : counts new ≡ counts old
   pub live : is_live new
-  pub crash : tells_crash → LeavesNoMore moment left_since old new
+  pub below : keeps old new

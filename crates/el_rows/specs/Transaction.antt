@@ -1,6 +1,7 @@
 -- The tables that a transaction shows, and what calls over one leave as it was.
 use Rattle.std.specs.Prelude.{◌≡◌, ◌≤◌, ℕ, Result}
 use Rattle.el_outside.specs.Counts.{CountsOnly}
+use Rattle.el_outside.specs.Moments.{KeepsBelow}
 use Rattle.el_outside.specs.declared.disk.DiskFailed.{DiskFailed}
 use Rattle.el_rows.specs.declared.open.Open.{Open}
 use Rattle.el_rows.specs.declared.rows.Rows as rows
@@ -13,11 +14,16 @@ use Rattle.el_rows.specs.Reads.{OnlyRead}
 abbrev pub tables_in : {R : Type 0} {G : rows.Ghosts R} {L : layer.Ghosts Edited} → Open R Edited G L → Tables
 tables_in {R} {G} txn = under (G.lists txn.rows.now) txn.edits.counts txn.edits.changes
 
+-- rows were read and nothing else, over all that the store's type tells
+abbrev pub WasRead : {R : Type 0} → rows.Ghosts R → R → R → Type 0
+WasRead G old new =
+    OnlyRead G.lists G.counts G.is_live
+    (KeepsBelow G.tells_crash G.moment G.left_since G.beside) old new
+
 -- of the rows below, rows were read and nothing else
 abbrev pub OnlyReads : {R : Type 0} {G : rows.Ghosts R} {L : layer.Ghosts Edited}
     → Open R Edited G L → Open R Edited G L → Type 0
-OnlyReads {R} {G} old new =
-    OnlyRead G.lists G.counts G.is_live G.tells_crash G.moment G.left_since old.rows.now new.rows.now
+OnlyReads {R} {G} old new = WasRead G old.rows.now new.rows.now
 
 -- how many rows were read of the rows below
 abbrev pub reads_in : {R : Type 0} {G : rows.Ghosts R} {L : layer.Ghosts Edited} → Open R Edited G L → ℕ

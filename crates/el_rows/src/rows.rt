@@ -3,7 +3,7 @@ ghost use Rattle.std.specs.Prelude.{◌≡◌, ◌<◌, ◌≤◌, ◌+◌, ℕ,
 ghost use Rattle.el_outside.specs.Counts.{HasCause, CountsOnly};
 ghost use Rattle.el_row_formats.specs.Tables.{size_of, limit_of};
 ghost use Rattle.el_rows.specs.Reads.{OnlyRead, Same, IsEither};
-ghost use Rattle.el_outside.specs.Moments.{LeavesOnly};
+ghost use Rattle.el_outside.specs.Moments.{KeepsBelow, LeavesOnly};
 ghost use Rattle.el_rows.specs.Changes.{IsMadeFrom, under, count_at};
 
 use crate::{CommitFault, Sealed};
@@ -13,6 +13,7 @@ use el_row_formats::Table;
 /// A store of tables of rows.
 pub trait Rows {
     ghost use Rattle.std.specs.Prelude.{◌≡◌, ◌≤◌, ℕ, List, length};
+    ghost use Rattle.el_outside.specs.Disk.{Image};
     ghost use Rattle.el_row_formats.specs.declared.table.Table.{Table};
 
     /// Whether the store tells what its rows hold. One in memory does, one over a real disk doesn't.
@@ -42,6 +43,10 @@ pub trait Rows {
     /// What a crash at some moment from that one on might have left, during a call or between two.
     ghost left_since: { Self → ℕ → Left → Type 0 };
 
+    /// What the disk below holds beside the rows: the bytes of each file that is none of the store's, and
+    /// none for the store's own. It is told as what a crash leaves is, and each call keeps it.
+    ghost beside: { Self → Image };
+
     /// How often the disk below has failed.
     ghost faults: { Self → ℕ };
 
@@ -59,7 +64,8 @@ pub trait Rows {
         requires below { i < counts self.old t }
         requires sized { length buf.old ≡ size_of t }
         ensures row { tells → OnOk result (buf.new ≡ get_or (lists self.old t) i []) }
-        ensures reads { OnlyRead lists counts is_live tells_crash moment left_since self.old self.new }
+        ensures reads { OnlyRead lists counts is_live
+            (KeepsBelow tells_crash moment left_since beside) self.old self.new }
         ensures tick { reads self.new ≡ reads self.old + 1 }
         ensures cause { HasCause (faults self.old) (faults self.new) result };
 
@@ -73,9 +79,11 @@ pub trait Rows {
         ensures counts { OnOk result ((t : Table) → counts self.new t ≡ count_at sealed.now.counts t) }
         ensures live { OnOk result (is_live self.new) }
         ensures memory { IsErrOf result CommitFault.Memory
-            → OnlyRead lists counts is_live tells_crash moment left_since self.old self.new }
+            → OnlyRead lists counts is_live
+            (KeepsBelow tells_crash moment left_since beside) self.old self.new }
         ensures crash { tells_crash → LeavesOnly moment left_since self.old self.new
             (IsEither shows (lists self.old) (under (lists self.old) sealed.now.counts sealed.now.changes)) }
+        ensures beside { tells_crash → beside self.new ≡ beside self.old }
         ensures idle { reads self.new ≡ reads self.old }
         ensures cause { CountsOnly (faults self.old) (faults self.new) CommitFault.DiskFailed result };
 

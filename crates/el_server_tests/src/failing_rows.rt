@@ -78,6 +78,8 @@ impl Rows for FailingRows {
 
     ghost left_since = { λ s t c. ⊥ };
 
+    ghost beside = { λ s f. [] };
+
     ghost faults = { λ s. s.faults };
 
     ghost reads = { λ s. s.reads };

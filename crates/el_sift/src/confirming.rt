@@ -4,7 +4,7 @@ ghost use Rattle.el_base.specs.declared.hash.Hash32 as hash_shape;
 ghost use Rattle.el_outside.specs.Counts.{CountsOnly};
 ghost use Rattle.el_chain.specs.Chains.{Chain};
 ghost use Rattle.el_chain.specs.Headers.{same_hash};
-ghost use Rattle.el_model.specs.Keeping.{Quiet};
+ghost use Rattle.el_model.specs.LedgerCalls.{Asked};
 ghost use Rattle.el_mempool.specs.Sift.{is_confirmed};
 ghost use Rattle.el_mempool.specs.declared.held.KeptTx as kept_shape;
 ghost use Rattle.el_kept.specs.Tables.{standing, has};
@@ -37,8 +37,7 @@ fn ask<G: Ledger>(ledger: &mut G, id: &Hash32, confirmed: &mut Touched) -> Resul
     ensures asked { (chain : Chain) (x : hash_shape.Hash32) → G.stands ledger.old chain
         → OnOk result (has confirmed.new x
         ≡ (has confirmed.old x || (same_hash x id.now && is_confirmed chain id.now))) }
-    ensures quiet { Quiet G.is_live G.height G.tip G.buckets G.stands G.tells_crash
-        G.moment G.left_since ledger.old ledger.new }
+    ensures quiet { Asked ⟦<G as Ledger>⟧ ledger.old ledger.new }
     ensures cause { CountsOnly (G.faults ledger.old) (G.faults ledger.new) QueryFault.DiskFailed result }
 {
     if !ledger.find_tx(id)?.is_some() {
@@ -57,8 +56,7 @@ fn confirmed_among<G: Ledger>(
     requires live { G.is_live ledger.old }
     ensures found { (chain : Chain) (x : hash_shape.Hash32) → G.stands ledger.old chain
         → IfOk result (λ found. has found x ≡ (is_confirmed chain x && has ids.now x)) }
-    ensures quiet { Quiet G.is_live G.height G.tip G.buckets G.stands G.tells_crash
-        G.moment G.left_since ledger.old ledger.new }
+    ensures quiet { Asked ⟦<G as Ledger>⟧ ledger.old ledger.new }
     ensures cause { CountsOnly (G.faults ledger.old) (G.faults ledger.new) QueryFault.DiskFailed result }
 {
     let mut confirmed = Touched::new(alloc);
@@ -78,8 +76,7 @@ pub fn confirmed_in<G: Ledger>(
     requires live { G.is_live ledger.old }
     ensures told { (chain : Chain) → G.stands ledger.old chain
         → IfOk result (λ found. KnowsAll chain found (standing table.now.kept.entries)) }
-    ensures quiet { Quiet G.is_live G.height G.tip G.buckets G.stands G.tells_crash
-        G.moment G.left_since ledger.old ledger.new }
+    ensures quiet { Asked ⟦<G as Ledger>⟧ ledger.old ledger.new }
     ensures cause { CountsOnly (G.faults ledger.old) (G.faults ledger.new) QueryFault.DiskFailed result }
 {
     let ids = txids_in(alloc, table)?;

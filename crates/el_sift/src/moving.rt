@@ -5,7 +5,7 @@ ghost use Rattle.el_outside.specs.Counts.{CountsOnly};
 ghost use Rattle.el_base.specs.declared.hash.Hash32 as hash_shape;
 ghost use Rattle.el_chain.specs.Chains.{Chain};
 ghost use Rattle.el_chain.specs.Headers.{same_hash};
-ghost use Rattle.el_model.specs.Keeping.{Quiet};
+ghost use Rattle.el_model.specs.LedgerCalls.{Asked};
 ghost use Rattle.el_tx.specs.declared.types.Tx as shape;
 ghost use Rattle.el_mempool.specs.Sift.{total_held, sift};
 ghost use Rattle.el_mempool.specs.Standing.{StandsFor, AreChanged, is_at_script, is_coin_at};
@@ -126,8 +126,7 @@ fn sift_one<G: Ledger>(
         → AreUnspent chain kept → Knows chain confirmed.now entry.now → G.stands ledger.old chain
         → OnOk result (IsSifted before chain all kept t found.old.gone found.new.gone
         found.old.changed found.new.changed found.old.touched found.new.touched) }
-    ensures quiet { Quiet G.is_live G.height G.tip G.buckets G.stands G.tells_crash
-        G.moment G.left_since ledger.old ledger.new }
+    ensures quiet { Asked ⟦<G as Ledger>⟧ ledger.old ledger.new }
     ensures cause { CountsOnly (G.faults ledger.old) (G.faults ledger.new) QueryFault.DiskFailed result }
 {
     match renewed(alloc, table, &found.gone, confirmed, ledger, entry)? {
@@ -150,8 +149,7 @@ fn sift_all<G: Ledger>(
         → IfOk result (λ found. StandsFor (map (settled found.changed)
         (without found.gone (standing table.now.kept.entries))) chain (sift chain all)
         × AreChanged before all chain (sift chain all) found.touched) }
-    ensures quiet { Quiet G.is_live G.height G.tip G.buckets G.stands G.tells_crash
-        G.moment G.left_since ledger.old ledger.new }
+    ensures quiet { Asked ⟦<G as Ledger>⟧ ledger.old ledger.new }
     ensures cause { CountsOnly (G.faults ledger.old) (G.faults ledger.new) QueryFault.DiskFailed result }
 {
     let mut found = Sifted {
@@ -247,8 +245,7 @@ fn sift_in_place<G: Ledger>(
         → StandsFor (standing table.old.kept.entries) before kept → G.stands ledger.old chain
         → IfOk result (λ touched. StandsFor (standing table.new.kept.entries) chain (sift chain kept)
         × AreChanged before kept chain (sift chain kept) touched) }
-    ensures quiet { Quiet G.is_live G.height G.tip G.buckets G.stands G.tells_crash
-        G.moment G.left_since ledger.old ledger.new }
+    ensures quiet { Asked ⟦<G as Ledger>⟧ ledger.old ledger.new }
     ensures cause { CountsOnly (G.faults ledger.old) (G.faults ledger.new) QueryFault.DiskFailed result }
 {
     let confirmed = confirmed_in(alloc, table, ledger)?;
@@ -284,8 +281,7 @@ pub fn sift_table<G: Ledger>(
         → StandsFor (standing table.old.kept.entries) before kept → G.stands ledger.old chain
         → IfOk result (λ touched. StandsFor (standing table.new.kept.entries) chain (sift chain kept)
         × AreChanged before kept chain (sift chain kept) touched) }
-    ensures quiet { Quiet G.is_live G.height G.tip G.buckets G.stands G.tells_crash
-        G.moment G.left_since ledger.old ledger.new }
+    ensures quiet { Asked ⟦<G as Ledger>⟧ ledger.old ledger.new }
     ensures cause { CountsOnly (G.faults ledger.old) (G.faults ledger.new) QueryFault.DiskFailed result }
 {
     match sift_in_place(alloc, table, listings, ledger) {

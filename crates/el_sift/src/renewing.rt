@@ -2,7 +2,7 @@
 ghost use Rattle.std.specs.Prelude.{◌≡◌, true, false, pos, List, IfOk, IfNone, IfSome};
 ghost use Rattle.el_outside.specs.Counts.{HasCause, CountsOnly};
 ghost use Rattle.el_chain.specs.Chains.{Chain};
-ghost use Rattle.el_model.specs.Keeping.{Quiet};
+ghost use Rattle.el_model.specs.LedgerCalls.{Asked};
 ghost use Rattle.el_tx.specs.declared.types.Tx as shape;
 ghost use Rattle.el_mempool.specs.Sift.{coin_named, may_join};
 ghost use Rattle.el_mempool.specs.Standing.{sources};
@@ -53,8 +53,7 @@ fn named_again<G: Ledger>(
     ensures found { (chain : Chain) → G.stands ledger.old chain → IfOk result (λ found.
         found ≡ found_by (renewal.output_left table.now gone.now any outpoint.now)
         (coin_named chain outpoint.now)) }
-    ensures quiet { Quiet G.is_live G.height G.tip G.buckets G.stands G.tells_crash
-        G.moment G.left_since ledger.old ledger.new }
+    ensures quiet { Asked ⟦<G as Ledger>⟧ ledger.old ledger.new }
     ensures cause { HasCause (G.faults ledger.old) (G.faults ledger.new) result }
 {
     let left = output_left(table, gone, any, outpoint);
@@ -84,8 +83,7 @@ fn taken_again<G: Ledger>(
         → renewal.AreSeen (renewal.output_left table.now gone.now any) chain kept inputs.now
         → G.stands ledger.old chain
         → IfOk result (λ r. IfNone r (renewal.all_take chain kept inputs.now ≡ false)) }
-    ensures quiet { Quiet G.is_live G.height G.tip G.buckets G.stands G.tells_crash
-        G.moment G.left_since ledger.old ledger.new }
+    ensures quiet { Asked ⟦<G as Ledger>⟧ ledger.old ledger.new }
     ensures cause { CountsOnly (G.faults ledger.old) (G.faults ledger.new) QueryFault.DiskFailed result }
 {
     let mut sources = Vec::with_capacity(alloc, inputs.len())?;
@@ -130,8 +128,7 @@ pub fn renewed<G: Ledger>(
         → AreUnspent chain kept → renewal.Knows chain confirmed.now entry.now
         → G.stands ledger.old chain
         → IfOk result (λ r. IfNone r (may_join chain kept t ≡ false)) }
-    ensures quiet { Quiet G.is_live G.height G.tip G.buckets G.stands G.tells_crash
-        G.moment G.left_since ledger.old ledger.new }
+    ensures quiet { Asked ⟦<G as Ledger>⟧ ledger.old ledger.new }
     ensures cause { CountsOnly (G.faults ledger.old) (G.faults ledger.new) QueryFault.DiskFailed result }
 {
     if confirmed.has(&entry.txid) {

@@ -358,6 +358,7 @@ module _ {G A : Type 0} (of_ledger : ledgers.Ghosts G) (of_files : archives.Ghos
     archive_more = more;
     archive_rose = tt;
     disk_rose = record { counted = λ e. absurd cc; uncounted = refl; others_uncounted = tt };
+    beside = λ told. refl;
   }
   step_still (Err e) l a b live none grows more rose memory = record {
     live = tt;
@@ -368,6 +369,7 @@ module _ {G A : Type 0} (of_ledger : ledgers.Ghosts G) (of_files : archives.Ghos
     archive_more = more;
     archive_rose = rose;
     disk_rose = record { counted = λ is. absurd (by e is memory); uncounted = tt; others_uncounted = λ other. refl };
+    beside = λ told. refl;
   }
     where
       by : (e : QueryFault) → ◌≡◌ {A = Result Step QueryFault} (Err e) (Err fault.DiskFailed) → e ≡ fault.Memory → ⊥
@@ -386,6 +388,7 @@ module _ {G A : Type 0} (of_ledger : ledgers.Ghosts G) (of_files : archives.Ghos
     archive_more = omega arith;
     archive_rose = tt;
     disk_rose = record { counted = λ e. absurd cc; uncounted = same; others_uncounted = tt };
+    beside = asked.below.files;
   }
 
   -- or failed
@@ -401,15 +404,16 @@ module _ {G A : Type 0} (of_ledger : ledgers.Ghosts G) (of_files : archives.Ghos
     archive_more = omega arith;
     archive_rose = inl (rose_still _ _ refl);
     disk_rose = record { counted = λ m. counted (same_fault e fault.DiskFailed m); uncounted = tt; others_uncounted = λ other. others other };
+    beside = asked.below.files;
   })
     where
       same_fault : (x y : QueryFault) → ◌≡◌ {A = Result Step QueryFault} (Err x) (Err y) → x ≡ y
       same_fault x y m = cc
 
   -- a step after the ledger was asked
-  pub step_on : (old mid new : G) (a b : A) (r : Result Step QueryFault) → of_ledger.faults mid ≡ of_ledger.faults old → NodeStep of_ledger of_files mid new a b false r
+  pub step_on : (old mid new : G) (a b : A) (r : Result Step QueryFault) → Asked of_ledger old mid → of_ledger.faults mid ≡ of_ledger.faults old → NodeStep of_ledger of_files mid new a b false r
       → NodeStep of_ledger of_files old new a b false r
-  step_on old mid new a b r same n = record {
+  step_on old mid new a b r asked same n = record {
     live = n.live;
     still_live = n.still_live;
     nodes = n.nodes;
@@ -418,4 +422,5 @@ module _ {G A : Type 0} (of_ledger : ledgers.Ghosts G) (of_files : archives.Ghos
     archive_more = n.archive_more;
     archive_rose = n.archive_rose;
     disk_rose = rw same at n.disk_rose;
+    beside = λ told. n.beside told ∙ asked.below.files told;
   }

@@ -26,8 +26,7 @@ use Rattle.el_model.specs.Keeping.{Either}
 use Rattle.el_model.specs.LedgerCalls.{Asked, CrashLeaves, Moved, failed_calls}
 use Rattle.el_model.specs.Queries.{tip_of, height_of}
 use Rattle.el_model.specs.declared.ledger.Ledger as ledgers
-use Rattle.el_model.proofs.LedgerMoves.{LeavesOwn}
-use Rattle.el_model.proofs.Quiets.{quiet_leaves}
+use Rattle.el_model.proofs.LedgerMoves.{LeavesOwn, asked_leaves}
 use Rattle.el_lines.specs.declared.node_answer.NodeAnswer.{NodeAnswer}
 use Rattle.el_lines.specs.declared.node_answer.NodeAnswer.TheVariants as say
 use Rattle.el_side.specs.UnderWay.{IsUnderWay, before, in_move}
@@ -258,7 +257,7 @@ module _ {G A : Type 0} (of_ledger : ledgers.Ghosts G) (of_files : archives.Ghos
     stood = asked.stays.still_stands next moved.stood;
     crash = λ told. joined of_ledger.moment of_ledger.left_since old mid new (Either of_ledger.means chain next) (moved.crash told)
         (weaker of_ledger.moment of_ledger.left_since mid new (λ d. of_ledger.means d next) (Either of_ledger.means chain next) (λ d m. inr m)
-        (quiet_leaves of_ledger.is_live of_ledger.height of_ledger.tip of_ledger.buckets of_ledger.stands of_ledger.tells_crash of_ledger.moment of_ledger.left_since of_ledger.means mid new live own asked told next moved.stood));
+        (asked_leaves of_ledger mid new live own asked told next moved.stood));
   }
 
   -- the set was sifted, or a later move is to do it
@@ -402,6 +401,7 @@ module _ {G A : Type 0} (of_ledger : ledgers.Ghosts G) (of_files : archives.Ghos
     archive_more = omega (arith, f.archive_rose);
     archive_rose = inl f.archive_rose;
     disk_rose = record { counted = λ m. f.disk_rose (same_fault e fault.DiskFailed m); uncounted = tt; others_uncounted = λ other. f.disk_same other };
+    beside = f.beside;
   })
     where
       same_fault : (x y : QueryFault) → ◌≡◌ {A = Result Step QueryFault} (Err x) (Err y) → x ≡ y
@@ -422,6 +422,7 @@ module _ {G A : Type 0} (of_ledger : ledgers.Ghosts G) (of_files : archives.Ghos
     archive_more = more_files a b (m.moved ≡ false) k.archive_rose;
     archive_rose = tt;
     disk_rose = record { counted = λ bad. absurd (let e = bad in cc); uncounted = disk_same ∙ k.disk_same; others_uncounted = tt };
+    beside = λ told. asked.below.files told ∙ k.beside told;
   }
 
   pub step_unsettled : (r : Result Step QueryFault) (e : QueryFault) (old mid new : G) (a b : A) (rest : List Node) (m : Made) (later : Bool) → r ≡ Err e → MoveKeeps of_ledger of_files old mid a b rest m
@@ -436,6 +437,7 @@ module _ {G A : Type 0} (of_ledger : ledgers.Ghosts G) (of_files : archives.Ghos
     archive_more = more_files a b (m.moved ≡ false) k.archive_rose;
     archive_rose = rose k.archive_rose;
     disk_rose = record { counted = λ bad. rw k.disk_same at (counted (same_fault e fault.DiskFailed bad)); uncounted = tt; others_uncounted = λ other. others other ∙ k.disk_same };
+    beside = λ told. asked.below.files told ∙ k.beside told;
   })
     where
       same_fault : (x y : QueryFault) → ◌≡◌ {A = Result Step QueryFault} (Err x) (Err y) → x ≡ y

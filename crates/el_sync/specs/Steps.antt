@@ -15,7 +15,7 @@ use Rattle.el_lines.specs.declared.node_answer.NodeAnswer.TheVariants as say
 use Rattle.el_lines.specs.declared.node_answer.NodeRefusal.TheVariants as refusal
 use Rattle.el_side.specs.declared.holdings.Holdings.{Holdings}
 use Rattle.el_side.specs.UnderWay.{IsUnderWay}
-use Rattle.el_model.specs.LedgerCalls.{CrashLeaves, Moved, failed_calls}
+use Rattle.el_model.specs.LedgerCalls.{CrashLeaves, KeepsBeside, Moved, failed_calls}
 use Rattle.el_side.specs.Side.{Side}
 use Rattle.el_model.specs.declared.ledger.Ledger as ledgers
 use Rattle.el_model.specs.declared.fault.QueryFault.{QueryFault}
@@ -82,3 +82,5 @@ pub record NodeStep {G A : Type 0} (of_ledger : ledgers.Ghosts G) (of_files : ar
   pub archive_rose : OnErr result
       (RoseWith later (λ n. RoseBy (of_files.faults files_old) (of_files.faults files_new) n))
   pub disk_rose : CountsOnly (of_ledger.faults old) (of_ledger.faults new) fault.DiskFailed result
+  -- the files beside the ledger's own stay
+  pub beside : KeepsBeside of_ledger old new

@@ -1,5 +1,5 @@
-//! Calls of the program over devices in memory, for tests. The blocks are Bitcoin's first two, or are made from
-//! a few numbers; their hashes, txids and script hashes were computed by another program.
+//! Calls of the program over devices in memory, for tests. The blocks are Bitcoin's first two, or are made
+//! from a few numbers; their hashes, txids and script hashes were computed by another program.
 #![tactic(auto)]
 
 mod block_files;

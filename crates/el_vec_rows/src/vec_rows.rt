@@ -271,6 +271,8 @@ impl Rows for VecRows {
 
     ghost left_since = { λ s t c. ⊥ };
 
+    ghost beside = { λ s f. [] };
+
     ghost faults = { λ s. 0 };
 
     ghost reads = { λ s. s.reads };

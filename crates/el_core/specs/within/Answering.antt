@@ -10,7 +10,7 @@ use Rattle.el_mempool.specs.Standing.{StandsFor}
 use Rattle.el_lines.specs.NodeAnswers.{text_of}
 use Rattle.el_lines.specs.declared.node_answer.NodeAnswer.{NodeAnswer}
 use Rattle.el_model.specs.declared.ledger.Ledger as ledger
-use Rattle.el_model.specs.LedgerCalls.{failed_calls}
+use Rattle.el_model.specs.LedgerCalls.{KeepsBeside, failed_calls}
 use Rattle.el_side.specs.NodeSteps.{Leads, StandsBeside}
 use Rattle.el_side.specs.Side.{Side}
 use Rattle.el_world.specs.World.{reply_to}
@@ -51,8 +51,8 @@ pub record Answered {G A : Type 0} (of_ledger : ledger.Ghosts G) (of_files : arc
       new.holdings.tree new.ahead moved changed new.holdings
   pub covers : CoversAll old.clients old.touched moved changed new.touched
 
--- What each turn of the node keeps, whatever the ledger stands for: block files only grow, and no count
--- falls.
+-- What each turn of the node keeps, whatever the ledger stands for: block files only grow, no count falls,
+-- and the files beside the ledger's own stay.
 pub record NodeKeeps {G A : Type 0} (of_ledger : ledger.Ghosts G) (of_files : archive.Ghosts A) (old new : G)
     (before after : A) (result : Result Outs QueryFault) : Type 0 where
   pub live : OnOk result (of_ledger.is_live new)
@@ -60,3 +60,4 @@ pub record NodeKeeps {G A : Type 0} (of_ledger : ledger.Ghosts G) (of_files : ar
   pub keeps : of_files.tells → AllGrow (of_files.bytes before) (of_files.bytes after)
   pub archive_more : of_files.faults before ≤ of_files.faults after
   pub disk_rose : CountsOnly (of_ledger.faults old) (of_ledger.faults new) fault.DiskFailed result
+  pub beside : KeepsBeside of_ledger old new

@@ -1,11 +1,12 @@
 -- What lives leave behind.
 use Rattle.std.specs.Prelude.{◌≡◌, ℕ, List}
+use Rattle.std.specs.List.{AllByRecursion}
 use Rattle.el_outside.specs.declared.archive.Archive as archive
 use Rattle.el_outside.specs.declared.disk.Disk as disk
 use Rattle.el_outside.specs.declared.link.Link as link
 use Rattle.el_chain.specs.Chains.{Chain}
 use Rattle.el_program.specs.Calls.{Call}
-use Rattle.el_program.specs.Lives.{AreOver, AreLives, GoOn, last_disk}
+use Rattle.el_program.specs.Lives.{AreOver, AreLives, GoOn, LeavesOthers, last_disk}
 use Rattle.el_program.specs.declared.status.Status.{Status}
 
 -- Lives were lived over these block files and links, the first on what this disk may leave, and ended so.
@@ -17,4 +18,5 @@ pub record Lived {D A K : Type 0} (of_disk : disk.Ghosts D) (of_files : archive.
   pub over : AreOver lives words turns files files_after links links_after ends
   pub are : AreLives of_disk d lives
   pub last : left ≡ last_disk d lives
+  pub others : AllByRecursion (LeavesOthers of_disk) lives
   pub go_on : GoOn of_disk of_files of_link was flight lives

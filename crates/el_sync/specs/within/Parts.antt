@@ -19,7 +19,7 @@ use Rattle.el_chain.specs.Touches.{AreTouched}
 use Rattle.el_mempool.specs.declared.fault.PoolFault.{PoolFault}
 use Rattle.el_mempool.specs.declared.fault.PoolFault.TheVariants as unkept
 use Rattle.el_mempool.specs.Standing.{AreChanged, PoolState, StandsFor}
-use Rattle.el_model.specs.LedgerCalls.{Moved, failed_calls}
+use Rattle.el_model.specs.LedgerCalls.{KeepsBeside, Moved, failed_calls}
 use Rattle.el_model.specs.Queries.{height_of, tip_of}
 use Rattle.el_model.specs.declared.ledger.Ledger as ledgers
 use Rattle.el_lines.specs.NodeAnswers.{move_refused}
@@ -81,6 +81,7 @@ pub record MoveKeeps {G A : Type 0} (of_ledger : ledgers.Ghosts G) (of_files : a
   pub archive_rose : RoseBy (of_files.faults files_old) (of_files.faults files_new) 0
       ⊎ ((made.moved ≡ false) × RoseBy (of_files.faults files_old) (of_files.faults files_new) 1)
   pub disk_same : of_ledger.faults new ≡ of_ledger.faults old
+  pub beside : KeepsBeside of_ledger old new
 
 -- What a move that failed keeps.
 pub record MoveFailed {G A : Type 0} (of_ledger : ledgers.Ghosts G) (of_files : archives.Ghosts A)
@@ -90,6 +91,7 @@ pub record MoveFailed {G A : Type 0} (of_ledger : ledgers.Ghosts G) (of_files : 
   pub archive_rose : RoseBy (of_files.faults files_old) (of_files.faults files_new) 0
   pub disk_rose : e ≡ fault.DiskFailed → RoseBy (of_ledger.faults old) (of_ledger.faults new) 1
   pub disk_same : e ≢ fault.DiskFailed → of_ledger.faults new ≡ of_ledger.faults old
+  pub beside : KeepsBeside of_ledger old new
 
 -- The set stands for what is kept of these transactions, and these are the script hashes that changed.
 pub record StandsAfter (pool : PoolState) (side : Side) (changed : List Hash32) (does : Side → Type 0)

@@ -2,7 +2,7 @@ use Rattle.std.proofs.Common.{◌∙◌, ap}
 use Rattle.std.specs.Prelude.{option_map}
 use Rattle.el_mempool.specs.Standing.{source_at}
 use Rattle.el_kept.specs.declared.found.FoundOutput.{FoundOutput}
-use Rattle.el_model.proofs.Quiets.{quiet_on}
+use Rattle.el_model.proofs.LedgerMoves.{asked_on}
 use Rattle.el_join.proofs.Asked.{one_more, any_more}
 use Rattle.el_join.proofs.asking.sources_of.Goals as goal
 
@@ -10,7 +10,7 @@ pub loop-input-preserved : goal.loop-input-preserved
 loop-input-preserved g c =
     let d = g.G.Ledger in
     record {
-      quiet = quiet_on d.is_live d.height d.tip d.buckets d.stands d.tells_crash d.moment d.left_since
+      quiet = asked_on d
           c.args.ledger.now c.loop-input.ledger c.named.new.ledger c.loop-input.invariant.quiet c.in_ok-found.ensures.quiet;
       still = c.in_ok-found.ensures.cause.uncounted ∙ c.loop-input.invariant.still;
       any = rw c.in_ok-push.ensures.items (c.any_with-any_kept.ensures
@@ -25,17 +25,17 @@ loop-input-preserved g c =
 pub returns-in_err-found-clause-quiet : goal.returns-in_err-found-clause-quiet
 returns-in_err-found-clause-quiet g c =
     let d = g.G.Ledger in
-    quiet_on d.is_live d.height d.tip d.buckets d.stands d.tells_crash d.moment d.left_since
+    asked_on d
     c.args.ledger.now c.loop-input.ledger c.named.new.ledger c.loop-input.invariant.quiet c.in_err-found.ensures.quiet
 
 pub returns-in_err-push-clause-quiet : goal.returns-in_err-push-clause-quiet
 returns-in_err-push-clause-quiet g c =
     let d = g.G.Ledger in
-    quiet_on d.is_live d.height d.tip d.buckets d.stands d.tells_crash d.moment d.left_since
+    asked_on d
     c.args.ledger.now c.loop-input.ledger c.named.new.ledger c.loop-input.invariant.quiet c.in_ok-found.ensures.quiet
 
 pub returns-in_default-clause-quiet : goal.returns-in_default-clause-quiet
 returns-in_default-clause-quiet g c =
     let d = g.G.Ledger in
-    quiet_on d.is_live d.height d.tip d.buckets d.stands d.tells_crash d.moment d.left_since
+    asked_on d
     c.args.ledger.now c.loop-input.ledger c.named.new.ledger c.loop-input.invariant.quiet c.in_ok-found.ensures.quiet

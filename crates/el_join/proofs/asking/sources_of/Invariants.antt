@@ -2,7 +2,7 @@ use Rattle.std.proofs.Common.{◌≡◌, List}
 use Rattle.std.specs.List.{list_any}
 use Rattle.el_chain.specs.Chains.{Chain}
 use Rattle.el_tx.specs.declared.types.Tx.{Tx}
-use Rattle.el_model.specs.Keeping.{Quiet}
+use Rattle.el_model.specs.LedgerCalls.{Asked}
 use Rattle.el_kept.specs.Named.{IsOver}
 use Rattle.el_join.specs.within.Tables.{is_output_at}
 use Rattle.el_join.proofs.Asked.{SoFar}
@@ -13,7 +13,7 @@ abbrev pub invariant-loop-input : goal.invariant-loop-input
 invariant-loop-input g l =
     let d = g.G.Ledger in
     record {
-      quiet : Quiet d.is_live d.height d.tip d.buckets d.stands d.tells_crash d.moment d.left_since
+      quiet : Asked d
           l.initial.ledger l.ledger;
       still : d.faults l.ledger ≡ d.faults l.initial.ledger;
       any : l.any_kept ≡ list_any (is_output_at l.table) l.sources.items;

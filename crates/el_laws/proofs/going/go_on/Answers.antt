@@ -2,7 +2,7 @@ use Rattle.std.proofs.Common.{rules, ◌+◌, refl, inl, inr, [], ap, Err, sym, 
 use Rattle.std.proofs.lemmas.List.{append-nil}
 use Rattle.el_chain.specs.Moves.{target}
 use Rattle.el_laws.proofs.RunLemmas.{told_at, told_refused, safe_in_flight, safe_at_rest, failed_flies, none_told, one_each_more, ever_more, ever_begins, refused_either, in_flight, follows, move_on}
-use Rattle.el_model.proofs.Quiets.{quiet_leaves}
+use Rattle.el_model.proofs.LedgerMoves.{asked_leaves}
 use Rattle.el_laws.proofs.going.go_on.Goals as goal
 
 pub loop-plan-init : goal.loop-plan-init
@@ -67,7 +67,7 @@ returns-in_err-push-in_default g c = record {
       let quiet = c.in-Err.ensures.unchanged c.in_default.not-DiskFailed in
       ever_more g.A.Archive.tells start c.args.plans.now c.loop-plan.plan-index c.loop-plan.sent was.0 c.plan-item.result _ c.loop-plan-test.true c.plan-item.is was.1
       l.means l.moment l.left_since c.args.ledger.now c.loop-plan.ledger c.go.new.self c.push-in_default.new.self [] was.0 c.loop-plan.invariant.one_each (c.in_err-push-in_default.ensures.err ∙ sym (append-nil _)) (inl refl) (c.loop-plan.invariant.ever start stands tells)
-      (refused_either l.means l.moment l.left_since c.loop-plan.ledger c.go.new.self was.0 (quiet_leaves l.is_live l.height l.tip l.buckets l.stands l.tells_crash l.moment l.left_since l.means c.loop-plan.ledger c.go.new.self c.loop-plan.invariant.live g.met.G.Ledger.leaves_own quiet tells was.0 was.2));
+      (refused_either l.means l.moment l.left_since c.loop-plan.ledger c.go.new.self was.0 (asked_leaves l c.loop-plan.ledger c.go.new.self c.loop-plan.invariant.live g.met.G.Ledger.leaves_own quiet tells was.0 was.2));
   all = search rules;
   refused = λ is. search rules;
   cause = search rules;
@@ -90,7 +90,7 @@ returns-in_default g c = record {
       let quiet = c.in-Err.ensures.unchanged c.in_default.not-DiskFailed in
       ever_more g.A.Archive.tells start c.args.plans.now c.loop-plan.plan-index c.loop-plan.sent was.0 c.plan-item.result _ c.loop-plan-test.true c.plan-item.is was.1
       l.means l.moment l.left_since c.args.ledger.now c.loop-plan.ledger c.go.new.self c.push-in_default.new.self _ was.0 c.loop-plan.invariant.one_each c.in_ok-push-in_default.ensures.ok (inl refl) (c.loop-plan.invariant.ever start stands tells)
-      (refused_either l.means l.moment l.left_since c.loop-plan.ledger c.go.new.self was.0 (quiet_leaves l.is_live l.height l.tip l.buckets l.stands l.tells_crash l.moment l.left_since l.means c.loop-plan.ledger c.go.new.self c.loop-plan.invariant.live g.met.G.Ledger.leaves_own quiet tells was.0 was.2));
+      (refused_either l.means l.moment l.left_since c.loop-plan.ledger c.go.new.self was.0 (asked_leaves l c.loop-plan.ledger c.go.new.self c.loop-plan.invariant.live g.met.G.Ledger.leaves_own quiet tells was.0 was.2));
   all = tt;
   refused = λ is. (c.loop-plan.sent, _, c.in_ok-push-in_default.ensures.ok);
   cause = record {

@@ -1,4 +1,5 @@
-use Rattle.std.proofs.Common.{inl, inr, ⊎_elim, ℕ, List, sym, ap, ◌∙◌, subst}
+use Rattle.std.proofs.Common.{inl, inr, ⊎_elim, ℕ, List, [], sym, ap, ◌∙◌, subst}
+use Rattle.el_outside.proofs.Images.{at_other}
 use Rattle.el_row_formats.specs.Tables.{tables_of}
 use Rattle.el_journal.specs.declared.mark.TheConstants.{JOURNAL}
 use Rattle.el_redo.specs.declared.faults.OpenFault.TheVariants as fault
@@ -48,6 +49,11 @@ returns-in-Ok-replay-clause-is_bad g c told wanted found bad = ⊎_elim
 pub returns-in-Ok-replay-clause-crash : goal.returns-in-Ok-replay-clause-crash
 returns-in-Ok-replay-clause-crash g c told = journal_read g.D.Disk c.args.disk c.in-Ok.journal.disk c.replay.new.journal.disk
     (λ d t u i le left. g.met.D.Disk.earlier d t u i told le left) (c.in-Ok.ensures.crash told) (c.replay.ensures.read told)
+
+pub returns-in-Ok-replay-clause-beside : goal.returns-in-Ok-replay-clause-beside
+returns-in-Ok-replay-clause-beside g c told f ne = at_other (g.D.Disk.seen c.replay.new.journal.disk) JOURNAL [] f ne
+    ∙ (journal_read g.D.Disk c.args.disk c.in-Ok.journal.disk c.replay.new.journal.disk
+    (λ d t u i le left. g.met.D.Disk.earlier d t u i told le left) (c.in-Ok.ensures.crash told) (c.replay.ensures.read told)).others f ne
 
 pub returns-in-Err-replay-clause-opens : goal.returns-in-Err-replay-clause-opens
 returns-in-Err-replay-clause-opens g c told tables shown =

@@ -20,6 +20,7 @@ loop-turn-init g c = record {
   numbers = rw c.requires.nobody tt;
   counted = counted_none _ _;
   keeps = λ t. all_grow_none _;
+  beside = λ told. refl;
 }
 
 pub returns-clause-ends : goal.returns-clause-ends
@@ -145,6 +146,7 @@ loop-turn-preserved g c = record {
       let b = c.serve_arrival.ensures.link_counts.more in omega arith)
       c.serve_arrival.ensures.archive_more c.serve_arrival.ensures.disk_counts.more);
   keeps = λ t. all_grow_more _ _ _ (c.loop-turn.invariant.keeps t) (c.serve_arrival.ensures.keeps t);
+  beside = λ told. c.serve_arrival.ensures.beside told ∙ c.loop-turn.invariant.beside told;
 }
 
 pub returns-in_default-clause-causes : goal.returns-in_default-clause-causes
@@ -176,3 +178,17 @@ returns-clause-causes g c =
     let k = c.loop-turn.auto._turn-end in
     caused_end _ _ _ _ _ _ _ c.loop-turn.invariant.counted (omega arith)
     refl (λ e. omega arith)
+
+pub returns-clause-beside : goal.returns-clause-beside
+returns-clause-beside g c = c.loop-turn.invariant.beside
+
+pub returns-in_default-clause-beside : goal.returns-in_default-clause-beside
+returns-in_default-clause-beside g c = c.loop-turn.invariant.beside
+
+pub returns-in-Err-clause-beside : goal.returns-in-Err-clause-beside
+returns-in-Err-clause-beside g c = λ told.
+    c.serve_arrival.ensures.beside told ∙ c.loop-turn.invariant.beside told
+
+pub returns-then-ends-clause-beside : goal.returns-then-ends-clause-beside
+returns-then-ends-clause-beside g c = λ told.
+    c.serve_arrival.ensures.beside told ∙ c.loop-turn.invariant.beside told

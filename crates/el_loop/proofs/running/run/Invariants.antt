@@ -1,5 +1,6 @@
 use Rattle.std.proofs.Common.{◌≡◌, []}
 use Rattle.el_outside.specs.Files.{AllGrow}
+use Rattle.el_model.specs.LedgerCalls.{KeepsBeside}
 use Rattle.el_world.specs.World.{World}
 use Rattle.el_core.specs.State.{Stands, AreUpTo, IsIdle}
 use Rattle.el_loop.specs.within.Progress.{Going, CountedSoFar, snapshot, failed}
@@ -19,4 +20,5 @@ invariant-loop-turn g l = record {
       (failed g.G.Ledger g.A.Archive g.K.Link (snapshot l.initial.server l.initial.archive l.initial.link))
       (failed g.G.Ledger g.A.Archive g.K.Link (snapshot l.server l.archive l.link));
   keeps : g.A.Archive.tells → AllGrow (g.A.Archive.bytes l.initial.archive) (g.A.Archive.bytes l.archive);
+  beside : KeepsBeside g.G.Ledger l.initial.server.ledger l.server.ledger;
 }

@@ -1,4 +1,4 @@
-use Rattle.std.proofs.Common.{inl, sym, ◌∙◌}
+use Rattle.std.proofs.Common.{inl, sym, ap, ◌∙◌}
 use Rattle.std.proofs.lemmas.Result.{on_ok_weaker}
 use Rattle.el_loop.proofs.Arrivals.{arrival_done, arrival_stopped, arrival_lost, taken_files, if_err}
 use Rattle.el_loop.proofs.running.serve_arrival.Goals as goal
@@ -40,3 +40,10 @@ returns-in-Err-clause-stopped g c = λ world stood told grown are.
 pub returns-in-Ok-clause-numbers : goal.returns-in-Ok-clause-numbers
 returns-in-Ok-clause-numbers g c = λ last now le up new.
     c.work_off.ensures.numbers now (c.in-Ok.ensures.numbers last now le up new)
+
+pub returns-in-Ok-clause-beside : goal.returns-in-Ok-clause-beside
+returns-in-Ok-clause-beside g c = λ told.
+    c.work_off.ensures.beside told ∙ ap g.G.Ledger.beside c.in-Ok.ensures.ledger
+
+pub returns-in-Err-clause-beside : goal.returns-in-Err-clause-beside
+returns-in-Err-clause-beside g c = λ told. ap g.G.Ledger.beside c.in-Err.ensures.ledger

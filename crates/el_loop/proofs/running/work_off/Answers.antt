@@ -16,6 +16,7 @@ loop-outs-init g c = record {
   link_more = omega arith;
   archive_more = omega arith;
   disk_more = omega arith;
+  beside = λ told. refl;
 }
 
 pub loop-outs-preserved : goal.loop-outs-preserved
@@ -42,6 +43,8 @@ loop-outs-preserved g c = record {
       omega arith;
   disk_more = let a = c.loop-outs.invariant.disk_more in let b = c.in-Ok-Some.ensures.disk_more in
       rw c.in-Ok.ensures.same_ledger (omega arith);
+  beside = λ told. ap g.G.Ledger.beside c.in-Ok.ensures.same_ledger
+      ∙ c.in-Ok-Some.ensures.beside told ∙ c.loop-outs.invariant.beside told;
 }
 
 pub returns-in-Err-deliver-clause-stopped : goal.returns-in-Err-deliver-clause-stopped
@@ -113,3 +116,14 @@ returns-in-Err-deliver-clause-disk_counts g c =
     let a = c.loop-outs.invariant.disk_more in
     let b = c.in-Ok-Some.ensures.disk_more in
     rw c.in-Err-deliver.ensures.same_ledger (rises_other (omega arith) c.in-Err-deliver.ensures.no_disk)
+
+pub returns-in-Err-deliver-clause-beside : goal.returns-in-Err-deliver-clause-beside
+returns-in-Err-deliver-clause-beside g c = λ told. ap g.G.Ledger.beside c.in-Err-deliver.ensures.same_ledger
+    ∙ c.in-Ok-Some.ensures.beside told ∙ c.loop-outs.invariant.beside told
+
+pub returns-in-Ok-None-clause-beside : goal.returns-in-Ok-None-clause-beside
+returns-in-Ok-None-clause-beside g c = λ told.
+    c.in-Ok-None.ensures.beside told ∙ c.loop-outs.invariant.beside told
+
+pub returns-in-Err-clause-beside : goal.returns-in-Err-clause-beside
+returns-in-Err-clause-beside g c = λ told. c.in-Err.ensures.beside told ∙ c.loop-outs.invariant.beside told

@@ -1,5 +1,6 @@
 use Rattle.std.proofs.Common.{◌≡◌, ◌≤◌, ℕ, List}
 use Rattle.el_outside.specs.Files.{AllGrow}
+use Rattle.el_model.specs.LedgerCalls.{KeepsBeside}
 use Rattle.el_world.specs.World.{World, Event}
 use Rattle.el_core.specs.State.{Stands, AreUpTo, work}
 use Rattle.el_loop.specs.within.Progress.{IsReady, Progress, snapshot}
@@ -20,6 +21,7 @@ invariant-loop-outs g l = record {
   link_more : g.K.Link.faults l.initial.link ≤ g.K.Link.faults l.link;
   archive_more : g.A.Archive.faults l.initial.archive ≤ g.A.Archive.faults l.archive;
   disk_more : g.G.Ledger.faults l.initial.server.ledger ≤ g.G.Ledger.faults l.server.ledger;
+  beside : KeepsBeside g.G.Ledger l.initial.server.ledger l.server.ledger;
 }
 
 abbrev pub decreases-loop-outs : goal.decreases-loop-outs

@@ -11,3 +11,6 @@ returns-clause-ends g c = λ chain stood.
 pub returns-clause-causes : goal.returns-clause-causes
 returns-clause-causes g c =
     rw c.into_ledger.ensures (rw c.new-server.ensures.ledger at c.run-end.ensures.causes)
+
+pub returns-clause-beside : goal.returns-clause-beside
+returns-clause-beside g c = rw c.into_ledger.ensures (rw c.new-server.ensures.ledger at c.run-end.ensures.beside)

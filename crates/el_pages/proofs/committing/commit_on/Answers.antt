@@ -1,4 +1,4 @@
-use Rattle.std.proofs.Common.{◌≡◌, ◌≢◌, ◌++◌, ◌∷◌, [], ℕ, List, length, refl, sym, subst, ◌∙◌, arith, rules, Result, Ok, Err}
+use Rattle.std.proofs.Common.{◌≡◌, ◌≢◌, ◌<◌, ◌++◌, ◌∷◌, [], ℕ, List, length, refl, sym, subst, ◌∙◌, arith, rules, Result, Ok, Err}
 use Rattle.std.specs.Prelude.{OnOk}
 use Rattle.el_outside.specs.Disk.{OnDisk, over}
 use Rattle.el_outside.specs.Moments.{LeftNow}
@@ -184,3 +184,23 @@ returns-clause-tables g c told =
     (λ f low lt. c.in_ok-write_all.ensures.written told f lt) (c.in_ok-write_all.ensures.durable told) c.set_gate-2.new.disk (c.set_gate-2.ensures.crash told)
     w4 d4 (c.set_gate-2.ensures.others told)) t ∙ sym (tables_1 head files counts new changes meta is has c.requires.made t))
     (c.set_gate-2.ensures.written told) (c.set_gate-2.ensures.durable told)
+
+-- ---- the files after the redo file
+
+after_redo : (f : ℕ) → 9 < f → f ≢ 9
+after_redo f lt is = omega (arith, is, lt)
+
+pub returns-in_err-stage-clause-beside : goal.returns-in_err-stage-clause-beside
+returns-in_err-stage-clause-beside g c told f lt = (c.stage.ensures.aside told).others f (after_redo f lt)
+
+pub returns-in_err-set_gate-clause-beside : goal.returns-in_err-set_gate-clause-beside
+returns-in_err-set_gate-clause-beside g c told f lt = c.set_gate.ensures.others told f (after_redo f lt) ∙ (c.stage.ensures.aside told).others f (after_redo f lt)
+
+pub returns-in_err-write_all-clause-beside : goal.returns-in_err-write_all-clause-beside
+returns-in_err-write_all-clause-beside g c told f lt =
+    c.write_all.ensures.beside told f (omega (arith, lt)) ∙ c.set_gate.ensures.others told f (after_redo f lt) ∙ (c.stage.ensures.aside told).others f (after_redo f lt)
+
+pub returns-clause-beside : goal.returns-clause-beside
+returns-clause-beside g c told f lt =
+    c.set_gate-2.ensures.others told f (after_redo f lt)
+    ∙ c.write_all.ensures.beside told f (omega (arith, lt)) ∙ c.set_gate.ensures.others told f (after_redo f lt) ∙ (c.stage.ensures.aside told).others f (after_redo f lt)

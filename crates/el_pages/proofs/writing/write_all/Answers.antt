@@ -1,4 +1,4 @@
-use Rattle.std.proofs.Common.{◌≡◌, length, refl, ap, ◌∙◌}
+use Rattle.std.proofs.Common.{◌≡◌, ◌≢◌, ◌≤◌, ℕ, inr, length, refl, ap, ◌∙◌, arith}
 use Rattle.std.proofs.lemmas.Result.{on_ok_weaker}
 use Rattle.el_outside.specs.Disk.{Image}
 use Rattle.el_outside.specs.Moments.{LeftNow}
@@ -38,3 +38,16 @@ returns-clause-written g c told = on_ok_weaker c.sync_files.result
     ∙ meta_last c.args.meta.now c.args.sealed.now.changes (g.D.Disk.seen c.args.disk.now) (g.D.Disk.seen c.write_rows.new.disk) (g.D.Disk.seen c.write_covered.new.disk)
     (c.in_ok-write_rows.ensures.written told) (c.in_ok-write_covered.ensures.written told) (c.write_covered.ensures.others told) f lt)
     (c.sync_files.ensures.seen told)
+
+-- a file after those of the rows isn't the meta file
+past : (f : ℕ) → 9 ≤ f → f ≢ 0
+past f le is = omega (arith, is, le)
+
+pub returns-in_err-write_rows-clause-beside : goal.returns-in_err-write_rows-clause-beside
+returns-in_err-write_rows-clause-beside g c told f le = c.write_rows.ensures.beside told f le
+
+pub returns-in_err-write_covered-clause-beside : goal.returns-in_err-write_covered-clause-beside
+returns-in_err-write_covered-clause-beside g c told f le = c.write_covered.ensures.others told f (past f le) ∙ c.write_rows.ensures.beside told f le
+
+pub returns-clause-beside : goal.returns-clause-beside
+returns-clause-beside g c told f le = c.sync_files.ensures.beside told f (inr le) ∙ c.write_covered.ensures.others told f (past f le) ∙ c.write_rows.ensures.beside told f le

@@ -1,5 +1,6 @@
 use Rattle.std.proofs.Common.{◌≡◌, [], drop, map, refl, sym, ap, ◌∙◌, arith}
 use Rattle.std.proofs.lemmas.List.{drop_all}
+use Rattle.el_row_formats.proofs.Keys.{index_within}
 use Rattle.el_redone.specs.Redone.{overlaid, into}
 use Rattle.el_redone.specs.Steps.{WillBe}
 use Rattle.el_redone.proofs.Runs.{no_calls, goes_on}
@@ -13,6 +14,7 @@ loop-k-init g c = record {
   within = omega arith;
   fits = λ told f lt. c.requires.fits told f lt;
   gives = λ told f lt. refl;
+  beside = λ told f le. refl;
   crash = λ told files ws meta file is each. no_calls g.D.Disk c.args.disk.now (WillBe 0 9 files ws file) each;
   calls = omega arith;
   faults = refl;
@@ -29,6 +31,7 @@ loop-k-preserved g c =
           (c.in_ok-write_run.ensures.written told) (c.write_run.ensures.others told);
       gives = λ told f lt. next_gives changes c.loop-k.k run.table run.first run.rows run.bytes.now c.run-run.ensures.some c.run-run.ensures.long c.run-run.ensures.each (g.D.Disk.seen c.loop-k.disk) (was.fits told) (g.D.Disk.seen c.write_run.new.disk)
           (c.in_ok-write_run.ensures.written told) (c.write_run.ensures.others told) f lt ∙ was.gives told f lt;
+      beside = λ told f le. c.write_run.ensures.others told f (λ is. omega (arith, is, le, index_within run.table)) ∙ was.beside told f le;
       crash = λ told files ws meta file is each. goes_on g.D.Disk (λ d t u i le left. g.met.D.Disk.earlier d t u i told le left) c.args.disk.now c.loop-k.disk c.write_run.new.disk (WillBe 0 9 files ws file)
           (was.crash told files ws meta file is each)
           (c.write_run.ensures.crash told files ws file (run_covered changes c.loop-k.k run.table run.first run.rows run.bytes.now c.run-run.ensures.some c.run-run.ensures.long c.run-run.ensures.each meta ws is));
@@ -58,3 +61,10 @@ returns-in_err-write_run-clause-calls g c = omega (arith, c.write_run.ensures.ca
 
 pub returns-clause-calls : goal.returns-clause-calls
 returns-clause-calls g c = omega (arith, c.loop-k.invariant.calls, c.loop-k.invariant.within)
+
+pub returns-in_err-write_run-clause-beside : goal.returns-in_err-write_run-clause-beside
+returns-in_err-write_run-clause-beside g c told f le =
+    c.write_run.ensures.others told f (λ is. omega (arith, is, le, index_within c.run-run.result.table)) ∙ c.loop-k.invariant.beside told f le
+
+pub returns-clause-beside : goal.returns-clause-beside
+returns-clause-beside g c told f le = c.loop-k.invariant.beside told f le

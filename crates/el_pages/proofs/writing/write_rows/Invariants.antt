@@ -12,6 +12,7 @@ invariant-loop-k g l = record {
   fits : g.D.Disk.tells → (f : ℕ) → f < 9 → Fits (into f (map (write_of FORMAT_1) (drop l.k l.sealed.changes))) (length (g.D.Disk.seen l.disk f));
   gives : g.D.Disk.tells → (f : ℕ) → f < 9 → overlaid (into f (map (write_of FORMAT_1) (drop l.k l.sealed.changes))) (g.D.Disk.seen l.disk f)
       ≡ overlaid (into f (map (write_of FORMAT_1) l.sealed.changes)) (g.D.Disk.seen l.fn.disk f);
+  beside : g.D.Disk.tells → (f : ℕ) → 9 ≤ f → g.D.Disk.seen l.disk f ≡ g.D.Disk.seen l.fn.disk f;
   crash : g.D.Disk.tells → (files : Image) (ws : List Write) (meta record_file : List ℕ) → ws ≡ writes_of FORMAT_1 meta l.sealed.changes
       → EachNow g.D.Disk (WillBe 0 9 files ws record_file) l.fn.disk → Leaves g.D.Disk (WillBe 0 9 files ws record_file) l.fn.disk l.disk;
   calls : g.D.Disk.calls l.disk ≤ g.D.Disk.calls l.fn.disk + l.k;

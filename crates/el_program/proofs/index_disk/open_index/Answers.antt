@@ -1,7 +1,8 @@
-use Rattle.std.proofs.Common.{arith, ap, inl, inr, ◌∙◌, ⊎_elim}
+use Rattle.std.proofs.Common.{arith, ap, inl, inr, sym, ◌∙◌, ⊎_elim}
+use Rattle.el_outside.specs.Disk.{Image}
 use Rattle.el_schema.proofs.StandingLemmas.{same_stand}
 use Rattle.el_program.specs.within.Unread.{open_status}
-use Rattle.el_program.proofs.IndexDisks.{as_before, keeps_as, unread_leaves, not_bad, told_bad}
+use Rattle.el_program.proofs.IndexDisks.{as_before, past_journal, keeps_as, unread_leaves, not_bad, told_bad}
 use Rattle.el_program.proofs.index_disk.open_index.Goals as goal
 
 pub returns-in-Err-clause-unopened : goal.returns-in-Err-clause-unopened
@@ -26,7 +27,7 @@ pub returns-in-Err-over-clause-unopened : goal.returns-in-Err-over-clause-unopen
 returns-in-Err-over-clause-unopened g c = λ was flight chain is. (
   λ e. absurd cc,
   λ image now.
-      let over = c.in-Err-over.ensures.failed.crash is.told in
+      let over = c.in-Err-over.ensures.failed.below.crash is.told in
       let before = over.before (g.D.Disk.moment c.in-Ok.store.journal.disk) image (omega arith) (
         is.told,
         g.met.D.Disk.earlier c.in-Err-over.store.journal.disk _ _ image is.told over.later
@@ -54,3 +55,19 @@ returns-in-Err-clause-is_cut g c = λ told place cut. ⊎_elim
     (λ failed. inl (c.status_of.ensures ∙ ap open_status failed))
     (λ bad. inr (c.status_of.ensures ∙ ap open_status bad))
     (c.in-Err.ensures.is_cut told place cut)
+
+-- the files beyond the index's
+pub returns-in-Ok-over-clause-beside : goal.returns-in-Ok-over-clause-beside
+returns-in-Ok-over-clause-beside g c = λ told f beyond.
+    ap (λ (image : Image). image f) (c.in-Ok-over.ensures.reads.below.files told)
+    ∙ c.in-Ok.ensures.beside told f (past_journal beyond)
+
+pub returns-in-Err-clause-others : goal.returns-in-Err-clause-others
+returns-in-Err-clause-others g c = λ told.
+    (as_before g.D.Disk c.args.disk c.in-Err.disk (c.in-Err.ensures.crash told)).others
+
+pub returns-in-Err-over-clause-others : goal.returns-in-Err-over-clause-others
+returns-in-Err-over-clause-others g c = λ told f beyond.
+    sym (c.into_disk.ensures.beside f (past_journal beyond))
+    ∙ ap (λ (image : Image). image f) (c.in-Err-over.ensures.failed.below.files told)
+    ∙ c.in-Ok.ensures.beside told f (past_journal beyond)

@@ -1,6 +1,6 @@
 use Rattle.std.proofs.Common.{◌≡◌, ◌≤◌, ◌∙◌, ap, sym, length, arith, take_all}
 use Rattle.el_base.proofs.Lists.{all_more}
-use Rattle.el_model.proofs.Quiets.{quiet_on}
+use Rattle.el_model.proofs.LedgerMoves.{asked_on}
 use Rattle.el_model.specs.Queries.{blocks_in}
 use Rattle.el_program.specs.Opened.{nodes_of_chain}
 use Rattle.el_program.proofs.Openings.{one_more, nodes_length}
@@ -10,7 +10,7 @@ pub loop-h-preserved : goal.loop-h-preserved
 loop-h-preserved g c =
     let d = g.G.Ledger in
     record {
-      quiet = quiet_on d.is_live d.height d.tip d.buckets d.stands d.tells_crash d.moment d.left_since
+      quiet = asked_on d
           c.args.ledger.now c.loop-h.ledger c.node_of.new.ledger
           c.loop-h.invariant.quiet c.in_ok-node.ensures.quiet;
       still = c.in_ok-node.ensures.cause.uncounted ∙ c.loop-h.invariant.still;
@@ -35,13 +35,13 @@ returns-clause-of_chain g c = λ chain stood.
 pub returns-in_err-node-clause-quiet : goal.returns-in_err-node-clause-quiet
 returns-in_err-node-clause-quiet g c =
     let d = g.G.Ledger in
-    quiet_on d.is_live d.height d.tip d.buckets d.stands d.tells_crash d.moment d.left_since
+    asked_on d
     c.args.ledger.now c.loop-h.ledger c.node_of.new.ledger
     c.loop-h.invariant.quiet c.in_err-node.ensures.quiet
 
 pub returns-in_err-push-clause-quiet : goal.returns-in_err-push-clause-quiet
 returns-in_err-push-clause-quiet g c =
     let d = g.G.Ledger in
-    quiet_on d.is_live d.height d.tip d.buckets d.stands d.tells_crash d.moment d.left_since
+    asked_on d
     c.args.ledger.now c.loop-h.ledger c.node_of.new.ledger
     c.loop-h.invariant.quiet c.in_ok-node.ensures.quiet

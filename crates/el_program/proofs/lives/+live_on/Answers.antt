@@ -26,5 +26,5 @@ returns g t c = record {
       (lived_more g.D.Disk g.A.Archive g.K.Link magic c.args.disk was flight life c.in-Some.archives.now
       c.live_on.new.archives c.in-Some-split_first_mut.links.now c.live_on.new.links c.live_on.new.ends
       c.live_on.result f next
-      then);
+      (c.serve-status.ensures.others told) then);
 }

@@ -8,5 +8,5 @@ returns g c = record {
   whole = λ magic told serves fresh.
       let r = c.live_on.ensures.lived magic [] [] told serves
       (λ image now. inl (empty_means magic image (fresh image now JOURNAL))) in
-      (r.lives, r.over, r.are, r.last, r.go_on);
+      (r.lives, r.over, r.are, r.last, r.others, r.go_on);
 }

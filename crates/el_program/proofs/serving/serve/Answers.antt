@@ -121,3 +121,12 @@ pub returns-in-Some-once_of-clause-kept_files : goal.returns-in-Some-once_of-cla
 returns-in-Some-once_of-clause-kept_files g c = λ bad.
     let e = c.serve_file.ensures.ends 0 in
     absurd (rw bad at e.2)
+
+pub returns-in-Some-once_of-clause-others : goal.returns-in-Some-once_of-clause-others
+returns-in-Some-once_of-clause-others g c = λ told f beyond. refl
+
+pub returns-in-None-clause-others : goal.returns-in-None-clause-others
+returns-in-None-clause-others g c = λ told f beyond. refl
+
+pub returns-in-Some-clause-others : goal.returns-in-Some-clause-others
+returns-in-Some-clause-others g c = c.serve_network.ensures.others

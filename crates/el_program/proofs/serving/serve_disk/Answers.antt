@@ -1,5 +1,9 @@
-use Rattle.std.proofs.Common.{◌≡◌, ◌∙◌, inl, inr, ap}
+use Rattle.std.proofs.Common.{◌≡◌, ◌∙◌, [], inl, inr, sym, ap}
+use Rattle.el_outside.specs.Disk.{Image}
+use Rattle.el_outside.specs.Images.{at_file}
 use Rattle.el_outside.proofs.Traces.{goes_none}
+use Rattle.el_journal.specs.declared.mark.TheConstants.{JOURNAL}
+use Rattle.el_program.proofs.IndexDisks.{past_journal}
 use Rattle.el_program.specs.IndexDisks.{LeavesOneOf}
 use Rattle.el_loop.specs.Runs.{no_traffic}
 use Rattle.el_program.proofs.Servings.{serve_told, unopened_ends}
@@ -49,3 +53,12 @@ returns-in-Ok-clause-kept_files g c = λ bad. absurd (rw bad at c.serve_index-st
 
 pub returns-in-Err-clause-kept_counts : goal.returns-in-Err-clause-kept_counts
 returns-in-Err-clause-kept_counts g c = λ bad. c.in-Err.ensures.others_uncounted (λ failed. absurd cc)
+
+pub returns-in-Ok-clause-others : goal.returns-in-Ok-clause-others
+returns-in-Ok-clause-others g c = λ told f beyond.
+    let back = c.into_disk.ensures.beside f (past_journal beyond) in
+    sym back ∙ ap (λ s. at_file (g.D.Disk.seen s.journal.disk) JOURNAL [] f) c.into_rows.ensures
+    ∙ ap (λ (image : Image). image f) (c.serve_index-status.ensures.beside told) ∙ c.in-Ok.ensures.beside told f beyond
+
+pub returns-in-Err-clause-others : goal.returns-in-Err-clause-others
+returns-in-Err-clause-others g c = c.in-Err.ensures.others

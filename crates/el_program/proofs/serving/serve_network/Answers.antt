@@ -35,3 +35,12 @@ returns-in-Testnet3-clause-kept g c = rw c.in-Testnet3.is c.serve_disk-in-Testne
 
 pub returns-in-Regtest-clause-kept : goal.returns-in-Regtest-clause-kept
 returns-in-Regtest-clause-kept g c = rw c.in-Regtest.is c.serve_disk-in-Regtest.ensures.kept
+
+pub returns-in-Main-clause-others : goal.returns-in-Main-clause-others
+returns-in-Main-clause-others g c = c.serve_disk.ensures.others
+
+pub returns-in-Testnet3-clause-others : goal.returns-in-Testnet3-clause-others
+returns-in-Testnet3-clause-others g c = c.serve_disk-in-Testnet3.ensures.others
+
+pub returns-in-Regtest-clause-others : goal.returns-in-Regtest-clause-others
+returns-in-Regtest-clause-others g c = c.serve_disk-in-Regtest.ensures.others

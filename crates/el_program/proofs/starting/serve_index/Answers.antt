@@ -1,4 +1,4 @@
-use Rattle.std.proofs.Common.{ap, Err, inl}
+use Rattle.std.proofs.Common.{ap, Err, inl, ◌∙◌}
 use Rattle.el_outside.proofs.Traces.{goes_none, all_grow_more}
 use Rattle.el_loop.specs.Runs.{no_traffic}
 use Rattle.el_program.proofs.Rises.{start_caused, opened_end, start_opened, run_caused, serves}
@@ -59,3 +59,10 @@ returns-in-Err-clause-causes g c =
 
 pub returns-in-Err-clause-opened : goal.returns-in-Err-clause-opened
 returns-in-Err-clause-opened g c = rw c.status_of.ensures (start_opened c.in-Err.fault)
+
+pub returns-in-Ok-clause-beside : goal.returns-in-Ok-clause-beside
+returns-in-Ok-clause-beside g c = λ told.
+    c.serve_from-end.ensures.beside told ∙ c.in-Ok.ensures.quiet.below.files told
+
+pub returns-in-Err-clause-beside : goal.returns-in-Err-clause-beside
+returns-in-Err-clause-beside g c = c.in-Err.ensures.quiet.below.files

@@ -1,4 +1,4 @@
-use Rattle.std.proofs.Common.{◌<◌, length, ap, arith}
+use Rattle.std.proofs.Common.{◌≢◌, ◌⊎◌, inl, inr, ⊎_elim, ◌<◌, ◌≤◌, ℕ, length, ap, ◌∙◌, arith}
 use Rattle.el_outside.specs.Disk.{Image}
 use Rattle.el_outside.specs.Moments.{LeftNow}
 use Rattle.el_redone.specs.Steps.{IsBegun}
@@ -32,3 +32,33 @@ returns-clause-crash g c told =
     (λ now. stays g.D.Disk c.sync.new.self c.size.new.self (IsBegun g.D.Disk c.args.span.redo c.args.disk.now) (c.size.ensures.time told) (c.size.ensures.crash told) now))
     (λ now. begun_later g.D.Disk c.args.span.redo (λ d t u i le left. g.met.D.Disk.earlier d t u i told le left) c.args.disk.now c.size.new.self c.begin_redo.new.disk (λ i left. now_has g.D.Disk (λ d t u i le left. g.met.D.Disk.earlier d t u i told le left) c.args.disk.now c.sync_files.new.disk (LeftNow g.D.Disk.moment g.D.Disk.left_since c.args.disk.now) (c.sync_files.ensures.crash told) i (c.sync.ensures.crash told i (c.size.ensures.crash told i left)))
     (c.begin_redo.ensures.crash told short (still_on_disk g.D.Disk c.args.span.redo c.sync.new.self c.size.new.self (c.size.ensures.crash told) (ap (λ (s : Image). s c.args.span.redo) (c.size.ensures.seen told)) (c.in_ok-sync.ensures.durable told))))
+
+-- a file beyond the span, also beyond its redo file
+beyond : (first redo f : ℕ) → (f < first) ⊎ (redo < f) → (f < first) ⊎ (redo ≤ f)
+beyond first redo f out = ⊎_elim (λ lt. inl lt) (λ gt. inr (omega (arith, gt))) out
+
+apart : (first redo f : ℕ) → first ≤ redo → (f < first) ⊎ (redo < f) → f ≢ redo
+apart first redo f le out is = ⊎_elim (λ lt. omega (arith, is, lt, le)) (λ gt. omega (arith, is, gt)) out
+
+pub returns-in_err-sync_files-clause-beside : goal.returns-in_err-sync_files-clause-beside
+returns-in_err-sync_files-clause-beside g c told f out = c.sync_files.ensures.beside told f (beyond c.args.span.first c.args.span.redo f out)
+
+pub returns-in_err-sync-clause-beside : goal.returns-in_err-sync-clause-beside
+returns-in_err-sync-clause-beside g c told f out =
+    c.sync.ensures.others told f (apart c.args.span.first c.args.span.redo f c.requires out) ∙ c.sync_files.ensures.beside told f (beyond c.args.span.first c.args.span.redo f out)
+
+pub returns-in_err-size-clause-beside : goal.returns-in_err-size-clause-beside
+returns-in_err-size-clause-beside g c told f out =
+    ap (λ (s : Image). s f) (c.size.ensures.seen told)
+    ∙ c.sync.ensures.others told f (apart c.args.span.first c.args.span.redo f c.requires out) ∙ c.sync_files.ensures.beside told f (beyond c.args.span.first c.args.span.redo f out)
+
+pub returns-then-size-ge2-clause-beside : goal.returns-then-size-ge2-clause-beside
+returns-then-size-ge2-clause-beside g c told f out =
+    ap (λ (s : Image). s f) (c.size.ensures.seen told)
+    ∙ c.sync.ensures.others told f (apart c.args.span.first c.args.span.redo f c.requires out) ∙ c.sync_files.ensures.beside told f (beyond c.args.span.first c.args.span.redo f out)
+
+pub returns-clause-beside : goal.returns-clause-beside
+returns-clause-beside g c told f out =
+    c.begin_redo.ensures.others told f (apart c.args.span.first c.args.span.redo f c.requires out)
+    ∙ ap (λ (s : Image). s f) (c.size.ensures.seen told)
+    ∙ c.sync.ensures.others told f (apart c.args.span.first c.args.span.redo f c.requires out) ∙ c.sync_files.ensures.beside told f (beyond c.args.span.first c.args.span.redo f out)

@@ -40,3 +40,10 @@ returns-in_err-sync-clause-crash g c told =
 
 pub returns-clause-calls : goal.returns-clause-calls
 returns-clause-calls g c = omega (arith, c.loop-file.invariant.calls, c.loop-file.invariant.end)
+
+pub returns-in_err-sync-clause-beside : goal.returns-in_err-sync-clause-beside
+returns-in_err-sync-clause-beside g c told f out =
+    c.sync.ensures.others told f (λ is. ⊎_elim (λ lt. omega (arith, is, lt)) (λ le. omega (arith, is, le, c.loop-file-test.true)) out) ∙ ap (λ (s : Image). s f) (c.loop-file.invariant.seen told)
+
+pub returns-clause-beside : goal.returns-clause-beside
+returns-clause-beside g c told f out = ap (λ (s : Image). s f) (c.loop-file.invariant.seen told)

@@ -1,6 +1,6 @@
 use Rattle.std.proofs.Common.{◌≡◌, [], refl, arith}
 use Rattle.el_outside.proofs.Traces.{all_grow_none, all_grow_more}
-use Rattle.el_model.proofs.Quiets.{quiet_none, quiet_on}
+use Rattle.el_model.proofs.LedgerMoves.{asked_none, asked_on}
 use Rattle.el_methods.specs.Archives.{HasAsked}
 use Rattle.el_sessions.proofs.Subscribing.{edits_same, edits_more}
 use Rattle.el_replies.specs.Losses.{AnswersOf}
@@ -13,7 +13,7 @@ pub loop-item-init : goal.loop-item-init
 loop-item-init g c =
     let l = g.G.Ledger in
     record {
-      quiet = quiet_none l.is_live l.height l.tip l.buckets l.stands l.tells_crash l.moment l.left_since
+      quiet = asked_none l
           c.args.ledger.now;
       grows = λ tells. all_grow_none _;
       edits = edits_same c.args.session.now.subs;
@@ -33,7 +33,7 @@ pub loop-item-preserved : goal.loop-item-preserved
 loop-item-preserved g c =
     let l = g.G.Ledger in
     record {
-      quiet = quiet_on l.is_live l.height l.tip l.buckets l.stands l.tells_crash l.moment l.left_since _ _ _
+      quiet = asked_on l _ _ _
           c.loop-item.invariant.quiet c.answer_item.ensures.quiet;
       grows = λ tells. all_grow_more _ _ _ (c.loop-item.invariant.grows tells)
           (c.answer_item.ensures.grows tells);
@@ -84,7 +84,7 @@ returns-in_err-answer_item-clause-grows g c = λ tells.
 pub returns-in_err-answer_item-clause-quiet : goal.returns-in_err-answer_item-clause-quiet
 returns-in_err-answer_item-clause-quiet g c =
     let l = g.G.Ledger in
-    quiet_on l.is_live l.height l.tip l.buckets l.stands l.tells_crash l.moment l.left_since _ _ _
+    asked_on l _ _ _
     c.loop-item.invariant.quiet c.in_err-answer_item.ensures.quiet
 
 pub returns-in_err-answer_item-clause-edits : goal.returns-in_err-answer_item-clause-edits

@@ -3,7 +3,7 @@ use Rattle.el_outside.specs.Files.{AllGrow}
 use Rattle.el_tx.specs.declared.types.Tx.{Tx}
 use Rattle.el_chain.specs.Chains.{Chain}
 use Rattle.el_mempool.specs.Standing.{StandsFor}
-use Rattle.el_model.specs.Keeping.{Quiet}
+use Rattle.el_model.specs.LedgerCalls.{Asked}
 use Rattle.el_methods.specs.Archives.{HasAsked}
 use Rattle.el_sessions.specs.Sessions.{Edits}
 use Rattle.el_replies.specs.Batches.{Completes, CutCompletes}
@@ -19,7 +19,7 @@ invariant-loop-item g l =
     let d = g.G.Ledger in
     let a = g.A.Archive in
     record {
-      quiet : Quiet d.is_live d.height d.tip d.buckets d.stands d.tells_crash d.moment d.left_since
+      quiet : Asked d
           l.initial.ledger l.ledger;
       grows : a.tells → AllGrow (a.bytes l.initial.archive) (a.bytes l.archive);
       edits : Edits l.initial.session.subs l.session.subs;

@@ -1,7 +1,7 @@
 use Rattle.std.proofs.Common.{◌∙◌, refl, arith}
 use Rattle.std.proofs.lemmas.Result.{err_from_is_err_and}
 use Rattle.el_model.specs.declared.fault.QueryFault.TheVariants as stop
-use Rattle.el_model.proofs.Quiets.{quiet_on, quiet_none}
+use Rattle.el_model.proofs.LedgerMoves.{asked_on, asked_none}
 use Rattle.el_sift.proofs.Sifts.{counts_moved}
 use Rattle.el_sift.proofs.Known.{first_asked, next_asked, all_over}
 use Rattle.el_sift.proofs.confirming.confirmed_among.Goals as goal
@@ -10,7 +10,7 @@ pub loop-id-init : goal.loop-id-init
 loop-id-init g c =
     let d = g.G.Ledger in
     record {
-      quiet = quiet_none d.is_live d.height d.tip d.buckets d.stands d.tells_crash d.moment d.left_since c.args.ledger.now;
+      quiet = asked_none d c.args.ledger.now;
       still = refl;
       found = λ chain x stood. first_asked chain x c.new-confirmed.result c.args.ids.now c.new-confirmed.ensures;
     }
@@ -26,7 +26,7 @@ pub loop-id-preserved : goal.loop-id-preserved
 loop-id-preserved g c =
     let d = g.G.Ledger in
     record {
-      quiet = quiet_on d.is_live d.height d.tip d.buckets d.stands d.tells_crash d.moment d.left_since
+      quiet = asked_on d
           c.args.ledger.now c.loop-id.ledger c.ask.new.ledger c.loop-id.invariant.quiet c.in_ok-ask.ensures.quiet;
       still = c.in_ok-ask.ensures.cause.uncounted ∙ c.loop-id.invariant.still;
       found = λ chain x stood. next_asked chain x c.args.ids.now c.loop-id.id-index _ c.loop-id.confirmed c.ask.new.confirmed c.loop-id-test.true

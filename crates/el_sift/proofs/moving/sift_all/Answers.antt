@@ -4,7 +4,7 @@ use Rattle.el_mempool.specs.declared.held.KeptTx.{KeptTx}
 use Rattle.el_mempool.specs.Standing.{StandsFor}
 use Rattle.el_model.specs.declared.fault.QueryFault.TheVariants as stop
 use Rattle.el_kept.specs.Tables.{standing}
-use Rattle.el_model.proofs.Quiets.{quiet_on, quiet_none}
+use Rattle.el_model.proofs.LedgerMoves.{asked_on, asked_none}
 use Rattle.el_kept.proofs.Slots.{Slot}
 use Rattle.el_sift.proofs.Sifts.{AreLeft, left_start, left_some, left_none, none_left, counts_moved}
 use Rattle.el_sift.specs.within.Renewal.{KnowsAll}
@@ -17,7 +17,7 @@ loop-slot-init g c =
     record {
       can_next = tt;
       is_finite = tt;
-      quiet = quiet_none d.is_live d.height d.tip d.buckets d.stands d.tells_crash d.moment d.left_since c.args.ledger.now;
+      quiet = asked_none d c.args.ledger.now;
       still = refl;
       told = λ chain told. subst (λ (l : List Slot). KnowsAll chain c.args.confirmed.now (standing l)) (sym (c.into_iter-slot-iterator.ensures.into_iter_gives ∙ c.iter-slot-items.ensures.rest)) told;
       left = λ before chain all over told stood.
@@ -31,7 +31,7 @@ loop-slot-preserved-in-Continue-1 g c =
     record {
       can_next = tt;
       is_finite = tt;
-      quiet = quiet_on d.is_live d.height d.tip d.buckets d.stands d.tells_crash d.moment d.left_since
+      quiet = asked_on d
           c.args.ledger.now c.loop-slot.ledger c.sift_one.new.ledger c.loop-slot.invariant.quiet c.in_ok-sift_one.ensures.quiet;
       still = c.in_ok-sift_one.ensures.cause.uncounted ∙ c.loop-slot.invariant.still;
       told = λ chain told. (first_told chain c.args.confirmed.now c.loop-slot.slot-iterator c.next.new.self _ c.in-Some.slot.now c.in-Some-slot.entry c.in-Some.ensures.steps c.in-Some-slot.is (c.loop-slot.invariant.told chain told)).1;

@@ -1,7 +1,7 @@
 use Rattle.std.proofs.Common.{◌≡◌, List}
 use Rattle.el_chain.specs.Chains.{Chain}
 use Rattle.el_tx.specs.declared.types.Tx.{Tx}
-use Rattle.el_model.specs.Keeping.{Quiet}
+use Rattle.el_model.specs.LedgerCalls.{Asked}
 use Rattle.el_kept.specs.Tables.{standing}
 use Rattle.el_kept.specs.Named.{IsOver}
 use Rattle.el_sift.specs.within.Renewal.{KnowsAll}
@@ -15,7 +15,7 @@ invariant-loop-slot g l =
     record {
       can_next : (goal.iterator-loop-slot g).can_next l.slot-iterator;
       is_finite : (goal.iterator-loop-slot g).is_finite l.slot-iterator;
-      quiet : Quiet d.is_live d.height d.tip d.buckets d.stands d.tells_crash d.moment d.left_since
+      quiet : Asked d
           l.initial.ledger l.ledger;
       still : d.faults l.ledger ≡ d.faults l.initial.ledger;
       told : (chain : Chain) → KnowsAll chain l.confirmed (standing l.table.kept.entries) → KnowsAll chain l.confirmed (standing l.slot-iterator);

@@ -6,7 +6,7 @@ use Rattle.el_mempool.specs.declared.held.Source.{Source}
 use Rattle.el_mempool.specs.Sift.{coin_named, output_among}
 use Rattle.el_kept.specs.declared.found.FoundOutput.{FoundOutput}
 use Rattle.el_sift.specs.within.Renewal.{source_with, output_left}
-use Rattle.el_model.proofs.Quiets.{quiet_on}
+use Rattle.el_model.proofs.LedgerMoves.{asked_on}
 use Rattle.el_kept.proofs.Lookups.{held_found}
 use Rattle.el_sift.proofs.Renewed.{one_more, stops, any_more, kept_found}
 use Rattle.el_sift.proofs.renewing.taken_again.Goals as goal
@@ -16,7 +16,7 @@ loop-input-preserved g c =
     let d = g.G.Ledger in
     let at = get_or c.args.inputs.now c.loop-input.input-index in
     record {
-      quiet = quiet_on d.is_live d.height d.tip d.buckets d.stands d.tells_crash d.moment d.left_since
+      quiet = asked_on d
           c.args.ledger.now c.loop-input.ledger c.named_again.new.ledger c.loop-input.invariant.quiet c.in_ok-found.ensures.quiet;
       still = c.in_ok-found.ensures.cause.uncounted ∙ c.loop-input.invariant.still;
       any = λ chain kept seen stood.
@@ -41,13 +41,13 @@ loop-input-preserved g c =
 pub returns-in_err-push-clause-quiet : goal.returns-in_err-push-clause-quiet
 returns-in_err-push-clause-quiet g c =
     let d = g.G.Ledger in
-    quiet_on d.is_live d.height d.tip d.buckets d.stands d.tells_crash d.moment d.left_since
+    asked_on d
     c.args.ledger.now c.loop-input.ledger c.named_again.new.ledger c.loop-input.invariant.quiet c.in_ok-found.ensures.quiet
 
 pub returns-in_default-clause-quiet : goal.returns-in_default-clause-quiet
 returns-in_default-clause-quiet g c =
     let d = g.G.Ledger in
-    quiet_on d.is_live d.height d.tip d.buckets d.stands d.tells_crash d.moment d.left_since
+    asked_on d
     c.args.ledger.now c.loop-input.ledger c.named_again.new.ledger c.loop-input.invariant.quiet c.in_ok-found.ensures.quiet
 
 pub returns-in_default-clause-missing : goal.returns-in_default-clause-missing

@@ -5,7 +5,7 @@ use Rattle.el_chain.specs.Chains.{Chain}
 use Rattle.el_tx.specs.declared.types.Tx.{Tx}
 use Rattle.el_mempool.specs.declared.held.Source.{Source}
 use Rattle.el_mempool.specs.Sift.{output_among}
-use Rattle.el_model.specs.Keeping.{Quiet}
+use Rattle.el_model.specs.LedgerCalls.{Asked}
 use Rattle.el_sift.specs.within.Renewal.{output_left, AreSeen}
 use Rattle.el_sift.proofs.Renewed.{SoFar}
 use Rattle.el_sift.proofs.renewing.taken_again.Given as goal
@@ -15,7 +15,7 @@ abbrev pub invariant-loop-input : goal.invariant-loop-input
 invariant-loop-input g l =
     let d = g.G.Ledger in
     record {
-      quiet : Quiet d.is_live d.height d.tip d.buckets d.stands d.tells_crash d.moment d.left_since
+      quiet : Asked d
           l.initial.ledger l.ledger;
       still : d.faults l.ledger ≡ d.faults l.initial.ledger;
       any : (chain : Chain) (kept : List Tx) → AreSeen (output_left l.table l.gone l.any) chain kept l.inputs → d.stands l.initial.ledger chain

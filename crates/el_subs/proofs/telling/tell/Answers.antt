@@ -3,7 +3,7 @@ use Rattle.std.specs.Map.{keys_of}
 use Rattle.std.proofs.lemmas.List.{get_or_past}
 use Rattle.el_base.specs.declared.hash.Hash32.{Hash32}
 use Rattle.el_chain.specs.Chains.{Chain}
-use Rattle.el_model.proofs.Quiets.{quiet_none, quiet_on}
+use Rattle.el_model.proofs.LedgerMoves.{asked_none, asked_on}
 use Rattle.el_view.specs.Rows.{history_rows}
 use Rattle.el_subs.specs.Told.{status}
 use Rattle.el_subs.proofs.News.{element, told_all, rows_first, within_subs}
@@ -22,7 +22,7 @@ loop-number-init g c =
     record {
       keys = refl;
       live = c.requires.live;
-      quiet = quiet_none d.is_live d.height d.tip d.buckets d.stands d.tells_crash d.moment d.left_since c.args.ledger.now;
+      quiet = asked_none d c.args.ledger.now;
       so_far = λ chain kept stood stands others.
           rw c.new-found.ensures.items (so_first c.args.touched.now c.args.subs.now items rise (status chain kept) others);
       rows = λ chain stood. rows_first (cost_at chain (d.buckets c.args.ledger.now)) c.args.touched.now (keys_of c.args.subs.now) (d.reads c.args.ledger.now) _;
@@ -45,7 +45,7 @@ loop-number-preserved g c =
     record {
       keys = c.tell_one.ensures.keys ∙ i.keys;
       live = c.tell_one.ensures.quiet.stays.still_live i.live;
-      quiet = quiet_on d.is_live d.height d.tip d.buckets d.stands d.tells_crash d.moment d.left_since c.args.ledger.now c.loop-number.ledger c.tell_one.new.ledger i.quiet c.tell_one.ensures.quiet;
+      quiet = asked_on d c.args.ledger.now c.loop-number.ledger c.tell_one.new.ledger i.quiet c.tell_one.ensures.quiet;
       so_far = λ chain kept stood stands others.
           let x = element c.loop-number.subs _ (within_subs c.args.subs.now c.loop-number.subs _ (length c.args.subs.now) i.keys refl
           (is_inside c.args.touched.now c.args.subs.now items rise c.loop-number.number-index 0 c.loop-number-test.true)) in

@@ -3,7 +3,7 @@ use Rattle.std.specs.Map.{keys_of}
 use Rattle.el_base.specs.declared.hash.Hash32.{Hash32}
 use Rattle.el_tx.specs.declared.types.Tx.{Tx}
 use Rattle.el_chain.specs.Chains.{Chain}
-use Rattle.el_model.specs.Keeping.{Quiet}
+use Rattle.el_model.specs.LedgerCalls.{Asked}
 use Rattle.el_mempool.specs.Standing.{StandsFor}
 use Rattle.el_view.specs.Rows.{history_rows}
 use Rattle.el_subs.specs.Told.{status, OthersTold, cost_of}
@@ -16,7 +16,7 @@ invariant-loop-number g l =
     record {
       keys : keys_of l.subs ≡ keys_of l.fn.subs;
       live : d.is_live l.ledger;
-      quiet : Quiet d.is_live d.height d.tip d.buckets d.stands d.tells_crash d.moment d.left_since l.fn.ledger l.ledger;
+      quiet : Asked d l.fn.ledger l.ledger;
       so_far : (chain : Chain) (kept : List Tx) → d.stands l.fn.ledger chain → StandsFor l.pool.entries chain kept → OthersTold (status chain kept) l.touched l.fn.subs
           → SoFar (status chain kept) l.fn.subs (get_or l.number-items l.number-index (length l.fn.subs)) l.found.items l.subs;
       rows : (chain : Chain) → d.stands l.fn.ledger chain

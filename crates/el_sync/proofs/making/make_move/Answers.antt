@@ -31,6 +31,7 @@ returns-in-Ok-clause-keeps g c =
       keeps = e.reads.keeps;
       archive_rose = inl (rose_still _ _ e.reads.uncounted);
       disk_same = e.cause.uncounted;
+      beside = e.beside;
     }
 
 pub returns-in_ok-answer-in-Err-clause-tried : goal.returns-in_ok-answer-in-Err-clause-tried
@@ -56,6 +57,7 @@ returns-in_ok-answer-in-Err-clause-keeps g c =
       keeps = e.reads.keeps;
       archive_rose = rose_or_not c.in-Err.fault _ _ (λ is. e.reads.counted (ap Err is)) e.reads.others_uncounted;
       disk_same = e.cause.others_uncounted other;
+      beside = e.beside;
     }
 
 pub returns-in_err-answer-in-Err-clause-stopped : goal.returns-in_err-answer-in-Err-clause-stopped
@@ -73,6 +75,7 @@ returns-in_err-answer-in-Err-clause-stopped g c = λ chain stands.
       archive_rose = rose_still _ _ (e.reads.others_uncounted c.in_err-answer-in-Err.ensures.told_files);
       disk_rose = λ failed. e.cause.counted (ap Err (c.in_err-answer-in-Err.ensures.failed (ap Err failed)));
       disk_same = λ other. e.cause.others_uncounted (c.in_err-answer-in-Err.ensures.memory (ap Err (not_failed c.in_err-answer-in-Err.field-0.0 other))).0;
+      beside = e.beside;
     })
 
 pub returns-in_err-answer-in-Err-clause-failed : goal.returns-in_err-answer-in-Err-clause-failed
@@ -86,6 +89,7 @@ returns-in_err-answer-in-Err-clause-failed g c =
       archive_rose = rose_still _ _ (e.reads.others_uncounted c.in_err-answer-in-Err.ensures.told_files);
       disk_rose = λ failed. e.cause.counted (ap Err (c.in_err-answer-in-Err.ensures.failed (ap Err failed)));
       disk_same = λ other. e.cause.others_uncounted (c.in_err-answer-in-Err.ensures.memory (ap Err (not_failed c.in_err-answer-in-Err.field-0.0 other))).0;
+      beside = e.beside;
     })
 
 pub returns-in_err-forward-clause-stopped : goal.returns-in_err-forward-clause-stopped

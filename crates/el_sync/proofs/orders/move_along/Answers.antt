@@ -4,7 +4,7 @@ use Rattle.el_lines.specs.declared.node_answer.NodeAnswer.TheVariants as say
 use Rattle.el_lines.specs.declared.node_answer.NodeRefusal.TheVariants as refusal
 use Rattle.el_side.specs.Plans.{plan_of}
 use Rattle.el_side.specs.Side.{deep, there}
-use Rattle.el_sync.proofs.Led.{along_moves, answered, asked_stops, if_err_map, leads_as, leads_on, memory_of, path_move, starved_still, step_asked, stops_as, stops_on}
+use Rattle.el_sync.proofs.Led.{along_moves, answered, asked_stops, if_err_map, leads_as, leads_on, memory_of, path_move, starved_still, step_asked, step_on, step_unmoved, stops_as, stops_on}
 use Rattle.el_model.proofs.LedgerMoves.{asked_moved}
 use Rattle.el_sync.proofs.Compared.{drop_linked, path_linked, rest_fits, at_is}
 use Rattle.el_outside.proofs.Traces.{all_grow_none}
@@ -84,6 +84,18 @@ returns-in_err-rest-clause-stopped g c = λ path chain is stands.
     starved_still g.G.Ledger g.A.Archive c.from_residual-in_err-rest.result c.args.ledger.now c.compare.new.ledger c.args.archive.now chain _
     (asked_moved g.G.Ledger c.args.ledger.now c.compare.new.ledger chain (λ a d f h i j k. g.met.G.Ledger.leaves_own a d f h i j k) c.requires.live c.in_ok-back.ensures.asked stands)
     (memory_of c.from_residual-in_err-rest.result p.0 p.1 (p.2 ∙ c.in_err-rest.ensures.memory)) c.in_ok-back.ensures.disk_rose.uncounted
+
+pub returns-clause-step : goal.returns-clause-step
+returns-clause-step g c =
+    step_on g.G.Ledger g.A.Archive c.args.ledger.now c.compare.new.ledger c.move_once.new.ledger c.args.archive.now c.move_once.new.archive c.move_once.result
+    c.in_ok-back.ensures.asked c.in_ok-back.ensures.disk_rose.uncounted c.move_once.ensures.step
+
+pub returns-in_err-back-clause-step : goal.returns-in_err-back-clause-step
+returns-in_err-back-clause-step g c =
+    let p = err_from_is_err_and c.from_residual.result c.from_residual.ensures.1 in
+    let e = c.in_err-back.ensures in
+    step_unmoved g.G.Ledger g.A.Archive c.from_residual.result c.in_err-back.field-0.0 c.args.ledger.now c.compare.new.ledger c.args.archive.now (p.1 ∙ ap Err p.2)
+    c.requires.live e.asked (λ is. e.disk_rose.counted (ap Err is)) (λ other. e.disk_rose.others_uncounted other)
 
 pub returns-then-back-clause-step : goal.returns-then-back-clause-step
 returns-then-back-clause-step g c =

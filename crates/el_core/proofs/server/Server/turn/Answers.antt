@@ -175,3 +175,31 @@ returns-in-Ok-turn_node-clause-numbers g c = λ last up. c.turn_node.ensures.num
 
 pub returns-in-Err-turn_node-clause-numbers : goal.returns-in-Err-turn_node-clause-numbers
 returns-in-Err-turn_node-clause-numbers g c = λ last up. c.turn_node.ensures.numbers last (subst (λ (s : State g.row.G.Denot). AreUpTo last s.clients) (sym c.in-Ok-Some.ensures.same) up)
+
+-- the files beside the ledger's own stay, whichever turn it is
+pub returns-in-Ok-clause-beside : goal.returns-in-Ok-clause-beside
+returns-in-Ok-clause-beside g c = c.in-Ok.ensures.step.beside
+
+pub returns-in-Err-clause-beside : goal.returns-in-Err-clause-beside
+returns-in-Err-clause-beside g c = c.in-Err.ensures.step.beside
+
+pub returns-in-Err-next_line-clause-beside : goal.returns-in-Err-next_line-clause-beside
+returns-in-Err-next_line-clause-beside g c = λ told.
+    ap (λ (s : State g.row.G.Denot). g.G.Ledger.beside s.ledger) c.in-Err-next_line.ensures.refused
+
+pub returns-in-Ok-None-clause-beside : goal.returns-in-Ok-None-clause-beside
+returns-in-Ok-None-clause-beside g c =
+    let unchanged = rw c.in-Ok-None.field-0-is at c.in-Ok-None.ensures.unchanged in
+    let q = rw unchanged at c.turn_peers.ensures.quiet in
+    q.below.files
+
+pub returns-in-Ok-turn_node-clause-beside : goal.returns-in-Ok-turn_node-clause-beside
+returns-in-Ok-turn_node-clause-beside g c = λ told. c.in-Ok-turn_node.ensures.step.beside told
+    ∙ ap (λ (s : State g.row.G.Denot). g.G.Ledger.beside s.ledger) c.in-Ok-Some.ensures.same
+
+pub returns-in-Err-turn_node-clause-beside : goal.returns-in-Err-turn_node-clause-beside
+returns-in-Err-turn_node-clause-beside g c = λ told. c.in-Err-turn_node.ensures.step.beside told
+    ∙ ap (λ (s : State g.row.G.Denot). g.G.Ledger.beside s.ledger) c.in-Ok-Some.ensures.same
+
+pub returns-in-Some-clause-beside : goal.returns-in-Some-clause-beside
+returns-in-Some-clause-beside g c = c.turn_tell.ensures.beside

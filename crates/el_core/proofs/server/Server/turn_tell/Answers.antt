@@ -20,3 +20,6 @@ returns-clause-less g c =
 
 pub returns-clause-numbers : goal.returns-clause-numbers
 returns-clause-numbers g c = λ last up. up_to_told _ c.args.i last _ _ c.tell.ensures.turn (rw (← c.self.view_is) at up)
+
+pub returns-clause-beside : goal.returns-clause-beside
+returns-clause-beside g c = rw (← c.self.view_is) c.tell.ensures.quiet.below.files

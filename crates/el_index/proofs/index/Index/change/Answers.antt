@@ -1,13 +1,15 @@
-use Rattle.std.proofs.Common.{inl, inr, ℕ, ◌+◌, ◌-◌, length, refl, sym, ap, ◌∙◌}
+use Rattle.std.specs.Prelude.{Result}
+use Rattle.std.proofs.Common.{Err, inl, inr, ℕ, ◌+◌, ◌-◌, length, refl, sym, ap, ◌∙◌}
 use Rattle.el_row_formats.specs.declared.table.Table.TheVariants as table
 use Rattle.el_rows.proofs.UnderLemmas.{length-under}
 use Rattle.el_rows.specs.Changes.{under}
+use Rattle.el_rows.specs.declared.faults.CommitFault.{CommitFault}
 use Rattle.el_row_formats.specs.Tables.{Tables}
 use Rattle.el_rows.specs.Transaction.{tables_in}
 use Rattle.el_rows.proofs.ReadsLemmas.{read_joined}
 use Rattle.el_chain.specs.Moves.{target}
 use Rattle.el_schema.proofs.StandingLemmas.{same_stand}
-use Rattle.el_index.proofs.Kept.{only_read, begun}
+use Rattle.el_index.proofs.Kept.{only_read, begun, beside_read}
 use Rattle.el_index.proofs.Targets.{moved_rows, tip_moved}
 use Rattle.el_index.proofs.index.Index.change.Goals as goal
 
@@ -16,7 +18,7 @@ returns-in_err-edit-clause-crash_failed g c chain told stand fits failed =
     let r = g.R.Rows in (
       chain,
       inl refl,
-      λ crash. only_read r.lists r.counts r.is_live r.tells_crash r.moment r.left_since r.shows g.met.R.Rows.leaves_lists c.args.self.now.rows c.edit.new.t.rows.now _ chain chain c.requires.live
+      λ crash. only_read r g.met.R.Rows.leaves_lists c.args.self.now.rows c.edit.new.t.rows.now _ chain chain c.requires.live
           (rw c.new-txn.ensures.below at c.edit.ensures.edits.only) stand c.drop-txn.ensures crash,
     )
 
@@ -24,8 +26,8 @@ returns-in_err-edit-clause-crash_failed g c chain told stand fits failed =
 pub returns-in_err-hash-clause-crash_failed : goal.returns-in_err-hash-clause-crash_failed
 returns-in_err-hash-clause-crash_failed g c chain told stand fits failed =
     let r = g.R.Rows in
-    let reads = read_joined r.lists r.counts r.is_live r.tells_crash r.moment r.left_since c.args.self.now.rows c.edit.new.t.rows.now c.hash_after.new.t.rows.now (rw c.new-txn.ensures.below at c.edit.ensures.edits.only) c.hash_after.ensures.read.only in
-    (chain, inl refl, λ crash. only_read r.lists r.counts r.is_live r.tells_crash r.moment r.left_since r.shows g.met.R.Rows.leaves_lists c.args.self.now.rows c.hash_after.new.t.rows.now _ chain chain c.requires.live reads stand c.drop-txn-in_err-hash.ensures crash)
+    let reads = read_joined r c.args.self.now.rows c.edit.new.t.rows.now c.hash_after.new.t.rows.now (rw c.new-txn.ensures.below at c.edit.ensures.edits.only) c.hash_after.ensures.read.only in
+    (chain, inl refl, λ crash. only_read r g.met.R.Rows.leaves_lists c.args.self.now.rows c.hash_after.new.t.rows.now _ chain chain c.requires.live reads stand c.drop-txn-in_err-hash.ensures crash)
 
 -- it failed
 pub returns-in-Err-DiskFailed-clause-crash_failed : goal.returns-in-Err-DiskFailed-clause-crash_failed
@@ -34,12 +36,12 @@ returns-in-Err-DiskFailed-clause-crash_failed g c chain told stand fits failed =
     let p = c.args.plan.now in
     let mid = c.hash_after.new.t.rows.now in
     let there = under (r.lists mid) c.in_ok-sealed.sealed.counts c.in_ok-sealed.sealed.changes in
-    let reads = read_joined r.lists r.counts r.is_live r.tells_crash r.moment r.left_since c.args.self.now.rows c.edit.new.t.rows.now mid (rw c.new-txn.ensures.below at c.edit.ensures.edits.only) c.hash_after.ensures.read.only in
+    let reads = read_joined r c.args.self.now.rows c.edit.new.t.rows.now mid (rw c.new-txn.ensures.below at c.edit.ensures.edits.only) c.hash_after.ensures.read.only in
     let done = c.in_ok-edit.ensures.moved chain told (same_stand _ (tables_in {G = r} c.new-txn.result) chain stand (c.new-txn.ensures.tables told)) fits in
     let sealed = moved_rows p chain c.args.texts.now _ _ there done.0 done.1 (λ t. c.in_ok-sealed.ensures.tables t ∙ ap (λ (T : Tables). T t) c.hash_after.ensures.read.tables) in (
       target p chain done.0,
       inr (done.0, done.1.next, refl),
-      λ crash. begun r.lists r.counts r.is_live r.tells_crash r.moment r.left_since r.shows g.met.R.Rows.leaves_lists c.args.self.now.rows mid _ there chain (target p chain done.0) c.requires.live reads stand sealed.stand (rw c.in_ok-sealed.ensures.rows at c.commit.ensures.crash crash) crash,
+      λ crash. begun r g.met.R.Rows.leaves_lists c.args.self.now.rows mid _ there chain (target p chain done.0) c.requires.live reads stand sealed.stand (rw c.in_ok-sealed.ensures.rows at c.commit.ensures.crash crash) crash,
     )
 
 -- the move is made
@@ -49,14 +51,14 @@ returns-in-Ok-clause-moved g c chain told stand fits =
     let p = c.args.plan.now in
     let mid = c.hash_after.new.t.rows.now in
     let there = under (r.lists mid) c.in_ok-sealed.sealed.counts c.in_ok-sealed.sealed.changes in
-    let reads = read_joined r.lists r.counts r.is_live r.tells_crash r.moment r.left_since c.args.self.now.rows c.edit.new.t.rows.now mid (rw c.new-txn.ensures.below at c.edit.ensures.edits.only) c.hash_after.ensures.read.only in
+    let reads = read_joined r c.args.self.now.rows c.edit.new.t.rows.now mid (rw c.new-txn.ensures.below at c.edit.ensures.edits.only) c.hash_after.ensures.read.only in
     let done = c.in_ok-edit.ensures.moved chain told (same_stand _ (tables_in {G = r} c.new-txn.result) chain stand (c.new-txn.ensures.tables told)) fits in
     let sealed = moved_rows p chain c.args.texts.now _ _ there done.0 done.1 (λ t. c.in_ok-sealed.ensures.tables t ∙ ap (λ (T : Tables). T t) c.hash_after.ensures.read.tables) in (
       done.0,
       moved_rows p chain c.args.texts.now _ there _ done.0 sealed (rw c.in_ok-sealed.ensures.rows at c.in-Ok.ensures.lists told),
       tip_moved p chain c.args.texts.now _ _ done.0 _ done.1 c.requires.plan c.requires.of (rw c.as_slice.ensures at c.in_ok-hash.ensures.last)
           (λ none. c.in_ok-hash.ensures.tip (target p chain done.0) told done.1.stand (c.as_slice.ensures ∙ none)),
-      λ crash. begun r.lists r.counts r.is_live r.tells_crash r.moment r.left_since r.shows g.met.R.Rows.leaves_lists c.args.self.now.rows mid _ there chain (target p chain done.0) c.requires.live reads stand sealed.stand (rw c.in_ok-sealed.ensures.rows at c.commit.ensures.crash crash) crash,
+      λ crash. begun r g.met.R.Rows.leaves_lists c.args.self.now.rows mid _ there chain (target p chain done.0) c.requires.live reads stand sealed.stand (rw c.in_ok-sealed.ensures.rows at c.commit.ensures.crash crash) crash,
     )
 
 -- the number of blocks goes by the plan
@@ -69,3 +71,41 @@ returns-in-Ok-clause-top g c =
     ∙ ap length (c.in_ok-sealed.ensures.tables table.Blocks)
     ∙ ap (λ (T : Tables). length (T table.Blocks)) c.hash_after.ensures.read.tables ∙ c.in_ok-edit.ensures.top
     ∙ ap (λ (n : ℕ). (n - p.back) + length p.forward) (c.new-txn.ensures.counts table.Blocks)
+
+-- what stands beside the rows stays, however the move ends
+pub returns-in_err-edit-clause-beside : goal.returns-in_err-edit-clause-beside
+returns-in_err-edit-clause-beside g c =
+    let r = g.R.Rows in
+    beside_read r c.args.self.now.rows c.edit.new.t.rows.now _ (rw c.new-txn.ensures.below at c.edit.ensures.edits.only) c.drop-txn.ensures
+
+pub returns-in_err-hash-clause-beside : goal.returns-in_err-hash-clause-beside
+returns-in_err-hash-clause-beside g c =
+    let r = g.R.Rows in
+    let reads = read_joined r c.args.self.now.rows c.edit.new.t.rows.now c.hash_after.new.t.rows.now (rw c.new-txn.ensures.below at c.edit.ensures.edits.only) c.hash_after.ensures.read.only in
+    beside_read r c.args.self.now.rows c.hash_after.new.t.rows.now _ reads c.drop-txn-in_err-hash.ensures
+
+pub returns-in_err-sealed-clause-beside : goal.returns-in_err-sealed-clause-beside
+returns-in_err-sealed-clause-beside g c =
+    let r = g.R.Rows in
+    let reads = read_joined r c.args.self.now.rows c.edit.new.t.rows.now c.hash_after.new.t.rows.now (rw c.new-txn.ensures.below at c.edit.ensures.edits.only) c.hash_after.ensures.read.only in
+    beside_read r c.args.self.now.rows c.hash_after.new.t.rows.now _ reads c.in_err-sealed.ensures.rows
+
+pub returns-in-Ok-clause-beside : goal.returns-in-Ok-clause-beside
+returns-in-Ok-clause-beside g c told =
+    let r = g.R.Rows in
+    let reads = read_joined r c.args.self.now.rows c.edit.new.t.rows.now c.hash_after.new.t.rows.now (rw c.new-txn.ensures.below at c.edit.ensures.edits.only) c.hash_after.ensures.read.only in
+    (rw c.in_ok-sealed.ensures.rows at c.commit.ensures.beside told) ∙ reads.below.files told
+
+pub returns-in-Err-DiskFailed-clause-beside : goal.returns-in-Err-DiskFailed-clause-beside
+returns-in-Err-DiskFailed-clause-beside g c told =
+    let r = g.R.Rows in
+    let reads = read_joined r c.args.self.now.rows c.edit.new.t.rows.now c.hash_after.new.t.rows.now (rw c.new-txn.ensures.below at c.edit.ensures.edits.only) c.hash_after.ensures.read.only in
+    (rw c.in_ok-sealed.ensures.rows at c.commit.ensures.beside told) ∙ reads.below.files told
+
+-- out of memory, only rows were read
+pub returns-clause-unchanged : goal.returns-clause-unchanged
+returns-clause-unchanged g c other =
+    let r = g.R.Rows in
+    let mid = c.hash_after.new.t.rows.now in
+    let reads = read_joined r c.args.self.now.rows c.edit.new.t.rows.now mid (rw c.new-txn.ensures.below at c.edit.ensures.edits.only) c.hash_after.ensures.read.only in
+    read_joined r c.args.self.now.rows mid c.commit.new.self reads (rw c.in_ok-sealed.ensures.rows at c.in-Err-Memory.ensures.memory (ap (λ (e : CommitFault). let r : Result (Unit {0}) CommitFault = Err e in r) c.in-Err-Memory.field-0-is))

@@ -42,5 +42,5 @@ pub returns-in_err-tip-clause-unchanged : goal.returns-in_err-tip-clause-unchang
 returns-in_err-tip-clause-unchanged g c =
     let r = g.R.Rows in
     let p = err_from_is_err_and c.from_residual-in_err-tip.result c.from_residual-in_err-tip.ensures.1 in
-    rw (p.1 ∙ ap Err p.2) (λ other. quiet r.lists r.counts r.is_live r.tells_crash r.moment r.left_since r.tells (λ l. l.rows) (λ l. l.tip) c.args.self.now c.change.new.self c.change.new.self.rows refl
+    rw (p.1 ∙ ap Err p.2) (λ other. quiet r (λ l. l.rows) (λ l. l.tip) c.args.self.now c.change.new.self c.change.new.self.rows refl
     c.in_err-tip.ensures.kept c.requires.live (c.in_err-tip.ensures.unchanged other))

@@ -24,11 +24,11 @@ returns-in_err-found-clause-rows g c chain stands =
 pub returns-in_err-found-clause-quiet : goal.returns-in_err-found-clause-quiet
 returns-in_err-found-clause-quiet g c =
     let r = g.R.Rows in
-    quiet r.lists r.counts r.is_live r.tells_crash r.moment r.left_since r.tells (λ l. l.rows) (λ l. l.tip) c.args.self.now _ c.unspent.new.t.rows.now c.drop-txn.ensures refl c.requires.live
+    quiet r (λ l. l.rows) (λ l. l.tip) c.args.self.now _ c.unspent.new.t.rows.now c.drop-txn.ensures refl c.requires.live
     (rw c.new-txn.ensures.below at c.unspent.ensures.read.only)
 
 pub returns-clause-quiet : goal.returns-clause-quiet
 returns-clause-quiet g c =
     let r = g.R.Rows in
-    quiet r.lists r.counts r.is_live r.tells_crash r.moment r.left_since r.tells (λ l. l.rows) (λ l. l.tip) c.args.self.now _ c.unspent.new.t.rows.now c.drop-txn-2.ensures refl c.requires.live
+    quiet r (λ l. l.rows) (λ l. l.tip) c.args.self.now _ c.unspent.new.t.rows.now c.drop-txn-2.ensures refl c.requires.live
     (rw c.new-txn.ensures.below at c.unspent.ensures.read.only)

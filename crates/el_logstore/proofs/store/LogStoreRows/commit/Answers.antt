@@ -4,7 +4,7 @@ use Rattle.std.specs.Result.{IsErrAnd}
 use Rattle.el_rows.specs.declared.faults.CommitFault.{CommitFault}
 use Rattle.el_rows.specs.declared.faults.CommitFault.TheVariants as fault
 use Rattle.el_redo.specs.RedoBody.{redo_body}
-use Rattle.el_logstore.proofs.StoreLemmas.{rows_read, kept_more, left_either}
+use Rattle.el_logstore.proofs.StoreLemmas.{rows_read, kept_more, left_either, beside_kept}
 use Rattle.el_logstore.proofs.store.LogStoreRows.commit.Goals as goal
 
 memory_of : (r : Result (Unit {0}) CommitFault) (e : CommitFault) → IsErrAnd r (λ x. x ≡ e) → IsErrOf r fault.Memory → IsErrOf {T = Unit {0}} (Err e) fault.Memory
@@ -27,6 +27,16 @@ returns-clause-crash g c told =
     left_either g.D.Disk g.N.NetworkMagic.magic c.args.self.now c.commit.new.self c.append.new.self c.args.sealed.now c.as_slice.result.now kept
     (record { spelled = c.as_slice.ensures ∙ c.in_ok-body.ensures ∙ ap (λ (magic : List ℕ). redo_body magic c.args.sealed.now) c.magic.ensures; made = c.requires.made })
     (c.append.ensures.crash kept.entries kept.holds)
+
+pub returns-in_err-append-clause-beside : goal.returns-in_err-append-clause-beside
+returns-in_err-append-clause-beside g c told =
+    let kept = c.requires.live told in
+    beside_kept g.D.Disk _ c.args.self.now.journal.disk c.append.new.self.disk (c.append.ensures.crash kept.entries kept.holds)
+
+pub returns-clause-beside : goal.returns-clause-beside
+returns-clause-beside g c told =
+    let kept = c.requires.live told in
+    beside_kept g.D.Disk _ c.args.self.now.journal.disk c.append.new.self.disk (c.append.ensures.crash kept.entries kept.holds)
 
 pub returns-clause-live : goal.returns-clause-live
 returns-clause-live g c told =

@@ -7,7 +7,7 @@ use Rattle.el_redone.specs.Steps.{Leaves}
 use Rattle.el_pages.specs.declared.layout.TheConstants.{FORMAT_1}
 use Rattle.el_pages.specs.Indexes.{HasCounts, Shows, tables_in}
 use Rattle.el_pages.proofs.Facts.{has_same}
-use Rattle.el_pages.proofs.StoreLemmas.{lists_now, same_rows, same_counts, commit_leaves}
+use Rattle.el_pages.proofs.StoreLemmas.{beside_same, lists_now, same_rows, same_counts, commit_leaves}
 use Rattle.el_pages.proofs.store.PagesRows.commit.Goals as goal
 
 pub commit_on-requires : goal.commit_on-requires
@@ -68,3 +68,9 @@ returns-clause-live g c told = record {
       (subst (λ (m : List ℕ). HasCounts FORMAT_1 (head_bytes m) (g.D.Disk.seen c.commit_on.new.disk) c.counts_of-self.result) c.magic.ensures
       (same_counts (head_bytes c.magic.result) (g.D.Disk.seen c.commit_on.new.disk) c.args.sealed.now.counts c.counts_of-self.result c.counts_of-self.ensures (c.in-Ok.ensures.has told)));
 }
+
+pub returns-in-Err-clause-beside : goal.returns-in-Err-clause-beside
+returns-in-Err-clause-beside g c told = beside_same (g.D.Disk.seen c.args.self.now.disk) (g.D.Disk.seen c.commit_on.new.disk) (c.commit_on.ensures.beside told)
+
+pub returns-clause-beside : goal.returns-clause-beside
+returns-clause-beside g c told = beside_same (g.D.Disk.seen c.args.self.now.disk) (g.D.Disk.seen c.commit_on.new.disk) (c.commit_on.ensures.beside told)

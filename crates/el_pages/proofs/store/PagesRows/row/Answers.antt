@@ -1,5 +1,6 @@
-use Rattle.std.proofs.Common.{refl, ◌∙◌, arith}
+use Rattle.std.proofs.Common.{refl, ap, ◌∙◌, arith}
 use Rattle.std.proofs.lemmas.Result.{on_ok_weaker}
+use Rattle.el_pages.specs.Stores.{beside_in}
 use Rattle.el_pages.proofs.StoreLemmas.{kept_read, kept_whole, kept_row}
 use Rattle.el_pages.proofs.store.PagesRows.row.Goals as goal
 
@@ -21,5 +22,8 @@ returns-clause-reads g c =
       same = refl;
       count = refl;
       live = λ told. kept_read g.D.Disk g.N.NetworkMagic.magic store.told.value store.counts store.disk c.read_row.new.disk (c.read_row.ensures.seen told) (c.read_row.ensures.left told) (c.requires.live told);
-      crash = λ told. let run = c.read_row.ensures.no_more told in record { later = run.later; before = λ t i le left. (left.0, run.before t i le left.1) };
+      below = record {
+        crash = λ told. let run = c.read_row.ensures.no_more told in record { later = run.later; before = λ t i le left. (left.0, run.before t i le left.1) };
+        files = λ told. ap beside_in (c.read_row.ensures.seen told);
+      };
     }

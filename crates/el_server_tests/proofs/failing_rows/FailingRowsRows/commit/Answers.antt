@@ -10,5 +10,5 @@ returns-clause-memory c failed = record {
   count = (c.commit.ensures.memory failed).count
       ∙ ap {B = Table → ℕ} (λ (s : FailingRows) t. length (tables_of s.rows.rows t)) c.call.ensures.same;
   live = tt;
-  crash = λ no. absurd no;
+  below = record { crash = λ no. absurd no; files = λ no. absurd no };
 }

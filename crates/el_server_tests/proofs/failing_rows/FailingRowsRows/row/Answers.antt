@@ -10,5 +10,5 @@ returns-clause-reads c = record {
   count = c.row.ensures.reads.count
       ∙ ap {B = Table → ℕ} (λ (s : FailingRows) t. length (tables_of s.rows.rows t)) c.call.ensures.same;
   live = tt;
-  crash = λ no. absurd no;
+  below = record { crash = λ no. absurd no; files = λ no. absurd no };
 }
