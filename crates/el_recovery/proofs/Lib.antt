@@ -1,0 +1,14 @@
+pub mod Opens
+pub mod Spelled
+pub mod Progress
+pub mod Fronts
+pub mod NextKeys
+pub mod Orders
+pub mod Cells
+pub mod Bodies
+pub mod Metas
+pub mod FileChecks
+pub mod Decided
+pub mod Settles
+pub mod Verdicts
+pub mod Finishes

@@ -1,0 +1,19 @@
+-- What an opening gives back.
+use Rattle.std.specs.Prelude.{Result, Ok, Err}
+use Rattle.el_outside.specs.declared.disk.Disk as disk
+use Rattle.el_redo.specs.declared.network.NetworkMagic as network
+use Rattle.el_redo.specs.declared.faults.OpenFault.{OpenFault}
+use Rattle.el_pages.specs.declared.store.Pages.{Pages}
+use Rattle.el_pages.specs.Stores.{disk_below}
+
+-- the disk, also where it is refused
+abbrev pub disk_in : {D N : Type 0} {G : disk.Ghosts D} {H : network.Ghosts N}
+    → Result (Pages D N G H) (OpenFault × D) → D
+disk_in (Ok store) = disk_below store
+disk_in (Err refused) = refused.1
+
+-- the same without the disk: the store, or the fault
+abbrev pub opened : {D N : Type 0} {G : disk.Ghosts D} {H : network.Ghosts N}
+    → Result (Pages D N G H) (OpenFault × D) → Result (Pages D N G H) OpenFault
+opened (Ok store) = Ok store
+opened (Err refused) = Err refused.0

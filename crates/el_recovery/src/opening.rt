@@ -1,0 +1,188 @@
+// Opening a store.
+ghost use Rattle.std.specs.Prelude.{◌≡◌, ◌≢◌, ◌⊎◌, ◌≤◌, ◌<◌, ◌+◌, ◌*◌, ◌∷◌, [], ℕ, List, length, OnOk, IfOk, IfErr, IfSome, MatchResult};
+ghost use Rattle.std.specs.Int.{w32, from_le_bytes};
+ghost use Rattle.el_outside.specs.Counts.{CountsOnly};
+ghost use Rattle.el_outside.specs.Disk.{Image, OnDisk};
+ghost use Rattle.el_outside.specs.Moments.{LeftNow};
+ghost use Rattle.el_row_formats.specs.Tables.{Tables, limit_of};
+ghost use Rattle.el_row_formats.specs.declared.table.Table.{Table};
+ghost use Rattle.el_rows.specs.Changes.{count_at};
+ghost use Rattle.el_rows.specs.Reads.{IsEither};
+ghost use Rattle.el_redo.specs.RedoBody.{head_bytes};
+ghost use Rattle.el_redo.specs.declared.faults.OpenFault.TheVariants as fault;
+ghost use Rattle.el_redone.specs.Redone.{StandsFor};
+ghost use Rattle.el_redone.specs.Steps.{EachNow, Leaves, AreOnDisk, IsAtRest};
+ghost use Rattle.el_pages.specs.declared.layout.TheConstants.{FORMAT_1};
+ghost use Rattle.el_pages.specs.Layouts.{redo_of, size_in};
+ghost use Rattle.el_pages.specs.Records.{Spells};
+ghost use Rattle.el_recovery.specs.Checks.{Found, bad_index, NoneWaits, length_told, IsBadBody, IsBadIndex, HasHeads};
+ghost use Rattle.el_pages.specs.Indexes.{HasCounts, Shows};
+ghost use Rattle.el_recovery.specs.Openings.{disk_in, opened};
+ghost use Rattle.el_pages.specs.Stores.{disk_below, rows_of, IsLive};
+
+use crate::checking::check_body;
+use crate::files::check_files;
+use crate::finishing::redo;
+use crate::waiting::waiting;
+use el_chain::zeros;
+use el_outside::Disk;
+use el_pages::{FORMAT_1, Layout, Pages};
+use el_redo::{NetworkMagic, OpenFault};
+use el_redone::{Span, begin};
+use el_row_formats::TABLES;
+use std::alloc::Global;
+
+// How many bytes the buffer has through which a redo record is written.
+const BUFFER: usize = 65536;
+
+// Does what a record behind an open gate has left to do, and closes the gate.
+fn finish<D: Disk>(disk: &mut D, layout: &Layout) -> Result<(), OpenFault>
+    requires few { layout.now.first + 9 < 4294967296 }
+    requires narrow { (t : Table) → size_in layout.now t ≤ 256 }
+    requires sized { (t : Table) → 0 < size_in layout.now t }
+    requires meta { layout.now.meta ≤ 256 }
+    requires on_disk { D.tells → AreOnDisk ⟦<D as Disk>⟧ layout.now.first (redo_of layout.now) disk.old }
+    requires redo_on_disk { D.tells
+        → OnDisk (redo_of layout.now) (D.seen disk.old) (LeftNow D.moment D.left_since disk.old) }
+    requires begun { D.tells → length (D.seen disk.old (redo_of layout.now)) < 2
+        → D.seen disk.old (redo_of layout.now) ≡ 0 ∷ [] }
+    ensures rest { D.tells → OnOk result
+        (IsAtRest ⟦<D as Disk>⟧ layout.now.first (redo_of layout.now) disk.new) }
+    ensures stands { D.tells → OnOk result (StandsFor (Spells layout.now) layout.now.first
+        (redo_of layout.now) (D.seen disk.new) (D.seen disk.old)) }
+    ensures bad { D.tells → IfErr result (λ e. (e ≡ fault.DiskFailed) ⊎ ((found : Found)
+        × (e ≡ bad_index found) × IsBadBody layout.now (D.seen disk.old) found
+        × (D.seen disk.new ≡ D.seen disk.old))) }
+    ensures only { IfErr result (λ e. (e ≡ fault.DiskFailed) ⊎ ((found : Found) × (e ≡ bad_index found))) }
+    ensures crash { D.tells → (head : List ℕ) (tables : Tables)
+        → Shows layout.now head (D.seen disk.old) tables
+        → Leaves ⟦<D as Disk>⟧ (λ image. Shows layout.now head image tables) disk.old disk.new }
+    ensures beside { D.tells → (f : ℕ) → (f < layout.now.first) ⊎ (redo_of layout.now < f)
+        → D.seen disk.new f ≡ D.seen disk.old f }
+    ensures calls { D.tells → 2 * D.calls disk.new
+        ≤ 2 * D.calls disk.old + (225 + length_told (D.seen disk.old (redo_of layout.now))) }
+    ensures quiet { D.tells → NoneWaits (D.seen disk.old (redo_of layout.now))
+        → D.calls disk.new ≤ D.calls disk.old + 2 }
+    ensures cause { CountsOnly (D.faults disk.old) (D.faults disk.new) fault.DiskFailed result }
+{
+    let Some(len) = waiting(disk, layout)? else {
+        return Ok(());
+    };
+    check_body(disk, layout, len)?;
+    if !redo(disk, layout, len)? {
+        return Err(OpenFault::BadIndex {
+            file: layout.span().redo,
+            wanted: len,
+            found: 0,
+        });
+    }
+    Ok(())
+}
+
+// The steps of an opening on the disk. It answers how many rows each table has.
+fn settle<D: Disk>(disk: &mut D, magic: [u8; 4]) -> Result<[u64; TABLES], OpenFault>
+    ensures rest { D.tells → OnOk result (IsAtRest ⟦<D as Disk>⟧ 0 9 disk.new) }
+    ensures has { D.tells → IfOk result (λ counts.
+        HasCounts FORMAT_1 (head_bytes magic) (D.seen disk.new) counts) }
+    ensures heads { IfOk result (λ counts. HasHeads (count_at counts)) }
+    ensures limited { IfOk result (λ counts. (t : Table) → count_at counts t ≤ limit_of t) }
+    ensures stands { D.tells → OnOk result
+        (StandsFor (Spells FORMAT_1) 0 9 (D.seen disk.new) (D.seen disk.old)) }
+    ensures bad { D.tells → IfErr result (λ e. (e ≡ fault.DiskFailed) ⊎ ((found : Found)
+        × (e ≡ bad_index found)
+        × IsBadIndex FORMAT_1 (from_le_bytes w32 magic) (D.seen disk.old) found)) }
+    ensures is_bad { D.tells → (found : Found)
+        → IsBadIndex FORMAT_1 (from_le_bytes w32 magic) (D.seen disk.old) found
+        → MatchResult result (λ _. ⊥) (λ e. (e ≡ fault.DiskFailed) ⊎ (e ≡ bad_index found)) }
+    ensures untouched { D.tells → (found : Found) → IsBadBody FORMAT_1 (D.seen disk.old) found
+        → IfErr result (λ e. (e ≡ fault.DiskFailed) ⊎ (D.seen disk.new ≡ D.seen disk.old)) }
+    ensures opens { D.tells → (tables : Tables) → Shows FORMAT_1 (head_bytes magic) (D.seen disk.old) tables
+        → HasHeads (λ (t : Table). length (tables t)) → IfErr result (λ e. e ≡ fault.DiskFailed) }
+    ensures only { IfErr result (λ e. (e ≡ fault.DiskFailed) ⊎ ((found : Found) × (e ≡ bad_index found))) }
+    ensures crash { D.tells → (head : List ℕ) (a b : Tables)
+        → EachNow ⟦<D as Disk>⟧ (IsEither (Shows FORMAT_1 head) a b) disk.old
+        → Leaves ⟦<D as Disk>⟧ (IsEither (Shows FORMAT_1 head) a b) disk.old disk.new }
+    ensures beside { D.tells → (f : ℕ) → 9 < f → D.seen disk.new f ≡ D.seen disk.old f }
+    ensures calls { D.tells → 2 * D.calls disk.new
+        ≤ 2 * D.calls disk.old + (271 + length_told (D.seen disk.old 9)) }
+    ensures quiet { D.tells → NoneWaits (D.seen disk.old 9) → D.calls disk.new ≤ D.calls disk.old + 25 }
+    ensures cause { CountsOnly (D.faults disk.old) (D.faults disk.new) fault.DiskFailed result }
+{
+    begin(disk, Span { first: 0, redo: 9 })?;
+    finish(disk, &FORMAT_1)?;
+    let counts = check_files(disk, magic)?;
+    Ok(counts)
+}
+
+// The buffer through which redo records are written, where there is memory for it.
+fn take_buffer(alloc: Global) -> Option<Vec<u8>>
+    ensures { IfSome result (λ v. length v.items ≡ 65536) }
+{
+    match zeros(alloc, BUFFER) {
+        Ok(buffer) => Some(buffer),
+        Err(_) => None,
+    }
+}
+
+/// Opens the store that the files of a disk keep for the network that the type names. The disk may be fresh,
+/// which stands for no rows, or as a crash left it: what a commit that was cut off left to do is done. The
+/// opening may be stopped at any call, and the disk opened again. Beside a buffer of 65,536 bytes it takes no
+/// memory.
+///
+/// # Errors
+///
+/// The fault, with the disk as it then stands. `BadIndex` names the file of the first check that failed, what
+/// was wanted there and what was found. No file is changed before a body is refused.
+pub fn open_pages<D: Disk, N: NetworkMagic>(
+    alloc: Global,
+    disk: D,
+) -> Result<Pages<D, N>, (OpenFault, D)>
+    ensures live { IfOk result (λ store. IsLive store) }
+    ensures shows { D.tells → IfOk result (λ store.
+        Shows FORMAT_1 (head_bytes N.magic) (D.seen disk) (rows_of store)) }
+    ensures leaves { D.tells → IfOk result (λ store. EachNow ⟦<D as Disk>⟧ (λ image.
+        Shows FORMAT_1 (head_bytes N.magic) image (rows_of store)) (disk_below store)) }
+    // Its tables of heads have the rows that they may have.
+    ensures heads { D.tells → IfOk result (λ store. HasHeads (λ (t : Table). length (rows_of store t))) }
+    // Where each image at the start stands for the one tables or for the others, so does each image of each
+    // moment in it, for this network or another.
+    ensures crash { D.tells → (head : List ℕ) (a b : Tables)
+        → EachNow ⟦<D as Disk>⟧ (IsEither (Shows FORMAT_1 head) a b) disk
+        → Leaves ⟦<D as Disk>⟧ (IsEither (Shows FORMAT_1 head) a b) disk (disk_in result) }
+    // `BadIndex` comes exactly where a check fails, with what the first that fails wanted and found. That is
+    // told without memory.
+    ensures bad { D.tells → IfErr result (λ e. (e.0 ≡ fault.DiskFailed) ⊎ ((e.0 ≡ fault.Memory)
+        ⊎ ((found : Found) × (e.0 ≡ bad_index found)
+        × IsBadIndex FORMAT_1 (from_le_bytes w32 N.magic) (D.seen disk) found))) }
+    ensures is_bad { D.tells → (found : Found)
+        → IsBadIndex FORMAT_1 (from_le_bytes w32 N.magic) (D.seen disk) found
+        → MatchResult result (λ _. ⊥) (λ e. (e.0 ≡ fault.DiskFailed) ⊎ (e.0 ≡ bad_index found)) }
+    // It opens where the disk stands for tables whose tables of heads have the rows that they may have.
+    ensures opens { D.tells → (tables : Tables) → Shows FORMAT_1 (head_bytes N.magic) (D.seen disk) tables
+        → HasHeads (λ (t : Table). length (tables t))
+        → IfErr result (λ e. (e.0 ≡ fault.DiskFailed) ⊎ (e.0 ≡ fault.Memory)) }
+    // Where the body is refused, all files read as before.
+    ensures untouched { D.tells → (found : Found) → IsBadBody FORMAT_1 (D.seen disk) found
+        → IfErr result (λ e. (e.0 ≡ fault.DiskFailed) ⊎ (D.seen (disk_in result) ≡ D.seen disk)) }
+    // No file beyond the store's is written, and what stands in them stands beside its rows.
+    ensures others { D.tells → (f : ℕ) → 9 < f → D.seen (disk_in result) f ≡ D.seen disk f }
+    ensures beside { D.tells → IfOk result (λ store. (f : ℕ) → 9 < f
+        → ⟦<Pages<D, N> as el_rows::Rows>⟧.beside store f ≡ D.seen disk f) }
+    // Where nothing waits it makes few calls of the disk, and else at most one for each two bytes of the
+    // body besides.
+    ensures quiet { D.tells → NoneWaits (D.seen disk 9)
+        → D.calls (disk_in result) ≤ D.calls disk + 25 }
+    ensures calls { D.tells → 2 * D.calls (disk_in result)
+        ≤ 2 * D.calls disk + (271 + length_told (D.seen disk 9)) }
+    ensures cause { CountsOnly (D.faults disk) (D.faults (disk_in result)) fault.DiskFailed (opened result) }
+{
+    let mut disk = disk;
+    let counts = match settle(&mut disk, N::magic()) {
+        Ok(counts) => counts,
+        Err(fault) => return Err((fault, disk)),
+    };
+    let Some(buffer) = take_buffer(alloc) else {
+        return Err((OpenFault::Memory, disk));
+    };
+    Ok(Pages::new(disk, counts, buffer))
+}
