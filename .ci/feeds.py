@@ -94,6 +94,10 @@ class Room:
         wanted_in_time(lambda: bool(self.says(*words)), True)
         return len(self.says(*words))
 
+    def counts(self, word, wanted):
+        """How many lines of the feeder have the word, once there are as many as are wanted."""
+        return wanted_in_time(lambda: len(self.says(word)), wanted)
+
     def runs(self):
         """Whether both still run, and the feeder has told of no fault of its own."""
         return [self.server.poll(), self.feeder.poll(), self.says("Traceback", "Error:")]
@@ -581,7 +585,7 @@ def waits_for_a_node_that_is_not_there_yet(room):
     room.start()
     seen += [room.comes_to_say("waiting for the node")]
     rpc.start()
-    return seen + [room.comes_to(3), len(room.says("going on")), room.runs()], [1, 1, 3, 2, [None, None, []]]
+    return seen + [room.comes_to(3), room.counts("going on", 2), room.runs()], [1, 1, 3, 2, [None, None, []]]
 
 
 def waits_for_a_node_that_is_not_well(room):
@@ -591,11 +595,11 @@ def waits_for_a_node_that_is_not_well(room):
     seen = []
     for number, fault in enumerate(("cut", "odd", "busy", "warms up", "slow"), 1):
         rpc.fault = fault
-        seen += [wanted_in_time(lambda: len(room.says("waiting")), number), len(room.says("going on")) + 1]
+        seen += [room.counts("waiting", number), len(room.says("going on")) + 1]
         rpc.become(rpc.best, *[] if rpc.pool else [text])
         rpc.fault = None
         seen += [room.comes_to_hold((0, COIN if rpc.pool else 0))]
-        seen += [wanted_in_time(lambda: len(room.says("going on")), number)]
+        seen += [room.counts("going on", number)]
     wanted = [it for i in range(1, 6) for it in (i, i, (0, COIN * (i % 2)), i)]
     return seen + [room.runs()], wanted + [[None, None, []]]
 
@@ -607,7 +611,7 @@ def waits_for_the_node_s_cookie(room):
     seen = [room.comes_to_say("waiting for the node")]
     rpc.best, _ = room.make("grow", 1)
     rpc.secret = secret
-    return seen + [room.comes_to(3), len(room.says("going on")), room.runs()], [1, 3, 1, [None, None, []]]
+    return seen + [room.comes_to(3), room.counts("going on", 1), room.runs()], [1, 3, 1, [None, None, []]]
 
 
 def waits_for_block_files_that_are_away(room):
@@ -620,7 +624,7 @@ def waits_for_block_files_that_are_away(room):
     seen += [room.comes_to_say("waiting for the block files")]
     os.rename(room.blocks + ".away", room.blocks)
     room.make("grow", 1)
-    return seen + [room.comes_to(3), len(room.says("going on")), room.runs()], [2, 1, 3, 1, [None, None, []]]
+    return seen + [room.comes_to(3), room.counts("going on", 1), room.runs()], [2, 1, 3, 1, [None, None, []]]
 
 
 def tells_how_far_it_is(room):
