@@ -30,7 +30,7 @@ use Rattle.el_pages.specs.declared.layout.TheConstants.{FORMAT_1}
 use Rattle.el_pages.specs.Layouts.{file_of, size_in, limit_in, rows_in}
 use Rattle.el_pages.specs.Records.{meta_of, write_of, writes_of, IsWhole}
 use Rattle.el_pages.specs.Indexes.{HasMeta, HasNone, HasCounts, tables_in}
-use Rattle.el_pages.proofs.Rows.{row_over_here, row_over_other, row_ends}
+use Rattle.el_page_cache.proofs.Rows.{row_over_here, row_over_other, row_ends}
 
 -- ---- what it means that a key is before another
 
@@ -54,17 +54,17 @@ key_before a b h = ⊎_elim
 -- ---- what is found among changes
 
 -- at the front
-found_first : (e : RowKey × List ℕ) (es : Changes) (t : Table) (i : ℕ) → t ≡ e.0.table → i ≡ e.0.row → changed_at (e ∷ es) t i ≡ Some e.1
+pub found_first : (e : RowKey × List ℕ) (es : Changes) (t : Table) (i : ℕ) → t ≡ e.0.table → i ≡ e.0.row → changed_at (e ∷ es) t i ≡ Some e.1
 found_first e es t i same is =
     ap (λ (b : Bool). cond b (Some e.1) (changed_at es t i))
     (ap (λ (u : Table). is_at (row_cmp (key u i)) e.0) same ∙ ap (λ n. is_at (row_cmp (key e.0.table n)) e.0) is ∙ self_key e.0.table e.0.row)
 
 -- or after it
-found_later : (e : RowKey × List ℕ) (es : Changes) (t : Table) (i : ℕ) → (t ≡ e.0.table → i ≡ e.0.row → ⊥) → changed_at (e ∷ es) t i ≡ changed_at es t i
+pub found_later : (e : RowKey × List ℕ) (es : Changes) (t : Table) (i : ℕ) → (t ≡ e.0.table → i ≡ e.0.row → ⊥) → changed_at (e ∷ es) t i ≡ changed_at es t i
 found_later e es t i apart = ap (λ (b : Bool). cond b (Some e.1) (changed_at es t i)) (other_key t e.0.table i e.0.row apart)
 
 -- a key that isn't above the first one's isn't found after it
-none_up_to : (t : Table) (r i : ℕ) (es : Changes) → i ≤ r → AllByRecursion (λ (y : RowKey). row_cmp (key t r) y ≡ Less) (keys_of es) → changed_at es t i ≡ None
+pub none_up_to : (t : Table) (r i : ℕ) (es : Changes) → i ≤ r → AllByRecursion (λ (y : RowKey). row_cmp (key t r) y ≡ Less) (keys_of es) → changed_at es t i ≡ None
 none_up_to t r i [] le before = refl
 none_up_to t r i (e ∷ es) le before =
     found_later e es t i (λ same is. ⊎_elim
@@ -80,11 +80,11 @@ none_not_some (Some x) is some = cc
 some_is : (o : Option (List ℕ)) (x : List ℕ) → o ≡ Some x → IsSome o
 some_is o x is = rw is refl
 
-none_or_some : (o : Option (List ℕ)) → (o ≡ None) ⊎ IsSome o
+pub none_or_some : (o : Option (List ℕ)) → (o ≡ None) ⊎ IsSome o
 none_or_some None = inl refl
 none_or_some (Some x) = inr refl
 
-other_row : (o : Option (List ℕ)) (x y : List ℕ) → IsSome o → unwrap_or o x ≡ unwrap_or o y
+pub other_row : (o : Option (List ℕ)) (x y : List ℕ) → IsSome o → unwrap_or o x ≡ unwrap_or o y
 other_row None x y some = absurd (let e : false ≡ true = some in cc)
 other_row (Some z) x y some = refl
 

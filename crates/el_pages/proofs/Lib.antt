@@ -1,4 +1,3 @@
-pub mod Rows
 pub mod Laid
 pub mod Stands
 pub mod Commits
@@ -8,3 +7,6 @@ pub mod Rewrites
 pub mod MetaWrites
 pub mod StoreLemmas
 pub mod Puts
+pub mod PageChanges
+pub mod PageReads
+pub mod Calls

@@ -14,7 +14,7 @@ use Rattle.el_redone.proofs.Writes.{into_here, into_other, into_append, covers_n
 use Rattle.el_pages.specs.declared.layout.Layout.{Layout}
 use Rattle.el_pages.specs.Layouts.{file_of, size_in}
 use Rattle.el_pages.specs.Records.{write_of}
-use Rattle.el_pages.proofs.Rows.{length-row, row_ends, take_row}
+use Rattle.el_page_cache.proofs.Rows.{length-row, row_ends, take_row}
 
 -- the change of a place, and those after it
 pub next_change : (xs : Changes) (i : ℕ) (e : RowKey × List ℕ) → slice_get xs i ≡ Some e → drop i xs ≡ e ∷ drop (i + 1) xs

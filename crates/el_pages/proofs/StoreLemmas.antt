@@ -1,5 +1,5 @@
 -- What calls leave of a store.
-use Rattle.std.proofs.Common.{◌≡◌, inl, inr, ⊎_elim, ℕ, ◌+◌, ◌*◌, ◌<◌, ◌≤◌, List, [], ◌++◌, length, get_or, map, nat_lt, if◌then◌else◌, sym, ◌∙◌, ap, subst, arith}
+use Rattle.std.proofs.Common.{◌≡◌, inl, inr, ⊎_elim, ℕ, ◌+◌, ◌*◌, ◌<◌, ◌≤◌, List, [], ◌++◌, length, get_or, map, sym, ◌∙◌, ap, subst, arith}
 use Rattle.std.proofs.Math.Path.{fun_ext}
 use Rattle.std.proofs.lemmas.Bool.{cases_lt}
 use Rattle.std.proofs.lemmas.Bool.Decides.{nat_tests}
@@ -19,7 +19,9 @@ use Rattle.el_pages.specs.Layouts.{file_of, size_in, limit_in, rows_in}
 use Rattle.el_pages.specs.Records.{meta_of}
 use Rattle.el_pages.specs.Indexes.{HasCounts, HasMeta, HasNone, Shows, tables_in}
 use Rattle.el_pages.specs.Stores.{IsKept, beside_in, lists_in}
-use Rattle.el_pages.proofs.Rows.{row_ends}
+use Rattle.el_pages.specs.within.Caching.{HaveRows}
+use Rattle.el_page_cache.specs.Pages.{KeptPages, Agrees}
+use Rattle.el_page_cache.proofs.Rows.{row_ends}
 use Rattle.el_pages.proofs.Laid.{sizes_1, get_or-rows_in}
 use Rattle.el_pages.proofs.Facts.{tables_same}
 
@@ -61,11 +63,11 @@ module _ {D S : Type 0} (G : disk.Ghosts D) (a b : S) (disk_of : S → D) where
       → LeavesNoMore (λ (s : S). G.moment (disk_of s)) (λ (s : S) (t : ℕ) (c : Image). G.tells × G.left_since (disk_of s) t c) a b
   store_no_more run = record { later = run.later; before = λ t c le left. (left.0, run.before t c le left.1) }
 
-module _ {D : Type 0} (G : disk.Ghosts D) (magic : List ℕ) (told : D) (counts : List ℕ) where
+module _ {D : Type 0} (G : disk.Ghosts D) (magic : List ℕ) (told : D) (counts : List ℕ) (cache : KeptPages) where
   -- the disk was only read
   pub kept_read : (now new : D) → G.seen new ≡ G.seen now → ((c : Image) → LeftNow G.moment G.left_since new c → LeftNow G.moment G.left_since now c)
-      → IsKept G magic now told counts → IsKept G magic new told counts
-  kept_read now new same fewer kept = record {
+      → (more : KeptPages) → Agrees more (lists_in G told counts) (count_at counts) → IsKept G magic now told counts cache → IsKept G magic new told counts more
+  kept_read now new same fewer more agrees kept = record {
     rest = record {
       on_disk = λ f low lt c left. kept.rest.on_disk f low lt c (fewer c left) ∙ ap (λ (s : Image). s f) (sym same);
       redo_on_disk = λ c left. kept.rest.redo_on_disk c (fewer c left) ∙ ap (λ (s : Image). s 9) (sym same);
@@ -73,6 +75,7 @@ module _ {D : Type 0} (G : disk.Ghosts D) (magic : List ℕ) (told : D) (counts 
     };
     same = λ f low lt. ap (λ (s : Image). s f) same ∙ kept.same f low lt;
     has = kept.has;
+    agrees = agrees;
   }
 
   held : (t : Table) → HasCounts FORMAT_1 (head_bytes magic) (G.seen told) counts → count_at counts t * size_in FORMAT_1 t ≤ length (G.seen told (file_of FORMAT_1 t))
@@ -81,29 +84,33 @@ module _ {D : Type 0} (G : disk.Ghosts D) (magic : List ℕ) (told : D) (counts 
       (λ (n : HasNone FORMAT_1 (G.seen told) counts). let zero_is : count_at counts t * size_in FORMAT_1 t ≡ 0 * size_in FORMAT_1 t = ap (λ k. k * size_in FORMAT_1 t) (n.none t) in omega (arith, zero_is))
       has
 
-  in_table : (now : D) (t : Table) → IsKept G magic now told counts → G.seen now (file_of FORMAT_1 t) ≡ G.seen told (file_of FORMAT_1 t)
+  in_table : (now : D) (t : Table) → IsKept G magic now told counts cache → G.seen now (file_of FORMAT_1 t) ≡ G.seen told (file_of FORMAT_1 t)
   in_table now t kept = kept.same (file_of FORMAT_1 t) (omega arith) (omega (arith, index_within t))
 
   -- a row is whole in its file
-  pub kept_whole : (now : D) (t : Table) (i : ℕ) → IsKept G magic now told counts → i < count_at counts t → i * size_of t + size_of t ≤ length (G.seen now (file_of FORMAT_1 t))
+  pub kept_whole : (now : D) (t : Table) (i : ℕ) → IsKept G magic now told counts cache → i < count_at counts t → i * size_of t + size_of t ≤ length (G.seen now (file_of FORMAT_1 t))
   kept_whole now t i kept lt =
       subst (λ s. i * s + s ≤ length (G.seen now (file_of FORMAT_1 t))) (sizes_1 t)
       (let ends_at = row_ends (size_in FORMAT_1 t) i (count_at counts t) lt in
       omega (arith, ends_at, held t kept.has, ap (λ (b : List ℕ). length b) (in_table now t kept)))
 
   -- and it is the row of the lists
-  pub kept_row : (now : D) (t : Table) (i : ℕ) → IsKept G magic now told counts → i < count_at counts t
+  pub kept_row : (now : D) (t : Table) (i : ℕ) → IsKept G magic now told counts cache → i < count_at counts t
       → row_at (size_of t) (G.seen now (file_of FORMAT_1 t)) i ≡ get_or (lists_in G told counts t) i []
   kept_row now t i kept lt =
       ap (λ s. row_at s (G.seen now (file_of FORMAT_1 t)) i) (sym (sizes_1 t))
       ∙ ap (λ (b : List ℕ). row_at (size_in FORMAT_1 t) b i) (in_table now t kept)
       ∙ sym (get_or-rows_in (size_in FORMAT_1 t) (G.seen told (file_of FORMAT_1 t)) (count_at counts t) i lt)
 
+  -- so the disk has the rows
+  pub kept_rows : (now : D) → IsKept G magic now told counts cache → HaveRows (G.seen now) (lists_in G told counts) (count_at counts)
+  kept_rows now kept = record { whole = λ t i lt. kept_whole now t i kept lt; same = λ t i lt. kept_row now t i kept lt }
+
   -- the lists are the tables of the disk as it reads
-  pub lists_now : (now : D) → IsKept G magic now told counts → tables_in FORMAT_1 (G.seen now) counts ≡ lists_in G told counts
+  pub lists_now : (now : D) → IsKept G magic now told counts cache → tables_in FORMAT_1 (G.seen now) counts ≡ lists_in G told counts
   lists_now now kept = fun_ext (tables_same (G.seen told) (G.seen now) counts kept.same)
 
-  module _ (old new : D) (more : List ℕ) (changes : Changes) (kept : IsKept G magic old told counts) where
+  module _ (old new : D) (more : List ℕ) (changes : Changes) (kept : IsKept G magic old told counts cache) where
     pub commit_leaves : Leaves G (IsEither (Shows FORMAT_1 (head_bytes magic)) (tables_in FORMAT_1 (G.seen old) counts) (under (tables_in FORMAT_1 (G.seen old) counts) more changes)) old new
         → Leaves G (IsEither (Shows FORMAT_1 (head_bytes magic)) (lists_in G told counts) (under (lists_in G told counts) more changes)) old new
     commit_leaves run = subst (λ (tables : Tables). Leaves G (IsEither (Shows FORMAT_1 (head_bytes magic)) tables (under tables more changes)) old new) (lists_now old kept) run

@@ -7,6 +7,7 @@ use Rattle.el_outside.specs.Disk.{Image}
 use Rattle.el_row_formats.specs.declared.table.Table.{Table}
 use Rattle.el_row_formats.specs.Tables.{Tables, row_at}
 use Rattle.el_rows.specs.Changes.{count_at}
+use Rattle.el_page_cache.specs.Pages.{KeptPages, Agrees}
 use Rattle.el_pages.specs.Layouts.{file_of, size_in, rows_in}
 use Rattle.el_redo.specs.RedoBody.{head_bytes}
 use Rattle.el_redone.specs.Redone.{IsClosed}
@@ -22,12 +23,14 @@ abbrev pub beside_in : Image → Image
 beside_in files f = if nat_lt 9 f then files f else []
 
 -- Over a disk that tells: all files are on the disk and the gate is closed; the files are those that the disk
--- had at the last commit, or at the opening; and they have tables with these counts.
+-- had at the last commit, or at the opening; they have tables with these counts; and each page that is kept
+-- has rows of those tables.
 pub record IsKept {D : Type 0} (G : disk.Ghosts D) (magic : List ℕ) (now told : D)
-    (counts : List ℕ) : Type 0 where
+    (counts : List ℕ) (cache : KeptPages) : Type 0 where
   pub rest : IsAtRest G 0 9 now
   pub same : (f : ℕ) → 0 ≤ f → f < 9 → G.seen now f ≡ G.seen told f
   pub has : HasCounts FORMAT_1 (head_bytes magic) (G.seen told) counts
+  pub agrees : Agrees cache (tables_in FORMAT_1 (G.seen told) counts) (count_at counts)
 
 -- the tables of a store: so many rows of the files that the disk had then
 abbrev pub lists_in : {D : Type 0} → disk.Ghosts D → D → List ℕ → Tables
@@ -43,14 +46,15 @@ rows_of {D} {N} {G} {H} store = lists_in G store.told.value store.counts
 
 -- a store over a disk that tells has what its files have
 abbrev pub IsLive : {D N : Type 0} {G : disk.Ghosts D} {H : network.Ghosts N} → Pages D N G H → Type 0
-IsLive {D} {N} {G} {H} store = G.tells → IsKept G H.magic store.disk store.told.value store.counts
+IsLive {D} {N} {G} {H} store =
+    G.tells → IsKept G H.magic store.disk store.told.value store.counts store.cache
 
 -- between calls each image that a crash may leave stands for the store's tables
 pub kept_shows : {D : Type 0} (G : disk.Ghosts D) (magic : List ℕ) (now told : D) (counts : List ℕ)
-    (image : Image)
-    → IsKept G magic now told counts → G.left_since now (G.moment now) image
+    (cache : KeptPages) (image : Image)
+    → IsKept G magic now told counts cache → G.left_since now (G.moment now) image
     → Shows FORMAT_1 (head_bytes magic) image (lists_in G told counts)
-kept_shows G magic now told counts image kept left = record {
+kept_shows G magic now told counts cache image kept left = record {
   files = G.seen told;
   stands = record {
     writes = [];
@@ -72,7 +76,7 @@ pub live_shows : {D N : Type 0} {G : disk.Ghosts D} {H : network.Ghosts N} (stor
     → G.left_since (disk_below store) (G.moment (disk_below store)) image
     → Shows FORMAT_1 (head_bytes H.magic) image (rows_of store)
 live_shows {D} {N} {G} {H} store image told live left =
-    kept_shows G H.magic store.disk store.told.value store.counts image (live told) left
+    kept_shows G H.magic store.disk store.told.value store.counts store.cache image (live told) left
 
 -- how many rows there are
 rows_long : (size : ℕ) (file : List ℕ) (count : ℕ) → length (rows_in size file count) ≡ count

@@ -1,1 +1,2 @@
 pub mod Staging
+pub mod Caching

@@ -1,6 +1,7 @@
 //! Tables in files of fixed rows. A redo record keeps commits whole: all of one is in the files, or none.
 #![tactic(auto)]
 
+mod caching;
 mod committing;
 mod layout;
 mod meta;

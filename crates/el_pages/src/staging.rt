@@ -1,16 +1,16 @@
 // Step 1 of a commit: the record is written behind the closed gate, through a buffer of a fixed size.
-ghost use Rattle.std.specs.Prelude.{◌≡◌, ◌≤◌, ◌<◌, ◌+◌, ◌*◌, ◌++◌, ◌∷◌, ℕ, List, Some, length, take, map, slice_get, OnOk, IfOk};
-ghost use Rattle.std.specs.Int.{w64, to_le_bytes};
+ghost use Rattle.std.specs.Prelude.{◌≡◌, ◌≤◌, ◌<◌, ◌+◌, ◌*◌, ◌++◌, ◌∷◌, ℕ, List, Some, length, take, slice_get, OnOk, IfOk};
+ghost use Rattle.std.specs.Int.{to_le_bytes};
 ghost use Rattle.el_outside.specs.Counts.{HasCause};
 ghost use Rattle.el_outside.specs.Disk.{OnDisk};
 ghost use Rattle.el_outside.specs.Moments.{LeftNow};
 ghost use Rattle.el_outside.specs.declared.archive.TheConstants.{SIZE_LIMIT};
 ghost use Rattle.el_row_formats.specs.Tables.{key, size_of, limit_of, row_at};
 ghost use Rattle.el_rows.specs.Changes.{Changes};
-ghost use Rattle.el_redo.specs.RedoBody.{numbers_bytes, change_bytes, changes_bytes, meta_row, redo_body};
+ghost use Rattle.el_redo.specs.RedoBody.{change_bytes, changes_bytes};
 ghost use Rattle.el_redone.specs.Redone.{record_bytes};
 ghost use Rattle.el_redone.specs.Steps.{StaysAside};
-ghost use Rattle.el_pages.specs.within.Staging.{CanPut, behind, written_so_far};
+ghost use Rattle.el_pages.specs.within.Staging.{CanPut, behind, written_so_far, writes_through, IsPaid, AreFew};
 
 use el_outside::{Disk, DiskFailed};
 use el_redone::{Span, write_behind};
@@ -39,6 +39,7 @@ pub(crate) fn flush<D: Disk>(
     ensures written { D.tells → IfOk result (λ n. behind (D.seen disk.new span.redo) n.at
         ≡ written_so_far (D.seen disk.old span.redo) next.at buffer.now next.used) }
     ensures aside { D.tells → StaysAside ⟦<D as Disk>⟧ span.first span.redo disk.old disk.new }
+    ensures called { D.calls disk.new ≡ D.calls disk.old + 1 }
     ensures cause { HasCause (D.faults disk.old) (D.faults disk.new) result }
 {
     write_behind(disk, span, next.at, &buffer[..next.used])?;
@@ -57,13 +58,17 @@ fn room<D: Disk>(
     len: usize,
 ) -> Result<Next, DiskFailed>
     requires ready { CanPut ⟦<D as Disk>⟧ span.redo disk.old buffer.now next }
-    requires long { len ≤ length buffer.now }
+    requires long { len ≤ 256 }
+    requires big { 256 ≤ length buffer.now }
     ensures ready { IfOk result (λ n. CanPut ⟦<D as Disk>⟧ span.redo disk.new buffer.now n) }
     ensures room { IfOk result (λ n. n.used + len ≤ length buffer.now) }
     ensures written { D.tells → IfOk result (λ n.
         written_so_far (D.seen disk.new span.redo) n.at buffer.now n.used
         ≡ written_so_far (D.seen disk.old span.redo) next.at buffer.now next.used) }
     ensures aside { D.tells → StaysAside ⟦<D as Disk>⟧ span.first span.redo disk.old disk.new }
+    ensures paid { IfOk result (λ n.
+        IsPaid (length buffer.now) (D.calls disk.old) (D.calls disk.new) next n 0) }
+    ensures calls { D.calls disk.new ≤ D.calls disk.old + 1 }
     ensures cause { HasCause (D.faults disk.old) (D.faults disk.new) result }
 {
     if len <= buffer.len() - next.used {
@@ -90,13 +95,17 @@ pub(crate) fn put<D: Disk>(
     bytes: &[u8],
 ) -> Result<Next, DiskFailed>
     requires ready { CanPut ⟦<D as Disk>⟧ span.redo disk.old buffer.old next }
-    requires long { length bytes.now ≤ length buffer.old }
+    requires long { length bytes.now ≤ 256 }
+    requires big { 256 ≤ length buffer.old }
     ensures ready { IfOk result (λ n. CanPut ⟦<D as Disk>⟧ span.redo disk.new buffer.new n) }
     ensures same { length buffer.new ≡ length buffer.old }
     ensures written { D.tells → IfOk result (λ n.
         written_so_far (D.seen disk.new span.redo) n.at buffer.new n.used
         ≡ written_so_far (D.seen disk.old span.redo) next.at buffer.old next.used ++ bytes.now) }
     ensures aside { D.tells → StaysAside ⟦<D as Disk>⟧ span.first span.redo disk.old disk.new }
+    ensures paid { IfOk result (λ n. IsPaid (length buffer.old) (D.calls disk.old) (D.calls disk.new)
+        next n (length bytes.now)) }
+    ensures calls { D.calls disk.new ≤ D.calls disk.old + 1 }
     ensures cause { HasCause (D.faults disk.old) (D.faults disk.new) result }
 {
     let here = room(disk, span, buffer, next, bytes.len())?;
@@ -118,8 +127,8 @@ fn put_change<D: Disk>(
     row: &[u8],
 ) -> Result<Next, DiskFailed>
     requires ready { CanPut ⟦<D as Disk>⟧ span.redo disk.old buffer.old next }
-    requires long { length row.now ≤ length buffer.old }
-    requires nine { 9 ≤ length buffer.old }
+    requires long { length row.now ≤ 256 }
+    requires big { 256 ≤ length buffer.old }
     ensures ready { IfOk result (λ n. CanPut ⟦<D as Disk>⟧ span.redo disk.new buffer.new n) }
     ensures same { length buffer.new ≡ length buffer.old }
     ensures written { D.tells → IfOk result (λ n.
@@ -127,6 +136,10 @@ fn put_change<D: Disk>(
         ≡ written_so_far (D.seen disk.old span.redo) next.at buffer.old next.used
         ++ change_bytes (key t i, row.now)) }
     ensures aside { D.tells → StaysAside ⟦<D as Disk>⟧ span.first span.redo disk.old disk.new }
+    ensures paid { IfOk result (λ n. IsPaid (length buffer.old) (D.calls disk.old) (D.calls disk.new)
+        next n (9 + length row.now)) }
+    ensures calls { AreFew (length buffer.old) (D.calls disk.old) (D.calls disk.new)
+        (next.used + (9 + length row.now)) }
     ensures cause { HasCause (D.faults disk.old) (D.faults disk.new) result }
 {
     let [a, b, c, d, e, f, g, h] = i.to_le_bytes();
@@ -161,6 +174,10 @@ fn put_rows<D: Disk>(
         → IfOk result (λ n. written_so_far (D.seen disk.new span.redo) n.at buffer.new n.used
         ≡ front ++ changes_bytes (take (k + rows) changes)) }
     ensures aside { D.tells → StaysAside ⟦<D as Disk>⟧ span.first span.redo disk.old disk.new }
+    ensures paid { IfOk result (λ n. IsPaid (length buffer.old) (D.calls disk.old) (D.calls disk.new)
+        next n (rows * (9 + size_of t))) }
+    ensures calls { AreFew (length buffer.old) (D.calls disk.old) (D.calls disk.new)
+        (next.used + rows * (9 + size_of t)) }
     ensures cause { HasCause (D.faults disk.old) (D.faults disk.new) result }
 {
     let size = t.size();
@@ -197,6 +214,10 @@ fn put_changes<D: Disk>(
         ≡ written_so_far (D.seen disk.old span.redo) next.at buffer.old next.used
         ++ changes_bytes sealed.now.changes) }
     ensures aside { D.tells → StaysAside ⟦<D as Disk>⟧ span.first span.redo disk.old disk.new }
+    ensures paid { IfOk result (λ n. IsPaid (length buffer.old) (D.calls disk.old) (D.calls disk.new)
+        next n (length (changes_bytes sealed.now.changes))) }
+    ensures calls { AreFew (length buffer.old) (D.calls disk.old) (D.calls disk.new)
+        (next.used + length (changes_bytes sealed.now.changes)) }
     ensures cause { HasCause (D.faults disk.old) (D.faults disk.new) result }
 {
     let mut here = next;
@@ -230,6 +251,8 @@ fn put_body<D: Disk>(
     ensures reach { D.tells → IfOk result (λ n. 9 + n ≤ length (D.seen disk.new span.redo)) }
     ensures small { IfOk result (λ n. n < SIZE_LIMIT) }
     ensures aside { D.tells → StaysAside ⟦<D as Disk>⟧ span.first span.redo disk.old disk.new }
+    ensures calls { D.calls disk.new ≤ D.calls disk.old + writes_through (length buffer.old)
+        (8 + (length meta.now + length (changes_bytes sealed.now.changes))) }
     ensures cause { HasCause (D.faults disk.old) (D.faults disk.new) result }
 {
     let start = Next { at: 1, used: 0 };
@@ -257,6 +280,8 @@ pub(crate) fn stage<D: Disk>(
     ensures durable { D.tells → OnOk result
         (OnDisk span.redo (D.seen disk.new) (LeftNow D.moment D.left_since disk.new)) }
     ensures aside { D.tells → StaysAside ⟦<D as Disk>⟧ span.first span.redo disk.old disk.new }
+    ensures calls { D.calls disk.new ≤ D.calls disk.old + (writes_through (length buffer.old)
+        (8 + (length meta.now + length (changes_bytes sealed.now.changes))) + 2) }
     ensures cause { HasCause (D.faults disk.old) (D.faults disk.new) result }
 {
     let len = put_body(disk, span, buffer, meta, sealed)?;

@@ -1,25 +1,38 @@
 // A store of tables in files.
-ghost use Rattle.std.specs.Prelude.{◌≡◌, ◌↔◌, ◌≤◌, ◌<◌, ℕ, length};
+ghost use Rattle.std.specs.Prelude.{◌≡◌, ◌↔◌, ◌≤◌, ◌<◌, ℕ, length, IfOk, IfErr, IfSome};
 ghost use Rattle.el_outside.specs.Disk.{Image};
 ghost use Rattle.el_row_formats.specs.declared.table.Table.{Table};
 ghost use Rattle.el_row_formats.specs.Tables.{limit_of};
 ghost use Rattle.el_rows.specs.Changes.{count_at};
 
+use crate::caching::{cached_row, change_pages};
 use crate::committing::commit_on;
 use crate::meta::counts_of;
-use crate::reading::read_row;
 use el_base::GhostCount;
 use el_outside::{Disk, DiskFailed};
+use el_page_cache::PageCache;
 use el_redo::NetworkMagic;
 use el_row_formats::{TABLES, Table};
 use el_rows::{CommitFault, Rows, Sealed};
+use std::alloc::Global;
 use std::marker::PhantomData;
 use std::snapshot::Snapshot;
 
+// How many bytes the buffer has through which a redo record is written.
+const BUFFER: usize = 65536;
+
+// The buffer through which redo records are written, where there is memory for it.
+fn take_buffer(alloc: Global) -> Option<Vec<u8>>
+    ensures { IfSome result (λ v. length v.items ≡ 65536) }
+{
+    vec![in alloc; 0u8; BUFFER].ok()
+}
+
 /// Tables in the files of a disk, for the network that its type names: row i of a table stands in its file
-/// from i row sizes on. A commit takes no memory: it writes a redo record through a buffer that was taken at
-/// the opening, then the rows, and each is in all files or in none. After a commit that met a disk fault the
-/// store is no longer live, and the disk is opened again.
+/// from i row sizes on. A row is read with its page, which is then kept: of the pages that were used last, up
+/// to 4,096 are in memory. A commit takes no memory: it writes a redo record through a buffer that was taken
+/// at the opening, then the rows, and each is in all files or in none. After a commit that met a disk fault
+/// the store is no longer live, and the disk is opened again.
 #[derive(Drop)]
 pub struct Pages<D: Disk, N: NetworkMagic> {
     network: PhantomData<N>,
@@ -28,6 +41,7 @@ pub struct Pages<D: Disk, N: NetworkMagic> {
     told: Snapshot<D>,
     counts: [u64; TABLES],
     buffer: Vec<u8>,
+    cache: PageCache,
     reads: GhostCount,
     ghost limited: { (t : Table) → count_at counts t ≤ limit_of t },
     ghost big: { 256 ≤ length buffer.items },
@@ -41,24 +55,32 @@ impl<D: Disk, N: NetworkMagic> Pages<D, N> {
     ghost use Rattle.el_pages.specs.Stores.{disk_below, rows_of, IsLive};
     ghost use Rattle.el_redone.specs.Steps.{IsAtRest};
 
-    /// The store over a disk whose files are at rest and have tables with these counts. Its commits write
-    /// their redo records through the buffer. It takes no memory.
-    pub fn new(disk: D, counts: [u64; TABLES], buffer: Vec<u8>) -> Pages<D, N>
+    /// The store over a disk whose files are at rest and have tables with these counts. It takes a buffer of
+    /// 65,536 bytes, through which its commits write their redo records, and a cache with no pages; where
+    /// there is no memory for them, the disk comes back.
+    pub fn new(alloc: Global, disk: D, counts: [u64; TABLES]) -> Result<Pages<D, N>, D>
         requires limited { (t : Table) → count_at counts t ≤ limit_of t }
-        requires big { 256 ≤ length buffer.items }
-        ensures live { (D.tells → IsAtRest ⟦<D as Disk>⟧ 0 9 disk)
-            → (D.tells → HasCounts FORMAT_1 (head_bytes N.magic) (D.seen disk) counts) → IsLive result }
-        ensures rows { rows_of result ≡ tables_in FORMAT_1 (D.seen disk) counts }
-        ensures disk { disk_below result ≡ disk }
+        ensures live { IfOk result (λ store. (D.tells → IsAtRest ⟦<D as Disk>⟧ 0 9 disk)
+            → (D.tells → HasCounts FORMAT_1 (head_bytes N.magic) (D.seen disk) counts) → IsLive store) }
+        ensures rows { IfOk result (λ store. rows_of store ≡ tables_in FORMAT_1 (D.seen disk) counts) }
+        ensures disk { IfOk result (λ store. disk_below store ≡ disk) }
+        ensures back { IfErr result (λ d. d ≡ disk) }
     {
-        Pages {
+        let Some(buffer) = take_buffer(alloc) else {
+            return Err(disk);
+        };
+        let Some(cache) = PageCache::new(alloc) else {
+            return Err(disk);
+        };
+        Ok(Pages {
             network: PhantomData,
             told: Snapshot::of(&disk),
             disk,
             counts,
             buffer,
+            cache,
             reads: GhostCount::new(),
-        }
+        })
     }
 
     /// The disk, as it stands, also after a failure. What a crash leaves of the store is what it leaves of
@@ -79,6 +101,7 @@ impl<D: Disk, N: NetworkMagic> Pages<D, N> {
             told: _,
             counts: _,
             buffer: _,
+            cache: _,
             reads: _,
         } = self;
         disk
@@ -102,7 +125,7 @@ impl<D: Disk, N: NetworkMagic> Rows for Pages<D, N> {
 
     ghost counts = { λ s t. count_at s.counts t };
 
-    ghost is_live = { λ s. D.tells → IsKept ⟦<D as Disk>⟧ N.magic s.disk s.told.value s.counts };
+    ghost is_live = { λ s. D.tells → IsKept ⟦<D as Disk>⟧ N.magic s.disk s.told.value s.counts s.cache };
 
     ghost moment = { λ s. D.moment s.disk };
 
@@ -124,7 +147,7 @@ impl<D: Disk, N: NetworkMagic> Rows for Pages<D, N> {
         (left.0, D.earlier s.disk t u image left.0 le left.1) };
 
     ghost leaves_lists = { λ s image told live left.
-        kept_shows ⟦<D as Disk>⟧ N.magic s.disk s.told.value s.counts image (live told) left.1 };
+        kept_shows ⟦<D as Disk>⟧ N.magic s.disk s.told.value s.counts s.cache image (live told) left.1 };
 
     fn count(&self, t: Table) -> u64 {
         self.counts[t.index()]
@@ -132,7 +155,8 @@ impl<D: Disk, N: NetworkMagic> Rows for Pages<D, N> {
 
     fn row(&mut self, t: Table, i: u64, buf: &mut [u8]) -> Result<(), DiskFailed> {
         self.reads.tick();
-        read_row(&mut self.disk, t, i, buf)
+        let alloc = *self.buffer.allocator();
+        cached_row(&mut self.disk, &mut self.cache, alloc, t, i, buf)
     }
 
     fn commit(&mut self, sealed: &Sealed) -> Result<(), CommitFault> {
@@ -146,6 +170,7 @@ impl<D: Disk, N: NetworkMagic> Rows for Pages<D, N> {
             Ok(()) => {}
             Err(DiskFailed) => return Err(CommitFault::DiskFailed),
         }
+        change_pages(&mut self.cache, sealed);
         self.told = Snapshot::of(&self.disk);
         self.counts = counts_of(sealed);
         Ok(())

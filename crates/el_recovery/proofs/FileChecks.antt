@@ -79,3 +79,8 @@ files_has files magic meta counts long read is limited holds = inl (record {
   limited = limited;
   holds = holds;
 })
+
+-- the meta row's bytes, read
+pub front_read : (seen now : Image) (meta : List ℕ) → now ≡ seen → 76 ≤ length (seen 0) → (76 ≤ length (now 0) → meta ≡ take 76 (now 0)) → meta ≡ take 76 (seen 0)
+front_read seen now meta same long said =
+    said (omega (arith, long, ap (λ (s : Image). length (s 0)) same)) ∙ ap (λ (s : Image). take 76 (s 0)) same

@@ -1,11 +1,14 @@
 -- The front of a redo file.
-use Rattle.std.proofs.Common.{◌≡◌, ◌≢◌, ◌<◌, ◌≤◌, ◌+◌, ◌-◌, ℕ, List, [], ◌∷◌, ◌++◌, length, get_or, take, drop, min, refl, ap, sym, ◌∙◌, arith, append_assoc, length-drop}
+use Rattle.std.proofs.Common.{◌≡◌, ◌≢◌, ◌<◌, ◌≤◌, ◌+◌, ◌-◌, ℕ, List, [], ◌∷◌, ◌++◌, length, get_or, take, drop, min, refl, ap, sym, subst, ◌∙◌, arith, append_assoc, length-drop}
 use Rattle.std.specs.Int.{w64, to_le_bytes, from_le_bytes}
 use Rattle.std.proofs.lemmas.Nat.{le_bytes_8}
 use Rattle.std.proofs.lemmas.List.{get_or-take, get_or-drop, take_all, take-append-drop, length-take-le}
+use Rattle.el_outside.specs.Disk.{Image}
 use Rattle.el_redo.proofs.BodyLemmas.{eight_are}
 use Rattle.el_redone.specs.Redone.{IsClosed, record_bytes}
 use Rattle.el_redo.specs.declared.faults.OpenFault.TheVariants as fault
+use Rattle.el_pages.specs.declared.layout.Layout.{Layout}
+use Rattle.el_pages.specs.Layouts.{redo_of}
 use Rattle.el_recovery.specs.Checks.{IsOpen, length_told, bad_index}
 
 -- a fault by its numbers
@@ -84,3 +87,12 @@ module _ (file front : List ℕ) (size : ℕ) (long : length file ≡ size) (two
         whole : (l : List ℕ) → length l ≡ 9 → get_or l 0 0 ≡ 1 → l ≡ 1 ∷ eight_of l
         whole [] e is = absurd (omega (arith, e))
         whole (x ∷ rest) e is = ap (λ h. h ∷ rest) is ∙ ap (λ (r : List ℕ). 1 ∷ r) (sym (eight_are rest (omega (arith, e))))
+
+-- what was read of a redo file's front
+pub front_there : (l : Layout) (seen now : Image) (redo size : ℕ) (front : List ℕ) → redo ≡ redo_of l → now ≡ seen → length (seen (redo_of l)) ≡ size
+    → (size ≤ length (now redo) → take (min 9 (size - 0)) front ≡ take (min 9 (size - 0)) (now redo)) → take (min 9 size) front ≡ take (min 9 size) (seen (redo_of l))
+front_there l seen now redo size front at same long said =
+    let there : now redo ≡ seen (redo_of l) = ap (λ (s : Image). s redo) same ∙ ap seen at in
+    let less : size - 0 ≡ size = omega arith in
+    subst (λ n. take (min 9 n) front ≡ take (min 9 n) (seen (redo_of l))) less
+    (said (omega (arith, long, ap (λ (b : List ℕ). length b) there)) ∙ ap (λ (b : List ℕ). take (min 9 (size - 0)) b) there)

@@ -1,5 +1,7 @@
 pub mod Opens
 pub mod Spelled
+pub mod Alike
+pub mod OneIndex
 pub mod Progress
 pub mod Fronts
 pub mod NextKeys
@@ -11,4 +13,6 @@ pub mod FileChecks
 pub mod Decided
 pub mod Settles
 pub mod Verdicts
+pub mod Refusals
 pub mod Finishes
+pub mod Redoes

@@ -1,5 +1,5 @@
 -- An opening that writes a record's rows, one by one.
-use Rattle.std.proofs.Common.{◌≡◌, ◌≢◌, ⊎_elim, ℕ, ◌+◌, ◌*◌, ◌<◌, ◌≤◌, List, [], ◌∷◌, ◌++◌, length, drop, map, refl, sym, ◌∙◌, ap, subst, arith, append_assoc, length-append}
+use Rattle.std.proofs.Common.{◌≡◌, ◌≢◌, ⊎_elim, ℕ, ◌+◌, ◌*◌, ◌<◌, ◌≤◌, ◌^◌, List, [], ◌∷◌, ◌++◌, Option, None, Some, unwrap_or, length, take, drop, map, refl, sym, ◌∙◌, ap, subst, arith, append_assoc, length-append}
 use Rattle.std.specs.List.{AllByRecursion}
 use Rattle.std.proofs.lemmas.Bool.{cases_eq}
 use Rattle.std.proofs.lemmas.List.{drop_at, drop-drop}
@@ -8,7 +8,9 @@ use Rattle.el_outside.specs.Disk.{Image, over}
 use Rattle.el_outside.specs.Moments.{LeftNow}
 use Rattle.el_outside.proofs.Bytes.{length-over}
 use Rattle.el_outside.proofs.Moments.{weaker}
+use Rattle.el_row_formats.specs.declared.table.Table.{Table}
 use Rattle.el_row_formats.specs.declared.table.RowKey.{RowKey}
+use Rattle.el_row_formats.specs.Tables.{key}
 use Rattle.el_row_formats.proofs.Keys.{index_within}
 use Rattle.el_rows.specs.Changes.{Changes}
 use Rattle.el_redo.specs.RedoBody.{change_bytes, changes_bytes}
@@ -21,6 +23,12 @@ use Rattle.el_pages.specs.declared.layout.Layout.{Layout}
 use Rattle.el_pages.specs.Layouts.{file_of, redo_of, size_in}
 use Rattle.el_pages.specs.Records.{write_of, writes_of, IsWhole}
 use Rattle.el_recovery.specs.within.Redoing.{HasLeft}
+
+abbrev pub pair_of : Table → ℕ → Option (Table × ℕ)
+pair_of t i = Some (t, i)
+
+abbrev pub change_of : Table → ℕ → List ℕ → RowKey × List ℕ
+change_of t i row = (key t i, row)
 
 -- some of the changes are written, and the rest is left
 pub record Progress {D : Type 0} (G : disk.Ghosts D) (l : Layout) (start now : D) (at end : ℕ) (changes : Changes) (stale : List ℕ) : Type 0 where
@@ -150,6 +158,36 @@ module _ {D : Type 0} (G : disk.Ghosts D) (earlier : (d : D) (t u : ℕ) (c : Im
                   (cases_eq f (file_of l next.e.0.table)) ∙ was.gives f;
               crash = crash_row run;
             }
+
+    -- the next change was read, as `said` tells
+    module _ (lt : at < end) (small : (f : ℕ) → length (G.seen now f) < 2 ^ 62) (o : Option (Table × ℕ)) (row : List ℕ)
+        (said : (t : Table) (i : ℕ) (bytes after : List ℕ) → i < 2 ^ 64 → length bytes ≡ size_in l t → i * size_in l t < 2 ^ 62
+        → drop at (G.seen now (redo_of l)) ≡ change_bytes (key t i, bytes) ++ after → (o ≡ pair_of t i) × (take (size_in l t) row ≡ bytes)) where
+      pub first_left : Next l was.rest
+      first_left = next_of l (G.seen now) at end was.rest stale was.left lt
+
+      first_read : (o ≡ pair_of first_left.e.0.table first_left.e.0.row) × (take (size_in l first_left.e.0.table) row ≡ first_left.e.1)
+      first_read =
+          let whole = row_whole first_left in
+          said first_left.e.0.table first_left.e.0.row first_left.e.1 (changes_bytes first_left.es ++ stale) whole.small whole.sized
+          (omega (arith, row_begins first_left, small (file_of l first_left.e.0.table))) (row_bytes first_left)
+
+      pub one_left : o ≡ None → ⊥
+      one_left none = absurd (let some = first_read.0 in cc (some, none))
+
+      module _ (t : Table) (i : ℕ) (is : o ≡ pair_of t i) (size : ℕ) (sized : size ≡ size_in l t) where
+        pub same_change : change_of t i (take size row) ≡ first_left.e
+        same_change =
+            let same : pair_of t i ≡ pair_of first_left.e.0.table first_left.e.0.row = sym is ∙ first_read.0 in
+            let tables : t ≡ first_left.e.0.table = ap (λ (p : Option (Table × ℕ)). (unwrap_or p (t, i)).0) same in
+            let rows : i ≡ first_left.e.0.row = ap (λ (p : Option (Table × ℕ)). (unwrap_or p (t, i)).1) same in
+            ap (λ (u : Table). change_of u i (take size row)) tables
+            ∙ ap (λ (n : ℕ). change_of first_left.e.0.table n (take size row)) rows
+            ∙ ap (λ (b : List ℕ). change_of first_left.e.0.table first_left.e.0.row b) (ap (λ n. take n row) (sized ∙ ap (size_in l) tables) ∙ first_read.1)
+
+        -- it is the first of those that are left
+        abbrev pub next_read : Next l was.rest
+        next_read = record { e = change_of t i (take size row); es = first_left.es; is = first_left.is ∙ ap (λ (x : RowKey × List ℕ). x ∷ first_left.es) (sym same_change) }
 
     -- all are
     pub progress_all : end ≤ at → (f : ℕ) → G.seen now f ≡ overlaid (into f (map (write_of l) changes)) (G.seen start f)

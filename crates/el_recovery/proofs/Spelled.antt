@@ -1,27 +1,22 @@
--- A redo file says one thing: its bytes are read in one way. So what an opening reads there is what an image
--- stands for.
-use Rattle.std.proofs.Common.{◌≡◌, inr, ⊎_elim, ◌<◌, ◌≤◌, ◌+◌, ◌^◌, ℕ, List, [], ◌∷◌, ◌++◌, length, get_or, drop, refl, ap, sym, ◌∙◌, arith, subst, append_assoc, length-append}
+-- A redo file says one thing: its bytes are read in one way.
+use Rattle.std.proofs.Common.{◌≡◌, ⊎_elim, ◌<◌, ◌+◌, ◌^◌, ℕ, List, [], ◌∷◌, ◌++◌, length, get_or, drop, refl, ap, sym, ◌∙◌, arith, subst, append_assoc, length-append}
 use Rattle.std.specs.List.{AllByRecursion}
 use Rattle.std.specs.Int.{w64, to_le_bytes, from_le_bytes}
 use Rattle.std.proofs.lemmas.Nat.{from_le_bytes-to_le_bytes_8}
 use Rattle.el_base.proofs.Lists.{same_cut}
-use Rattle.el_outside.specs.Disk.{Image}
 use Rattle.el_row_formats.specs.declared.table.Table.{Table}
 use Rattle.el_row_formats.specs.declared.table.RowKey.{RowKey}
-use Rattle.el_row_formats.specs.Tables.{Tables, number_of, key}
+use Rattle.el_row_formats.specs.Tables.{number_of, key}
 use Rattle.el_row_formats.proofs.Keys.{same_index}
 use Rattle.el_rows.specs.Changes.{Changes}
 use Rattle.el_redo.specs.RedoBody.{change_bytes, changes_bytes}
 use Rattle.el_redo.proofs.BodyLemmas.{length-change}
-use Rattle.el_redone.specs.Redone.{Write, overlaid, Fits, into, IsClosed, Waits, Pending, record_bytes}
-use Rattle.el_redone.specs.Steps.{IsGated, WillBe}
+use Rattle.el_redone.specs.Redone.{Write, IsClosed, Waits, Pending, record_bytes}
 use Rattle.el_pages.specs.declared.layout.Layout.{Layout}
-use Rattle.el_pages.specs.Layouts.{redo_of, size_in}
+use Rattle.el_pages.specs.Layouts.{size_in}
 use Rattle.el_pages.specs.Records.{Spells, IsWhole, writes_of}
-use Rattle.el_pages.specs.Indexes.{Shows}
-use Rattle.el_pages.proofs.Stands.{settled_stands}
 
-same_number : (a b : ℕ) → a < 2 ^ 64 → b < 2 ^ 64 → to_le_bytes w64 a ≡ to_le_bytes w64 b → a ≡ b
+pub same_number : (a b : ℕ) → a < 2 ^ 64 → b < 2 ^ 64 → to_le_bytes w64 a ≡ to_le_bytes w64 b → a ≡ b
 same_number a b below under e =
     sym (from_le_bytes-to_le_bytes_8 a below) ∙ ap (λ (l : List ℕ). from_le_bytes w64 l) e ∙ from_le_bytes-to_le_bytes_8 b under
 
@@ -96,44 +91,3 @@ module _ (l : Layout) where
       let same : waits.body ≡ body = one_body waits.body body waits.stale stale (omega (arith, small, other)) (omega (arith, small, long)) tails in
       one_spelled body vs ws (subst (λ (b : List ℕ). Spells l b vs) same waits.spelled) spelled)
       pending
-
-  -- ---- an opening that redoes
-
-  module _ (head : List ℕ) (seen : Image) (tables : Tables) (body stale : List ℕ) (ws : List Write) (small : length (seen (redo_of l)) < 2 ^ 62)
-      (is : seen (redo_of l) ≡ 1 ∷ (record_bytes body ++ stale)) (spelled : Spells l body ws) (shows : Shows l head seen tables) where
-    -- the files that the disk stands for are those that the body makes
-    made : (f : ℕ) → l.first ≤ f → f < redo_of l → overlaid (into f ws) (seen f) ≡ shows.files f
-    made f low lt = ap (λ (w : List Write). overlaid (into f w) (seen f)) (sym (one_pending (seen (redo_of l)) body stale ws shows.stands.writes small is spelled shows.stands.pending)) ∙ shows.stands.same f low lt
-
-    -- while the rows are written
-    pub redo_shows : (c : Image) → WillBe l.first (redo_of l) (λ f. overlaid (into f ws) (seen f)) ws (1 ∷ (record_bytes body ++ stale)) c → Shows l head c tables
-    redo_shows c will = record {
-      files = shows.files;
-      stands = record {
-        writes = ws;
-        pending = inr (record { body = body; stale = stale; is = will.file_is; spelled = spelled });
-        same = λ f low lt. will.same f low lt ∙ made f low lt;
-        fits = will.fits;
-      };
-      counts = shows.counts;
-      has = shows.has;
-      same = shows.same;
-    }
-
-    -- and while the gate is closed
-    pub settled_shows : ((f : ℕ) → l.first ≤ f → f < redo_of l → Fits (into f ws) (length (seen f))) → (c : Image)
-        → IsGated l.first (redo_of l) (λ f. overlaid (into f ws) (seen f)) (record_bytes body ++ stale) c → Shows l head c tables
-    settled_shows fits c gated =
-        let stands = settled_stands l seen body stale ws c spelled fits gated in
-        record {
-          files = shows.files;
-          stands = record {
-            writes = stands.writes;
-            pending = stands.pending;
-            same = λ f low lt. stands.same f low lt ∙ made f low lt;
-            fits = stands.fits;
-          };
-          counts = shows.counts;
-          has = shows.has;
-          same = shows.same;
-        }

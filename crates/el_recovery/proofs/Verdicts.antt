@@ -11,7 +11,7 @@ use Rattle.el_row_formats.specs.declared.limits.TheConstants.{BUCKET_COUNT}
 use Rattle.el_row_formats.proofs.Keys.{same_index, index_within}
 use Rattle.el_rows.specs.Changes.{count_at}
 use Rattle.el_redo.specs.RedoBody.{head_bytes, numbers_bytes, all_tables}
-use Rattle.el_redone.specs.Redone.{Write, overlaid, into, Waits, Pending, StandsFor}
+use Rattle.el_redone.specs.Redone.{StandsFor}
 use Rattle.el_pages.specs.declared.layout.Layout.{Layout}
 use Rattle.el_pages.specs.declared.layout.TheConstants.{FORMAT_1, LETTERS}
 use Rattle.el_pages.specs.Layouts.{file_of, redo_of, size_in, limit_in}
@@ -19,7 +19,7 @@ use Rattle.el_pages.specs.Records.{Spells, meta_of}
 use Rattle.el_pages.specs.Indexes.{HasMeta, HasNone, HasCounts}
 use Rattle.el_recovery.specs.Checks.{Found, word, count_told, HasHeads, IsHead, IsBadHead, IsBadHeads, IsBadCount, IsBadSize, IsBadRow, IsBadTable, IsBadFiles, sizes_in, HasBadFiles, IsBadIndex}
 use Rattle.el_pages.proofs.Laid.{limits_1}
-use Rattle.el_recovery.proofs.Spelled.{one_pending}
+use Rattle.el_recovery.proofs.Alike.{one_stands}
 use Rattle.el_recovery.proofs.Decided.{one_bad_body, stands_or_bad}
 use Rattle.el_recovery.proofs.Metas.{meta_head, count_is}
 
@@ -136,22 +136,6 @@ module _ (l : Layout) (magic : ℕ) (file : List ℕ) (size : Table → ℕ) whe
       bad
 
 -- ---- files that an image stands for
-
-one_writes : (l : Layout) (file : List ℕ) (ws vs : List Write) → length file < 2 ^ 62 → Pending (Spells l) file ws → Pending (Spells l) file vs → ws ≡ vs
-one_writes l file ws vs small a b = ⊎_elim
-    (λ none. ⊎_elim
-    (λ also. none.1 ∙ sym also.1)
-    (λ (waits : Waits (Spells l) file vs). one_pending l file waits.body waits.stale vs ws small waits.is waits.spelled a)
-    b)
-    (λ (waits : Waits (Spells l) file ws). sym (one_pending l file waits.body waits.stale ws vs small waits.is waits.spelled b))
-    a
-
-one_stands : (l : Layout) (image a b : Image) → length (image (redo_of l)) < 2 ^ 62 → StandsFor (Spells l) l.first (redo_of l) a image → StandsFor (Spells l) l.first (redo_of l) b image
-    → (f : ℕ) → l.first ≤ f → f < redo_of l → a f ≡ b f
-one_stands l image a b small x y f low lt =
-    sym (x.same f low lt)
-    ∙ ap (λ (w : List Write). overlaid (into f w) (image f)) (one_writes l (image (redo_of l)) x.writes y.writes small x.pending y.pending)
-    ∙ y.same f low lt
 
 same_files : (l : Layout) (magic : ℕ) (a b : Image) (found : Found) → ((f : ℕ) → l.first ≤ f → f < redo_of l → a f ≡ b f)
     → IsBadFiles l magic (a l.first) (sizes_in l a) found → IsBadFiles l magic (b l.first) (sizes_in l b) found

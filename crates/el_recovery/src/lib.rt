@@ -10,5 +10,5 @@ mod opening;
 mod redoing;
 mod waiting;
 
-pub use laws::{a_redo_file_says_one_thing, a_short_redo_file_says_nothing};
+pub use laws::an_image_stands_for_one_index;
 pub use opening::open_pages;

@@ -1,5 +1,5 @@
 // Opening a store.
-ghost use Rattle.std.specs.Prelude.{◌≡◌, ◌≢◌, ◌⊎◌, ◌≤◌, ◌<◌, ◌+◌, ◌*◌, ◌∷◌, [], ℕ, List, length, OnOk, IfOk, IfErr, IfSome, MatchResult};
+ghost use Rattle.std.specs.Prelude.{◌≡◌, ◌≢◌, ◌⊎◌, ◌≤◌, ◌<◌, ◌+◌, ◌*◌, ◌∷◌, [], ℕ, List, length, OnOk, IfOk, IfErr, MatchResult};
 ghost use Rattle.std.specs.Int.{w32, from_le_bytes};
 ghost use Rattle.el_outside.specs.Counts.{CountsOnly};
 ghost use Rattle.el_outside.specs.Disk.{Image, OnDisk};
@@ -7,11 +7,10 @@ ghost use Rattle.el_outside.specs.Moments.{LeftNow};
 ghost use Rattle.el_row_formats.specs.Tables.{Tables, limit_of};
 ghost use Rattle.el_row_formats.specs.declared.table.Table.{Table};
 ghost use Rattle.el_rows.specs.Changes.{count_at};
-ghost use Rattle.el_rows.specs.Reads.{IsEither};
 ghost use Rattle.el_redo.specs.RedoBody.{head_bytes};
 ghost use Rattle.el_redo.specs.declared.faults.OpenFault.TheVariants as fault;
-ghost use Rattle.el_redone.specs.Redone.{StandsFor};
-ghost use Rattle.el_redone.specs.Steps.{EachNow, Leaves, AreOnDisk, IsAtRest};
+ghost use Rattle.el_redone.specs.Redone.{StandsFor, StandsAlike};
+ghost use Rattle.el_redone.specs.Steps.{EachNow, Leaves, AreOnDisk, IsAtRest, IsAlike};
 ghost use Rattle.el_pages.specs.declared.layout.TheConstants.{FORMAT_1};
 ghost use Rattle.el_pages.specs.Layouts.{redo_of, size_in};
 ghost use Rattle.el_pages.specs.Records.{Spells};
@@ -24,16 +23,12 @@ use crate::checking::check_body;
 use crate::files::check_files;
 use crate::finishing::redo;
 use crate::waiting::waiting;
-use el_chain::zeros;
 use el_outside::Disk;
 use el_pages::{FORMAT_1, Layout, Pages};
 use el_redo::{NetworkMagic, OpenFault};
 use el_redone::{Span, begin};
 use el_row_formats::TABLES;
 use std::alloc::Global;
-
-// How many bytes the buffer has through which a redo record is written.
-const BUFFER: usize = 65536;
 
 // Does what a record behind an open gate has left to do, and closes the gate.
 fn finish<D: Disk>(disk: &mut D, layout: &Layout) -> Result<(), OpenFault>
@@ -54,9 +49,8 @@ fn finish<D: Disk>(disk: &mut D, layout: &Layout) -> Result<(), OpenFault>
         × (e ≡ bad_index found) × IsBadBody layout.now (D.seen disk.old) found
         × (D.seen disk.new ≡ D.seen disk.old))) }
     ensures only { IfErr result (λ e. (e ≡ fault.DiskFailed) ⊎ ((found : Found) × (e ≡ bad_index found))) }
-    ensures crash { D.tells → (head : List ℕ) (tables : Tables)
-        → Shows layout.now head (D.seen disk.old) tables
-        → Leaves ⟦<D as Disk>⟧ (λ image. Shows layout.now head image tables) disk.old disk.new }
+    ensures crash { D.tells → Leaves ⟦<D as Disk>⟧ (StandsAlike (Spells layout.now) layout.now.first
+        (redo_of layout.now) (D.seen disk.old)) disk.old disk.new }
     ensures beside { D.tells → (f : ℕ) → (f < layout.now.first) ⊎ (redo_of layout.now < f)
         → D.seen disk.new f ≡ D.seen disk.old f }
     ensures calls { D.tells → 2 * D.calls disk.new
@@ -99,9 +93,8 @@ fn settle<D: Disk>(disk: &mut D, magic: [u8; 4]) -> Result<[u64; TABLES], OpenFa
     ensures opens { D.tells → (tables : Tables) → Shows FORMAT_1 (head_bytes magic) (D.seen disk.old) tables
         → HasHeads (λ (t : Table). length (tables t)) → IfErr result (λ e. e ≡ fault.DiskFailed) }
     ensures only { IfErr result (λ e. (e ≡ fault.DiskFailed) ⊎ ((found : Found) × (e ≡ bad_index found))) }
-    ensures crash { D.tells → (head : List ℕ) (a b : Tables)
-        → EachNow ⟦<D as Disk>⟧ (IsEither (Shows FORMAT_1 head) a b) disk.old
-        → Leaves ⟦<D as Disk>⟧ (IsEither (Shows FORMAT_1 head) a b) disk.old disk.new }
+    ensures crash { D.tells → Leaves ⟦<D as Disk>⟧ (IsAlike ⟦<D as Disk>⟧ (Spells FORMAT_1) 0 9 disk.old)
+        disk.old disk.new }
     ensures beside { D.tells → (f : ℕ) → 9 < f → D.seen disk.new f ≡ D.seen disk.old f }
     ensures calls { D.tells → 2 * D.calls disk.new
         ≤ 2 * D.calls disk.old + (271 + length_told (D.seen disk.old 9)) }
@@ -114,20 +107,10 @@ fn settle<D: Disk>(disk: &mut D, magic: [u8; 4]) -> Result<[u64; TABLES], OpenFa
     Ok(counts)
 }
 
-// The buffer through which redo records are written, where there is memory for it.
-fn take_buffer(alloc: Global) -> Option<Vec<u8>>
-    ensures { IfSome result (λ v. length v.items ≡ 65536) }
-{
-    match zeros(alloc, BUFFER) {
-        Ok(buffer) => Some(buffer),
-        Err(_) => None,
-    }
-}
-
 /// Opens the store that the files of a disk keep for the network that the type names. The disk may be fresh,
 /// which stands for no rows, or as a crash left it: what a commit that was cut off left to do is done. The
-/// opening may be stopped at any call, and the disk opened again. Beside a buffer of 65,536 bytes it takes no
-/// memory.
+/// opening may be stopped at any call, and the disk opened again. The memory that it takes is the store's: a
+/// buffer and a cache, once the files are checked.
 ///
 /// # Errors
 ///
@@ -144,11 +127,10 @@ pub fn open_pages<D: Disk, N: NetworkMagic>(
         Shows FORMAT_1 (head_bytes N.magic) image (rows_of store)) (disk_below store)) }
     // Its tables of heads have the rows that they may have.
     ensures heads { D.tells → IfOk result (λ store. HasHeads (λ (t : Table). length (rows_of store t))) }
-    // Where each image at the start stands for the one tables or for the others, so does each image of each
-    // moment in it, for this network or another.
-    ensures crash { D.tells → (head : List ℕ) (a b : Tables)
-        → EachNow ⟦<D as Disk>⟧ (IsEither (Shows FORMAT_1 head) a b) disk
-        → Leaves ⟦<D as Disk>⟧ (IsEither (Shows FORMAT_1 head) a b) disk (disk_in result) }
+    // Each image of each moment in it stands for all files for which one stands that a crash might have left
+    // before, and for no others: so for the same tables, whichever network they are for.
+    ensures crash { D.tells → Leaves ⟦<D as Disk>⟧ (IsAlike ⟦<D as Disk>⟧ (Spells FORMAT_1) 0 9 disk)
+        disk (disk_in result) }
     // `BadIndex` comes exactly where a check fails, with what the first that fails wanted and found. That is
     // told without memory.
     ensures bad { D.tells → IfErr result (λ e. (e.0 ≡ fault.DiskFailed) ⊎ ((e.0 ≡ fault.Memory)
@@ -161,6 +143,10 @@ pub fn open_pages<D: Disk, N: NetworkMagic>(
     ensures opens { D.tells → (tables : Tables) → Shows FORMAT_1 (head_bytes N.magic) (D.seen disk) tables
         → HasHeads (λ (t : Table). length (tables t))
         → IfErr result (λ e. (e.0 ≡ fault.DiskFailed) ⊎ (e.0 ≡ fault.Memory)) }
+    // Memory is wanting only where it would open.
+    ensures memory { D.tells → IfErr result (λ e. e.0 ≡ fault.Memory → (tables : Tables)
+        × Shows FORMAT_1 (head_bytes N.magic) (D.seen disk) tables
+        × HasHeads (λ (t : Table). length (tables t))) }
     // Where the body is refused, all files read as before.
     ensures untouched { D.tells → (found : Found) → IsBadBody FORMAT_1 (D.seen disk) found
         → IfErr result (λ e. (e.0 ≡ fault.DiskFailed) ⊎ (D.seen (disk_in result) ≡ D.seen disk)) }
@@ -181,8 +167,8 @@ pub fn open_pages<D: Disk, N: NetworkMagic>(
         Ok(counts) => counts,
         Err(fault) => return Err((fault, disk)),
     };
-    let Some(buffer) = take_buffer(alloc) else {
-        return Err((OpenFault::Memory, disk));
-    };
-    Ok(Pages::new(disk, counts, buffer))
+    match Pages::new(alloc, disk, counts) {
+        Ok(store) => Ok(store),
+        Err(disk) => Err((OpenFault::Memory, disk)),
+    }
 }

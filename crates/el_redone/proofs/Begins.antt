@@ -1,19 +1,15 @@
 -- What the first steps of an opening leave.
-use Rattle.std.proofs.Common.{◌≡◌, ◌≢◌, inl, inr, ℕ, ◌<◌, ◌≤◌, List, [], ◌∷◌, length, refl, sym, ◌∙◌, ap, arith}
+use Rattle.std.proofs.Common.{◌≡◌, inl, inr, ℕ, ◌<◌, ◌≤◌, List, [], ◌∷◌, length, refl, sym, ◌∙◌, ap, arith}
 use Rattle.std.proofs.lemmas.List.{drop_all}
 use Rattle.el_outside.specs.declared.disk.Disk as disk
 use Rattle.el_outside.specs.Disk.{Image, over, Torn, OnFile, OnDisk, Follows}
 use Rattle.el_outside.specs.Moments.{LeftNow, Passes}
 use Rattle.el_outside.proofs.Moments.{weaker, one_call}
-use Rattle.el_redone.specs.Steps.{EachNow, Leaves, AreOnDisk, IsBegun}
+use Rattle.el_redone.specs.Steps.{Leaves, IsBegun}
 
 -- a short file with a byte 0 over it
 pub begun_file : (file : List ℕ) → length file < 2 → over file 0 (0 ∷ []) ≡ 0 ∷ []
 begun_file file short = ap (λ (l : List ℕ). 0 ∷ l) (drop_all 1 file (omega (arith, short)))
-
-module _ {D : Type 0} (G : disk.Ghosts D) (redo : ℕ) where
-  pub begins_none : (old : D) → EachNow G (IsBegun G redo old) old
-  begins_none old c left = record { from = c; left = left; others = λ f ne. refl; here = inl refl }
 
 module _ {D : Type 0} (G : disk.Ghosts D) (redo : ℕ)
     (earlier : (d : D) (t u : ℕ) (c : Image) → t ≤ u → G.left_since d u c → G.left_since d t c) where
@@ -47,11 +43,3 @@ module _ {D : Type 0} (G : disk.Ghosts D) (redo : ℕ)
 pub still_on_disk : {D : Type 0} (G : disk.Ghosts D) (f : ℕ) (old new : D) → ((c : Image) → LeftNow G.moment G.left_since new c → LeftNow G.moment G.left_since old c) → G.seen new f ≡ G.seen old f
     → OnDisk f (G.seen old) (LeftNow G.moment G.left_since old) → OnDisk f (G.seen new) (LeftNow G.moment G.left_since new)
 still_on_disk G f old new fewer same on_disk c left = on_disk c (fewer c left) ∙ sym same
-
--- through a write and a sync of another file
-pub still_others : {D : Type 0} (G : disk.Ghosts D) (first redo : ℕ) (old new : D) → AreOnDisk G first redo old → ((f : ℕ) → f ≢ redo → G.seen new f ≡ G.seen old f)
-    → EachNow G (IsBegun G redo old) new → AreOnDisk G first redo new
-still_others G first redo old new on_disk others each f low lt c left =
-    let ne : f ≢ redo = λ e. omega (arith, lt, e) in
-    let b = each c left in
-    b.others f ne ∙ on_disk f low lt b.from b.left ∙ sym (others f ne)

@@ -3,7 +3,7 @@ use Rattle.std.specs.Prelude.{◌≡◌, ◌≢◌, ◌⊎◌, ◌≤◌, ◌<�
 use Rattle.el_outside.specs.declared.disk.Disk as disk
 use Rattle.el_outside.specs.Disk.{Image, OnDisk}
 use Rattle.el_outside.specs.Moments.{LeftNow, LeavesOnly}
-use Rattle.el_redone.specs.Redone.{Write, overlaid, Fits, into, IsClosed}
+use Rattle.el_redone.specs.Redone.{Write, overlaid, Fits, into, IsClosed, StandsAlike}
 
 -- each image that a crash now may leave has P
 abbrev pub EachNow : {D : Type 0} → disk.Ghosts D → (Image → Type 0) → D → Type 0
@@ -49,6 +49,13 @@ pub record IsBegun {D : Type 0} (G : disk.Ghosts D) (redo : ℕ) (old : D) (c : 
   pub left : LeftNow G.moment G.left_since old from
   pub others : (f : ℕ) → f ≢ redo → c f ≡ from f
   pub here : (c redo ≡ from redo) ⊎ ((length (from redo) < 2) × (length (c redo) < 2))
+
+-- An image that stands for the same files as one that a crash of `old` might leave.
+pub record IsAlike {D : Type 0} (G : disk.Ghosts D) (Spells : List ℕ → List Write → Type 0)
+    (first redo : ℕ) (old : D) (c : Image) : Type 0 where
+  pub from : Image
+  pub left : LeftNow G.moment G.left_since old from
+  pub alike : StandsAlike Spells first redo from c
 
 -- between two commits: all files are on the disk, and the gate is closed
 pub record IsAtRest {D : Type 0} (G : disk.Ghosts D) (first redo : ℕ) (d : D) : Type 0 where

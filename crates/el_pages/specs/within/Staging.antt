@@ -1,5 +1,5 @@
 -- The record while it is written behind the closed gate.
-use Rattle.std.specs.Prelude.{◌-◌, ◌≤◌, ◌<◌, ℕ, List, ◌++◌, length, take, drop}
+use Rattle.std.specs.Prelude.{◌≡◌, ◌+◌, ◌-◌, ◌*◌, ◌/◌, ◌≤◌, ◌<◌, ℕ, List, ◌++◌, length, take, drop}
 use Rattle.el_outside.specs.declared.disk.Disk as disk
 use Rattle.el_outside.specs.declared.archive.TheConstants.{SIZE_LIMIT}
 use Rattle.el_pages.specs.declared.staging.Next.{Next}
@@ -19,3 +19,21 @@ pub record CanPut {D : Type 0} (G : disk.Ghosts D) (redo : ℕ) (d : D) (buffer 
   pub small : next.at < SIZE_LIMIT
   pub filled : next.used ≤ length buffer
   pub reach : G.tells → next.at ≤ length (G.seen d redo)
+
+-- How many bytes a buffer of that size has at least, where no 256 bytes more have room in it.
+abbrev pub least_write : ℕ → ℕ
+least_write size = size - 255
+
+-- how many calls write so many bytes through it, where each call but the last writes no fewer than those
+abbrev pub writes_through : ℕ → ℕ → ℕ
+writes_through size bytes = bytes / least_write size + 1
+
+-- So many bytes were put after those of `old`, and each call of the disk meanwhile wrote no fewer than those.
+pub record IsPaid (size calls_old calls_new : ℕ) (old new : Next) (bytes : ℕ) : Type 0 where
+  pub end : new.at + new.used ≡ old.at + old.used + bytes
+  pub paid : calls_new * least_write size + old.at ≤ calls_old * least_write size + new.at
+
+-- so many bytes pay for all calls but one
+abbrev pub AreFew : ℕ → ℕ → ℕ → ℕ → Type 0
+AreFew size calls_old calls_new bytes =
+    calls_new * least_write size ≤ calls_old * least_write size + (least_write size + bytes)

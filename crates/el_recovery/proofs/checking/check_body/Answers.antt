@@ -1,14 +1,12 @@
 use Rattle.std.proofs.Common.{◌+◌, [], drop, inl, inr, ⊎_elim, refl, sym, subst, ◌∙◌, arith}
 use Rattle.std.proofs.lemmas.Result.{err_from_is_err_and}
 use Rattle.el_outside.specs.Disk.{Image}
-use Rattle.el_outside.specs.Moments.{LeftNow}
 use Rattle.el_rows.specs.Changes.{count_at}
-use Rattle.el_redone.proofs.Runs.{goes_on}
 use Rattle.el_pages.specs.Records.{writes_of}
 use Rattle.el_recovery.specs.Checks.{IsBadChange}
 use Rattle.el_recovery.specs.within.Checking.{IsChecked}
 use Rattle.el_recovery.proofs.Bodies.{checked_none, checked_all}
-use Rattle.el_recovery.proofs.Settles.{reads_leave}
+use Rattle.el_recovery.proofs.Settles.{reads_on}
 use Rattle.el_recovery.proofs.checking.check_body.Goals as goal
 
 pub loop-at-init : goal.loop-at-init
@@ -38,18 +36,14 @@ loop-at-preserved g c =
           let next = c.in_ok-at.ensures.next told body stale now.1 now.0 now.2 in
           (next.0, next.1, subst (λ (s : Image). IsChecked l s body stale c.in_ok-at.at (9 + c.args.len) next.0 next.1 (count_at c.check_change.new.reach)) (sym (c.check_change.ensures.seen told)) next.2);
       seen = λ told. c.check_change.ensures.seen told ∙ was.seen told;
-      crash = λ told. goes_on g.D.Disk (λ d t u i le left. g.met.D.Disk.earlier d t u i told le left) c.args.disk.now c.loop-at.disk c.check_change.new.disk (LeftNow g.D.Disk.moment g.D.Disk.left_since c.args.disk.now)
-          (was.crash told)
-          (λ each. reads_leave g.D.Disk (LeftNow g.D.Disk.moment g.D.Disk.left_since c.args.disk.now) c.loop-at.disk c.check_change.new.disk (c.check_change.ensures.crash told) each);
+      crash = λ told. reads_on g.D.Disk (λ d t u i le left. g.met.D.Disk.earlier d t u i told le left) c.args.disk.now c.loop-at.disk c.check_change.new.disk (was.crash told) (c.check_change.ensures.crash told);
       calls = omega (arith, was.calls, c.check_change.ensures.called, c.in_ok-at.ensures.further);
       faults = c.in_ok-at.ensures.cause.uncounted ∙ was.faults;
     }
 
 pub returns-in_err-at-clause-crash : goal.returns-in_err-at-clause-crash
 returns-in_err-at-clause-crash g c told =
-    goes_on g.D.Disk (λ d t u i le left. g.met.D.Disk.earlier d t u i told le left) c.args.disk.now c.loop-at.disk c.check_change.new.disk (LeftNow g.D.Disk.moment g.D.Disk.left_since c.args.disk.now)
-    (c.loop-at.invariant.crash told)
-    (λ each. reads_leave g.D.Disk (LeftNow g.D.Disk.moment g.D.Disk.left_since c.args.disk.now) c.loop-at.disk c.check_change.new.disk (c.check_change.ensures.crash told) each)
+    reads_on g.D.Disk (λ d t u i le left. g.met.D.Disk.earlier d t u i told le left) c.args.disk.now c.loop-at.disk c.check_change.new.disk (c.loop-at.invariant.crash told) (c.check_change.ensures.crash told)
 
 pub returns-in_err-at-clause-bad : goal.returns-in_err-at-clause-bad
 returns-in_err-at-clause-bad g c told body stale has =

@@ -1,13 +1,12 @@
 use Rattle.std.proofs.Common.{◌≡◌, ◌≤◌, ◌<◌, ◌+◌, ◌-◌, ◌*◌, ◌/◌, ℕ, length, take, drop, min, max, inl, inr, ⊎_elim, refl, ap, sym, subst, ◌∙◌, arith}
 use Rattle.std.proofs.lemmas.Result.{err_from_is_err_and}
-use Rattle.el_outside.specs.Moments.{LeftNow}
 use Rattle.el_outside.specs.declared.archive.TheConstants.{SIZE_LIMIT}
 use Rattle.el_row_formats.proofs.Keys.{same_table}
 use Rattle.el_row_formats.specs.declared.table.Table.{Table}
 use Rattle.el_rows.specs.Changes.{count_at}
-use Rattle.el_redone.proofs.Runs.{stays}
 use Rattle.el_pages.specs.Layouts.{redo_of}
 use Rattle.el_recovery.proofs.Bodies.{begins_within, rest_long, checked_long, checked_front, next_checked, checked_bad, body_small}
+use Rattle.el_recovery.proofs.Settles.{one_read}
 use Rattle.el_recovery.proofs.checking.check_change.Goals as goal
 
 pub returns-clause-next : goal.returns-clause-next
@@ -46,13 +45,13 @@ returns-in_err-table-clause-bad g c told body stale rest changes checked =
     )
 
 pub returns-clause-crash : goal.returns-clause-crash
-returns-clause-crash g c told = stays g.D.Disk c.args.disk.now c.read_front.new.disk (λ i. LeftNow g.D.Disk.moment g.D.Disk.left_since c.args.disk.now i) (c.read_front.ensures.time told) (c.read_front.ensures.crash told) (λ i left. left)
+returns-clause-crash g c told = one_read g.D.Disk c.args.disk.now c.read_front.new.disk (c.read_front.ensures.time told) (c.read_front.ensures.crash told)
 
 pub returns-in_err-table-clause-crash : goal.returns-in_err-table-clause-crash
-returns-in_err-table-clause-crash g c told = stays g.D.Disk c.args.disk.now c.read_front.new.disk (λ i. LeftNow g.D.Disk.moment g.D.Disk.left_since c.args.disk.now i) (c.read_front.ensures.time told) (c.read_front.ensures.crash told) (λ i left. left)
+returns-in_err-table-clause-crash g c told = one_read g.D.Disk c.args.disk.now c.read_front.new.disk (c.read_front.ensures.time told) (c.read_front.ensures.crash told)
 
 pub returns-in_err-front-clause-crash : goal.returns-in_err-front-clause-crash
-returns-in_err-front-clause-crash g c told = stays g.D.Disk c.args.disk.now c.read_front.new.disk (λ i. LeftNow g.D.Disk.moment g.D.Disk.left_since c.args.disk.now i) (c.read_front.ensures.time told) (c.read_front.ensures.crash told) (λ i left. left)
+returns-in_err-front-clause-crash g c told = one_read g.D.Disk c.args.disk.now c.read_front.new.disk (c.read_front.ensures.time told) (c.read_front.ensures.crash told)
 
 pub returns-clause-small : goal.returns-clause-small
 returns-clause-small g c t =

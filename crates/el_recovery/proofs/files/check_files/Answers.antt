@@ -1,19 +1,17 @@
-use Rattle.std.proofs.Common.{◌≡◌, ◌≤◌, ℕ, List, [], ◌∷◌, length, take, replicate, inl, inr, refl, ap, ◌∙◌, arith}
+use Rattle.std.proofs.Common.{◌≡◌, ◌≤◌, ℕ, List, [], ◌∷◌, length, replicate, inl, inr, refl, ap, ◌∙◌, arith}
 use Rattle.std.proofs.lemmas.Result.{err_from_is_err_and}
 use Rattle.std.specs.Int.{w32, from_le_bytes}
 use Rattle.el_outside.specs.Disk.{Image}
-use Rattle.el_outside.specs.Moments.{LeftNow}
 use Rattle.el_row_formats.specs.declared.table.Table.{Table}
 use Rattle.el_row_formats.specs.declared.table.Table.TheVariants as table
 use Rattle.el_rows.specs.Changes.{count_at}
-use Rattle.el_redone.proofs.Runs.{stays, goes_on}
 use Rattle.el_pages.specs.declared.layout.TheConstants.{FORMAT_1}
 use Rattle.el_pages.specs.Layouts.{file_of}
 use Rattle.el_pages.proofs.Laid.{limits_1}
 use Rattle.el_recovery.specs.Checks.{Found}
 use Rattle.el_recovery.proofs.Fronts.{fault_is}
-use Rattle.el_recovery.proofs.FileChecks.{bad_row_there, bad_size_there, files_has}
-use Rattle.el_recovery.proofs.Settles.{reads_leave}
+use Rattle.el_recovery.proofs.FileChecks.{front_read, bad_row_there, bad_size_there, files_has}
+use Rattle.el_recovery.proofs.Settles.{one_read, reads_on}
 use Rattle.el_recovery.proofs.files.check_files.Goals as goal
 
 no_rows_at : (t : Table) → count_at (replicate 8 0) t ≡ 0
@@ -58,7 +56,7 @@ returns-in_err-counts-clause-bad g c told =
     let seen = g.D.Disk.seen old in
     let size : c.in_ok-size.size ≡ length (seen 0) = c.in_ok-size.ensures.size told in
     let long : 76 ≤ length (seen 0) = omega (arith, size, c.if-size-lt76.false) in
-    let read : c.in_ok-meta.meta ≡ take 76 (seen 0) = c.in_ok-meta.ensures.read told (omega (arith, long, ap (λ (s : Image). length (s 0)) (c.size.ensures.seen told))) ∙ ap (λ (s : Image). take 76 (s 0)) (c.size.ensures.seen told) in
+    let read = front_read seen (g.D.Disk.seen c.size.new.self) c.in_ok-meta.meta (c.size.ensures.seen told) long (c.in_ok-meta.ensures.read told) in
     let bad = c.in_err-counts.ensures.bad in
     inr (bad.0, bad.1, bad_row_there (from_le_bytes w32 c.args.magic) seen c.in_ok-meta.meta long read bad.0 bad.2)
     )
@@ -71,7 +69,7 @@ returns-in_err-check_sizes-clause-bad g c told =
     let seen = g.D.Disk.seen old in
     let size : c.in_ok-size.size ≡ length (seen 0) = c.in_ok-size.ensures.size told in
     let long : 76 ≤ length (seen 0) = omega (arith, size, c.if-size-lt76.false) in
-    let read : c.in_ok-meta.meta ≡ take 76 (seen 0) = c.in_ok-meta.ensures.read told (omega (arith, long, ap (λ (s : Image). length (s 0)) (c.size.ensures.seen told))) ∙ ap (λ (s : Image). take 76 (s 0)) (c.size.ensures.seen told) in
+    let read = front_read seen (g.D.Disk.seen c.size.new.self) c.in_ok-meta.meta (c.size.ensures.seen told) long (c.in_ok-meta.ensures.read told) in
     let same : g.D.Disk.seen c.read_meta.new.disk ≡ seen = c.read_meta.ensures.seen told ∙ c.size.ensures.seen told in
     let each : (t : Table) → count_at c.in_ok-sizes.sizes t ≡ length (seen (file_of FORMAT_1 t)) = λ t. c.in_ok-sizes.ensures.sizes told t ∙ ap (λ (s : Image). length (s (file_of FORMAT_1 t))) same in
     let bad = c.in_err-check_sizes.ensures.bad in
@@ -89,59 +87,53 @@ returns-clause-has g c told =
     let seen = g.D.Disk.seen old in
     let size : c.in_ok-size.size ≡ length (seen 0) = c.in_ok-size.ensures.size told in
     let long : 76 ≤ length (seen 0) = omega (arith, size, c.if-size-lt76.false) in
-    let read : c.in_ok-meta.meta ≡ take 76 (seen 0) = c.in_ok-meta.ensures.read told (omega (arith, long, ap (λ (s : Image). length (s 0)) (c.size.ensures.seen told))) ∙ ap (λ (s : Image). take 76 (s 0)) (c.size.ensures.seen told) in
+    let read = front_read seen (g.D.Disk.seen c.size.new.self) c.in_ok-meta.meta (c.size.ensures.seen told) long (c.in_ok-meta.ensures.read told) in
     let same : g.D.Disk.seen c.read_meta.new.disk ≡ seen = c.read_meta.ensures.seen told ∙ c.size.ensures.seen told in
     let each : (t : Table) → count_at c.in_ok-sizes.sizes t ≡ length (seen (file_of FORMAT_1 t)) = λ t. c.in_ok-sizes.ensures.sizes told t ∙ ap (λ (s : Image). length (s (file_of FORMAT_1 t))) same in
     files_has seen c.args.magic c.in_ok-meta.meta c.in_ok-counts.counts long read c.in_ok-counts.ensures.is c.in_ok-counts.ensures.limited
     (λ t. omega (arith, c.in_ok-check_sizes.ensures.ok t, each t))
 
 pub returns-in_err-size-clause-crash : goal.returns-in_err-size-clause-crash
-returns-in_err-size-clause-crash g c told =
-    stays g.D.Disk c.args.disk.now c.size.new.self (LeftNow g.D.Disk.moment g.D.Disk.left_since c.args.disk.now) (c.size.ensures.time told) (c.size.ensures.crash told) (λ i left. left)
+returns-in_err-size-clause-crash g c told = one_read g.D.Disk c.args.disk.now c.size.new.self (c.size.ensures.time told) (c.size.ensures.crash told)
 
 pub returns-then-size-eq0-clause-crash : goal.returns-then-size-eq0-clause-crash
-returns-then-size-eq0-clause-crash g c told =
-    stays g.D.Disk c.args.disk.now c.size.new.self (LeftNow g.D.Disk.moment g.D.Disk.left_since c.args.disk.now) (c.size.ensures.time told) (c.size.ensures.crash told) (λ i left. left)
+returns-then-size-eq0-clause-crash g c told = one_read g.D.Disk c.args.disk.now c.size.new.self (c.size.ensures.time told) (c.size.ensures.crash told)
 
 pub returns-then-size-lt76-clause-crash : goal.returns-then-size-lt76-clause-crash
-returns-then-size-lt76-clause-crash g c told =
-    stays g.D.Disk c.args.disk.now c.size.new.self (LeftNow g.D.Disk.moment g.D.Disk.left_since c.args.disk.now) (c.size.ensures.time told) (c.size.ensures.crash told) (λ i left. left)
+returns-then-size-lt76-clause-crash g c told = one_read g.D.Disk c.args.disk.now c.size.new.self (c.size.ensures.time told) (c.size.ensures.crash told)
 
 pub returns-in_err-meta-clause-crash : goal.returns-in_err-meta-clause-crash
 returns-in_err-meta-clause-crash g c told =
-    goes_on g.D.Disk (λ d t u i le left. g.met.D.Disk.earlier d t u i told le left) c.args.disk.now c.size.new.self c.read_meta.new.disk (LeftNow g.D.Disk.moment g.D.Disk.left_since c.args.disk.now)
-    (stays g.D.Disk c.args.disk.now c.size.new.self (LeftNow g.D.Disk.moment g.D.Disk.left_since c.args.disk.now) (c.size.ensures.time told) (c.size.ensures.crash told) (λ i left. left))
-    (λ each. stays g.D.Disk c.size.new.self c.read_meta.new.disk (LeftNow g.D.Disk.moment g.D.Disk.left_since c.args.disk.now) (c.read_meta.ensures.time told) (c.read_meta.ensures.crash told) each)
+    reads_on g.D.Disk (λ d t u i le left. g.met.D.Disk.earlier d t u i told le left) c.args.disk.now c.size.new.self c.read_meta.new.disk
+    (one_read g.D.Disk c.args.disk.now c.size.new.self (c.size.ensures.time told) (c.size.ensures.crash told))
+    (one_read g.D.Disk c.size.new.self c.read_meta.new.disk (c.read_meta.ensures.time told) (c.read_meta.ensures.crash told))
 
 pub returns-in_err-counts-clause-crash : goal.returns-in_err-counts-clause-crash
 returns-in_err-counts-clause-crash g c told =
-    goes_on g.D.Disk (λ d t u i le left. g.met.D.Disk.earlier d t u i told le left) c.args.disk.now c.size.new.self c.read_meta.new.disk (LeftNow g.D.Disk.moment g.D.Disk.left_since c.args.disk.now)
-    (stays g.D.Disk c.args.disk.now c.size.new.self (LeftNow g.D.Disk.moment g.D.Disk.left_since c.args.disk.now) (c.size.ensures.time told) (c.size.ensures.crash told) (λ i left. left))
-    (λ each. stays g.D.Disk c.size.new.self c.read_meta.new.disk (LeftNow g.D.Disk.moment g.D.Disk.left_since c.args.disk.now) (c.read_meta.ensures.time told) (c.read_meta.ensures.crash told) each)
+    reads_on g.D.Disk (λ d t u i le left. g.met.D.Disk.earlier d t u i told le left) c.args.disk.now c.size.new.self c.read_meta.new.disk
+    (one_read g.D.Disk c.args.disk.now c.size.new.self (c.size.ensures.time told) (c.size.ensures.crash told))
+    (one_read g.D.Disk c.size.new.self c.read_meta.new.disk (c.read_meta.ensures.time told) (c.read_meta.ensures.crash told))
 
 pub returns-in_err-sizes-clause-crash : goal.returns-in_err-sizes-clause-crash
 returns-in_err-sizes-clause-crash g c told =
-    goes_on g.D.Disk (λ d t u i le left. g.met.D.Disk.earlier d t u i told le left) c.args.disk.now c.read_meta.new.disk c.file_sizes.new.disk (LeftNow g.D.Disk.moment g.D.Disk.left_since c.args.disk.now)
-    (goes_on g.D.Disk (λ d t u i le left. g.met.D.Disk.earlier d t u i told le left) c.args.disk.now c.size.new.self c.read_meta.new.disk (LeftNow g.D.Disk.moment g.D.Disk.left_since c.args.disk.now)
-    (stays g.D.Disk c.args.disk.now c.size.new.self (LeftNow g.D.Disk.moment g.D.Disk.left_since c.args.disk.now) (c.size.ensures.time told) (c.size.ensures.crash told) (λ i left. left))
-    (λ each. stays g.D.Disk c.size.new.self c.read_meta.new.disk (LeftNow g.D.Disk.moment g.D.Disk.left_since c.args.disk.now) (c.read_meta.ensures.time told) (c.read_meta.ensures.crash told) each))
-    (λ each. reads_leave g.D.Disk (LeftNow g.D.Disk.moment g.D.Disk.left_since c.args.disk.now) c.read_meta.new.disk c.file_sizes.new.disk (c.file_sizes.ensures.crash told) each)
+    let twice = reads_on g.D.Disk (λ d t u i le left. g.met.D.Disk.earlier d t u i told le left) c.args.disk.now c.size.new.self c.read_meta.new.disk
+    (one_read g.D.Disk c.args.disk.now c.size.new.self (c.size.ensures.time told) (c.size.ensures.crash told))
+    (one_read g.D.Disk c.size.new.self c.read_meta.new.disk (c.read_meta.ensures.time told) (c.read_meta.ensures.crash told)) in
+    reads_on g.D.Disk (λ d t u i le left. g.met.D.Disk.earlier d t u i told le left) c.args.disk.now c.read_meta.new.disk c.file_sizes.new.disk twice (c.file_sizes.ensures.crash told)
 
 pub returns-in_err-check_sizes-clause-crash : goal.returns-in_err-check_sizes-clause-crash
 returns-in_err-check_sizes-clause-crash g c told =
-    goes_on g.D.Disk (λ d t u i le left. g.met.D.Disk.earlier d t u i told le left) c.args.disk.now c.read_meta.new.disk c.file_sizes.new.disk (LeftNow g.D.Disk.moment g.D.Disk.left_since c.args.disk.now)
-    (goes_on g.D.Disk (λ d t u i le left. g.met.D.Disk.earlier d t u i told le left) c.args.disk.now c.size.new.self c.read_meta.new.disk (LeftNow g.D.Disk.moment g.D.Disk.left_since c.args.disk.now)
-    (stays g.D.Disk c.args.disk.now c.size.new.self (LeftNow g.D.Disk.moment g.D.Disk.left_since c.args.disk.now) (c.size.ensures.time told) (c.size.ensures.crash told) (λ i left. left))
-    (λ each. stays g.D.Disk c.size.new.self c.read_meta.new.disk (LeftNow g.D.Disk.moment g.D.Disk.left_since c.args.disk.now) (c.read_meta.ensures.time told) (c.read_meta.ensures.crash told) each))
-    (λ each. reads_leave g.D.Disk (LeftNow g.D.Disk.moment g.D.Disk.left_since c.args.disk.now) c.read_meta.new.disk c.file_sizes.new.disk (c.file_sizes.ensures.crash told) each)
+    let twice = reads_on g.D.Disk (λ d t u i le left. g.met.D.Disk.earlier d t u i told le left) c.args.disk.now c.size.new.self c.read_meta.new.disk
+    (one_read g.D.Disk c.args.disk.now c.size.new.self (c.size.ensures.time told) (c.size.ensures.crash told))
+    (one_read g.D.Disk c.size.new.self c.read_meta.new.disk (c.read_meta.ensures.time told) (c.read_meta.ensures.crash told)) in
+    reads_on g.D.Disk (λ d t u i le left. g.met.D.Disk.earlier d t u i told le left) c.args.disk.now c.read_meta.new.disk c.file_sizes.new.disk twice (c.file_sizes.ensures.crash told)
 
 pub returns-clause-crash : goal.returns-clause-crash
 returns-clause-crash g c told =
-    goes_on g.D.Disk (λ d t u i le left. g.met.D.Disk.earlier d t u i told le left) c.args.disk.now c.read_meta.new.disk c.file_sizes.new.disk (LeftNow g.D.Disk.moment g.D.Disk.left_since c.args.disk.now)
-    (goes_on g.D.Disk (λ d t u i le left. g.met.D.Disk.earlier d t u i told le left) c.args.disk.now c.size.new.self c.read_meta.new.disk (LeftNow g.D.Disk.moment g.D.Disk.left_since c.args.disk.now)
-    (stays g.D.Disk c.args.disk.now c.size.new.self (LeftNow g.D.Disk.moment g.D.Disk.left_since c.args.disk.now) (c.size.ensures.time told) (c.size.ensures.crash told) (λ i left. left))
-    (λ each. stays g.D.Disk c.size.new.self c.read_meta.new.disk (LeftNow g.D.Disk.moment g.D.Disk.left_since c.args.disk.now) (c.read_meta.ensures.time told) (c.read_meta.ensures.crash told) each))
-    (λ each. reads_leave g.D.Disk (LeftNow g.D.Disk.moment g.D.Disk.left_since c.args.disk.now) c.read_meta.new.disk c.file_sizes.new.disk (c.file_sizes.ensures.crash told) each)
+    let twice = reads_on g.D.Disk (λ d t u i le left. g.met.D.Disk.earlier d t u i told le left) c.args.disk.now c.size.new.self c.read_meta.new.disk
+    (one_read g.D.Disk c.args.disk.now c.size.new.self (c.size.ensures.time told) (c.size.ensures.crash told))
+    (one_read g.D.Disk c.size.new.self c.read_meta.new.disk (c.read_meta.ensures.time told) (c.read_meta.ensures.crash told)) in
+    reads_on g.D.Disk (λ d t u i le left. g.met.D.Disk.earlier d t u i told le left) c.args.disk.now c.read_meta.new.disk c.file_sizes.new.disk twice (c.file_sizes.ensures.crash told)
 
 pub returns-in_err-size-clause-bad : goal.returns-in_err-size-clause-bad
 returns-in_err-size-clause-bad g c told =

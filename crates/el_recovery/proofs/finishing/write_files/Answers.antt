@@ -1,13 +1,7 @@
-use Rattle.std.proofs.Common.{◌≡◌, ◌≢◌, ◌⊎◌, inl, inr, ⊎_elim, ◌≤◌, ◌<◌, ◌+◌, ℕ, List, length, take, drop, refl, ap, sym, subst, ◌∙◌, arith}
-use Rattle.el_outside.specs.Disk.{Image, over}
-use Rattle.el_outside.specs.Moments.{LeftNow}
-use Rattle.el_outside.proofs.Moments.{weaker}
-use Rattle.el_redone.specs.Redone.{Write, overlaid, into}
-use Rattle.el_redone.specs.Steps.{EachNow, Leaves, WillBe}
-use Rattle.el_redone.proofs.Runs.{goes_on}
+use Rattle.std.proofs.Common.{◌≡◌, ◌≢◌, ◌⊎◌, inl, inr, ⊎_elim, ◌≤◌, ◌<◌, ◌+◌, ℕ, refl, ap, sym, subst, ◌∙◌, arith}
+use Rattle.el_outside.specs.Disk.{Image}
 use Rattle.el_pages.specs.Layouts.{redo_of}
-use Rattle.el_pages.specs.Records.{writes_of}
-use Rattle.el_recovery.proofs.Finishes.{record_left, record_meta, record_room, none_in_redo, all_written}
+use Rattle.el_recovery.proofs.Finishes.{record_left, room_there, record_written, body_run, meta_run, sync_run}
 use Rattle.el_recovery.proofs.finishing.write_files.Goals as goal
 
 pub write_body-requires : goal.write_body-requires
@@ -25,121 +19,71 @@ pub returns-in_err-write_body-clause-crash : goal.returns-in_err-write_body-clau
 returns-in_err-write_body-clause-crash g c told body stale ws files file rec each =
     let l = c.args.layout.now in
     let old = c.args.disk.now in
-    let m1 = c.write_body.new.disk in
+    let mid = c.write_body.new.disk in
+    let changes = rec.spelled.changes in
     let meta = rec.spelled.meta in
-    let ch = rec.spelled.changes in
-    let left = record_left l (g.D.Disk.seen old) c.args.len body stale ws rec in
-    let P : Image → Type 0 = WillBe l.first (redo_of l) files (writes_of l meta ch) file in
-    let first : EachNow g.D.Disk P old = subst (λ (w : List Write). EachNow g.D.Disk (WillBe l.first (redo_of l) files w file) old) rec.spelled.writes each in
-    let run1 : Leaves g.D.Disk P old m1 = c.write_body.ensures.crash told ch stale files meta file left first in
-    subst (λ (w : List Write). Leaves g.D.Disk (WillBe l.first (redo_of l) files w file) old m1) (sym rec.spelled.writes) run1
+    body_run g.D.Disk (λ d t u i le left. g.met.D.Disk.earlier d t u i told le left) l old c.args.len body stale ws rec files file mid (c.write_body.ensures.crash told changes stale files meta file) each
 
 pub returns-then-not-branch-clause-crash : goal.returns-then-not-branch-clause-crash
 returns-then-not-branch-clause-crash g c told body stale ws files file rec each =
     let l = c.args.layout.now in
     let old = c.args.disk.now in
-    let m1 = c.write_body.new.disk in
+    let mid = c.write_body.new.disk in
+    let changes = rec.spelled.changes in
     let meta = rec.spelled.meta in
-    let ch = rec.spelled.changes in
-    let left = record_left l (g.D.Disk.seen old) c.args.len body stale ws rec in
-    let P : Image → Type 0 = WillBe l.first (redo_of l) files (writes_of l meta ch) file in
-    let first : EachNow g.D.Disk P old = subst (λ (w : List Write). EachNow g.D.Disk (WillBe l.first (redo_of l) files w file) old) rec.spelled.writes each in
-    let run1 : Leaves g.D.Disk P old m1 = c.write_body.ensures.crash told ch stale files meta file left first in
-    subst (λ (w : List Write). Leaves g.D.Disk (WillBe l.first (redo_of l) files w file) old m1) (sym rec.spelled.writes) run1
+    body_run g.D.Disk (λ d t u i le left. g.met.D.Disk.earlier d t u i told le left) l old c.args.len body stale ws rec files file mid (c.write_body.ensures.crash told changes stale files meta file) each
 
 pub returns-in_err-write_meta-clause-crash : goal.returns-in_err-write_meta-clause-crash
 returns-in_err-write_meta-clause-crash g c told body stale ws files file rec each =
     let l = c.args.layout.now in
     let old = c.args.disk.now in
-    let m1 = c.write_body.new.disk in
+    let mid = c.write_body.new.disk in
+    let changes = rec.spelled.changes in
     let meta = rec.spelled.meta in
-    let ch = rec.spelled.changes in
-    let left = record_left l (g.D.Disk.seen old) c.args.len body stale ws rec in
-    let P : Image → Type 0 = WillBe l.first (redo_of l) files (writes_of l meta ch) file in
-    let first : EachNow g.D.Disk P old = subst (λ (w : List Write). EachNow g.D.Disk (WillBe l.first (redo_of l) files w file) old) rec.spelled.writes each in
-    let run1 : Leaves g.D.Disk P old m1 = c.write_body.ensures.crash told ch stale files meta file left first in
-    let after = (c.in_ok-write_body.ensures.written told ch stale left).1 in
-    let same_redo : g.D.Disk.seen m1 (redo_of l) ≡ g.D.Disk.seen old (redo_of l) =
-    after (redo_of l) ∙ ap (λ (w : List Write). overlaid w (g.D.Disk.seen old (redo_of l))) (none_in_redo l ch) in
-    let room : 9 + l.meta ≤ length (g.D.Disk.seen m1 (redo_of l)) = subst (λ (b : List ℕ). 9 + l.meta ≤ length b) (sym same_redo) (record_room l (g.D.Disk.seen old) c.args.len body stale ws rec) in
-    let is : take l.meta (drop 9 (g.D.Disk.seen m1 (redo_of l))) ≡ meta = ap (λ (b : List ℕ). take l.meta (drop 9 b)) same_redo ∙ record_meta l (g.D.Disk.seen old) c.args.len body stale ws rec in
-    let m2 = c.write_meta.new.disk in
-    let run2 : Leaves g.D.Disk P old m2 = goes_on g.D.Disk (λ d t u i le left. g.met.D.Disk.earlier d t u i told le left) old m1 m2 P run1 (λ now. c.write_meta.ensures.crash told meta ch files file is room now) in
-    subst (λ (w : List Write). Leaves g.D.Disk (WillBe l.first (redo_of l) files w file) old m2) (sym rec.spelled.writes) run2
+    let first = body_run g.D.Disk (λ d t u i le left. g.met.D.Disk.earlier d t u i told le left) l old c.args.len body stale ws rec files file mid (c.write_body.ensures.crash told changes stale files meta file) each in
+    let after = (c.in_ok-write_body.ensures.written told changes stale (record_left l (g.D.Disk.seen old) c.args.len body stale ws rec)).1 in
+    let second = meta_run g.D.Disk (λ d t u i le left. g.met.D.Disk.earlier d t u i told le left) l old c.args.len body stale ws rec files file mid first c.write_meta.new.disk after (c.write_meta.ensures.crash told meta changes files file) in
+    second
 
 pub returns-then-not-branch-2-clause-crash : goal.returns-then-not-branch-2-clause-crash
 returns-then-not-branch-2-clause-crash g c told body stale ws files file rec each =
     let l = c.args.layout.now in
     let old = c.args.disk.now in
-    let m1 = c.write_body.new.disk in
+    let mid = c.write_body.new.disk in
+    let changes = rec.spelled.changes in
     let meta = rec.spelled.meta in
-    let ch = rec.spelled.changes in
-    let left = record_left l (g.D.Disk.seen old) c.args.len body stale ws rec in
-    let P : Image → Type 0 = WillBe l.first (redo_of l) files (writes_of l meta ch) file in
-    let first : EachNow g.D.Disk P old = subst (λ (w : List Write). EachNow g.D.Disk (WillBe l.first (redo_of l) files w file) old) rec.spelled.writes each in
-    let run1 : Leaves g.D.Disk P old m1 = c.write_body.ensures.crash told ch stale files meta file left first in
-    let after = (c.in_ok-write_body.ensures.written told ch stale left).1 in
-    let same_redo : g.D.Disk.seen m1 (redo_of l) ≡ g.D.Disk.seen old (redo_of l) =
-    after (redo_of l) ∙ ap (λ (w : List Write). overlaid w (g.D.Disk.seen old (redo_of l))) (none_in_redo l ch) in
-    let room : 9 + l.meta ≤ length (g.D.Disk.seen m1 (redo_of l)) = subst (λ (b : List ℕ). 9 + l.meta ≤ length b) (sym same_redo) (record_room l (g.D.Disk.seen old) c.args.len body stale ws rec) in
-    let is : take l.meta (drop 9 (g.D.Disk.seen m1 (redo_of l))) ≡ meta = ap (λ (b : List ℕ). take l.meta (drop 9 b)) same_redo ∙ record_meta l (g.D.Disk.seen old) c.args.len body stale ws rec in
-    let m2 = c.write_meta.new.disk in
-    let run2 : Leaves g.D.Disk P old m2 = goes_on g.D.Disk (λ d t u i le left. g.met.D.Disk.earlier d t u i told le left) old m1 m2 P run1 (λ now. c.write_meta.ensures.crash told meta ch files file is room now) in
-    subst (λ (w : List Write). Leaves g.D.Disk (WillBe l.first (redo_of l) files w file) old m2) (sym rec.spelled.writes) run2
+    let first = body_run g.D.Disk (λ d t u i le left. g.met.D.Disk.earlier d t u i told le left) l old c.args.len body stale ws rec files file mid (c.write_body.ensures.crash told changes stale files meta file) each in
+    let after = (c.in_ok-write_body.ensures.written told changes stale (record_left l (g.D.Disk.seen old) c.args.len body stale ws rec)).1 in
+    let second = meta_run g.D.Disk (λ d t u i le left. g.met.D.Disk.earlier d t u i told le left) l old c.args.len body stale ws rec files file mid first c.write_meta.new.disk after (c.write_meta.ensures.crash told meta changes files file) in
+    second
 
 pub returns-in_err-sync_files-clause-crash : goal.returns-in_err-sync_files-clause-crash
 returns-in_err-sync_files-clause-crash g c told body stale ws files file rec each =
     let l = c.args.layout.now in
     let old = c.args.disk.now in
-    let m1 = c.write_body.new.disk in
+    let mid = c.write_body.new.disk in
+    let changes = rec.spelled.changes in
     let meta = rec.spelled.meta in
-    let ch = rec.spelled.changes in
-    let left = record_left l (g.D.Disk.seen old) c.args.len body stale ws rec in
-    let P : Image → Type 0 = WillBe l.first (redo_of l) files (writes_of l meta ch) file in
-    let first : EachNow g.D.Disk P old = subst (λ (w : List Write). EachNow g.D.Disk (WillBe l.first (redo_of l) files w file) old) rec.spelled.writes each in
-    let run1 : Leaves g.D.Disk P old m1 = c.write_body.ensures.crash told ch stale files meta file left first in
-    let after = (c.in_ok-write_body.ensures.written told ch stale left).1 in
-    let same_redo : g.D.Disk.seen m1 (redo_of l) ≡ g.D.Disk.seen old (redo_of l) =
-    after (redo_of l) ∙ ap (λ (w : List Write). overlaid w (g.D.Disk.seen old (redo_of l))) (none_in_redo l ch) in
-    let room : 9 + l.meta ≤ length (g.D.Disk.seen m1 (redo_of l)) = subst (λ (b : List ℕ). 9 + l.meta ≤ length b) (sym same_redo) (record_room l (g.D.Disk.seen old) c.args.len body stale ws rec) in
-    let is : take l.meta (drop 9 (g.D.Disk.seen m1 (redo_of l))) ≡ meta = ap (λ (b : List ℕ). take l.meta (drop 9 b)) same_redo ∙ record_meta l (g.D.Disk.seen old) c.args.len body stale ws rec in
-    let m2 = c.write_meta.new.disk in
-    let run2 : Leaves g.D.Disk P old m2 = goes_on g.D.Disk (λ d t u i le left. g.met.D.Disk.earlier d t u i told le left) old m1 m2 P run1 (λ now. c.write_meta.ensures.crash told meta ch files file is room now) in
-    let m3 = c.sync_files.new.disk in
-    let run3 : Leaves g.D.Disk P old m3 = goes_on g.D.Disk (λ d t u i le left. g.met.D.Disk.earlier d t u i told le left) old m2 m3 P run2 (λ now. weaker g.D.Disk.moment g.D.Disk.left_since m2 m3 (LeftNow g.D.Disk.moment g.D.Disk.left_since m2) P now (c.sync_files.ensures.crash told)) in
-    subst (λ (w : List Write). Leaves g.D.Disk (WillBe l.first (redo_of l) files w file) old m3) (sym rec.spelled.writes) run3
+    let first = body_run g.D.Disk (λ d t u i le left. g.met.D.Disk.earlier d t u i told le left) l old c.args.len body stale ws rec files file mid (c.write_body.ensures.crash told changes stale files meta file) each in
+    let after = (c.in_ok-write_body.ensures.written told changes stale (record_left l (g.D.Disk.seen old) c.args.len body stale ws rec)).1 in
+    let second = meta_run g.D.Disk (λ d t u i le left. g.met.D.Disk.earlier d t u i told le left) l old c.args.len body stale ws rec files file mid first c.write_meta.new.disk after (c.write_meta.ensures.crash told meta changes files file) in
+    sync_run g.D.Disk (λ d t u i le left. g.met.D.Disk.earlier d t u i told le left) l old c.args.len body stale ws rec files file c.write_meta.new.disk second c.sync_files.new.disk (c.sync_files.ensures.crash told)
 
 pub returns-clause-crash : goal.returns-clause-crash
 returns-clause-crash g c told body stale ws files file rec each =
     let l = c.args.layout.now in
     let old = c.args.disk.now in
-    let m1 = c.write_body.new.disk in
+    let mid = c.write_body.new.disk in
+    let changes = rec.spelled.changes in
     let meta = rec.spelled.meta in
-    let ch = rec.spelled.changes in
-    let left = record_left l (g.D.Disk.seen old) c.args.len body stale ws rec in
-    let P : Image → Type 0 = WillBe l.first (redo_of l) files (writes_of l meta ch) file in
-    let first : EachNow g.D.Disk P old = subst (λ (w : List Write). EachNow g.D.Disk (WillBe l.first (redo_of l) files w file) old) rec.spelled.writes each in
-    let run1 : Leaves g.D.Disk P old m1 = c.write_body.ensures.crash told ch stale files meta file left first in
-    let after = (c.in_ok-write_body.ensures.written told ch stale left).1 in
-    let same_redo : g.D.Disk.seen m1 (redo_of l) ≡ g.D.Disk.seen old (redo_of l) =
-    after (redo_of l) ∙ ap (λ (w : List Write). overlaid w (g.D.Disk.seen old (redo_of l))) (none_in_redo l ch) in
-    let room : 9 + l.meta ≤ length (g.D.Disk.seen m1 (redo_of l)) = subst (λ (b : List ℕ). 9 + l.meta ≤ length b) (sym same_redo) (record_room l (g.D.Disk.seen old) c.args.len body stale ws rec) in
-    let is : take l.meta (drop 9 (g.D.Disk.seen m1 (redo_of l))) ≡ meta = ap (λ (b : List ℕ). take l.meta (drop 9 b)) same_redo ∙ record_meta l (g.D.Disk.seen old) c.args.len body stale ws rec in
-    let m2 = c.write_meta.new.disk in
-    let run2 : Leaves g.D.Disk P old m2 = goes_on g.D.Disk (λ d t u i le left. g.met.D.Disk.earlier d t u i told le left) old m1 m2 P run1 (λ now. c.write_meta.ensures.crash told meta ch files file is room now) in
-    let m3 = c.sync_files.new.disk in
-    let run3 : Leaves g.D.Disk P old m3 = goes_on g.D.Disk (λ d t u i le left. g.met.D.Disk.earlier d t u i told le left) old m2 m3 P run2 (λ now. weaker g.D.Disk.moment g.D.Disk.left_since m2 m3 (LeftNow g.D.Disk.moment g.D.Disk.left_since m2) P now (c.sync_files.ensures.crash told)) in
-    subst (λ (w : List Write). Leaves g.D.Disk (WillBe l.first (redo_of l) files w file) old m3) (sym rec.spelled.writes) run3
+    let first = body_run g.D.Disk (λ d t u i le left. g.met.D.Disk.earlier d t u i told le left) l old c.args.len body stale ws rec files file mid (c.write_body.ensures.crash told changes stale files meta file) each in
+    let after = (c.in_ok-write_body.ensures.written told changes stale (record_left l (g.D.Disk.seen old) c.args.len body stale ws rec)).1 in
+    let second = meta_run g.D.Disk (λ d t u i le left. g.met.D.Disk.earlier d t u i told le left) l old c.args.len body stale ws rec files file mid first c.write_meta.new.disk after (c.write_meta.ensures.crash told meta changes files file) in
+    sync_run g.D.Disk (λ d t u i le left. g.met.D.Disk.earlier d t u i told le left) l old c.args.len body stale ws rec files file c.write_meta.new.disk second c.sync_files.new.disk (c.sync_files.ensures.crash told)
 
 pub returns-then-not-branch-clause-written : goal.returns-then-not-branch-clause-written
 returns-then-not-branch-clause-written g c told body stale ws rec =
-    let l = c.args.layout.now in
-    let old = c.args.disk.now in
-    let m1 = c.write_body.new.disk in
-    let meta = rec.spelled.meta in
-    let ch = rec.spelled.changes in
-    let left = record_left l (g.D.Disk.seen old) c.args.len body stale ws rec in
-    let is_true = (c.in_ok-write_body.ensures.written told ch stale left).0 in
+    let is_true = (c.in_ok-write_body.ensures.written told rec.spelled.changes stale (record_left c.args.layout.now (g.D.Disk.seen c.args.disk.now) c.args.len body stale ws rec)).0 in
     let is_false = c.if-not-branch.true in
     absurd (cc (is_true, is_false))
 
@@ -147,16 +91,8 @@ pub returns-then-not-branch-2-clause-written : goal.returns-then-not-branch-2-cl
 returns-then-not-branch-2-clause-written g c told body stale ws rec =
     let l = c.args.layout.now in
     let old = c.args.disk.now in
-    let m1 = c.write_body.new.disk in
-    let meta = rec.spelled.meta in
-    let ch = rec.spelled.changes in
-    let left = record_left l (g.D.Disk.seen old) c.args.len body stale ws rec in
-    let after = (c.in_ok-write_body.ensures.written told ch stale left).1 in
-    let same_redo : g.D.Disk.seen m1 (redo_of l) ≡ g.D.Disk.seen old (redo_of l) =
-    after (redo_of l) ∙ ap (λ (w : List Write). overlaid w (g.D.Disk.seen old (redo_of l))) (none_in_redo l ch) in
-    let room : 9 + l.meta ≤ length (g.D.Disk.seen m1 (redo_of l)) = subst (λ (b : List ℕ). 9 + l.meta ≤ length b) (sym same_redo) (record_room l (g.D.Disk.seen old) c.args.len body stale ws rec) in
-    let is : take l.meta (drop 9 (g.D.Disk.seen m1 (redo_of l))) ≡ meta = ap (λ (b : List ℕ). take l.meta (drop 9 b)) same_redo ∙ record_meta l (g.D.Disk.seen old) c.args.len body stale ws rec in
-    let is_true = (c.in_ok-write_meta.ensures.written told room).0 in
+    let after = (c.in_ok-write_body.ensures.written told rec.spelled.changes stale (record_left l (g.D.Disk.seen old) c.args.len body stale ws rec)).1 in
+    let is_true = (c.in_ok-write_meta.ensures.written told (room_there l (g.D.Disk.seen old) c.args.len body stale ws rec (g.D.Disk.seen c.write_body.new.disk) after)).0 in
     let is_false = c.if-not-branch-2.true in
     absurd (cc (is_true, is_false))
 
@@ -164,21 +100,13 @@ pub returns-clause-written : goal.returns-clause-written
 returns-clause-written g c told body stale ws rec =
     let l = c.args.layout.now in
     let old = c.args.disk.now in
-    let m1 = c.write_body.new.disk in
-    let meta = rec.spelled.meta in
-    let ch = rec.spelled.changes in
-    let left = record_left l (g.D.Disk.seen old) c.args.len body stale ws rec in
-    let after = (c.in_ok-write_body.ensures.written told ch stale left).1 in
-    let same_redo : g.D.Disk.seen m1 (redo_of l) ≡ g.D.Disk.seen old (redo_of l) =
-    after (redo_of l) ∙ ap (λ (w : List Write). overlaid w (g.D.Disk.seen old (redo_of l))) (none_in_redo l ch) in
-    let room : 9 + l.meta ≤ length (g.D.Disk.seen m1 (redo_of l)) = subst (λ (b : List ℕ). 9 + l.meta ≤ length b) (sym same_redo) (record_room l (g.D.Disk.seen old) c.args.len body stale ws rec) in
-    let is : take l.meta (drop 9 (g.D.Disk.seen m1 (redo_of l))) ≡ meta = ap (λ (b : List ℕ). take l.meta (drop 9 b)) same_redo ∙ record_meta l (g.D.Disk.seen old) c.args.len body stale ws rec in
-    let m2 = c.write_meta.new.disk in
-    let here = (c.in_ok-write_meta.ensures.written told room).1 ∙ ap (λ (b : List ℕ). over (g.D.Disk.seen m1 l.first) 0 b) is in (
+    let seen = g.D.Disk.seen old in
+    let mid = g.D.Disk.seen c.write_body.new.disk in
+    let after = (c.in_ok-write_body.ensures.written told rec.spelled.changes stale (record_left l (g.D.Disk.seen old) c.args.len body stale ws rec)).1 in
+    let here = (c.in_ok-write_meta.ensures.written told (room_there l seen c.args.len body stale ws rec mid after)).1 in (
       refl,
       λ f. ap (λ (s : Image). s f) (c.in_ok-sync_files.ensures.seen told)
-          ∙ all_written l meta ch (g.D.Disk.seen old) (g.D.Disk.seen m1) (g.D.Disk.seen m2) after here (c.write_meta.ensures.others told) f
-          ∙ ap (λ (w : List Write). overlaid (into f w) (g.D.Disk.seen old f)) (sym rec.spelled.writes),
+          ∙ record_written l seen c.args.len body stale ws rec mid after (g.D.Disk.seen c.write_meta.new.disk) here (c.write_meta.ensures.others told) f,
     )
 
 pub returns-clause-durable : goal.returns-clause-durable

@@ -1,10 +1,9 @@
-use Rattle.std.proofs.Common.{◌≡◌, ◌<◌, ◌≤◌, ◌+◌, ◌-◌, ℕ, List, Option, None, Some, IfSome, length, take, min, inl, inr, refl, ap, sym, subst, ◌∙◌, arith}
+use Rattle.std.proofs.Common.{◌≡◌, ◌<◌, ◌≤◌, ◌+◌, ℕ, Option, None, Some, IfSome, length, inl, inr, refl, ap, sym, ◌∙◌, arith}
 use Rattle.std.proofs.lemmas.Result.{err_from_is_err_and}
-use Rattle.el_outside.specs.Disk.{Image}
-use Rattle.el_outside.specs.Moments.{LeftNow}
 use Rattle.el_outside.specs.declared.archive.TheConstants.{SIZE_LIMIT}
-use Rattle.el_redone.proofs.Runs.{stays, goes_on}
 use Rattle.el_pages.specs.Layouts.{redo_of}
+use Rattle.el_recovery.proofs.Fronts.{front_there}
+use Rattle.el_recovery.proofs.Settles.{one_read, reads_on}
 use Rattle.el_recovery.proofs.waiting.waiting.Goals as goal
 
 -- what is weaker is said too
@@ -23,34 +22,25 @@ pub returns-then-size-lt2-clause-none : goal.returns-then-size-lt2-clause-none
 returns-then-size-lt2-clause-none g c told none =
     let l = c.args.layout.now in
     let seen = g.D.Disk.seen c.args.disk.now in
-    let file = seen (redo_of l) in
-    let long : length file ≡ c.in_ok-size.size = sym (c.in_ok-size.ensures.size told ∙ ap (λ f. length (seen f)) c.span-redo.ensures.redo) in
+    let long : length (seen (redo_of l)) ≡ c.in_ok-size.size = sym (c.in_ok-size.ensures.size told ∙ ap (λ f. length (seen f)) c.span-redo.ensures.redo) in
     inl (omega (arith, long, c.if-size-lt2.true))
 
 pub returns-clause-none : goal.returns-clause-none
 returns-clause-none g c told none =
     let l = c.args.layout.now in
     let seen = g.D.Disk.seen c.args.disk.now in
-    let file = seen (redo_of l) in
-    let long : length file ≡ c.in_ok-size.size = sym (c.in_ok-size.ensures.size told ∙ ap (λ f. length (seen f)) c.span-redo.ensures.redo) in
-    let there : g.D.Disk.seen c.size.new.self c.span-redo.result.redo ≡ file = ap (λ (s : Image). s c.span-redo.result.redo) (c.size.ensures.seen told) ∙ ap seen c.span-redo.ensures.redo in
-    let less : c.in_ok-size.size - 0 ≡ c.in_ok-size.size = omega arith in
-    let same : take (min 9 c.in_ok-size.size) c.in_ok-front.front ≡ take (min 9 c.in_ok-size.size) file =
-    subst (λ n. take (min 9 n) c.in_ok-front.front ≡ take (min 9 n) file) less
-    (c.in_ok-front.ensures.front told (omega (arith, long, ap (λ (b : List ℕ). length b) there)) ∙ ap (λ (b : List ℕ). take (min 9 (c.in_ok-size.size - 0)) b) there) in
+    let long : length (seen (redo_of l)) ≡ c.in_ok-size.size = sym (c.in_ok-size.ensures.size told ∙ ap (λ f. length (seen f)) c.span-redo.ensures.redo) in
+    let same = front_there l seen (g.D.Disk.seen c.size.new.self) c.span-redo.result.redo c.in_ok-size.size c.in_ok-front.front c.span-redo.ensures.redo (c.size.ensures.seen told) long
+    (c.in_ok-front.ensures.front told) in
     inr (c.in_ok-len.ensures.none seen long same none)
 
 pub returns-clause-some : goal.returns-clause-some
 returns-clause-some g c told =
     let l = c.args.layout.now in
     let seen = g.D.Disk.seen c.args.disk.now in
-    let file = seen (redo_of l) in
-    let long : length file ≡ c.in_ok-size.size = sym (c.in_ok-size.ensures.size told ∙ ap (λ f. length (seen f)) c.span-redo.ensures.redo) in
-    let there : g.D.Disk.seen c.size.new.self c.span-redo.result.redo ≡ file = ap (λ (s : Image). s c.span-redo.result.redo) (c.size.ensures.seen told) ∙ ap seen c.span-redo.ensures.redo in
-    let less : c.in_ok-size.size - 0 ≡ c.in_ok-size.size = omega arith in
-    let same : take (min 9 c.in_ok-size.size) c.in_ok-front.front ≡ take (min 9 c.in_ok-size.size) file =
-    subst (λ n. take (min 9 n) c.in_ok-front.front ≡ take (min 9 n) file) less
-    (c.in_ok-front.ensures.front told (omega (arith, long, ap (λ (b : List ℕ). length b) there)) ∙ ap (λ (b : List ℕ). take (min 9 (c.in_ok-size.size - 0)) b) there) in
+    let long : length (seen (redo_of l)) ≡ c.in_ok-size.size = sym (c.in_ok-size.ensures.size told ∙ ap (λ f. length (seen f)) c.span-redo.ensures.redo) in
+    let same = front_there l seen (g.D.Disk.seen c.size.new.self) c.span-redo.result.redo c.in_ok-size.size c.in_ok-front.front c.span-redo.ensures.redo (c.size.ensures.seen told) long
+    (c.in_ok-front.ensures.front told) in
     c.in_ok-len.ensures.some seen long same
 
 pub returns-in_err-len-clause-bad : goal.returns-in_err-len-clause-bad
@@ -59,39 +49,41 @@ returns-in_err-len-clause-bad g c told =
     rw (p.1, p.2) (
     let l = c.args.layout.now in
     let seen = g.D.Disk.seen c.args.disk.now in
-    let file = seen (redo_of l) in
-    let long : length file ≡ c.in_ok-size.size = sym (c.in_ok-size.ensures.size told ∙ ap (λ f. length (seen f)) c.span-redo.ensures.redo) in
-    let there : g.D.Disk.seen c.size.new.self c.span-redo.result.redo ≡ file = ap (λ (s : Image). s c.span-redo.result.redo) (c.size.ensures.seen told) ∙ ap seen c.span-redo.ensures.redo in
-    let less : c.in_ok-size.size - 0 ≡ c.in_ok-size.size = omega arith in
-    let same : take (min 9 c.in_ok-size.size) c.in_ok-front.front ≡ take (min 9 c.in_ok-size.size) file =
-    subst (λ n. take (min 9 n) c.in_ok-front.front ≡ take (min 9 n) file) less
-    (c.in_ok-front.ensures.front told (omega (arith, long, ap (λ (b : List ℕ). length b) there)) ∙ ap (λ (b : List ℕ). take (min 9 (c.in_ok-size.size - 0)) b) there) in
+    let long : length (seen (redo_of l)) ≡ c.in_ok-size.size = sym (c.in_ok-size.ensures.size told ∙ ap (λ f. length (seen f)) c.span-redo.ensures.redo) in
+    let same = front_there l seen (g.D.Disk.seen c.size.new.self) c.span-redo.result.redo c.in_ok-size.size c.in_ok-front.front c.span-redo.ensures.redo (c.size.ensures.seen told) long
+    (c.in_ok-front.ensures.front told) in
     inr (c.in_err-len.ensures.bad seen long same)
     )
 
 pub returns-in_err-size-clause-crash : goal.returns-in_err-size-clause-crash
-returns-in_err-size-clause-crash g c told = stays g.D.Disk c.args.disk.now c.size.new.self (LeftNow g.D.Disk.moment g.D.Disk.left_since c.args.disk.now) (c.size.ensures.time told) (c.size.ensures.crash told) (λ i left. left)
+returns-in_err-size-clause-crash g c told = one_read g.D.Disk c.args.disk.now c.size.new.self (c.size.ensures.time told) (c.size.ensures.crash told)
 
 pub returns-then-size-lt2-clause-crash : goal.returns-then-size-lt2-clause-crash
-returns-then-size-lt2-clause-crash g c told = stays g.D.Disk c.args.disk.now c.size.new.self (LeftNow g.D.Disk.moment g.D.Disk.left_since c.args.disk.now) (c.size.ensures.time told) (c.size.ensures.crash told) (λ i left. left)
+returns-then-size-lt2-clause-crash g c told = one_read g.D.Disk c.args.disk.now c.size.new.self (c.size.ensures.time told) (c.size.ensures.crash told)
 
 pub returns-in_err-front-clause-crash : goal.returns-in_err-front-clause-crash
 returns-in_err-front-clause-crash g c told =
-    goes_on g.D.Disk (λ d t u i le left. g.met.D.Disk.earlier d t u i told le left) c.args.disk.now c.size.new.self c.read_front.new.disk (LeftNow g.D.Disk.moment g.D.Disk.left_since c.args.disk.now)
-    (stays g.D.Disk c.args.disk.now c.size.new.self (LeftNow g.D.Disk.moment g.D.Disk.left_since c.args.disk.now) (c.size.ensures.time told) (c.size.ensures.crash told) (λ i left. left))
-    (λ each. stays g.D.Disk c.size.new.self c.read_front.new.disk (LeftNow g.D.Disk.moment g.D.Disk.left_since c.args.disk.now) (c.read_front.ensures.time told) (c.read_front.ensures.crash told) each)
+    let old = c.args.disk.now in
+    let mid = c.size.new.self in
+    reads_on g.D.Disk (λ d t u i le left. g.met.D.Disk.earlier d t u i told le left) old mid c.read_front.new.disk
+    (one_read g.D.Disk old mid (c.size.ensures.time told) (c.size.ensures.crash told))
+    (one_read g.D.Disk mid c.read_front.new.disk (c.read_front.ensures.time told) (c.read_front.ensures.crash told))
 
 pub returns-in_err-len-clause-crash : goal.returns-in_err-len-clause-crash
 returns-in_err-len-clause-crash g c told =
-    goes_on g.D.Disk (λ d t u i le left. g.met.D.Disk.earlier d t u i told le left) c.args.disk.now c.size.new.self c.read_front.new.disk (LeftNow g.D.Disk.moment g.D.Disk.left_since c.args.disk.now)
-    (stays g.D.Disk c.args.disk.now c.size.new.self (LeftNow g.D.Disk.moment g.D.Disk.left_since c.args.disk.now) (c.size.ensures.time told) (c.size.ensures.crash told) (λ i left. left))
-    (λ each. stays g.D.Disk c.size.new.self c.read_front.new.disk (LeftNow g.D.Disk.moment g.D.Disk.left_since c.args.disk.now) (c.read_front.ensures.time told) (c.read_front.ensures.crash told) each)
+    let old = c.args.disk.now in
+    let mid = c.size.new.self in
+    reads_on g.D.Disk (λ d t u i le left. g.met.D.Disk.earlier d t u i told le left) old mid c.read_front.new.disk
+    (one_read g.D.Disk old mid (c.size.ensures.time told) (c.size.ensures.crash told))
+    (one_read g.D.Disk mid c.read_front.new.disk (c.read_front.ensures.time told) (c.read_front.ensures.crash told))
 
 pub returns-clause-crash : goal.returns-clause-crash
 returns-clause-crash g c told =
-    goes_on g.D.Disk (λ d t u i le left. g.met.D.Disk.earlier d t u i told le left) c.args.disk.now c.size.new.self c.read_front.new.disk (LeftNow g.D.Disk.moment g.D.Disk.left_since c.args.disk.now)
-    (stays g.D.Disk c.args.disk.now c.size.new.self (LeftNow g.D.Disk.moment g.D.Disk.left_since c.args.disk.now) (c.size.ensures.time told) (c.size.ensures.crash told) (λ i left. left))
-    (λ each. stays g.D.Disk c.size.new.self c.read_front.new.disk (LeftNow g.D.Disk.moment g.D.Disk.left_since c.args.disk.now) (c.read_front.ensures.time told) (c.read_front.ensures.crash told) each)
+    let old = c.args.disk.now in
+    let mid = c.size.new.self in
+    reads_on g.D.Disk (λ d t u i le left. g.met.D.Disk.earlier d t u i told le left) old mid c.read_front.new.disk
+    (one_read g.D.Disk old mid (c.size.ensures.time told) (c.size.ensures.crash told))
+    (one_read g.D.Disk mid c.read_front.new.disk (c.read_front.ensures.time told) (c.read_front.ensures.crash told))
 
 pub returns-in_err-size-clause-bad : goal.returns-in_err-size-clause-bad
 returns-in_err-size-clause-bad g c told =

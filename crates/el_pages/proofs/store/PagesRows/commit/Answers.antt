@@ -1,12 +1,14 @@
 use Rattle.std.proofs.Common.{⊎_elim, inl, inr, ℕ, List, length, ap, sym, subst, ◌∙◌, arith}
 use Rattle.el_row_formats.specs.Tables.{Tables}
-use Rattle.el_rows.specs.Changes.{under}
+use Rattle.el_rows.specs.Changes.{under, count_at}
 use Rattle.el_rows.specs.Reads.{IsEither}
 use Rattle.el_redo.specs.RedoBody.{head_bytes}
 use Rattle.el_redone.specs.Steps.{Leaves}
 use Rattle.el_pages.specs.declared.layout.TheConstants.{FORMAT_1}
 use Rattle.el_pages.specs.Indexes.{HasCounts, Shows, tables_in}
+use Rattle.el_pages.specs.Stores.{lists_in}
 use Rattle.el_pages.proofs.Facts.{has_same}
+use Rattle.el_pages.proofs.PageChanges.{agrees_same}
 use Rattle.el_pages.proofs.StoreLemmas.{beside_same, lists_now, same_rows, same_counts, commit_leaves}
 use Rattle.el_pages.proofs.store.PagesRows.commit.Goals as goal
 
@@ -28,7 +30,7 @@ returns-in-Err-clause-crash g c told =
     let new = c.args.sealed.now.counts in
     let changes = c.args.sealed.now.changes in
     let before : Tables = tables_in FORMAT_1 (g.D.Disk.seen store.disk) store.counts in
-    let run = commit_leaves g.D.Disk g.N.NetworkMagic.magic store.told.value store.counts store.disk c.commit_on.new.disk new changes (c.requires.live told)
+    let run = commit_leaves g.D.Disk g.N.NetworkMagic.magic store.told.value store.counts store.cache store.disk c.commit_on.new.disk new changes (c.requires.live told)
     (subst (λ (m : List ℕ). Leaves g.D.Disk (IsEither (Shows FORMAT_1 (head_bytes m)) before (under before new changes)) store.disk c.commit_on.new.disk) c.magic.ensures (c.commit_on.ensures.crash told)) in
     record {
       later = run.later;
@@ -42,7 +44,7 @@ returns-clause-crash g c told =
     let new = c.args.sealed.now.counts in
     let changes = c.args.sealed.now.changes in
     let before : Tables = tables_in FORMAT_1 (g.D.Disk.seen store.disk) store.counts in
-    let run = commit_leaves g.D.Disk g.N.NetworkMagic.magic store.told.value store.counts store.disk c.commit_on.new.disk new changes (c.requires.live told)
+    let run = commit_leaves g.D.Disk g.N.NetworkMagic.magic store.told.value store.counts store.cache store.disk c.commit_on.new.disk new changes (c.requires.live told)
     (subst (λ (m : List ℕ). Leaves g.D.Disk (IsEither (Shows FORMAT_1 (head_bytes m)) before (under before new changes)) store.disk c.commit_on.new.disk) c.magic.ensures (c.commit_on.ensures.crash told)) in
     record {
       later = run.later;
@@ -58,7 +60,7 @@ returns-clause-lists g c told t =
     ap (λ d. tables_in FORMAT_1 (g.D.Disk.seen d) c.counts_of-self.result t) c.of.ensures
     ∙ same_rows (g.D.Disk.seen c.commit_on.new.disk) new c.counts_of-self.result c.counts_of-self.ensures t
     ∙ c.in-Ok.ensures.tables told t
-    ∙ ap (λ (tables : Tables). under tables new changes t) (lists_now g.D.Disk g.N.NetworkMagic.magic store.told.value store.counts store.disk (c.requires.live told))
+    ∙ ap (λ (tables : Tables). under tables new changes t) (lists_now g.D.Disk g.N.NetworkMagic.magic store.told.value store.counts store.cache store.disk (c.requires.live told))
 
 pub returns-clause-live : goal.returns-clause-live
 returns-clause-live g c told = record {
@@ -67,6 +69,13 @@ returns-clause-live g c told = record {
   has = subst (λ d. HasCounts FORMAT_1 (head_bytes g.N.NetworkMagic.magic) (g.D.Disk.seen d) c.counts_of-self.result) (sym c.of.ensures)
       (subst (λ (m : List ℕ). HasCounts FORMAT_1 (head_bytes m) (g.D.Disk.seen c.commit_on.new.disk) c.counts_of-self.result) c.magic.ensures
       (same_counts (head_bytes c.magic.result) (g.D.Disk.seen c.commit_on.new.disk) c.args.sealed.now.counts c.counts_of-self.result c.counts_of-self.ensures (c.in-Ok.ensures.has told)));
+  agrees =
+      let store = c.args.self.now in
+      let new = c.args.sealed.now.counts in
+      let before : Tables = lists_in g.D.Disk store.told.value store.counts in
+      agrees_same c.change_pages.new.cache (under before new c.args.sealed.now.changes) (lists_in g.D.Disk c.of.result.value c.counts_of-self.result) (count_at new) (count_at c.counts_of-self.result)
+      (returns-clause-lists g c told) c.counts_of-self.ensures
+      (c.change_pages.ensures.agrees before (count_at store.counts) c.requires.made (c.requires.live told).agrees);
 }
 
 pub returns-in-Err-clause-beside : goal.returns-in-Err-clause-beside
