@@ -30,7 +30,6 @@ CLAIM = [("lives", ("el_program", "live")), ("serve", ("el_program", "serve"))]
 NUMBERS = [
     ("docs/OPERATING.md", "`--pool-count`, from 1 to {},", "el_words", "MAX_POOL_COUNT"),
     ("docs/OPERATING.md", "`--pool-bytes`, from 1 to {},", "el_words", "MAX_POOL_BYTES"),
-    ("docs/OPERATING.md", "in the file `{0}.idx`", "el_journal", "JOURNAL"),
     ("docs/OPERATING.md", "with more than {} unsent bytes isn't read", "el_sockets", "STALLED_FROM"),
     ("docs/OPERATING.md", "a message would make them more than {} is gone", "el_sockets", "UNSENT_LIMIT"),
     ("docs/OPERATING.md", "At most {} clients are connected", "el_outside", "CLIENT_LIMIT"),
@@ -51,6 +50,8 @@ NUMBERS = [
     ("docs/OPERATING.md", "a table of the index beyond {} rows", "el_row_formats", "MAX_NUMBER"),
     ("docs/OPERATING.md", "or more than {} bytes would be unsent to it", "el_sockets", "UNSENT_LIMIT"),
     ("docs/OPERATING.md", "the block files in pieces of {} bytes", "el_files", "PIECE_SIZE"),
+    ("docs/OPERATING.md", "at most {} pages of", "el_page_cache", "MAX_PAGES"),
+    ("docs/OPERATING.md", "pages of {} bytes of them", "el_page_cache", "PAGE_BYTES"),
     ("docs/OPERATING.md", "There are {} buckets", "el_row_formats", "BUCKET_COUNT"),
     ("docs/OPERATING.md", "A reply lists at most {} entries", "el_methods", "ENTRY_LIMIT"),
     ("docs/OPERATING.md", "A table has at most {} rows", "el_row_formats", "MAX_NUMBER"),
@@ -60,8 +61,9 @@ NUMBERS = [
     ("README.md", "reorganisations of up to {} blocks", "el_chain", "MAX_BACK"),
     ("README.md", "{} connections, also silent ones", "el_outside", "CLIENT_LIMIT"),
 ]
-# Large numbers of docs/OPERATING.md that are no constant: ports, two heights, what the first move writes, and an example.
-OTHER_NUMBERS = {"65,535", "1,024", "91,722", "91,880", "1,703,936", "1,000,000"}
+# Large numbers of docs/OPERATING.md that are no constant: ports, two heights, the bytes of heads, what the first move
+# writes of them, and an example.
+OTHER_NUMBERS = {"65,535", "1,024", "91,722", "91,880", "524,288", "1,703,936", "1,000,000"}
 
 README_LINES = 150
 CRATE_README_LINES = 20

@@ -14,6 +14,7 @@ import hashlib
 import itertools
 import json
 import os
+import random
 import resource
 import shutil
 import signal
@@ -206,35 +207,36 @@ def tables_of(blocks):
     return tables
 
 
+def meta_row(tables, magic):
+    """The row of the meta file: letters, format, network, and how many rows each table has."""
+    return b"ELIX" + number(1) + magic + b"".join(number(len(tables[t]), 8) for t in range(1, 9))
+
+
 def commit(before, after, magic):
-    """A commit that makes tables of others: the counts of all rows, and the rows that changed or came."""
-    counts = b"".join(number(len(after[t]), 8) for t in range(1, 9))
+    """The body of the redo record that makes tables of others: the meta row, and the rows that changed or came."""
     changes = b"".join(
         number(t, 1) + number(place, 8) + row
         for t in range(1, 9) for place, row in enumerate(after[t])
         if place >= len(before[t]) or row != before[t][place])
-    return b"ELIX" + number(1) + magic + counts + changes
+    return meta_row(after, magic) + changes
 
 
-def journal(entries):
-    """The entries of a journal, each behind an open gate, and the closed gate at its end."""
-    return b"".join(b"\x01" + number(len(entry), 8) + entry for entry in entries) + b"\x00"
+def waiting(body):
+    """A redo file whose gate is open, with a record that waits to be made."""
+    return b"\x01" + number(len(body), 8) + body
 
 
-def index_of(blocks, magic=MAIN):
-    """The journal of an index, with one commit. It is made here by the form of the index's rows, and not by the
-    program."""
-    return journal([commit({t: [] for t in range(1, 9)}, tables_of(blocks), magic)])
+def put_index(blocks, magic=MAIN, redo=b"\x00"):
+    """The files of an index of blocks, and this redo file. They are made here by the form of the index's rows, and not by
+    the program."""
+    tables = tables_of(blocks)
+    files = [meta_row(tables, magic), *(b"".join(tables[t]) for t in range(1, 9)), redo]
+    for place, data in enumerate(files):
+        put(f"index/{place:02}.idx", data)
 
 
-def index_by_steps(blocks, magic=MAIN):
-    """The journal of an index, with a commit for each block."""
-    steps = [{t: [] for t in range(1, 9)}] + [tables_of(blocks[:count + 1]) for count in range(len(blocks))]
-    return journal([commit(before, after, magic) for before, after in zip(steps, steps[1:])])
-
-
-def commit_of_the_formats():
-    """The second block's commit, an entry of the journal, as docs/FORMATS.md has it in hex."""
+def record_of_the_formats():
+    """The redo file with the second block's commit, as docs/FORMATS.md has it in hex."""
     with open(os.path.join(TOP, "docs", "FORMATS.md"), encoding="utf-8") as it:
         example = it.read().split("```")[1]
     return b"".join(bytes.fromhex(line.strip().split("  ")[0]) for line in example.splitlines())
@@ -635,20 +637,36 @@ def serves_no_folder(program):
 
 
 def serves_again_over_its_index(program):
-    # the journal of an index without commits is one closed gate
+    # the index of no blocks is a closed gate alone
     put("a/blk00000.dat", GOOD)
     os.mkdir("index")
     for _ in range(3):
         did = ask_served(program, "a", ONE)
-        if did != as_wanted((NONE_FOUND, ENDED)) or held("index") != {"10.idx": b"\0", "lock": b""}:
+        if did != as_wanted((NONE_FOUND, ENDED)) or held("index") != {"09.idx": b"\0", "lock": b""}:
             return (did, held("index")), (NONE_FOUND, ENDED)
     return did, (NONE_FOUND, ENDED)
+
+
+def files_of_an_index(program):
+    # what the program writes is what the formats say of the chain, file by file; only the redo file keeps more
+    put("a/blk00000.dat", GOOD)
+    put_index([GENESIS, BLOCK1])
+    wanted = held("index")
+    shutil.rmtree("index")
+    os.mkdir("index")
+    it = Served(program)
+    node = it.node()
+    did = it.ends(node.asks(tip_line(BLOCK1)), node)
+    files = held("index")
+    gate = files.pop("09.idx")[:1]
+    same = {**files, "09.idx": gate} == {**{name: data for name, data in wanted.items() if data}, "lock": b""}
+    return (same, *did[1:]), (True, ENDED)
 
 
 def serves_from_an_index_made_elsewhere(program):
     # the block files are gone; balance and coins of the second block, history of the first
     os.mkdir("a")
-    put("index/10.idx", index_of([GENESIS, BLOCK1]))
+    put_index([GENESIS, BLOCK1])
     given = ONE + asks(BLOCK1_SCRIPT, 2, "get_balance") + asks(BLOCK1_SCRIPT, 3, "listunspent") + asks("00" * 32, 4)
     wrote = (
         b'{"id":2,"jsonrpc":"2.0","result":{"confirmed":5000000000,"unconfirmed":0}}\n'
@@ -658,53 +676,74 @@ def serves_from_an_index_made_elsewhere(program):
     return ask_served(program, "a", given), (FOUND + wrote + replies([], 4), ENDED)
 
 
-def serves_from_the_commit_of_the_formats(program):
-    # the first block's commit is made here, and the second's is the page's
+def serves_from_the_record_of_the_formats(program):
+    # the first block's files are made here, and the second's commit waits as the page has it; it is made, and waits no more
     os.mkdir("a")
-    put("index/10.idx", index_of([GENESIS])[:-1] + commit_of_the_formats())
+    put_index([GENESIS], redo=record_of_the_formats())
     given = ONE + asks(BLOCK1_SCRIPT, 2) + asks(BLOCK1_SCRIPT, 3, "get_balance")
     balance = b'{"id":3,"jsonrpc":"2.0","result":{"confirmed":5000000000,"unconfirmed":0}}\n'
-    return ask_served(program, "a", given), (FOUND + replies([(1, BLOCK1_TXID)], 2) + balance, ENDED)
+    did = ask_served(program, "a", given)
+    wanted = (FOUND + replies([(1, BLOCK1_TXID)], 2) + balance, ENDED)
+    if did != as_wanted(wanted):
+        return did, wanted
+    made = held("index")
+    put_index([GENESIS, BLOCK1], redo=b"\x00" + record_of_the_formats()[1:])
+    return (made == held("index"), *did[1:]), (True, ENDED)
 
 
 def index_of_another_network(program):
     put("a/blk00000.dat", record(GENESIS))
-    put("index/10.idx", index_of([GENESIS]))
+    put_index([GENESIS])
     return ask_served(program, "a", ONE, "testnet3"), (b"", BAD_INDEX)
 
 
 def index_of_another_chain(program):
     # another first block stands alone in the block files
     put("a/blk00000.dat", record(GENESIS[:79] + b"\x00" + GENESIS[80:]))
-    put("index/10.idx", index_of([GENESIS]))
+    put_index([GENESIS])
     return ask_served(program, "a", ONE), (b"", OTHER_CHAIN)
 
 
 def index_of_another_chain_in_a_later_file(program):
     put("a/blk00001.dat", record(GENESIS[:79] + b"\x00" + GENESIS[80:]))
-    put("index/10.idx", index_of([GENESIS]))
+    put_index([GENESIS])
     return ask_served(program, "a", ONE), (b"", OTHER_CHAIN)
 
 
-def index_of_two_commits(program):
+def index_of_a_commit_that_waits(program):
+    # the first commit of all, over files that are not there
     os.mkdir("a")
-    put("index/10.idx", index_by_steps([GENESIS, BLOCK1]))
+    body = commit({t: [] for t in range(1, 9)}, tables_of([GENESIS, BLOCK1]), MAIN)
+    put("index/09.idx", waiting(body) + b"what an earlier record left")
     given = ONE + asks(BLOCK1_SCRIPT, 2)
     return ask_served(program, "a", given), (FOUND + replies([(1, BLOCK1_TXID)], 2), ENDED)
 
 
+def index_in_a_journal(program):
+    # what earlier versions kept is left alone, and the index is built anew beside it
+    put("a/blk00000.dat", GOOD)
+    kept = waiting(commit({t: [] for t in range(1, 9)}, tables_of([GENESIS]), MAIN)) + b"\x00"
+    put("index/10.idx", kept)
+    it = Served(program)
+    node = it.node()
+    told = it.client().says_all(ONE) + node.asks(tip_line(BLOCK1))
+    did = it.ends(told, node)
+    stays = held("index")["10.idx"] == kept
+    return ((did[0], stays), *did[1:]), ((NONE_FOUND + at_line(BLOCK1, 1), True), ENDED)
+
+
 def index_that_is_a_device(program):
-    # it can't be cut
+    # it can't be synced
     put("a/blk00000.dat", GOOD)
     os.mkdir("index")
-    os.symlink("/dev/full", "index/10.idx")
+    os.symlink("/dev/full", "index/09.idx")
     why = "Invalid argument (os error 22)"
-    return ask_served(program, "a", ONE), (b"", because(DISK_FAILED, "index file index/10.idx", why))
+    return ask_served(program, "a", ONE), (b"", because(DISK_FAILED, "index file index/09.idx", why))
 
 
 def index_without_room(program):
-    # a file may have 65,536 bytes here, and the first move is larger: nothing is acknowledged, and what was written of it is
-    # no harm to a next start with room
+    # a file may have 65,536 bytes here, and the first move's record is larger: nothing is acknowledged, and what was written
+    # of it is no harm to a next start with room
     put("a/blk00000.dat", GOOD)
     os.mkdir("index")
     limit = (65_536, resource.RLIM_INFINITY)
@@ -714,7 +753,7 @@ def index_without_room(program):
     resource.setrlimit(resource.RLIMIT_FSIZE, before)
     node = it.node()
     did = it.ends(node.says_all(tip_line(BLOCK1)), node)
-    wanted = (b"", because(DISK_FAILED, "index file index/10.idx", "File too large (os error 27)"))
+    wanted = (b"", because(DISK_FAILED, "index file index/09.idx", "File too large (os error 27)"))
     if did != as_wanted(wanted):
         return did, wanted
     it = Served(program)
@@ -736,8 +775,8 @@ def index_that_is_no_folder(program):
 
 def index_that_cannot_be_written(program):
     put("a/blk00000.dat", GOOD)
-    os.makedirs("index/10.idx")
-    return ask_served(program, "a", ONE), (b"", because(DISK_FAILED, "index file index/10.idx", A_FOLDER))
+    os.makedirs("index/04.idx")
+    return ask_served(program, "a", ONE), (b"", because(DISK_FAILED, "index file index/04.idx", A_FOLDER))
 
 
 def runs_without_rights(program):
@@ -754,11 +793,12 @@ def runs_without_rights(program):
 
 def index_that_may_not_be_read(program):
     put("a/blk00000.dat", GOOD)
-    put("index/10.idx", index_of([GENESIS]))
+    put_index([GENESIS])
     put("index/lock", b"")
-    os.chmod("index/10.idx", 0)
-    os.chmod("index/lock", 0o666)
-    return runs_without_rights(program), (b"", because(DISK_FAILED, "index file index/10.idx", NO_RIGHTS))
+    for name in os.listdir("index"):
+        os.chmod(f"index/{name}", 0o666)
+    os.chmod("index/08.idx", 0)
+    return runs_without_rights(program), (b"", because(DISK_FAILED, "index file index/08.idx", NO_RIGHTS))
 
 
 def index_without_rights(program):
@@ -815,17 +855,16 @@ def folder_that_another_program_holds(program):
 
 
 def index_that_is_cut(program):
-    # an open gate, and two of the eight bytes of a length
+    # an open gate and two of the eight bytes of a length; a body of three bytes; a meta row, and a table, one byte short
     put("a/blk00000.dat", GOOD)
-    put("index/10.idx", b"\x01\x05\x00")
-    return ask_served(program, "a", ONE), (b"", BAD_INDEX)
-
-
-def index_that_is_none(program):
-    # a whole entry of three bytes, which spell no commit
-    put("a/blk00000.dat", GOOD)
-    put("index/10.idx", b"\x01\x03" + b"\x00" * 7 + b"abc\x00")
-    return ask_served(program, "a", ONE), (b"", BAD_INDEX)
+    for name, keeps in (("09.idx", b"\x01\x05\x00"), ("09.idx", waiting(b"abc")), ("00.idx", None), ("08.idx", None)):
+        put_index([GENESIS])
+        put(f"index/{name}", held("index")[name][:-1] if keeps is None else keeps)
+        before = held("index")
+        did = ask_served(program, "a", ONE)
+        if did != as_wanted((b"", BAD_INDEX)) or held("index") != {**before, "lock": b""}:
+            break
+    return did, (b"", BAD_INDEX)
 
 
 def words_that_are_no_text(program):
@@ -1613,28 +1652,41 @@ def killed_after_a_move(program):
     return second.ends((told, before, header, after), node), (wanted, ENDED)
 
 
-def killed_in_a_move(program):
-    # whatever moment it is stopped at, the chain is the one before the move or the one after it
+def killed_at_random_moments(program):
+    # whatever moment it is stopped at, the chain is the one that was told last or that of the move in flight, and each
+    # status is the one of a scan of that chain's blocks
     os.mkdir("index")
     put("a/blk00000.dat", b"".join(record(it, REGTEST) for it in (ZERO, A1, A2, B1, B2, B3)))
-    first = Served(program, network="regtest")
-    first.node().asks(tip_line(A2))
-    first.killed()
-    kept = held("index")
-    tips = {A2[:80].hex(): 2, B3[:80].hex(): 3}
-    for wait in range(12):
-        for name, data in kept.items():
-            put(f"index/{name}", data)
+    chains = [[ZERO, A1, A2], [ZERO, B1, B2, B3]]
+    scripts = [script(k) for k in (1, 100, 101)]
+    wanted = [[statuses(chain).get(it) for it in scripts] for chain in chains]
+    at_lines = [at_line(chain[-1], len(chain) - 1) for chain in chains]
+    asked = requests([("blockchain.headers.subscribe",)] + [
+        ("blockchain.scripthash.subscribe", shown(hashlib.sha256(it).digest())) for it in scripts])
+    moments, last, moves = random.Random(10), None, 12
+    for round_number in range(200):
         it = Served(program, network="regtest")
-        it.node().says(tip_line(B3))
-        time.sleep(wait / 4_000)
-        it.killed()
+        node = it.node()
+        order = [1, 0] * moves if last == 0 else [0, 1] * moves
+        node.says(b"".join(tip_line(chains[which][-1]) for which in order))
+        time.sleep(moments.random() * 0.05)
+        it.started.kill()
+        told = node.rest()
+        it.started.communicate()
+        done = told.count(b"\n")
+        if told[:told.rfind(b"\n") + 1] != b"".join(at_lines[which] for which in order[:done]):
+            return (round_number, told), (b"", ENDED)
+        may_be = ([order[done - 1]] if done else [] if last is None else [last]) + order[done:done + 1]
         it = Served(program, network="regtest")
-        tip, = answered(it.client().asks(request("blockchain.headers.subscribe")))
-        did = it.ends(tips.get(tip["hex"]) == tip["height"])
-        if did != as_wanted((True, ENDED)):
-            break
-    return did, (True, ENDED)
+        tip, *answers = answered(it.client().asks(asked))
+        did = it.ends(b"")
+        found = [which for which in may_be if tip == {"height": len(chains[which]) - 1, "hex": chains[which][-1][:80].hex()}]
+        if not found and done == 0 and last is None and tip == (1, "no blocks yet"):
+            continue
+        if did != as_wanted((b"", ENDED)) or not found or answers != wanted[found[0]]:
+            return (round_number, done, tip, answers, *did), (b"", ENDED)
+        last = found[0]
+    return did, (b"", ENDED)
 
 
 def stopped_by_a_signal(program):
@@ -1794,18 +1846,20 @@ CASES = [
     client_of_a_line_that_is_too_long,
     client_that_reads_slowly,
     killed_after_a_move,
-    killed_in_a_move,
+    killed_at_random_moments,
     stopped_by_a_signal,
     port_that_is_taken,
     ports_that_open_as_it_serves,
     serves_no_folder,
     serves_again_over_its_index,
     serves_from_an_index_made_elsewhere,
-    serves_from_the_commit_of_the_formats,
+    files_of_an_index,
+    serves_from_the_record_of_the_formats,
     index_of_another_network,
     index_of_another_chain,
     index_of_another_chain_in_a_later_file,
-    index_of_two_commits,
+    index_of_a_commit_that_waits,
+    index_in_a_journal,
     index_that_is_a_device,
     index_without_room,
     index_without_a_folder,
@@ -1817,7 +1871,6 @@ CASES = [
     lock_after_a_kill,
     folder_that_another_program_holds,
     index_that_is_cut,
-    index_that_is_none,
     words_that_are_no_text,
     folder_that_is_not_there,
     folder_that_is_a_file,

@@ -7,6 +7,7 @@ use el_trials::{
     life_on, named,
 };
 use std::alloc::Global;
+use std::process::Abort;
 use std::test::Fail;
 
 // A run: what comes, what is sent where no call fails, and how much of that before the first arrival, before
@@ -335,71 +336,163 @@ fn each_call_of_the_archive_with_a_set(rt: HostRuntime) -> Result<(), Fail> {
     Ok(())
 }
 
-// How many messages are sent before the first one that tells a chain, or before the second.
-fn before_chain(run: &Run, told: usize) -> usize {
-    let mut count = 0usize;
-    for line in run.sent {
-        if line.starts_with("0 at ") && chains_in(run, count) == told {
-            return count;
+// How many messages of a run were sent, where these are the first ones; nothing, if others were.
+fn count_sent(alloc: Global, run: &Run, text: &str) -> Result<Option<usize>, Fail> {
+    for count in 0..run.sent.len().saturating_add(1) {
+        if text == front(alloc, run, count)?.as_str() {
+            return Ok(Some(count));
         }
-        count = count.saturating_add(1);
-    }
-    count
-}
-
-// How many chains were told where that call of the disk fails, and the chain that is left; nothing, if the
-// run doesn't end as one whose tip line fails before its answer is sent.
-fn left_by(alloc: Global, run: &Run, disk: u64) -> Result<Option<(usize, usize)>, Fail> {
-    let found = played(alloc, run, Failing { disk, ..NONE_FAILS })?;
-    let has_failed = faults_of(&found) == (0, 0, 1) && found.status == Status::DiskFailed;
-    let told = if found.text.as_str() == "" { 0 } else { 1 };
-    let text = front(alloc, run, before_chain(run, told))?;
-    let is_sent = found.text.as_str() == text.as_str();
-    let chain = chain_on(alloc, found.disk)?;
-    if has_failed && is_sent {
-        return Ok(Some((told, chain)));
     }
     Ok(None)
 }
 
-// How many calls of the disk leave each chain, where one chain was told less and where it was told.
-type Counts = [[u64; 3]; 2];
+// How many chains were told before the failure that ended the run, and the chain that is left; nothing, if
+// other messages were sent than the first ones, or the one that is missing next isn't the node's.
+fn left_by(alloc: Global, run: &Run, found: Counted) -> Result<Option<(usize, usize)>, Fail> {
+    let Some(count) = count_sent(alloc, run, found.text.as_str())? else {
+        return Ok(None);
+    };
+    let next = run.sent.get(count).copied().unwrap_or("");
+    if peer_of(next) != "0" {
+        return Ok(None);
+    }
+    Ok(Some((chains_in(run, count), chain_on(alloc, found.disk)?)))
+}
+
+// The lines of a text but those that are that client's, or tell that it is closed.
+fn of_others(alloc: Global, text: &str, peer: &str) -> Result<String, Fail> {
+    let closed = format!(in alloc; "closed {peer} ")?;
+    let mut all = String::new(alloc);
+    for line in text.lines() {
+        if peer_of(line) != peer && !line.starts_with(closed.as_str()) {
+            all.push_str(line)?;
+            all.push_str("\n")?;
+        }
+    }
+    Ok(all)
+}
+
+// Whether a query of that client failed: it is told so, or is closed for it, and all others are sent what
+// they are sent where no call fails.
+fn has_failed_for(alloc: Global, run: &Run, text: &str, peer: &str) -> Result<bool, Fail> {
+    let told = format!(in alloc; "{peer} {{index-failed}}\n")?;
+    let told = named(alloc, told.as_str())?;
+    let closed = format!(in alloc; "closed {peer} Disk\n")?;
+    if text.contains(told.as_str()) == text.contains(closed.as_str()) {
+        return Ok(false);
+    }
+    let whole = front(alloc, run, run.sent.len())?;
+    let others = of_others(alloc, text, peer)?;
+    Ok(others.as_str() == of_others(alloc, whole.as_str(), peer)?.as_str())
+}
+
+// Whether the run went on to its end, and a query of one client failed.
+fn goes_on(alloc: Global, run: &Run, found: Counted) -> Result<bool, Fail> {
+    let mut clients = 0usize;
+    for peer in ["1", "2", "3"] {
+        if has_failed_for(alloc, run, found.text.as_str(), peer)? {
+            clients = clients.saturating_add(1);
+        }
+    }
+    Ok(clients == 1 && chain_on(alloc, found.disk)? == 2)
+}
+
+// How many calls of the disk leave each chain, by how many chains were told.
+#[derive(Clone, Copy)]
+struct Counts {
+    left: [[u64; 3]; 3],
+}
 
 // One more call of those that leave that chain.
 fn add_one(counts: &mut Counts, told: usize, chain: usize) {
-    if let Some(row) = counts.get_mut(told) {
+    if let Some(row) = counts.left.get_mut(told) {
         if let Some(count) = row.get_mut(chain) {
             *count = count.saturating_add(1);
         }
     }
 }
 
-// Whether each chain is left by some call, also the one that was in flight, and no other.
-fn are_all_left(counts: Counts) -> bool {
-    let [[none, first_flew, late], [early, first, second_flew]] = counts;
-    let is_some_left = 0 < none && 0 < first_flew && 0 < first && 0 < second_flew;
-    is_some_left && early == 0 && late == 0
+// Counts what that call of the disk leaves, and says whether the run ended as it must: where a node's line or
+// the opening failed, it ended, and where a client's query did, it went on.
+fn count_call(alloc: Global, run: &Run, disk: u64, counts: &mut Counts) -> Result<bool, Fail> {
+    let found = played(alloc, run, Failing { disk, ..NONE_FAILS })?;
+    if faults_of(&found) != (0, 0, 1) {
+        return Ok(false);
+    }
+    if found.status == Status::Ended {
+        return goes_on(alloc, run, found);
+    }
+    if found.status != Status::DiskFailed {
+        return Ok(false);
+    }
+    match left_by(alloc, run, found)? {
+        Some((told, chain)) => {
+            add_one(counts, told, chain);
+            Ok(true)
+        }
+        None => Ok(false),
+    }
 }
 
-// What each call of the disk leaves, up to the first at which the run doesn't end as it must.
-fn count_all(alloc: Global, run: &Run) -> Result<(Counts, Option<u64>), Fail> {
+// Whether each chain is left by some call, also the one that was in flight, and no other.
+fn are_all_left(counts: Counts) -> bool {
+    let [
+        [none, first_flew, late],
+        [early, first, second_flew],
+        [earlier, early_too, _],
+    ] = counts.left;
+    let is_some_left = 0 < none && 0 < first_flew && 0 < first && 0 < second_flew;
+    let is_other_left = 0 < late || 0 < early || 0 < earlier || 0 < early_too;
+    is_some_left && !is_other_left
+}
+
+// What each third call of the disk leaves, up to the first at which the run doesn't end as it must: those
+// whose number leaves that remainder.
+fn count_all(alloc: Global, run: &Run, remainder: u64) -> Result<(Counts, Option<u64>), Fail> {
     let all = played(alloc, run, NONE_FAILS)?.disk.calls().min(1_000);
-    let mut counts = [[0u64; 3]; 2];
+    let mut counts = Counts { left: [[0; 3]; 3] };
     for disk in 1..=all {
-        match left_by(alloc, run, disk)? {
-            Some((told, chain)) => add_one(&mut counts, told, chain),
-            None => return Ok((counts, Some(disk))),
+        if disk % 3 == remainder && !count_call(alloc, run, disk, &mut counts)? {
+            return Ok((counts, Some(disk)));
         }
     }
     Ok((counts, None))
 }
 
-#[test]
-fn each_call_of_the_disk_with_a_set(rt: HostRuntime) -> Result<(), Fail> {
-    for tried in RUNS {
-        let (counts, wrong) = count_all(rt.alloc(), tried)?;
-        assert_eq!(rt; wrong, None);
-        assert!(rt; are_all_left(counts));
-    }
+// Asserts that the run ends as it must at each of these calls, and that they leave each chain.
+fn assert_left<A: Abort>(rt: &A, alloc: Global, run: &Run, remainder: u64) -> Result<(), Fail> {
+    let (counts, wrong) = count_all(alloc, run, remainder)?;
+    assert_eq!(rt; wrong, None);
+    assert!(rt; are_all_left(counts));
     Ok(())
+}
+
+#[test]
+fn each_third_call_of_the_disk_with_a_set(rt: HostRuntime) -> Result<(), Fail> {
+    assert_left(&rt, rt.alloc(), &ASKING, 0)
+}
+
+#[test]
+fn each_call_after_a_third_with_a_set(rt: HostRuntime) -> Result<(), Fail> {
+    assert_left(&rt, rt.alloc(), &ASKING, 1)
+}
+
+#[test]
+fn each_call_before_a_third_with_a_set(rt: HostRuntime) -> Result<(), Fail> {
+    assert_left(&rt, rt.alloc(), &ASKING, 2)
+}
+
+#[test]
+fn each_third_call_of_the_disk_with_three_clients(rt: HostRuntime) -> Result<(), Fail> {
+    assert_left(&rt, rt.alloc(), &TOLD, 0)
+}
+
+#[test]
+fn each_call_after_a_third_with_three_clients(rt: HostRuntime) -> Result<(), Fail> {
+    assert_left(&rt, rt.alloc(), &TOLD, 1)
+}
+
+#[test]
+fn each_call_before_a_third_with_three_clients(rt: HostRuntime) -> Result<(), Fail> {
+    assert_left(&rt, rt.alloc(), &TOLD, 2)
 }

@@ -10,6 +10,8 @@ mod failing_calls;
 #[cfg(test)]
 mod failing_disk;
 #[cfg(test)]
+mod failing_reads;
+#[cfg(test)]
 mod failing_set;
 #[cfg(test)]
 mod refused_blocks;

@@ -1,23 +1,25 @@
 // Moves of a second life that a crash stops at each call of the disk.
 use el_mem_disk::MemDisk;
+use el_outside::Disk;
 use el_program::Status;
 use el_trials::Step::Says;
 use el_trials::{
-    Files, IMAGE_COUNT, Life, NO_FILES, SERVE, after_crash, failing_from, fresh_disk, life_on,
-    named,
+    Files, IMAGE_COUNT, Life, NO_FILES, SERVE, after_crash, failing_from, fresh_disk, is_settled,
+    life_on, named,
 };
 use std::alloc::Global;
+use std::process::Abort;
 use std::test::Fail;
 
 // One move in the second of two lives: the files, what the node says in both, and what it is answered in the
-// second, before the move and in all; what it asks of the index alone, and what it is answered before the
-// move and after it.
+// second, line by line, and how many of these lines come before the move's; what it asks of the index alone,
+// and what it is answered before the move and after it.
 struct Moving {
     files: Files,
     first: &'static str,
     second: &'static str,
-    front: &'static str,
-    told: &'static str,
+    told: &'static [&'static str],
+    before: usize,
     asks: &'static str,
     old: &'static str,
     new: &'static str,
@@ -28,8 +30,8 @@ const EXTENDED: Moving = Moving {
     files: Files::Branch(4),
     first: "tip {a0}\n",
     second: "tip {a3}\n",
-    front: "",
-    told: "0 at {a3} 3\n",
+    told: &["0 at {a3} 3\n"],
+    before: 0,
     asks: "tip {a3}\ntip {a0}\n",
     old: "0 refused unknown {a3}\n0 at {a0} 0\n",
     new: "0 at {a3} 3\n0 at {a0} 0\n",
@@ -40,8 +42,8 @@ const TURNED: Moving = Moving {
     files: Files::Forks,
     first: "tip {z-a2}\n",
     second: "tip {z-b3}\n",
-    front: "",
-    told: "0 at {z-b3} 3\n",
+    told: &["0 at {z-b3} 3\n"],
+    before: 0,
     asks: "tip {z-a2}\ntip {z-b3}\n",
     old: "0 at {z-a2} 2\n0 refused unknown {z-b3}\n",
     new: "0 refused unknown {z-a2}\n0 at {z-b3} 3\n",
@@ -52,13 +54,32 @@ const SIFTED: Moving = Moving {
     files: Files::Forks,
     first: "tip {z-0}\n",
     second: "tx {halves}\ntx {child}\ntip {z-a2}\ndrop {halves-txid}\ndrop {child-txid}\n",
-    front: "0 tx {halves-txid}\n0 tx {child-txid}\n",
-    told: "0 tx {halves-txid}\n0 tx {child-txid}\n0 at {z-a2} 2\n0 refused absent {halves-txid}\n\
-           0 gone {child-txid}\n",
+    told: &[
+        "0 tx {halves-txid}\n",
+        "0 tx {child-txid}\n",
+        "0 at {z-a2} 2\n",
+        "0 refused absent {halves-txid}\n",
+        "0 gone {child-txid}\n",
+    ],
+    before: 2,
     asks: "tip {z-a2}\ntip {z-0}\n",
     old: "0 refused unknown {z-a2}\n0 at {z-0} 0\n",
     new: "0 at {z-a2} 2\n0 at {z-0} 0\n",
 };
+
+// The number of the redo file.
+const REDO: u32 = 9;
+
+// The disk without what stands behind the closed gate of the redo file, which says nothing. Each commit of an
+// index's first block leaves much there.
+fn shortened(disk: MemDisk) -> Result<MemDisk, Fail> {
+    let mut disk = disk;
+    if 2 < disk.bytes(REDO).len() {
+        disk.cut(REDO, 2)?;
+        disk.sync(REDO)?;
+    }
+    Ok(disk)
+}
 
 // The disk after the first life, with all that was written synced.
 fn first_life(alloc: Global, moving: &Moving) -> Result<MemDisk, Fail> {
@@ -70,7 +91,7 @@ fn first_life(alloc: Global, moving: &Moving) -> Result<MemDisk, Fail> {
         moving.files,
         steps.as_slice(),
     )?;
-    Ok(life.disk)
+    shortened(life.disk)
 }
 
 // The second life, in which each call of the disk fails from this one on.
@@ -100,117 +121,185 @@ fn calls_of(alloc: Global, moving: &Moving, disk: &MemDisk) -> Result<u64, Fail>
     )
 }
 
-// Whether the second life ended as it must where a call of its opening failed, one after it, or none.
-fn is_ended(
-    alloc: Global,
-    moving: &Moving,
-    life: &Life,
-    failed: bool,
-    opened: bool,
-) -> Result<bool, Fail> {
-    let (status, told) = if failed {
-        let front = if opened { moving.front } else { "" };
-        (Status::DiskFailed, front)
-    } else {
-        (Status::Ended, moving.told)
+// How many lines of the answers were sent, where these are the first ones; nothing, if others were.
+fn lines_in(alloc: Global, moving: &Moving, text: &str) -> Result<Option<usize>, Fail> {
+    let mut front = String::new(alloc);
+    for (count, line) in moving.told.iter().enumerate() {
+        if text == front.as_str() {
+            return Ok(Some(count));
+        }
+        front.push_str(named(alloc, *line)?.as_str())?;
+    }
+    if text == front.as_str() {
+        return Ok(Some(moving.told.len()));
+    }
+    Ok(None)
+}
+
+// Whether the move was told in a second life that ended as it must: with all answers, or at a failure of the
+// disk with the first ones. Nothing, if it ended otherwise.
+fn told_in(alloc: Global, moving: &Moving, life: &Life) -> Result<Option<bool>, Fail> {
+    let Some(count) = lines_in(alloc, moving, life.text.as_str())? else {
+        return Ok(None);
     };
-    Ok(life.status == status && life.text.as_str() == named(alloc, told)?.as_str())
+    let has_failed = 0 < life.disk.faults();
+    let is_ended = life.status == Status::Ended && !has_failed && count == moving.told.len();
+    let is_stopped = life.status == Status::DiskFailed && has_failed;
+    if is_ended || is_stopped {
+        return Ok(Some(moving.before < count));
+    }
+    Ok(None)
 }
 
-// Whether that life tells the new chain, or the old one where the new one was not told.
-fn tells_either(alloc: Global, moving: &Moving, life: &Life, told: bool) -> Result<bool, Fail> {
-    let is_new = life.text.as_str() == named(alloc, moving.new)?.as_str();
-    let is_old = life.text.as_str() == named(alloc, moving.old)?.as_str();
-    Ok(life.status == Status::Ended && (is_new || is_old && !told))
-}
-
-// Whether the disk has the new chain, or the old one where the new one was not told.
-fn has_either(alloc: Global, moving: &Moving, disk: MemDisk, told: bool) -> Result<bool, Fail> {
+// Whether the disk has the new chain and not the old one; nothing, if it has neither.
+fn has_new(alloc: Global, moving: &Moving, disk: MemDisk) -> Result<Option<bool>, Fail> {
     let steps = [Says(0, moving.asks)];
     let life = life_on(alloc, SERVE, disk, NO_FILES, steps.as_slice())?;
-    tells_either(alloc, moving, &life, told)
+    if life.status != Status::Ended {
+        return Ok(None);
+    }
+    if life.text.as_str() == named(alloc, moving.new)?.as_str() {
+        return Ok(Some(true));
+    }
+    if life.text.as_str() == named(alloc, moving.old)?.as_str() {
+        return Ok(Some(false));
+    }
+    Ok(None)
 }
 
-// Whether a crash leaves one of the two chains, in so many images.
-fn leaves_either(
+// Whether it has the one or the other, and the new one where that was told.
+fn has_either(alloc: Global, moving: &Moving, disk: MemDisk, told: bool) -> Result<bool, Fail> {
+    Ok(match has_new(alloc, moving, disk)? {
+        Some(is_new) => is_new || !told,
+        None => false,
+    })
+}
+
+// In how many of so many images a crash leaves the new chain; nothing, if it leaves neither in one.
+fn count_new(
+    alloc: Global,
+    moving: &Moving,
+    disk: &MemDisk,
+    images: u64,
+) -> Result<Option<u64>, Fail> {
+    let mut count = 0u64;
+    for image in 0..images {
+        let left = after_crash(alloc, disk, image, None)?;
+        match has_new(alloc, moving, left)? {
+            Some(true) => count = count.saturating_add(1),
+            Some(false) => {}
+            None => return Ok(None),
+        }
+    }
+    Ok(Some(count))
+}
+
+// What a stop leaves: the old chain, the new one, or the one in some images and the other in others.
+#[derive(Clone, Copy, PartialEq, Eq)]
+enum Left {
+    Old,
+    New,
+    Both,
+}
+
+// What a crash leaves of the disk; nothing, if it is wrong. All images are one where nothing is unsynced.
+fn left_on(
     alloc: Global,
     moving: &Moving,
     disk: &MemDisk,
     told: bool,
-    images: u64,
-) -> Result<bool, Fail> {
-    for image in 0..images {
-        let left = after_crash(alloc, disk, image, None)?;
-        if !has_either(alloc, moving, left, told)? {
-            return Ok(false);
-        }
+) -> Result<Option<Left>, Fail> {
+    let images = if is_settled(alloc, disk)? {
+        1
+    } else {
+        IMAGE_COUNT
+    };
+    let left = match count_new(alloc, moving, disk, images)? {
+        None => return Ok(None),
+        Some(0) => Left::Old,
+        Some(count) if count == images => Left::New,
+        Some(_) => Left::Both,
+    };
+    if told && left != Left::New {
+        return Ok(None);
     }
-    Ok(true)
+    Ok(Some(left))
 }
 
-// Whether a crash leaves the new chain in that image.
-fn leaves_new(alloc: Global, moving: &Moving, disk: &MemDisk, image: u64) -> Result<bool, Fail> {
-    let left = after_crash(alloc, disk, image, None)?;
-    has_either(alloc, moving, left, true)
-}
-
-// Whether a crash leaves the old chain in one image and the new one in another, where this call of the second
-// life's disk and all after it fail.
-fn leaves_both(alloc: Global, moving: &Moving, disk: &MemDisk, call: u64) -> Result<bool, Fail> {
-    let life = second_life(alloc, moving, disk, Some(call))?;
-    let is_closed = !leaves_new(alloc, moving, &life.disk, 0)?;
-    Ok(is_closed && leaves_new(alloc, moving, &life.disk, 1)?)
-}
-
-// Whether the second life ends as it must where its disk fails at this call of so many, the last of which
-// tells the move, and a crash then leaves one of the two chains. The opening has so many calls, and writes
-// nothing, so that all images are one.
-fn is_stopped(
+// What is left where the second life's disk fails at this call; nothing, if that is wrong.
+fn left_at(
     alloc: Global,
     moving: &Moving,
     disk: &MemDisk,
     call: u64,
-    counts: (u64, u64),
-) -> Result<bool, Fail> {
-    let (opening, calls) = counts;
+) -> Result<Option<Left>, Fail> {
     let life = second_life(alloc, moving, disk, Some(call))?;
-    let told = calls < call;
-    let images = if call <= opening { 1 } else { IMAGE_COUNT };
-    let is_ended = is_ended(alloc, moving, &life, !told, opening < call)?;
-    Ok(is_ended && leaves_either(alloc, moving, &life.disk, told, images)?)
+    match told_in(alloc, moving, &life)? {
+        Some(told) => left_on(alloc, moving, &life.disk, told),
+        None => Ok(None),
+    }
 }
+
+// Asserts that the stops at each call of the second life leave the old chain, then either, then the new one,
+// and says at how many they leave either.
+fn count_both<A: Abort>(rt: &A, alloc: Global, moving: &Moving) -> Result<u64, Fail> {
+    let disk = first_life(alloc, moving)?;
+    let calls = calls_of(alloc, moving, &disk)?;
+    let mut before = Left::Old;
+    let mut both = 0u64;
+    for call in 1..=calls.saturating_add(1) {
+        let left = left_at(alloc, moving, &disk, call)?;
+        let goes_on = match left {
+            Some(Left::Old) => before == Left::Old,
+            Some(Left::Both) => before != Left::New,
+            Some(Left::New) => before != Left::Old,
+            None => false,
+        };
+        assert!(rt; goes_on, "{call}");
+        before = left.unwrap_or(before);
+        if left == Some(Left::Both) {
+            both = both.saturating_add(1);
+        }
+    }
+    assert!(rt; before == Left::New);
+    Ok(both)
+}
+
+// Either is left where the gate is opened, and where that is brought to the disk.
+const OPENS_GATE: u64 = 2;
 
 #[test]
 fn an_extension_stopped_at_each_call(rt: HostRuntime) -> Result<(), Fail> {
-    let alloc = rt.alloc();
-    let disk = first_life(alloc, &EXTENDED)?;
-    let calls = calls_of(alloc, &EXTENDED, &disk)?;
-    // the last call brings the gate of the move's commit to the disk
-    assert!(rt; leaves_both(alloc, &EXTENDED, &disk, calls)?);
-    for call in 1..=calls.saturating_add(1) {
-        let is_stopped = is_stopped(alloc, &EXTENDED, &disk, call, (calls / 2, calls))?;
-        assert!(rt; is_stopped, "{call}");
-    }
+    let both = count_both(&rt, rt.alloc(), &EXTENDED)?;
+    assert!(rt; both == OPENS_GATE, "{both}");
     Ok(())
 }
 
-// How many calls an opening of two entries makes.
-const OPENING: u64 = 9;
+#[test]
+fn a_move_with_a_set_stopped_at_each_call(rt: HostRuntime) -> Result<(), Fail> {
+    let both = count_both(&rt, rt.alloc(), &SIFTED)?;
+    assert!(rt; both == OPENS_GATE, "{both}");
+    Ok(())
+}
 
-// Whether an opening of the disk that is stopped, if it is, and a crash leave one of the two chains.
+// More calls than an opening makes here.
+const OPENING: u64 = 200;
+
+// Whether an opening of the disk is stopped; and whether a crash then leaves one of the two chains.
 fn opens_to_one(
     alloc: Global,
     moving: &Moving,
     disk: MemDisk,
     told: bool,
     image: u64,
-) -> Result<bool, Fail> {
-    let stopped = life_on(alloc, SERVE, disk, NO_FILES, &[])?;
-    if stopped.status == Status::Ended {
-        return Ok(true);
+) -> Result<(bool, bool), Fail> {
+    let opened = life_on(alloc, SERVE, disk, NO_FILES, &[])?;
+    if opened.status == Status::Ended {
+        return Ok((false, true));
     }
-    let left = after_crash(alloc, &stopped.disk, image, None)?;
-    has_either(alloc, moving, left, told)
+    let left = after_crash(alloc, &opened.disk, image, None)?;
+    let is_kept = opened.status == Status::DiskFailed && has_either(alloc, moving, left, told)?;
+    Ok((true, is_kept))
 }
 
 // Whether a crash, in an image that is another one for each call, and then an opening that is stopped at each
@@ -222,48 +311,67 @@ fn opens_to_either(
     told: bool,
     image: u64,
 ) -> Result<bool, Fail> {
-    for stop in 1..=OPENING {
+    for stop in 1..OPENING {
         let image = image.saturating_add(stop);
         let left = after_crash(alloc, disk, image, Some(stop))?;
-        if !opens_to_one(alloc, moving, left, told, image.saturating_add(stop))? {
-            return Ok(false);
+        let (is_stopped, is_kept) = opens_to_one(
+            alloc,
+            moving,
+            left,
+            told,
+            image.saturating_add(stop),
+        )?;
+        if !is_stopped || !is_kept {
+            return Ok(is_kept);
         }
     }
-    Ok(true)
+    Ok(false)
 }
 
-// Whether the second life ends as it must where its disk fails at this call of so many, and a crash and an
-// opening that is stopped then leave one of the two chains.
+// Whether the second life ends as it must where its disk fails at this call, and a crash and an opening that
+// is stopped then leave one of the two chains.
 fn is_stopped_twice(
     alloc: Global,
     moving: &Moving,
     disk: &MemDisk,
     call: u64,
-    calls: u64,
 ) -> Result<bool, Fail> {
     let life = second_life(alloc, moving, disk, Some(call))?;
-    let told = calls < call;
-    let is_ended = is_ended(alloc, moving, &life, !told, true)?;
-    Ok(is_ended && opens_to_either(alloc, moving, &life.disk, told, call)?)
+    match told_in(alloc, moving, &life)? {
+        Some(told) => opens_to_either(alloc, moving, &life.disk, told, call),
+        None => Ok(false),
+    }
 }
 
-// The first call of the second life at which a stop isn't as it must be, in the first half of its calls or in
-// the second half and where none fails.
+// The first call of the second life at which a stop isn't as it must be, of those of the first half or of the
+// second. Calls before the first write leave what is on the disk, so that the last of them stands for all.
 fn first_wrong(alloc: Global, moving: &Moving, is_late: bool) -> Result<Option<u64>, Fail> {
     let disk = first_life(alloc, moving)?;
     let calls = calls_of(alloc, moving, &disk)?;
-    let half = calls / 2;
+    let first = first_write(alloc, moving, &disk, calls)?;
+    let half = (first.saturating_add(calls)) / 2;
     let (from, to) = if is_late {
         (half.saturating_add(1), calls.saturating_add(1))
     } else {
-        (1, half)
+        (first.saturating_sub(1), half)
     };
     for call in from..=to {
-        if !is_stopped_twice(alloc, moving, &disk, call, calls)? {
+        if !is_stopped_twice(alloc, moving, &disk, call)? {
             return Ok(Some(call));
         }
     }
     Ok(None)
+}
+
+// The first call of the second life that writes.
+fn first_write(alloc: Global, moving: &Moving, disk: &MemDisk, calls: u64) -> Result<u64, Fail> {
+    for call in 1..=calls {
+        let life = second_life(alloc, moving, disk, Some(call))?;
+        if !is_settled(alloc, &life.disk)? {
+            return Ok(call);
+        }
+    }
+    Err(Fail::new("nothing is written"))
 }
 
 #[test]
@@ -275,25 +383,5 @@ fn a_reorganisation_stopped_early(rt: HostRuntime) -> Result<(), Fail> {
 #[test]
 fn a_reorganisation_stopped_late(rt: HostRuntime) -> Result<(), Fail> {
     assert_eq!(rt; first_wrong(rt.alloc(), &TURNED, true)?, None);
-    Ok(())
-}
-
-// How many calls of the disk a life makes on it in which nothing comes.
-fn calls_of_opening(alloc: Global, disk: &MemDisk) -> Result<u64, Fail> {
-    let disk = disk.crashed(&[], failing_from(alloc, None))?;
-    Ok(life_on(alloc, SERVE, disk, NO_FILES, &[])?.disk.calls())
-}
-
-#[test]
-fn a_move_with_a_set_stopped_at_each_call(rt: HostRuntime) -> Result<(), Fail> {
-    let alloc = rt.alloc();
-    let disk = first_life(alloc, &SIFTED)?;
-    let opening = calls_of_opening(alloc, &disk)?;
-    let calls = calls_of(alloc, &SIFTED, &disk)?;
-    assert!(rt; 0 < opening && opening < calls);
-    for call in 1..=calls.saturating_add(1) {
-        let is_stopped = is_stopped(alloc, &SIFTED, &disk, call, (opening, calls))?;
-        assert!(rt; is_stopped, "{call}");
-    }
     Ok(())
 }

@@ -24,7 +24,7 @@ use Rattle.el_chain.proofs.Chains.{tip_last}
 use Rattle.el_chain.proofs.DraftSteps.{header_same}
 use Rattle.el_chain.proofs.MoveSteps.{NextIs, next_blocks_more, stops_at}
 use Rattle.el_row_formats.specs.Tables.{Tables}
-use Rattle.el_schema.specs.Standing.{StandFor}
+use Rattle.el_index.specs.Means.{AreRowsOf}
 use Rattle.el_index.specs.within.Adding.{AreAdded, IsAfter, AreAfter, AreMoved, IsOwn}
 use Rattle.el_index.proofs.Touchings.{Law, moved_touches, whole}
 
@@ -39,7 +39,7 @@ stopped chain hash t b f e s (inr (inr is)) (inr e_is) device memory = inr (rw e
 
 -- the block that was put in
 pub is_after : (chain : Chain) (n : Node) (t : List ℕ) (rows : Tables) (b : Block) → IsNode n → IsBlockOf n t → EncodesBlock t b → b.header.previous ≡ tip chain
-    → (fault chain b ≡ None) × StandFor rows (chain ++ record { block = b; place = n.place } ∷ [])
+    → (fault chain b ≡ None) × AreRowsOf rows (chain ++ record { block = b; place = n.place } ∷ [])
     → (x : Placed) × IsAfter chain n t rows x
 is_after chain n t rows b node of s names done =
     let x : Placed = record { block = b; place = n.place } in (
@@ -61,7 +61,7 @@ pub record IsAdding (chain : Chain) (nodes : List Node) (texts : List (List ℕ)
   pub after : AreAfter chain (take i nodes) (take i texts) rows blocks
   pub linked : AreLinked (tip (chain ++ blocks)) (drop i nodes)
 
-pub adding_begins : (chain : Chain) (nodes : List Node) (texts : List (List ℕ)) (rows : Tables) → StandFor rows chain → AreLinked (tip chain) nodes
+pub adding_begins : (chain : Chain) (nodes : List Node) (texts : List (List ℕ)) (rows : Tables) → AreRowsOf rows chain → AreLinked (tip chain) nodes
     → (blocks : Chain) × IsAdding chain nodes texts 0 rows blocks
 adding_begins chain nodes texts rows stand linked = (
   [],

@@ -13,8 +13,8 @@ use Rattle.el_rows.specs.Transaction.{WasRead}
 use Rattle.el_chain.specs.Chains.{Chain}
 use Rattle.el_model.specs.Keeping.{Quiet, Either}
 use Rattle.el_model.specs.Queries.{blocks_in}
-use Rattle.el_schema.specs.Standing.{StandFor, buckets_in}
-use Rattle.el_index.specs.Means.{top, IsIndexOf, Means}
+use Rattle.el_schema.specs.Standing.{buckets_in}
+use Rattle.el_index.specs.Means.{top, AreRowsOf, IsIndexOf, Means}
 
 -- a height that is at most the top is below the count
 pub below_top : (n h : ℕ) → MatchOption (top n) ⊥ (λ t. h ≤ t) → h < n
@@ -64,12 +64,12 @@ module _ {R : Type 0} (G : rows_below.Ghosts R) where
           same_buckets = ap buckets_in reads.same;
           still_stands = λ chain s. record {
             told = s.told;
-            stand = subst (λ (t : Tables). StandFor t chain) (sym reads.same) s.stand;
+            stand = subst (λ (t : Tables). AreRowsOf t chain) (sym reads.same) s.stand;
             last = kept ∙ s.last;
           };
           stood = λ chain s. record {
             told = s.told;
-            stand = subst (λ (t : Tables). StandFor t chain) reads.same s.stand;
+            stand = subst (λ (t : Tables). AreRowsOf t chain) reads.same s.stand;
             last = sym kept ∙ s.last;
           };
         };
@@ -86,21 +86,21 @@ module _ {R : Type 0} (G : rows_below.Ghosts R) where
   -- The law `leaves_lists` of the rows, which are live.
   module _ (leaves_lists : (r : R) (c : G.Left) → G.tells_crash → G.is_live r → G.left_since r (G.moment r) c → G.shows c (G.lists r)) where
     -- only rows were read: a crash since leaves the old chain
-    pub only_read : (old mid new : R) (chain next : Chain) → G.is_live old → WasRead G old mid → StandFor (G.lists old) chain → new ≡ mid → G.tells_crash
+    pub only_read : (old mid new : R) (chain next : Chain) → G.is_live old → WasRead G old mid → AreRowsOf (G.lists old) chain → new ≡ mid → G.tells_crash
         → LeavesOnly G.moment G.left_since old new (Either (Means G.shows) chain next)
     only_read old mid new chain next live reads stands is told =
         subst (λ (r : R). LeavesOnly G.moment G.left_since old r (Either (Means G.shows) chain next)) (sym is)
         (still_only G.moment G.left_since old mid (Either (Means G.shows) chain next) (reads.below.crash told) (λ c left. inl (G.lists old, leaves_lists old c told live left, stands)))
 
     -- and then a commit was begun: it leaves that or the target
-    pub begun : (old mid new : R) (under : Tables) (chain next : Chain) → G.is_live old → WasRead G old mid → StandFor (G.lists old) chain → StandFor under next
+    pub begun : (old mid new : R) (under : Tables) (chain next : Chain) → G.is_live old → WasRead G old mid → AreRowsOf (G.lists old) chain → AreRowsOf under next
         → LeavesOnly G.moment G.left_since mid new (IsEither G.shows (G.lists mid) under) → G.tells_crash → LeavesOnly G.moment G.left_since old new (Either (Means G.shows) chain next)
     begun old mid new under chain next live reads stands target commit told =
         let P : G.Left → Type 0 = Either (Means G.shows) chain next in
         joined G.moment G.left_since old mid new P
         (only_read old mid mid chain next live reads stands refl told)
         (weaker G.moment G.left_since mid new (IsEither G.shows (G.lists mid) under) P
-        (λ c either. ⊎_elim (λ shown. inl (G.lists mid, shown, subst (λ (t : Tables). StandFor t chain) (sym reads.same) stands)) (λ shown. inr (under, shown, target)) either) commit)
+        (λ c either. ⊎_elim (λ shown. inl (G.lists mid, shown, subst (λ (t : Tables). AreRowsOf t chain) (sym reads.same) stands)) (λ shown. inr (under, shown, target)) either) commit)
 
 -- what a crash leaves of the rows it leaves of the index that holds them
 pub lifted : {R C E : Type 0} (moment : R → ℕ) (left_since : R → ℕ → C → Type 0) (rows : E → R) (old new : E) (mid : R) (P : C → Type 0) → rows new ≡ mid → LeavesOnly moment left_since (rows old) mid P

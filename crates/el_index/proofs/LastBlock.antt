@@ -8,10 +8,10 @@ use Rattle.el_chain.specs.Chains.{Chain, tip_after, zero_hash}
 use Rattle.el_model.specs.Queries.{tip_of, header_at}
 use Rattle.el_row_formats.specs.Tables.{Tables}
 use Rattle.el_row_formats.specs.declared.table.Table.TheVariants as table
-use Rattle.el_schema.specs.Standing.{StandFor}
+use Rattle.el_index.specs.Means.{AreRowsOf}
 use Rattle.el_index.specs.within.Laws.{block_rows}
 
-pub no_tip : (rows : Tables) (chain : Chain) → StandFor rows chain → length (rows table.Blocks) ≡ 0 → None ≡ tip_of chain
+pub no_tip : (rows : Tables) (chain : Chain) → AreRowsOf rows chain → length (rows table.Blocks) ≡ 0 → None ≡ tip_of chain
 no_tip rows [] stand none = refl
 no_tip rows (b ∷ bs) stand none = absurd (let e = block_rows rows (b ∷ bs) stand in omega arith)
 
@@ -23,7 +23,7 @@ last_tip before (b ∷ []) (suc k) bytes size is = absurd (let e : 1 ≡ suc (su
 last_tip before (b ∷ d ∷ chain) zero bytes size is = absurd (let e : length (b ∷ d ∷ chain) ≡ 1 = size in omega arith)
 last_tip before (b ∷ d ∷ chain) (suc k) bytes size is = last_tip (block_hash b.block.header) (d ∷ chain) k bytes (omega (arith, size)) is
 
-pub header_tip : (rows : Tables) (chain : Chain) (count : ℕ) (bytes : List ℕ) (hash : Hash32) → StandFor rows chain → count ≡ length (rows table.Blocks) → 0 < count → header_at chain (count - 1) ≡ Some bytes
+pub header_tip : (rows : Tables) (chain : Chain) (count : ℕ) (bytes : List ℕ) (hash : Hash32) → AreRowsOf rows chain → count ≡ length (rows table.Blocks) → 0 < count → header_at chain (count - 1) ≡ Some bytes
     → hash.0 ≡ sha256d bytes → Some hash ≡ tip_of chain
 header_tip rows [] count bytes hash stand is some at hashed = absurd (let e = block_rows rows [] stand in omega arith)
 header_tip rows (b ∷ bs) count bytes hash stand is some at hashed =

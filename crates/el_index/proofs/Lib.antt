@@ -1,3 +1,4 @@
+pub mod IndexRows
 pub mod Kept
 pub mod Touchings
 pub mod Addings

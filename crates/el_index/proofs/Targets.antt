@@ -16,14 +16,14 @@ use Rattle.el_chain.proofs.MoveSteps.{tip_joined, blocks_tip}
 use Rattle.el_model.specs.Queries.{tip_of}
 use Rattle.el_row_formats.specs.Tables.{Tables}
 use Rattle.el_rows.specs.Reads.{Same}
-use Rattle.el_schema.proofs.StandingLemmas.{same_stand}
+use Rattle.el_index.proofs.IndexRows.{same_rows}
 use Rattle.el_index.specs.within.Adding.{AreMoved, FliesTo, IsOwn}
 
 -- equal rows
 pub moved_rows : (p : Plan) (chain : Chain) (texts : List (List ℕ)) (scripts : List Hash32) (a b : Tables) (blocks : Chain) → AreMoved p chain texts scripts a blocks → Same a b → AreMoved p chain texts scripts b blocks
 moved_rows p chain texts scripts a b blocks m same = record {
   next = m.next;
-  stand = same_stand a b (target p chain blocks) m.stand same;
+  stand = same_rows a b (target p chain blocks) m.stand same;
   touched = m.touched;
 }
 

@@ -6,6 +6,7 @@ ghost use Rattle.el_chain.specs.Moves.{shorter};
 ghost use Rattle.el_rows.specs.Transaction.{tables_in, EditsRows};
 ghost use Rattle.el_row_formats.specs.declared.table.Table.{Table};
 ghost use Rattle.el_schema.specs.Standing.{StandWith, StandFor};
+ghost use Rattle.el_index.specs.Means.{AreRowsOf};
 ghost use Rattle.el_index.specs.within.Adding.{AreAdded, IsOwn};
 
 use crate::step_faults::{touch, undo};
@@ -38,9 +39,9 @@ pub(crate) fn take_back<R: Rows>(
     touched: &mut Touched,
 ) -> Result<(), MoveFault>
     requires live { R.is_live t.old.rows.now }
-    ensures back { (chain : Chain) → R.tells → StandFor (tables_in t.old) chain → back ≤ length chain
-        → OnOk result (StandFor (tables_in t.new) (shorter back chain)) }
-    ensures touched { (chain : Chain) → R.tells → StandFor (tables_in t.old) chain → back ≤ length chain
+    ensures back { (chain : Chain) → R.tells → AreRowsOf (tables_in t.old) chain → back ≤ length chain
+        → OnOk result (AreRowsOf (tables_in t.new) (shorter back chain)) }
+    ensures touched { (chain : Chain) → R.tells → AreRowsOf (tables_in t.old) chain → back ≤ length chain
         → OnOk result (AreAdded (shorter back chain) (drop (length chain - back) chain)
         touched.old touched.new) }
     // What follows holds over any rows.

@@ -13,6 +13,7 @@ ghost use Rattle.el_prepare.specs.Prepared as spec;
 ghost use Rattle.el_rows.specs.Transaction.{tables_in, EditsRows};
 ghost use Rattle.el_row_formats.specs.declared.table.Table.{Table};
 ghost use Rattle.el_schema.specs.Standing.{StandWith, StandFor, heads_after};
+ghost use Rattle.el_index.specs.Means.{AreRowsOf};
 ghost use Rattle.el_index.specs.within.Adding.{IsAfter, AreAfter, IsOwn};
 
 use el_base::{Bytes, Hash32};
@@ -106,12 +107,12 @@ fn add_one<R: Rows>(
     requires live { R.is_live t.old.rows.now }
     requires node { IsNode node.now }
     requires of { IsBlockOf node.now text.now }
-    ensures added { (chain : Chain) → R.tells → StandFor (tables_in t.old) chain
+    ensures added { (chain : Chain) → R.tells → AreRowsOf (tables_in t.old) chain
         → node.now.header.previous ≡ tip chain → OnOk result ((b : placed_shape.Placed)
         × IsAfter chain node.now text.now (tables_in t.new) b) }
     ensures more { OnOk result (length (tables_in t.new Table.Blocks)
         ≡ length (tables_in t.old Table.Blocks) + 1) }
-    ensures first_fault { (chain : Chain) → R.tells → StandFor (tables_in t.old) chain
+    ensures first_fault { (chain : Chain) → R.tells → AreRowsOf (tables_in t.old) chain
         → node.now.header.previous ≡ tip chain
         → IfErr result (λ e. IsOwn e ⊎ IsStop chain node.now.hash text.now e) }
     ensures edits { EditsRows MoveFault.DiskFailed t.old t.new result }
@@ -132,12 +133,12 @@ pub(crate) fn add_all<R: Rows>(
     requires live { R.is_live t.old.rows.now }
     requires nodes { AllByRecursion IsNode nodes.now }
     requires of { AreOf nodes.now texts.now }
-    ensures added { (chain : Chain) → R.tells → StandFor (tables_in t.old) chain
+    ensures added { (chain : Chain) → R.tells → AreRowsOf (tables_in t.old) chain
         → AreLinked (tip chain) nodes.now → OnOk result ((blocks : Chain)
         × AreAfter chain nodes.now texts.now (tables_in t.new) blocks) }
     ensures more { OnOk result (length (tables_in t.new Table.Blocks)
         ≡ length (tables_in t.old Table.Blocks) + length nodes.now) }
-    ensures first_fault { (chain : Chain) → R.tells → StandFor (tables_in t.old) chain
+    ensures first_fault { (chain : Chain) → R.tells → AreRowsOf (tables_in t.old) chain
         → AreLinked (tip chain) nodes.now
         → IfErr result (λ e. IsOwn e ⊎ FaultInAt chain nodes.now texts.now e) }
     ensures edits { EditsRows MoveFault.DiskFailed t.old t.new result }

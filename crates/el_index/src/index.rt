@@ -3,8 +3,7 @@ ghost use Rattle.std.specs.Prelude.{◌≡◌, ◌≤◌, ◌+◌, IfOk, IfErr, 
 ghost use Rattle.el_chain.specs.Chains.{Chain};
 ghost use Rattle.el_outside.specs.Counts.{RoseBy};
 ghost use Rattle.el_rows.specs.Transaction.{WasRead};
-ghost use Rattle.el_schema.specs.Standing.{StandFor};
-ghost use Rattle.el_index.specs.Means.{IsIndexOf};
+ghost use Rattle.el_index.specs.Means.{AreRowsOf, IsIndexOf};
 
 use crate::last_block::hash_in;
 use el_base::Hash32;
@@ -32,8 +31,8 @@ impl<R: Rows> Index<R> {
     /// `DiskFailed` where the read failed. The rows come back beside it, as they were.
     pub fn over(alloc: Global, rows: R) -> Result<Index<R>, (DiskFailed, R)>
         requires live { R.is_live rows }
-        // It stands for each chain that the rows stand for.
-        ensures stands { (chain : Chain) → R.tells → StandFor (R.lists rows) chain
+        // It stands for each chain of which the rows are those of an index.
+        ensures stands { (chain : Chain) → R.tells → AreRowsOf (R.lists rows) chain
             → IfOk result (λ i. IsIndexOf R.tells (R.lists i.rows) i.tip chain) }
         // Rows were read and nothing else, also where that failed.
         ensures reads { IfOk result (λ i. WasRead ⟦<R as Rows>⟧ rows i.rows) }

@@ -12,17 +12,15 @@ use Rattle.el_row_formats.specs.declared.table.Table.TheVariants as table
 use Rattle.el_tables.specs.ChainLists.{lists, listed_blocks}
 use Rattle.el_tables.specs.Tables.{tables_of}
 use Rattle.el_schema.specs.Rows.{bytes_of}
-use Rattle.el_schema.specs.Standing.{StandFor, heads_in}
+use Rattle.el_schema.specs.Standing.{heads_in}
 use Rattle.el_schema.proofs.StandingLemmas.{stands}
+use Rattle.el_index.specs.Means.{AreRowsOf}
 
-pub none_stand : (rows : held.Tables) → ((t : Table) → rows t ≡ []) → StandFor rows []
-none_stand rows none = (
-  BUCKET_COUNT,
-  stands BUCKET_COUNT rows [] (omega arith) (record { each = tt }) (record {
-    each = each;
-    fit = record { blocks = tt; txs = tt; tx_heads = tt; outs = tt; ins = tt; scripts = tt; script_heads = tt; entries = tt };
-  }),
-)
+pub none_stand : (rows : held.Tables) → ((t : Table) → rows t ≡ []) → AreRowsOf rows []
+none_stand rows none = stands BUCKET_COUNT rows [] (omega arith) (record { each = tt }) (record {
+  each = each;
+  fit = record { blocks = tt; txs = tt; tx_heads = tt; outs = tt; ins = tt; scripts = tt; script_heads = tt; entries = tt };
+})
   where
     each : (u : Table) → rows u ≡ bytes_of (tables_of (heads_in BUCKET_COUNT []) (listed_blocks []) (lists [])) u
     each table.Blocks = none table.Blocks

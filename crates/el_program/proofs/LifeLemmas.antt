@@ -7,21 +7,26 @@ use Rattle.el_outside.specs.declared.disk.Disk as disk
 use Rattle.el_outside.specs.declared.link.Link as link
 use Rattle.el_outside.specs.Disk.{Image}
 use Rattle.el_chain.specs.Chains.{Chain}
-use Rattle.el_journal.specs.declared.mark.TheConstants.{JOURNAL}
 use Rattle.el_mempool.specs.declared.entry.PoolLimits.{PoolLimits}
 use Rattle.el_world.specs.World.{World}
 use Rattle.el_outside.specs.Devices.{Device}
 use Rattle.el_world.specs.Run.{Stop}
 use Rattle.el_world.specs.Flights.{acked}
-use Rattle.el_logstore.specs.Images.{no_rows}
+use Rattle.el_row_formats.specs.Tables.{Tables}
 use Rattle.el_row_formats.specs.declared.table.Table.{Table}
 use Rattle.el_row_formats.specs.declared.table.Table.TheVariants as table
 use Rattle.el_tables.specs.ChainLists.{lists, listed_blocks}
 use Rattle.el_tables.specs.Tables.{tables_of}
 use Rattle.el_schema.specs.Rows.{bytes_of}
 use Rattle.el_row_formats.specs.declared.limits.TheConstants.{BUCKET_COUNT}
-use Rattle.el_schema.specs.Standing.{StandFor, heads_in}
+use Rattle.el_schema.specs.Standing.{heads_in}
 use Rattle.el_schema.proofs.StandingLemmas.{stands}
+use Rattle.el_index.specs.Means.{AreRowsOf}
+use Rattle.el_rows.specs.Changes.{count_at}
+use Rattle.el_rows.specs.Reads.{Same}
+use Rattle.el_pages.specs.declared.layout.TheConstants.{FORMAT_1}
+use Rattle.el_pages.specs.Layouts.{rows_in}
+use Rattle.el_pages.specs.Indexes.{tables_in}
 use Rattle.el_words.specs.Commands.{IsServe}
 use Rattle.el_program.specs.IndexDisks.{ImageMeans, LeavesOneOf, IsIndexDisk, IsCall}
 use Rattle.el_program.specs.Calls.{Call, CallEnds}
@@ -278,23 +283,24 @@ lived_none of_disk of_files of_link d was flight words turns (a ∷ more) links 
 
 -- 3. Empty files
 
-no_rows_stand : StandFor no_rows []
-no_rows_stand = (
-  BUCKET_COUNT,
-  stands BUCKET_COUNT no_rows [] (omega arith) (record { each = tt }) (record {
-    each = each;
-    fit = record {
-      blocks = tt;
-      txs = tt;
-      tx_heads = tt;
-      outs = tt;
-      ins = tt;
-      scripts = tt;
-      script_heads = tt;
-      entries = tt;
-    };
-  }),
-)
+-- no rows in any table
+abbrev pub no_rows : Tables
+no_rows t = []
+
+no_rows_stand : AreRowsOf no_rows []
+no_rows_stand = stands BUCKET_COUNT no_rows [] (omega arith) (record { each = tt }) (record {
+  each = each;
+  fit = record {
+    blocks = tt;
+    txs = tt;
+    tx_heads = tt;
+    outs = tt;
+    ins = tt;
+    scripts = tt;
+    script_heads = tt;
+    entries = tt;
+  };
+})
   where
     each : (u : Table) → no_rows u ≡ bytes_of (tables_of (heads_in BUCKET_COUNT []) (listed_blocks []) (lists [])) u
     each table.Blocks = refl
@@ -306,10 +312,42 @@ no_rows_stand = (
     each table.ScriptHeads = refl
     each table.Entries = refl
 
--- an image whose journal is empty stands for no blocks
-pub empty_means : (magic : List ℕ) (image : Image) → image JOURNAL ≡ [] → ImageMeans magic image []
+none_counted : (t : Table) → count_at [] t ≡ 0
+none_counted table.Blocks = refl
+none_counted table.Txs = refl
+none_counted table.TxHeads = refl
+none_counted table.Outs = refl
+none_counted table.Ins = refl
+none_counted table.Scripts = refl
+none_counted table.ScriptHeads = refl
+none_counted table.Entries = refl
+
+none_in : (image : Image) → Same (tables_in FORMAT_1 image []) no_rows
+unfolding rows_in
+none_in image table.Blocks = refl
+none_in image table.Txs = refl
+none_in image table.TxHeads = refl
+none_in image table.Outs = refl
+none_in image table.Ins = refl
+none_in image table.Scripts = refl
+none_in image table.ScriptHeads = refl
+none_in image table.Entries = refl
+
+-- an image whose files are empty stands for no blocks
+pub empty_means : (magic : List ℕ) (image : Image) → ((f : ℕ) → image f ≡ []) → ImageMeans magic image []
 empty_means magic image empty = (
   no_rows,
-  record { entries = []; journal = inr (rw empty (omega arith), refl); made = λ t. refl },
+  record {
+    files = image;
+    stands = record {
+      writes = [];
+      pending = inl (inl (rw (empty 9) (omega arith)), refl);
+      same = λ f low lt. refl;
+      fits = λ f low lt. tt;
+    };
+    counts = [];
+    has = inr (record { empty = empty 0; none = none_counted });
+    same = none_in image;
+  },
   no_rows_stand,
 )

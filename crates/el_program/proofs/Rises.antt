@@ -1,5 +1,5 @@
 -- What holds of a call's counts where nobody was served, whatever the devices tell.
-use Rattle.std.proofs.Common.{◌≡◌, ◌≢◌, ℕ, ◌≤◌, List, refl, arith, Err, Some, sym, ◌∙◌}
+use Rattle.std.proofs.Common.{◌≡◌, ◌≢◌, ◌⊎◌, inl, inr, ℕ, ◌≤◌, List, refl, arith, Err, Some, sym, ◌∙◌}
 use Rattle.el_outside.specs.Counts.{RoseBy, OnlyReads, CountsOnly}
 use Rattle.el_loop.specs.Counts as loop
 use Rattle.el_outside.specs.Devices.{Device, link, archive, disk, Faults, faults}
@@ -61,6 +61,23 @@ caused_none turns calls f = record {
   few = omega arith;
   spent = λ e. absurd cc;
 }
+
+-- the index isn't opened
+pub unopened_caused : (turns calls of_link of_archive of_disk now : ℕ) (s : Status)
+    → (s ≡ status.BadIndex) ⊎ ((s ≡ status.DiskFailed) ⊎ (s ≡ status.OutOfMemory))
+    → (s ≡ status.DiskFailed → RoseBy of_disk now 1) → (s ≢ status.DiskFailed → now ≡ of_disk)
+    → ShowsCause
+    (counts turns calls calls (faults of_link of_archive of_disk) (faults of_link of_archive now)) s
+unopened_caused turns calls of_link of_archive of_disk now s is counted uncounted = elim is [
+  | inl bad ↦ rw bad (unserved_caused turns calls of_link of_archive of_archive of_disk now _ (omega arith)
+      (still of_disk now (uncounted (λ e. cc))) (λ e. cc) (λ e. cc) (λ e. absurd cc) (λ e. absurd cc))
+  | inr (inl failed) ↦ rw failed (unserved_caused turns calls of_link of_archive of_archive of_disk now _
+      (omega arith) (one_more of_disk now (counted failed)) (λ e. cc) (λ e. cc) (λ e. absurd cc)
+      (λ e. one_risen of_disk now (counted failed)))
+  | inr (inr memory) ↦ rw memory (unserved_caused turns calls of_link of_archive of_archive of_disk now _
+      (omega arith) (still of_disk now (uncounted (λ e. cc))) (λ e. cc) (λ e. cc) (λ e. absurd cc)
+      (λ e. absurd cc))
+]
 
 -- the index is open, but its headers or those of the block files can't be had
 pub start_caused : {S T : Type 0} (tells : Type 0) (files files_now : ℕ → List ℕ)

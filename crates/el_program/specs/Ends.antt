@@ -97,11 +97,10 @@ IsOpenedEnd status.BadIndex = ⊥
 IsOpenedEnd status.BadChain = ⊥
 IsOpenedEnd other = Unit {0}
 
--- the statuses with which no index is opened
+-- the statuses with which nothing is opened where the disk has no index
 abbrev pub IsUnopened : Status → Type 0
 IsUnopened status.BadIndex = Unit {0}
 IsUnopened status.DiskFailed = Unit {0}
-IsUnopened status.OutOfMemory = Unit {0}
 IsUnopened other = ⊥
 
 -- Clients were served without a node, from the chain that file 0 gives, with its headers. Nothing unconfirmed

@@ -1,5 +1,5 @@
 -- The index on a disk, and what a call promises of it.
-use Rattle.std.specs.Prelude.{◌≡◌, ◌<◌, ℕ, List}
+use Rattle.std.specs.Prelude.{ℕ, List, length}
 use Rattle.el_outside.specs.declared.archive.Archive as archive
 use Rattle.el_outside.specs.declared.disk.Disk as disk
 use Rattle.el_outside.specs.declared.link.Link as link
@@ -7,19 +7,29 @@ use Rattle.el_outside.specs.Disk.{Image}
 use Rattle.el_outside.specs.Moments.{LeftNow, LeavesOnly}
 use Rattle.el_chain.specs.Chains.{Chain}
 use Rattle.el_model.specs.Keeping.{Either}
-use Rattle.el_logstore.specs.Images.{Shows, IsBadIndex}
+use Rattle.el_row_formats.specs.Tables.{Tables}
+use Rattle.el_redo.specs.RedoBody.{head_bytes}
+use Rattle.el_pages.specs.declared.layout.TheConstants.{FORMAT_1}
+use Rattle.el_pages.specs.Indexes.{Shows}
+use Rattle.el_recovery.specs.Checks.{HasHeads}
 use Rattle.el_index.specs.Means.{Means}
 use Rattle.el_words.specs.Commands.{IsServe}
 use Rattle.el_program.specs.Calls.{Call, CallEnds}
 use Rattle.el_program.specs.OtherFiles.{OthersStay}
 
+-- the image of a disk stands for the tables, as those of the network with this magic
+abbrev pub ShowsFor : List ℕ → Image → Tables → Type 0
+ShowsFor magic = Shows FORMAT_1 (head_bytes magic)
+
 -- the image of a disk stands for the chain, as an index of the network with this magic
 abbrev pub ImageMeans : List ℕ → Image → Chain → Type 0
-ImageMeans magic image chain = Means (Shows magic) image chain
+ImageMeans magic image chain = Means (ShowsFor magic) image chain
 
--- the image stands for no tables, as an index of the network with this magic
+-- The image stands for no tables, as an index of the network with this magic: for none whose tables of heads
+-- have the rows that they may have.
 abbrev pub IsNoIndex : List ℕ → Image → Type 0
-IsNoIndex magic image = (wanted : ℕ) × (found : ℕ) × IsBadIndex magic image wanted found
+IsNoIndex magic image = (tables : Tables) → ShowsFor magic image tables
+    → HasHeads (λ t. length (tables t)) → ⊥
 
 -- each image that a crash now may leave of the disk stands for the one chain or for the other
 abbrev pub LeavesOneOf : {D : Type 0} → disk.Ghosts D → List ℕ → D → Chain → Chain → Type 0

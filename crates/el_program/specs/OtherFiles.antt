@@ -4,7 +4,7 @@ use Rattle.el_outside.specs.declared.disk.Disk as disk
 
 -- the files of an index have numbers up to this one
 abbrev pub last_file : ℕ
-last_file = 10
+last_file = 9
 
 -- no file beyond the index's changed
 abbrev pub OthersStay : {D : Type 0} → disk.Ghosts D → D → D → Type 0

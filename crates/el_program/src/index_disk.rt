@@ -2,16 +2,15 @@
 ghost use Rattle.std.specs.Prelude.{◌≡◌, ◌≢◌, ◌⊎◌, ◌<◌, ℕ, IfOk, IfErr, MatchResult};
 ghost use Rattle.el_chain.specs.Chains.{Chain};
 ghost use Rattle.el_outside.specs.Counts.{RoseBy};
-ghost use Rattle.el_journal.specs.declared.mark.TheConstants.{JOURNAL};
-ghost use Rattle.el_journal.specs.Entries.{IsBad};
 ghost use Rattle.el_program.specs.IndexDisks.{LeavesOneOf, IsNoIndex, IsAsBefore, IsIndexDisk};
 ghost use Rattle.el_program.specs.OtherFiles.{OthersStay, last_file};
 ghost use Rattle.el_program.specs.within.Unread.{open_status};
 
 use crate::status::Status;
 use el_index::Index;
-use el_logstore::{LogStore, images_stand_in_one_way, open_log};
 use el_outside::Disk;
+use el_pages::Pages;
+use el_recovery::{an_image_stands_for_one_index, open_pages};
 use el_redo::{NetworkMagic, OpenFault};
 use std::alloc::Global;
 
@@ -36,11 +35,11 @@ fn status_of(fault: OpenFault) -> Status
 pub fn open_index<D: Disk, N: NetworkMagic>(
     alloc: Global,
     disk: D,
-) -> Result<Index<LogStore<D, N>>, (Status, D)>
-    ensures live { IfOk result (λ i. ⟦<Index<LogStore<D, N>> as el_model::Ledger>⟧.is_live i) }
+) -> Result<Index<Pages<D, N>>, (Status, D)>
+    ensures live { IfOk result (λ i. ⟦<Index<Pages<D, N>> as el_model::Ledger>⟧.is_live i) }
     // It stands for what the disk stands for as it reads.
     ensures stands { (was flight chain : Chain) → IsIndexDisk ⟦<D as Disk>⟧ N.magic disk was flight chain
-        → IfOk result (λ i. ⟦<Index<LogStore<D, N>> as el_model::Ledger>⟧.stands i chain) }
+        → IfOk result (λ i. ⟦<Index<Pages<D, N>> as el_model::Ledger>⟧.stands i chain) }
     ensures unopened { (was flight chain : Chain) → IsIndexDisk ⟦<D as Disk>⟧ N.magic disk was flight chain
         → IfErr result (λ e. (e.0 ≢ Status.BadIndex) × LeavesOneOf ⟦<D as Disk>⟧ N.magic e.1 was flight) }
     ensures status { IfErr result (λ e. (e.0 ≡ Status.BadIndex)
@@ -48,18 +47,17 @@ pub fn open_index<D: Disk, N: NetworkMagic>(
     // It is bad exactly where the disk stands for no tables.
     ensures bad { D.tells → IfErr result (λ e. e.0 ≡ Status.BadIndex
         → IsNoIndex N.magic (D.seen disk)) }
-    ensures is_bad { D.tells → IsNoIndex N.magic (D.seen disk) → IfOk result (λ i. ⊥) }
-    // That its journal is cut is told without memory.
-    ensures is_cut { D.tells → (place : ℕ) → IsBad place (D.seen disk JOURNAL) → MatchResult result
+    // That it is bad is told without memory.
+    ensures is_bad { D.tells → IsNoIndex N.magic (D.seen disk) → MatchResult result
         (λ i. ⊥) (λ e. (e.0 ≡ Status.DiskFailed) ⊎ (e.0 ≡ Status.BadIndex)) }
     // Then it is as it was, whatever is told of it.
     ensures kept { D.tells → IsNoIndex N.magic (D.seen disk)
         → IfErr result (λ e. IsAsBefore ⟦<D as Disk>⟧ disk e.1) }
     // Beside the index stands what stood in the files beyond its own, which are as they were.
     ensures beside { D.tells → IfOk result (λ i. (f : ℕ) → last_file < f
-        → ⟦<Index<LogStore<D, N>> as el_model::Ledger>⟧.beside i f ≡ D.seen disk f) }
+        → ⟦<Index<Pages<D, N>> as el_model::Ledger>⟧.beside i f ≡ D.seen disk f) }
     ensures others { D.tells → IfErr result (λ e. OthersStay ⟦<D as Disk>⟧ disk e.1) }
-    ensures uncounted { IfOk result (λ i. ⟦<Index<LogStore<D, N>> as el_model::Ledger>⟧.faults i
+    ensures uncounted { IfOk result (λ i. ⟦<Index<Pages<D, N>> as el_model::Ledger>⟧.faults i
         ≡ D.faults disk) }
     ensures counted { IfErr result (λ e. e.0 ≡ Status.DiskFailed
         → RoseBy (D.faults disk) (D.faults e.1) 1) }
@@ -67,8 +65,8 @@ pub fn open_index<D: Disk, N: NetworkMagic>(
         → D.faults e.1 ≡ D.faults disk) }
 {
     // A law: an image stands for one index, so that what a crash leaves has one meaning.
-    images_stand_in_one_way();
-    let store = match open_log::<D, N>(alloc, disk) {
+    an_image_stands_for_one_index();
+    let store = match open_pages::<D, N>(alloc, disk) {
         Ok(store) => store,
         Err((fault, disk)) => return Err((status_of(fault), disk)),
     };

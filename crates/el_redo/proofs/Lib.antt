@@ -1,4 +1,1 @@
 pub mod BodyLemmas
-pub mod Sorting
-pub mod LayingLemmas
-pub mod CheckingLemmas

@@ -1,2 +1,1 @@
 pub mod RedoBody
-pub mod within

@@ -1,7 +1,4 @@
-// Why an index isn't opened, and why a body isn't applied.
-ghost use Rattle.std.specs.Prelude.{◌≡◌, ⊤};
-
-use el_base::OutOfMemory;
+// Why an index isn't opened.
 use el_outside::DiskFailed;
 
 /// Why an index isn't opened.
@@ -26,27 +23,5 @@ impl From<DiskFailed> for OpenFault {
 
     fn from(_: DiskFailed) -> Self {
         OpenFault::DiskFailed
-    }
-}
-
-/// Why a body isn't applied.
-#[derive(Clone, Copy, Debug, PartialEq, Eq, thiserror::Error)]
-pub enum RedoFault {
-    /// The body spells no commit for the magic and these tables.
-    #[error("no commit")]
-    NoCommit,
-    /// Out of memory.
-    #[error("out of memory")]
-    Memory,
-}
-
-impl From<OutOfMemory> for RedoFault {
-    ghost use Rattle.std.specs.Prelude.{◌≡◌};
-    ghost use Rattle.el_redo.specs.declared.faults.RedoFault.TheVariants as fault;
-
-    ghost from_gives = { λ _ e. e ≡ fault.Memory };
-
-    fn from(_: OutOfMemory) -> Self {
-        RedoFault::Memory
     }
 }

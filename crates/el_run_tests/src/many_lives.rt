@@ -80,37 +80,50 @@ fn three_lives(alloc: Global, from: u64) -> Result<([Status; 3], String), Fail> 
     Ok((ends, text))
 }
 
-// How often the second life's disk is called, where no call fails.
-const CALLS: u64 = 12;
+// More calls than the second life's disk gets.
+const MOST: u64 = 1_000;
 
 const OLD: &str = "0 refused unknown {a3}\n0 at {a0} 0\n";
 
 const NEW: &str = "0 at {a3} 3\n0 at {a0} 0\n";
 
-// Whether the last life finds the new chain and not the old one; nothing, if it finds neither or a life ends
-// otherwise than it must.
-fn finds_new(alloc: Global, from: u64) -> Result<Option<bool>, Fail> {
+// What three lives come to: the last finds the old chain or the new one after the second has failed, or the
+// second doesn't fail.
+#[derive(Clone, Copy, PartialEq, Eq)]
+enum Found {
+    Old,
+    New,
+    Sound,
+}
+
+// What they come to; nothing, if the last finds neither or a life ends otherwise than it must.
+fn found_from(alloc: Global, from: u64) -> Result<Option<Found>, Fail> {
     let (ends, text) = three_lives(alloc, from)?;
     let is_new = text.as_str() == named(alloc, NEW)?.as_str();
     let is_old = text.as_str() == named(alloc, OLD)?.as_str();
-    let has_ended = ends == [Status::Ended, Status::DiskFailed, Status::Ended];
-    if has_ended && (is_new || is_old) {
-        return Ok(Some(is_new));
+    if ends == [Status::Ended; 3] && is_new {
+        return Ok(Some(Found::Sound));
     }
-    Ok(None)
+    if ends != [Status::Ended, Status::DiskFailed, Status::Ended] || !is_new && !is_old {
+        return Ok(None);
+    }
+    Ok(Some(if is_new { Found::New } else { Found::Old }))
 }
 
 #[test]
 fn lives_over_crashes(rt: HostRuntime) -> Result<(), Fail> {
     let mut kept = false;
     let mut moved = false;
-    for from in 1..=CALLS {
-        let found = finds_new(rt.alloc(), from)?;
+    for from in 1..MOST {
+        let found = found_from(rt.alloc(), from)?;
         assert!(rt; found.is_some(), "{from}");
-        kept = kept || found == Some(false);
-        moved = moved || found == Some(true);
+        if found == Some(Found::Sound) {
+            // A crash in the move left the one chain or the other.
+            assert!(rt; kept && moved);
+            return Ok(());
+        }
+        kept = kept || found == Some(Found::Old);
+        moved = moved || found == Some(Found::New);
     }
-    // A crash in the move leaves the one chain or the other.
-    assert!(rt; kept && moved);
-    Ok(())
+    Err(Fail::new("each second life fails"))
 }

@@ -1,6 +1,8 @@
 // Lives over what a life before left on the disk.
+use el_gen::GENESIS;
 use el_mem_disk::MemDisk;
 use el_program::Status;
+use el_trials::Part::Block;
 use el_trials::Step::{Opens, Says};
 use el_trials::{
     Files, Life, NO_FILES, SERVE, SERVE_MAIN, Step, expect_ended, expect_sent, fresh_disk, life_on,
@@ -104,5 +106,48 @@ fn an_index_of_an_earlier_life(rt: HostRuntime) -> Result<(), Fail> {
         expect_ended(alloc, (status, sent.as_str()), wanted)?;
         expect_sent(alloc, kept.as_str(), lives.kept)?;
     }
+    Ok(())
+}
+
+// How many bytes each file of the main network's index of its first block has.
+const SIZES: [usize; 9] = [76, 112, 68, 262_144, 21, 0, 52, 262_144, 12];
+
+#[test]
+fn files_of_the_first_block(rt: HostRuntime) -> Result<(), Fail> {
+    let alloc = rt.alloc();
+    let files = Files::Parts(&[Block(GENESIS)]);
+    let steps = [Says(0, "tip {genesis}\n")];
+    let life = life_on(
+        alloc,
+        SERVE_MAIN,
+        fresh_disk(alloc),
+        files,
+        steps.as_slice(),
+    )?;
+    for (file, size) in (0u32..).zip(SIZES) {
+        assert!(rt; life.disk.bytes(file).len() == size, "{file}");
+    }
+    Ok(())
+}
+
+// How often the disk of an earlier life is called in one where a client says this.
+fn calls_for(alloc: Global, said: &str) -> Result<u64, Fail> {
+    let disk = first_life(alloc, Files::Forks, "tip {z-d1}\n")?;
+    let before = disk.calls();
+    let steps = [Opens(1), Says(1, said)];
+    let life = life_on(alloc, SERVE, disk, NO_FILES, steps.as_slice())?;
+    Ok(life.disk.calls().saturating_sub(before))
+}
+
+#[test]
+fn a_history_asked_again_calls_no_disk(rt: HostRuntime) -> Result<(), Fail> {
+    let alloc = rt.alloc();
+    let none = calls_for(alloc, "")?;
+    let once = calls_for(alloc, "{asks}{script101}{asked}\n")?;
+    let twice = calls_for(
+        alloc,
+        "{asks}{script101}{asked}\n{asks}{script101}{asked}\n",
+    )?;
+    assert!(rt; none < once && once == twice, "{none} {once} {twice}");
     Ok(())
 }

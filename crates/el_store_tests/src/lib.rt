@@ -4,21 +4,29 @@
 #[cfg(test)]
 mod byte_tests;
 #[cfg(test)]
+mod cache_tests;
+#[cfg(test)]
+mod crash_tests;
+#[cfg(test)]
+mod crashes;
+#[cfg(test)]
 mod device_tests;
 #[cfg(test)]
 mod disk_tests;
 #[cfg(test)]
 mod disks;
 #[cfg(test)]
-mod folder_tests;
+mod edits;
 #[cfg(test)]
-mod journal_tests;
+mod folder_tests;
 #[cfg(test)]
 mod link_tests;
 #[cfg(test)]
-mod log_tests;
+mod opening_tests;
 #[cfg(test)]
-mod redo_tests;
+mod page_tests;
+#[cfg(test)]
+mod redone_tests;
 #[cfg(test)]
 mod row_tests;
 #[cfg(test)]

@@ -1,6 +1,8 @@
-// That edits and commits succeed where memory is ample: a long run of edits beside plain lists.
-ghost use Rattle.std.specs.Prelude.{◌≡◌};
+// That edits and commits succeed where memory is ample: a long run of edits beside plain lists, of a store in
+// memory and of one over files.
+ghost use Rattle.std.specs.Prelude.{◌≡◌, OnOk};
 
+use crate::disks::fresh;
 use el_outside::DiskFailed;
 use el_row_formats::{TABLES, Table};
 use el_rows::{Rows, Txn};
@@ -25,12 +27,13 @@ fn no_rows(alloc: Global) -> Plain {
 }
 
 // One edit, which the seed tells, of the transaction and of plain lists.
-fn edit_one(
+fn edit_one<R: Rows>(
     alloc: Global,
-    txn: &mut Txn<'_, VecRows>,
+    txn: &mut Txn<'_, R>,
     plain: &mut Plain,
     seed: u64,
 ) -> Result<(), Fail>
+    ensures below { txn.new.rows.now ≡ txn.old.rows.now }
     ensures name { txn.new.rows.ghost_name ≡ txn.old.rows.ghost_name }
 {
     let n = (seed % 8) as usize;
@@ -60,7 +63,9 @@ fn edit_one(
 }
 
 // Whether the transaction shows this row.
-fn shows(txn: &mut Txn<'_, VecRows>, t: Table, i: u64, wanted: &[u8]) -> Result<bool, DiskFailed>
+fn shows<R: Rows>(txn: &mut Txn<'_, R>, t: Table, i: u64, wanted: &[u8]) -> Result<bool, DiskFailed>
+    requires live { R.is_live txn.old.rows.now }
+    ensures live { R.is_live txn.new.rows.now }
     ensures name { txn.new.rows.ghost_name ≡ txn.old.rows.ghost_name }
 {
     let mut row = [0; 112];
@@ -72,7 +77,13 @@ fn shows(txn: &mut Txn<'_, VecRows>, t: Table, i: u64, wanted: &[u8]) -> Result<
 }
 
 // Whether the transaction shows these rows of the table and no others.
-fn shows_table(txn: &mut Txn<'_, VecRows>, t: Table, rows: &[Vec<u8>]) -> Result<bool, DiskFailed>
+fn shows_table<R: Rows>(
+    txn: &mut Txn<'_, R>,
+    t: Table,
+    rows: &[Vec<u8>],
+) -> Result<bool, DiskFailed>
+    requires live { R.is_live txn.old.rows.now }
+    ensures live { R.is_live txn.new.rows.now }
     ensures name { txn.new.rows.ghost_name ≡ txn.old.rows.ghost_name }
 {
     let has_count = txn.count(t) == rows.len() as u64;
@@ -85,7 +96,9 @@ fn shows_table(txn: &mut Txn<'_, VecRows>, t: Table, rows: &[Vec<u8>]) -> Result
 }
 
 // Whether the transaction shows these rows and no others.
-fn shows_all(txn: &mut Txn<'_, VecRows>, plain: &Plain) -> Result<bool, DiskFailed>
+fn shows_all<R: Rows>(txn: &mut Txn<'_, R>, plain: &Plain) -> Result<bool, DiskFailed>
+    requires live { R.is_live txn.old.rows.now }
+    ensures live { R.is_live txn.new.rows.now }
     ensures name { txn.new.rows.ghost_name ≡ txn.old.rows.ghost_name }
 {
     for (t, rows) in Table::ALL.iter().zip(plain.iter()) {
@@ -97,12 +110,13 @@ fn shows_all(txn: &mut Txn<'_, VecRows>, plain: &Plain) -> Result<bool, DiskFail
 }
 
 // Fifty edits of one transaction, which a seed tells.
-fn edit_all(
+fn edit_all<R: Rows>(
     alloc: Global,
-    txn: &mut Txn<'_, VecRows>,
+    txn: &mut Txn<'_, R>,
     plain: &mut Plain,
     seed: &mut u64,
 ) -> Result<(), Fail>
+    ensures below { txn.new.rows.now ≡ txn.old.rows.now }
     ensures name { txn.new.rows.ghost_name ≡ txn.old.rows.ghost_name }
 {
     for _ in 0..50 {
@@ -115,12 +129,15 @@ fn edit_all(
 }
 
 // Whether edits are those of lists, before they are committed and after it.
-fn one_round(
+fn one_round<R: Rows>(
     alloc: Global,
-    rows: &mut VecRows,
+    rows: &mut R,
     plain: &mut Plain,
     seed: &mut u64,
-) -> Result<bool, Fail> {
+) -> Result<bool, Fail>
+    requires live { R.is_live rows.old }
+    ensures live { OnOk result (R.is_live rows.new) }
+{
     let mut txn = Txn::new(alloc, rows);
     edit_all(alloc, &mut txn, plain, seed)?;
     let is_shown = shows_all(&mut txn, plain)?;
@@ -130,14 +147,30 @@ fn one_round(
     Ok(shows_all(&mut after, plain)? && is_shown)
 }
 
-#[test]
-fn edits_are_those_of_lists(rt: HostRuntime) -> Result<(), Fail> {
-    let alloc = rt.alloc();
-    let mut rows = VecRows::new(alloc);
+// Whether they are in some rounds, from no rows on.
+fn edits_are_those_of_lists<R: Rows>(alloc: Global, rows: &mut R, rounds: u64) -> Result<bool, Fail>
+    requires live { R.is_live rows.old }
+{
     let mut plain = no_rows(alloc);
     let mut seed = 88_172_645_463_325_252;
-    for _ in 0..4 {
-        assert!(rt; one_round(alloc, &mut rows, &mut plain, &mut seed)?);
+    for _ in 0..rounds {
+        if !one_round(alloc, rows, &mut plain, &mut seed)? {
+            return Ok(false);
+        }
     }
+    Ok(true)
+}
+
+#[test]
+fn edits_in_memory(rt: HostRuntime) -> Result<(), Fail> {
+    let mut rows = VecRows::new(rt.alloc());
+    assert!(rt; edits_are_those_of_lists(rt.alloc(), &mut rows, 4)?);
+    Ok(())
+}
+
+#[test]
+fn edits_of_files(rt: HostRuntime) -> Result<(), Fail> {
+    let mut rows = fresh(rt.alloc())?;
+    assert!(rt; edits_are_those_of_lists(rt.alloc(), &mut rows, 40)?);
     Ok(())
 }

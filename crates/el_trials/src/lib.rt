@@ -17,4 +17,4 @@ pub use calls::{
     serve_over, steady_archive, steady_link, words_of,
 };
 pub use names::named;
-pub use one_life::{IMAGE_COUNT, Life, NO_FILES, after_crash, life_on};
+pub use one_life::{IMAGE_COUNT, Life, NO_FILES, after_crash, is_settled, life_on};

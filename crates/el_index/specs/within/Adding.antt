@@ -15,8 +15,8 @@ use Rattle.el_chain.specs.Headers.{same_hash}
 use Rattle.el_chain.specs.Moves.{AreNextBlocks, shorter, target}
 use Rattle.el_chain.specs.Touches.{Touch}
 use Rattle.el_row_formats.specs.Tables.{Tables}
-use Rattle.el_schema.specs.Standing.{StandFor}
 use Rattle.el_queries.specs.TouchedBy.{touched_in}
+use Rattle.el_index.specs.Means.{AreRowsOf}
 
 -- one of the blocks touches the script hash, each where those before it stand after the chain
 abbrev pub touched_among : Hash32 → Chain → Chain → Bool
@@ -34,21 +34,21 @@ pub record IsAfter (chain : Chain) (node : Node) (text : List ℕ) (rows : Table
   pub place : b.place ≡ node.place
   pub encodes : EncodesBlock text b.block
   pub next : IsNext chain b.block
-  pub stand : StandFor rows (chain ++ b ∷ [])
+  pub stand : AreRowsOf rows (chain ++ b ∷ [])
   pub hash : tip (chain ++ b ∷ []) ≡ node.hash
 
 -- The blocks of some nodes do, one after the other.
 pub record AreAfter (chain : Chain) (nodes : List Node) (texts : List (List ℕ)) (rows : Tables)
     (blocks : Chain) : Type 0 where
   pub next : AreNextBlocks chain nodes texts blocks
-  pub stand : StandFor rows (chain ++ blocks)
+  pub stand : AreRowsOf rows (chain ++ blocks)
 
 -- The rows are those of the chain that the move leads to, with these blocks, and these are the script hashes
 -- that it touches.
 pub record AreMoved (p : Plan) (chain : Chain) (texts : List (List ℕ)) (scripts : List Hash32)
     (rows : Tables) (blocks : Chain) : Type 0 where
   pub next : AreNextBlocks (shorter p.back chain) p.forward texts blocks
-  pub stand : StandFor rows (target p chain blocks)
+  pub stand : AreRowsOf rows (target p chain blocks)
   pub touched : Touch scripts (coins (shorter p.back chain)) (drop (length chain - p.back) chain ++ blocks)
 
 -- no fault of a block, but the device's, or out of memory

@@ -13,8 +13,7 @@ use Rattle.el_row_formats.specs.RowBytes.{block_row_bytes}
 use Rattle.el_row_formats.specs.declared.table.Table.TheVariants as table
 use Rattle.el_tables.specs.ChainLists.{listed_blocks_from}
 use Rattle.el_schema.specs.Rows.{block_fields}
-use Rattle.el_schema.specs.Standing.{StandFor}
-use Rattle.el_index.specs.Means.{top, IsIndexOf, Means}
+use Rattle.el_index.specs.Means.{top, AreRowsOf, IsIndexOf, Means}
 
 -- each block of a chain is listed
 listed : (height first : ℕ) (chain : Chain) (coins : List Coin)
@@ -23,13 +22,13 @@ listed height first [] coins = refl
 listed height first (b ∷ bs) coins =
     ap suc (listed (height + 1) (first + length b.block.txs) bs (coins_after_all height b.block.txs coins))
 
--- rows that stand for a chain have a row for each of its blocks
-pub block_rows : (rows : Tables) (chain : Chain) → StandFor rows chain
+-- the rows of an index have one for each block of its chain
+pub block_rows : (rows : Tables) (chain : Chain) → AreRowsOf rows chain
     → length (rows table.Blocks) ≡ length chain
 block_rows rows chain stand =
-    ap length (stand.1.encode.each table.Blocks)
-    ∙ length-map stand.1.tables.blocks (λ b. block_row_bytes (block_fields b))
-    ∙ ap length stand.1.stand.blocks ∙ listed 0 0 chain []
+    ap length (stand.encode.each table.Blocks)
+    ∙ length-map stand.tables.blocks (λ b. block_row_bytes (block_fields b))
+    ∙ ap length stand.stand.blocks ∙ listed 0 0 chain []
 
 -- the height is that of the last block
 top_is : (chain : Chain) → top (length chain) ≡ height_of chain
@@ -51,7 +50,7 @@ tip_is tells rows kept chain stands = stands.last
 -- an index stands for good chains alone
 pub good : (tells : Type 0) (rows : Tables) (kept : Option Hash32) (chain : Chain)
     → IsIndexOf tells rows kept chain → IsGood chain
-good tells rows kept chain stands = stands.stand.1.stand.good
+good tells rows kept chain stands = stands.stand.stand.good
 
 -- what is left that shows the index's rows stands for its chain
 pub leaves_own : {C : Type 0} → (shows : C → Tables → Type 0) (tells : Type 0) (rows : Tables)

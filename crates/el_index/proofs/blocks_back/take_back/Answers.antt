@@ -1,6 +1,7 @@
 use Rattle.std.proofs.Common.{◌+◌, ◌-◌, length, drop, arith}
 use Rattle.el_rows.proofs.TransactionLemmas.{as_edited, more_edits, nothing}
 use Rattle.el_chain.specs.Moves.{shorter}
+use Rattle.el_row_formats.specs.declared.limits.TheConstants.{BUCKET_COUNT}
 use Rattle.el_index.proofs.Touchings.{added_none, added_before, last_is, none_taken, none_gone}
 use Rattle.el_index.proofs.blocks_back.take_back.Goals as goal
 
@@ -19,10 +20,10 @@ loop-preserved g c = record {
   back = λ chain told stand fits.
       let last = last_is chain c.loop.counter (omega arith) in
       let here = rw last.1.front at (c.loop.invariant.back chain told stand fits) in
-      (here.0, c.in_ok-take_back_one.ensures.back here.0 (shorter (c.loop.counter + 1) chain) last.0 told here.1);
+      c.in_ok-take_back_one.ensures.back BUCKET_COUNT (shorter (c.loop.counter + 1) chain) last.0 told here;
   touched = λ chain told stand fits.
       let last = last_is chain c.loop.counter (omega arith) in
       let here = rw last.1.front at (c.loop.invariant.back chain told stand fits) in
       let so_far = rw last.1.front at (c.loop.invariant.touched chain told stand fits) in
-      rw last.1.back (added_before (shorter (c.loop.counter + 1) chain) (drop (length chain - c.loop.counter) chain) last.0 c.args.touched.now c.loop.touched c.take_back_one.new.touched so_far (c.in_ok-take_back_one.ensures.touched (shorter (c.loop.counter + 1) chain) last.0 told here));
+      rw last.1.back (added_before (shorter (c.loop.counter + 1) chain) (drop (length chain - c.loop.counter) chain) last.0 c.args.touched.now c.loop.touched c.take_back_one.new.touched so_far (c.in_ok-take_back_one.ensures.touched (shorter (c.loop.counter + 1) chain) last.0 told (BUCKET_COUNT, here)));
 }

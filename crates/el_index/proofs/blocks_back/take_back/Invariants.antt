@@ -4,7 +4,7 @@ use Rattle.el_chain.specs.Moves.{shorter}
 use Rattle.el_row_formats.specs.declared.table.Table.TheVariants as table
 use Rattle.el_rows.specs.Transaction.{tables_in}
 use Rattle.el_rows.proofs.TransactionLemmas.{EditedSoFar}
-use Rattle.el_schema.specs.Standing.{StandFor}
+use Rattle.el_index.specs.Means.{AreRowsOf}
 use Rattle.el_index.specs.within.Adding.{AreAdded}
 use Rattle.el_index.proofs.blocks_back.take_back.Given as goal
 
@@ -12,8 +12,8 @@ abbrev pub invariant-loop : goal.invariant-loop
 invariant-loop g l = record {
   edits : EditedSoFar {G = g.R.Rows} l.fn.t l.t;
   fewer : length (tables_in {G = g.R.Rows} l.t table.Blocks) ≡ length (tables_in {G = g.R.Rows} l.fn.t table.Blocks) - l.counter;
-  back : (chain : Chain) → g.R.Rows.tells → StandFor (tables_in {G = g.R.Rows} l.fn.t) chain → l.back ≤ length chain
-      → StandFor (tables_in {G = g.R.Rows} l.t) (shorter l.counter chain);
-  touched : (chain : Chain) → g.R.Rows.tells → StandFor (tables_in {G = g.R.Rows} l.fn.t) chain → l.back ≤ length chain
+  back : (chain : Chain) → g.R.Rows.tells → AreRowsOf (tables_in {G = g.R.Rows} l.fn.t) chain → l.back ≤ length chain
+      → AreRowsOf (tables_in {G = g.R.Rows} l.t) (shorter l.counter chain);
+  touched : (chain : Chain) → g.R.Rows.tells → AreRowsOf (tables_in {G = g.R.Rows} l.fn.t) chain → l.back ≤ length chain
       → AreAdded (shorter l.counter chain) (drop (length chain - l.counter) chain) l.fn.touched l.touched;
 }

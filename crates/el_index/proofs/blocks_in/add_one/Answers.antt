@@ -3,9 +3,10 @@ use Rattle.std.proofs.lemmas.Result.{err_from_is_err_and}
 use Rattle.el_rows.specs.Transaction.{tables_in}
 use Rattle.el_chain.specs.Moves.{IsStop}
 use Rattle.el_chain.proofs.CoinSteps.{err_passed}
-use Rattle.el_schema.specs.Standing.{heads_after}
+use Rattle.el_row_formats.specs.declared.limits.TheConstants.{BUCKET_COUNT}
 use Rattle.el_index.specs.within.Adding.{IsOwn}
 use Rattle.el_index.proofs.Addings.{is_after, names_tip}
+use Rattle.el_index.proofs.IndexRows.{rows_after}
 use Rattle.el_index.proofs.blocks_in.add_one.Goals as goal
 
 pub returns-in_err-prepared-clause-first_fault : goal.returns-in_err-prepared-clause-first_fault
@@ -22,11 +23,11 @@ returns-in_err-connect_for-clause-first_fault g c chain told stand names =
     let named = names_tip c.args.node.now c.args.text.now r.0 _ c.requires.node c.requires.of r.1 names in
     err_passed c.from_residual-in_err-connect_for.result (λ e. IsOwn e ⊎ IsStop chain c.args.node.now.hash c.args.text.now e) c.in_err-connect_for.field-0.0
     (err_from_is_err_and c.from_residual-in_err-connect_for.result c.from_residual-in_err-connect_for.ensures.1)
-    (c.in_err-connect_for.ensures.first_fault chain r.0 c.args.text.now told stand r.1 r.2 named)
+    (c.in_err-connect_for.ensures.first_fault chain r.0 c.args.text.now told (BUCKET_COUNT, stand) r.1 r.2 named)
 
 pub returns-clause-added : goal.returns-clause-added
 returns-clause-added g c chain told stand names =
     let r = c.in_ok-prepared.ensures.read in
     let named = names_tip c.args.node.now c.args.text.now r.0 _ c.requires.node c.requires.of r.1 names in
-    let done = c.in_ok-connect_for.ensures.connected stand.0 chain r.0 told stand.1 (c.args.text.now, r.1) r.2 named in
-    is_after chain c.args.node.now c.args.text.now (tables_in {G = g.R.Rows} c.connect_for.new.t) r.0 c.requires.node c.requires.of r.1 named (done.0, (heads_after stand.0 chain, done.1))
+    let done = c.in_ok-connect_for.ensures.connected BUCKET_COUNT chain r.0 told stand (c.args.text.now, r.1) r.2 named in
+    is_after chain c.args.node.now c.args.text.now (tables_in {G = g.R.Rows} c.connect_for.new.t) r.0 c.requires.node c.requires.of r.1 named (done.0, rows_after _ chain _ done.1)

@@ -1,5 +1,6 @@
 use Rattle.std.proofs.Common.{◌⊎◌, inl, ℕ, ◌+◌, length, ap, ap₂, sym, ◌∙◌}
 use Rattle.std.proofs.lemmas.Result.{err_from_is_err_and}
+use Rattle.el_row_formats.specs.declared.limits.TheConstants.{BUCKET_COUNT}
 use Rattle.el_chain.specs.Moves.{FaultInAt, shorter}
 use Rattle.el_chain.proofs.CoinSteps.{err_passed}
 use Rattle.el_index.specs.within.Adding.{IsOwn}
@@ -34,9 +35,9 @@ returns-clause-moved g c chain told stand fits =
     let after = rw c.as_slice.ensures at c.in_ok-add_all.ensures.added base told back fits.linked in (
       after.0,
       moved_same c.args.plan.now chain c.args.texts.now _ _ _ after.0 (sym c.touch_all.ensures.read.tables)
-          (are_moved c.each_block_touches_what_the_move_touches.ensures c.args.plan.now chain c.args.texts.now c.args.touched.now c.take_back.new.touched c.touch_all.new.touched _ after.0 stand.1.stand.good c.requires.none
+          (are_moved c.each_block_touches_what_the_move_touches.ensures c.args.plan.now chain c.args.texts.now c.args.touched.now c.take_back.new.touched c.touch_all.new.touched _ after.0 stand.stand.good c.requires.none
           (c.in_ok-take_back.ensures.touched chain told stand fits.within) after.1
-          (λ s. c.in_ok-touch_all.ensures.touched base after.0 before s told after.1.stand back c.count-txs.ensures.count c.count-entries.ensures.count)),
+          (λ s. c.in_ok-touch_all.ensures.touched base after.0 before s told (BUCKET_COUNT, after.1.stand) (BUCKET_COUNT, back) c.count-txs.ensures.count c.count-entries.ensures.count)),
     )
 
 pub returns-clause-top : goal.returns-clause-top

@@ -1,5 +1,4 @@
 use Rattle.std.proofs.Common.{inl, []}
-use Rattle.el_journal.specs.declared.mark.TheConstants.{JOURNAL}
 use Rattle.el_program.proofs.LifeLemmas.{empty_means}
 use Rattle.el_program.proofs.lives.live.Goals as goal
 
@@ -7,6 +6,6 @@ pub returns : goal.returns
 returns g c = record {
   whole = λ magic told serves fresh.
       let r = c.live_on.ensures.lived magic [] [] told serves
-      (λ image now. inl (empty_means magic image (fresh image now JOURNAL))) in
+      (λ image now. inl (empty_means magic image (fresh image now))) in
       (r.lives, r.over, r.are, r.last, r.others, r.go_on);
 }

@@ -1,11 +1,11 @@
-use Rattle.std.proofs.Common.{◌≡◌, ◌∙◌, [], inl, inr, sym, ap}
+use Rattle.std.proofs.Common.{◌≡◌, ◌∙◌, inr, inl, sym, ap}
 use Rattle.el_outside.specs.Disk.{Image}
-use Rattle.el_outside.specs.Images.{at_file}
 use Rattle.el_outside.proofs.Traces.{goes_none}
-use Rattle.el_journal.specs.declared.mark.TheConstants.{JOURNAL}
-use Rattle.el_program.proofs.IndexDisks.{past_journal}
+use Rattle.el_pages.specs.Stores.{disk_below, beside_in}
+use Rattle.el_program.proofs.IndexDisks.{unopened}
 use Rattle.el_program.specs.IndexDisks.{LeavesOneOf}
 use Rattle.el_loop.specs.Runs.{no_traffic}
+use Rattle.el_program.proofs.Rises.{unopened_caused}
 use Rattle.el_program.proofs.Servings.{serve_told, unopened_ends}
 use Rattle.el_program.proofs.serving.serve_disk.Goals as goal
 
@@ -13,8 +13,8 @@ pub returns-in-Ok-clause-ends : goal.returns-in-Ok-clause-ends
 returns-in-Ok-clause-ends g c = λ was flight chain is.
     let r = rw (c.in-Ok.ensures.uncounted, c.magic.ensures) at
     (c.serve_index-status.ensures.ends chain (c.in-Ok.ensures.stands was flight chain is)) in
-    let same : c.into_disk.result ≡ c.serve_index-status.result.1.rows.journal.disk =
-    c.into_disk.ensures.disk ∙ ap (λ s. s.journal.disk) c.into_rows.ensures in
+    let same : c.into_disk.result ≡ disk_below c.serve_index-status.result.1.rows =
+    c.into_disk.ensures.disk ∙ ap (λ s. disk_below s) c.into_rows.ensures in
     rw same (
       r.0,
       r.1,
@@ -25,12 +25,19 @@ returns-in-Ok-clause-ends g c = λ was flight chain is.
 
 pub returns-in-Ok-clause-causes : goal.returns-in-Ok-clause-causes
 returns-in-Ok-clause-causes g c =
-    let same : c.into_disk.result ≡ c.serve_index-status.result.1.rows.journal.disk =
-    c.into_disk.ensures.disk ∙ ap (λ s. s.journal.disk) c.into_rows.ensures in
+    let same : c.into_disk.result ≡ disk_below c.serve_index-status.result.1.rows =
+    c.into_disk.ensures.disk ∙ ap (λ s. disk_below s) c.into_rows.ensures in
     rw same (rw c.in-Ok.ensures.uncounted at c.serve_index-status.ensures.causes)
+
+pub returns-in-Err-clause-causes : goal.returns-in-Err-clause-causes
+returns-in-Err-clause-causes g c = unopened_caused _ _ _ _ _ _ c.in-Err.status c.in-Err.ensures.status
+    c.in-Err.ensures.counted c.in-Err.ensures.others_uncounted
 
 pub returns-in-Ok-clause-is_bad : goal.returns-in-Ok-clause-is_bad
 returns-in-Ok-clause-is_bad g c = λ told is. absurd (c.in-Ok.ensures.is_bad told is)
+
+pub returns-in-Err-clause-is_bad : goal.returns-in-Err-clause-is_bad
+returns-in-Err-clause-is_bad g c = λ told is. unopened c.in-Err.status (c.in-Err.ensures.is_bad told is)
 
 pub returns-in-Err-clause-ends : goal.returns-in-Err-clause-ends
 returns-in-Err-clause-ends g c = λ was flight chain is.
@@ -56,8 +63,8 @@ returns-in-Err-clause-kept_counts g c = λ bad. c.in-Err.ensures.others_uncounte
 
 pub returns-in-Ok-clause-others : goal.returns-in-Ok-clause-others
 returns-in-Ok-clause-others g c = λ told f beyond.
-    let back = c.into_disk.ensures.beside f (past_journal beyond) in
-    sym back ∙ ap (λ s. at_file (g.D.Disk.seen s.journal.disk) JOURNAL [] f) c.into_rows.ensures
+    let back = c.into_disk.ensures.beside f beyond in
+    sym back ∙ ap (λ s. beside_in (g.D.Disk.seen (disk_below s)) f) c.into_rows.ensures
     ∙ ap (λ (image : Image). image f) (c.serve_index-status.ensures.beside told) ∙ c.in-Ok.ensures.beside told f beyond
 
 pub returns-in-Err-clause-others : goal.returns-in-Err-clause-others

@@ -2,4 +2,4 @@ use Rattle.std.proofs.Common.{◌≡◌}
 use Rattle.el_store_tests.proofs.row_tests.edit_all.Given as goal
 
 abbrev pub invariant-loop : goal.invariant-loop
-invariant-loop l = l.txn.rows.ghost_name ≡ l.fn.txn.rows.ghost_name
+invariant-loop g l = (l.txn.rows.now ≡ l.fn.txn.rows.now) × (l.txn.rows.ghost_name ≡ l.fn.txn.rows.ghost_name)

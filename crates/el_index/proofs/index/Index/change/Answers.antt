@@ -8,7 +8,7 @@ use Rattle.el_row_formats.specs.Tables.{Tables}
 use Rattle.el_rows.specs.Transaction.{tables_in}
 use Rattle.el_rows.proofs.ReadsLemmas.{read_joined}
 use Rattle.el_chain.specs.Moves.{target}
-use Rattle.el_schema.proofs.StandingLemmas.{same_stand}
+use Rattle.el_index.proofs.IndexRows.{same_rows}
 use Rattle.el_index.proofs.Kept.{only_read, begun, beside_read}
 use Rattle.el_index.proofs.Targets.{moved_rows, tip_moved}
 use Rattle.el_index.proofs.index.Index.change.Goals as goal
@@ -37,7 +37,7 @@ returns-in-Err-DiskFailed-clause-crash_failed g c chain told stand fits failed =
     let mid = c.hash_after.new.t.rows.now in
     let there = under (r.lists mid) c.in_ok-sealed.sealed.counts c.in_ok-sealed.sealed.changes in
     let reads = read_joined r c.args.self.now.rows c.edit.new.t.rows.now mid (rw c.new-txn.ensures.below at c.edit.ensures.edits.only) c.hash_after.ensures.read.only in
-    let done = c.in_ok-edit.ensures.moved chain told (same_stand _ (tables_in {G = r} c.new-txn.result) chain stand (c.new-txn.ensures.tables told)) fits in
+    let done = c.in_ok-edit.ensures.moved chain told (same_rows _ (tables_in {G = r} c.new-txn.result) chain stand (c.new-txn.ensures.tables told)) fits in
     let sealed = moved_rows p chain c.args.texts.now _ _ there done.0 done.1 (λ t. c.in_ok-sealed.ensures.tables t ∙ ap (λ (T : Tables). T t) c.hash_after.ensures.read.tables) in (
       target p chain done.0,
       inr (done.0, done.1.next, refl),
@@ -52,7 +52,7 @@ returns-in-Ok-clause-moved g c chain told stand fits =
     let mid = c.hash_after.new.t.rows.now in
     let there = under (r.lists mid) c.in_ok-sealed.sealed.counts c.in_ok-sealed.sealed.changes in
     let reads = read_joined r c.args.self.now.rows c.edit.new.t.rows.now mid (rw c.new-txn.ensures.below at c.edit.ensures.edits.only) c.hash_after.ensures.read.only in
-    let done = c.in_ok-edit.ensures.moved chain told (same_stand _ (tables_in {G = r} c.new-txn.result) chain stand (c.new-txn.ensures.tables told)) fits in
+    let done = c.in_ok-edit.ensures.moved chain told (same_rows _ (tables_in {G = r} c.new-txn.result) chain stand (c.new-txn.ensures.tables told)) fits in
     let sealed = moved_rows p chain c.args.texts.now _ _ there done.0 done.1 (λ t. c.in_ok-sealed.ensures.tables t ∙ ap (λ (T : Tables). T t) c.hash_after.ensures.read.tables) in (
       done.0,
       moved_rows p chain c.args.texts.now _ there _ done.0 sealed (rw c.in_ok-sealed.ensures.rows at c.in-Ok.ensures.lists told),

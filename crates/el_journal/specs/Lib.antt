@@ -1,3 +1,0 @@
-pub mod Entries
-pub mod Journals
-pub mod within

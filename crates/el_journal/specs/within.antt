@@ -1,3 +1,0 @@
-pub mod Body
-pub mod Gates
-pub mod Stands

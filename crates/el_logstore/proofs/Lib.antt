@@ -1,2 +1,0 @@
-pub mod MakesLemmas
-pub mod StoreLemmas
