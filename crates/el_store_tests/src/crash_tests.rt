@@ -1,4 +1,5 @@
-// What a crash leaves of an index while a commit is made, and while an opening is: the old rows or the new ones.
+// What a crash leaves of an index while a commit is made, and while an opening is: the old rows or the new
+// ones.
 
 use crate::crashes::{IMAGES, after_opening, base, crashed, is_open, second_stopped};
 use crate::disks::{copy_of, none_fails, open, reopened};
@@ -90,8 +91,8 @@ fn opened(alloc: Global, disk: MemDisk, trial: &mut Trial) -> Result<Found, Fail
     Ok(Found::Others)
 }
 
-// Whether those rows may be found where the gate was written open so many calls ago, of the calls of a commit:
-// until that write the old ones alone, and once it is synced the new ones alone.
+// Whether those rows may be found where the gate was written open so many calls ago, of the calls of a
+// commit: until that write the old ones alone, and once it is synced the new ones alone.
 fn may_be(found: Found, calls: u64) -> bool {
     match found {
         Found::Old => calls <= 2,

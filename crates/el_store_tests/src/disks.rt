@@ -1,5 +1,5 @@
-// What the tests of disks share: the calls that fail, disks of files that were written by hand, and stores that
-// are opened on them.
+// What the tests of disks share: the calls that fail, disks of files that were written by hand, and stores
+// that are opened on them.
 ghost use Rattle.std.specs.Prelude.{IfOk};
 
 use el_base::OutOfMemory;
@@ -12,14 +12,14 @@ use el_rows::Rows;
 use std::alloc::Global;
 use std::test::Fail;
 
-/// The meta row of two blocks, three transactions, all heads, four outputs, two inputs, three scripts and five
-/// entries: letters, format 1, the main network's magic, and the counts.
+/// The meta row of two blocks, three transactions, all heads, four outputs, two inputs, three scripts and
+/// five entries: letters, format 1, the main network's magic, and the counts.
 pub const META: &[u8] = b"ELIX\x01\0\0\0\xf9\xbe\xb4\xd9\
 \x02\0\0\0\0\0\0\0\x03\0\0\0\0\0\0\0\0\0\x01\0\0\0\0\0\x04\0\0\0\0\0\0\0\
 \x02\0\0\0\0\0\0\0\x03\0\0\0\0\0\0\0\0\0\x01\0\0\0\0\0\x05\0\0\0\0\0\0\0";
 
-/// How many bytes the meta file then has and the tables' files, whose rows have 112, 68, 4, 21, 4, 52, 4 and 12
-/// bytes.
+/// How many bytes the meta file then has and the tables' files, whose rows have 112, 68, 4, 21, 4, 52, 4 and
+/// 12 bytes.
 pub const SIZES: [usize; 9] = [76, 224, 204, 262_144, 84, 8, 156, 262_144, 60];
 
 /// The bytes from a place on, up to another one; none where there are fewer.

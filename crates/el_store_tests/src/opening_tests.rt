@@ -1,5 +1,5 @@
-// Indexes that stand for no tables: each check of an opening, with what it wanted and what it found. All bytes
-// are written by hand from the format.
+// Indexes that stand for no tables: each check of an opening, with what it wanted and what it found. All
+// bytes are written by hand from the format.
 
 use crate::disks::{META, SIZES, copy_of, none_fails, part, put_file};
 use el_base::OutOfMemory;

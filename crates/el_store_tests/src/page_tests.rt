@@ -1,5 +1,5 @@
-// What commits write and what is read after them: the files' sizes and bytes, written by hand from the format,
-// and the rows of a store over files beside those of one in memory.
+// What commits write and what is read after them: the files' sizes and bytes, written by hand from the
+// format, and the rows of a store over files beside those of one in memory.
 ghost use Rattle.std.specs.Prelude.{◌≡◌, IfOk, OnOk};
 
 use crate::crashes::base;
@@ -127,8 +127,8 @@ fn commit_by_hand<R: Rows>(alloc: Global, rows: &mut R) -> Result<Result<(), Com
     Ok(rows.commit(&sealed))
 }
 
-// The redo file after it, in which nothing was before: the closed gate, the length, 123, the meta row, and the
-// changes by rising table.
+// The redo file after it, in which nothing was before: the closed gate, the length, 123, the meta row, and
+// the changes by rising table.
 const RECORD: &[u8] = b"\0\x7b\0\0\0\0\0\0\0ELIX\x01\0\0\0\xf9\xbe\xb4\xd9\
 \x02\0\0\0\0\0\0\0\x03\0\0\0\0\0\0\0\0\0\x01\0\0\0\0\0\x03\0\0\0\0\0\0\0\
 \x02\0\0\0\0\0\0\0\x03\0\0\0\0\0\0\0\0\0\x01\0\0\0\0\0\x06\0\0\0\0\0\0\0\

@@ -31,7 +31,8 @@ const NAMES: &str = "\
     {parse} {\"error\":{\"code\":-32700,\"message\":\"parse error\"},\"id\":null,\"jsonrpc\":\"2.0\"}\n\
     {changed} {\"error\":{\"code\":5,\"message\":\"block files changed\"},\"id\":1,\"jsonrpc\":\"2.0\"}\n\
     {failed} {\"error\":{\"code\":4,\"message\":\"block files failed\"},\"id\":1,\"jsonrpc\":\"2.0\"}\n\
-    {index-failed} {\"error\":{\"code\":3,\"message\":\"index device failed\"},\"id\":1,\"jsonrpc\":\"2.0\"}\n\
+    {index-failed} \
+    {\"error\":{\"code\":3,\"message\":\"index device failed\"},\"id\":1,\"jsonrpc\":\"2.0\"}\n\
     {too-many} {\"error\":{\"code\":1,\"message\":\"too many subscriptions\"},\"id\":1,\"jsonrpc\":\"2.0\"}\n\
     {gives} {\"id\":1,\"jsonrpc\":\"2.0\",\"result\":\"\n\
     {given} \"}\n\
