@@ -66,7 +66,7 @@ module _ {X : Type 0} where
   lookup-promoted q k es = front_same q k es (lookup_entry (nat_eq k) es) refl
 
   -- what is found among the first entries is found among all
-  taken : (q n : ℕ) (es : List (ℕ × X)) (w : X) → found q (take n es) ≡ Some w → found q es ≡ Some w
+  pub taken : (q n : ℕ) (es : List (ℕ × X)) (w : X) → found q (take n es) ≡ Some w → found q es ≡ Some w
   taken q zero es w is = cc
   taken q (suc n) [] w is = cc
   taken q (suc n) (e ∷ es) w is = ⊎_elim

@@ -1,5 +1,5 @@
 -- What the calls of a cache leave of the rows in its pages.
-use Rattle.std.proofs.Common.{◌≡◌, ◌≢◌, ◌⊎◌, inl, inr, ⊎_elim, ℕ, ◌+◌, ◌-◌, ◌*◌, ◌<◌, ◌≤◌, List, [], Bool, true, false, Option, Some, None, length, get_or, drop, refl, sym, ◌∙◌, ap, subst, arith}
+use Rattle.std.proofs.Common.{◌≡◌, ◌≢◌, ◌⊎◌, inl, inr, ⊎_elim, ℕ, ◌+◌, ◌-◌, ◌*◌, ◌<◌, ◌≤◌, List, [], Bool, true, false, Option, Some, None, length, get_or, take, drop, refl, sym, ◌∙◌, ap, subst, arith}
 use Rattle.std.specs.Prelude.{nat_eq, Result, Ok, Err, OnOk, OnErr, is_ok, is_some, IsTrue}
 use Rattle.std.specs.Map.{set_value}
 use Rattle.std.proofs.lemmas.Bool.{cases_eq, cases_lt}
@@ -10,7 +10,7 @@ use Rattle.el_row_formats.specs.Tables.{Tables, size_of, row_at}
 use Rattle.el_page_cache.specs.Pages.{KeptPages, rows_in_page, page_of, place_of, row_of, page_key, page_in, HasRows, Agrees, IsWrittenTo, IsWritten}
 use Rattle.el_page_cache.proofs.Rows.{rows_over_here, rows_over_other, row_drop}
 use Rattle.el_page_cache.proofs.Places.{at_place, place_within, same_page, one_key, row_fits, rows_fit}
-use Rattle.el_page_cache.proofs.Lookups.{lookup-promoted, lookup-put, set_here, set_elsewhere}
+use Rattle.el_page_cache.proofs.Lookups.{lookup-promoted, taken, lookup-put, set_here, set_elsewhere}
 
 -- what a cache that was put into has
 pub entries_put : (cache new : LruCache ℕ (List ℕ)) (old : KeptPages) (k number : ℕ) (v bytes : List ℕ) → cache.entries ≡ old → cache.cap ≡ 4096 → k ≡ number → v ≡ bytes
@@ -21,6 +21,10 @@ entries_put cache new old k number v bytes view most key_is value_is is =
     ∙ ap (λ n. put_entries nat_eq (lru_cache old n) k v) most
     ∙ ap (λ n. put_entries nat_eq (lru_cache old 4096) n v) key_is
     ∙ ap (λ b. put_entries nat_eq (lru_cache old 4096) number b) value_is
+
+-- and one whose last page was taken
+pub entries_left : (cache new : LruCache ℕ (List ℕ)) (old : KeptPages) → cache.entries ≡ old → new ≡ lru_cache (take (length cache.entries - 1) cache.entries) cache.cap → new.entries ≡ take (length old - 1) old
+entries_left cache new old view is = ap (λ (x : LruCache ℕ (List ℕ)). x.entries) is ∙ ap (λ (es : List (ℕ × List ℕ)). take (length es - 1) es) view
 
 pub either : {T E P Q : Type 0} (r : Result T E) → OnOk r P → OnErr r Q → P ⊎ Q
 either (Ok v) p q = inl p
@@ -42,6 +46,10 @@ module _ (pages : KeptPages) (lists : Tables) (counts : Table → ℕ) (agrees :
   -- a page that is used last is the same
   pub agrees_promoted : (k : ℕ) → Agrees (promoted (nat_eq k) pages) lists counts
   agrees_promoted k t n page there = agrees t n page (sym (lookup-promoted (page_key t n) k pages) ∙ there)
+
+  -- the pages that were used last stay
+  pub agrees_taken : (n : ℕ) → Agrees (take n pages) lists counts
+  agrees_taken n t m page there = agrees t m page (taken (page_key t m) n pages page there)
 
   -- a page of rows is kept
   pub agrees_put : (t : Table) (n : ℕ) (bytes : List ℕ) → HasRows lists counts t n bytes → Agrees (put_entries nat_eq (lru_cache pages 4096) (page_key t n) bytes) lists counts

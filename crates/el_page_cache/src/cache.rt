@@ -1,5 +1,5 @@
 // The pages that are kept.
-ghost use Rattle.std.specs.Prelude.{◌≡◌, ◌<◌, ◌≤◌, ◌+◌, ◌*◌, ◌-◌, ℕ, List, [], Some, None, length, min, nat_eq, is_some, get_or, IfSome, IsTrue, IsFalse};
+ghost use Rattle.std.specs.Prelude.{◌≡◌, ◌<◌, ◌≤◌, ◌+◌, ◌*◌, ◌-◌, ℕ, List, [], Some, None, length, take, min, nat_eq, is_some, get_or, IfSome, IsSome, IsTrue, IsFalse};
 ghost use Rattle.std.specs.Map.{keys_of, set_value};
 ghost use Rattle.lru.specs.LruCache.{lru_cache, promoted, put_entries};
 ghost use Rattle.el_outside.specs.Disk.{over};
@@ -7,7 +7,7 @@ ghost use Rattle.el_row_formats.specs.declared.table.Table.{Table};
 ghost use Rattle.el_row_formats.specs.Tables.{Tables, size_of, limit_of, row_at};
 ghost use Rattle.el_page_cache.specs.Pages.{rows_in_page, page_of, place_of, page_key, page_in, HasRows, Agrees, IsWritten};
 
-use crate::page::{MAX_PAGES, Page, key_of, place_of, rows_in_page};
+use crate::page::{MAX_PAGES, Page, key_of, place_of, rows_in_page, zero_page};
 use el_row_formats::Table;
 use lru::LruCache;
 use std::alloc::Global;
@@ -86,6 +86,24 @@ impl PageCache {
             → i < counts t → IsTrue result → buf.new ≡ get_or (lists t) i [] }
     {
         self.find(t, i, buf)
+    }
+
+    /// 4,096 bytes for a page that is to be read, whatever they are: those of the page that wasn't used for
+    /// longest, which is then no longer kept, where as many are kept as may be, and else new ones. `None`
+    /// where there is no memory for new ones.
+    pub fn take_page(&mut self, alloc: Global) -> Option<Vec<u8>>
+        ensures long { IfSome result (λ page. length page.items ≡ 4096) }
+        ensures full { length self.old ≡ 4096 → self.new ≡ take 4095 self.old }
+        ensures taken { length self.old ≡ 4096 → IsSome result }
+        ensures room { length self.old < 4096 → self.new ≡ self.old }
+        ensures agrees { (lists : Tables) (counts : Table → ℕ) → Agrees self.old lists counts
+            → Agrees self.new lists counts }
+    {
+        if self.pages.len() < MAX_PAGES {
+            return zero_page(alloc);
+        }
+        let (_, page) = self.pages.pop_lru()?;
+        Some(page.into_bytes())
     }
 
     /// Keeps the page of a row, as the one that was used last. Where as many pages are kept as may be, the

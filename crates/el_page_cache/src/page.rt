@@ -1,10 +1,11 @@
 // One page: bytes, of which whole rows count.
-ghost use Rattle.std.specs.Prelude.{◌≡◌, ◌<◌, ◌≤◌, ◌+◌, ◌*◌, ◌^◌, length};
+ghost use Rattle.std.specs.Prelude.{◌≡◌, ◌<◌, ◌≤◌, ◌+◌, ◌*◌, ◌^◌, length, IfSome};
 ghost use Rattle.el_outside.specs.Disk.{over};
 ghost use Rattle.el_row_formats.specs.Tables.{size_of, row_at};
 ghost use Rattle.el_page_cache.specs.Pages.{rows_in_page, page_of, place_of, page_key};
 
 use el_row_formats::Table;
+use std::alloc::Global;
 use std::marker::Model;
 
 /// How many bytes a page has. The rows that stand whole in them are the page's.
@@ -38,6 +39,14 @@ impl Page {
         Page { bytes }
     }
 
+    // Its bytes.
+    pub(crate) fn into_bytes(self) -> Vec<u8>
+        ensures bytes { result.items ≡ self }
+        ensures whole { length self ≡ 4096 }
+    {
+        self.bytes
+    }
+
     // Copies a row that is in it into the buffer.
     pub(crate) fn copy_row(&self, t: Table, i: u64, buf: &mut [u8])
         requires sized { length buf.old ≡ size_of t }
@@ -56,6 +65,13 @@ impl Page {
         let _ = rows;
         write_over(&mut self.bytes, place * t.size(), bytes);
     }
+}
+
+// A page of zeros, where there is memory for it.
+pub(crate) fn zero_page(alloc: Global) -> Option<Vec<u8>>
+    ensures { IfSome result (λ page. length page.items ≡ 4096) }
+{
+    vec![in alloc; 0u8; PAGE_BYTES].ok()
 }
 
 /// Copies a row into the buffer from the bytes of its page.
