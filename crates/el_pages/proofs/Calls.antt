@@ -10,7 +10,7 @@ use Rattle.el_redo.specs.RedoBody.{change_bytes, changes_bytes}
 use Rattle.el_redo.proofs.BodyLemmas.{length-change, changes_append, changes_put}
 use Rattle.el_page_cache.proofs.Rows.{length-row, row_ends}
 use Rattle.el_pages.specs.declared.staging.Next.{Next}
-use Rattle.el_pages.specs.within.Staging.{least_write, writes_through, IsPaid, AreFew}
+use Rattle.el_pages.specs.within.Staging.{least_write, full_writes, writes_through, IsPaid, AreFew}
 
 -- nothing was put
 pub paid_none : (size calls : ℕ) (n : Next) → IsPaid size calls calls n n 0
@@ -63,16 +63,21 @@ few_on size other a b c old mid n m total same le paid few =
     few_most size a c (old.used + (n + m)) (old.used + total) (omega (arith, le)) (few_after size a b c old mid n m paid (subst (λ s. AreFew s b c (mid.used + m)) same few))
 
 -- how many they are
+pub paid_writes : (size a b n : ℕ) → 256 ≤ size → b * least_write size ≤ a * least_write size + n → b ≤ a + full_writes size n
+paid_writes size a b n big paid =
+    let least = least_write size in
+    let back : (b - a) * least ≤ n = within (b - a) (λ le. let is : b ≡ a + (b - a) = omega (arith, le) in
+    ap (λ k. k * least) is ∙ (let e : (a + (b - a)) * least ≡ a * least + (b - a) * least = omega arith in e)) in
+    omega (arith, le-div (b - a) n least (omega (arith, big)) back)
+  where
+    within : (d : ℕ) → (0 < d → b * least_write size ≡ a * least_write size + d * least_write size) → d * least_write size ≤ n
+    within zero is = omega arith
+    within (suc d) is = omega (arith, is (omega arith), paid)
+
 pub few_writes : (size a b n : ℕ) → 256 ≤ size → AreFew size a b n → b ≤ a + writes_through size n
 few_writes size a b n big few =
-    let least = least_write size in
-    let back : (b - a - 1) * least ≤ n = within (b - a - 1) (λ le. let is : b ≡ a + 1 + (b - a - 1) = omega (arith, le) in
-    ap (λ k. k * least) is ∙ (let e : (a + 1 + (b - a - 1)) * least ≡ a * least + least + (b - a - 1) * least = omega arith in e)) in
-    omega (arith, le-div (b - a - 1) n least (omega (arith, big)) back)
-  where
-    within : (d : ℕ) → (0 < d → b * least_write size ≡ a * least_write size + least_write size + d * least_write size) → d * least_write size ≤ n
-    within zero is = omega arith
-    within (suc d) is = omega (arith, is (omega arith), few)
+    let one : (a + 1) * least_write size ≡ a * least_write size + least_write size = omega arith in
+    omega (arith, paid_writes size (a + 1) b n big (omega (arith, few, one)))
 
 -- ---- the bytes of changes
 

@@ -10,3 +10,4 @@ pub mod Puts
 pub mod PageChanges
 pub mod PageReads
 pub mod Calls
+pub mod GatheredRuns

@@ -1,5 +1,5 @@
 // Rows read with their pages, which are kept, and pages whose rows change.
-ghost use Rattle.std.specs.Prelude.{◌≡◌, ◌≤◌, ◌<◌, ◌+◌, ◌*◌, ℕ, [], length, get_or, OnOk, IsSome, IfSome};
+ghost use Rattle.std.specs.Prelude.{◌≡◌, ◌≤◌, ◌<◌, ◌+◌, ◌*◌, ℕ, [], length, get_or, OnOk, IsSome};
 ghost use Rattle.std.specs.Map.{keys_of};
 ghost use Rattle.el_outside.specs.Counts.{HasCause};
 ghost use Rattle.el_outside.specs.Disk.{NothingNew};
@@ -15,7 +15,7 @@ ghost use Rattle.el_pages.specs.within.Caching.{IsWholeIn, HaveRows, IsPage};
 use crate::FORMAT_1;
 use crate::reading::read_row;
 use el_outside::{Disk, DiskFailed};
-use el_page_cache::{PAGE_BYTES, PageCache, copy_row, first_in_page};
+use el_page_cache::{PageCache, copy_row, first_in_page};
 use el_row_formats::Table;
 use el_rows::Sealed;
 use std::alloc::Global;
@@ -36,13 +36,6 @@ fn read_page<D: Disk>(disk: &mut D, t: Table, i: u64, page: &mut [u8]) -> Result
     let at = first_in_page(t, i) * t.size() as u64;
     disk.read(FORMAT_1.file(t), at, page)?;
     Ok(())
-}
-
-// A page of zeros, where there is memory for it.
-fn zero_page(alloc: Global) -> Option<Vec<u8>>
-    ensures { IfSome result (λ page. length page.items ≡ 4096) }
-{
-    vec![in alloc; 0u8; PAGE_BYTES].ok()
 }
 
 // Reads a row with its page into these bytes, and keeps the page.
@@ -76,8 +69,8 @@ fn keep_row<D: Disk>(
     Ok(())
 }
 
-// Reads a row: from its page, where that is kept, and else with its page, which is then kept. Where there is
-// no memory for the page, the row is read by itself.
+// Reads a row: from its page, where that is kept, and else with its page, which is then kept, in the bytes of
+// another where as many are kept as may be. Where there is no memory for the page, the row is read by itself.
 pub(crate) fn cached_row<D: Disk>(
     disk: &mut D,
     cache: &mut PageCache,
@@ -105,7 +98,7 @@ pub(crate) fn cached_row<D: Disk>(
     if cache.read(t, i, buf) {
         return Ok(());
     }
-    match zero_page(alloc) {
+    match cache.take_page(alloc) {
         Some(page) => keep_row(disk, cache, t, i, page, buf),
         None => read_row(disk, t, i, buf),
     }

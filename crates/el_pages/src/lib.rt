@@ -3,6 +3,7 @@
 
 mod caching;
 mod committing;
+mod gathering;
 mod layout;
 mod meta;
 mod reading;

@@ -18,10 +18,10 @@ use std::alloc::Global;
 use std::marker::PhantomData;
 use std::snapshot::Snapshot;
 
-// How many bytes the buffer has through which a redo record is written.
+// How many bytes the buffer has through which a redo record and changed rows are written.
 const BUFFER: usize = 65536;
 
-// The buffer through which redo records are written, where there is memory for it.
+// The buffer through which they are written, where there is memory for it.
 fn take_buffer(alloc: Global) -> Option<Vec<u8>>
     ensures { IfSome result (λ v. length v.items ≡ 65536) }
 {
@@ -30,9 +30,10 @@ fn take_buffer(alloc: Global) -> Option<Vec<u8>>
 
 /// Tables in the files of a disk, for the network that its type names: row i of a table stands in its file
 /// from i row sizes on. A row is read with its page, which is then kept: of the pages that were used last, up
-/// to 4,096 are in memory. A commit takes no memory: it writes a redo record through a buffer that was taken
-/// at the opening, then the rows, and each is in all files or in none. After a commit that met a disk fault
-/// the store is no longer live, and the disk is opened again.
+/// to 4,096 are in memory. A commit takes no memory: through a buffer that was taken at the opening it writes
+/// a redo record, and then the rows, those that follow one another in a table by one call as far as the buffer
+/// has room; and each commit is in all files or in none. After one that met a disk fault the store is no longer
+/// live, and the disk is opened again.
 #[derive(Drop)]
 pub struct Pages<D: Disk, N: NetworkMagic> {
     network: PhantomData<N>,
@@ -56,8 +57,8 @@ impl<D: Disk, N: NetworkMagic> Pages<D, N> {
     ghost use Rattle.el_redone.specs.Steps.{IsAtRest};
 
     /// The store over a disk whose files are at rest and have tables with these counts. It takes a buffer of
-    /// 65,536 bytes, through which its commits write their redo records, and a cache with no pages; where
-    /// there is no memory for them, the disk comes back.
+    /// 65,536 bytes, through which its commits write, and a cache with no pages; where there is no memory for
+    /// them, the disk comes back.
     pub fn new(alloc: Global, disk: D, counts: [u64; TABLES]) -> Result<Pages<D, N>, D>
         requires limited { (t : Table) → count_at counts t ≤ limit_of t }
         ensures live { IfOk result (λ store. (D.tells → IsAtRest ⟦<D as Disk>⟧ 0 9 disk)

@@ -9,8 +9,10 @@ ghost use Rattle.el_redone.specs.Steps.{EachNow, Leaves, WillBe, AreOnDisk};
 ghost use Rattle.el_pages.specs.declared.layout.TheConstants.{FORMAT_1};
 ghost use Rattle.el_pages.specs.Layouts.{file_of};
 ghost use Rattle.el_pages.specs.Records.{write_of, writes_of};
+ghost use Rattle.el_pages.specs.within.Runs.{row_writes};
 
 use crate::FORMAT_1;
+use crate::gathering::gather;
 use el_outside::{Disk, DiskFailed};
 use el_redone::{Span, sync_files, write_covered};
 use el_row_formats::Table;
@@ -43,10 +45,12 @@ fn write_run<D: Disk>(
     write_covered(disk, span, FORMAT_1.file(t), at, bytes)
 }
 
-// Writes the changed rows.
-fn write_rows<D: Disk>(disk: &mut D, sealed: &Sealed) -> Result<(), DiskFailed>
+// Writes the changed rows, each run of them through the buffer.
+fn write_rows<D: Disk>(disk: &mut D, buffer: &mut [u8], sealed: &Sealed) -> Result<(), DiskFailed>
+    requires big { 256 ≤ length buffer.old }
     requires fits { D.tells → (f : ℕ) → f < 9
         → Fits (into f (map (write_of FORMAT_1) sealed.now.changes)) (length (D.seen disk.old f)) }
+    ensures same { length buffer.new ≡ length buffer.old }
     ensures written { D.tells → OnOk result ((f : ℕ) → f < 9 → D.seen disk.new f
         ≡ overlaid (into f (map (write_of FORMAT_1) sealed.now.changes)) (D.seen disk.old f)) }
     ensures beside { D.tells → (f : ℕ) → 9 ≤ f → D.seen disk.new f ≡ D.seen disk.old f }
@@ -54,13 +58,14 @@ fn write_rows<D: Disk>(disk: &mut D, sealed: &Sealed) -> Result<(), DiskFailed>
         → ws ≡ writes_of FORMAT_1 meta sealed.now.changes
         → EachNow ⟦<D as Disk>⟧ (WillBe 0 9 files ws record_file) disk.old
         → Leaves ⟦<D as Disk>⟧ (WillBe 0 9 files ws record_file) disk.old disk.new }
-    ensures calls { D.calls disk.new ≤ D.calls disk.old + length sealed.now.changes }
+    ensures calls { D.calls disk.new
+        ≤ D.calls disk.old + row_writes (length buffer.old) sealed.now.changes }
     ensures cause { HasCause (D.faults disk.old) (D.faults disk.new) result }
 {
     let mut k = 0;
     while k < sealed.changes() {
-        let run = sealed.run(k);
-        write_run(disk, run.table, run.first, run.rows, run.bytes)?;
+        let run = gather(buffer, sealed, k);
+        write_run(disk, run.table, run.first, run.rows, &buffer[..run.used])?;
         k += run.rows;
     }
     Ok(())
@@ -69,11 +74,14 @@ fn write_rows<D: Disk>(disk: &mut D, sealed: &Sealed) -> Result<(), DiskFailed>
 // Writes the changed rows and the meta row, and syncs the files.
 pub(crate) fn write_all<D: Disk>(
     disk: &mut D,
+    buffer: &mut [u8],
     meta: &[u8],
     sealed: &Sealed,
 ) -> Result<(), DiskFailed>
+    requires big { 256 ≤ length buffer.old }
     requires fits { D.tells → (f : ℕ) → f < 9
         → Fits (into f (writes_of FORMAT_1 meta.now sealed.now.changes)) (length (D.seen disk.old f)) }
+    ensures same { length buffer.new ≡ length buffer.old }
     ensures written { D.tells → OnOk result ((f : ℕ) → f < 9 → D.seen disk.new f
         ≡ overlaid (into f (writes_of FORMAT_1 meta.now sealed.now.changes)) (D.seen disk.old f)) }
     ensures beside { D.tells → (f : ℕ) → 9 ≤ f → D.seen disk.new f ≡ D.seen disk.old f }
@@ -83,11 +91,12 @@ pub(crate) fn write_all<D: Disk>(
         (WillBe 0 9 files (writes_of FORMAT_1 meta.now sealed.now.changes) record_file) disk.old
         → Leaves ⟦<D as Disk>⟧
         (WillBe 0 9 files (writes_of FORMAT_1 meta.now sealed.now.changes) record_file) disk.old disk.new }
-    ensures calls { D.calls disk.new ≤ D.calls disk.old + (length sealed.now.changes + 10) }
+    ensures calls { D.calls disk.new
+        ≤ D.calls disk.old + (row_writes (length buffer.old) sealed.now.changes + 10) }
     ensures cause { HasCause (D.faults disk.old) (D.faults disk.new) result }
 {
     let span = Span { first: 0, redo: 9 };
-    write_rows(disk, sealed)?;
+    write_rows(disk, buffer, sealed)?;
     write_covered(disk, span, 0, 0, meta)?;
     sync_files(disk, span)
 }

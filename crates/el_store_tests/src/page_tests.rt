@@ -234,6 +234,59 @@ fn rows_are_read_once(rt: HostRuntime) -> Result<(), Fail> {
     Ok(())
 }
 
+// Edits after the first commit, and how many runs of rows they change, of rows that follow one another in their
+// table.
+const RUNS: &[(&[Edit], u64)] = &[
+    (&[Edit::Put(Table::TxHeads, 7, 1)], 1),
+    (
+        &[
+            Edit::Put(Table::TxHeads, 7, 1),
+            Edit::Put(Table::TxHeads, 8, 2),
+            Edit::Put(Table::TxHeads, 9, 3),
+        ],
+        1,
+    ),
+    (
+        &[
+            Edit::Put(Table::TxHeads, 7, 1),
+            Edit::Put(Table::TxHeads, 9, 3),
+        ],
+        2,
+    ),
+    (
+        &[
+            Edit::Put(Table::TxHeads, 65_535, 1),
+            Edit::Put(Table::ScriptHeads, 0, 2),
+        ],
+        2,
+    ),
+    (
+        &[
+            Edit::Put(Table::Blocks, 1, 1),
+            Edit::Append(Table::Blocks, 2, 2),
+        ],
+        1,
+    ),
+];
+
+// How many calls a copy of the base has had after an opening and a commit of these edits.
+fn calls_to_commit(alloc: Global, base: &MemDisk, edits: &[Edit]) -> Result<u64, Fail> {
+    let mut store = reopened(alloc, copy_of(base, none_fails(alloc))?)?;
+    commit(alloc, &mut store, edits)??;
+    Ok(store.into_disk().into_disk().calls())
+}
+
+#[test]
+fn a_run_is_written_at_once(rt: HostRuntime) -> Result<(), Fail> {
+    let base = base(rt.alloc())?;
+    let none = calls_to_commit(rt.alloc(), &base, &[])?;
+    for (edits, runs) in RUNS {
+        let calls = calls_to_commit(rt.alloc(), &base, edits)?;
+        assert!(rt; calls == none.saturating_add(*runs));
+    }
+    Ok(())
+}
+
 // The store that is made over files of the first commit's tables.
 fn made_over(alloc: Global, disk: MemDisk) -> Result<Pages<SilentDisk, Mainnet>, Fail>
     ensures live { IfOk result (λ store. ⟦<Pages<SilentDisk, Mainnet> as Rows>⟧.is_live store) }

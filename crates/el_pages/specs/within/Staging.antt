@@ -24,9 +24,13 @@ pub record CanPut {D : Type 0} (G : disk.Ghosts D) (redo : ℕ) (d : D) (buffer 
 abbrev pub least_write : ℕ → ℕ
 least_write size = size - 255
 
--- how many calls write so many bytes through it, where each call but the last writes no fewer than those
+-- how many calls at most write so many bytes through it, where each call writes no fewer than those
+abbrev pub full_writes : ℕ → ℕ → ℕ
+full_writes size bytes = bytes / least_write size
+
+-- and where each call but the last does
 abbrev pub writes_through : ℕ → ℕ → ℕ
-writes_through size bytes = bytes / least_write size + 1
+writes_through size bytes = full_writes size bytes + 1
 
 -- So many bytes were put after those of `old`, and each call of the disk meanwhile wrote no fewer than those.
 pub record IsPaid (size calls_old calls_new : ℕ) (old new : Next) (bytes : ℕ) : Type 0 where

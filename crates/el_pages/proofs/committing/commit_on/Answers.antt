@@ -89,21 +89,19 @@ returns-clause-crash g c told =
     (c.in_ok-set_gate.ensures.written told) (c.in_ok-set_gate.ensures.durable told) (c.set_gate.ensures.others told) c.write_all.new.disk (c.write_all.ensures.crash told)
     (λ f low lt. c.in_ok-write_all.ensures.written told f lt) (c.in_ok-write_all.ensures.durable told) c.set_gate-2.new.disk (c.set_gate-2.ensures.crash told)
 
-pub write_all-requires : goal.write_all-requires
-write_all-requires g c = record {
-  fits = λ told f lt.
-      let files = g.D.Disk.seen c.args.disk.now in
-      let head = head_bytes c.args.magic in
-      let counts = c.args.counts.now in
-      let new = c.args.sealed.now.counts in
-      let changes = c.args.sealed.now.changes in
-      let meta = c.meta_row-meta.result in
-      let is = c.meta_row-meta.ensures in
-      let has = c.requires.has told in
-      let ne : f ≢ 9 = λ e. omega (arith, lt, e) in
-      subst (λ (b : List ℕ). Fits (into f (writes_of FORMAT_1 meta changes)) (length b)) (sym (c.set_gate.ensures.others told f ne ∙ (c.stage.ensures.aside told).others f ne))
-      (fits_1 head files counts new changes meta is has c.requires.made f (omega arith) lt);
-}
+pub write_all-requires-clause-fits : goal.write_all-requires-clause-fits
+write_all-requires-clause-fits g c told f lt =
+    let files = g.D.Disk.seen c.args.disk.now in
+    let head = head_bytes c.args.magic in
+    let counts = c.args.counts.now in
+    let new = c.args.sealed.now.counts in
+    let changes = c.args.sealed.now.changes in
+    let meta = c.meta_row-meta.result in
+    let is = c.meta_row-meta.ensures in
+    let has = c.requires.has told in
+    let ne : f ≢ 9 = λ e. omega (arith, lt, e) in
+    subst (λ (b : List ℕ). Fits (into f (writes_of FORMAT_1 meta changes)) (length b)) (sym (c.set_gate.ensures.others told f ne ∙ (c.stage.ensures.aside told).others f ne))
+    (fits_1 head files counts new changes meta is has c.requires.made f (omega arith) lt)
 
 -- what holds of an answer for two reasons
 on_ok_two : {T E P Q R : Type 0} (r : Result T E) → (P → Q → R) → OnOk r P → OnOk r Q → OnOk r R

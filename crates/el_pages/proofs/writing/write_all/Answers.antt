@@ -10,8 +10,8 @@ use Rattle.el_pages.specs.Records.{writes_of}
 use Rattle.el_pages.proofs.MetaWrites.{rows_first, meta_covered, meta_last}
 use Rattle.el_pages.proofs.writing.write_all.Goals as goal
 
-pub write_rows-requires : goal.write_rows-requires
-write_rows-requires g c = record { fits = λ told f lt. rows_first c.args.meta.now c.args.sealed.now.changes f (length (g.D.Disk.seen c.args.disk.now f)) (c.requires.fits told f lt) }
+pub write_rows-requires-clause-fits : goal.write_rows-requires-clause-fits
+write_rows-requires-clause-fits g c told f lt = rows_first c.args.meta.now c.args.sealed.now.changes f (length (g.D.Disk.seen c.args.disk.now f)) (c.requires.fits told f lt)
 
 pub returns-in_err-write_rows-clause-crash : goal.returns-in_err-write_rows-clause-crash
 returns-in_err-write_rows-clause-crash g c told files file each = c.write_rows.ensures.crash told files (writes_of FORMAT_1 c.args.meta.now c.args.sealed.now.changes) c.args.meta.now file refl each

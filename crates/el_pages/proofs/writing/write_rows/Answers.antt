@@ -1,4 +1,4 @@
-use Rattle.std.proofs.Common.{◌≡◌, [], drop, map, refl, sym, ap, ◌∙◌, arith}
+use Rattle.std.proofs.Common.{◌≡◌, ◌+◌, [], length, take, drop, map, refl, sym, ap, ◌∙◌, arith}
 use Rattle.std.proofs.lemmas.List.{drop_all}
 use Rattle.el_row_formats.proofs.Keys.{index_within}
 use Rattle.el_redone.specs.Redone.{overlaid, into}
@@ -6,12 +6,14 @@ use Rattle.el_redone.specs.Steps.{WillBe}
 use Rattle.el_redone.proofs.Runs.{no_calls, goes_on}
 use Rattle.el_pages.specs.declared.layout.TheConstants.{FORMAT_1}
 use Rattle.el_pages.specs.Records.{write_of}
+use Rattle.el_pages.proofs.GatheredRuns.{paid_run, paid_calls}
 use Rattle.el_pages.proofs.Rewrites.{run_covered, run_reach, next_fits, next_gives}
 use Rattle.el_pages.proofs.writing.write_rows.Goals as goal
 
 pub loop-k-init : goal.loop-k-init
 loop-k-init g c = record {
   within = omega arith;
+  same = refl;
   fits = λ told f lt. c.requires.fits told f lt;
   gives = λ told f lt. refl;
   beside = λ told f le. refl;
@@ -23,33 +25,35 @@ loop-k-init g c = record {
 pub loop-k-preserved : goal.loop-k-preserved
 loop-k-preserved g c =
     let was = c.loop-k.invariant in
-    let run = c.run-run.result in
+    let run = c.gather-run.result in
     let changes = c.args.sealed.now.changes in
     record {
-      within = omega (arith, c.run-run.ensures.within);
-      fits = λ told. next_fits changes c.loop-k.k run.table run.first run.rows run.bytes.now c.run-run.ensures.some c.run-run.ensures.long c.run-run.ensures.each (g.D.Disk.seen c.loop-k.disk) (was.fits told) (g.D.Disk.seen c.write_run.new.disk)
+      within = omega (arith, c.gather-run.ensures.rows.within);
+      same = c.gather-run.ensures.same ∙ was.same;
+      fits = λ told. next_fits changes c.loop-k.k run.table run.first run.rows (take run.used c.gather-run.new.buffer) c.gather-run.ensures.some c.gather-run.ensures.rows.long c.gather-run.ensures.rows.each (g.D.Disk.seen c.loop-k.disk) (was.fits told) (g.D.Disk.seen c.write_run.new.disk)
           (c.in_ok-write_run.ensures.written told) (c.write_run.ensures.others told);
-      gives = λ told f lt. next_gives changes c.loop-k.k run.table run.first run.rows run.bytes.now c.run-run.ensures.some c.run-run.ensures.long c.run-run.ensures.each (g.D.Disk.seen c.loop-k.disk) (was.fits told) (g.D.Disk.seen c.write_run.new.disk)
+      gives = λ told f lt. next_gives changes c.loop-k.k run.table run.first run.rows (take run.used c.gather-run.new.buffer) c.gather-run.ensures.some c.gather-run.ensures.rows.long c.gather-run.ensures.rows.each (g.D.Disk.seen c.loop-k.disk) (was.fits told) (g.D.Disk.seen c.write_run.new.disk)
           (c.in_ok-write_run.ensures.written told) (c.write_run.ensures.others told) f lt ∙ was.gives told f lt;
       beside = λ told f le. c.write_run.ensures.others told f (λ is. omega (arith, is, le, index_within run.table)) ∙ was.beside told f le;
       crash = λ told files ws meta file is each. goes_on g.D.Disk (λ d t u i le left. g.met.D.Disk.earlier d t u i told le left) c.args.disk.now c.loop-k.disk c.write_run.new.disk (WillBe 0 9 files ws file)
           (was.crash told files ws meta file is each)
-          (c.write_run.ensures.crash told files ws file (run_covered changes c.loop-k.k run.table run.first run.rows run.bytes.now c.run-run.ensures.some c.run-run.ensures.long c.run-run.ensures.each meta ws is));
-      calls = omega (arith, c.write_run.ensures.called, was.calls, c.run-run.ensures.some);
+          (c.write_run.ensures.crash told files ws file (run_covered changes c.loop-k.k run.table run.first run.rows (take run.used c.gather-run.new.buffer) c.gather-run.ensures.some c.gather-run.ensures.rows.long c.gather-run.ensures.rows.each meta ws is));
+      calls = paid_run changes c.loop-k.k run.table run.first run.rows (take run.used c.gather-run.new.buffer) c.gather-run.ensures.rows (length c.args.buffer.now) (g.D.Disk.calls c.args.disk.now) (g.D.Disk.calls c.loop-k.disk) (g.D.Disk.calls c.write_run.new.disk)
+          c.requires.big c.gather-run.ensures.some (λ bytes next. omega (arith, c.gather-run.ensures.whole bytes next, c.loop-k.invariant.same, c.gather-run.ensures.used)) c.loop-k.invariant.calls c.write_run.ensures.called;
       faults = c.in_ok-write_run.ensures.cause.uncounted ∙ was.faults;
     }
 
 pub write_run-requires-clause-reach : goal.write_run-requires-clause-reach
 write_run-requires-clause-reach g c told =
-    let run = c.run-run.result in
-    run_reach c.args.sealed.now.changes c.loop-k.k run.table run.first run.rows run.bytes.now c.run-run.ensures.some c.run-run.ensures.long c.run-run.ensures.each (g.D.Disk.seen c.loop-k.disk) (c.loop-k.invariant.fits told)
+    let run = c.gather-run.result in
+    run_reach c.args.sealed.now.changes c.loop-k.k run.table run.first run.rows (take run.used c.gather-run.new.buffer) c.gather-run.ensures.some c.gather-run.ensures.rows.long c.gather-run.ensures.rows.each (g.D.Disk.seen c.loop-k.disk) (c.loop-k.invariant.fits told)
 
 pub returns-in_err-write_run-clause-crash : goal.returns-in_err-write_run-clause-crash
 returns-in_err-write_run-clause-crash g c told files ws meta file is each =
-    let run = c.run-run.result in
+    let run = c.gather-run.result in
     goes_on g.D.Disk (λ d t u i le left. g.met.D.Disk.earlier d t u i told le left) c.args.disk.now c.loop-k.disk c.write_run.new.disk (WillBe 0 9 files ws file)
     (c.loop-k.invariant.crash told files ws meta file is each)
-    (c.write_run.ensures.crash told files ws file (run_covered c.args.sealed.now.changes c.loop-k.k run.table run.first run.rows run.bytes.now c.run-run.ensures.some c.run-run.ensures.long c.run-run.ensures.each meta ws is))
+    (c.write_run.ensures.crash told files ws file (run_covered c.args.sealed.now.changes c.loop-k.k run.table run.first run.rows (take run.used c.gather-run.new.buffer) c.gather-run.ensures.some c.gather-run.ensures.rows.long c.gather-run.ensures.rows.each meta ws is))
 
 pub returns-clause-written : goal.returns-clause-written
 returns-clause-written g c told f lt =
@@ -57,14 +61,20 @@ returns-clause-written g c told f lt =
     ap (λ cs. overlaid (into f (map (write_of FORMAT_1) cs)) (g.D.Disk.seen c.loop-k.disk f)) (sym none) ∙ c.loop-k.invariant.gives told f lt
 
 pub returns-in_err-write_run-clause-calls : goal.returns-in_err-write_run-clause-calls
-returns-in_err-write_run-clause-calls g c = omega (arith, c.write_run.ensures.called, c.loop-k.invariant.calls, c.loop-k-test.true, c.changes.ensures)
+returns-in_err-write_run-clause-calls g c =
+    let run = c.gather-run.result in
+    let changes = c.args.sealed.now.changes in
+    paid_calls (length c.args.buffer.now) changes (g.D.Disk.calls c.args.disk.now) (g.D.Disk.calls c.write_run.new.disk) (c.loop-k.k + run.rows) c.requires.big
+    (paid_run changes c.loop-k.k run.table run.first run.rows (take run.used c.gather-run.new.buffer) c.gather-run.ensures.rows (length c.args.buffer.now) (g.D.Disk.calls c.args.disk.now) (g.D.Disk.calls c.loop-k.disk) (g.D.Disk.calls c.write_run.new.disk)
+    c.requires.big c.gather-run.ensures.some (λ bytes next. omega (arith, c.gather-run.ensures.whole bytes next, c.loop-k.invariant.same, c.gather-run.ensures.used)) c.loop-k.invariant.calls c.write_run.ensures.called)
 
 pub returns-clause-calls : goal.returns-clause-calls
-returns-clause-calls g c = omega (arith, c.loop-k.invariant.calls, c.loop-k.invariant.within)
+returns-clause-calls g c =
+    paid_calls (length c.args.buffer.now) c.args.sealed.now.changes (g.D.Disk.calls c.args.disk.now) (g.D.Disk.calls c.loop-k.disk) c.loop-k.k c.requires.big c.loop-k.invariant.calls
 
 pub returns-in_err-write_run-clause-beside : goal.returns-in_err-write_run-clause-beside
 returns-in_err-write_run-clause-beside g c told f le =
-    c.write_run.ensures.others told f (λ is. omega (arith, is, le, index_within c.run-run.result.table)) ∙ c.loop-k.invariant.beside told f le
+    c.write_run.ensures.others told f (λ is. omega (arith, is, le, index_within c.gather-run.result.table)) ∙ c.loop-k.invariant.beside told f le
 
 pub returns-clause-beside : goal.returns-clause-beside
 returns-clause-beside g c told f le = c.loop-k.invariant.beside told f le
