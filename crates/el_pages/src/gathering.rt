@@ -17,8 +17,8 @@ pub(crate) struct Gathered {
     pub used: usize,
 }
 
-// The changed rows from that place on that stand in memory one after another, at most so many, where the first
-// of them is that row of the table.
+// The changed rows from that place on that stand in memory one after another, at most so many, where the
+// first of them is that row of the table.
 fn following<'a>(sealed: &'a Sealed, k: usize, t: Table, row: u64, most: usize) -> Option<Run<'a>>
     requires within { k ≤ length sealed.now.changes }
     ensures rows { IfSome result
@@ -45,8 +45,8 @@ fn following<'a>(sealed: &'a Sealed, k: usize, t: Table, row: u64, most: usize) 
     })
 }
 
-// Copies the changed row of that place into the buffer, and those that follow it in its table, as far as there
-// is room.
+// Copies the changed row of that place into the buffer, and those that follow it in its table, as far as
+// there is room.
 pub(crate) fn gather(buffer: &mut [u8], sealed: &Sealed, k: usize) -> Gathered
     requires big { 256 ≤ length buffer.old }
     requires within { k < length sealed.now.changes }

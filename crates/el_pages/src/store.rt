@@ -31,9 +31,9 @@ fn take_buffer(alloc: Global) -> Option<Vec<u8>>
 /// Tables in the files of a disk, for the network that its type names: row i of a table stands in its file
 /// from i row sizes on. A row is read with its page, which is then kept: of the pages that were used last, up
 /// to 4,096 are in memory. A commit takes no memory: through a buffer that was taken at the opening it writes
-/// a redo record, and then the rows, those that follow one another in a table by one call as far as the buffer
-/// has room; and each commit is in all files or in none. After one that met a disk fault the store is no longer
-/// live, and the disk is opened again.
+/// a redo record, and then the rows, those that follow one another in a table by one call as far as the
+/// buffer has room; and each commit is in all files or in none. After one that met a disk fault the store is
+/// no longer live, and the disk is opened again.
 #[derive(Drop)]
 pub struct Pages<D: Disk, N: NetworkMagic> {
     network: PhantomData<N>,

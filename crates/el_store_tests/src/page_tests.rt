@@ -234,8 +234,7 @@ fn rows_are_read_once(rt: HostRuntime) -> Result<(), Fail> {
     Ok(())
 }
 
-// Edits after the first commit, and how many runs of rows they change, of rows that follow one another in their
-// table.
+// Edits after the first commit, and how many runs they change: rows that follow one another in their table.
 const RUNS: &[(&[Edit], u64)] = &[
     (&[Edit::Put(Table::TxHeads, 7, 1)], 1),
     (
