@@ -1,7 +1,9 @@
 -- Moves: some last blocks are taken back, and others are put in their place.
-use Rattle.std.specs.Prelude.{◌≡◌, ◌⊎◌, ℕ, ◌+◌, ◌-◌, ◌≤◌, List, [], ◌∷◌, ◌++◌, length, take, map, Option, Some, ⊤}
+use Rattle.std.specs.Prelude.{◌≡◌, ◌⊎◌, ℕ, ◌+◌, ◌-◌, ◌≤◌, List, [], ◌∷◌, ◌++◌, length, take, Option, Some, ⊤}
 use Rattle.std.specs.List.{AllByRecursion}
 use Rattle.el_base.specs.declared.hash.Hash32.{Hash32}
+use Rattle.el_outside.specs.Seen.{WasSeen}
+use Rattle.el_outside.specs.declared.archive.Archive as block_files
 use Rattle.el_block.specs.declared.block.Block.{Block}
 use Rattle.el_chain.specs.declared.node.Node.{Node}
 use Rattle.el_chain.specs.declared.moves.Plan.{Plan}
@@ -16,9 +18,17 @@ use Rattle.el_chain.specs.Records.{IsBlockOf, IsOtherBlock}
 use Rattle.el_chain.specs.Faults.{AreNext, fault}
 use Rattle.el_chain.specs.Records.{IsNode, block_at}
 
--- the bytes that stand at the node's place, where the files have these
-abbrev pub body_of : (ℕ → List ℕ) → Node → List ℕ
-body_of files n = block_at n.place (files n.place.file)
+-- These bytes stood at the node's place in its file, as the file was seen at some moment, where the block
+-- files tell. `before` and `after` are what the node had written before that and after.
+abbrev pub StoodAt : {A : Type 0} → block_files.Ghosts A → (ℕ → List ℕ) → (ℕ → List ℕ) → Node → List ℕ
+    → Type 0
+StoodAt of_files before after n text =
+    of_files.tells → (file : List ℕ) × WasSeen of_files before after n.place.file file
+    × (text ≡ block_at n.place file)
+
+-- the same at any moment up to then
+abbrev pub StoodBy : {A : Type 0} → block_files.Ghosts A → (ℕ → List ℕ) → Node → List ℕ → Type 0
+StoodBy of_files after n text = StoodAt of_files (λ file. []) after n text
 
 -- how many blocks one line may take back
 abbrev pub max_back : ℕ
@@ -90,49 +100,53 @@ pub record FaultInAt (chain : Chain) (nodes : List Node) (texts : List (List ℕ
   pub before : AreNextBlocks chain front front_texts blocks
   pub first_fault : IsStop (chain ++ blocks) node.hash text e
 
--- The bytes of all blocks were read, and these are what stands in the files, where they tell.
-pub record AreRead (tells : Type 0) (files : ℕ → List ℕ) (nodes : List Node)
-    (texts : List (List ℕ)) : Type 0 where
+-- each of these stood at the place of its node
+abbrev pub AllStood : (Node → List ℕ → Type 0) → List Node → List (List ℕ) → Type 0
+AllStood stood [] [] = ⊤
+AllStood stood (n ∷ ns) (t ∷ ts) = stood n t × AllStood stood ns ts
+AllStood stood [] (t ∷ ts) = ⊥
+AllStood stood (n ∷ ns) [] = ⊥
+
+-- The bytes of all blocks were read, and these stood at their places.
+pub record AreRead (stood : Node → List ℕ → Type 0) (nodes : List Node) (texts : List (List ℕ)) : Type 0 where
   pub of : AreOf nodes texts
-  pub told : tells → texts ≡ map (body_of files) nodes
+  pub told : AllStood stood nodes texts
 
 -- The move puts in these blocks.
-pub record Moves (tells : Type 0) (files : ℕ → List ℕ) (chain : Chain) (p : Plan)
-    (blocks : Chain) : Type 0 where
+pub record Moves (stood : Node → List ℕ → Type 0) (chain : Chain) (p : Plan) (blocks : Chain) : Type 0 where
   pub texts : List (List ℕ)
-  pub read : AreRead tells files p.forward texts
+  pub read : AreRead stood p.forward texts
   pub blocks_are : AreNextBlocks (shorter p.back chain) p.forward texts blocks
 
 -- The first block whose bytes don't begin with its header: those of each block before it were read, and then
--- other bytes than its own, which are what stands at its place in the files, where they tell.
-pub record HasChanged (tells : Type 0) (files : ℕ → List ℕ) (nodes : List Node) (wanted : Hash32)
+-- other bytes than its own, which stood at its place.
+pub record HasChanged (stood : Node → List ℕ → Type 0) (nodes : List Node) (wanted : Hash32)
     (found : Option Hash32) : Type 0 where
   pub front : List Node
   pub node : Node
   pub after : List Node
   pub whole : nodes ≡ front ++ node ∷ after
   pub texts : List (List ℕ)
-  pub before : AreRead tells files front texts
+  pub before : AreRead stood front texts
   pub text : List ℕ
-  pub told : tells → text ≡ body_of files node
+  pub told : stood node text
   pub other : IsOtherBlock node text found
   pub is : wanted ≡ node.hash
 
 -- a block of the move can't stand where it is to stand
-pub record IsBad (tells : Type 0) (files : ℕ → List ℕ) (chain : Chain) (p : Plan)
-    (e : MoveFault) : Type 0 where
+pub record IsBad (stood : Node → List ℕ → Type 0) (chain : Chain) (p : Plan) (e : MoveFault) : Type 0 where
   pub texts : List (List ℕ)
-  pub read : AreRead tells files p.forward texts
+  pub read : AreRead stood p.forward texts
   pub first_fault : FaultInAt (shorter p.back chain) p.forward texts e
 
 -- Why a move is refused. Of a failed device its count tells, and out of memory has no cause.
-abbrev pub IsRefused : Type 0 → (ℕ → List ℕ) → Chain → Plan → MoveFault → Type 0
-IsRefused tells files chain p stop.DiskFailed = ⊤
-IsRefused tells files chain p stop.ArchiveFailed = ⊤
-IsRefused tells files chain p (stop.Changed w f) = HasChanged tells files p.forward w f
-IsRefused tells files chain p (stop.BadBlock h f) = IsBad tells files chain p (stop.BadBlock h f)
-IsRefused tells files chain p (stop.Refused h f) = IsBad tells files chain p (stop.Refused h f)
-IsRefused tells files chain p stop.Memory = ⊤
+abbrev pub IsRefused : (Node → List ℕ → Type 0) → Chain → Plan → MoveFault → Type 0
+IsRefused stood chain p stop.DiskFailed = ⊤
+IsRefused stood chain p stop.ArchiveFailed = ⊤
+IsRefused stood chain p (stop.Changed w f) = HasChanged stood p.forward w f
+IsRefused stood chain p (stop.BadBlock h f) = IsBad stood chain p (stop.BadBlock h f)
+IsRefused stood chain p (stop.Refused h f) = IsBad stood chain p (stop.Refused h f)
+IsRefused stood chain p stop.Memory = ⊤
 
 -- the hash of the last of these nodes; of none it is the given one
 abbrev pub last_hash : Hash32 → List Node → Hash32
@@ -144,6 +158,6 @@ abbrev pub target : Plan → Chain → Chain → Chain
 target p chain blocks = shorter p.back chain ++ blocks
 
 -- what may stand while the move is under way: the chain as it was, or a target
-abbrev pub InFlight : Type 0 → (ℕ → List ℕ) → Chain → Plan → Chain → Type 0
-InFlight tells files chain p next =
-    (next ≡ chain) ⊎ ((blocks : Chain) × Moves tells files chain p blocks × (next ≡ target p chain blocks))
+abbrev pub InFlight : (Node → List ℕ → Type 0) → Chain → Plan → Chain → Type 0
+InFlight stood chain p next =
+    (next ≡ chain) ⊎ ((blocks : Chain) × Moves stood chain p blocks × (next ≡ target p chain blocks))

@@ -1,6 +1,7 @@
 // Buffers, and filling them from the block files.
 ghost use Rattle.std.specs.Prelude.{◌≡◌, ◌+◌, ◌-◌, nat_le, length, take, drop, IfOk, IsTrue};
 ghost use Rattle.el_outside.specs.Counts.{OnlyReads};
+ghost use Rattle.el_outside.specs.Seen.{seen};
 
 use el_base::OutOfMemory;
 use el_outside::{Archive, ArchiveFailed};
@@ -23,9 +24,9 @@ pub fn fill<A: Archive>(
 ) -> Result<bool, ArchiveFailed>
     ensures given { IfOk result (λ full. IsTrue full → A.gave file at buffer.new) }
     ensures full { A.tells → IfOk result
-        (λ full. full ≡ nat_le (length buffer.old) (length (A.bytes archive.new file) - at)) }
-    ensures filled { A.tells → IfOk result
-        (λ full. IsTrue full → buffer.new ≡ take (length buffer.old) (drop at (A.bytes archive.new file))) }
+        (λ full. full ≡ nat_le (length buffer.old) (length (seen ⟦<A as Archive>⟧ archive.new file) - at)) }
+    ensures filled { A.tells → IfOk result (λ full. IsTrue full
+        → buffer.new ≡ take (length buffer.old) (drop at (seen ⟦<A as Archive>⟧ archive.new file))) }
     ensures called { A.calls archive.new ≡ A.calls archive.old + 1 }
     ensures only_reads { OnlyReads A.tells (A.bytes archive.old) (A.bytes archive.new)
         (A.faults archive.old) (A.faults archive.new) (record {}) result }

@@ -3,6 +3,7 @@ ghost use Rattle.std.specs.Prelude.{◌≡◌, ◌≢◌, ◌+◌, ◌≤◌, �
 ghost use Rattle.el_base.specs.Left.{AreBytes};
 ghost use Rattle.el_outside.specs.Counts.{OnlyReads};
 ghost use Rattle.el_outside.specs.Files.{Grows};
+ghost use Rattle.el_outside.specs.Seen.{seen};
 ghost use Rattle.el_chain.specs.Records.{IsNode, IsBlockOf, IsOtherBlock, IsRecordIn, block_at};
 ghost use Rattle.el_chain.specs.Reading.{IfChanged};
 ghost use Rattle.el_chain.specs.declared.read_fault.ReadFault.TheVariants as fault;
@@ -43,7 +44,7 @@ pub fn compare_block(node: &Node, bytes: &[u8]) -> Result<(), Option<Hash32>>
 }
 
 /// The bytes of the file after the first `skipped` ones at the place: `len` of them, or those that are there
-/// where these are fewer. Any place can be asked for.
+/// where these are fewer. Bytes of the file's padding are read as well. Any place can be asked for.
 ///
 /// # Errors
 ///
@@ -56,8 +57,8 @@ pub fn read_part<A: Archive>(
     skipped: u64,
     len: u32,
 ) -> Result<Vec<u8>, ScanFault>
-    ensures part { A.tells → IfOk result
-        (λ v. v.items ≡ take len (drop (place.offset + skipped) (A.bytes archive.new place.file))) }
+    ensures part { A.tells → IfOk result (λ v. v.items
+        ≡ take len (drop (place.offset + skipped) (seen ⟦<A as Archive>⟧ archive.new place.file))) }
     ensures within { IfOk result (λ v. length v.items ≤ len) }
     ensures calls { A.calls archive.new ≤ A.calls archive.old + 1 }
     ensures only_reads { OnlyReads A.tells (A.bytes archive.old) (A.bytes archive.new)
@@ -109,13 +110,13 @@ pub fn read_block<A: Archive>(
     ensures block { IfOk result (λ v. IsBlockOf node.now v.items) }
     // These are the bytes that stand there.
     ensures stands { A.tells → IfOk result
-        (λ v. v.items ≡ block_at node.now.place (A.bytes archive.new node.now.place.file)) }
+        (λ v. v.items ≡ block_at node.now.place (seen ⟦<A as Archive>⟧ archive.new node.now.place.file)) }
     ensures wanted { IfChanged result (λ wanted found. wanted ≡ node.now.hash) }
     // It has changed where the bytes that were read are not the block's.
     ensures changed { IfChanged result (λ wanted found. (bytes : List ℕ)
-        × (A.tells → bytes ≡ block_at node.now.place (A.bytes archive.new node.now.place.file))
+        × (A.tells → bytes ≡ block_at node.now.place (seen ⟦<A as Archive>⟧ archive.new node.now.place.file))
         × IsOtherBlock node.now bytes found) }
-    // A block whose record stood in the file is read as it stood there, and has never changed.
+    // A block whose record the node had written is read as it stood there, and has never changed.
     ensures stays { A.tells → (magic file : List ℕ) → IsRecordIn magic node.now.place.file file node.now
         → Grows file (A.bytes archive.old node.now.place.file)
         → IfOk result (λ v. v.items ≡ block_at node.now.place file) × IfChanged result (λ wanted found. ⊥) }

@@ -4,7 +4,7 @@ ghost use Rattle.el_chain.specs.Records.{IsNode};
 
 use el_base::{Bytes, GhostCount, Hash32, OutOfMemory};
 use el_chain::{Node, Spot};
-use el_fakes::{Later, MemArchive};
+use el_fakes::{Later, MemArchive, Room};
 use el_files::{ReadFault, ScanFault, read_block, read_tx, record_at, scan, scan_file};
 use el_gen::{BLOCK_1, BLOCK_1_HASH, BLOCK_1_TXID, GENESIS, GENESIS_HASH};
 use el_outside::{Archive, ArchiveFailed, Place};
@@ -45,6 +45,8 @@ impl Archive for ShortFile {
     ghost tells = { ⊥ };
 
     ghost bytes = { λ files n. [] };
+
+    ghost padding = { λ files n. [] };
 
     ghost file_count = { λ files. 1 };
 
@@ -273,7 +275,7 @@ fn count_in_short(alloc: Global, zeros: usize, short_from: u64) -> Result<usize,
 // again.
 #[test]
 fn scans_what_is_given(rt: HostRuntime) -> Result<(), Fail> {
-    for (zeros, short_from, count) in [(0, 0, 0), (1_000, 0, 0), (1_000, 1, 1)].iter() {
+    for (zeros, short_from, count) in [(0, 0, 1), (1_000, 0, 0), (1_000, 1, 1)].iter() {
         let found = count_in_short(rt.alloc(), *zeros, *short_from)?;
         assert!(rt;
             found == *count,
@@ -312,6 +314,53 @@ fn scans_a_file_that_grows(rt: HostRuntime) -> Result<(), Fail> {
             finds_later(rt.alloc(), later, *count)?,
             "from {from} on by call {call}"
         );
+    }
+    Ok(())
+}
+
+// Both records, side by side, of which the second one comes with this call, in a file that has 200,000 bytes
+// with its room, until the call that finds it cut off.
+fn made_ahead(alloc: Global, call: u64, until: u64) -> Result<MemArchive, Fail> {
+    let bytes = zeros_and(alloc, 0, [HEAD_0, GENESIS, HEAD_1, BLOCK_1].as_slice())?;
+    let mut files = Vec::new(alloc);
+    files.push(Bytes::from_vec(bytes))?;
+    let later = Later {
+        call,
+        file: 0,
+        from: 293,
+    };
+    let room = Room {
+        until,
+        file: 0,
+        size: 200_000,
+    };
+    let later = Vec::from_slice(alloc, [later].as_slice())?;
+    let rooms = Vec::from_slice(alloc, [room].as_slice())?;
+    Ok(MemArchive::made_ahead(files, later, rooms, Vec::new(alloc)))
+}
+
+// How many records a scan of such a file finds.
+fn count_ahead(alloc: Global, call: u64, until: u64) -> Result<usize, Fail> {
+    let mut files = made_ahead(alloc, call, until)?;
+    Ok(scanned(alloc, &mut files)?.len())
+}
+
+// The call that finds the second record, the one that finds the room cut off, and how many records are found.
+const AHEAD: &[(u64, u64, usize)] = &[
+    (1, u64::MAX, 2),
+    (2, u64::MAX, 2),
+    (3, u64::MAX, 1),
+    (1, 2, 2),
+    (2, 2, 2),
+    (3, 2, 1),
+];
+
+// Zeros that a node has made ahead are no record. What it writes over them by the time of a read is found.
+#[test]
+fn scans_a_file_that_is_made_ahead(rt: HostRuntime) -> Result<(), Fail> {
+    for (call, until, count) in AHEAD {
+        let found = count_ahead(rt.alloc(), *call, *until)?;
+        assert!(rt; found == *count, "by call {call}, until {until}");
     }
     Ok(())
 }

@@ -3,17 +3,15 @@ use Rattle.std.proofs.Common.{◌≡◌, inl, inr, ℕ, ◌+◌, Bool, true, fal
 use Rattle.std.specs.List.{AllByRecursion, slice_get}
 use Rattle.el_base.specs.declared.hash.Hash32.{Hash32}
 use Rattle.std.proofs.lemmas.Option.{slice_get_within}
-use Rattle.el_outside.specs.declared.archive.Archive as archive
 use Rattle.el_outside.specs.Devices.{Device}
 use Rattle.el_outside.proofs.Devices.{all_rose_none}
 use Rattle.el_outside.proofs.Traces.{all_grow_none}
 use Rattle.el_chain.specs.declared.moves.Plan.{Plan}
 use Rattle.el_chain.specs.declared.node.Node.{Node}
 use Rattle.el_chain.specs.Chains.{Chain}
-use Rattle.el_model.specs.declared.ledger.Ledger as ledger
-use Rattle.el_model.specs.LedgerCalls.{Moved, failed_calls}
-use Rattle.el_side.specs.declared.holdings.Holdings.{Holdings}
-use Rattle.el_side.specs.NodeSteps.{IsAt, Leads}
+use Rattle.el_chain.specs.Moves.{StoodBy}
+use Rattle.el_model.specs.LedgerCalls.{Moved}
+use Rattle.el_side.specs.NodeSteps.{IsAt, Leads, StepLeft}
 use Rattle.el_lines.specs.Lines.{LineEvent, lines}
 use Rattle.el_lines.specs.NodeAnswers.{node_limit, text_of}
 use Rattle.el_lines.specs.declared.node_answer.NodeAnswer.{NodeAnswer}
@@ -31,10 +29,11 @@ use Rattle.el_sync.specs.Steps.{IsFrom, NodeStep, FailsBy, by_disk, by_memory, u
 use Rattle.el_model.specs.declared.fault.QueryFault.{QueryFault}
 use Rattle.el_sync.specs.declared.moving.Step.{Step}
 use Rattle.el_model.specs.declared.fault.QueryFault.TheVariants as fault
+use Rattle.el_side.specs.Beneath.{Ghosts, Lost, beneath, failed_beneath}
 use Rattle.el_sync.proofs.Compared.{moving_any}
-use Rattle.el_core.specs.State.{State, NodeLeaves, NoneWaits, Stands}
+use Rattle.el_core.specs.State.{State, NodeLeaves, NoneWaits, Stands, serving}
 use Rattle.el_core.specs.Turn.{TookTurn, TurnFailed, GoesTo, outs_of, stop_of}
-use Rattle.el_core.specs.within.Answering.{Answered, Lost, NodeKeeps}
+use Rattle.el_core.specs.within.Answering.{Answered, NodeKeeps}
 use Rattle.el_core.specs.within.Clients.{Gives, begun_at}
 use Rattle.el_core.specs.declared.out.Outs.{Outs}
 use Rattle.el_core.proofs.Sessions.{left_first}
@@ -44,10 +43,10 @@ fault_same : (a b : QueryFault) → ◌≡◌ {A = Result Outs QueryFault} (Err 
 fault_same a b e = cc
 
 -- what is said of one kind of moves holds of another
-pub under_way_by : (tells : Type 0) (files : ℕ → List ℕ) (chain : Chain) (P Q : Plan → Type 0) (next : Chain) → ((p : Plan) → P p → Q p) → IsUnderWay tells files chain P next
-    → IsUnderWay tells files chain Q next
-under_way_by tells files chain P Q next gives (not_moved is) = not_moved is
-under_way_by tells files chain P Q next gives (in_move p move flight) = in_move p (gives p move) flight
+pub under_way_by : (stood : Node → List ℕ → Type 0) (chain : Chain) (P Q : Plan → Type 0) (next : Chain) → ((p : Plan) → P p → Q p) → IsUnderWay stood chain P next
+    → IsUnderWay stood chain Q next
+under_way_by stood chain P Q next gives (not_moved is) = not_moved is
+under_way_by stood chain P Q next gives (in_move p move flight) = in_move p (gives p move) flight
 
 -- the node's next line, and what is left after it
 pub record NextOrder (b : LineState) (heard : List ℕ) (ordered : List Event) (e : LineEvent) : Type 0 where
@@ -72,11 +71,11 @@ next_order b next heard ordered e n same gives =
       };
     }
 
-module _ {G A : Type 0} (l : ledger.Ghosts G) (f : archive.Ghosts A) where
+module _ {G A : Type 0} (of : Ghosts G A) where
   -- no memory was found, and nothing was done
-  pub stops_still : (old : G) (files : A) (chain : Chain) (again : Bool) (is_move : Plan → Type 0) → LeavesOwn l → l.is_live old → l.stands old chain → StopsAt l f old old files files chain again is_move fault.Memory
+  pub stops_still : (old : G) (files : A) (chain : Chain) (again : Bool) (is_move : Plan → Type 0) → LeavesOwn of.ledger → of.ledger.is_live old → of.ledger.stands old chain → StopsAt of (beneath old files) (beneath old files) chain again is_move fault.Memory
   stops_still old files chain again is_move own live stood =
-      let moved = asked_moved l old old chain own live (asked_none l old) stood in
+      let moved = asked_moved of.ledger old old chain own live (asked_none of.ledger old) stood in
       record {
         next = chain;
         flight = not_moved refl;
@@ -84,21 +83,21 @@ module _ {G A : Type 0} (l : ledger.Ghosts G) (f : archive.Ghosts A) where
         stood = λ m. moved;
         losses = [];
         fails = by_memory refl refl;
-        rose = λ of_link. all_rose_none (failed_calls l f of_link old files);
+        rose = λ of_link. all_rose_none (failed_beneath of of_link (beneath old files));
       }
 
-  pub step_still : (old : G) (files : A) → l.is_live old → NodeKeeps l f old old files files (Err fault.Memory)
+  pub step_still : (old : G) (files : A) → of.ledger.is_live old → NodeKeeps of (beneath old files) (beneath old files) (Err fault.Memory)
   step_still old files live = record {
     live = tt;
     still_live = λ e. live;
-    keeps = λ t. all_grow_none (f.bytes files);
+    keeps = λ t. all_grow_none (of.files.bytes files);
     archive_more = omega arith;
     disk_rose = record { counted = λ e. absurd cc; uncounted = tt; others_uncounted = λ other. refl };
     beside = λ told. refl;
   }
 
   -- what the step kept, the turn keeps
-  pub keeps_ok : (old new : G) (before after : A) (again : Bool) (step : Step) (o : Outs) → NodeStep l f old new before after again (Ok step) → NodeKeeps l f old new before after (Ok o)
+  pub keeps_ok : (old new : G) (before after : A) (again : Bool) (step : Step) (o : Outs) → NodeStep of (beneath old before) (beneath new after) again (Ok step) → NodeKeeps of (beneath old before) (beneath new after) (Ok o)
   keeps_ok old new before after again step o k = record {
     live = k.live;
     still_live = λ e. absurd cc;
@@ -108,7 +107,7 @@ module _ {G A : Type 0} (l : ledger.Ghosts G) (f : archive.Ghosts A) where
     beside = k.beside;
   }
 
-  pub keeps_err : (old new : G) (before after : A) (again : Bool) (e : QueryFault) → NodeStep l f old new before after again (Err e) → NodeKeeps l f old new before after (Err e)
+  pub keeps_err : (old new : G) (before after : A) (again : Bool) (e : QueryFault) → NodeStep of (beneath old before) (beneath new after) again (Err e) → NodeKeeps of (beneath old before) (beneath new after) (Err e)
   keeps_err old new before after again e k = record {
     live = tt;
     still_live = λ is. k.still_live (ap Err (fault_same e fault.Memory is));
@@ -123,7 +122,7 @@ module _ {G A : Type 0} (l : ledger.Ghosts G) (f : archive.Ghosts A) where
   }
 
   -- no memory was found for what it touched
-  pub keeps_starved : (old new : G) (before after : A) (again : Bool) (step : Step) → NodeStep l f old new before after again (Ok step) → NodeKeeps l f old new before after (Err fault.Memory)
+  pub keeps_starved : (old new : G) (before after : A) (again : Bool) (step : Step) → NodeStep of (beneath old before) (beneath new after) again (Ok step) → NodeKeeps of (beneath old before) (beneath new after) (Err fault.Memory)
   keeps_starved old new before after again step k = record {
     live = tt;
     still_live = λ e. k.live;
@@ -133,34 +132,30 @@ module _ {G A : Type 0} (l : ledger.Ghosts G) (f : archive.Ghosts A) where
     beside = k.beside;
   }
 
-  pub found_same : (leads : NodeAnswer → List Device → Side → Type 0) (old new : G) (before after : A) (side : Side) (start : Chain) (answer : NodeAnswer) (found same ahead : List Node) (moved changed : List Hash32) (holdings : Holdings) → found ≡ same
-      → Leads l f leads old new before after side start answer found ahead moved changed holdings → Leads l f leads old new before after side start answer same ahead moved changed holdings
-  found_same leads old new before after side start answer found same ahead moved changed holdings is led = subst (λ (fs : List Node). Leads l f leads old new before after side start answer fs ahead moved changed holdings) is led
-
   -- ---- a line that has begun
 
   pub stops_begun : (s mid : State G) (new : G) (before after : A) (tip : Option Hash32) (e : LineEvent) (why : QueryFault) → mid ≡ begun_at tip s
-      → ((side : Side) (start : Chain) → IsAt l f mid.ledger mid.holdings before side start → IsFrom mid.holdings side → StopsAt l f mid.ledger new before after side.chain false (IsFirstMove side e) why)
-      → (side : Side) (start : Chain) → IsAt l f s.ledger s.holdings before side start → IsFrom s.holdings side → StopsAt l f s.ledger new before after side.chain false (IsFirstMove side e) why
+      → ((side : Side) (start : Chain) → IsAt of (beneath mid.ledger before) mid.holdings side start → IsFrom mid.holdings side → StopsAt of (beneath mid.ledger before) (beneath new after) side.chain false (IsFirstMove side e) why)
+      → (side : Side) (start : Chain) → IsAt of (beneath s.ledger before) s.holdings side start → IsFrom s.holdings side → StopsAt of (beneath s.ledger before) (beneath new after) side.chain false (IsFirstMove side e) why
   stops_begun s mid new before after tip e why same stops =
-      subst (λ (m : State G). (side : Side) (start : Chain) → IsAt l f m.ledger m.holdings before side start → IsFrom m.holdings side → StopsAt l f m.ledger new before after side.chain false (IsFirstMove side e) why) same stops
+      subst (λ (m : State G). (side : Side) (start : Chain) → IsAt of (beneath m.ledger before) m.holdings side start → IsFrom m.holdings side → StopsAt of (beneath m.ledger before) (beneath new after) side.chain false (IsFirstMove side e) why) same stops
 
-  pub led_begun : (s mid : State G) (new : G) (before after : A) (tip : Option Hash32) (e : LineEvent) (answer : NodeAnswer) (found ahead : List Node) (moved changed : List Hash32) (holdings : Holdings) → mid ≡ begun_at tip s
-      → ((side : Side) (start : Chain) → IsAt l f mid.ledger mid.holdings before side start → IsFrom mid.holdings side
-      → Leads l f (OrdersLine f side e) mid.ledger new before after side start answer found ahead moved changed holdings)
-      → (side : Side) (start : Chain) → IsAt l f s.ledger s.holdings before side start → IsFrom s.holdings side
-      → Leads l f (OrdersLine f side e) s.ledger new before after side start answer found ahead moved changed holdings
-  led_begun s mid new before after tip e answer found ahead moved changed holdings same led =
-      subst (λ (m : State G). (side : Side) (start : Chain) → IsAt l f m.ledger m.holdings before side start → IsFrom m.holdings side
-      → Leads l f (OrdersLine f side e) m.ledger new before after side start answer found ahead moved changed holdings) same led
+  pub led_begun : (s mid : State G) (before : A) (tip : Option Hash32) (e : LineEvent) (left : StepLeft G A) → mid ≡ begun_at tip s
+      → ((side : Side) (start : Chain) → IsAt of (beneath mid.ledger before) mid.holdings side start → IsFrom mid.holdings side
+      → Leads of (OrdersLine of.files side e) side start (record left { was = beneath mid.ledger before }))
+      → (side : Side) (start : Chain) → IsAt of (beneath s.ledger before) s.holdings side start → IsFrom s.holdings side
+      → Leads of (OrdersLine of.files side e) side start (record left { was = beneath s.ledger before })
+  led_begun s mid before tip e left same led =
+      subst (λ (m : State G). (side : Side) (start : Chain) → IsAt of (beneath m.ledger before) m.holdings side start → IsFrom m.holdings side
+      → Leads of (OrdersLine of.files side e) side start (record left { was = beneath m.ledger before })) same led
 
-  pub keeps_begun : (s mid : State G) (new : G) (before after : A) (tip : Option Hash32) (result : Result Outs QueryFault) → mid ≡ begun_at tip s → NodeKeeps l f mid.ledger new before after result → NodeKeeps l f s.ledger new before after result
-  keeps_begun s mid new before after tip result same keeps = subst (λ (m : State G). NodeKeeps l f m.ledger new before after result) same keeps
+  pub keeps_begun : (s mid : State G) (new : G) (before after : A) (tip : Option Hash32) (result : Result Outs QueryFault) → mid ≡ begun_at tip s → NodeKeeps of (beneath mid.ledger before) (beneath new after) result → NodeKeeps of (beneath s.ledger before) (beneath new after) result
+  keeps_begun s mid new before after tip result same keeps = subst (λ (m : State G). NodeKeeps of (beneath m.ledger before) (beneath new after) result) same keeps
 
   -- What is known of a step of the node, which leaves the clients as they were: all of them wait.
   pub record NodeTurned (leads : NodeAnswer → List Device → Side → Type 0) (old new : State G) (before after : A) (world : World) (left : List Event) (o : Outs) : Type 0 where
-    pub stood : Stands l.stands old world left
-    pub answered : Answered l f leads old new before after world.side stood.start o
+    pub stood : Stands of.ledger.stands old world left
+    pub answered : Answered of leads (serving old before) (serving new after) world.side stood.start o
     pub magic : new.holdings.magic ≡ old.holdings.magic
     pub clients : new.clients ≡ old.clients
     pub speaker : new.speaker ≡ old.speaker
@@ -175,9 +170,9 @@ module _ {G A : Type 0} (l : ledger.Ghosts G) (f : archive.Ghosts A) where
   -- `base` and `start` are as the turn began, `old` and `world` as the step began
   built : (leads : NodeAnswer → List Device → Side → Type 0) (base old new : State G) (before after : A) (start world : World) (left : List Event) (o : Outs) (r : NodeTurned leads old new before after world left o)
       (done ordered : List Event) → old.ledger ≡ base.ledger → world.side ≡ start.side → left ≡ done ++ (ordered ++ r.stood.said)
-      → OneTurn f start done (outs_of o) r.answered.led.losses (record world { side = r.answered.led.next })
+      → OneTurn of.files start done (outs_of o) r.answered.led.losses (record world { side = r.answered.led.next })
       → ((q : ℕ) → old.speaker ≡ Some q → (ordered ≡ []) × NoneWaits world.sessions) → ((q : ℕ) → old.surplus ≡ Some q → (ordered ≡ []) × NoneWaits world.sessions)
-      → NodeLeaves new.node world.heard ordered → TookTurn l f base new before after start left (outs_of o)
+      → NodeLeaves new.node world.heard ordered → TookTurn of (serving base before) (serving new after) start left (outs_of o)
   built leads base old new before after start world left o r done ordered ledger_is side_is whole turn spoken surplus_so node =
       let a = r.answered in
       let led = a.led in
@@ -206,19 +201,19 @@ module _ {G A : Type 0} (l : ledger.Ghosts G) (f : archive.Ghosts A) where
               r.stood.tellings led.touches a.covers r.stood.sessions.each r.waits;
           left_is = refl;
         };
-        moved = subst (λ (k : G). Moved l k new.ledger start.side.chain led.next.chain) ledger_is (subst (λ (s : Side). Moved l old.ledger new.ledger s.chain led.next.chain) side_is led.went);
+        moved = subst (λ (k : G). Moved of.ledger k new.ledger start.side.chain led.next.chain) ledger_is (subst (λ (s : Side). Moved of.ledger old.ledger new.ledger s.chain led.next.chain) side_is led.went);
         told = led.told;
         sends_to = to_node_goes (outs_of o) (text_of a.answer) (record world { side = led.next }) new.surplus a.sends;
-        rose = subst (λ (k : G). Lost l f k new.ledger before after led.losses) ledger_is led.rose;
+        rose = subst (λ (k : G). Lost of (beneath k before) (beneath new.ledger after) led.losses) ledger_is led.rose;
       }
 
   -- the next move of the node's last tip line
   pub ahead_step : (old new : State G) (before after : A) (world : World) (left : List Event) (o : Outs)
-      → NodeTurned (Moving f.tells world.side 0 world.side.ahead) old new before after world left o → (world.side.ahead ≡ [] → ⊥) → new.node ≡ old.node
-      → TookTurn l f old new before after world left (outs_of o)
+      → NodeTurned (Moving of.files world.side 0 world.side.ahead) old new before after world left o → (world.side.ahead ≡ [] → ⊥) → new.node ≡ old.node
+      → TookTurn of (serving old before) (serving new after) world left (outs_of o)
   ahead_step old new before after world left o r some node =
       let a = r.answered in
-      built (Moving f.tells world.side 0 world.side.ahead) old old new before after world world left o r [] r.stood.ordered refl refl r.stood.left_is
+      built (Moving of.files world.side 0 world.side.ahead) old old new before after world world left o r [] r.stood.ordered refl refl r.stood.left_is
       (run.works (moving_any 0 world.side.ahead some) refl (record { answer = a.answer; side = a.led.next; led = a.led.led; outs_is = a.sends; next_is = refl }))
       r.stood.speaker_last r.stood.surplus_last (rw node r.stood.node)
 
@@ -232,11 +227,11 @@ module _ {G A : Type 0} (l : ledger.Ghosts G) (f : archive.Ghosts A) where
 
   -- it has begun, and is worked
   pub node_step : (base old new : State G) (before after : A) (start : World) (left : List Event) (o : Outs) (e : LineEvent)
-      (r : NodeTurned (OrdersLine f start.side e) old new before after (begun start) left o) → NextOrder new.node start.heard r.stood.ordered e → IsStill start → AllTold start → old.ledger ≡ base.ledger
-      → TookTurn l f base new before after start left (outs_of o)
+      (r : NodeTurned (OrdersLine of.files start.side e) old new before after (begun start) left o) → NextOrder new.node start.heard r.stood.ordered e → IsStill start → AllTold start → old.ledger ≡ base.ledger
+      → TookTurn of (serving base before) (serving new after) start left (outs_of o)
   node_step base old new before after start left o e r n still all_told ledger_is =
       let a = r.answered in
-      built (OrdersLine f start.side e) base old new before after start (begun start) left o r (orders e ∷ []) n.rest ledger_is refl
+      built (OrdersLine of.files start.side e) base old new before after start (begun start) left o r (orders e ∷ []) n.rest ledger_is refl
       (rest_after left r.stood.said r.stood.ordered n.rest e r.stood.left_is n.first_is)
       (run.takes (orders e) still all_told refl (record { answer = a.answer; side = a.led.next; led = a.led.led; outs_is = a.sends; next_is = refl }))
       (never old.speaker r.stood.ordered n.rest e _ _ n.first_is r.stood.speaker_last) (never old.surplus r.stood.ordered n.rest e _ _ n.first_is r.stood.surplus_last)
@@ -245,8 +240,8 @@ module _ {G A : Type 0} (l : ledger.Ghosts G) (f : archive.Ghosts A) where
   -- ---- turns that fail
 
   failed_so : (old new : G) (before after : A) (world : World) (left : List Event) (again : Bool) (e : QueryFault) → IsNodesTurn world left → (again ≡ true → IsBusy world)
-      → (r : StopsAt l f old new before after world.side.chain again (IsMoveOf world left) e) → FailsBy again world.side.chain r.next e r.losses → (e ≡ fault.Memory → l.is_live new)
-      → TurnFailed l f old new before after world left e
+      → (r : StopsAt of (beneath old before) (beneath new after) world.side.chain again (IsMoveOf world left) e) → FailsBy again world.side.chain r.next e r.losses → (e ≡ fault.Memory → of.ledger.is_live new)
+      → TurnFailed of (beneath old before) (beneath new after) world left e
   failed_so old new before after world left again e nodes busy r (by_disk is lost) live = record {
     losses = r.losses;
     stops = run.disk_failed (ap stop_of is) nodes refl refl lost;
@@ -288,10 +283,10 @@ module _ {G A : Type 0} (l : ledger.Ghosts G) (f : archive.Ghosts A) where
     live = live;
   }
 
-  stops_by : (old new : G) (before after : A) (chain : Chain) (again : Bool) (P Q : Plan → Type 0) (e : QueryFault) → ((p : Plan) → P p → Q p) → StopsAt l f old new before after chain again P e → StopsAt l f old new before after chain again Q e
+  stops_by : (old new : G) (before after : A) (chain : Chain) (again : Bool) (P Q : Plan → Type 0) (e : QueryFault) → ((p : Plan) → P p → Q p) → StopsAt of (beneath old before) (beneath new after) chain again P e → StopsAt of (beneath old before) (beneath new after) chain again Q e
   stops_by old new before after chain again P Q e gives r = record {
     next = r.next;
-    flight = under_way_by f.tells (f.bytes after) chain P Q r.next gives r.flight;
+    flight = under_way_by (StoodBy of.files (of.files.bytes after)) chain P Q r.next gives r.flight;
     crash = r.crash;
     stood = r.stood;
     losses = r.losses;
@@ -307,16 +302,16 @@ module _ {G A : Type 0} (l : ledger.Ghosts G) (f : archive.Ghosts A) where
   nodes_busy world (model.says p said ∷ left) busy = busy
 
   pub ahead_failed : (old new : G) (before after : A) (world : World) (left : List Event) (e : QueryFault) → (world.side.ahead ≡ [] → ⊥)
-      → (e ≡ fault.Memory → l.is_live new) → StopsAt l f old new before after world.side.chain true (λ (p : Plan). p ≡ plan_of 0 world.side.ahead) e
-      → TurnFailed l f old new before after world left e
+      → (e ≡ fault.Memory → of.ledger.is_live new) → StopsAt of (beneath old before) (beneath new after) world.side.chain true (λ (p : Plan). p ≡ plan_of 0 world.side.ahead) e
+      → TurnFailed of (beneath old before) (beneath new after) world left e
   ahead_failed old new before after world left e some live r =
       let busy = moving_any 0 world.side.ahead some in
       let s = stops_by old new before after world.side.chain true _ (IsMoveOf world left) e (λ p is. later busy is) r in
       failed_so old new before after world left true e (nodes_busy world left busy) (λ y. busy) s s.fails live
 
   pub line_failed : (old new : G) (before after : A) (world : World) (left rest : List Event) (e : QueryFault) (said : LineEvent)
-      → IsStill world → AllTold world → left ≡ orders said ∷ rest → (e ≡ fault.Memory → l.is_live new)
-      → StopsAt l f old new before after world.side.chain false (IsFirstMove world.side said) e → TurnFailed l f old new before after world left e
+      → IsStill world → AllTold world → left ≡ orders said ∷ rest → (e ≡ fault.Memory → of.ledger.is_live new)
+      → StopsAt of (beneath old before) (beneath new after) world.side.chain false (IsFirstMove world.side said) e → TurnFailed of (beneath old before) (beneath new after) world left e
   line_failed old new before after world left rest e said still all_told is live r =
       let s = stops_by old new before after world.side.chain false (IsFirstMove world.side said) (IsMoveOf world left) e (λ p move. first said rest still all_told is move) r in
       failed_so old new before after world left false e (rw is (inr all_told)) (λ y. absurd (true≢false (sym y))) s s.fails live

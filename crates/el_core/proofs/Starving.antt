@@ -2,15 +2,14 @@
 use Rattle.std.proofs.Common.{◌≡◌, inl, inr, ℕ, Bool, true, false, List, [], ◌∷◌, Option, Some, None, refl, ap, subst}
 use Rattle.el_base.specs.declared.hash.Hash32.{Hash32}
 use Rattle.el_outside.specs.declared.archive.Archive as archives
-use Rattle.el_outside.specs.Devices.{Device, archive, Rose}
+use Rattle.el_outside.specs.Devices.{Device, archive}
 use Rattle.el_outside.specs.Files.{AllGrow}
 use Rattle.el_chain.specs.declared.node.Node.{Node}
 use Rattle.el_chain.specs.declared.moves.Plan.{Plan}
 use Rattle.el_chain.specs.Chains.{Chain}
-use Rattle.el_chain.specs.Moves.{Moves, target}
-use Rattle.el_model.specs.declared.ledger.Ledger as ledger
-use Rattle.el_model.specs.LedgerCalls.{Moved, failed_calls}
-use Rattle.el_model.proofs.ReadBodies.{moves_grow}
+use Rattle.el_chain.specs.Moves.{Moves, StoodAt, StoodBy, target}
+use Rattle.el_model.specs.LedgerCalls.{Moved}
+use Rattle.el_model.proofs.ReadBodies.{moves_weaker, stood_up_to}
 use Rattle.el_lines.specs.Lines.{LineEvent, line, too_long}
 use Rattle.el_lines.specs.declared.node_answer.NodeAnswer.{NodeAnswer}
 use Rattle.el_lines.specs.declared.node_answer.NodeAnswer.TheVariants as say
@@ -18,49 +17,50 @@ use Rattle.el_lines.specs.declared.node_answer.NodeRefusal.TheVariants as refusa
 use Rattle.el_lines.specs.NodeLines.{NodeLine, block, tip, tx, dropped, ReadsNodeLine}
 use Rattle.el_mempool.specs.Refusals.{is_kept}
 use Rattle.el_lines.proofs.Cuts.{either}
-use Rattle.el_side.specs.declared.holdings.Holdings.{Holdings}
-use Rattle.el_side.specs.NodeSteps.{Leads}
+use Rattle.el_side.specs.NodeSteps.{Leads, StepLeft}
 use Rattle.el_side.specs.UnderWay.{IsFirstMove, before as not_moved, in_move}
 use Rattle.el_side.specs.Plans.{back_of, rest_of, plan_of}
 use Rattle.el_side.specs.Side as side_of
 use Rattle.el_side.specs.Side.{Side, IsSaid, Looks, Moving, Orders, OrdersLine, Tips, Adds, Drops}
 use Rattle.el_sync.specs.Steps.{by_memory, untold, StopsAt}
 use Rattle.el_model.specs.declared.fault.QueryFault.TheVariants as fault
+use Rattle.el_side.specs.Beneath.{Beneath, Ghosts, Lost}
 
 -- the chain is as it was, or the target of the move
-data Ends (told : Type 0) (files : ℕ → List ℕ) (chain : Chain) (is_move : Plan → Type 0) (answer : NodeAnswer) (losses : List Device) (next : Chain) : Type 0 where
-  stays : next ≡ chain → losses ≡ [] → Ends told files chain is_move answer losses next
-  lost : answer ≡ say.Refused refusal.Archive → next ≡ chain → losses ≡ archive ∷ [] → Ends told files chain is_move answer losses next
-  moved : (p : Plan) (blocks : Chain) → is_move p → Moves told files chain p blocks → next ≡ target p chain blocks → losses ≡ [] → Ends told files chain is_move answer losses next
+data Ends (stood : Node → List ℕ → Type 0) (chain : Chain) (is_move : Plan → Type 0) (answer : NodeAnswer) (losses : List Device) (next : Chain) : Type 0 where
+  stays : next ≡ chain → losses ≡ [] → Ends stood chain is_move answer losses next
+  lost : answer ≡ say.Refused refusal.Archive → next ≡ chain → losses ≡ archive ∷ [] → Ends stood chain is_move answer losses next
+  moved : (p : Plan) (blocks : Chain) → is_move p → Moves stood chain p blocks → next ≡ target p chain blocks → losses ≡ [] → Ends stood chain is_move answer losses next
 
-module _ (told : Type 0) (side : Side) (P : Plan → Type 0) (answer : NodeAnswer) (losses : List Device) (next : Side) (files : ℕ → List ℕ) where
-  of_tx : (bytes : List ℕ) → Adds side bytes answer losses next → Ends told files side.chain P answer losses next.chain
+module _ (stood : Node → List ℕ → Type 0) (side : Side) (P : Plan → Type 0) (answer : NodeAnswer) (losses : List Device) (next : Side) where
+  of_tx : (bytes : List ℕ) → Adds side bytes answer losses next → Ends stood side.chain P answer losses next.chain
   of_tx bytes (side_of.joins t encodes right answer_is next_is none) = stays (ap (λ (s : Side). s.chain) next_is) none
   of_tx bytes (side_of.refuses t e encodes why answer_is next_is none) = stays (ap (λ (s : Side). s.chain) next_is) none
   of_tx bytes (side_of.misread other answer_is next_is none) = stays (ap (λ (s : Side). s.chain) next_is) none
 
-  of_drop : (id : Hash32) → Drops side id answer losses next → Ends told files side.chain P answer losses next.chain
+  of_drop : (id : Hash32) → Drops side id answer losses next → Ends stood side.chain P answer losses next.chain
   of_drop id drops = elim (either (is_kept id side.kept)) [
     | inl h ↦ (let d = rw h at drops in stays (ap (λ (s : Side). s.chain) d.1) d.2)
     | inr h ↦ (let d = rw h at drops in stays (ap (λ (s : Side). s.chain) d.1) d.2)
   ]
 
-module _ (told : Type 0) (side : Side) where
-  of_moving : (back : ℕ) (rest : List Node) (answer : NodeAnswer) (losses : List Device) (next : Side) (files : ℕ → List ℕ) → (told → AllGrow next.files files) → Moving told side back rest answer losses next
-      → Ends told files side.chain (λ (p : Plan). p ≡ plan_of back rest) answer losses next.chain
+module _ {A : Type 0} (f : archives.Ghosts A) (side : Side) where
+  of_moving : (back : ℕ) (rest : List Node) (answer : NodeAnswer) (losses : List Device) (next : Side) (files : ℕ → List ℕ) → (f.tells → AllGrow next.files files) → Moving f side back rest answer losses next
+      → Ends (StoodBy f files) side.chain (λ (p : Plan). p ≡ plan_of back rest) answer losses next.chain
   of_moving back rest answer losses next files grows (side_of.commits read blocks more moves next_is answer_is none) =
-      let grows' : told → AllGrow read files = λ t. subst (λ (s : Side). AllGrow s.files files) next_is (grows t) in
-      moved (plan_of back rest) blocks refl (moves_grow told read files side.chain (plan_of back rest) blocks grows' moves) (ap (λ (s : Side). s.chain) next_is) none
+      let grows' : f.tells → AllGrow read files = λ t. subst (λ (s : Side). AllGrow s.files files) next_is (grows t) in
+      let by : (n : Node) (t : List ℕ) → StoodAt f side.files read n t → StoodBy f files n t = λ n t stood. stood_up_to f side.files read files n t grows' stood in
+      moved (plan_of back rest) blocks refl (moves_weaker (StoodAt f side.files read) (StoodBy f files) side.chain (plan_of back rest) blocks by moves) (ap (λ (s : Side). s.chain) next_is) none
   of_moving back rest answer losses next files grows (side_of.refuses read e more answer_is why next_is none) = stays (ap (λ (s : Side). s.chain) next_is) none
   of_moving back rest answer losses next files grows (side_of.fails read more answer_is next_is one) = lost answer_is (ap (λ (s : Side). s.chain) next_is) one
 
-  ends_by : (P Q : Plan → Type 0) (answer : NodeAnswer) (losses : List Device) (chain next : Chain) (files : ℕ → List ℕ) → ((p : Plan) → P p → Q p) → Ends told files chain P answer losses next → Ends told files chain Q answer losses next
+  ends_by : (P Q : Plan → Type 0) (answer : NodeAnswer) (losses : List Device) (chain next : Chain) (files : ℕ → List ℕ) → ((p : Plan) → P p → Q p) → Ends (StoodBy f files) chain P answer losses next → Ends (StoodBy f files) chain Q answer losses next
   ends_by P Q answer losses chain next files gives (stays same none) = stays same none
   ends_by P Q answer losses chain next files gives (lost says same one) = lost says same one
   ends_by P Q answer losses chain next files gives (moved p blocks is moves next_is none) = moved p blocks (gives p is) moves next_is none
 
-  of_tip : (bytes hash : List ℕ) (answer : NodeAnswer) (losses : List Device) (next : Side) (files : ℕ → List ℕ) → (told → AllGrow next.files files) → ReadsNodeLine bytes (tip hash)
-      → Tips told side (record { 0 = hash }) answer losses next → Ends told files side.chain (IsFirstMove side (line bytes)) answer losses next.chain
+  of_tip : (bytes hash : List ℕ) (answer : NodeAnswer) (losses : List Device) (next : Side) (files : ℕ → List ℕ) → (f.tells → AllGrow next.files files) → ReadsNodeLine bytes (tip hash)
+      → Tips f side (record { 0 = hash }) answer losses next → Ends (StoodBy f files) side.chain (IsFirstMove side (line bytes)) answer losses next.chain
   of_tip bytes hash answer losses next files grows reads (side_of.unknown none_known answer_is next_is none) = stays (ap (λ (s : Side). s.chain) next_is) none
   of_tip bytes hash answer losses next files grows reads (side_of.unconnected is_known no_path answer_is next_is none) = stays (ap (λ (s : Side). s.chain) next_is) none
   of_tip bytes hash answer losses next files grows reads (side_of.along path is_path (side_of.deep far answer_is next_is none)) = stays (ap (λ (s : Side). s.chain) next_is) none
@@ -72,28 +72,28 @@ module _ (told : Type 0) (side : Side) where
 
 module _ {A : Type 0} (f : archives.Ghosts A) (side : Side) where
   of_place : (P : Plan → Type 0) (answer : NodeAnswer) (losses : List Device) (next : Side) (files : ℕ → List ℕ) (file at : ℕ) → Looks f side file at answer losses next
-      → Ends f.tells files side.chain P answer losses next.chain
+      → Ends (StoodBy f files) side.chain P answer losses next.chain
   of_place P answer losses next files file at (side_of.looks found read up answer_is next_is none) = stays (ap (λ (s : Side). s.chain) next_is) none
   of_place P answer losses next files file at (side_of.fails read more answer_is next_is one) = lost answer_is (ap (λ (s : Side). s.chain) next_is) one
 
   of_said : (bytes : List ℕ) (answer : NodeAnswer) (losses : List Device) (next : Side) (files : ℕ → List ℕ) (said : Option NodeLine) → (f.tells → AllGrow next.files files) → IsSaid bytes said → Orders f side said answer losses next
-      → Ends f.tells files side.chain (IsFirstMove side (line bytes)) answer losses next.chain
+      → Ends (StoodBy f files) side.chain (IsFirstMove side (line bytes)) answer losses next.chain
   of_said bytes answer losses next files None grows says orders = stays (ap (λ (s : Side). s.chain) orders.1) orders.2
   of_said bytes answer losses next files (Some (block file at)) grows says orders = of_place (IsFirstMove side (line bytes)) answer losses next files file at orders
-  of_said bytes answer losses next files (Some (tip hash)) grows says orders = of_tip f.tells side bytes hash answer losses next files grows says orders
-  of_said bytes answer losses next files (Some (tx b)) grows says orders = of_tx f.tells side (IsFirstMove side (line bytes)) answer losses next files b orders
-  of_said bytes answer losses next files (Some (dropped id)) grows says orders = of_drop f.tells side (IsFirstMove side (line bytes)) answer losses next files (record { 0 = id }) orders
+  of_said bytes answer losses next files (Some (tip hash)) grows says orders = of_tip f side bytes hash answer losses next files grows says orders
+  of_said bytes answer losses next files (Some (tx b)) grows says orders = of_tx (StoodBy f files) side (IsFirstMove side (line bytes)) answer losses next b orders
+  of_said bytes answer losses next files (Some (dropped id)) grows says orders = of_drop (StoodBy f files) side (IsFirstMove side (line bytes)) answer losses next (record { 0 = id }) orders
 
   of_line : (e : LineEvent) (answer : NodeAnswer) (losses : List Device) (next : Side) (files : ℕ → List ℕ) → (f.tells → AllGrow next.files files) → OrdersLine f side e answer losses next
-      → Ends f.tells files side.chain (IsFirstMove side e) answer losses next.chain
+      → Ends (StoodBy f files) side.chain (IsFirstMove side e) answer losses next.chain
   of_line too_long answer losses next files grows orders = stays (ap (λ (s : Side). s.chain) orders.1) orders.2
   of_line (line bytes) answer losses next files grows orders = of_said bytes answer losses next files orders.0 grows orders.1 orders.2
 
-module _ {G A : Type 0} (l : ledger.Ghosts G) (f : archives.Ghosts A) where
-  ends_stops : (old new : G) (before after : A) (chain next : Chain) (later : Bool) (P : Plan → Type 0) (answer : NodeAnswer) (losses : List Device) → (answer ≡ say.Refused refusal.Archive → later ≡ true) → Moved l old new chain next
-      → ((of_link : ℕ) → Rose (failed_calls l f of_link old before) (failed_calls l f of_link new after) losses) → Ends f.tells (f.bytes after) chain P answer losses next
-      → StopsAt l f old new before after chain later P fault.Memory
-  ends_stops old new before after chain next later P answer losses again went rose (stays same none) = record {
+module _ {G A : Type 0} (of : Ghosts G A) where
+  ends_stops : (was now : Beneath G A) (chain next : Chain) (later : Bool) (P : Plan → Type 0) (answer : NodeAnswer) (losses : List Device) → (answer ≡ say.Refused refusal.Archive → later ≡ true)
+      → Moved of.ledger was.ledger now.ledger chain next → Lost of was now losses → Ends (StoodBy of.files (of.files.bytes now.files)) chain P answer losses next
+      → StopsAt of was now chain later P fault.Memory
+  ends_stops was now chain next later P answer losses again went rose (stays same none) = record {
     next = next;
     flight = not_moved same;
     crash = went.crash;
@@ -102,7 +102,7 @@ module _ {G A : Type 0} (l : ledger.Ghosts G) (f : archives.Ghosts A) where
     fails = by_memory refl none;
     rose = rose;
   }
-  ends_stops old new before after chain next later P answer losses again went rose (lost says same one) = record {
+  ends_stops was now chain next later P answer losses again went rose (lost says same one) = record {
     next = next;
     flight = not_moved same;
     crash = went.crash;
@@ -111,7 +111,7 @@ module _ {G A : Type 0} (l : ledger.Ghosts G) (f : archives.Ghosts A) where
     fails = untold (again says) refl one same;
     rose = rose;
   }
-  ends_stops old new before after chain next later P answer losses again went rose (moved p blocks is moves next_is none) = record {
+  ends_stops was now chain next later P answer losses again went rose (moved p blocks is moves next_is none) = record {
     next = next;
     flight = in_move p is (inr (blocks, moves, next_is));
     crash = went.crash;
@@ -122,17 +122,15 @@ module _ {G A : Type 0} (l : ledger.Ghosts G) (f : archives.Ghosts A) where
   }
 
   -- after a later move of a tip line
-  pub move_starves : (old new : G) (before after : A) (side : Side) (start : Chain) (rest : List Node) (answer : NodeAnswer) (found ahead : List Node) (touched changed : List Hash32) (holdings : Holdings)
-      → Leads l f (Moving f.tells side 0 rest) old new before after side start answer found ahead touched changed holdings
-      → StopsAt l f old new before after side.chain true (λ (p : Plan). p ≡ plan_of 0 rest) fault.Memory
-  move_starves old new before after side start rest answer found ahead touched changed holdings led =
-      ends_stops old new before after side.chain led.next.chain true (λ (p : Plan). p ≡ plan_of 0 rest) answer led.losses (λ says. refl) led.went led.rose
-      (of_moving f.tells side 0 rest answer led.losses led.next (f.bytes after) led.told led.led)
+  pub move_starves : (side : Side) (start : Chain) (rest : List Node) (left : StepLeft G A) → Leads of (Moving of.files side 0 rest) side start left
+      → StopsAt of left.was left.now side.chain true (λ (p : Plan). p ≡ plan_of 0 rest) fault.Memory
+  move_starves side start rest left led =
+      ends_stops left.was left.now side.chain led.next.chain true (λ (p : Plan). p ≡ plan_of 0 rest) left.answer led.losses (λ says. refl) led.went led.rose
+      (of_moving of.files side 0 rest left.answer led.losses led.next (of.files.bytes left.now.files) led.told led.led)
 
   -- after a line, whose answer isn't that the block files failed
-  pub line_starves : (old new : G) (before after : A) (side : Side) (start : Chain) (e : LineEvent) (answer : NodeAnswer) (found ahead : List Node) (touched changed : List Hash32) (holdings : Holdings)
-      → (answer ≡ say.Refused refusal.Archive → ⊥) → Leads l f (OrdersLine f side e) old new before after side start answer found ahead touched changed holdings
-      → StopsAt l f old new before after side.chain false (IsFirstMove side e) fault.Memory
-  line_starves old new before after side start e answer found ahead touched changed holdings apart led =
-      ends_stops old new before after side.chain led.next.chain false (IsFirstMove side e) answer led.losses (λ says. absurd (apart says)) led.went led.rose
-      (of_line f side e answer led.losses led.next (f.bytes after) led.told led.led)
+  pub line_starves : (side : Side) (start : Chain) (e : LineEvent) (left : StepLeft G A) → (left.answer ≡ say.Refused refusal.Archive → ⊥) → Leads of (OrdersLine of.files side e) side start left
+      → StopsAt of left.was left.now side.chain false (IsFirstMove side e) fault.Memory
+  line_starves side start e left apart led =
+      ends_stops left.was left.now side.chain led.next.chain false (IsFirstMove side e) left.answer led.losses (λ says. absurd (apart says)) led.went led.rose
+      (of_line of.files side e left.answer led.losses led.next (of.files.bytes left.now.files) led.told led.led)

@@ -1,7 +1,6 @@
 -- The telling of a client.
 use Rattle.std.proofs.Common.{◌≡◌, inl, inr, ℕ, zero, suc, true, false, List, [], ◌∷◌, map, take, find, slice_get, Option, Some, None, refl, sym, ap, ◌∙◌, subst, true≢false}
 use Rattle.std.specs.List.{AllByRecursion, AllZip}
-use Rattle.el_outside.specs.declared.archive.Archive as archive
 use Rattle.el_outside.specs.Counts.{RoseBy}
 use Rattle.el_outside.specs.Devices as device
 use Rattle.el_outside.specs.Devices.{Device, failures}
@@ -10,9 +9,9 @@ use Rattle.el_outside.specs.Trace.{Message, Closing}
 use Rattle.el_outside.proofs.Devices.{rose_still}
 use Rattle.el_chain.specs.Chains.{Chain}
 use Rattle.el_mempool.specs.Standing.{StandsFor}
-use Rattle.el_model.specs.declared.ledger.Ledger as ledger
 use Rattle.el_model.specs.LedgerCalls.{Asked, Moved}
 use Rattle.el_model.proofs.LedgerMoves.{LeavesOwn, asked_moved}
+use Rattle.el_side.specs.Beneath.{Ghosts}
 use Rattle.el_subs.specs.Told as status_told
 use Rattle.el_subs.specs.Told.{status}
 use Rattle.el_subs.specs.Notices.{notified}
@@ -21,7 +20,7 @@ use Rattle.el_world.specs.World.{World, Session, Event, IsStill, Outs, closes_di
 use Rattle.el_world.specs.World as model
 use Rattle.el_world.specs.Run as run
 use Rattle.el_world.specs.Run.{OneTurn}
-use Rattle.el_core.specs.State.{State, ClientState, IsSession, IsUntouched, SessionsAre, NoneWaits, AllVoid, Stands}
+use Rattle.el_core.specs.State.{State, ClientState, IsSession, IsUntouched, SessionsAre, NoneWaits, AllVoid, Stands, serving}
 use Rattle.el_core.specs.Turn.{TookTurn, GoesTo}
 use Rattle.el_core.specs.within.Clients.{TellTurn, tells, fails, starves, TellsAt, IsToTell, IsFirstWaiting, told_client, replaced}
 use Rattle.el_core.proofs.Losing.{lost_of}
@@ -91,14 +90,14 @@ to_tell stands old world left i c stood still at =
       others = rw z.2.kept (others_of world.side stood.start old.touched z.0.client.subs start_is (all_at _ world.sessions i z.0 stood.tellings.untouched z.1));
     }
 
-module _ {G A : Type 0} (l : ledger.Ghosts G) (f : archive.Ghosts A) where
+module _ {G A : Type 0} (of : Ghosts G A) where
   -- What is known beside the telling of the client at that place.
   pub record BesideTelling (old new : State G) (files : A) (world : World) (left : List Event) (i : ℕ) : Type 0 where
-    pub stood : Stands l.stands old world left
-    pub told : f.tells → AllGrow world.side.files (f.bytes files)
+    pub stood : Stands of.ledger.stands old world left
+    pub told : of.files.tells → AllGrow world.side.files (of.files.bytes files)
     pub still : IsStill world
     pub first : IsFirstWaiting old.clients (Some i)
-    pub went : Moved l old.ledger new.ledger world.side.chain world.side.chain
+    pub went : Moved of.ledger old.ledger new.ledger world.side.chain world.side.chain
     pub same : new ≡ record old { ledger = new.ledger; clients = new.clients }
 
   -- the client and its session changed, or both gone
@@ -107,10 +106,10 @@ module _ {G A : Type 0} (l : ledger.Ghosts G) (f : archive.Ghosts A) where
       → SessionsAre old.clients None None world.sessions r.stood.said → old.speaker ≡ None → old.surplus ≡ None → slice_get world.sessions i ≡ Some x
       → new.clients ≡ replaced i now old.clients → Both (IsSession None r.stood.said) now session → IfThere (λ (n : Session). n.peer ≡ x.peer) session
       → IfThere (λ (n : Session). status_told.AllTold (status world.side.chain world.side.kept) n.client.subs) session
-      → OneTurn f world [] o losses (record world { sessions = replaced i session world.sessions })
-      → AllByRecursion (GoesTo (record world { sessions = replaced i session world.sessions }) None o.closing) o.messages → RoseBy (l.faults old.ledger) (l.faults new.ledger) (failures device.disk losses)
+      → OneTurn of.files world [] o losses (record world { sessions = replaced i session world.sessions })
+      → AllByRecursion (GoesTo (record world { sessions = replaced i session world.sessions }) None o.closing) o.messages → RoseBy (of.ledger.faults old.ledger) (of.ledger.faults new.ledger) (failures device.disk losses)
       → failures device.link losses ≡ 0 → failures device.archive losses ≡ 0
-      → TookTurn l f old new files files world left o
+      → TookTurn of (serving old files) (serving new files) world left o
   told_by old new files world left o i r c x now session losses are no_speaker no_surplus at clients both same statuses turn sends rose no_link no_files =
       let st = r.stood in
       let speaker : new.speaker ≡ None = ap (λ (s : State G). s.speaker) r.same ∙ no_speaker in
@@ -149,7 +148,7 @@ module _ {G A : Type 0} (l : ledger.Ghosts G) (f : archive.Ghosts A) where
         moved = r.went;
         told = r.told;
         sends_to = rw surplus sends;
-        rose = lost_of l f old.ledger new.ledger files files losses no_link (rw no_files (rose_still _ _ refl)) rose;
+        rose = lost_of of old.ledger new.ledger files files losses no_link (rw no_files (rose_still _ _ refl)) rose;
       }
     where
       unmoved : (n : Option Session) → r.stood.start ≡ world.side.chain → IfThere (λ (m : Session). status_told.AllTold (status world.side.chain world.side.kept) m.client.subs) n
@@ -165,8 +164,8 @@ module _ {G A : Type 0} (l : ledger.Ghosts G) (f : archive.Ghosts A) where
   -- it is told, or closed
   tell_one : (old new : State G) (files : A) (world : World) (left : List Event) (o : Outs) (i : ℕ) (r : BesideTelling old new files world left i) (c : ClientState) (now : Option ClientState) (x : Session)
       → IsSession None r.stood.said c x → SessionsAre old.clients None None world.sessions r.stood.said → slice_get world.sessions i ≡ Some x → old.speaker ≡ None → old.surplus ≡ None
-      → next_told world ≡ Some x → new.clients ≡ replaced i now old.clients → TellTurn world.side old.before (λ n. RoseBy (l.faults old.ledger) (l.faults new.ledger) n) c o now
-      → TookTurn l f old new files files world left o
+      → next_told world ≡ Some x → new.clients ≡ replaced i now old.clients → TellTurn world.side old.before (λ n. RoseBy (of.ledger.faults old.ledger) (of.ledger.faults new.ledger) n) c o now
+      → TookTurn of (serving old files) (serving new files) world left o
   tell_one old new files world left o i r c now x is are x_at no_speaker no_surplus next_is clients (tells outs_is now_is rose) =
       let mapped = one_mapped x.peer (λ (y : Session). told world x) world.sessions i x are.rising x_at refl in
       let there = one_there x.peer (replaced i (Some (told world x)) world.sessions) i (told world x) (at_replaced world.sessions i x (told world x) x_at) refl in
@@ -190,8 +189,8 @@ module _ {G A : Type 0} (l : ledger.Ghosts G) (f : archive.Ghosts A) where
 
   -- the telling of the first client that waits
   tell_step : (old new : State G) (files : A) (world : World) (left : List Event) (o : Outs) (i : ℕ) (r : BesideTelling old new files world left i) (c : ClientState) (now : Option ClientState)
-      → slice_get old.clients i ≡ Some c → c.waits ≡ true → new.clients ≡ replaced i now old.clients → TellTurn world.side old.before (λ n. RoseBy (l.faults old.ledger) (l.faults new.ledger) n) c o now
-      → TookTurn l f old new files files world left o
+      → slice_get old.clients i ≡ Some c → c.waits ≡ true → new.clients ≡ replaced i now old.clients → TellTurn world.side old.before (λ n. RoseBy (of.ledger.faults old.ledger) (of.ledger.faults new.ledger) n) c o now
+      → TookTurn of (serving old files) (serving new files) world left o
   tell_step old new files world left o i r c now at w clients turn =
       let z = zip_at (IsSession old.speaker r.stood.said) old.clients world.sessions i c r.stood.sessions.each at in
       let x = z.0 in
@@ -205,13 +204,13 @@ module _ {G A : Type 0} (l : ledger.Ghosts G) (f : archive.Ghosts A) where
       let quiet_front = zip_all (IsSession old.speaker r.stood.said) (λ (d : ClientState). d.waits ≡ false) (λ (y : Session). y.waits ≡ false) (take i old.clients) (take i world.sessions) (λ d y k e. sym k.waits ∙ e) front (none_waits (take i old.clients) r.first.3) in
       tell_one old new files world left o i r c now x is are z.1 no_speaker no_surplus (first_told world.sessions i x z.1 xw quiet_front) clients turn
 
-  pub tell_turned : (old new : State G) (files : A) (world : World) (left : List Event) (o : Outs) (i : ℕ) → LeavesOwn l → l.is_live old.ledger → Asked l old.ledger new.ledger
-      → Stands l.stands old world left → (f.tells → AllGrow world.side.files (f.bytes files)) → old.ahead ≡ [] → IsFirstWaiting old.clients (Some i)
+  pub tell_turned : (old new : State G) (files : A) (world : World) (left : List Event) (o : Outs) (i : ℕ) → LeavesOwn of.ledger → of.ledger.is_live old.ledger → Asked of.ledger old.ledger new.ledger
+      → Stands of.ledger.stands old world left → (of.files.tells → AllGrow world.side.files (of.files.bytes files)) → old.ahead ≡ [] → IsFirstWaiting old.clients (Some i)
       → new ≡ record old { ledger = new.ledger; clients = new.clients }
-      → TellsAt (λ c now. (side : Side) → IsToTell l.stands old.ledger old.holdings old.touched side c → TellTurn side old.before (λ n. RoseBy (l.faults old.ledger) (l.faults new.ledger) n) c o now) i old.clients new.clients
-      → TookTurn l f old new files files world left o
+      → TellsAt (λ c now. (side : Side) → IsToTell of.ledger.stands old.ledger old.holdings old.touched side c → TellTurn side old.before (λ n. RoseBy (of.ledger.faults old.ledger) (of.ledger.faults new.ledger) n) c o now) i old.clients new.clients
+      → TookTurn of (serving old files) (serving new files) world left o
   tell_turned old new files world left o i own live asked stood grown ahead first same t =
       let still : IsStill world = sym stood.ahead ∙ ahead in
       tell_step old new files world left o i
-      (record { stood = stood; told = grown; still = still; first = first; went = asked_moved l old.ledger new.ledger world.side.chain own live asked stood.chain; same = same })
-      t.client t.left t.at (ap (λ (d : ClientState). d.waits) (same_some _ _ (sym t.at ∙ first.1)) ∙ first.2) t.next_is (t.said world.side (to_tell l.stands old world left i t.client stood still t.at))
+      (record { stood = stood; told = grown; still = still; first = first; went = asked_moved of.ledger old.ledger new.ledger world.side.chain own live asked stood.chain; same = same })
+      t.client t.left t.at (ap (λ (d : ClientState). d.waits) (same_some _ _ (sym t.at ∙ first.1)) ∙ first.2) t.next_is (t.said world.side (to_tell of.ledger.stands old world left i t.client stood still t.at))

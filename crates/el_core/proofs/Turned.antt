@@ -3,14 +3,12 @@ use Rattle.std.proofs.Common.{◌≡◌, ℕ, true, false, List, [], ◌∷◌, 
 use Rattle.std.specs.Prelude.{IfSome, IfNone}
 use Rattle.std.specs.List.{AllZip}
 use Rattle.el_base.specs.declared.hash.Hash32.{Hash32}
-use Rattle.el_outside.specs.declared.archive.Archive as archive
 use Rattle.el_outside.specs.Files.{AllGrow}
 use Rattle.el_outside.proofs.Devices.{all_rose_none}
 use Rattle.el_outside.proofs.Traces.{all_grow_none, all_grow_more}
 use Rattle.el_chain.specs.declared.node.Node.{Node}
 use Rattle.el_chain.specs.Chains.{Chain}
-use Rattle.el_model.specs.declared.ledger.Ledger as ledger
-use Rattle.el_model.specs.LedgerCalls.{Asked, failed_calls}
+use Rattle.el_model.specs.LedgerCalls.{Asked}
 use Rattle.el_model.specs.Queries.{tip_of}
 use Rattle.el_lines.specs.Lines.{LineEvent}
 use Rattle.el_mempool.specs.Standing.{StandsFor}
@@ -23,9 +21,10 @@ use Rattle.el_model.proofs.LedgerMoves.{LeavesOwn, asked_moved}
 use Rattle.el_sync.specs.Steps.{IsFrom, StopsAt}
 use Rattle.el_model.specs.declared.fault.QueryFault.{QueryFault}
 use Rattle.el_model.specs.declared.fault.QueryFault.TheVariants as fault
-use Rattle.el_core.specs.State.{State, ClientState, HasGivenAll, IsSession, SessionsAre, AllVoid, Stands, waiting}
+use Rattle.el_side.specs.Beneath.{Ghosts, Lost, beneath, failed_beneath}
+use Rattle.el_core.specs.State.{State, ClientState, HasGivenAll, IsSession, SessionsAre, AllVoid, Stands, waiting, serving}
 use Rattle.el_core.specs.Turn.{TookTurn, TurnFailed, IsDone, outs_of}
-use Rattle.el_core.specs.within.Answering.{Answered, IsSettled, Lost}
+use Rattle.el_core.specs.within.Answering.{Answered, IsSettled}
 use Rattle.el_core.specs.within.Clients.{Gives, NextIsLine, PeersTurn, all_wait, begun_at}
 use Rattle.el_core.specs.within.Touching.{CoversAll}
 use Rattle.el_core.specs.declared.out.Outs as code
@@ -95,19 +94,19 @@ begun_stands {G} stands old start left rest e tip stood is still all_told tip_is
       left_is = stood.left_is;
     }
 
-module _ {G A : Type 0} (l : ledger.Ghosts G) (f : archive.Ghosts A) where
+module _ {G A : Type 0} (of : Ghosts G A) where
   -- a turn of the node's last tip line
-  pub ahead_turned : (old new : State G) (before after : A) (world : World) (left : List Event) (o : code.Outs) → Stands l.stands old world left
-      → (f.tells → AllGrow world.side.files (f.bytes before)) → (old.ahead ≡ [] → ⊥) → new ≡ record old { ledger = new.ledger; holdings = new.holdings; ahead = new.ahead; touched = new.touched }
+  pub ahead_turned : (old new : State G) (before after : A) (world : World) (left : List Event) (o : code.Outs) → Stands of.ledger.stands old world left
+      → (of.files.tells → AllGrow world.side.files (of.files.bytes before)) → (old.ahead ≡ [] → ⊥) → new ≡ record old { ledger = new.ledger; holdings = new.holdings; ahead = new.ahead; touched = new.touched }
       → new.holdings.magic ≡ old.holdings.magic
-      → ((side : Side) (start : Chain) → IsAt l f old.ledger old.holdings before side start → side.found ≡ old.holdings.tree → Answered l f (Moving f.tells side 0 old.ahead) old new before after side start o)
-      → TookTurn l f old new before after world left (outs_of o)
+      → ((side : Side) (start : Chain) → IsAt of (beneath old.ledger before) old.holdings side start → side.found ≡ old.holdings.tree → Answered of (Moving of.files side 0 old.ahead) (serving old before) (serving new after) side start o)
+      → TookTurn of (serving old before) (serving new after) world left (outs_of o)
   ahead_turned old new before after world left o stood told some same magic turn =
       let busy : world.side.ahead ≡ [] → ⊥ = λ e. some (stood.ahead ∙ e) in
-      ahead_step l f old new before after world left o
+      ahead_step of old new before after world left o
       (record {
         stood = stood;
-        answered = subst (λ (ns : List Node). Answered l f (Moving f.tells world.side 0 ns) old new before after world.side stood.start o) stood.ahead
+        answered = subst (λ (ns : List Node). Answered of (Moving of.files world.side 0 ns) (serving old before) (serving new after) world.side stood.start o) stood.ahead
             (turn world.side stood.start (record { stood = stood.chain; set = stood.set; told = told }) (sym stood.found));
         magic = magic;
         clients = ap (λ (s : State G). s.clients) same;
@@ -119,7 +118,7 @@ module _ {G A : Type 0} (l : ledger.Ghosts G) (f : archive.Ghosts A) where
       busy (ap (λ (s : State G). s.node) same)
 
   -- the server's headers are the side's
-  from_side : (old mid : State G) (world : World) (left : List Event) → Stands l.stands old world left → mid ≡ record old { node = mid.node } → mid.ahead ≡ [] → IsFrom mid.holdings world.side
+  from_side : (old mid : State G) (world : World) (left : List Event) → Stands of.ledger.stands old world left → mid ≡ record old { node = mid.node } → mid.ahead ≡ [] → IsFrom mid.holdings world.side
   from_side old mid world left stood same still = record {
     found = sym (ap (λ (s : State G). s.holdings.tree) same ∙ stood.found);
     magic = sym (ap (λ (s : State G). s.holdings.magic) same ∙ stood.magic);
@@ -127,14 +126,14 @@ module _ {G A : Type 0} (l : ledger.Ghosts G) (f : archive.Ghosts A) where
   }
 
   -- a line of the node: `read` is the state after the line was read
-  pub node_turned : (old read new : State G) (before after : A) (world : World) (left : List Event) (o : code.Outs) (e : LineEvent) → ((k : G) (chain : Chain) → l.stands k chain → l.tip k ≡ tip_of chain) → Stands l.stands old world left
-      → (f.tells → AllGrow world.side.files (f.bytes before)) → read.ahead ≡ [] → waiting read.clients ≡ [] → read ≡ record old { node = read.node } → read.node.limit ≡ old.node.limit → Gives old.node e read.node
+  pub node_turned : (old read new : State G) (before after : A) (world : World) (left : List Event) (o : code.Outs) (e : LineEvent) → ((k : G) (chain : Chain) → of.ledger.stands k chain → of.ledger.tip k ≡ tip_of chain) → Stands of.ledger.stands old world left
+      → (of.files.tells → AllGrow world.side.files (of.files.bytes before)) → read.ahead ≡ [] → waiting read.clients ≡ [] → read ≡ record old { node = read.node } → read.node.limit ≡ old.node.limit → Gives old.node e read.node
       → new ≡ record read { ledger = new.ledger; holdings = new.holdings; ahead = new.ahead; clients = new.clients; before = new.before; touched = new.touched }
       → new.holdings.magic ≡ read.holdings.magic
-      → (new.clients ≡ all_wait read.clients) × (new.before ≡ l.tip read.ledger)
-      → ((side : Side) (start : Chain) → IsAt l f read.ledger read.holdings before side start → IsFrom read.holdings side
-      → Answered l f (OrdersLine f side e) (begun_at (l.tip read.ledger) read) new before after side start o)
-      → TookTurn l f old new before after world left (outs_of o)
+      → (new.clients ≡ all_wait read.clients) × (new.before ≡ of.ledger.tip read.ledger)
+      → ((side : Side) (start : Chain) → IsAt of (beneath read.ledger before) read.holdings side start → IsFrom read.holdings side
+      → Answered of (OrdersLine of.files side e) (serving (begun_at (of.ledger.tip read.ledger) read) before) (serving new after) side start o)
+      → TookTurn of (serving old before) (serving new after) world left (outs_of o)
   unfolding begun_stands
   node_turned old read new before after world left o e tip_is stood told still quiet_all same limit gives then magic begins turn =
       let ledger_is : read.ledger ≡ old.ledger = ap (λ (s : State G). s.ledger) same in
@@ -142,11 +141,11 @@ module _ {G A : Type 0} (l : ledger.Ghosts G) (f : archive.Ghosts A) where
       let clients_is : read.clients ≡ old.clients = ap (λ (s : State G). s.clients) same in
       let all_told : AllTold world = all_told_world old.clients old.speaker stood.said world.sessions stood.sessions.each (rw clients_is at quiet_all) in
       let n = next_order old.node read.node world.heard stood.ordered e stood.node limit gives in
-      let tip : l.tip read.ledger ≡ tip_of world.side.chain = tip_is read.ledger world.side.chain (rw ledger_is stood.chain) in
-      let began = begun_stands l.stands old world left n.rest e (l.tip read.ledger) stood n.first_is from.still all_told tip in
+      let tip : of.ledger.tip read.ledger ≡ tip_of world.side.chain = tip_is read.ledger world.side.chain (rw ledger_is stood.chain) in
+      let began = begun_stands of.ledger.stands old world left n.rest e (of.ledger.tip read.ledger) stood n.first_is from.still all_told tip in
       let a = turn world.side stood.start (record { stood = rw ledger_is stood.chain; set = rw (ap (λ (s : State G). s.holdings) same) stood.set; told = told }) from in
       let node : new.node ≡ read.node = ap (λ (s : State G). s.node) then in
-      node_step l f old (begun_at (l.tip read.ledger) old) new before after world left o e
+      node_step of old (begun_at (of.ledger.tip read.ledger) old) new before after world left o e
       (record {
         stood = began;
         answered = record {
@@ -154,7 +153,8 @@ module _ {G A : Type 0} (l : ledger.Ghosts G) (f : archive.Ghosts A) where
           moved = a.moved;
           changed = a.changed;
           sends = a.sends;
-          led = subst (λ (k : G). Leads l f (OrdersLine f world.side e) k new.ledger before after world.side stood.start a.answer new.holdings.tree new.ahead a.moved a.changed new.holdings) ledger_is a.led;
+          led = subst (λ (k : G). Leads of (OrdersLine of.files world.side e) world.side stood.start
+              (record { was = beneath k before; now = beneath new.ledger after; answer = a.answer; found = new.holdings.tree; ahead = new.ahead; moved = a.moved; changed = a.changed; holdings = new.holdings })) ledger_is a.led;
           covers = subst (λ (cs : List ClientState). CoversAll (all_wait cs) [] a.moved a.changed new.touched) clients_is a.covers;
         };
         magic = magic ∙ ap (λ (s : State G). s.holdings.magic) same;
@@ -167,8 +167,8 @@ module _ {G A : Type 0} (l : ledger.Ghosts G) (f : archive.Ghosts A) where
       (rw node n) from.still all_told refl
 
   -- a client may be answered
-  settled : (old : State G) (files : A) (world : World) (left : List Event) (known_files : ℕ → List ℕ) → Stands l.stands old world left → (f.tells → AllGrow known_files (f.bytes files)) → old.ahead ≡ []
-      → IsSettled l f old.ledger old.holdings files (record world.side { files = known_files })
+  settled : (old : State G) (files : A) (world : World) (left : List Event) (known_files : ℕ → List ℕ) → Stands of.ledger.stands old world left → (of.files.tells → AllGrow known_files (of.files.bytes files)) → old.ahead ≡ []
+      → IsSettled of (beneath old.ledger files) old.holdings (record world.side { files = known_files })
   settled old files world left known_files stood told still = record {
     stood = stood.chain;
     set = subst (λ (c : Chain). StandsFor old.holdings.pool.entries c world.side.kept) (stood.set.still (sym stood.ahead ∙ still)) stood.set.stood;
@@ -177,15 +177,15 @@ module _ {G A : Type 0} (l : ledger.Ghosts G) (f : archive.Ghosts A) where
     told = told;
   }
 
-  beside : (old new : State G) (world : World) (left : List Event) → LeavesOwn l → l.is_live old.ledger → Stands l.stands old world left
+  beside : (old new : State G) (world : World) (left : List Event) → LeavesOwn of.ledger → of.ledger.is_live old.ledger → Stands of.ledger.stands old world left
       → old.ahead ≡ [] → waiting old.clients ≡ [] → HasGivenAll old.node → new ≡ record old { ledger = new.ledger; clients = new.clients; speaker = new.speaker; surplus = new.surplus }
-      → Asked l old.ledger new.ledger → Beside l f old new world left
+      → Asked of.ledger old.ledger new.ledger → Beside of old new world left
   beside old new world left own live stood still quiet_all all same asked = record {
     stood = stood;
     none_left = none_ordered old.node world.heard stood.ordered stood.node all;
     still = sym stood.ahead ∙ still;
     all_told = all_told_world old.clients old.speaker stood.said world.sessions stood.sessions.each quiet_all;
-    moved = asked_moved l old.ledger new.ledger world.side.chain own live asked stood.chain;
+    moved = asked_moved of.ledger old.ledger new.ledger world.side.chain own live asked stood.chain;
     holdings = ap (λ (s : State G). s.holdings) same;
     ahead = ap (λ (s : State G). s.ahead) same;
     node = ap (λ (s : State G). s.node) same;
@@ -194,58 +194,58 @@ module _ {G A : Type 0} (l : ledger.Ghosts G) (f : archive.Ghosts A) where
   }
 
   -- a turn where the node has nothing left
-  pub peers_turned : (old new : State G) (before after : A) (world : World) (left : List Event) (o : Option code.Outs) → LeavesOwn l → l.is_live old.ledger → Stands l.stands old world left
-      → (f.tells → AllGrow world.side.files (f.bytes before)) → (f.tells → AllGrow (f.bytes before) (f.bytes after)) → old.ahead ≡ [] → waiting old.clients ≡ [] → HasGivenAll old.node
-      → new ≡ record old { ledger = new.ledger; clients = new.clients; speaker = new.speaker; surplus = new.surplus } → Asked l old.ledger new.ledger
-      → ((side : Side) → IsSettled l f old.ledger old.holdings before side → PeersTurn f.tells side (Lost l f old.ledger new.ledger before after) old o new)
-      → IfSome o (λ out. TookTurn l f old new before after world left (outs_of out))
+  pub peers_turned : (old new : State G) (before after : A) (world : World) (left : List Event) (o : Option code.Outs) → LeavesOwn of.ledger → of.ledger.is_live old.ledger → Stands of.ledger.stands old world left
+      → (of.files.tells → AllGrow world.side.files (of.files.bytes before)) → (of.files.tells → AllGrow (of.files.bytes before) (of.files.bytes after)) → old.ahead ≡ [] → waiting old.clients ≡ [] → HasGivenAll old.node
+      → new ≡ record old { ledger = new.ledger; clients = new.clients; speaker = new.speaker; surplus = new.surplus } → Asked of.ledger old.ledger new.ledger
+      → ((side : Side) → IsSettled of (beneath old.ledger before) old.holdings side → PeersTurn of.files.tells side (Lost of (beneath old.ledger before) (beneath new.ledger after)) old o new)
+      → IfSome o (λ out. TookTurn of (serving old before) (serving new after) world left (outs_of out))
   peers_turned old new before after world left o own live stood told grows still quiet_all all same asked turn =
-      peers_step l f old new before after world left o (beside old new world left own live stood still quiet_all all same asked)
-      (λ t. all_grow_more world.side.files (f.bytes before) (f.bytes after) (told t) (grows t))
+      peers_step of old new before after world left o (beside old new world left own live stood still quiet_all all same asked)
+      (λ t. all_grow_more world.side.files (of.files.bytes before) (of.files.bytes after) (told t) (grows t))
       (turn world.side (settled old before world left world.side.files stood told still))
 
   -- what is known of it whatever the side knows of the block files
-  pub peers_any : (old new : State G) (before after : A) (world : World) (left : List Event) (o : Option code.Outs) → Stands l.stands old world left → old.ahead ≡ []
-      → ((side : Side) → IsSettled l f old.ledger old.holdings before side → PeersTurn f.tells side (Lost l f old.ledger new.ledger before after) old o new)
-      → PeersTurn f.tells (record world.side { files = f.bytes before }) (Lost l f old.ledger new.ledger before after) old o new
+  pub peers_any : (old new : State G) (before after : A) (world : World) (left : List Event) (o : Option code.Outs) → Stands of.ledger.stands old world left → old.ahead ≡ []
+      → ((side : Side) → IsSettled of (beneath old.ledger before) old.holdings side → PeersTurn of.files.tells side (Lost of (beneath old.ledger before) (beneath new.ledger after)) old o new)
+      → PeersTurn of.files.tells (record world.side { files = of.files.bytes before }) (Lost of (beneath old.ledger before) (beneath new.ledger after)) old o new
   peers_any old new before after world left o stood still turn =
-      turn (record world.side { files = f.bytes before }) (settled old before world left (f.bytes before) stood (λ t. all_grow_none (f.bytes before)) still)
+      turn (record world.side { files = of.files.bytes before }) (settled old before world left (of.files.bytes before) stood (λ t. all_grow_none (of.files.bytes before)) still)
 
-  pub peers_ended : (old new : State G) (before after : A) (world : World) (left : List Event) (o : Option code.Outs) → LeavesOwn l → l.is_live old.ledger → Stands l.stands old world left
+  pub peers_ended : (old new : State G) (before after : A) (world : World) (left : List Event) (o : Option code.Outs) → LeavesOwn of.ledger → of.ledger.is_live old.ledger → Stands of.ledger.stands old world left
       → old.ahead ≡ [] → waiting old.clients ≡ [] → HasGivenAll old.node → new ≡ record old { ledger = new.ledger; clients = new.clients; speaker = new.speaker; surplus = new.surplus }
-      → Asked l old.ledger new.ledger
-      → ((side : Side) → IsSettled l f old.ledger old.holdings before side → PeersTurn f.tells side (Lost l f old.ledger new.ledger before after) old o new)
-      → IfNone o (IsDone l.stands f world left new)
+      → Asked of.ledger old.ledger new.ledger
+      → ((side : Side) → IsSettled of (beneath old.ledger before) old.holdings side → PeersTurn of.files.tells side (Lost of (beneath old.ledger before) (beneath new.ledger after)) old o new)
+      → IfNone o (IsDone of.ledger.stands of.files world left new)
   peers_ended old new before after world left o own live stood still quiet_all all same asked turn =
-      peers_none l f _ _ _ old new world left o (beside old new world left own live stood still quiet_all all same asked)
+      peers_none of _ _ _ old new world left o (beside old new world left own live stood still quiet_all all same asked)
       (peers_any old new before after world left o stood still turn)
 
 -- no memory for the node's next line: nothing has happened
-pub unread_failed : {G A : Type 0} (l : ledger.Ghosts G) (f : archive.Ghosts A) (old new : State G) (files : A) (world : World) (left : List Event) → LeavesOwn l → l.is_live old.ledger
-    → new ≡ old → Stands l.stands old world left → NextIsLine old.node → waiting old.clients ≡ [] → TurnFailed l f old.ledger new.ledger files files world left fault.Memory
-unread_failed l f old new files world left own live same stood line quiet_all =
+pub unread_failed : {G A : Type 0} (of : Ghosts G A) (old new : State G) (files : A) (world : World) (left : List Event) → LeavesOwn of.ledger → of.ledger.is_live old.ledger
+    → new ≡ old → Stands of.ledger.stands old world left → NextIsLine old.node → waiting old.clients ≡ [] → TurnFailed of (beneath old.ledger files) (beneath new.ledger files) world left fault.Memory
+unread_failed of old new files world left own live same stood line quiet_all =
     rw same (record {
       losses = [];
-      stops = run.no_memory refl (nodes_turn l.stands old world left stood line (all_told_world old.clients old.speaker stood.said world.sessions stood.sessions.each quiet_all)) refl refl refl;
+      stops = run.no_memory refl (nodes_turn of.ledger.stands old world left stood line (all_told_world old.clients old.speaker stood.said world.sessions stood.sessions.each quiet_all)) refl refl refl;
       within = tt;
-      rose = λ of_link. all_rose_none (failed_calls l f of_link old.ledger files);
+      rose = λ of_link. all_rose_none (failed_beneath of of_link (beneath old.ledger files));
       later = false;
-      stops_at = stops_still l f old.ledger files world.side.chain false _ own live stood.chain;
+      stops_at = stops_still of old.ledger files world.side.chain false _ own live stood.chain;
       kept = λ k. absurd k;
       live = λ m. live;
     })
 
 -- a line of the node in which the server stops: `read` is the state after the line was read
-pub node_failed : {G A : Type 0} (l : ledger.Ghosts G) (f : archive.Ghosts A) (old read : State G) (new : G) (before after : A) (world : World) (left : List Event) (said : LineEvent) (e : QueryFault)
-    → Stands l.stands old world left → (f.tells → AllGrow world.side.files (f.bytes before)) → read.ahead ≡ [] → waiting read.clients ≡ [] → read ≡ record old { node = read.node } → read.node.limit ≡ old.node.limit
-    → Gives old.node said read.node → (e ≡ fault.Memory → l.is_live new)
-    → ((side : Side) (start : Chain) → IsAt l f read.ledger read.holdings before side start → IsFrom read.holdings side → StopsAt l f read.ledger new before after side.chain false (IsFirstMove side said) e)
-    → TurnFailed l f old.ledger new before after world left e
-node_failed {G} l f old read new before after world left said e stood told still quiet_all same limit gives live stopped =
+pub node_failed : {G A : Type 0} (of : Ghosts G A) (old read : State G) (new : G) (before after : A) (world : World) (left : List Event) (said : LineEvent) (e : QueryFault)
+    → Stands of.ledger.stands old world left → (of.files.tells → AllGrow world.side.files (of.files.bytes before)) → read.ahead ≡ [] → waiting read.clients ≡ [] → read ≡ record old { node = read.node } → read.node.limit ≡ old.node.limit
+    → Gives old.node said read.node → (e ≡ fault.Memory → of.ledger.is_live new)
+    → ((side : Side) (start : Chain) → IsAt of (beneath read.ledger before) read.holdings side start → IsFrom read.holdings side → StopsAt of (beneath read.ledger before) (beneath new after) side.chain false (IsFirstMove side said) e)
+    → TurnFailed of (beneath old.ledger before) (beneath new after) world left e
+node_failed {G} of old read new before after world left said e stood told still quiet_all same limit gives live stopped =
     let ledger_is : read.ledger ≡ old.ledger = ap (λ (s : State G). s.ledger) same in
-    let from = from_side l f old read world left stood same still in
+    let from = from_side of old read world left stood same still in
     let all_told : AllTold world = all_told_world old.clients old.speaker stood.said world.sessions stood.sessions.each (rw (ap (λ (s : State G). s.clients) same) at quiet_all) in
     let n = next_order old.node read.node world.heard stood.ordered said stood.node limit gives in
     let r = rw ledger_is at (stopped world.side stood.start (record { stood = rw ledger_is stood.chain; set = rw (ap (λ (s : State G). s.holdings) same) stood.set; told = told }) from) in
-    line_failed l f old.ledger new before after world left (n.rest ++ stood.said) e said from.still all_told
+    line_failed of old.ledger new before after world left (n.rest ++ stood.said) e said from.still all_told
     (stood.left_is ∙ ap (λ (es : List Event). es ++ stood.said) n.first_is) live r

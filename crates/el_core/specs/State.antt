@@ -12,6 +12,7 @@ use Rattle.el_subs.specs.Told as status_told
 use Rattle.el_subs.specs.Told.{status, is_touched, IsTold}
 use Rattle.el_status.specs.Untouched.{LooksSame}
 use Rattle.el_side.specs.declared.holdings.Holdings.{Holdings}
+use Rattle.el_side.specs.Beneath.{Beneath, beneath}
 use Rattle.el_side.specs.NodeSteps.{SetStands}
 use Rattle.el_side.specs.Side.{Side}
 use Rattle.el_world.specs.World.{World, Session, Event, says, orders, joins, leaves, is_peer, line_limit, client_limit}
@@ -42,6 +43,19 @@ pub record State (G : Type 0) : Type 0 where
   pub surplus : Option ℕ
   pub before : Option Hash32
   pub touched : List Hash32
+
+-- the server, and the block files that it reads, at some moment
+pub record Serving (G A : Type 0) : Type 0 where
+  pub server : State G
+  pub files : A
+
+-- these two, as they are at some moment
+abbrev pub serving : {G A : Type 0} → State G → A → Serving G A
+serving server files = record { server = server; files = files }
+
+-- what the server asks below it
+abbrev pub beneath_of : {G A : Type 0} → Serving G A → Beneath G A
+beneath_of now = beneath now.server.ledger now.files
 
 -- all lines of the bytes that were fed, which are cut at each byte 10, were given
 abbrev pub HasGivenAll : LineState → Type 0

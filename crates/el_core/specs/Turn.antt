@@ -2,21 +2,21 @@
 use Rattle.std.specs.Prelude.{◌≡◌, ◌⊎◌, ℕ, Bool, true, List, [], ◌∷◌, ◌++◌, map, Option, Some, None, option_map, Result, Ok, Contains}
 use Rattle.std.specs.List.{AllByRecursion}
 use Rattle.el_outside.specs.declared.archive.Archive as archive
-use Rattle.el_outside.specs.Devices.{Device, Rose}
+use Rattle.el_outside.specs.Devices.{Device}
 use Rattle.el_outside.specs.Files.{AllGrow}
 use Rattle.el_outside.specs.Trace.{Message, Closing}
 use Rattle.el_outside.specs.declared.link.Why.{Why}
 use Rattle.el_chain.specs.Chains.{Chain}
-use Rattle.el_model.specs.declared.ledger.Ledger as ledger
-use Rattle.el_model.specs.LedgerCalls.{Moved, failed_calls}
+use Rattle.el_model.specs.LedgerCalls.{Moved}
 use Rattle.el_lines.specs.Lines.{line}
+use Rattle.el_side.specs.Beneath.{Beneath, Ghosts, Lost}
 use Rattle.el_subs.specs.Told as status_told
 use Rattle.el_subs.specs.Told.{status}
 use Rattle.el_world.specs.Flights.{IsMoveOf}
 use Rattle.el_world.specs.World as model
 use Rattle.el_world.specs.World.{World, Session, Event, says, is_client, IsStill, AllTold, next_told, closes_long}
 use Rattle.el_world.specs.Run.{Turns, OneTurn, Closes, Stop, by_disk, by_memory, Stops, disk_failed, sift_failed, no_memory, untold, unsent}
-use Rattle.el_core.specs.State.{State, ClientState, Stands}
+use Rattle.el_core.specs.State.{State, ClientState, Serving, Stands, beneath_of}
 use Rattle.el_model.specs.declared.fault.QueryFault.{QueryFault}
 use Rattle.el_model.specs.declared.fault.QueryFault.TheVariants as fault
 use Rattle.el_sync.specs.Steps.{StopsAt}
@@ -57,23 +57,20 @@ abbrev pub GoesTo : World → Option ℕ → Option Closing → Message → Type
 GoesTo next surplus closing m =
     (m.peer ≡ 0) ⊎ (((is_client m.peer next ≡ true) ⊎ Closes closing m.peer) × (surplus ≡ None))
 
--- The server made one turn, from `old` to `new`, and stands for what the turn left. `before` and `after` are
--- the block files.
-pub record TookTurn {G A : Type 0} (of_ledger : ledger.Ghosts G) (of_files : archive.Ghosts A)
-    (old new : State G) (before after : A) (world : World) (left : List Event) (outs : model.Outs)
-    : Type 0 where
+-- The server made one turn, and stands for what the turn left.
+pub record TookTurn {G A : Type 0} (of : Ghosts G A) (was now : Serving G A) (world : World)
+    (left : List Event) (outs : model.Outs) : Type 0 where
   pub done : List Event
   pub rest : List Event
   pub losses : List Device
   pub next : World
   pub whole : left ≡ done ++ rest
-  pub turn : OneTurn of_files world done outs losses next
-  pub stood : Stands of_ledger.stands new next rest
-  pub moved : Moved of_ledger old.ledger new.ledger world.side.chain next.side.chain
-  pub told : of_files.tells → AllGrow next.side.files (of_files.bytes after)
-  pub sends_to : AllByRecursion (GoesTo next new.surplus outs.closing) outs.messages
-  pub rose : (of_link : ℕ) → Rose (failed_calls of_ledger of_files of_link old.ledger before)
-      (failed_calls of_ledger of_files of_link new.ledger after) losses
+  pub turn : OneTurn of.files world done outs losses next
+  pub stood : Stands of.ledger.stands now.server next rest
+  pub moved : Moved of.ledger was.server.ledger now.server.ledger world.side.chain next.side.chain
+  pub told : of.files.tells → AllGrow next.side.files (of.files.bytes now.files)
+  pub sends_to : AllByRecursion (GoesTo next now.server.surplus outs.closing) outs.messages
+  pub rose : Lost of (beneath_of was) (beneath_of now) losses
 
 -- No event is left, but perhaps lines of a client that is closed, which have no effect. Everyone was told of
 -- the node's last line, and of each subscription the status that was told last is its status.
@@ -113,17 +110,15 @@ KeepsChain (untold by busy silent closed lost) = Unit {0}
 KeepsChain (unsent done rest outs failed after front back m lost last next whole turn cut node goes by z) =
     ⊥
 
--- A turn failed, and with it the server stops. `old` and `new` are the ledger, which is still live where no
--- memory was found; `later` is whether the turn was to make a later move of a tip line.
-pub record TurnFailed {G A : Type 0} (of_ledger : ledger.Ghosts G) (of_files : archive.Ghosts A)
-    (old new : G) (before after : A) (world : World) (left : List Event) (e : QueryFault) : Type 0 where
+-- A turn failed, and with it the server stops. The ledger is still live where no memory was found; `later` is
+-- whether the turn was to make a later move of a tip line.
+pub record TurnFailed {G A : Type 0} (of : Ghosts G A) (was now : Beneath G A) (world : World)
+    (left : List Event) (e : QueryFault) : Type 0 where
   pub losses : List Device
-  pub stops : Stops of_files world left (stop_of e) [] [] losses
+  pub stops : Stops of.files world left (stop_of e) [] [] losses
   pub within : IsWithin stops
-  pub rose : (of_link : ℕ) → Rose (failed_calls of_ledger of_files of_link old before)
-      (failed_calls of_ledger of_files of_link new after) losses
+  pub rose : Lost of was now losses
   pub later : Bool
-  pub stops_at : StopsAt of_ledger of_files old new before after world.side.chain later
-      (IsMoveOf world left) e
+  pub stops_at : StopsAt of was now world.side.chain later (IsMoveOf world left) e
   pub kept : KeepsChain stops → stops_at.next ≡ world.side.chain
-  pub live : e ≡ fault.Memory → of_ledger.is_live new
+  pub live : e ≡ fault.Memory → of.ledger.is_live now.ledger

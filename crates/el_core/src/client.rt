@@ -6,13 +6,14 @@ ghost use Rattle.el_outside.specs.Files.{AllGrow};
 ghost use Rattle.el_model.specs.LedgerCalls.{Asked};
 ghost use Rattle.el_subs.specs.Notices.{notices};
 ghost use Rattle.el_subs.specs.Told.{status};
+ghost use Rattle.el_side.specs.Beneath.{Lost, beneath, ghosts};
 ghost use Rattle.el_side.specs.Side.{Side};
 ghost use Rattle.el_world.specs.World.{line_limit, new_client, outs_of_reply, reply_to};
 ghost use Rattle.el_lines.specs.LineStates.{as_listed, held};
 ghost use Rattle.el_sessions.specs.Sessions.{Edits};
 ghost use Rattle.el_core.specs.State.{HasGivenAll, HasNoWork, IsHeardOut, work_of_client};
 ghost use Rattle.el_core.specs.Turn.{messages_of, outs_of};
-ghost use Rattle.el_core.specs.within.Answering.{IsSettled, Lost};
+ghost use Rattle.el_core.specs.within.Answering.{IsSettled};
 ghost use Rattle.el_core.specs.within.Clients.{IsFresh, Keeps, Gives, NextIsLine, LineAnswered, Answers, ClientTurn, IsToTell, left_if, told_client};
 
 use crate::out::Outs;
@@ -264,10 +265,10 @@ fn answer_line<G: Ledger, A: Archive>(
     line: &[u8],
 ) -> (Outs, bool)
     requires live { G.is_live ledger.old }
-    ensures answered { (side : Side)
-        → IsSettled ⟦<G as Ledger>⟧ ⟦<A as Archive>⟧ ledger.old holdings.now archive.old side
-        → LineAnswered A.tells side
-        (Lost ⟦<G as Ledger>⟧ ⟦<A as Archive>⟧ ledger.old ledger.new archive.old archive.new)
+    ensures answered { let of = ghosts ⟦<G as Ledger>⟧ ⟦<A as Archive>⟧ in
+        let was = beneath ledger.old archive.old in (side : Side)
+        → IsSettled of was holdings.now side
+        → LineAnswered A.tells side (Lost of was (beneath ledger.new archive.new))
         client.old.peer line.now client.old.session client.new.session (outs_of result.0) result.1 }
     ensures quiet { Asked ⟦<G as Ledger>⟧ ledger.old ledger.new }
     ensures keeps { A.tells → AllGrow (A.bytes archive.old) (A.bytes archive.new) }
@@ -301,10 +302,10 @@ fn answer<G: Ledger, A: Archive>(
     met: LineEvent,
 ) -> (Outs, bool)
     requires live { G.is_live ledger.old }
-    ensures answers { (side : Side)
-        → IsSettled ⟦<G as Ledger>⟧ ⟦<A as Archive>⟧ ledger.old holdings.now archive.old side
-        → Answers A.tells side
-        (Lost ⟦<G as Ledger>⟧ ⟦<A as Archive>⟧ ledger.old ledger.new archive.old archive.new)
+    ensures answers { let of = ghosts ⟦<G as Ledger>⟧ ⟦<A as Archive>⟧ in
+        let was = beneath ledger.old archive.old in (side : Side)
+        → IsSettled of was holdings.now side
+        → Answers A.tells side (Lost of was (beneath ledger.new archive.new))
         client.old.peer met client.old.session client.new.session (outs_of result.0) result.1 }
     ensures quiet { Asked ⟦<G as Ledger>⟧ ledger.old ledger.new }
     ensures keeps { A.tells → AllGrow (A.bytes archive.old) (A.bytes archive.new) }
@@ -335,10 +336,10 @@ pub fn client_turn<G: Ledger, A: Archive>(
     client: &mut Client,
 ) -> (Option<Outs>, bool)
     requires live { G.is_live ledger.old }
-    ensures turn { (side : Side)
-        → IsSettled ⟦<G as Ledger>⟧ ⟦<A as Archive>⟧ ledger.old holdings.now archive.old side
-        → ClientTurn A.tells side
-        (Lost ⟦<G as Ledger>⟧ ⟦<A as Archive>⟧ ledger.old ledger.new archive.old archive.new)
+    ensures turn { let of = ghosts ⟦<G as Ledger>⟧ ⟦<A as Archive>⟧ in
+        let was = beneath ledger.old archive.old in (side : Side)
+        → IsSettled of was holdings.now side
+        → ClientTurn A.tells side (Lost of was (beneath ledger.new archive.new))
         client.old result.0 (left_if result.1 client.new) }
     ensures quiet { Asked ⟦<G as Ledger>⟧ ledger.old ledger.new }
     ensures keeps { A.tells → AllGrow (A.bytes archive.old) (A.bytes archive.new) }

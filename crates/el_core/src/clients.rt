@@ -3,9 +3,10 @@ ghost use Rattle.std.specs.Prelude.{◌≡◌, ◌<◌, ◌≤◌, [], ◌∷◌
 ghost use Rattle.el_outside.specs.Counts.{RoseBy};
 ghost use Rattle.el_outside.specs.Files.{AllGrow};
 ghost use Rattle.el_model.specs.LedgerCalls.{Asked};
+ghost use Rattle.el_side.specs.Beneath.{Lost, beneath, ghosts};
 ghost use Rattle.el_side.specs.Side.{Side};
 ghost use Rattle.el_core.specs.Arrivals.{kept_clients};
-ghost use Rattle.el_core.specs.within.Answering.{IsSettled, Lost};
+ghost use Rattle.el_core.specs.within.Answering.{IsSettled};
 ghost use Rattle.el_core.specs.Turn.{outs_of};
 ghost use Rattle.el_core.specs.within.Clients.{IsPlace, IsFirstWaiting, HearsAt, ClientTurn, TurnsAt, IsToTell, TellTurn, TellsAt, all_wait, replaced};
 ghost use Rattle.el_core.specs.within.Touching.{is_held};
@@ -188,11 +189,11 @@ impl Clients {
     ) -> (Option<Outs>, bool)
         requires inside { i < length self.old }
         requires live { G.is_live ledger.old }
-        ensures turn { TurnsAt (λ c left. (side : Side)
-            → IsSettled ⟦<G as Ledger>⟧ ⟦<A as Archive>⟧ ledger.old holdings.now archive.old side
-            → ClientTurn A.tells side
-            (Lost ⟦<G as Ledger>⟧ ⟦<A as Archive>⟧ ledger.old ledger.new archive.old archive.new)
-            c result.0 left) i self.old result.0 result.1 self.new }
+        ensures turn { let of = ghosts ⟦<G as Ledger>⟧ ⟦<A as Archive>⟧ in
+            let was = beneath ledger.old archive.old in TurnsAt (λ c left. (side : Side)
+            → IsSettled of was holdings.now side
+            → ClientTurn A.tells side (Lost of was (beneath ledger.new archive.new)) c result.0 left)
+            i self.old result.0 result.1 self.new }
         ensures quiet { Asked ⟦<G as Ledger>⟧ ledger.old ledger.new }
         ensures keeps { A.tells → AllGrow (A.bytes archive.old) (A.bytes archive.new) }
         ensures still { IfNone result.0 ((G.faults ledger.new ≡ G.faults ledger.old)

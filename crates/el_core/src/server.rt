@@ -8,6 +8,7 @@ ghost use Rattle.el_side.specs.UnderWay.{IsFirstMove};
 ghost use Rattle.el_model.specs.LedgerCalls.{Asked, KeepsBeside};
 ghost use Rattle.el_model.specs.declared.fault.QueryFault.TheVariants as turn_fault;
 ghost use Rattle.el_lines.specs.Lines.{too_long};
+ghost use Rattle.el_side.specs.Beneath.{Lost, beneath, ghosts};
 ghost use Rattle.el_side.specs.NodeSteps.{IsAt};
 ghost use Rattle.el_side.specs.Plans.{plan_of};
 ghost use Rattle.el_world.specs.Run.{MayStarve};
@@ -15,10 +16,10 @@ ghost use Rattle.el_side.specs.Side.{Side, Moving, OrdersLine};
 ghost use Rattle.el_world.specs.World.{World, Event, joins, says, is_client, IsStill, AllTold, initial_world, without_client, reply_to};
 ghost use Rattle.el_lines.specs.LineStates.{as_listed, held};
 ghost use Rattle.el_sync.specs.Steps.{IsFrom, StopsAt};
-ghost use Rattle.el_core.specs.State.{AreUpTo, IsIdle, Stands, HasGivenAll, waiting, work, work_of_peers};
+ghost use Rattle.el_core.specs.State.{AreUpTo, IsIdle, Stands, HasGivenAll, beneath_of, serving, waiting, work, work_of_peers};
 ghost use Rattle.el_core.specs.Arrivals.{TookArrival, IsAbove, IsUpTo, with_all_bytes, gone_from};
 ghost use Rattle.el_core.specs.Turn.{TookTurn, TurnFailed, IsDone, HasLost, MeetsLine, WaitsToBeTold, ClosesLong, outs_of};
-ghost use Rattle.el_core.specs.within.Answering.{Answered, IsSettled, Lost, NodeKeeps};
+ghost use Rattle.el_core.specs.within.Answering.{Answered, IsSettled, NodeKeeps};
 ghost use Rattle.el_core.specs.within.Clients.{Hears, Opens, Gives, NextIsLine, IsFirstWaiting, SpeakerSteps, PeersTurn, IsToTell, TellTurn, TellsAt, all_wait, begun_at};
 
 use crate::client::{Client, closing, rooms_for_one, sending_in};
@@ -217,16 +218,17 @@ impl<G: Ledger> Server<G> {
     fn turn_ahead<A: Archive>(&mut self, archive: &mut A) -> Result<Outs, StepFault>
         requires live { G.is_live self.old.ledger }
         requires some { self.old.ahead ≢ [] }
-        ensures moving { (side : Side) (start : Chain)
-            → IsAt ⟦<G as Ledger>⟧ ⟦<A as Archive>⟧ self.old.ledger self.old.holdings archive.old side start
-            → side.found ≡ self.old.holdings.tree → IfOk result (Answered ⟦<G as Ledger>⟧ ⟦<A as Archive>⟧
-            (Moving A.tells side 0 self.old.ahead) self.old self.new archive.old archive.new side start) }
+        ensures moving { let of = ghosts ⟦<G as Ledger>⟧ ⟦<A as Archive>⟧ in
+            let was = serving self.old archive.old in (side : Side) (start : Chain)
+            → IsAt of (beneath_of was) self.old.holdings side start → side.found ≡ self.old.holdings.tree
+            → IfOk result (Answered of (Moving ⟦<A as Archive>⟧ side 0 self.old.ahead) was
+            (serving self.new archive.new) side start) }
         ensures sends { IfOk result (λ o. (text : List ℕ) × (outs_of o ≡ reply_to 0 text)) }
-        ensures stopped { (side : Side) (start : Chain)
-            → IsAt ⟦<G as Ledger>⟧ ⟦<A as Archive>⟧ self.old.ledger self.old.holdings archive.old side start
-            → IfErr result (
-            StopsAt ⟦<G as Ledger>⟧ ⟦<A as Archive>⟧ self.old.ledger self.new.ledger archive.old archive.new
-            side.chain true (λ (p : moves.Plan). p ≡ plan_of 0 self.old.ahead)) }
+        ensures stopped { let of = ghosts ⟦<G as Ledger>⟧ ⟦<A as Archive>⟧ in
+            let was = beneath self.old.ledger archive.old in (side : Side) (start : Chain)
+            → IsAt of was self.old.holdings side start → IfErr result (
+            StopsAt of was (beneath self.new.ledger archive.new) side.chain true
+            (λ (p : moves.Plan). p ≡ plan_of 0 self.old.ahead)) }
         ensures some { self.old.ahead ≢ [] }
         ensures fewer { OnOk result (length self.new.ahead < length self.old.ahead) }
         ensures same { self.new ≡ record self.old {
@@ -237,8 +239,8 @@ impl<G: Ledger> Server<G> {
         } }
         ensures tree { self.new.holdings.tree ≡ self.old.holdings.tree }
         ensures magic { self.new.holdings.magic ≡ self.old.holdings.magic }
-        ensures step { NodeKeeps ⟦<G as Ledger>⟧ ⟦<A as Archive>⟧ self.old.ledger self.new.ledger
-            archive.old archive.new result }
+        ensures step { NodeKeeps (ghosts ⟦<G as Ledger>⟧ ⟦<A as Archive>⟧)
+            (beneath self.old.ledger archive.old) (beneath self.new.ledger archive.new) result }
     {
         let Ok((room, message)) = rooms_for_one(self.alloc) else {
             return Err(StepFault::Memory);
@@ -278,17 +280,18 @@ impl<G: Ledger> Server<G> {
         requires live { G.is_live self.old.ledger }
         requires still { self.old.ahead ≡ [] }
         requires told { waiting self.old.clients ≡ [] }
-        ensures node { (side : Side) (start : Chain)
-            → IsAt ⟦<G as Ledger>⟧ ⟦<A as Archive>⟧ self.old.ledger self.old.holdings archive.old side start
-            → IsFrom self.old.holdings side → IfOk result (Answered ⟦<G as Ledger>⟧ ⟦<A as Archive>⟧
-            (OrdersLine ⟦<A as Archive>⟧ side (as_listed met)) (begun_at (G.tip self.old.ledger) self.old)
-            self.new archive.old archive.new side start) }
+        ensures node { let of = ghosts ⟦<G as Ledger>⟧ ⟦<A as Archive>⟧ in
+            let begun = begun_at (G.tip self.old.ledger) self.old in (side : Side) (start : Chain)
+            → IsAt of (beneath self.old.ledger archive.old) self.old.holdings side start
+            → IsFrom self.old.holdings side
+            → IfOk result (Answered of (OrdersLine ⟦<A as Archive>⟧ side (as_listed met))
+            (serving begun archive.old) (serving self.new archive.new) side start) }
         ensures sends { IfOk result (λ o. (text : List ℕ) × (outs_of o ≡ reply_to 0 text)) }
-        ensures stopped { (side : Side) (start : Chain)
-            → IsAt ⟦<G as Ledger>⟧ ⟦<A as Archive>⟧ self.old.ledger self.old.holdings archive.old side start
-            → IsFrom self.old.holdings side → IfErr result (
-            StopsAt ⟦<G as Ledger>⟧ ⟦<A as Archive>⟧ self.old.ledger self.new.ledger archive.old archive.new
-            side.chain false (IsFirstMove side (as_listed met))) }
+        ensures stopped { let of = ghosts ⟦<G as Ledger>⟧ ⟦<A as Archive>⟧ in
+            let was = beneath self.old.ledger archive.old in (side : Side) (start : Chain)
+            → IsAt of was self.old.holdings side start → IsFrom self.old.holdings side → IfErr result (
+            StopsAt of was (beneath self.new.ledger archive.new) side.chain false
+            (IsFirstMove side (as_listed met))) }
         ensures still { self.old.ahead ≡ [] }
         ensures told { waiting self.old.clients ≡ [] }
         ensures fewer { OnOk result (length self.new.ahead ≤ length self.old.holdings.tree) }
@@ -305,8 +308,8 @@ impl<G: Ledger> Server<G> {
         } }
         ensures magic { self.new.holdings.magic ≡ self.old.holdings.magic }
         ensures numbers { (last : ℕ) → AreUpTo last self.old.clients → AreUpTo last self.new.clients }
-        ensures step { NodeKeeps ⟦<G as Ledger>⟧ ⟦<A as Archive>⟧ self.old.ledger self.new.ledger
-            archive.old archive.new result }
+        ensures step { NodeKeeps (ghosts ⟦<G as Ledger>⟧ ⟦<A as Archive>⟧)
+            (beneath self.old.ledger archive.old) (beneath self.new.ledger archive.new) result }
     {
         let Ok((room, message)) = rooms_for_one(self.alloc) else {
             return Err(StepFault::Memory);
@@ -340,8 +343,8 @@ impl<G: Ledger> Server<G> {
         // The turn is the telling of the next client, as `Run` allows it.
         ensures step { (world : World) (left : List Event) → Stands G.stands self.old world left
             → (A.tells → AllGrow world.side.files (A.bytes archive.now))
-            → TookTurn ⟦<G as Ledger>⟧ ⟦<A as Archive>⟧ self.old self.new archive.now archive.now
-            world left (outs_of result) }
+            → TookTurn (ghosts ⟦<G as Ledger>⟧ ⟦<A as Archive>⟧) (serving self.old archive.now)
+            (serving self.new archive.now) world left (outs_of result) }
         ensures tells { TellsAt (λ c left. (side : Side)
             → IsToTell G.stands self.old.ledger self.old.holdings self.old.touched side c
             → TellTurn side self.old.before
@@ -379,11 +382,10 @@ impl<G: Ledger> Server<G> {
     // A turn of the client that speaks.
     fn turn_client<A: Archive>(&mut self, archive: &mut A) -> Option<Outs>
         requires live { G.is_live self.old.ledger }
-        ensures speaker_steps { (side : Side)
-            → IsSettled ⟦<G as Ledger>⟧ ⟦<A as Archive>⟧
-            self.old.ledger self.old.holdings archive.old side → SpeakerSteps A.tells side
-            (Lost ⟦<G as Ledger>⟧ ⟦<A as Archive>⟧ self.old.ledger self.new.ledger archive.old archive.new)
-            self.old result self.new }
+        ensures speaker_steps { let of = ghosts ⟦<G as Ledger>⟧ ⟦<A as Archive>⟧ in
+            let was = beneath self.old.ledger archive.old in (side : Side)
+            → IsSettled of was self.old.holdings side → SpeakerSteps A.tells side
+            (Lost of was (beneath self.new.ledger archive.new)) self.old result self.new }
         ensures quiet { Asked ⟦<G as Ledger>⟧ self.old.ledger self.new.ledger }
         ensures keeps { A.tells → AllGrow (A.bytes archive.old) (A.bytes archive.new) }
         ensures still { IfNone result ((G.faults self.new.ledger ≡ G.faults self.old.ledger)
@@ -444,11 +446,10 @@ impl<G: Ledger> Server<G> {
     // turn.
     fn turn_peers<A: Archive>(&mut self, archive: &mut A) -> Option<Outs>
         requires live { G.is_live self.old.ledger }
-        ensures peers { (side : Side)
-            → IsSettled ⟦<G as Ledger>⟧ ⟦<A as Archive>⟧
-            self.old.ledger self.old.holdings archive.old side → PeersTurn A.tells side
-            (Lost ⟦<G as Ledger>⟧ ⟦<A as Archive>⟧ self.old.ledger self.new.ledger archive.old archive.new)
-            self.old result self.new }
+        ensures peers { let of = ghosts ⟦<G as Ledger>⟧ ⟦<A as Archive>⟧ in
+            let was = beneath self.old.ledger archive.old in (side : Side)
+            → IsSettled of was self.old.holdings side → PeersTurn A.tells side
+            (Lost of was (beneath self.new.ledger archive.new)) self.old result self.new }
         ensures quiet { Asked ⟦<G as Ledger>⟧ self.old.ledger self.new.ledger }
         ensures keeps { A.tells → AllGrow (A.bytes archive.old) (A.bytes archive.new) }
         ensures still { IfNone result ((G.faults self.new.ledger ≡ G.faults self.old.ledger)
@@ -487,8 +488,8 @@ impl<G: Ledger> Server<G> {
         // It takes the next event, or does what an event left, as `Run` allows.
         ensures step { (world : World) (left : List Event) → Stands G.stands self.old world left
             → (A.tells → AllGrow world.side.files (A.bytes archive.old)) → IfOk result (λ found.
-            IfSome found (λ o. TookTurn ⟦<G as Ledger>⟧ ⟦<A as Archive>⟧ self.old self.new
-            archive.old archive.new world left (outs_of o))) }
+            IfSome found (λ o. TookTurn (ghosts ⟦<G as Ledger>⟧ ⟦<A as Archive>⟧)
+            (serving self.old archive.old) (serving self.new archive.new) world left (outs_of o))) }
         // Where nothing is done, nothing is left, and everyone was told.
         ensures done { (world : World) (left : List Event) → Stands G.stands self.old world left
             → IfOk result (λ found. IfNone found (IsDone G.stands ⟦<A as Archive>⟧ world left self.new)) }
@@ -498,8 +499,8 @@ impl<G: Ledger> Server<G> {
         // Where it fails, the server stops.
         ensures failed { (world : World) (left : List Event) → Stands G.stands self.old world left
             → (A.tells → AllGrow world.side.files (A.bytes archive.old)) → IfErr result (λ e.
-            TurnFailed ⟦<G as Ledger>⟧ ⟦<A as Archive>⟧ self.old.ledger self.new.ledger
-            archive.old archive.new world left e) }
+            TurnFailed (ghosts ⟦<G as Ledger>⟧ ⟦<A as Archive>⟧) (beneath self.old.ledger archive.old)
+            (beneath self.new.ledger archive.new) world left e) }
         // A closing as out of memory stands for lost bytes, or for a whole line, its reply or what the client
         // was to be told that found none.
         ensures memory { (world : World) (left : List Event) (p : ℕ) → Stands G.stands self.old world left

@@ -2,7 +2,7 @@
 ghost use Rattle.std.specs.Prelude.{◌≡◌, ◌+◌, [], refl};
 
 use el_base::GhostCount;
-use el_fakes::{Later, MemArchive, fill};
+use el_fakes::{Later, MemArchive, Room, fill};
 use el_outside::{Archive, ArchiveFailed};
 use el_program::Status;
 use el_trials::Step::Says;
@@ -45,6 +45,8 @@ impl Archive for ChangingFile {
     ghost tells = { ⊥ };
 
     ghost bytes = { λ files n. [] };
+
+    ghost padding = { λ files n. [] };
 
     ghost file_count = { λ files. 1 };
 
@@ -145,29 +147,51 @@ fn a_file_that_changes(rt: HostRuntime) -> Result<(), Fail> {
     Ok(())
 }
 
-// An archive of two blocks, the second of which comes with the first call after those of the scan.
-fn growing(alloc: Global) -> Result<MemArchive, Fail> {
+// An archive of two blocks, the second of which comes with the first call after those of the scan, and in
+// which this room is made ahead.
+fn growing(alloc: Global, rooms: &[Room]) -> Result<MemArchive, Fail> {
     let later = [Later {
         call: calls_of_scan(alloc)?.saturating_add(1),
         file: 0,
         from: 160,
     }];
     let later = Vec::from_slice(alloc, later.as_slice())?;
+    let rooms = Vec::from_slice(alloc, rooms)?;
     let files = files_of(alloc, Files::Branch(2))?;
-    Ok(MemArchive::growing(files, later, Vec::new(alloc)))
+    Ok(MemArchive::made_ahead(files, later, rooms, Vec::new(alloc)))
+}
+
+// Serves the node over such an archive, which moves to the second block once it is told where that is.
+fn expect_second(alloc: Global, archive: &mut MemArchive) -> Result<(), Fail> {
+    let given = "tip {a1}\nblock 0 160\nblock 0 160\ntip {a1}\n";
+    let want = "0 refused unknown {a1}\n0 block {a1}\n0 block {a1}\n0 at {a1} 1\n";
+    let mut link = steady_link(alloc, [Says(0, given)].as_slice())?;
+    let status = serve_over(alloc, SERVE, archive, &mut link, TURNS)?;
+    let found = transcript(alloc, link.sent(), link.closed())?;
+    let wanted = (Status::Ended, want);
+    expect_ended(alloc, (status, found.as_str()), wanted)
 }
 
 #[test]
 fn a_file_that_grows(rt: HostRuntime) -> Result<(), Fail> {
     let alloc = rt.alloc();
-    let mut archive = growing(alloc)?;
-    let given = "tip {a1}\nblock 0 160\nblock 0 160\ntip {a1}\n";
-    let want = "0 refused unknown {a1}\n0 block {a1}\n0 block {a1}\n0 at {a1} 1\n";
-    let mut link = steady_link(alloc, [Says(0, given)].as_slice())?;
-    let status = serve_over(alloc, SERVE, &mut archive, &mut link, TURNS)?;
+    let mut archive = growing(alloc, &[])?;
+    expect_second(alloc, &mut archive)?;
     assert!(rt; archive.faults() == 0);
-    let found = transcript(alloc, link.sent(), link.closed())?;
-    let wanted = (Status::Ended, want);
-    expect_ended(alloc, (status, found.as_str()), wanted)?;
+    Ok(())
+}
+
+// The node has made its file ahead in zeros, as Bitcoin Core does, and writes over them.
+#[test]
+fn a_file_that_is_made_ahead(rt: HostRuntime) -> Result<(), Fail> {
+    let alloc = rt.alloc();
+    let room = Room {
+        until: u64::MAX,
+        file: 0,
+        size: 1_048_576,
+    };
+    let mut archive = growing(alloc, &[room])?;
+    expect_second(alloc, &mut archive)?;
+    assert!(rt; archive.faults() == 0);
     Ok(())
 }

@@ -1,3 +1,4 @@
 pub mod PeerLemmas
 pub mod Growing
 pub mod Arriving
+pub mod Padded

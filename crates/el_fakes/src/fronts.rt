@@ -1,5 +1,5 @@
 // What the devices in memory do with slices.
-ghost use Rattle.std.specs.Prelude.{◌≡◌, ℕ, ◌-◌, ◌==◌, ◌≤◌, length, take, drop, min};
+ghost use Rattle.std.specs.Prelude.{◌≡◌, ℕ, ◌-◌, ◌==◌, ◌≤◌, ◌++◌, length, take, drop, min, replicate};
 ghost use Rattle.std.specs.List.{list_any, list_all};
 ghost use Rattle.el_fakes.specs.Archives.{file_bytes, is_short, are_fitting};
 
@@ -19,6 +19,20 @@ pub fn fill(bytes: &[u8], at: u64, buf: &mut [u8]) -> usize
     let n = buf.len().min(bytes.len() - at);
     buf[..n].copy_from_slice(&bytes[at..at + n]);
     n
+}
+
+// Fills the front of the buffer with what a file of this size has from the place on, which has these bytes
+// and then zeros, and answers how many bytes that are.
+pub(crate) fn fill_padded(bytes: &[u8], size: u64, at: u64, buf: &mut [u8]) -> usize
+    requires { length bytes.now ≤ size }
+    ensures count { result ≡ min (length buf.old) (size - at) }
+    ensures filled { take result buf.new
+        ≡ take result (drop at (bytes.now ++ replicate (size - length bytes.now) 0)) }
+{
+    let written = fill(bytes, at, buf);
+    let count = (buf.len() as u64).min(size.saturating_sub(at)) as usize;
+    buf[written..count].fill(0);
+    count
 }
 
 // The bytes of a file; none for one that isn't there.

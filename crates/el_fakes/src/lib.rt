@@ -18,7 +18,7 @@ mod taking;
 pub use archive::MemArchive;
 pub use coming::Coming;
 pub use fronts::{fill, is_listed};
-pub use growth::Later;
+pub use growth::{Later, Room};
 pub use kept::{Closed, Sent};
 pub use link::MemLink;
 pub use meet_pace::MeetPace;

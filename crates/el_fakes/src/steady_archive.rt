@@ -1,5 +1,5 @@
 // Block files in memory whose calls never fail.
-ghost use Rattle.std.specs.Prelude.{◌≡◌, IfSome, is_some, true, length};
+ghost use Rattle.std.specs.Prelude.{◌≡◌, IfSome, is_some, true, [], length};
 ghost use Rattle.el_fakes.specs.Archives.{are_fitting, file_bytes};
 
 use crate::fronts::{bytes_of, fill, fits};
@@ -44,15 +44,17 @@ impl SteadyArchive {
 }
 
 impl Archive for SteadyArchive {
-    ghost use Rattle.el_fakes.specs.within.Laws.{none_at};
+    ghost use Rattle.el_fakes.specs.within.Laws.{none_after_none};
 
     ghost tells = { Unit {0} };
 
     ghost bytes = { λ archive. file_bytes archive.files };
 
+    ghost padding = { λ archive file. [] };
+
     ghost file_count = { λ archive. length archive.files };
 
-    ghost none_after = { λ archive file told after. none_at archive.files file after };
+    ghost none_after = { λ archive file told after. none_after_none archive.files file after };
 
     ghost gave = { λ file at bytes. Unit {0} };
 

@@ -5,4 +5,5 @@ pub mod Scans
 pub mod Counted
 pub mod ManyFiles
 pub mod Readings
+pub mod Padding
 pub mod Standing

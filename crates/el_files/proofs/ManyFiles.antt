@@ -1,141 +1,174 @@
 -- The scan of file after file.
-use Rattle.std.proofs.Common.{◌≡◌, ℕ, zero, suc, ◌+◌, ◌-◌, ◌<◌, ◌≤◌, List, [], ◌++◌, refl, sym, ap, ◌∙◌, arith, Bool, true, false, ◌==◌, if◌then◌else◌, append_assoc, append-nil}
-use Rattle.std.proofs.lemmas.Bool.{eq-eqb, eqb-true}
-use Rattle.el_outside.specs.Files.{Grows, AllGrow, IsFile}
-use Rattle.el_outside.proofs.Traces.{grows_none, grows_more}
-use Rattle.el_chain.specs.Records.{records, records_of_files}
+use Rattle.std.proofs.Common.{◌≡◌, ℕ, zero, suc, ◌+◌, ◌-◌, ◌<◌, ◌≤◌, List, [], ◌∷◌, ◌++◌, length, refl, sym, ap, ◌∙◌, arith, Bool, true, false, ◌==◌, if◌then◌else◌, inl, inr, ⊎_elim, append_assoc, append-nil}
+use Rattle.std.proofs.lemmas.Bool.{eq-eqb, eqb-true, cases_lt}
+use Rattle.el_outside.specs.Files.{Grows, AllGrow}
+use Rattle.el_outside.specs.Seen.{seen, IsBetween, WasSeen}
+use Rattle.el_outside.specs.declared.archive.Archive as block_files
+use Rattle.el_outside.proofs.Traces.{all_grow_none, all_grow_more}
 use Rattle.el_chain.specs.declared.node.Node.{Node}
 use Rattle.el_outside.specs.declared.archive.TheConstants.{MOST_FILES}
-use Rattle.el_files.specs.Appending.{AppendsFront}
-use Rattle.el_files.specs.Scanning.{AllFiles, IsFoundIn, IsFoundBelow}
+use Rattle.el_files.specs.Scanning.{WasScanned, WasScannedTo, FilesScanned, AllScanned, SomeScanned, nodes_of_files, calls_for, calls_for_files, ScansOnce, IsFoundIn, IsFoundBelow}
+use Rattle.el_files.proofs.Scans.{seen_longer, to_longer}
 
--- The scan has appended the records of the first files, up to this one.
-pub record ScannedTo {A : Type 0} (bytes_of : A → ℕ → List ℕ) (file_count : A → ℕ) (magic : List ℕ) (before now : A) (count file : ℕ) (old new : List Node) : Type 0 where
-  pub all : AllFiles bytes_of file_count before now
-  pub counted : file_count all.told ≡ count
-  pub appended : new ≡ old ++ records_of_files magic file all.files
-
-same_files : (magic : List ℕ) (n : ℕ) (f g : ℕ → List ℕ) → ((k : ℕ) → k < n → f k ≡ g k) → records_of_files magic n f ≡ records_of_files magic n g
-same_files magic zero f g same = refl
-same_files magic (suc n) f g same =
-    let before = same_files magic n f g (λ k less. same k (omega arith)) in
-    let here : f n ≡ g n = same n (omega arith) in
-    ap (λ (t : List Node). t ++ records magic n (f n)) before ∙ ap (λ (t : List ℕ). records_of_files magic n g ++ records magic n t) here
-
--- one of the files has these bytes
-abbrev pub with_file : ℕ → List ℕ → (ℕ → List ℕ) → ℕ → List ℕ
-with_file file bytes files k = if k == file then bytes else files k
+-- one of the files has this, by its number
+abbrev pub with_file : {T : Type 0} → ℕ → T → (ℕ → T) → ℕ → T
+with_file file here files k = if k == file then here else files k
 
 -- cases of a number that is the file's or not
-either_file : (P : ℕ → List ℕ → Type 0) (file : ℕ) (bytes : List ℕ) (files : ℕ → List ℕ) (k : ℕ) → ((k ≡ file) → P k bytes) → P k (files k) → P k (with_file file bytes files k)
-either_file P file bytes files k same other = by_test (k == file) refl
+either_file : {T : Type 0} (P : ℕ → T → Type 0) (file : ℕ) (here : T) (files : ℕ → T) (k : ℕ) → ((k ≡ file) → P k here) → ((k ≡ file → ⊥) → P k (files k)) → P k (with_file file here files k)
+either_file {T} P file here files k same other = by_test (k == file) refl
   where
-    by_test : (b : Bool) → (k == file) ≡ b → P k (if b then bytes else files k)
+    by_test : (b : Bool) → (k == file) ≡ b → P k (if b then here else files k)
     by_test true e = same (eqb-true k file e)
-    by_test false e = other
+    by_test false e = other (λ is. absurd (let t : true ≡ false = sym (eq-eqb k file is) ∙ e in cc))
 
-at_file : (file : ℕ) (bytes : List ℕ) (files : ℕ → List ℕ) → with_file file bytes files file ≡ bytes
-at_file file bytes files = ap (λ (b : Bool). if b then bytes else files file) (eq-eqb file file refl)
+at_file : {T : Type 0} (file : ℕ) (here : T) (files : ℕ → T) → with_file file here files file ≡ here
+at_file file here files = ap (λ (b : Bool). if b then here else files file) (eq-eqb file file refl)
 
-below_file : (file : ℕ) (bytes : List ℕ) (files : ℕ → List ℕ) (k : ℕ) → k < file → files k ≡ with_file file bytes files k
-below_file file bytes files k less =
-    either_file (λ (j : ℕ) (t : List ℕ). files j ≡ t) file bytes files k (λ (e : k ≡ file). absurd (omega arith)) refl
+below_file : {T : Type 0} (file : ℕ) (here : T) (files : ℕ → T) (k : ℕ) → k < file → files k ≡ with_file file here files k
+below_file {T} file here files k less =
+    either_file (λ (j : ℕ) (t : T). files j ≡ t) file here files k (λ (e : k ≡ file). absurd (omega arith)) (λ other. refl)
 
--- the files with one that was scanned
-abbrev files_with : {A : Type 0} (bytes_of : A → ℕ → List ℕ) (file_count : A → ℕ) (before now later : A) (file : ℕ) (bytes : List ℕ)
-    (all : AllFiles bytes_of file_count before now) → file < file_count all.told → AllGrow (bytes_of now) (bytes_of later)
-    → IsFile (bytes_of now file) bytes (bytes_of later file) → AllFiles bytes_of file_count before later
-files_with bytes_of file_count before now later file bytes all less grows is = record {
-  told = all.told;
-  grew = all.grew;
-  files = with_file file bytes all.files;
-  each = λ k. either_file (λ (j : ℕ) (t : List ℕ). IsFile (bytes_of all.told j) t (bytes_of later j)) file bytes all.files k
-      (λ (e : k ≡ file). here k e)
-      (record { grew = (all.each k).grew; grows = grows_more (all.files k) (bytes_of now k) (bytes_of later k) (all.each k).grows (grows k) });
-  none_after = λ k more. either_file (λ (j : ℕ) (t : List ℕ). t ≡ []) file bytes all.files k (λ (e : k ≡ file). absurd (omega arith)) (all.none_after k more);
+below_one_more : (k file : ℕ) → k < file + 1 → (k ≡ file → ⊥) → k < file
+below_one_more k file small other = ⊎_elim (λ less. less) (λ more. absurd (other (omega (arith, small, more)))) (cases_lt k file)
+
+-- ---- what was found
+
+same_nodes : (n : ℕ) (f g : ℕ → List Node) → ((k : ℕ) → k < n → f k ≡ g k) → nodes_of_files n f ≡ nodes_of_files n g
+same_nodes zero f g same = refl
+same_nodes (suc n) f g same =
+    let before = same_nodes n f g (λ k less. same k (omega arith)) in
+    let here : f n ≡ g n = same n (omega arith) in
+    ap (λ (t : List Node). t ++ f n) before ∙ ap (λ (t : List Node). nodes_of_files n g ++ t) here
+
+one_more : (file : ℕ) (nodes : List Node) (of : ℕ → List Node) → nodes_of_files file of ++ nodes ≡ nodes_of_files (file + 1) (with_file file nodes of)
+one_more file nodes of =
+    let next : suc file ≡ file + 1 = omega arith in
+    ap (λ (t : List Node). t ++ nodes) (same_nodes file of (with_file file nodes of) (below_file file nodes of))
+    ∙ ap (λ (t : List Node). nodes_of_files file (with_file file nodes of) ++ t) (sym (at_file file nodes of))
+    ∙ ap (λ (n : ℕ). nodes_of_files n (with_file file nodes of)) next
+
+between_longer : {A : Type 0} (of_files : block_files.Ghosts A) (f g h i : ℕ → List ℕ) (told : A) → AllGrow f g → AllGrow h i → IsBetween of_files g told h → IsBetween of_files f told i
+between_longer of_files f g h i told before after b = record {
+  grew = all_grow_more f g (of_files.bytes told) before b.grew;
+  grows = all_grow_more (of_files.bytes told) h i b.grows after;
+}
+
+-- a file was scanned in a longer time
+scanned_longer : {A : Type 0} (of_files : block_files.Ghosts A) (f g h i : ℕ → List ℕ) (magic : List ℕ) (file : ℕ) (nodes : List Node) → AllGrow f g → AllGrow h i
+    → WasScanned of_files g h magic file nodes → WasScanned of_files f i magic file nodes
+scanned_longer of_files f g h i magic file nodes before after s = record {
+  told = s.told;
+  between = between_longer of_files f g h i s.told before after s.between;
+  scanned = record {
+    place = s.scanned.place;
+    scanned = to_longer _ _ magic file (length (seen of_files s.told file)) still s.scanned.scanned;
+    ends = elim s.scanned.ends [ inl near ↦ inl near | inr e ↦ inr (e.0, still e.0 e.1, e.2) ];
+  };
 }
   where
-    so_far : Grows (bytes_of all.told file) (bytes_of now file)
-    so_far = grows_more (bytes_of all.told file) (all.files file) (bytes_of now file) (all.each file).grew (all.each file).grows
+    still : (bytes : List ℕ) → WasSeen of_files (of_files.bytes s.told) h file bytes → WasSeen of_files (of_files.bytes s.told) i file bytes
+    still bytes w = seen_longer of_files (of_files.bytes s.told) (of_files.bytes s.told) h i file bytes (all_grow_none (of_files.bytes s.told)) after w
 
-    here : (k : ℕ) → k ≡ file → IsFile (bytes_of all.told k) bytes (bytes_of later k)
-    here k e = rw e (record { grew = grows_more (bytes_of all.told file) (bytes_of now file) bytes so_far is.grew; grows = is.grows })
+part_longer : {A : Type 0} (of_files : block_files.Ghosts A) (f g h : ℕ → List ℕ) (magic : List ℕ) (file : ℕ) (nodes : List Node) → AllGrow f g
+    → WasScannedTo of_files g h magic file nodes → WasScannedTo of_files f h magic file nodes
+part_longer of_files f g h magic file nodes before s = record {
+  told = s.told;
+  between = between_longer of_files f g h h s.told before (all_grow_none h) s.between;
+  place = s.place;
+  scanned = s.scanned;
+}
 
-pub scanned_to_none : {A : Type 0} (bytes_of : A → ℕ → List ℕ) (file_count : A → ℕ) (magic : List ℕ) (before now : A) (count : ℕ) (old : List Node)
-    → AllGrow (bytes_of before) (bytes_of now) → count ≡ file_count now → ((file : ℕ) → file_count now ≤ file → bytes_of now file ≡ [])
-    → ScannedTo bytes_of file_count magic before now count 0 old old
-scanned_to_none bytes_of file_count magic before now count old grew counted none = record {
-  all = record {
+-- The scan has appended the records of the first files, up to this one.
+pub record ScannedFiles {A : Type 0} (of_files : block_files.Ghosts A) (magic : List ℕ) (before now : A) (count file : ℕ) (old new : List Node) : Type 0 where
+  pub nodes : List Node
+  pub files : FilesScanned of_files (of_files.bytes before) (of_files.bytes now) magic file nodes
+  pub counted : of_files.file_count files.told ≡ count
+  pub appended : new ≡ old ++ nodes
+
+pub files_begin : {A : Type 0} (of_files : block_files.Ghosts A) (magic : List ℕ) (before now : A) (count : ℕ) (old : List Node)
+    → AllGrow (of_files.bytes before) (of_files.bytes now) → count ≡ of_files.file_count now → ((file : ℕ) → of_files.file_count now ≤ file → of_files.bytes now file ++ of_files.padding now file ≡ [])
+    → ScannedFiles of_files magic before now count 0 old old
+files_begin of_files magic before now count old grew counted none = record {
+  nodes = [];
+  files = record {
     told = now;
-    grew = grew;
-    files = bytes_of now;
-    each = λ k. record { grew = grows_none (bytes_of now k); grows = grows_none (bytes_of now k) };
-    none_after = none;
+    between = record { grew = grew; grows = all_grow_none (of_files.bytes now) };
+    none_after = λ file after. no_front (of_files.bytes now file) (of_files.padding now file) (none file after);
+    few = omega arith;
+    of = λ k. [];
+    each = λ file less. absurd (omega arith);
+    are = refl;
   };
   counted = sym counted;
   appended = sym (append-nil old);
 }
-
--- the records of the files up to this one
-up_to_file : (magic : List ℕ) (file : ℕ) (bytes : List ℕ) (files : ℕ → List ℕ)
-    → records_of_files magic (file + 1) (with_file file bytes files) ≡ records_of_files magic file files ++ records magic file bytes
-up_to_file magic file bytes files =
-    let next : file + 1 ≡ suc file = omega arith in
-    let before = same_files magic file files (with_file file bytes files) (below_file file bytes files) in
-    ap (λ (n : ℕ). records_of_files magic n (with_file file bytes files)) next
-    ∙ ap (λ (t : List Node). t ++ records magic file (with_file file bytes files file)) (sym before)
-    ∙ ap (λ (t : List ℕ). records_of_files magic file files ++ records magic file t) (at_file file bytes files)
+  where
+    no_front : (xs ys : List ℕ) → xs ++ ys ≡ [] → xs ≡ []
+    no_front [] ys e = refl
+    no_front (x ∷ xs) ys e = absurd (cc)
 
 -- one file more was scanned
-pub scanned_to_more : {A : Type 0} (bytes_of : A → ℕ → List ℕ) (file_count : A → ℕ) (magic : List ℕ) (before now later : A) (count file : ℕ) (old mid new : List Node)
-    (bytes : List ℕ) → ScannedTo bytes_of file_count magic before now count file old mid → file < count → AllGrow (bytes_of now) (bytes_of later)
-    → IsFile (bytes_of now file) bytes (bytes_of later file) → new ≡ mid ++ records magic file bytes
-    → ScannedTo bytes_of file_count magic before later count (file + 1) old new
-scanned_to_more bytes_of file_count magic before now later count file old mid new bytes s less grows is appended =
-    let small : file < file_count s.all.told = let c = s.counted in omega arith in
-    record {
-      all = files_with bytes_of file_count before now later file bytes s.all small grows is;
-      counted = s.counted;
-      appended = appended ∙ ap (λ (t : List Node). t ++ records magic file bytes) s.appended
-          ∙ append_assoc old (records_of_files magic file s.all.files) (records magic file bytes)
-          ∙ ap (λ (t : List Node). old ++ t) (sym (up_to_file magic file bytes s.all.files));
-    }
+pub files_more : {A : Type 0} (of_files : block_files.Ghosts A) (magic : List ℕ) (before now later : A) (count file : ℕ) (old mid new nodes : List Node)
+    → ScannedFiles of_files magic before now count file old mid → file < count → AllGrow (of_files.bytes now) (of_files.bytes later)
+    → WasScanned of_files (of_files.bytes now) (of_files.bytes later) magic file nodes → new ≡ mid ++ nodes → ScannedFiles of_files magic before later count (file + 1) old new
+files_more of_files magic before now later count file old mid new nodes s less grows more appended = record {
+  nodes = s.nodes ++ nodes;
+  files = record {
+    told = s.files.told;
+    between = between_longer of_files (of_files.bytes before) (of_files.bytes before) (of_files.bytes now) (of_files.bytes later) s.files.told (all_grow_none (of_files.bytes before)) grows s.files.between;
+    none_after = s.files.none_after;
+    few = omega (arith, s.counted);
+    of = with_file file nodes s.files.of;
+    each = λ k small. either_file (λ (j : ℕ) (t : List Node). WasScanned of_files (of_files.bytes s.files.told) (of_files.bytes later) magic j t) file nodes s.files.of k
+        (λ is. here k is) (λ other. before_it k (below_one_more k file small other));
+    are = ap (λ (t : List Node). t ++ nodes) s.files.are ∙ one_more file nodes s.files.of;
+  };
+  counted = s.counted;
+  appended = appended ∙ ap (λ (t : List Node). t ++ nodes) s.appended ∙ append_assoc old s.nodes nodes;
+}
+  where
+    here : (k : ℕ) → k ≡ file → WasScanned of_files (of_files.bytes s.files.told) (of_files.bytes later) magic k nodes
+    here k is = rw is (scanned_longer of_files (of_files.bytes s.files.told) (of_files.bytes now) (of_files.bytes later) (of_files.bytes later) magic file nodes s.files.between.grows (all_grow_none (of_files.bytes later)) more)
 
--- the records of the first files are a front of those of more
-more_files : (magic : List ℕ) (n k : ℕ) (files : ℕ → List ℕ) → (rest : List Node) × (records_of_files magic (n + k) files ≡ records_of_files magic n files ++ rest)
-more_files magic n zero files =
-    ([], ap (λ (m : ℕ). records_of_files magic m files) (let e : n + zero ≡ n = omega arith in e) ∙ sym (append-nil (records_of_files magic n files)))
-more_files magic n (suc k) files =
-    let before = more_files magic n k files in
-    let next : n + suc k ≡ suc (n + k) = omega arith in (
-      before.0 ++ records magic (n + k) (files (n + k)),
-      ap (λ (m : ℕ). records_of_files magic m files) next
-          ∙ ap (λ (t : List Node). t ++ records magic (n + k) (files (n + k))) before.1
-          ∙ append_assoc (records_of_files magic n files) before.0 (records magic (n + k) (files (n + k))),
-    )
+    before_it : (k : ℕ) → k < file → WasScanned of_files (of_files.bytes s.files.told) (of_files.bytes later) magic k (s.files.of k)
+    before_it k small =
+        scanned_longer of_files (of_files.bytes s.files.told) (of_files.bytes s.files.told) (of_files.bytes now) (of_files.bytes later) magic k (s.files.of k) (all_grow_none (of_files.bytes s.files.told)) grows (s.files.each k small)
+
+-- all of them were
+pub files_all : {A : Type 0} (of_files : block_files.Ghosts A) (magic : List ℕ) (before now : A) (count file : ℕ) (old new : List Node) → ScannedFiles of_files magic before now count file old new
+    → file ≡ count → (nodes : List Node) × AllScanned of_files (of_files.bytes before) (of_files.bytes now) magic nodes × (new ≡ old ++ nodes)
+files_all of_files magic before now count file old new s last =
+    (s.nodes, record { count = file; files = s.files; whole = last ∙ sym s.counted }, s.appended)
 
 -- the scan stopped within a file
-pub scanned_front : {A : Type 0} (bytes_of : A → ℕ → List ℕ) (file_count : A → ℕ) (magic : List ℕ) (before now later : A) (count file : ℕ) (old mid new : List Node)
-    (bytes : List ℕ) → ScannedTo bytes_of file_count magic before now count file old mid → file < count → AllGrow (bytes_of now) (bytes_of later)
-    → IsFile (bytes_of now file) bytes (bytes_of later file) → AppendsFront (records magic file bytes) mid new
-    → (all : AllFiles bytes_of file_count before later) × AppendsFront (records_of_files magic (file_count all.told) all.files) old new
-scanned_front bytes_of file_count magic before now later count file old mid new bytes s less grows is front =
-    let small : file < file_count s.all.told = let c = s.counted in omega arith in
-    let more = more_files magic (file + 1) (file_count s.all.told - (file + 1)) (with_file file bytes s.all.files) in
-    let whole : file + 1 + (file_count s.all.told - (file + 1)) ≡ file_count s.all.told = omega arith in (
-      files_with bytes_of file_count before now later file bytes s.all small grows is,
+pub files_front : {A : Type 0} (of_files : block_files.Ghosts A) (magic : List ℕ) (before now later : A) (count file : ℕ) (old mid new nodes : List Node)
+    → ScannedFiles of_files magic before now count file old mid → file < count → AllGrow (of_files.bytes now) (of_files.bytes later)
+    → WasScannedTo of_files (of_files.bytes now) (of_files.bytes later) magic file nodes → new ≡ mid ++ nodes
+    → (all : List Node) × SomeScanned of_files (of_files.bytes before) (of_files.bytes later) magic all × (new ≡ old ++ all)
+files_front of_files magic before now later count file old mid new nodes s less grows part appended =
+    let so_far : AllGrow (of_files.bytes before) (of_files.bytes now) = all_grow_more (of_files.bytes before) (of_files.bytes s.files.told) (of_files.bytes now) s.files.between.grew s.files.between.grows in (
+      s.nodes ++ nodes,
       record {
-        front = records_of_files magic file s.all.files ++ front.front;
-        rest = front.rest ++ more.0;
-        begins = ap (λ (n : ℕ). records_of_files magic n (with_file file bytes s.all.files)) (sym whole) ∙ more.1
-            ∙ ap (λ (t : List Node). t ++ more.0) (up_to_file magic file bytes s.all.files ∙ ap (λ (t : List Node). records_of_files magic file s.all.files ++ t) front.begins)
-            ∙ joined (records_of_files magic file s.all.files) front.front front.rest more.0;
-        appended = front.appended ∙ ap (λ (t : List Node). t ++ front.front) s.appended ∙ append_assoc old (records_of_files magic file s.all.files) front.front;
+        count = file;
+        front = s.nodes;
+        files = record {
+          told = s.files.told;
+          between = between_longer of_files (of_files.bytes before) (of_files.bytes before) (of_files.bytes now) (of_files.bytes later) s.files.told (all_grow_none (of_files.bytes before)) grows s.files.between;
+          none_after = s.files.none_after;
+          few = s.files.few;
+          of = s.files.of;
+          each = λ k small.
+              scanned_longer of_files (of_files.bytes s.files.told) (of_files.bytes s.files.told) (of_files.bytes now) (of_files.bytes later) magic k (s.files.of k) (all_grow_none (of_files.bytes s.files.told)) grows (s.files.each k small);
+          are = s.files.are;
+        };
+        within = omega (arith, s.counted);
+        last = nodes;
+        part = part_longer of_files (of_files.bytes before) (of_files.bytes now) (of_files.bytes later) magic file nodes so_far part;
+        are = refl;
       },
+      appended ∙ ap (λ (t : List Node). t ++ nodes) s.appended ∙ append_assoc old s.nodes nodes,
     )
-  where
-    joined : (a b c d : List Node) → (a ++ (b ++ c)) ++ d ≡ (a ++ b) ++ (c ++ d)
-    joined a b c d = simp append_assoc
 
 -- a node of one of `count` files
 pub found_below : (gave : ℕ → ℕ → List ℕ → Type 0) (magic : List ℕ) (file count : ℕ) (n : Node) → file < count → count ≤ MOST_FILES → IsFoundIn gave magic file n
@@ -144,3 +177,58 @@ found_below gave magic file count n less few h =
     let same : file ≡ n.place.file = sym h.file in
     let small : n.place.file < MOST_FILES = let e = h.file in omega arith in
     record { found = rw same at h; file = small }
+
+-- ---- how many calls were made
+
+-- The scan of the first files, up to this one, made these calls at most.
+pub record CalledFor {A : Type 0} (of_files : block_files.Ghosts A) (before now : A) (file : ℕ) : Type 0 where
+  pub sizes : ℕ → ℕ
+  pub each : (k : ℕ) → k < file → (bytes : List ℕ) × WasSeen of_files (of_files.bytes before) (of_files.bytes now) k bytes × (sizes k ≡ length bytes)
+  pub few : of_files.calls now ≤ of_files.calls before + calls_for_files file sizes
+
+same_sizes : (n : ℕ) (f g : ℕ → ℕ) → ((k : ℕ) → k < n → f k ≡ g k) → calls_for_files n f ≡ calls_for_files n g
+same_sizes zero f g same = refl
+same_sizes (suc n) f g same =
+    let before = same_sizes n f g (λ k less. same k (omega arith)) in
+    let here : f n ≡ g n = same n (omega arith) in
+    ap (λ (t : ℕ). t + calls_for (f n)) before ∙ ap (λ (t : ℕ). calls_for_files n g + calls_for t) here
+
+sized_more : (file size : ℕ) (sizes : ℕ → ℕ) → calls_for_files file sizes + calls_for size ≡ calls_for_files (file + 1) (with_file file size sizes)
+sized_more file size sizes =
+    let next : suc file ≡ file + 1 = omega arith in
+    ap (λ (t : ℕ). t + calls_for size) (same_sizes file sizes (with_file file size sizes) (below_file file size sizes))
+    ∙ ap (λ (t : ℕ). calls_for_files file (with_file file size sizes) + calls_for t) (sym (at_file file size sizes))
+    ∙ ap (λ (n : ℕ). calls_for_files n (with_file file size sizes)) next
+
+pub called_none : {A : Type 0} (of_files : block_files.Ghosts A) (before now : A) → of_files.calls now ≡ of_files.calls before + 1 → CalledFor of_files before now 0
+called_none of_files before now called = record { sizes = λ k. 0; each = λ k less. absurd (omega arith); few = omega (arith, called) }
+
+pub called_more : {A : Type 0} (of_files : block_files.Ghosts A) (before now later : A) (file : ℕ) → AllGrow (of_files.bytes before) (of_files.bytes now) → AllGrow (of_files.bytes now) (of_files.bytes later)
+    → CalledFor of_files before now file → (bytes : List ℕ) × WasSeen of_files (of_files.bytes now) (of_files.bytes later) file bytes × (of_files.calls later ≤ of_files.calls now + calls_for (length bytes))
+    → CalledFor of_files before later (file + 1)
+called_more of_files before now later file grew grows c (bytes, sight, few) = record {
+  sizes = with_file file (length bytes) c.sizes;
+  each = λ k small. either_file (λ (j : ℕ) (size : ℕ). (b : List ℕ) × WasSeen of_files (of_files.bytes before) (of_files.bytes later) j b × (size ≡ length b)) file (length bytes) c.sizes k
+      (λ is. here k is) (λ other. before_it k (below_one_more k file small other));
+  few = let e = sized_more file (length bytes) c.sizes in omega (arith, e, c.few, few);
+}
+  where
+    here : (k : ℕ) → k ≡ file → (b : List ℕ) × WasSeen of_files (of_files.bytes before) (of_files.bytes later) k b × (length bytes ≡ length b)
+    here k is = (bytes, rw is (seen_longer of_files (of_files.bytes before) (of_files.bytes now) (of_files.bytes later) (of_files.bytes later) file bytes grew (all_grow_none (of_files.bytes later)) sight), refl)
+
+    before_it : (k : ℕ) → k < file → (b : List ℕ) × WasSeen of_files (of_files.bytes before) (of_files.bytes later) k b × (c.sizes k ≡ length b)
+    before_it k small =
+        let e = c.each k small in
+        (e.0, seen_longer of_files (of_files.bytes before) (of_files.bytes before) (of_files.bytes now) (of_files.bytes later) k e.0 (all_grow_none (of_files.bytes before)) grows e.1, e.2)
+
+pub called_all : {A : Type 0} (of_files : block_files.Ghosts A) (magic : List ℕ) (before now : A) (count file : ℕ) (old new : List Node) → ScannedFiles of_files magic before now count file old new
+    → file ≡ count → CalledFor of_files before now file → ScansOnce of_files before now
+called_all of_files magic before now count file old new s last c =
+    let all : of_files.file_count s.files.told ≡ file = s.counted ∙ sym last in
+    record {
+      told = s.files.told;
+      between = s.files.between;
+      sizes = c.sizes;
+      each = λ k small. c.each k (let e : k < file = omega (arith, all) in e);
+      few = rw all c.few;
+    }

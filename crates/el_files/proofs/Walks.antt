@@ -46,8 +46,8 @@ records_step magic file place (b ∷ bytes) size some e =
     one_step magic file place b bytes size e
     ∙ ap (λ (t : List ℕ). option_to_list (node_here magic file place (b ∷ bytes)) ++ records_from magic file (place + (1 + bytes_after size)) 0 t) (sym (drop_one_more (bytes_after size) b bytes))
 
-same_three : (f : List ℕ → ℕ → ℕ → Option ℕ) (a b : List ℕ) (s t l k : ℕ) → a ≡ b → s ≡ t → l ≡ k → f a s l ≡ f b t k
-same_three f a b s t l k p q r = cc
+same_two : (f : List ℕ → ℕ → Option ℕ) (a b : List ℕ) (s t : ℕ) → a ≡ b → s ≡ t → f a s ≡ f b t
+same_two f a b s t p q = cc
 
 same_nodes : (f g : ℕ → Node) (r s : Option ℕ) → ((n : ℕ) → f n ≡ g n) → r ≡ s → option_map f r ≡ option_map g s
 same_nodes f g r s same e = ap (option_map f) e ∙ both s
@@ -56,19 +56,19 @@ same_nodes f g r s same e = ap (option_map f) e ∙ both s
     both None = refl
     both (Some n) = ap Some (same n)
 
--- a piece has the head of the record that stands at its front
-pub node_in_piece : (magic : List ℕ) (file place left : ℕ) (piece bytes : List ℕ) → HEAD_SIZE ≤ length piece → piece ≡ take (length piece) bytes → length bytes ≡ left
-    → node_at magic file place piece left ≡ node_here magic file place bytes
-node_in_piece magic file place left piece bytes long is all =
+-- a piece has the head of the record that stands at its front, however many bytes the file has left
+pub node_in_piece : (magic : List ℕ) (file place left : ℕ) (piece bytes : List ℕ) → HEAD_SIZE ≤ length piece → piece ≡ take (length piece) bytes
+    → node_at magic file place piece left ≡ node_at magic file place bytes left
+node_in_piece magic file place left piece bytes long is =
     let four : take 4 piece ≡ take 4 bytes = ap (take 4) is ∙ take-take 4 (length piece) bytes (omega arith) in
     let told : size_field piece ≡ size_field bytes =
     ap (λ (t : List ℕ). from_le_bytes w32 (take 4 (drop 4 t))) is ∙ ap (λ (t : List ℕ). from_le_bytes w32 t) (field 4 4 (length piece) bytes (omega arith)) in
     let header : take 80 (drop 8 piece) ≡ take 80 (drop 8 bytes) =
     ap (λ (t : List ℕ). take 80 (drop 8 t)) is ∙ field 8 80 (length piece) bytes (omega arith) in
-    let size : record_size magic piece left ≡ size_here magic bytes =
-    same_three (λ (a : List ℕ) (s l : ℕ). if bytes_eq a magic && (nat_le MIN_BLOCK_SIZE s && (nat_le s MAX_BLOCK_WEIGHT && nat_le (8 + s) l)) then Some s else None)
-    (take 4 piece) (take 4 bytes) (size_field piece) (size_field bytes) left (length bytes) four told (sym all) in
-    same_nodes (λ (n : ℕ). node_of file place n (drop 8 piece)) (λ (n : ℕ). node_of file place n (drop 8 bytes)) (record_size magic piece left) (size_here magic bytes)
+    let size : record_size magic piece left ≡ record_size magic bytes left =
+    same_two (λ (a : List ℕ) (s : ℕ). if bytes_eq a magic && (nat_le MIN_BLOCK_SIZE s && (nat_le s MAX_BLOCK_WEIGHT && nat_le (8 + s) left)) then Some s else None)
+    (take 4 piece) (take 4 bytes) (size_field piece) (size_field bytes) four told in
+    same_nodes (λ (n : ℕ). node_of file place n (drop 8 piece)) (λ (n : ℕ). node_of file place n (drop 8 bytes)) (record_size magic piece left) (record_size magic bytes left)
     (λ (n : ℕ). sym (node_in_front file place n (drop 8 piece)) ∙ ap (node_of file place n) header ∙ node_in_front file place n (drop 8 bytes)) size
 
 -- what stands in the piece from an index on
@@ -118,7 +118,8 @@ here_at magic file place passed left piece here bytes front all is long there =
     let enough : HEAD_SIZE ≤ length (drop passed piece) = rw (length-drop passed piece) (omega arith) in
     ap (λ (t : List ℕ). node_at magic file (place + passed) t (left - passed)) there
     ∙ node_in_piece magic file (place + passed) (left - passed) (drop passed piece) (drop passed bytes) enough
-    (piece_from piece bytes passed is (omega arith)) rest
+    (piece_from piece bytes passed is (omega arith))
+    ∙ ap (node_at magic file (place + passed) (drop passed bytes)) (sym rest)
 
 -- no record stands here
 pub walked_byte : (magic : List ℕ) (file place passed left : ℕ) (piece here bytes : List ℕ) (old mid : List Node) → Walked magic file place passed bytes old mid

@@ -8,10 +8,3 @@ pub record AppendsOnly (P : Node → Type 0) (old new : List Node) : Type 0 wher
   pub more : List Node
   pub appended : new ≡ old ++ more
   pub each : AllByRecursion P more
-
--- a front of these was appended
-pub record AppendsFront (all old new : List Node) : Type 0 where
-  pub front : List Node
-  pub rest : List Node
-  pub begins : all ≡ front ++ rest
-  pub appended : new ≡ old ++ front

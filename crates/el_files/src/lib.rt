@@ -11,7 +11,7 @@ mod scanning;
 mod walk;
 
 pub use el_chain::{ReadFault, ScanFault, read_block};
-pub use laws::records_stand;
+pub use laws::{padding_adds_no_records, records_stand, scan_of_one_sight, scan_without_padding};
 pub use lookup::record_at;
 pub use reading::read_tx;
 pub use scanning::{scan, scan_file};

@@ -1,9 +1,7 @@
 // A record of a block file, by its place.
-ghost use Rattle.std.specs.Prelude.{◌≡◌, ◌≤◌, ◌+◌, ℕ, List, length, drop, IfOk, IfSome};
+ghost use Rattle.std.specs.Prelude.{◌≤◌, ◌+◌, IfOk, IfSome};
 ghost use Rattle.el_outside.specs.Counts.{OnlyReads};
-ghost use Rattle.el_outside.specs.Files.{IsFile};
-ghost use Rattle.el_chain.specs.Records.{node_at};
-ghost use Rattle.el_files.specs.Scanning.{IsFoundAt};
+ghost use Rattle.el_files.specs.Scanning.{IsFoundAt, LookedUp};
 
 use crate::heads::node_in;
 use crate::limits::{HEAD_SIZE, MIN_RECORD_SIZE};
@@ -20,10 +18,10 @@ pub fn record_at<A: Archive>(
     file: u32,
     at: u64,
 ) -> Result<Option<Node>, ArchiveFailed>
-    // It is the record that stands there, in the file as it was when its size was told.
-    ensures record { A.tells → IfOk result (λ found. (bytes : List ℕ)
-        × IsFile (A.bytes archive.old file) bytes (A.bytes archive.new file)
-        × (found ≡ node_at magic file at (drop at bytes) (length (drop at bytes)))) }
+    // It is the record that stands there, in the file as it was when its head was read, up to the size that
+    // it had when that was told.
+    ensures record { A.tells → IfOk result
+        (LookedUp ⟦<A as Archive>⟧ (A.bytes archive.old) (A.bytes archive.new) magic file at) }
     // Whatever the file is, what is found is a node at that place, whose head was read.
     ensures node { IfOk result (λ found. IfSome found (IsFoundAt A.gave magic file at)) }
     // The size is asked once, and the head is read once.

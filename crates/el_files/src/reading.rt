@@ -1,6 +1,7 @@
 // Transactions of the block files, by their places.
 ghost use Rattle.std.specs.Prelude.{◌≡◌, ◌≢◌, ◌≤◌, ◌+◌, ℕ, List, Some, length, IfOk, IfErr, IfSome, OnOk};
 ghost use Rattle.el_outside.specs.Counts.{OnlyReads};
+ghost use Rattle.el_outside.specs.Seen.{seen};
 ghost use Rattle.el_chain.specs.Reading.{IfChanged};
 ghost use Rattle.el_files.specs.Reading.{IsTxOf, IsOtherTx, text_at};
 ghost use Rattle.el_base.specs.declared.hash.Hash32 as shape;
@@ -79,11 +80,11 @@ pub fn read_tx<A: Archive>(
     ensures tx { IfOk result (λ v. IsTxOf spot.now.len wanted v.items) }
     // These are the bytes that stand there.
     ensures stands { A.tells → IfOk result
-        (λ v. v.items ≡ text_at spot.now (A.bytes archive.new spot.now.place.file)) }
+        (λ v. v.items ≡ text_at spot.now (seen ⟦<A as Archive>⟧ archive.new spot.now.place.file)) }
     ensures wanted { IfChanged result (λ id found. id ≡ wanted) }
     // It has changed where the bytes that stand there are not those of such a transaction.
-    ensures changed { A.tells → IfChanged result (λ id found.
-        IsOtherTx spot.now.len wanted (text_at spot.now (A.bytes archive.new spot.now.place.file)) found) }
+    ensures changed { A.tells → IfChanged result (λ id found. IsOtherTx spot.now.len wanted
+        (text_at spot.now (seen ⟦<A as Archive>⟧ archive.new spot.now.place.file)) found) }
     ensures calls { A.calls archive.new ≤ A.calls archive.old + 1 }
     ensures only_reads { OnlyReads A.tells (A.bytes archive.old) (A.bytes archive.new)
         (A.faults archive.old) (A.faults archive.new) ReadFault.ArchiveFailed result }

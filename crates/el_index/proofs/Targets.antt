@@ -47,26 +47,26 @@ pub tip_moved : (p : Plan) (chain : Chain) (texts : List (List ℕ)) (scripts : 
 tip_moved p chain texts scripts rows blocks hash m plan of some none = tip_by (shorter p.back chain) p.forward texts blocks hash m.next.are plan.nodes of some none
 
 -- why it is refused
-pub refused_is : (tells : Type 0) (files : ℕ → List ℕ) (chain : Chain) (p : Plan) (texts : List (List ℕ)) (e : MoveFault) → AreRead tells files p.forward texts
-    → IsOwn e ⊎ FaultInAt (shorter p.back chain) p.forward texts e → IsRefused tells files chain p e
-refused_is tells files chain p texts stop.DiskFailed read h = tt
-refused_is tells files chain p texts stop.ArchiveFailed read h = tt
-refused_is tells files chain p texts stop.Memory read h = tt
-refused_is tells files chain p texts (stop.Changed w f) read (inl (inl is)) = absurd cc
-refused_is tells files chain p texts (stop.Changed w f) read (inl (inr is)) = absurd cc
-refused_is tells files chain p texts (stop.Changed w f) read (inr fault) = absurd fault.first_fault
-refused_is tells files chain p texts (stop.BadBlock h f) read (inl (inl is)) = absurd cc
-refused_is tells files chain p texts (stop.BadBlock h f) read (inl (inr is)) = absurd cc
-refused_is tells files chain p texts (stop.BadBlock h f) read (inr fault) = record { texts = texts; read = read; first_fault = fault }
-refused_is tells files chain p texts (stop.Refused h f) read (inl (inl is)) = absurd cc
-refused_is tells files chain p texts (stop.Refused h f) read (inl (inr is)) = absurd cc
-refused_is tells files chain p texts (stop.Refused h f) read (inr fault) = record { texts = texts; read = read; first_fault = fault }
+pub refused_is : (stood : Node → List ℕ → Type 0) (chain : Chain) (p : Plan) (texts : List (List ℕ)) (e : MoveFault) → AreRead stood p.forward texts
+    → IsOwn e ⊎ FaultInAt (shorter p.back chain) p.forward texts e → IsRefused stood chain p e
+refused_is stood chain p texts stop.DiskFailed read h = tt
+refused_is stood chain p texts stop.ArchiveFailed read h = tt
+refused_is stood chain p texts stop.Memory read h = tt
+refused_is stood chain p texts (stop.Changed w f) read (inl (inl is)) = absurd cc
+refused_is stood chain p texts (stop.Changed w f) read (inl (inr is)) = absurd cc
+refused_is stood chain p texts (stop.Changed w f) read (inr fault) = absurd fault.first_fault
+refused_is stood chain p texts (stop.BadBlock h f) read (inl (inl is)) = absurd cc
+refused_is stood chain p texts (stop.BadBlock h f) read (inl (inr is)) = absurd cc
+refused_is stood chain p texts (stop.BadBlock h f) read (inr fault) = record { texts = texts; read = read; first_fault = fault }
+refused_is stood chain p texts (stop.Refused h f) read (inl (inl is)) = absurd cc
+refused_is stood chain p texts (stop.Refused h f) read (inl (inr is)) = absurd cc
+refused_is stood chain p texts (stop.Refused h f) read (inr fault) = record { texts = texts; read = read; first_fault = fault }
 
 -- what is in flight where the device failed
-pub flies : (tells : Type 0) (files : ℕ → List ℕ) (chain : Chain) (p : Plan) (texts : List (List ℕ)) (next : Chain) → AreRead tells files p.forward texts → FliesTo p chain texts next
-    → InFlight tells files chain p next
-flies tells files chain p texts next read (inl is) = inl is
-flies tells files chain p texts next read (inr to) = inr (to.0, record { texts = texts; read = read; blocks_are = to.1 }, to.2)
+pub flies : (stood : Node → List ℕ → Type 0) (chain : Chain) (p : Plan) (texts : List (List ℕ)) (next : Chain) → AreRead stood p.forward texts → FliesTo p chain texts next
+    → InFlight stood chain p next
+flies stood chain p texts next read (inl is) = inl is
+flies stood chain p texts next read (inr to) = inr (to.0, record { texts = texts; read = read; blocks_are = to.1 }, to.2)
 
 pub touched_once : (p : Plan) (chain : Chain) (texts : List (List ℕ)) (scripts : List Hash32) (rows : Tables) (blocks : Chain) → AreMoved p chain texts scripts rows blocks → AllDiffer scripts
     → AreTouched p chain blocks scripts

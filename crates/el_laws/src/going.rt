@@ -60,12 +60,12 @@ pub fn go_on<G: Ledger, A: Archive>(
     requires follow { AreMovesOf (G.stands ledger.old) plans.now }
     requires none { sent.old ≡ [] }
     ensures crash { (chain : Chain) → G.stands ledger.old chain
-        → IsSafe A.tells G.tells_crash G.means (G.left_since ledger.new (G.moment ledger.new)) plans.now
-        chain sent.new }
+        → IsSafe ⟦<A as Archive>⟧ G.tells_crash G.means (G.left_since ledger.new (G.moment ledger.new))
+        plans.now chain sent.new }
     // The same at every moment of the run.
     ensures ever { (chain : Chain) → G.stands ledger.old chain → G.tells_crash
         → LeavesOnly G.moment G.left_since ledger.old ledger.new
-        (WasSafe A.tells G.means plans.now chain sent.new) }
+        (WasSafe ⟦<A as Archive>⟧ G.means plans.now chain sent.new) }
     ensures all { OnOk result (length sent.new ≡ length plans.now) }
     // It ends early for the cause that it answers: a move that is told as refused, or a device that failed.
     ensures refused { IsErrOf result Stop.Refused → EndsRefused sent.new }

@@ -29,7 +29,8 @@ pub fn moves_over_versions<A: Archive>(
     requires none { sent.old ≡ [] }
     ensures tells { ⟦<Index<VersionedRows> as Ledger>⟧.tells_crash }
     // All that a crash may then leave stands for the last chain that was told or for the one in flight.
-    ensures safe { IfOk result (λ r. IsSafe A.tells ⟦<Index<VersionedRows> as Ledger>⟧.tells_crash
+    ensures safe { IfOk result (λ r. IsSafe ⟦<A as Archive>⟧
+        ⟦<Index<VersionedRows> as Ledger>⟧.tells_crash
         ⟦<Index<VersionedRows> as Ledger>⟧.means (⟦<Index<VersionedRows> as Ledger>⟧.left_since r.0
         (⟦<Index<VersionedRows> as Ledger>⟧.moment r.0)) plans.now [] sent.new) }
 {

@@ -3,19 +3,17 @@ use Rattle.std.proofs.Common.{◌≡◌, inl, inr, ℕ, ◌==◌, false, not, Li
 use Rattle.std.specs.Prelude.{Result, Ok, Err, IfErr, find}
 use Rattle.std.specs.List.{filter}
 use Rattle.el_outside.specs.declared.archive.Archive as archive
-use Rattle.el_outside.specs.declared.link.Link as link
 use Rattle.el_outside.specs.Files.{AllGrow}
 use Rattle.el_outside.specs.Trace.{Trace, ArrivalWithBytes, opened, brought, closed, quiet, ended, GoesOn, is_new, leaves as left_by}
 use Rattle.el_outside.proofs.Traces.{goes_none, arrived_stays_open, new_not_open}
 use Rattle.el_chain.specs.Chains.{Chain}
-use Rattle.el_model.specs.declared.ledger.Ledger as ledger
 use Rattle.el_world.specs.World.{World, Session, Event, is_peer, hearing, after_hearing, events, IsStill, AllTold, nothing}
 use Rattle.el_world.specs.Run.{Turns, none as no_turns, more, takes, all, Stop, by_memory, unheard, in_turn, MayStarve}
 use Rattle.el_lines.proofs.Cuts.{either}
 use Rattle.el_core.specs.State.{State}
 use Rattle.el_core.specs.Arrivals.{TookArrival, Quietly, none, joined, departed}
 use Rattle.el_loop.specs.within.Sending.{AllOpen}
-use Rattle.el_loop.specs.within.Progress.{Snapshot, snapshot, failed, Finished, Stopped, StoppedIn}
+use Rattle.el_loop.specs.within.Progress.{AllGhosts, Snapshot, snapshot, failed, Finished, Stopped, StoppedIn}
 use Rattle.el_loop.proofs.Openness.{client_open, some_peer}
 use Rattle.el_outside.proofs.Devices.{all_rose_none}
 use Rattle.el_loop.proofs.Progresses.{turns_then}
@@ -125,19 +123,18 @@ pub taken_files : {G : Type 0} (stands : G → Chain → Type 0) (a : ArrivalWit
 taken_files stands a world s t = quiet_files (after_hearing a world) t.done t.next t.quietly
     ∙ files_after a world
 
-module _ {G A K : Type 0} (of_ledger : ledger.Ghosts G) (of_files : archive.Ghosts A)
-    (of_link : link.Ghosts K) where
+module _ {G A K : Type 0} (of : AllGhosts G A K) where
   -- an arrival was taken, and its work is done
   pub arrival_done : (a : ArrivalWithBytes) (world : World) (old taken : State G) (files : A) (k : K)
       (now : Snapshot G A K) → IsStill world → AllTold world → taken.ledger ≡ old.ledger
-      → (t : TookArrival of_ledger.stands a world taken)
-      → Finished of_ledger of_files of_link t.next t.left (snapshot taken files k) now
-      → Finished of_ledger of_files of_link (after_hearing a world) (events world a) (snapshot old files k)
+      → (t : TookArrival of.beneath.ledger.stands a world taken)
+      → Finished of t.next t.left (snapshot taken files k) now
+      → Finished of (after_hearing a world) (events world a) (snapshot old files k)
       now
   arrival_done a world old taken files k now still told same t f =
-      let q = quietly_turns of_files (after_hearing a world) t.done t.next
+      let q = quietly_turns of.beneath.files (after_hearing a world) t.done t.next
       (still_after a world ∙ still) (told_after a world told) t.quietly in
-      let turns = turns_then of_files (after_hearing a world) t.next f.world t.done t.left [] f.messages
+      let turns = turns_then of.beneath.files (after_hearing a world) t.next f.world t.done t.left [] f.messages
       []
       f.closings [] f.losses q f.turns in
       record {
@@ -157,15 +154,15 @@ module _ {G A K : Type 0} (of_ledger : ledger.Ghosts G) (of_files : archive.Ghos
   -- or the run stops in it
   pub arrival_stopped : (leaves : Chain → Chain → Type 0) (a : ArrivalWithBytes) (world : World)
       (old taken : State G) (files : A) (k : K) (now : Snapshot G A K) (stop : Stop) → IsStill world
-      → AllTold world → taken.ledger ≡ old.ledger → (t : TookArrival of_ledger.stands a world taken)
-      → Stopped of_ledger of_files of_link leaves t.next t.left stop (snapshot taken files k) now
-      → StoppedIn of_ledger of_files of_link leaves world a stop (snapshot old files k) now
+      → AllTold world → taken.ledger ≡ old.ledger → (t : TookArrival of.beneath.ledger.stands a world taken)
+      → Stopped of leaves t.next t.left stop (snapshot taken files k) now
+      → StoppedIn of leaves world a stop (snapshot old files k) now
   arrival_stopped leaves a world old taken files k now stop still told same t f =
-      let q = quietly_turns of_files (after_hearing a world) t.done t.next
+      let q = quietly_turns of.beneath.files (after_hearing a world) t.done t.next
       (still_after a world ∙ still) (told_after a world told) t.quietly in
       let whole = t.whole ∙ ap (λ (l : List Event). t.done ++ l) f.whole
       ∙ sym (append_assoc t.done f.done f.left) in
-      let turns = turns_then of_files (after_hearing a world) t.next f.world t.done f.done [] f.messages
+      let turns = turns_then of.beneath.files (after_hearing a world) t.next f.world t.done f.done [] f.messages
       []
       f.closings [] f.losses q f.turns in
       record {
@@ -185,9 +182,9 @@ module _ {G A K : Type 0} (of_ledger : ledger.Ghosts G) (of_files : archive.Ghos
   -- no memory was found for the node's bytes, or for a new client
   pub arrival_lost : (leaves : Chain → Chain → Type 0) (a : ArrivalWithBytes) (world : World)
       (now : Snapshot G A K) → MayStarve a
-      → (of_files.tells → AllGrow world.side.files (of_files.bytes now.files))
+      → (of.beneath.files.tells → AllGrow world.side.files (of.beneath.files.bytes now.files))
       → leaves world.side.chain world.side.chain
-      → StoppedIn of_ledger of_files of_link leaves world a by_memory now now
+      → StoppedIn of leaves world a by_memory now now
   arrival_lost leaves a world now may grows crash = record {
     messages = [];
     closings = [];
@@ -195,8 +192,8 @@ module _ {G A K : Type 0} (of_ledger : ledger.Ghosts G) (of_files : archive.Ghos
     stops = unheard may refl refl refl refl;
     grown = grows;
     went = record {
-      trace = λ t. goes_none (of_link.trace now.link);
-      rose = all_rose_none (failed of_ledger of_files of_link now);
+      trace = λ t. goes_none (of.link.trace now.link);
+      rose = all_rose_none (failed of now);
     };
     flight = world.side.chain;
     is_flight = refl;

@@ -1,7 +1,6 @@
 -- Turns, one after the other, and what went over the link meanwhile.
 use Rattle.std.proofs.Common.{◌≡◌, inl, inr, ℕ, List, [], ◌++◌, None, refl, ap, sym, ◌∙◌, append-nil, append_assoc, Option}
 use Rattle.el_outside.specs.declared.archive.Archive as archive
-use Rattle.el_outside.specs.declared.link.Link as link
 use Rattle.el_outside.specs.Counts.{RoseBy}
 use Rattle.el_outside.specs.Devices as device
 use Rattle.el_outside.specs.Devices.{Device, failures, faults, Rose}
@@ -11,17 +10,17 @@ use Rattle.el_outside.specs.declared.link.Why.{Why}
 use Rattle.el_outside.proofs.Devices.{failures_on, all_rose_none, all_rose_on}
 use Rattle.el_outside.proofs.Traces.{goes_none, goes_more, rose_none, all_grow_none, all_grow_more}
 use Rattle.el_chain.specs.Chains.{Chain}
-use Rattle.el_model.specs.declared.ledger.Ledger as ledger
-use Rattle.el_model.specs.LedgerCalls.{failed_calls}
+use Rattle.el_chain.specs.Moves.{StoodBy}
+use Rattle.el_side.specs.Beneath.{Lost, beneath}
 use Rattle.el_world.specs.World.{World, Event, Outs}
 use Rattle.el_world.specs.Run.{Turns, none, more, Stop, Stops, disk_failed, sift_failed, no_memory, untold, unsent, files_at, Delivers, all, sends, loses, lost_by, IsDeparture, LostBy, by_disk, by_link, by_memory}
 use Rattle.el_side.specs.UnderWay.{IsUnderWay}
 use Rattle.el_world.specs.Flights.{FliesAt, IsMoveOf}
-use Rattle.el_core.specs.State.{State, Stands}
+use Rattle.el_core.specs.State.{State, Stands, serving}
 use Rattle.el_core.specs.Turn.{TookTurn, TurnFailed, IsWithin, KeepsChain, IsDone, stop_of}
 use Rattle.el_model.specs.declared.fault.QueryFault.{QueryFault}
 use Rattle.el_loop.specs.within.Sending.{StoppedSending}
-use Rattle.el_loop.specs.within.Progress.{ClientsAreOpen, CanDeliver, Delivered, Snapshot, snapshot, failed, IsReady, Progress, Finished, Stopped}
+use Rattle.el_loop.specs.within.Progress.{AllGhosts, ClientsAreOpen, CanDeliver, Delivered, Snapshot, snapshot, failed, IsReady, Progress, Finished, Stopped}
 use Rattle.el_loop.proofs.Turned.{after_turn, still_waiting, turn_to_one}
 
 -- these losses are of calls of the link
@@ -101,7 +100,7 @@ within_flies : {A : Type 0} {of_files : archive.Ghosts A} {world : World} {left 
     {sent : List Message} {closings : List Closing} {losses : List Device}
     (stops : Stops of_files world left stop sent closings losses) → IsWithin stops → (now : ℕ → List ℕ)
     (next : Chain) → (of_files.tells → AllGrow world.side.files now)
-    → IsUnderWay of_files.tells now world.side.chain (IsMoveOf world left) next
+    → IsUnderWay (StoodBy of_files now) world.side.chain (IsMoveOf world left) next
     → (KeepsChain stops → next ≡ world.side.chain) → FliesAt stops now next
 within_flies (disk_failed by nodes silent closed lost) within now next grows way kept =
     (now, λ told. (grows told, all_grow_none now), way)
@@ -113,12 +112,11 @@ within_flies (unsent done rest outs failed after front back m lost last next' wh
     by all')
     within now next grows way kept = absurd within
 
-module _ {G A K : Type 0} (of_ledger : ledger.Ghosts G) (of_files : archive.Ghosts A)
-    (of_link : link.Ghosts K) where
+module _ {G A K : Type 0} (of : AllGhosts G A K) where
   -- before the first turn
   pub begins : (first : World) (all' : List Event) (now : Snapshot G A K)
-      → Stands of_ledger.stands now.server first all' → IsReady of_ledger of_files of_link first now
-      → Progress of_ledger of_files of_link first all' now now
+      → Stands of.beneath.ledger.stands now.server first all' → IsReady of first now
+      → Progress of first all' now now
   begins first all' now stood ready = record {
     done = [];
     left = all';
@@ -130,21 +128,21 @@ module _ {G A K : Type 0} (of_ledger : ledger.Ghosts G) (of_files : archive.Ghos
     turns = none;
     stood = stood;
     went = record {
-      trace = λ t. goes_none (of_link.trace now.link);
-      rose = all_rose_none (failed of_ledger of_files of_link now);
+      trace = λ t. goes_none (of.link.trace now.link);
+      rose = all_rose_none (failed of now);
     };
     ready = ready;
   }
 
   -- what a turn gave can be sent and closed
   pub can_deliver : (world : World) (left : List Event) (outs : Outs) (s turned : State G) (files files' : A)
-      (k : K) → Stands of_ledger.stands s world left
-      → (t : TookTurn of_ledger of_files s turned files files' world left outs)
-      → (of_link.tells → ClientsAreOpen s world (of_link.trace k))
-      → CanDeliver of_ledger.stands of_link.tells turned t.next t.rest outs (of_link.trace k)
+      (k : K) → Stands of.beneath.ledger.stands s world left
+      → (t : TookTurn of.beneath (serving s files) (serving turned files') world left outs)
+      → (of.link.tells → ClientsAreOpen s world (of.link.trace k))
+      → CanDeliver of.beneath.ledger.stands of.link.tells turned t.next t.rest outs (of.link.trace k)
   can_deliver world left outs s turned files files' k stood t are =
-      let one = turn_to_one of_files world t.done outs t.losses t.next t.turn in
-      let then' = λ (told : of_link.tells). after_turn of_ledger.stands of_files (of_link.trace k) s world
+      let one = turn_to_one of.beneath.files world t.done outs t.losses t.next t.turn in
+      let then' = λ (told : of.link.tells). after_turn of.beneath.ledger.stands of.beneath.files (of.link.trace k) s world
       left t.rest t.done outs t.losses t.next stood t.whole t.turn (are told) in
       record {
         stood = t.stood;
@@ -157,29 +155,28 @@ module _ {G A K : Type 0} (of_ledger : ledger.Ghosts G) (of_files : archive.Ghos
 
   -- what was lost in a turn, and in sending what it gave
   turn_rose : (s turned later : State G) (files files' : A) (k k' : K) (xs ys : List Device)
-      → ((of_link : ℕ) → Rose (failed_calls of_ledger of_files of_link s.ledger files)
-      (failed_calls of_ledger of_files of_link turned.ledger files') xs)
-      → OfLink ys → RoseBy (of_link.faults k) (of_link.faults k') (failures device.link ys)
+      → Lost of.beneath (beneath s.ledger files) (beneath turned.ledger files') xs
+      → OfLink ys → RoseBy (of.link.faults k) (of.link.faults k') (failures device.link ys)
       → later.ledger ≡ turned.ledger
-      → Rose (failed of_ledger of_files of_link (snapshot s files k))
-      (failed of_ledger of_files of_link (snapshot later files' k')) (xs ++ ys)
+      → Rose (failed of (snapshot s files k))
+      (failed of (snapshot later files' k')) (xs ++ ys)
   turn_rose s turned later files files' k k' xs ys in_turn alone in_sending same =
-      rw same (all_rose_on (failed of_ledger of_files of_link (snapshot s files k))
-      (failed of_ledger of_files of_link (snapshot turned files' k))
-      (failed of_ledger of_files of_link (snapshot turned files' k')) xs ys (in_turn (of_link.faults k))
-      (link_rose (of_link.faults k) (of_link.faults k') (of_files.faults files')
-      (of_ledger.faults turned.ledger)
+      rw same (all_rose_on (failed of (snapshot s files k))
+      (failed of (snapshot turned files' k))
+      (failed of (snapshot turned files' k')) xs ys (in_turn (of.link.faults k))
+      (link_rose (of.link.faults k) (of.link.faults k') (of.beneath.files.faults files')
+      (of.beneath.ledger.faults turned.ledger)
       ys alone in_sending))
 
   -- one more turn, and what it gave, sent and closed
   pub progress_more : (first : World) (all' : List Event) (before : Snapshot G A K) (s turned later : State G)
       (files files' : A) (k k' : K) (outs : Outs)
-      → (p : Progress of_ledger of_files of_link first all' before (snapshot s files k))
-      → (t : TookTurn of_ledger of_files s turned files files' p.world p.left outs)
-      → Delivered of_ledger.stands of_link.tells t.next t.rest outs turned (of_link.trace k)
-      (of_link.faults k)
-      later (of_link.trace k') (of_link.faults k')
-      → Progress of_ledger of_files of_link first all' before (snapshot later files' k')
+      → (p : Progress of first all' before (snapshot s files k))
+      → (t : TookTurn of.beneath (serving s files) (serving turned files') p.world p.left outs)
+      → Delivered of.beneath.ledger.stands of.link.tells t.next t.rest outs turned (of.link.trace k)
+      (of.link.faults k)
+      later (of.link.trace k') (of.link.faults k')
+      → Progress of first all' before (snapshot later files' k')
   progress_more first all' before s turned later files files' k k' outs p t d =
       let alone = sending_loses t.next outs.messages outs.closing d.sent d.closings d.losses d.next d.delivers
       in
@@ -197,11 +194,11 @@ module _ {G A K : Type 0} (of_ledger : ledger.Ghosts G) (of_files : archive.Ghos
             d.losses d.next p.turns t.turn d.delivers;
         stood = d.stood;
         went = record {
-          trace = λ told. goes_more (of_link.trace before.link) (of_link.trace k) (of_link.trace k') [] []
+          trace = λ told. goes_more (of.link.trace before.link) (of.link.trace k) (of.link.trace k') [] []
               p.messages d.sent p.closings d.closings (p.went.trace told) (d.trace told);
-          rose = all_rose_on (failed of_ledger of_files of_link before)
-              (failed of_ledger of_files of_link (snapshot s files k))
-              (failed of_ledger of_files of_link (snapshot later files' k')) p.losses (t.losses ++ d.losses)
+          rose = all_rose_on (failed of before)
+              (failed of (snapshot s files k))
+              (failed of (snapshot later files' k')) p.losses (t.losses ++ d.losses)
               p.went.rose (turn_rose s turned later files files' k k' t.losses d.losses t.rose alone d.rose
               d.ledger);
         };
@@ -209,7 +206,7 @@ module _ {G A K : Type 0} (of_ledger : ledger.Ghosts G) (of_files : archive.Ghos
           are_open = λ told. record {
             sessions = d.are_open told;
             surplus = λ q e.
-                let w = still_waiting of_ledger.stands of_files s turned p.world p.left t.rest t.done
+                let w = still_waiting of.beneath.ledger.stands of.beneath.files s turned p.world p.left t.rest t.done
                 outs
                 t.losses t.next q p.stood t.whole t.turn t.stood (sym d.surplus ∙ e) in
                 let here = (p.ready.are_open told).surplus q w.waited in
@@ -223,14 +220,14 @@ module _ {G A K : Type 0} (of_ledger : ledger.Ghosts G) (of_files : archive.Ghos
   -- the work is done
   pub finished : (first : World) (all' : List Event) (before : Snapshot G A K) (s turned : State G)
       (files files' : A) (k : K)
-      → (p : Progress of_ledger of_files of_link first all' before (snapshot s files k))
-      → IsDone of_ledger.stands of_files p.world p.left turned → turned.surplus ≡ None
-      → (of_ledger.faults turned.ledger ≡ of_ledger.faults s.ledger)
-      × (of_files.faults files' ≡ of_files.faults files)
-      → (of_files.tells → AllGrow (of_files.bytes files) (of_files.bytes files'))
-      → Finished of_ledger of_files of_link first all' before (snapshot turned files' k)
+      → (p : Progress of first all' before (snapshot s files k))
+      → IsDone of.beneath.ledger.stands of.beneath.files p.world p.left turned → turned.surplus ≡ None
+      → (of.beneath.ledger.faults turned.ledger ≡ of.beneath.ledger.faults s.ledger)
+      × (of.beneath.files.faults files' ≡ of.beneath.files.faults files)
+      → (of.beneath.files.tells → AllGrow (of.beneath.files.bytes files) (of.beneath.files.bytes files'))
+      → Finished of first all' before (snapshot turned files' k)
   finished first all' before s turned files files' k p d unused same grows =
-      let both = turns_then of_files first p.world p.world p.done p.left p.messages [] p.closings []
+      let both = turns_then of.beneath.files first p.world p.world p.done p.left p.messages [] p.closings []
       p.losses [] p.turns d.turns in
       record {
         messages = p.messages;
@@ -248,7 +245,7 @@ module _ {G A K : Type 0} (of_ledger : ledger.Ghosts G) (of_files : archive.Ghos
             sessions = (p.ready.are_open told).sessions;
             surplus = λ q e. absurd (let f = sym e ∙ unused in cc);
           };
-          grown = λ told. all_grow_more p.world.side.files (of_files.bytes files) (of_files.bytes files')
+          grown = λ told. all_grow_more p.world.side.files (of.beneath.files.bytes files) (of.beneath.files.bytes files')
               (p.ready.grown told) (grows told);
         };
       }
@@ -256,14 +253,14 @@ module _ {G A K : Type 0} (of_ledger : ledger.Ghosts G) (of_files : archive.Ghos
   -- a turn failed
   pub stopped_turn : (leaves : Chain → Chain → Type 0) (first : World) (all' : List Event)
       (before : Snapshot G A K) (s turned : State G) (files files' : A) (k : K) (stop : Stop) (e : QueryFault)
-      → (p : Progress of_ledger of_files of_link first all' before (snapshot s files k))
-      → (t : TurnFailed of_ledger of_files s.ledger turned.ledger files files' p.world p.left e)
+      → (p : Progress of first all' before (snapshot s files k))
+      → (t : TurnFailed of.beneath (beneath s.ledger files) (beneath turned.ledger files') p.world p.left e)
       → leaves p.world.side.chain t.stops_at.next
-      → (of_files.tells → AllGrow (of_files.bytes files) (of_files.bytes files')) → stop ≡ stop_of e
-      → Stopped of_ledger of_files of_link leaves first all' stop before (snapshot turned files' k)
+      → (of.beneath.files.tells → AllGrow (of.beneath.files.bytes files) (of.beneath.files.bytes files')) → stop ≡ stop_of e
+      → Stopped of leaves first all' stop before (snapshot turned files' k)
   stopped_turn leaves first all' before s turned files files' k stop e p t left grows is =
-      let grown = λ (told : of_files.tells). all_grow_more p.world.side.files (of_files.bytes files)
-      (of_files.bytes files') (p.ready.grown told) (grows told) in
+      let grown = λ (told : of.beneath.files.tells). all_grow_more p.world.side.files (of.beneath.files.bytes files)
+      (of.beneath.files.bytes files') (p.ready.grown told) (grows told) in
       rw is (record {
         done = p.done;
         left = p.left;
@@ -280,13 +277,13 @@ module _ {G A K : Type 0} (of_ledger : ledger.Ghosts G) (of_files : archive.Ghos
         grown = λ told. rw (within_files t.stops t.within) (grown told);
         went = record {
           trace = λ told. rw (append-nil p.messages, append-nil p.closings) (p.went.trace told);
-          rose = all_rose_on (failed of_ledger of_files of_link before)
-              (failed of_ledger of_files of_link (snapshot s files k))
-              (failed of_ledger of_files of_link (snapshot turned files' k)) p.losses t.losses p.went.rose
-              (t.rose (of_link.faults k));
+          rose = all_rose_on (failed of before)
+              (failed of (snapshot s files k))
+              (failed of (snapshot turned files' k)) p.losses t.losses p.went.rose
+              (t.rose (of.link.faults k));
         };
         flight = t.stops_at.next;
-        is_flight = within_flies t.stops t.within (of_files.bytes files') t.stops_at.next grown
+        is_flight = within_flies t.stops t.within (of.beneath.files.bytes files') t.stops_at.next grown
             t.stops_at.flight t.kept;
         crash = left;
       })
@@ -295,13 +292,13 @@ module _ {G A K : Type 0} (of_ledger : ledger.Ghosts G) (of_files : archive.Ghos
   pub stopped_sending : (leaves : Chain → Chain → Type 0) (first : World) (all' : List Event)
       (before : Snapshot G A K) (s turned later : State G) (files files' : A) (k k' : K) (outs : Outs)
       (stop : Stop)
-      → (p : Progress of_ledger of_files of_link first all' before (snapshot s files k))
-      → (t : TookTurn of_ledger of_files s turned files files' p.world p.left outs)
-      → StoppedSending of_link.tells t.next outs.messages stop turned (of_link.trace k) (of_link.faults k)
+      → (p : Progress of first all' before (snapshot s files k))
+      → (t : TookTurn of.beneath (serving s files) (serving turned files') p.world p.left outs)
+      → StoppedSending of.link.tells t.next outs.messages stop turned (of.link.trace k) (of.link.faults k)
       later
-      (of_link.trace k') (of_link.faults k')
+      (of.link.trace k') (of.link.faults k')
       → leaves p.world.side.chain t.next.side.chain
-      → Stopped of_ledger of_files of_link leaves first all' stop before (snapshot later files' k')
+      → Stopped of leaves first all' stop before (snapshot later files' k')
   stopped_sending leaves first all' before s turned later files files' k k' outs stop p t d crash =
       let alone = both_of_link d.losses d.last
       (sending_loses t.next d.front None d.sent d.closings d.losses d.next d.delivers)
@@ -322,11 +319,11 @@ module _ {G A K : Type 0} (of_ledger : ledger.Ghosts G) (of_files : archive.Ghos
             t.turn d.whole d.node d.delivers d.lost refl;
         grown = t.told;
         went = record {
-          trace = λ told. goes_more (of_link.trace before.link) (of_link.trace k) (of_link.trace k') [] []
+          trace = λ told. goes_more (of.link.trace before.link) (of.link.trace k) (of.link.trace k') [] []
               p.messages d.sent p.closings d.closings (p.went.trace told) (d.trace told);
-          rose = all_rose_on (failed of_ledger of_files of_link before)
-              (failed of_ledger of_files of_link (snapshot s files k))
-              (failed of_ledger of_files of_link (snapshot later files' k')) p.losses
+          rose = all_rose_on (failed of before)
+              (failed of (snapshot s files k))
+              (failed of (snapshot later files' k')) p.losses
               (t.losses ++ (d.losses ++ d.last)) p.went.rose
               (turn_rose s turned later files files' k k' t.losses (d.losses ++ d.last) t.rose alone d.rose
               d.ledger);

@@ -3,7 +3,6 @@ use Rattle.std.proofs.Common.{◌≡◌, inl, inr, ℕ, ◌+◌, ◌<◌, ◌==�
 use Rattle.std.proofs.lemmas.List.{map-append}
 use Rattle.el_base.proofs.Lists.{all_more}
 use Rattle.el_outside.specs.declared.archive.Archive as archive
-use Rattle.el_outside.specs.declared.link.Link as link
 use Rattle.el_outside.specs.Counts.{RoseBy}
 use Rattle.el_outside.specs.Devices.{Device}
 use Rattle.el_outside.specs.Files.{AllGrow}
@@ -13,7 +12,6 @@ use Rattle.el_outside.specs.declared.link.Arrival.TheVariants as arrival
 use Rattle.el_outside.proofs.Devices.{all_rose_none, all_rose_on}
 use Rattle.el_outside.proofs.Traces.{goes_none, goes_more, rose_more, rose_none, opened_is_open, new_unused}
 use Rattle.el_chain.specs.Chains.{Chain}
-use Rattle.el_model.specs.declared.ledger.Ledger as ledger
 use Rattle.el_world.specs.World.{World, new_session, after_hearing, events, without_node, without_client, AllTold}
 use Rattle.el_world.specs.Run.{Run, none, more, Stop, Halts}
 use Rattle.el_world.proofs.LastTold.{run_last_told, halt_last_told}
@@ -27,7 +25,7 @@ use Rattle.el_loop.specs.declared.end.End.TheVariants as end
 use Rattle.el_loop.specs.declared.halt.Halt.{Halt}
 use Rattle.el_loop.specs.declared.halt.Halt.TheVariants as halt
 use Rattle.el_loop.specs.within.Sending.{stop_of, end_of}
-use Rattle.el_loop.specs.within.Progress.{ClientsAreOpen, Snapshot, snapshot, failed, IsReady, WentOn, Finished, StoppedIn, Going, taken_one}
+use Rattle.el_loop.specs.within.Progress.{AllGhosts, ClientsAreOpen, Snapshot, snapshot, failed, IsReady, WentOn, Finished, StoppedIn, Going, taken_one}
 use Rattle.el_loop.proofs.Rises.{rose_next}
 use Rattle.el_loop.proofs.Arrivals.{all_stay, all_but_left, all_after, not_client}
 
@@ -142,37 +140,36 @@ enters link_tells node old world a buf taken' last now before after is are law l
     taken_open node old s world next (with_bytes a buf) before after (rw is at then) (are t)
     (names_new a buf last now before (law t) lawful) (took t)
 
-module _ {G A K : Type 0} (of_ledger : ledger.Ghosts G) (of_files : archive.Ghosts A)
-    (of_link : link.Ghosts K) where
+module _ {G A K : Type 0} (of : AllGhosts G A K) where
   -- the counts of a run between two snapshots
   abbrev pub run_counts : ℕ → Snapshot G A K → Snapshot G A K → Counts
   run_counts turns before now =
-      counts turns (of_link.calls before.link) (of_link.calls now.link)
-      (failed of_ledger of_files of_link before)
-      (failed of_ledger of_files of_link now)
+      counts turns (of.link.calls before.link) (of.link.calls now.link)
+      (failed of before)
+      (failed of now)
 
   -- before the first arrival
   pub going_none : (first : World) (node : Bool) (now : Snapshot G A K)
-      → Stands of_ledger.stands now.server first [] → first.sessions ≡ [] → now.server.surplus ≡ None
-      → (of_files.tells → AllGrow first.side.files (of_files.bytes now.files))
-      → Going of_ledger of_files of_link first node 0 now now
+      → Stands of.beneath.ledger.stands now.server first [] → first.sessions ≡ [] → now.server.surplus ≡ None
+      → (of.beneath.files.tells → AllGrow first.side.files (of.beneath.files.bytes now.files))
+      → Going of first node 0 now now
   going_none first node now stood nobody unused grown = record {
     arrivals = [];
     messages = [];
     closings = [];
     losses = [];
     world = first;
-    run = run_none of_files first node;
+    run = run_none of.beneath.files first node;
     told = rw nobody refl;
     statuses = rw nobody tt;
     stood = stood;
     none_ends = tt;
     counted = refl;
     went = record {
-      trace = λ t. goes_none (of_link.trace now.link);
-      rose = all_rose_none (failed of_ledger of_files of_link now);
+      trace = λ t. goes_none (of.link.trace now.link);
+      rose = all_rose_none (failed of now);
     };
-    calls = rose_none (of_link.calls now.link);
+    calls = rose_none (of.link.calls now.link);
     ready = record {
       are_open = λ t. record {
         sessions = rw nobody tt;
@@ -186,46 +183,46 @@ module _ {G A K : Type 0} (of_ledger : ledger.Ghosts G) (of_files : archive.Ghos
   went_further : (a : ArrivalWithBytes) (before mid : Snapshot G A K) (k : K) (now : Snapshot G A K)
       (arrivals : List ArrivalWithBytes) (messages more_messages : List Message)
       (closings more_closings : List Closing) (losses more_losses : List Device)
-      → WentOn of_ledger of_files of_link before mid arrivals messages closings losses
-      → (of_link.tells → GoesOn (of_link.trace mid.link) (of_link.trace k) (a ∷ []) [] [])
-      → of_link.faults k ≡ of_link.faults mid.link
-      → WentOn of_ledger of_files of_link (snapshot mid.server mid.files k) now [] more_messages more_closings
+      → WentOn of before mid arrivals messages closings losses
+      → (of.link.tells → GoesOn (of.link.trace mid.link) (of.link.trace k) (a ∷ []) [] [])
+      → of.link.faults k ≡ of.link.faults mid.link
+      → WentOn of (snapshot mid.server mid.files k) now [] more_messages more_closings
       more_losses
-      → WentOn of_ledger of_files of_link before now (arrivals ++ a ∷ []) (messages ++ more_messages)
+      → WentOn of before now (arrivals ++ a ∷ []) (messages ++ more_messages)
       (closings ++ more_closings) (losses ++ more_losses)
   went_further a before mid k now arrivals messages more_messages closings more_closings losses more_losses
       so_far took same then' = record {
         trace = λ t.
-            let start = goes_more (of_link.trace before.link) (of_link.trace mid.link) (of_link.trace k)
+            let start = goes_more (of.link.trace before.link) (of.link.trace mid.link) (of.link.trace k)
             arrivals
             (a ∷ []) messages [] closings [] (so_far.trace t) (took t) in
-            let both = goes_more (of_link.trace before.link) (of_link.trace k) (of_link.trace now.link)
+            let both = goes_more (of.link.trace before.link) (of.link.trace k) (of.link.trace now.link)
             (arrivals ++ a ∷ []) [] (messages ++ []) more_messages (closings ++ []) more_closings start
             (then'.trace t) in
             simp append-nil at both;
-        rose = all_rose_on (failed of_ledger of_files of_link before) (failed of_ledger of_files of_link mid)
-            (failed of_ledger of_files of_link now) losses more_losses so_far.rose (rw same at then'.rose);
+        rose = all_rose_on (failed of before) (failed of mid)
+            (failed of now) losses more_losses so_far.rose (rw same at then'.rose);
       }
 
   -- the run stops in an arrival
   pub told_stopped : (leaves : Chain → Chain → Type 0) (first : World) (node : Bool) (count turns : ℕ)
       (a : ArrivalWithBytes) (before mid : Snapshot G A K) (k : K) (now : Snapshot G A K) (stop : Stop)
-      → first.sessions ≡ [] → (g : Going of_ledger of_files of_link first node count before mid)
-      → (of_link.tells → GoesOn (of_link.trace mid.link) (of_link.trace k) (a ∷ []) [] [])
-      → of_link.faults k ≡ of_link.faults mid.link
-      → RoseBy (of_link.calls mid.link) (of_link.calls now.link) 1 → count < turns
-      → StoppedIn of_ledger of_files of_link leaves g.world (taken_one node a) stop
+      → first.sessions ≡ [] → (g : Going of first node count before mid)
+      → (of.link.tells → GoesOn (of.link.trace mid.link) (of.link.trace k) (a ∷ []) [] [])
+      → of.link.faults k ≡ of.link.faults mid.link
+      → RoseBy (of.link.calls mid.link) (of.link.calls now.link) 1 → count < turns
+      → StoppedIn of leaves g.world (taken_one node a) stop
       (snapshot mid.server mid.files k) now
-      → (traffic : Trace) × (of_link.tells → GoesOn (of_link.trace before.link) (of_link.trace now.link)
+      → (traffic : Trace) × (of.link.tells → GoesOn (of.link.trace before.link) (of.link.trace now.link)
       traffic.arrivals traffic.messages traffic.closings)
-      × IsHalted of_files first node leaves (of_files.bytes now.files) (run_counts turns before now)
+      × IsHalted of.beneath.files first node leaves (of.beneath.files.bytes now.files) (run_counts turns before now)
       traffic
       stop
   told_stopped leaves first node count turns a before mid k now stop nobody g took same one lt f =
       let went = went_further a before mid k now g.arrivals g.messages f.messages g.closings f.closings
       g.losses
       f.losses g.went took same f.went in
-      let halts : Halts of_files first stop (taken node (g.arrivals ++ a ∷ [])) (g.messages ++ f.messages)
+      let halts : Halts of.beneath.files first stop (taken node (g.arrivals ++ a ∷ [])) (g.messages ++ f.messages)
       (g.closings ++ f.closings) (g.losses ++ f.losses) = record {
         past = taken node g.arrivals;
         last = taken_one node a;
@@ -255,7 +252,7 @@ module _ {G A K : Type 0} (of_ledger : ledger.Ghosts G) (of_files : archive.Ghos
           grown = f.grown;
           counted = record {
             calls = rw (length-append g.arrivals (a ∷ []), add-zero)
-                (rose_more (of_link.calls before.link) (of_link.calls mid.link) (of_link.calls now.link)
+                (rose_more (of.link.calls before.link) (of.link.calls mid.link) (of.link.calls now.link)
                 (length g.arrivals) 1 g.calls one);
             turns = let h = g.counted in simp length-append (omega arith);
             rose = rw (append-nil (g.losses ++ f.losses)) went.rose;
@@ -276,23 +273,23 @@ module _ {G A K : Type 0} (of_ledger : ledger.Ghosts G) (of_files : archive.Ghos
     pub closings : List Closing
     pub losses : List Device
     pub world : World
-    pub run : Run of_files first (taken node (front ++ a ∷ [])) messages closings losses world
+    pub run : Run of.beneath.files first (taken node (front ++ a ∷ [])) messages closings losses world
     pub told : AllTold world
     pub statuses : StatusesAreTold world
-    pub stood : Stands of_ledger.stands now.server world []
+    pub stood : Stands of.beneath.ledger.stands now.server world []
     pub none_ends : NoneEnds front
     pub counted : length front ≡ count
-    pub went : WentOn of_ledger of_files of_link before now (front ++ a ∷ []) messages closings losses
-    pub calls : RoseBy (of_link.calls before.link) (of_link.calls now.link) (length (front ++ a ∷ []))
-    pub ready : IsReady of_ledger of_files of_link world now
+    pub went : WentOn of before now (front ++ a ∷ []) messages closings losses
+    pub calls : RoseBy (of.link.calls before.link) (of.link.calls now.link) (length (front ++ a ∷ []))
+    pub ready : IsReady of world now
 
   pub one_further : (first : World) (node : Bool) (count : ℕ) (a : ArrivalWithBytes)
       (before mid : Snapshot G A K) (k : K) (now : Snapshot G A K)
-      (g : Going of_ledger of_files of_link first node count before mid)
-      → (of_link.tells → GoesOn (of_link.trace mid.link) (of_link.trace k) (a ∷ []) [] [])
-      → of_link.faults k ≡ of_link.faults mid.link
-      → RoseBy (of_link.calls mid.link) (of_link.calls now.link) 1
-      → Finished of_ledger of_files of_link (after_hearing (taken_one node a) g.world)
+      (g : Going of first node count before mid)
+      → (of.link.tells → GoesOn (of.link.trace mid.link) (of.link.trace k) (a ∷ []) [] [])
+      → of.link.faults k ≡ of.link.faults mid.link
+      → RoseBy (of.link.calls mid.link) (of.link.calls now.link) 1
+      → Finished of (after_hearing (taken_one node a) g.world)
       (events g.world (taken_one node a)) (snapshot mid.server mid.files k) now
       → Further first node count a before now
   one_further first node count a before mid k now g took same one f = record {
@@ -312,7 +309,7 @@ module _ {G A K : Type 0} (of_ledger : ledger.Ghosts G) (of_files : archive.Ghos
     went = went_further a before mid k now g.arrivals g.messages f.messages g.closings f.closings g.losses
         f.losses g.went took same f.went;
     calls = rw (length-append g.arrivals (a ∷ []))
-        (rose_more (of_link.calls before.link) (of_link.calls mid.link) (of_link.calls now.link)
+        (rose_more (of.link.calls before.link) (of.link.calls mid.link) (of.link.calls now.link)
         (length g.arrivals) 1 g.calls one);
     ready = f.ready;
   }
@@ -320,7 +317,7 @@ module _ {G A K : Type 0} (of_ledger : ledger.Ghosts G) (of_files : archive.Ghos
   -- the run goes on
   pub going_more : (first : World) (node : Bool) (count : ℕ) (a : ArrivalWithBytes)
       (before now : Snapshot G A K) → Further first node count a before now → is_end a ≡ false
-      → Going of_ledger of_files of_link first node (count + 1) before now
+      → Going of first node (count + 1) before now
   going_more first node count a before now f on = record {
     arrivals = f.front ++ a ∷ [];
     messages = f.messages;
@@ -342,15 +339,15 @@ module _ {G A K : Type 0} (of_ledger : ledger.Ghosts G) (of_files : archive.Ghos
   abbrev pub Told : World → Bool → (Chain → Chain → Type 0) → ℕ → Snapshot G A K → Snapshot G A K → End → Type
       0
   Told first node leaves turns before now e = (traffic : Trace)
-      × (of_link.tells → GoesOn (of_link.trace before.link) (of_link.trace now.link)
+      × (of.link.tells → GoesOn (of.link.trace before.link) (of.link.trace now.link)
       traffic.arrivals traffic.messages traffic.closings)
-      × RunEnds of_files first node leaves (of_files.bytes now.files) (run_counts turns before now)
+      × RunEnds of.beneath.files first node leaves (of.beneath.files.bytes now.files) (run_counts turns before now)
       traffic e
 
   -- the last arrival ended the run
   pub told_ended : (leaves : Chain → Chain → Type 0) (first : World) (node : Bool) (count turns : ℕ)
       (a : ArrivalWithBytes) (before now : Snapshot G A K)
-      → ((chain : Chain) → of_ledger.stands now.server.ledger chain → leaves chain chain) → first.sessions ≡ []
+      → ((chain : Chain) → of.beneath.ledger.stands now.server.ledger chain → leaves chain chain) → first.sessions ≡ []
       → Further first node count a before now → is_end a ≡ true → count < turns
       → Told first node leaves turns before now end.Ended
   told_ended leaves first node count turns a before now own nobody f stop lt = (
@@ -378,8 +375,8 @@ module _ {G A K : Type 0} (of_ledger : ledger.Ghosts G) (of_files : archive.Ghos
   -- the turns are spent
   pub told_spent : (leaves : Chain → Chain → Type 0) (first : World) (node : Bool) (count turns : ℕ)
       (before now : Snapshot G A K)
-      → ((chain : Chain) → of_ledger.stands now.server.ledger chain → leaves chain chain) → first.sessions ≡ []
-      → Going of_ledger of_files of_link first node count before now → count ≡ turns
+      → ((chain : Chain) → of.beneath.ledger.stands now.server.ledger chain → leaves chain chain) → first.sessions ≡ []
+      → Going of first node count before now → count ≡ turns
       → Told first node leaves turns before now end.TurnsSpent
   told_spent leaves first node count turns before now own nobody g spent = (
     record { arrivals = g.arrivals; messages = g.messages; closings = g.closings },
@@ -407,11 +404,11 @@ module _ {G A K : Type 0} (of_ledger : ledger.Ghosts G) (of_files : archive.Ghos
   -- a call of `next` failed
   pub told_failed : (leaves : Chain → Chain → Type 0) (first : World) (node : Bool) (count turns : ℕ)
       (before mid : Snapshot G A K) (k : K)
-      → ((chain : Chain) → of_ledger.stands mid.server.ledger chain → leaves chain chain) → first.sessions ≡ []
-      → Going of_ledger of_files of_link first node count before mid
-      → (of_link.tells → of_link.trace k ≡ of_link.trace mid.link)
-      → RoseBy (of_link.faults mid.link) (of_link.faults k) 1
-      → RoseBy (of_link.calls mid.link) (of_link.calls k) 1 → count < turns
+      → ((chain : Chain) → of.beneath.ledger.stands mid.server.ledger chain → leaves chain chain) → first.sessions ≡ []
+      → Going of first node count before mid
+      → (of.link.tells → of.link.trace k ≡ of.link.trace mid.link)
+      → RoseBy (of.link.faults mid.link) (of.link.faults k) 1
+      → RoseBy (of.link.calls mid.link) (of.link.calls k) 1 → count < turns
       → Told first node leaves turns before (snapshot mid.server mid.files k) end.LinkFailed
   told_failed leaves first node count turns before mid k own nobody g same rose one lt = (
     record { arrivals = g.arrivals; messages = g.messages; closings = g.closings },
@@ -424,14 +421,14 @@ module _ {G A K : Type 0} (of_ledger : ledger.Ghosts G) (of_files : archive.Ghos
         statuses = g.statuses;
         grown = g.ready.grown;
         counted = record {
-          calls = rose_more (of_link.calls before.link) (of_link.calls mid.link) (of_link.calls k)
+          calls = rose_more (of.link.calls before.link) (of.link.calls mid.link) (of.link.calls k)
               (length g.arrivals) 1 g.calls one;
           turns = let h = g.counted in omega arith;
-          rose = all_rose_on (failed of_ledger of_files of_link before)
-              (failed of_ledger of_files of_link mid)
-              (failed of_ledger of_files of_link (snapshot mid.server mid.files k)) g.losses next_failed
-              g.went.rose (rose_next (of_link.faults mid.link) (of_link.faults k) (of_files.faults mid.files)
-              (of_ledger.faults mid.server.ledger) rose);
+          rose = all_rose_on (failed of before)
+              (failed of mid)
+              (failed of (snapshot mid.server mid.files k)) g.losses next_failed
+              g.went.rose (rose_next (of.link.faults mid.link) (of.link.faults k) (of.beneath.files.faults mid.files)
+              (of.beneath.ledger.faults mid.server.ledger) rose);
         };
         acknowledged = run_last_told nobody g.run;
         crash = own g.world.side.chain g.stood.chain;
@@ -443,9 +440,9 @@ module _ {G A K : Type 0} (of_ledger : ledger.Ghosts G) (of_files : archive.Ghos
   -- how the run then ends
   pub told_halt : (first : World) (node : Bool) (leaves : Chain → Chain → Type 0) (turns : ℕ)
       (before now : Snapshot G A K) (halt : Halt)
-      → ((traffic : Trace) × (of_link.tells → GoesOn (of_link.trace before.link) (of_link.trace now.link)
+      → ((traffic : Trace) × (of.link.tells → GoesOn (of.link.trace before.link) (of.link.trace now.link)
       traffic.arrivals traffic.messages traffic.closings)
-      × IsHalted of_files first node leaves (of_files.bytes now.files) (run_counts turns before now)
+      × IsHalted of.beneath.files first node leaves (of.beneath.files.bytes now.files) (run_counts turns before now)
       traffic
       (stop_of halt))
       → Told first node leaves turns before now (end_of halt)

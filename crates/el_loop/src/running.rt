@@ -5,12 +5,13 @@ ghost use Rattle.el_outside.specs.Trace.{Trace, with_bytes};
 ghost use Rattle.el_world.specs.World.{World, Event, AllTold, events, after_hearing};
 ghost use Rattle.el_model.specs.Keeping.{LeavesEither};
 ghost use Rattle.el_model.specs.LedgerCalls.{KeepsBeside};
+ghost use Rattle.el_side.specs.Beneath.{ghosts};
 ghost use Rattle.el_core.specs.State.{State, Stands, AreUpTo, IsIdle};
 ghost use Rattle.el_core.specs.Arrivals.{with_all_bytes, IsAfterArrival, IsAbove, IsUpTo};
 ghost use Rattle.el_loop.specs.Counts.{counts_of, devices, IsCaused, failed_device};
 ghost use Rattle.el_loop.specs.Runs.{WentBy, RunEnds, is_end};
 ghost use Rattle.el_loop.specs.within.Sending.{RisesFor, stop_of};
-ghost use Rattle.el_loop.specs.within.Progress.{ClientsAreOpen, IsReady, Finished, Stopped, StoppedIn, snapshot, taken_one};
+ghost use Rattle.el_loop.specs.within.Progress.{ClientsAreOpen, IsReady, Finished, Stopped, StoppedIn, all_ghosts, snapshot, taken_one};
 
 use crate::end::End;
 use crate::halt::{Halt, halt_of};
@@ -27,17 +28,15 @@ fn work_off<G: Ledger, A: Archive, K: Link>(
     link: &mut K,
 ) -> Result<(), Halt>
     requires live { G.is_live server.old.ledger }
-    ensures finished { (world : World) (all : List Event) → Stands G.stands server.old world all
-        → IsReady ⟦<G as Ledger>⟧ ⟦<A as Archive>⟧ ⟦<K as Link>⟧ world
-        (snapshot server.old archive.old link.old)
-        → OnOk result (Finished ⟦<G as Ledger>⟧ ⟦<A as Archive>⟧ ⟦<K as Link>⟧ world all
-        (snapshot server.old archive.old link.old) (snapshot server.new archive.new link.new)) }
-    ensures stopped { (world : World) (all : List Event) → Stands G.stands server.old world all
-        → IsReady ⟦<G as Ledger>⟧ ⟦<A as Archive>⟧ ⟦<K as Link>⟧ world
-        (snapshot server.old archive.old link.old)
-        → IfErr result (λ halt. Stopped ⟦<G as Ledger>⟧ ⟦<A as Archive>⟧ ⟦<K as Link>⟧
+    ensures finished { let of = all_ghosts (ghosts ⟦<G as Ledger>⟧ ⟦<A as Archive>⟧) ⟦<K as Link>⟧ in
+        let was = snapshot server.old archive.old link.old in (world : World) (all : List Event)
+        → Stands G.stands server.old world all → IsReady of world was
+        → OnOk result (Finished of world all was (snapshot server.new archive.new link.new)) }
+    ensures stopped { let of = all_ghosts (ghosts ⟦<G as Ledger>⟧ ⟦<A as Archive>⟧) ⟦<K as Link>⟧ in
+        let was = snapshot server.old archive.old link.old in (world : World) (all : List Event)
+        → Stands G.stands server.old world all → IsReady of world was → IfErr result (λ halt. Stopped of
         (LeavesEither G.tells_crash G.means G.moment G.left_since server.new.ledger) world all (stop_of halt)
-        (snapshot server.old archive.old link.old) (snapshot server.new archive.new link.new)) }
+        was (snapshot server.new archive.new link.new)) }
     ensures idle { OnOk result (IsIdle server.new) }
     ensures live { OnOk result (G.is_live server.new.ledger) }
     ensures numbers { (last : ℕ) → AreUpTo last server.old.clients
@@ -114,7 +113,7 @@ fn serve_arrival<G: Ledger, A: Archive, K: Link>(
         → (K.tells → (next : World) (s : State G)
         → IsAfterArrival (with_all_bytes arrival bytes.now) world next s.surplus
         → ClientsAreOpen s next (K.trace link.old))
-        → OnOk result (Finished ⟦<G as Ledger>⟧ ⟦<A as Archive>⟧ ⟦<K as Link>⟧
+        → OnOk result (Finished (all_ghosts (ghosts ⟦<G as Ledger>⟧ ⟦<A as Archive>⟧) ⟦<K as Link>⟧)
         (after_hearing (with_all_bytes arrival bytes.now) world)
         (events world (with_all_bytes arrival bytes.now))
         (snapshot server.old archive.old link.old) (snapshot server.new archive.new link.new)) }
@@ -123,7 +122,8 @@ fn serve_arrival<G: Ledger, A: Archive, K: Link>(
         → (K.tells → (next : World) (s : State G)
         → IsAfterArrival (with_all_bytes arrival bytes.now) world next s.surplus
         → ClientsAreOpen s next (K.trace link.old))
-        → IfErr result (λ halt. StoppedIn ⟦<G as Ledger>⟧ ⟦<A as Archive>⟧ ⟦<K as Link>⟧
+        → IfErr result (λ halt.
+        StoppedIn (all_ghosts (ghosts ⟦<G as Ledger>⟧ ⟦<A as Archive>⟧) ⟦<K as Link>⟧)
         (LeavesEither G.tells_crash G.means G.moment G.left_since server.new.ledger)
         world (with_all_bytes arrival bytes.now) (stop_of halt)
         (snapshot server.old archive.old link.old) (snapshot server.new archive.new link.new)) }

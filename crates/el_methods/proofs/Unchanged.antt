@@ -1,6 +1,6 @@
 -- Where the block files have a chain's blocks or its transactions, the bytes of these are their own.
 use Rattle.std.proofs.Common.{◌≡◌, ◌≢◌, ◌∙◌, sym, ap, subst, ℕ, ◌+◌, Bool, true, false, if◌then◌else◌, List, [], ◌∷◌, ◌++◌, length, Option, Some, None, option_map, option_and_then, Result, Ok, Err, refl}
-use Rattle.std.specs.Prelude.{IfErr}
+use Rattle.std.specs.Prelude.{IfOk, IfErr}
 use Rattle.serde_json.specs.Data.{Data}
 use Rattle.std.specs.Str.{bytes_eq}
 use Rattle.std.proofs.lemmas.Slice.Eq.{bytes_eq-Decides}
@@ -18,6 +18,9 @@ use Rattle.el_chain.specs.declared.node.Spot.{Spot}
 use Rattle.el_files.specs.Reading.{text_at, IsTxOf}
 use Rattle.el_model.specs.Queries.{newest, place_at, spot_of, find_tx}
 use Rattle.el_methods.specs.Archives.{HasBlocks, HasTransaction, HasChanged}
+use Rattle.el_methods.specs.Outcomes.{IsAnswer}
+use Rattle.el_methods.specs.Results.{hex, transaction_get}
+use Rattle.el_calls.specs.declared.refusal.Refusal.{Refusal}
 use Rattle.el_methods.specs.declared.stop.Stop.{Stop}
 use Rattle.el_methods.specs.declared.stop.Stop.TheVariants as stop
 use Rattle.el_methods.proofs.Found.{chosen, newest-append}
@@ -105,3 +108,19 @@ pub not_told : (files : ℕ → List ℕ) (chain : Chain) (id : Hash32) (s : Spo
 not_told files chain id s good has is (Ok answer) told same = absurd (cc)
 not_told files chain id s good has is (Err e) told same =
     of_transaction files chain id s good has is (told (let h : Err e ≡ Err stop.Changed = same in cc))
+
+-- and the bytes at its spot answer for it
+pub text_answers : (files : ℕ → List ℕ) (chain : Chain) (id : Hash32) (s : Spot) → HasTransaction files chain id
+    → find_tx chain id ≡ Some s → (given : Result Data Stop) → IfOk given (λ a. a ≡ hex (text_at s (files s.place.file)))
+    → IfErr given (λ e. (r : Refusal) → e ≡ stop.Refused r → ⊥) → IsAnswer (transaction_get chain [] id false) given
+text_answers files chain id s has is (Ok answer) text never =
+    let at = found chain s (newest id (positions chain)) is in
+    let P : Spot → Type 0 = λ q. answer ≡ hex (text_at q (files q.place.file)) in
+    let here : answer ≡ hex (text_at (spot_of at.0 at.2) (files at.2.file)) = subst P (sym at.4) text in
+    let whole : answer ≡ hex (full_encoding at.0.tx) = here ∙ ap hex (has at.0 at.2 at.1 at.3) in
+    rw (at.1, whole) refl
+text_answers files chain id s has is (Err (stop.Refused r)) text never = absurd (never r refl)
+text_answers files chain id s has is (Err stop.Disk) text never = tt
+text_answers files chain id s has is (Err stop.Archive) text never = tt
+text_answers files chain id s has is (Err stop.Changed) text never = tt
+text_answers files chain id s has is (Err stop.Memory) text never = tt

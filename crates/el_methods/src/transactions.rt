@@ -2,6 +2,7 @@
 ghost use Rattle.std.specs.Prelude.{◌≡◌, ◌≢◌, ◌+◌, ◌≤◌, ℕ, List, [], Some, None, true, false, IfOk, IfErr, IfSome, IfNone, Ok, Err};
 ghost use Rattle.el_outside.specs.Counts.{RoseBy};
 ghost use Rattle.el_outside.specs.Files.{AllGrow};
+ghost use Rattle.el_outside.specs.Seen.{seen};
 ghost use Rattle.el_chain.specs.Chains.{Chain};
 ghost use Rattle.el_chain.specs.declared.node.Spot as place;
 ghost use Rattle.el_files.specs.Reading.{text_at, IsOtherTx};
@@ -60,12 +61,12 @@ fn text_of<A: Archive>(
     id: Hash32,
 ) -> Result<Answer, Stop>
     ensures text { A.tells → IfOk result
-        (λ a. a ≡ hex (text_at spot.now (A.bytes archive.new spot.now.place.file))) }
+        (λ a. a ≡ hex (text_at spot.now (seen ⟦<A as Archive>⟧ archive.new spot.now.place.file))) }
     // Of that transaction, whatever the block files hold.
     ensures own { IfOk result (λ a. IsTextOf id a) }
     ensures never { IfErr result (λ e. (r : shape.Refusal) → e ≡ stop.Refused r → ⊥) }
     ensures changed { A.tells → IfErr result (λ e. e ≡ stop.Changed
-        → HasChanged spot.now id (A.bytes archive.new spot.now.place.file)) }
+        → HasChanged spot.now id (seen ⟦<A as Archive>⟧ archive.new spot.now.place.file)) }
     ensures printable { IsPrintableAnswer result }
     ensures grows { A.tells → AllGrow (A.bytes archive.old) (A.bytes archive.new) }
     ensures counted { IsCounted (λ n. n ≡ 0)
@@ -98,7 +99,7 @@ fn confirmed_get<G: Ledger, A: Archive>(
         → HasTransaction (A.bytes archive.new) chain id → result ≢ Err stop.Changed }
     ensures changed { (chain : Chain) → G.stands ledger.old chain → A.tells
         → IfErr result (λ e. e ≡ stop.Changed → (spot : place.Spot) × (find_tx chain id ≡ Some spot)
-        × HasChanged spot id (A.bytes archive.new spot.place.file)) }
+        × HasChanged spot id (seen ⟦<A as Archive>⟧ archive.new spot.place.file)) }
     ensures printable { IsPrintableAnswer result }
     ensures rows { (chain : Chain) → G.stands ledger.old chain
         → G.reads ledger.new ≤ G.reads ledger.old + (2 + txs_in_bucket chain (G.buckets ledger.old) id.0) }
@@ -155,7 +156,7 @@ pub fn transaction_get<G: Ledger, A: Archive>(
     // Only where the bytes that stand at the transaction's place are not its own.
     ensures changed { (chain : Chain) → G.stands ledger.old chain → A.tells
         → IfErr result (λ e. e ≡ stop.Changed → (spot : place.Spot) × (find_tx chain id ≡ Some spot)
-        × HasChanged spot id (A.bytes archive.new spot.place.file)) }
+        × HasChanged spot id (seen ⟦<A as Archive>⟧ archive.new spot.place.file)) }
     ensures printable { IsPrintableAnswer result }
     ensures rows { (chain : Chain) → G.stands ledger.old chain
         → G.reads ledger.new ≤ G.reads ledger.old + (2 + txs_in_bucket chain (G.buckets ledger.old) id.0) }

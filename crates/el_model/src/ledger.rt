@@ -9,7 +9,7 @@ ghost use Rattle.el_chain.specs.Faults.{IsGood};
 ghost use Rattle.el_chain.specs.History.{history};
 ghost use Rattle.el_model.specs.Queries as asked;
 ghost use Rattle.el_model.specs.Queries.{height_of, tip_of, header_at, place_at, hashes_to, txids_at, blocks_in};
-ghost use Rattle.el_chain.specs.Moves.{target, IsPlan, FitsChain, Moves, IsRefused, InFlight, last_hash};
+ghost use Rattle.el_chain.specs.Moves.{target, IsPlan, FitsChain, Moves, StoodAt, IsRefused, InFlight, last_hash};
 ghost use Rattle.el_chain.specs.Touches.{AreTouched};
 ghost use Rattle.el_model.specs.Keeping.{Quiet, Either};
 ghost use Rattle.el_chain.specs.declared.moves.MoveFault.TheVariants as stop;
@@ -211,7 +211,8 @@ pub trait Ledger {
         // The ledger then stands for the target, and a crash since the start may have left the old chain or
         // the target.
         ensures moved { (chain : Chain) → stands self.old chain → IfOk result (λ m. (blocks : Chain)
-            × Moves A.tells (A.bytes archive.new) chain plan.now blocks
+            × Moves (StoodAt ⟦<A as Archive>⟧ (A.bytes archive.old) (A.bytes archive.new))
+            chain plan.now blocks
             × stands self.new (target plan.now chain blocks)
             × AreTouched plan.now chain blocks m.touched
             × (tells_crash → LeavesOnly moment left_since self.old self.new
@@ -225,7 +226,8 @@ pub trait Ledger {
             ≡ (blocks_in (height self.old) - plan.now.back) + length plan.now.forward) }
         ensures live { OnOk result (is_live self.new) }
         ensures refused { (chain : Chain) → stands self.old chain
-            → IfErr result (IsRefused A.tells (A.bytes archive.new) chain plan.now) }
+            → IfErr result (IsRefused
+            (StoodAt ⟦<A as Archive>⟧ (A.bytes archive.old) (A.bytes archive.new)) chain plan.now) }
         // After any other refusal it is as it was, and a crash leaves the old chain alone.
         ensures unchanged { IfErr result (λ e. e ≢ stop.DiskFailed
             → Quiet is_live height tip buckets stands
@@ -233,7 +235,8 @@ pub trait Ledger {
         // Whatever it answers, the files beside the ledger's own stay.
         ensures beside { tells_crash → beside self.new ≡ beside self.old }
         ensures crash_failed { (chain : Chain) → stands self.old chain → IsErrOf result MoveFault.DiskFailed
-            → (next : Chain) × InFlight A.tells (A.bytes archive.new) chain plan.now next
+            → (next : Chain) × InFlight
+            (StoodAt ⟦<A as Archive>⟧ (A.bytes archive.old) (A.bytes archive.new)) chain plan.now next
             × (tells_crash → LeavesOnly moment left_since self.old self.new (Either means chain next)) }
         ensures cause { CountsOnly (faults self.old) (faults self.new) MoveFault.DiskFailed result }
         // Each block is read once at most.

@@ -2,7 +2,7 @@
 ghost use Rattle.std.specs.Prelude.{◌≡◌, ◌≤◌, ◌+◌, length, IfOk, IfErr};
 ghost use Rattle.std.specs.List.{AllByRecursion};
 ghost use Rattle.el_outside.specs.Counts.{OnlyReads};
-ghost use Rattle.el_chain.specs.Moves.{AreRead, body_of};
+ghost use Rattle.el_chain.specs.Moves.{AreRead, StoodAt};
 ghost use Rattle.el_chain.specs.Records.{IsNode, IsBlockOf};
 ghost use Rattle.el_model.specs.within.Reading.{IsUnreadOne, IsUnread, unread_as};
 
@@ -26,8 +26,10 @@ fn unread(fault: ReadFault) -> MoveFault
 fn read_one<A: Archive>(alloc: Global, archive: &mut A, node: &Node) -> Result<Bytes, MoveFault>
     requires { IsNode node.now }
     ensures read { IfOk result (λ text. IsBlockOf node.now text) }
-    ensures told { A.tells → IfOk result (λ text. text ≡ body_of (A.bytes archive.new) node.now) }
-    ensures unread { IfErr result (IsUnreadOne A.tells (A.bytes archive.new) node.now) }
+    ensures told { IfOk result
+        (StoodAt ⟦<A as Archive>⟧ (A.bytes archive.old) (A.bytes archive.new) node.now) }
+    ensures unread { IfErr result
+        (IsUnreadOne (StoodAt ⟦<A as Archive>⟧ (A.bytes archive.old) (A.bytes archive.new)) node.now) }
     ensures calls { A.calls archive.new ≤ A.calls archive.old + 1 }
     ensures only_reads { OnlyReads A.tells (A.bytes archive.old) (A.bytes archive.new)
         (A.faults archive.old) (A.faults archive.new) MoveFault.ArchiveFailed result }
@@ -45,8 +47,10 @@ pub fn read_all<A: Archive>(
     nodes: &[Node],
 ) -> Result<Vec<Bytes>, MoveFault>
     requires { AllByRecursion IsNode nodes.now }
-    ensures read { IfOk result (λ texts. AreRead A.tells (A.bytes archive.new) nodes.now texts.items) }
-    ensures unread { IfErr result (IsUnread A.tells (A.bytes archive.new) nodes.now) }
+    ensures read { IfOk result (λ texts. AreRead
+        (StoodAt ⟦<A as Archive>⟧ (A.bytes archive.old) (A.bytes archive.new)) nodes.now texts.items) }
+    ensures unread { IfErr result
+        (IsUnread (StoodAt ⟦<A as Archive>⟧ (A.bytes archive.old) (A.bytes archive.new)) nodes.now) }
     // Each is read once.
     ensures calls { A.calls archive.new ≤ A.calls archive.old + length nodes.now }
     ensures only_reads { OnlyReads A.tells (A.bytes archive.old) (A.bytes archive.new)

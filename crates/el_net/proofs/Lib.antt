@@ -1,1 +1,2 @@
 mod Unmasking
+mod Unpadding

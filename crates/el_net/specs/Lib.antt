@@ -1,3 +1,4 @@
 pub mod Devices
 pub mod Masks
 pub mod Paths
+pub mod Unpadded

@@ -1,13 +1,13 @@
 // The files of an archive as a folder.
-ghost use Rattle.std.specs.Prelude.{◌≡◌};
+ghost use Rattle.std.specs.Prelude.{◌≡◌, ℕ, []};
 
 use crate::folder::Folder;
 use el_outside::Archive;
 use std::io;
 use std::io::ErrorKind;
 
-/// The files of any archive as a folder of block files. One in memory makes a folder in memory, which tells:
-/// so the clauses of `Folder` can be met with content.
+/// The files of any archive as a folder of block files. It tells where the archive does and has no padding.
+/// So one in memory makes a folder in memory, and the clauses of `Folder` can be met with content.
 #[derive(Drop)]
 pub struct ArchiveFolder<A: Archive> {
     /// The archive.
@@ -19,15 +19,18 @@ fn failed() -> io::Error {
 }
 
 impl<A: Archive + Drop> Folder for ArchiveFolder<A> {
+    ghost use Rattle.el_net.specs.Unpadded.{IsUnpadded, none_written};
+
     type File = u32;
 
-    ghost tells = { A.tells };
+    ghost tells = { A.tells × IsUnpadded ⟦<A as Archive>⟧ };
 
     ghost bytes = { λ folder. A.bytes folder.archive };
 
     ghost file_count = { λ folder. A.file_count folder.archive };
 
-    ghost none_after = { λ folder file told after. A.none_after folder.archive file told after };
+    ghost none_after = { λ folder file told after. none_written (A.bytes folder.archive file)
+        (A.padding folder.archive file) (A.none_after folder.archive file told.0 after) };
 
     ghost is_file = { λ it file. it ≡ file };
 

@@ -235,17 +235,19 @@ impl<F: Folder + Drop> BlockFiles<F> {
 }
 
 impl<F: Folder + Drop> Archive for BlockFiles<F> {
-    ghost use Rattle.std.proofs.Common.{ap};
+    ghost use Rattle.std.proofs.Common.{ap, ◌++◌};
     ghost use Rattle.el_net.specs.Devices.{read_with};
 
     ghost tells = { F.tells };
 
     ghost bytes = { λ files n. read_with files.mask (F.bytes files.folder n) };
 
+    ghost padding = { λ files n. [] };
+
     ghost file_count = { λ files. F.file_count files.folder };
 
     ghost none_after = { λ files n told after.
-        ap (λ bytes. read_with files.mask bytes) (F.none_after files.folder n told after) };
+        ap (λ bytes. read_with files.mask bytes ++ []) (F.none_after files.folder n told after) };
 
     ghost gave = { λ file at bytes. Unit {0} };
 

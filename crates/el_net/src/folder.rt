@@ -8,7 +8,8 @@ use std::io;
 
 /// The block files of a folder by number, from 0 on, each call as the system makes it: a read may give a part
 /// of what it is asked for, and a signal may interrupt it. Others write to the files meanwhile: they may gain
-/// more after the bytes that they have. A file that isn't there has no bytes.
+/// more after the bytes that they have. A file that isn't there has no bytes. Where a folder tells, nothing
+/// is made ahead in its files: what is read in parts is read at several moments.
 pub trait Folder {
     ghost use Rattle.std.specs.Prelude.{◌≡◌, ◌≤◌, ℕ, List, []};
 

@@ -26,6 +26,8 @@ impl Archive for NoFiles {
 
     ghost bytes = { λ files n. [] };
 
+    ghost padding = { λ files n. [] };
+
     ghost file_count = { λ files. 0 };
 
     ghost none_after = { λ files n told after. refl };

@@ -31,6 +31,10 @@ grows_none xs = ([], sym (append-nil xs))
 pub grows_more : (xs ys zs : List ℕ) → Grows xs ys → Grows ys zs → Grows xs zs
 grows_more xs ys zs (a, h) (b, k) = (a ++ b, rw (k, h) (append_assoc xs a b))
 
+-- what stands after bytes is more of them
+pub grows_by : (xs more : List ℕ) → Grows xs (xs ++ more)
+grows_by xs more = (more, refl)
+
 pub all_grow_none : (f : ℕ → List ℕ) → AllGrow f f
 all_grow_none f = λ n. grows_none (f n)
 

@@ -20,12 +20,12 @@ use Rattle.el_chain.specs.Coins.{coins}
 use Rattle.el_chain.specs.Moves.{IsPlan, AreRead, AreBlocks, AreNextBlocks, Moves, target, shorter, last_hash}
 use Rattle.el_chain.specs.Touches.{Touch, AreTouched}
 
-pub plain_moved : (tells : Type 0) (files : ℕ → List ℕ) (old new : Chain) (p : Plan) (texts : List (List ℕ)) (nodes : List Node) (scripts : List Hash32) → nodes ≡ p.forward
-    → AreRead tells files nodes texts
+pub plain_moved : (stood : Node → List ℕ → Type 0) (old new : Chain) (p : Plan) (texts : List (List ℕ)) (nodes : List Node) (scripts : List Hash32) → nodes ≡ p.forward
+    → AreRead stood nodes texts
     → (fresh : Chain) × (new ≡ shorter p.back old ++ fresh) × AreNextBlocks (shorter p.back old) nodes texts fresh
     × Touch scripts (coins (shorter p.back old)) (drop (length old - p.back) old ++ fresh) → AllDiffer scripts
-    → (blocks : Chain) × Moves tells files old p blocks × (new ≡ target p old blocks) × AreTouched p old blocks scripts
-plain_moved tells files old new p texts nodes scripts same read (fresh, is, next, touch) once = (
+    → (blocks : Chain) × Moves stood old p blocks × (new ≡ target p old blocks) × AreTouched p old blocks scripts
+plain_moved stood old new p texts nodes scripts same read (fresh, is, next, touch) once = (
   fresh,
   record { texts = texts; read = rw same at read; blocks_are = rw same at next },
   is,
@@ -44,22 +44,22 @@ none_joined (n ∷ ns) (t ∷ ts) [] (b ∷ bs) are some e = cc
 none_joined (n ∷ ns) (t ∷ ts) (x ∷ a) (b ∷ bs) are some e = cc
 
 -- the tip is then the last node's
-pub plain_last : (tells : Type 0) (files : ℕ → List ℕ) (base new : Chain) (p : Plan) (texts : List (List ℕ)) (nodes : List Node) (P : Chain → Type 0) → IsPlan p → nodes ≡ p.forward
-    → AreRead tells files nodes texts → (fresh : Chain) × (new ≡ base ++ fresh) × AreNextBlocks base nodes texts fresh × P fresh → (p.forward ≡ [] → ⊥)
+pub plain_last : (stood : Node → List ℕ → Type 0) (base new : Chain) (p : Plan) (texts : List (List ℕ)) (nodes : List Node) (P : Chain → Type 0) → IsPlan p → nodes ≡ p.forward
+    → AreRead stood nodes texts → (fresh : Chain) × (new ≡ base ++ fresh) × AreNextBlocks base nodes texts fresh × P fresh → (p.forward ≡ [] → ⊥)
     → tip_of new ≡ Some (last_hash zero_hash p.forward)
-plain_last tells files base new p texts nodes P plan same read (fresh, is, next, touch) some =
+plain_last stood base new p texts nodes P plan same read (fresh, is, next, touch) some =
     let of = rw same at read.of in
     let are = rw same at next.are in
     rw is (some_tip (base ++ fresh) (none_joined p.forward texts base fresh are some)
     ∙ ap Some (tip_joined zero_hash base fresh ∙ blocks_tip (tip base) p.forward texts fresh plan.nodes of are ∙ last_any (tip base) zero_hash p.forward some))
 
 -- what it stands for then
-pub plain_went : (X : Chain → Chain → Type 0) (r : Result Moved MoveFault) (tells : Type 0) (files : ℕ → List ℕ) (old new : Chain) (p : Plan) → IsGood new
-    → IfOk r (λ m. (blocks : Chain) × Moves tells files old p blocks × (new ≡ target p old blocks) × AreTouched p old blocks m.touched)
+pub plain_went : (X : Chain → Chain → Type 0) (r : Result Moved MoveFault) (stood : Node → List ℕ → Type 0) (old new : Chain) (p : Plan) → IsGood new
+    → IfOk r (λ m. (blocks : Chain) × Moves stood old p blocks × (new ≡ target p old blocks) × AreTouched p old blocks m.touched)
     → (chain : Chain) → IsPlain old chain
-    → IfOk r (λ m. (blocks : Chain) × Moves tells files chain p blocks × IsPlain new (target p chain blocks) × AreTouched p chain blocks m.touched × (⊥ → X chain blocks))
-plain_went X (Err e) tells files old new p good h chain plain = tt
-plain_went X (Ok m) tells files old new p good (blocks, moves, is, touched) chain plain = (
+    → IfOk r (λ m. (blocks : Chain) × Moves stood chain p blocks × IsPlain new (target p chain blocks) × AreTouched p chain blocks m.touched × (⊥ → X chain blocks))
+plain_went X (Err e) stood old new p good h chain plain = tt
+plain_went X (Ok m) stood old new p good (blocks, moves, is, touched) chain plain = (
   blocks,
   rw plain.is at moves,
   record { is = rw plain.is at is; good = rw (← plain.is, ← is) good },

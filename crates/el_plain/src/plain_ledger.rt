@@ -4,7 +4,7 @@ ghost use Rattle.el_outside.specs.Counts.{OnlyReads};
 ghost use Rattle.el_block.specs.Blocks.{HasBlockEncoding};
 ghost use Rattle.el_chain.specs.Chains.{Chain, tip, zero_hash};
 ghost use Rattle.el_chain.specs.Faults.{fault, IsGood};
-ghost use Rattle.el_chain.specs.Moves.{IsPlan, FitsChain, Moves, IsRefused, target, last_hash};
+ghost use Rattle.el_chain.specs.Moves.{IsPlan, FitsChain, Moves, IsRefused, target, last_hash, StoodAt};
 ghost use Rattle.el_chain.specs.Touches.{AreTouched};
 ghost use Rattle.el_model.specs.Queries.{blocks_in, height_of, tip_of};
 
@@ -112,14 +112,16 @@ impl PlainLedger {
         requires plan { IsPlan plan.now }
         requires fits { FitsChain plan.now self.old }
         ensures moved { IfOk result (λ m. (blocks : Chain)
-            × Moves A.tells (A.bytes archive.new) self.old plan.now blocks
-            × (self.new ≡ target plan.now self.old blocks) × AreTouched plan.now self.old blocks m.touched) }
+            × Moves (StoodAt ⟦<A as Archive>⟧ (A.bytes archive.old) (A.bytes archive.new))
+            self.old plan.now blocks × (self.new ≡ target plan.now self.old blocks)
+            × AreTouched plan.now self.old blocks m.touched) }
         ensures answer { IfOk result (λ m. (m.tip ≡ tip_of self.new) × (m.height ≡ height_of self.new)) }
         ensures last { IfOk result (λ m. plan.now.forward ≢ []
             → tip_of self.new ≡ Some (last_hash zero_hash plan.now.forward)) }
         ensures top { IfOk result (λ m. blocks_in m.height
             ≡ (blocks_in (height_of self.old) - plan.now.back) + length plan.now.forward) }
-        ensures refused { IfErr result (IsRefused A.tells (A.bytes archive.new) self.old plan.now) }
+        ensures refused { IfErr result (IsRefused
+            (StoodAt ⟦<A as Archive>⟧ (A.bytes archive.old) (A.bytes archive.new)) self.old plan.now) }
         // There is no device of an index that could fail.
         ensures no_disk { IfErr result (λ e. e ≢ MoveFault.DiskFailed) }
         ensures unchanged { OnErr result (self.new ≡ self.old) }

@@ -1,12 +1,13 @@
 -- The chain of file 0, record by record.
-use Rattle.std.proofs.Common.{◌≡◌, ℕ, ◌+◌, ◌<◌, ◌≤◌, List, [], ◌∷◌, ◌++◌, length, take, drop, map, get_or, refl, sym, ap, ◌∙◌, arith, append_assoc, append-nil, take_all, length-drop, length-take, Option, None, Some}
-use Rattle.std.specs.Prelude.{option_map}
+use Rattle.std.proofs.Common.{◌≡◌, ℕ, ◌+◌, ◌<◌, ◌≤◌, List, [], ◌∷◌, ◌++◌, length, take, drop, map, get_or, refl, sym, ap, subst, ◌∙◌, arith, append_assoc, append-nil, take_all, length-drop, length-take, Option, None, Some}
+use Rattle.std.specs.Prelude.{option_map, IfOk, Result, Ok, Err}
 use Rattle.std.specs.List.{AllByRecursion}
-use Rattle.std.proofs.lemmas.List.{drop-drop, take-append-drop, take_at, take-take, take_more, drop_more, map-append, length-take-le}
-use Rattle.el_base.proofs.Lists.{all_append, all_at}
-use Rattle.el_outside.specs.Files.{Grows, AllGrow, IsFile}
-use Rattle.el_outside.proofs.Traces.{grows_more, all_grow_more}
-use Rattle.el_outside.proofs.Calls.{HasRead, has_then}
+use Rattle.std.proofs.lemmas.List.{drop-drop, take-append-drop, take_at, take-take, take_more, drop_more, length-take-le}
+use Rattle.el_outside.specs.Files.{Grows, AllGrow}
+use Rattle.el_outside.specs.declared.archive.Archive as block_files
+use Rattle.el_outside.specs.Seen.{seen}
+use Rattle.el_outside.proofs.Traces.{grows_more, grows_by, all_grow_none}
+use Rattle.el_outside.proofs.Calls.{HasRead, has_none, has_then}
 use Rattle.el_outside.specs.declared.archive.Place.{Place}
 use Rattle.el_tx.specs.Headers.{header_encoding, header_of}
 use Rattle.el_tx.specs.Encoding.{counted}
@@ -29,7 +30,13 @@ use Rattle.el_chain.specs.declared.read_fault.ReadFault.{ReadFault}
 use Rattle.el_chain.specs.declared.read_fault.ReadFault.TheVariants as reading
 use Rattle.el_program.specs.declared.file.FileFault.TheVariants as fault
 use Rattle.el_program.specs.within.Unread.{read_fault}
-use Rattle.el_program.specs.File.{GivesNoChain}
+use Rattle.el_chain.specs.Moves.{AllStood, AreBlocks, AreNextBlocks, AreRead, StoodAt}
+use Rattle.el_model.proofs.ReadBodies.{stood_longer, read_longer, read_more}
+use Rattle.el_program.specs.declared.file.FileFault.{FileFault}
+use Rattle.el_files.proofs.Scans.{scanned_without}
+use Rattle.el_program.specs.Ends.{IsBadFile}
+use Rattle.el_program.specs.Opened.{IsRead}
+use Rattle.el_program.specs.File.{GivesNoChain, HasBadBlock, IsChainOf, WasFile}
 
 -- what a node has of its file and header
 node_parts : (file place : ℕ) (header : List ℕ) (size : Option ℕ) (n : Node)
@@ -90,38 +97,12 @@ chain_places chain = map (λ (b : Placed). b.place) chain
 abbrev pub node_places : List Node → List Place
 node_places nodes = map (λ (n : Node). n.place) nodes
 
--- the blocks of these nodes are the chain
-pub record Taken (tells : Type 0) (file : List ℕ) (nodes : List Node) (chain : Chain) : Type 0 where
-  pub good : IsGood chain
-  pub places : chain_places chain ≡ node_places nodes
-  pub bodies : tells → AllByRecursion (IsBodyIn file) chain
-
-pub taken_none : (tells : Type 0) (file : List ℕ) → Taken tells file [] []
-taken_none tells file = record { good = record { each = tt }; places = refl; bodies = λ t. tt }
-
 -- each block of a chain may stand after those before it
 next_at : (before front after : Chain) (b : Placed) → AreNext before (front ++ b ∷ after)
     → IsNext (before ++ front) b.block
 next_at before [] after b all = rw (append-nil before) all.0
 next_at before (c ∷ front) after b all =
     rw (← append_assoc before (c ∷ []) front) (next_at (before ++ c ∷ []) front after b all.1)
-
-taken_more : (tells : Type 0) (file : List ℕ) (nodes : List Node) (i : ℕ) (d : Node) (chain next : Chain)
-    (b : Placed)
-    → Taken tells file (take i nodes) chain → i < length nodes → b.place ≡ (get_or nodes i d).place
-    → next ≡ chain ++ b ∷ []
-    → IsNext chain b.block → (tells → IsBodyIn file b) → Taken tells file (take (i + 1) nodes) next
-taken_more tells file nodes i d chain next b taken lt same e follows body =
-    let n = get_or nodes i d in
-    let one : take (i + 1) nodes ≡ take i nodes ++ n ∷ [] = take_more nodes i d lt in
-    rw (e, one) (record {
-      good = record { each = next_more [] chain b taken.good.each follows };
-      places = map-append (λ (p : Placed). p.place) chain (b ∷ [])
-          ∙ ap (λ (ps : List Place). ps ++ b.place ∷ []) taken.places
-          ∙ ap (λ (p : Place). node_places (take i nodes) ++ p ∷ []) same
-          ∙ sym (map-append (λ (m : Node). m.place) (take i nodes) (n ∷ []));
-      bodies = λ t. all_append (IsBodyIn file) chain (b ∷ []) (taken.bodies t) (body t, tt);
-    })
 
 -- what a chain of the same places goes on with after the blocks that were taken
 pub record GoesOnWith (file : List ℕ) (chain taken : Chain) (n : Node) : Type 0 where
@@ -171,105 +152,173 @@ split_at : {X : Type 0} (xs : List X) (i : ℕ) (d : X) → i < length xs → xs
 split_at {X} xs i d lt = sym (take-append-drop i xs) ∙ ap (λ (t : List X). take i xs ++ t)
     (drop_more xs i d lt)
 
--- the node at the index is that of a record
-record_in : (magic file : List ℕ) (nodes : List Node) (i : ℕ) (d : Node) → nodes ≡ records magic 0 file
-    → i < length nodes
-    → IsRecordIn magic 0 file (get_or nodes i d)
-record_in magic file nodes i d are lt =
-    all_at (IsRecordIn magic 0 file) nodes i d (rw are (records_stand magic file 0)) lt
+-- ---- what the records of a file give, where their blocks are read of it later
 
--- its block's bytes are still there
-body_same : (magic file : List ℕ) (nodes : List Node) (i : ℕ) (d : Node) (now : ℕ → List ℕ)
-    → nodes ≡ records magic 0 file → i < length nodes
-    → Grows file (now 0) → block_at (get_or nodes i d).place (now (get_or nodes i d).place.file) ≡ block_at
-    (get_or nodes i d).place file
-body_same magic file nodes i d now are lt grows =
-    let n = get_or nodes i d in
-    let r = record_in magic file nodes i d are lt in
-    ap (λ (k : ℕ). block_at n.place (now k)) (parts_in magic file n r).0
-    ∙ block_stays file (now 0) n.place grows (stands_within magic file 0 n r)
+module _ {A : Type 0} (of_files : block_files.Ghosts A) (mid after : ℕ → List ℕ) (magic file : List ℕ) (told : of_files.tells) (kept : Grows file (mid 0)) where
+  -- the bytes of a record's block are those that the file has there
+  stood_in : (n : Node) (t : List ℕ) → IsRecordIn magic 0 file n → StoodAt of_files mid after n t → t ≡ block_at n.place file
+  stood_in n t r stood =
+      let s = stood told in
+      let w = s.1 in
+      let first : n.place.file ≡ 0 = (parts_in magic file n r).0 in
+      let written = of_files.bytes w.archive 0 in
+      let grown : Grows file (seen of_files w.archive 0) =
+      grows_more file written (seen of_files w.archive 0) (grows_more file (mid 0) written kept (w.between.grew 0)) (grows_by written (of_files.padding w.archive 0)) in
+      let is : s.0 ≡ seen of_files w.archive 0 = w.is ∙ ap (seen of_files w.archive) first in
+      s.2 ∙ ap (block_at n.place) is ∙ block_stays file (seen of_files w.archive 0) n.place grown (stands_within magic file 0 n r)
 
--- where the next record's block can't stand after those that were taken, the file gives no chain
-refused : (tells : Type 0) (magic file : List ℕ) (nodes : List Node) (i : ℕ) (d : Node) (taken : Chain)
-    → tells → nodes ≡ records magic 0 file
-    → Taken tells file (take i nodes) taken → i < length nodes
-    → ((b : Block) → IsBlockOf (get_or nodes i d) (block_at (get_or nodes i d).place file)
-    → EncodesBlock (block_at (get_or nodes i d).place file) b → IsNext taken b → ⊥)
-    → GivesNoChain magic file
-refused tells magic file nodes i d taken told are t lt none = λ chain gives.
-    let n = get_or nodes i d in
-    let split = split_at nodes i d lt in
-    let with_n = goes_on file taken chain (take i nodes) n (drop (i + 1) nodes) t.places
-    (gives.places ∙ ap node_places (sym are ∙ split)) (t.bodies told) gives.bodies in
-    let encoded : EncodesBlock (block_at n.place file) with_n.block.block = rw with_n.place at with_n.body in
-    none with_n.block.block (record_block magic file n with_n.block.block
-    (record_in magic file nodes i d are lt) encoded) encoded
-    (next_at [] taken with_n.rest with_n.block (rw with_n.whole at gives.good.each))
+  all_in : (ns : List Node) (ts : List (List ℕ)) (bs : Chain) → AllByRecursion (IsRecordIn magic 0 file) ns → AllStood (StoodAt of_files mid after) ns ts → AreBlocks ns ts bs
+      → AllByRecursion (IsBodyIn file) bs × (chain_places bs ≡ node_places ns)
+  all_in [] [] [] stand stood are = (tt, refl)
+  all_in [] [] (b ∷ bs) stand stood are = absurd are
+  all_in [] (t ∷ ts) bs stand stood are = absurd stood
+  all_in (n ∷ ns) [] bs stand stood are = absurd stood
+  all_in (n ∷ ns) (t ∷ ts) [] stand stood are = absurd are
+  all_in (n ∷ ns) (t ∷ ts) (b ∷ bs) stand stood are =
+      let rest = all_in ns ts bs stand.1 stood.1 are.2 in
+      let place : b.place ≡ n.place = are.0 in
+      let read : t ≡ block_at b.place file = stood_in n t stand.0 stood.0 ∙ ap (λ p. block_at p file) (sym place) in (
+        (subst (λ bytes. EncodesBlock bytes b.block) read are.1, rest.0),
+        both_places b.place n.place (chain_places bs) (node_places ns) place rest.1,
+      )
+    where
+      both_places : (p q : Place) (ps qs : List Place) → p ≡ q → ps ≡ qs → p ∷ ps ≡ q ∷ qs
+      both_places p q ps qs e f = cc
 
--- all records' blocks are the chain that the file gives
-pub given : (tells : Type 0) (magic file : List ℕ) (nodes : List Node) (n : ℕ) (chain : Chain) → tells
-    → nodes ≡ records magic 0 file → length nodes ≤ n
-    → Taken tells file (take n nodes) chain → GivesChain magic 0 file chain
-given tells magic file nodes n chain told are all t = record {
-  places = t.places ∙ ap node_places (take_all n nodes all ∙ are);
-  bodies = t.bodies told;
-  good = t.good;
+  -- a chain of them is the one that the file gives
+  pub chain_given : (nodes : List Node) (chain : Chain) → nodes ≡ records magic 0 file → IsGood chain → IsChainOf (StoodAt of_files mid after) nodes chain → GivesChain magic 0 file chain
+  chain_given nodes chain are good m =
+      let stand : AllByRecursion (IsRecordIn magic 0 file) nodes = rw are (records_stand magic file 0) in
+      let all = all_in nodes m.texts chain stand m.read.told m.blocks_are.are in
+      record { places = all.1 ∙ ap node_places are; bodies = all.0; good = good }
+
+  -- and where one of them can't stand, it gives none
+  pub none_given : (nodes : List Node) → nodes ≡ records magic 0 file → HasBadBlock (StoodAt of_files mid after) nodes → GivesNoChain magic file
+  none_given nodes are h = λ chain gives.
+      let stand : AllByRecursion (IsRecordIn magic 0 file) (h.front ++ h.node ∷ h.after) = rw (← h.whole, are) (records_stand magic file 0) in
+      let before = all_in h.front h.texts h.blocks (front_of h.front (h.node ∷ h.after) stand) h.read.told h.before.are in
+      let here : IsRecordIn magic 0 file h.node = (back_of h.front (h.node ∷ h.after) stand).0 in
+      let with_n = goes_on file h.blocks chain h.front h.node h.after before.1 (gives.places ∙ ap node_places (sym are ∙ h.whole)) before.0 gives.bodies in
+      let encoded : EncodesBlock (block_at h.node.place file) with_n.block.block = rw with_n.place at with_n.body in
+      let same : h.text ≡ block_at h.node.place file = stood_in h.node h.text here h.told in
+      h.bad with_n.block.block
+      (subst (IsBlockOf h.node) (sym same) (record_block magic file h.node with_n.block.block here encoded))
+      (subst (λ bytes. EncodesBlock bytes with_n.block.block) (sym same) encoded)
+      (next_at [] h.blocks with_n.rest with_n.block (rw with_n.whole at gives.good.each))
+    where
+      front_of : (xs ys : List Node) → AllByRecursion (IsRecordIn magic 0 file) (xs ++ ys) → AllByRecursion (IsRecordIn magic 0 file) xs
+      front_of [] ys all = tt
+      front_of (x ∷ xs) ys all = (all.0, front_of xs ys all.1)
+
+      back_of : (xs ys : List Node) → AllByRecursion (IsRecordIn magic 0 file) (xs ++ ys) → AllByRecursion (IsRecordIn magic 0 file) ys
+      back_of [] ys all = all
+      back_of (x ∷ xs) ys all = back_of xs ys all.1
+
+-- over block files without padding
+pub unpadded_gives : {A : Type 0} (of_files : block_files.Ghosts A) (before after : ℕ → List ℕ) (magic : List ℕ) (nodes : List Node) (chain : Chain) → of_files.tells
+    → ((archive : A) → of_files.padding archive 0 ≡ []) → IsRead of_files before after magic nodes chain
+    → (file : List ℕ) × WasFile before after file × GivesChain magic 0 file chain × (nodes ≡ records magic 0 file)
+unpadded_gives of_files before after magic nodes chain told none r =
+    let s = scanned_without of_files before r.scanned magic 0 nodes none (r.of_file told) in (
+      s.0,
+      record { grew = s.1; grows = grows_more s.0 (r.scanned 0) (after 0) s.2 (r.grows told 0) },
+      chain_given of_files r.scanned after magic s.0 told s.2 nodes chain s.3 r.good r.blocks,
+      s.3,
+    )
+
+pub unpadded_none : {A : Type 0} (of_files : block_files.Ghosts A) (before after : ℕ → List ℕ) (magic : List ℕ) → of_files.tells
+    → ((archive : A) → of_files.padding archive 0 ≡ []) → IsBadFile of_files magic before after → (file : List ℕ) × WasFile before after file × GivesNoChain magic file
+unpadded_none of_files before after magic told none (nodes, scanned, of_file, grows, bad) =
+    let s = scanned_without of_files before scanned magic 0 nodes none (of_file told) in (
+      s.0,
+      record { grew = s.1; grows = grows_more s.0 (scanned 0) (after 0) s.2 (grows told 0) },
+      none_given of_files scanned after magic s.0 told s.2 nodes s.3 bad,
+    )
+
+-- ---- the blocks of the records, one after the other
+
+-- blocks are put after a chain one by one
+blocks_more : (ns : List Node) (ts : List (List ℕ)) (bs : Chain) (n : Node) (t : List ℕ) (b : Placed) → AreBlocks ns ts bs → b.place ≡ n.place → EncodesBlock t b.block
+    → AreBlocks (ns ++ n ∷ []) (ts ++ t ∷ []) (bs ++ b ∷ [])
+blocks_more [] [] [] n t b are place encodes = (place, encodes, tt)
+blocks_more [] [] (c ∷ cs) n t b are place encodes = absurd are
+blocks_more [] (u ∷ ts) bs n t b are place encodes = absurd are
+blocks_more (m ∷ ns) [] bs n t b are place encodes = absurd are
+blocks_more (m ∷ ns) (u ∷ ts) [] n t b are place encodes = absurd are
+blocks_more (m ∷ ns) (u ∷ ts) (c ∷ cs) n t b are place encodes = (are.0, are.1, blocks_more ns ts cs n t b are.2 place encodes)
+
+-- What the loop keeps: the blocks of the first records, as many as were passed, were put in.
+pub record Round {A : Type 0} (of_files : block_files.Ghosts A) (before now : A) (nodes : List Node) (i : ℕ) (chain : Chain) : Type 0 where
+  pub good : IsGood chain
+  pub texts : List (List ℕ)
+  pub stood : AreRead (StoodAt of_files (of_files.bytes before) (of_files.bytes now)) (take i nodes) texts
+  pub next : AreNextBlocks [] (take i nodes) texts chain
+  pub read : HasRead of_files.tells (of_files.bytes before) (of_files.bytes now) (of_files.faults before) (of_files.faults now)
+
+pub round_none : {A : Type 0} (of_files : block_files.Ghosts A) (before : A) (nodes : List Node) → Round of_files before before nodes 0 []
+round_none of_files before nodes = record {
+  good = record { each = tt };
+  texts = [];
+  stood = record { of = tt; told = tt };
+  next = record { are = tt; next = tt };
+  read = has_none of_files.tells (of_files.bytes before) (of_files.faults before);
 }
 
--- What the loop keeps: the blocks of the first records, as many as were passed, were taken,
--- whatever file has these records.
-pub record Round (tells : Type 0) (magic : List ℕ) (before now : ℕ → List ℕ) (low high : ℕ)
-    (nodes : List Node) (i : ℕ) (chain : Chain) : Type 0 where
-  pub good : IsGood chain
-  pub taken : (file : List ℕ) → (tells → nodes ≡ records magic 0 file) → (tells → Grows file (before 0))
-      → Taken tells file (take i nodes) chain
-  pub read : HasRead tells before now low high
-
 -- one record more was taken
-pub round_more : (tells : Type 0) (magic : List ℕ) (before now next : ℕ → List ℕ) (low high higher : ℕ)
-    (nodes : List Node) (i : ℕ) (d : Node) (chain longer : Chain)
-    (block : Block) → Round tells magic before now low high nodes i chain → i < length nodes
-    → HasRead tells now next high higher
+pub round_more : {A : Type 0} (of_files : block_files.Ghosts A) (before now later : A) (nodes : List Node) (i : ℕ) (d : Node) (chain longer : Chain) (block : Block)
+    → Round of_files before now nodes i chain → i < length nodes
+    → HasRead of_files.tells (of_files.bytes now) (of_files.bytes later) (of_files.faults now) (of_files.faults later)
     → longer ≡ chain ++ record { block = block; place = (get_or nodes i d).place } ∷ [] → IsNext chain block
-    → (tells → EncodesBlock (block_at (get_or nodes i d).place (next (get_or nodes i d).place.file)) block)
-    → Round tells magic before next low higher nodes (i + 1) longer
-round_more tells magic before now next low high higher nodes i d chain longer block r lt read is follows
-    encoded =
+    → (text : List ℕ) × IsBlockOf (get_or nodes i d) text × StoodAt of_files (of_files.bytes now) (of_files.bytes later) (get_or nodes i d) text × EncodesBlock text block
+    → Round of_files before later nodes (i + 1) longer
+round_more of_files before now later nodes i d chain longer block r lt read is follows (text, of, stood, encodes) =
+    let n = get_or nodes i d in
     let all = has_then r.read read in
-    record {
-      good = rw is (record {
-        each = next_more [] chain
-            (record { block = block; place = (get_or nodes i d).place }) r.good.each follows;
-      });
-      taken = λ file are front.
-          taken_more tells file nodes i d chain longer
-          (record { block = block; place = (get_or nodes i d).place }) (r.taken file are front) lt refl is
-          follows
-          (λ t. rw (← body_same magic file nodes i d next (are t) lt
-          (grows_more file (before 0) (next 0) (front t) (all.keeps t 0))) (encoded t));
+    let one : take (i + 1) nodes ≡ take i nodes ++ n ∷ [] = take_more nodes i d lt in
+    let b : Placed = record { block = block; place = n.place } in
+    let taken = read_more of_files (of_files.bytes before) (of_files.bytes now) (of_files.bytes later) (take i nodes) r.texts n text r.read.keeps read.keeps r.stood of stood in
+    let put : AreNextBlocks [] (take i nodes ++ n ∷ []) (r.texts ++ text ∷ []) (chain ++ b ∷ []) =
+    record { are = blocks_more (take i nodes) r.texts chain n text b r.next.are refl encodes; next = next_more [] chain b r.next.next follows } in
+    rw is (record {
+      good = record { each = next_more [] chain b r.good.each follows };
+      texts = r.texts ++ text ∷ [];
+      stood = rw one taken;
+      next = rw one put;
       read = all;
-    }
+    })
 
 -- the next record's block can't be taken
-pub round_refused : (tells : Type 0) (magic : List ℕ) (old before now next : ℕ → List ℕ) (low high : ℕ)
-    (nodes : List Node) (i : ℕ) (d : Node) (chain : Chain)
-    → tells → Round tells magic before now low high nodes i chain → i < length nodes → AllGrow now next
-    → ((file : List ℕ) × IsFile (old 0) file (before 0) × (nodes ≡ records magic 0 file))
-    → ((b : Block) → IsBlockOf (get_or nodes i d)
-    (block_at (get_or nodes i d).place (next (get_or nodes i d).place.file))
-    → EncodesBlock (block_at (get_or nodes i d).place (next (get_or nodes i d).place.file)) b → IsNext chain b
-    → ⊥)
-    → (file : List ℕ) × IsFile (old 0) file (next 0) × GivesNoChain magic file
-round_refused tells magic old before now next low high nodes i d chain told r lt grows
-    (file, is_file, are) none =
-    let front = grows_more file (before 0) (next 0) is_file.grows
-    (all_grow_more before now next (r.read.keeps told) grows 0) in
-    let same = body_same magic file nodes i d next are lt front in (
-      file,
-      record { grew = is_file.grew; grows = front },
-      refused tells magic file nodes i d chain told are (r.taken file (λ t. are) (λ t. is_file.grows)) lt
-          (λ b block encoded follows. none b (rw same block) (rw same encoded) follows),
-    )
+pub round_refused : {A : Type 0} (of_files : block_files.Ghosts A) (before now later : A) (nodes : List Node) (i : ℕ) (d : Node) (chain : Chain)
+    → Round of_files before now nodes i chain → i < length nodes → (of_files.tells → AllGrow (of_files.bytes now) (of_files.bytes later))
+    → (text : List ℕ) × StoodAt of_files (of_files.bytes now) (of_files.bytes later) (get_or nodes i d) text
+    × ((b : Block) → IsBlockOf (get_or nodes i d) text → EncodesBlock text b → IsNext chain b → ⊥)
+    → HasBadBlock (StoodAt of_files (of_files.bytes before) (of_files.bytes later)) nodes
+round_refused of_files before now later nodes i d chain r lt grows (text, stood, bad) = record {
+  front = take i nodes;
+  node = get_or nodes i d;
+  after = drop (i + 1) nodes;
+  whole = split_at nodes i d lt;
+  texts = r.texts;
+  read = read_longer of_files (of_files.bytes before) (of_files.bytes before) (of_files.bytes now) (of_files.bytes later) (take i nodes) r.texts (λ t. all_grow_none (of_files.bytes before)) grows r.stood;
+  blocks = chain;
+  before = r.next;
+  text = text;
+  told = stood_longer of_files (of_files.bytes before) (of_files.bytes now) (of_files.bytes later) (of_files.bytes later) (get_or nodes i d) text r.read.keeps (λ t. all_grow_none (of_files.bytes later)) stood;
+  bad = bad;
+}
+
+-- all records' blocks are the chain
+pub round_all : {A : Type 0} (of_files : block_files.Ghosts A) (before now : A) (nodes : List Node) (i : ℕ) (chain : Chain) → Round of_files before now nodes i chain → length nodes ≤ i
+    → IsChainOf (StoodAt of_files (of_files.bytes before) (of_files.bytes now)) nodes chain
+round_all of_files before now nodes i chain r most =
+    let all : take i nodes ≡ nodes = take_all i nodes most in
+    record { texts = r.texts; read = rw all at r.stood; blocks_are = rw all at r.next }
+
+-- what was read in a block's place is what is told of it
+pub read_as : (r : Result Block FileFault) (n : Node) (P : Node → List ℕ → Type 0) (text : List ℕ) → IsBlockOf n text → P n text → IfOk r (EncodesBlock text)
+    → IfOk r (λ block. (t : List ℕ) × IsBlockOf n t × P n t × EncodesBlock t block)
+read_as (Ok block) n P text of stood encodes = (text, of, stood, encodes)
+read_as (Err e) n P text of stood encodes = tt
 
 -- a record is read as bad where its bytes have changed
 pub was_changed : (f : ReadFault) → read_fault f ≡ fault.Bad → (wanted : Hash32) × (found : Option Hash32) × (f ≡ reading.Changed wanted found)

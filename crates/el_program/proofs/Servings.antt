@@ -319,7 +319,7 @@ served_once of_files magic c before after t end.TurnsSpent safe served = served
 pub unread_ends : {A T : Type 0} (of_files : block_files.Ghosts A) (magic : List ℕ)
     (turns calls of_link low high of_disk : ℕ) (before after : ℕ → List ℕ) (e : FileFault)
     → OnlyReads {T = T} of_files.tells before after low high fault.Failed (Err e)
-    → (e ≡ fault.Bad → IsBadFile of_files.tells magic before after)
+    → (e ≡ fault.Bad → IsBadFile of_files magic before after)
     → OnceEnds of_files magic
     (counts turns calls calls (faults of_link low of_disk) (faults of_link high of_disk))
     before after no_traffic (unread_status e)

@@ -2,7 +2,7 @@
 use Rattle.std.specs.Prelude.{◌≡◌, ◌⊎◌, ℕ, List, [], ◌∷◌, true, false}
 use Rattle.el_outside.specs.declared.archive.Archive as block_files
 use Rattle.el_outside.specs.Trace.{Trace}
-use Rattle.el_outside.specs.Files.{AllGrow, IsFile}
+use Rattle.el_outside.specs.Files.{AllGrow}
 use Rattle.el_chain.specs.declared.node.Node.{Node}
 use Rattle.el_chain.specs.Chains.{Chain}
 use Rattle.el_mempool.specs.declared.entry.PoolLimits.{PoolLimits}
@@ -10,7 +10,9 @@ use Rattle.el_world.specs.World.{initial_world}
 use Rattle.el_outside.specs.Devices.{Device, archive, disk}
 use Rattle.el_words.specs.Commands.{IsNoCommand, IsServe, IsOnce}
 use Rattle.el_words.specs.Words.{greatest_limits}
-use Rattle.el_program.specs.File.{GivesNoChain}
+use Rattle.el_chain.specs.Moves.{StoodAt}
+use Rattle.el_files.specs.Scanning.{WasScanned}
+use Rattle.el_program.specs.File.{HasBadBlock}
 use Rattle.el_program.specs.Opened.{all_added, nodes_of_chain, IsScanned, IsRead}
 use Rattle.el_program.specs.OtherChain.{is_other_chain}
 use Rattle.el_outside.specs.Devices.{Rose}
@@ -116,10 +118,12 @@ pub record IsServedOnce {A : Type 0} (of_files : block_files.Ghosts A) (magic : 
   pub run : RunEnds of_files (initial_world chain magic greatest_limits (all_added [] nodes) now) false
       (λ acked flight. Unit {0}) after c t e
 
--- file 0, as it was when its size was told, gives no chain
-abbrev pub IsBadFile : Type 0 → List ℕ → (ℕ → List ℕ) → (ℕ → List ℕ) → Type 0
-IsBadFile tells magic before after =
-    tells → (file : List ℕ) × IsFile (before 0) file (after 0) × GivesNoChain magic file
+-- the records of file 0, up to the size that was told of it, are no chain
+abbrev pub IsBadFile : {A : Type 0} → block_files.Ghosts A → List ℕ → (ℕ → List ℕ) → (ℕ → List ℕ) → Type 0
+IsBadFile of_files magic before after =
+    (nodes : List Node) × (scanned : ℕ → List ℕ)
+    × (of_files.tells → WasScanned of_files before scanned magic 0 nodes)
+    × (of_files.tells → AllGrow scanned after) × HasBadBlock (StoodAt of_files scanned after) nodes
 
 -- How a call with the words of `once` ends.
 abbrev pub OnceEnds : {A : Type 0} → block_files.Ghosts A → List ℕ → Counts → (ℕ → List ℕ) → (ℕ → List ℕ)
@@ -137,7 +141,7 @@ OnceEnds of_files magic c before after t status.OutOfMemory =
     IsSilent c t [] ⊎ IsServedOnce of_files magic c before after t end.OutOfMemory
 -- file 0 gives no chain
 OnceEnds of_files magic c before after t status.BadChain =
-    IsBadFile of_files.tells magic before after × IsSilent c t []
+    IsBadFile of_files magic before after × IsSilent c t []
 OnceEnds of_files magic c before after t other = ⊥
 
 -- the statuses with which nobody was served

@@ -3,15 +3,17 @@ use Rattle.std.specs.Prelude.{◌≡◌, ℕ, List, [], ◌∷◌, map}
 use Rattle.std.specs.List.{AllByRecursion}
 use Rattle.el_outside.specs.declared.archive.Archive as block_files
 use Rattle.el_outside.specs.declared.archive.TheConstants.{MOST_FILES}
-use Rattle.el_outside.specs.Files.{AllGrow, IsFile}
+use Rattle.el_outside.specs.Files.{AllGrow}
 use Rattle.el_block.specs.Blocks.{block_hash}
 use Rattle.el_chain.specs.declared.node.Node.{Node}
 use Rattle.el_chain.specs.declared.placed.Placed.{Placed}
 use Rattle.el_chain.specs.Chains.{Chain}
 use Rattle.el_chain.specs.Faults.{IsGood}
 use Rattle.el_chain.specs.Headers.{added}
-use Rattle.el_chain.specs.Records.{GivesChain, IsNode, records, records_of_files}
-use Rattle.el_files.specs.Scanning.{AllFiles, IsFoundIn, IsFoundBelow}
+use Rattle.el_chain.specs.Moves.{StoodAt}
+use Rattle.el_chain.specs.Records.{IsNode}
+use Rattle.el_files.specs.Scanning.{AllScanned, IsFoundIn, IsFoundBelow, WasScanned}
+use Rattle.el_program.specs.File.{IsChainOf}
 
 -- the nodes that are found once these were added, in their order, to those found before
 abbrev pub all_added : List Node → List Node → List Node
@@ -26,25 +28,27 @@ node_of_block b = record { hash = block_hash b.block.header; header = b.block.he
 abbrev pub nodes_of_chain : Chain → List Node
 nodes_of_chain chain = map node_of_block chain
 
--- The nodes are those of all records of all block files, each file as it was when its size was told, in the
+-- The nodes are those of all records of all block files, each file up to the size that was told of it, in the
 -- order of their places. Whatever the files tell, the head of each node's record was read from one of them.
 -- `now` is the archive after that scan.
 pub record IsScanned {A : Type 0} (of_files : block_files.Ghosts A) (magic : List ℕ) (before now : A)
     (nodes : List Node) : Type 0 where
   pub each : AllByRecursion IsNode nodes
   pub read : AllByRecursion (IsFoundBelow of_files.gave magic MOST_FILES) nodes
-  pub of_all : of_files.tells → (all : AllFiles of_files.bytes of_files.file_count before now)
-      × (nodes ≡ records_of_files magic (of_files.file_count all.told) all.files)
+  pub of_all : of_files.tells
+      → AllScanned of_files (of_files.bytes before) (of_files.bytes now) magic nodes
   pub keeps : of_files.tells → AllGrow (of_files.bytes before) (of_files.bytes now)
 
--- The nodes are those of the records of file 0, as it was when its size was told, and these give the chain.
--- Whatever the file tells, the head of each node's record was read from it. `before` and `now` are the bytes
--- of the block files before that was read and after.
+-- The nodes are those of the records of file 0, up to the size that was told of it, and their blocks are the
+-- chain. Whatever the file tells, the head of each node's record was read from it. `before`, `scanned` and
+-- `now` are the bytes of the block files before the scan, after it, and once the blocks are read.
 pub record IsRead {A : Type 0} (of_files : block_files.Ghosts A) (before now : ℕ → List ℕ) (magic : List ℕ)
     (nodes : List Node) (chain : Chain) : Type 0 where
   pub each : AllByRecursion IsNode nodes
   pub read : AllByRecursion (IsFoundIn of_files.gave magic 0) nodes
   pub good : IsGood chain
-  pub of_file : of_files.tells → (file : List ℕ) × IsFile (before 0) file (now 0)
-      × GivesChain magic 0 file chain × (nodes ≡ records magic 0 file)
+  pub scanned : ℕ → List ℕ
+  pub of_file : of_files.tells → WasScanned of_files before scanned magic 0 nodes
+  pub grows : of_files.tells → AllGrow scanned now
+  pub blocks : IsChainOf (StoodAt of_files scanned now) nodes chain
   pub keeps : of_files.tells → AllGrow before now

@@ -2,14 +2,16 @@
 ghost use Rattle.std.specs.Prelude.{◌≡◌, ◌≢◌, ◌↔◌, ◌++◌, ◌∷◌, [], List, ℕ, Err, IfOk, IsErrOf, IsTrue, OnOk};
 ghost use Rattle.std.specs.List.{AllByRecursion};
 ghost use Rattle.el_outside.specs.Counts.{OnlyReads};
-ghost use Rattle.el_outside.specs.Files.{IsFile};
+ghost use Rattle.el_outside.specs.Files.{AllGrow};
 ghost use Rattle.el_block.specs.Blocks.{HasBlockEncoding, EncodesBlock};
 ghost use Rattle.el_chain.specs.Chains.{tip};
 ghost use Rattle.el_chain.specs.Faults.{IsGood, IsNext};
-ghost use Rattle.el_chain.specs.Records.{GivesChain, IsNode, IsBlockOf, block_at, records};
+ghost use Rattle.el_chain.specs.Moves.{StoodAt};
+ghost use Rattle.el_chain.specs.Records.{IsNode, IsBlockOf};
 ghost use Rattle.el_block.specs.declared.block.Block as shape;
-ghost use Rattle.el_files.specs.Scanning.{IsFoundIn};
-ghost use Rattle.el_program.specs.File.{GivesNoChain};
+ghost use Rattle.el_files.specs.Scanning.{IsFoundIn, WasScanned};
+ghost use Rattle.el_program.specs.Ends.{IsBadFile};
+ghost use Rattle.el_program.specs.File.{IsChainOf};
 ghost use Rattle.el_program.specs.within.Unread.{read_fault};
 
 use el_base::Hash32;
@@ -95,9 +97,8 @@ fn scan_first<A: Archive>(
     archive: &mut A,
     magic: [u8; 4],
 ) -> Result<Vec<Node>, FileFault>
-    ensures scanned { A.tells → IfOk result (λ found. (file : List ℕ)
-        × IsFile (A.bytes archive.old 0) file (A.bytes archive.new 0)
-        × (found.items ≡ records magic 0 file)) }
+    ensures scanned { A.tells → IfOk result (λ found.
+        WasScanned ⟦<A as Archive>⟧ (A.bytes archive.old) (A.bytes archive.new) magic 0 found.items) }
     ensures nodes { IfOk result (λ found. AllByRecursion IsNode found.items) }
     ensures heads { IfOk result (λ found. AllByRecursion (IsFoundIn A.gave magic 0) found.items) }
     ensures never_bad { IsErrOf result FileFault.Bad → ⊥ }
@@ -127,12 +128,13 @@ fn block_of(alloc: Global, bytes: &[u8]) -> Result<Block, FileFault>
 fn read_record<A: Archive>(alloc: Global, archive: &mut A, node: &Node) -> Result<Block, FileFault>
     requires { IsNode node.now }
     ensures encoded { IfOk result HasBlockEncoding }
-    ensures read { A.tells → IfOk result
-        (EncodesBlock (block_at node.now.place (A.bytes archive.new node.now.place.file))) }
+    ensures read { IfOk result (λ block. (text : List ℕ) × IsBlockOf node.now text
+        × StoodAt ⟦<A as Archive>⟧ (A.bytes archive.old) (A.bytes archive.new) node.now text
+        × EncodesBlock text block) }
     // The bytes there are others than those of the record, or they encode no block.
-    ensures bad { IsErrOf result FileFault.Bad → A.tells → (b : shape.Block)
-        → IsBlockOf node.now (block_at node.now.place (A.bytes archive.new node.now.place.file))
-        → EncodesBlock (block_at node.now.place (A.bytes archive.new node.now.place.file)) b → ⊥ }
+    ensures bad { IsErrOf result FileFault.Bad → (text : List ℕ)
+        × StoodAt ⟦<A as Archive>⟧ (A.bytes archive.old) (A.bytes archive.new) node.now text
+        × ((b : shape.Block) → IsBlockOf node.now text → EncodesBlock text b → ⊥) }
     ensures only_reads { OnlyReads A.tells (A.bytes archive.old) (A.bytes archive.new)
         (A.faults archive.old) (A.faults archive.new) FileFault.Failed result }
 {
@@ -181,13 +183,14 @@ pub fn read_chain<A: Archive>(
     ensures nodes { IfOk result (λ r. AllByRecursion IsNode r.0.items) }
     // Whatever the file tells, the head of each record was read from it.
     ensures heads { IfOk result (λ r. AllByRecursion (IsFoundIn A.gave magic 0) r.0.items) }
-    // The file gives the chain, and these are its records.
-    ensures read { A.tells → IfOk result (λ r. (file : List ℕ)
-        × IsFile (A.bytes archive.old 0) file (A.bytes archive.new 0) × GivesChain magic 0 file r.1
-        × (r.0.items ≡ records magic 0 file)) }
-    // The file gives none.
-    ensures bad { IsErrOf result FileFault.Bad → A.tells → (file : List ℕ)
-        × IsFile (A.bytes archive.old 0) file (A.bytes archive.new 0) × GivesNoChain magic file }
+    // They are the file's, and their blocks, which are read after the scan, are the chain.
+    ensures read { IfOk result (λ r. (scanned : ℕ → List ℕ)
+        × (A.tells → WasScanned ⟦<A as Archive>⟧ (A.bytes archive.old) scanned magic 0 r.0.items)
+        × (A.tells → AllGrow scanned (A.bytes archive.new))
+        × IsChainOf (StoodAt ⟦<A as Archive>⟧ scanned (A.bytes archive.new)) r.0.items r.1) }
+    // The records are no chain.
+    ensures bad { IsErrOf result FileFault.Bad
+        → IsBadFile ⟦<A as Archive>⟧ magic (A.bytes archive.old) (A.bytes archive.new) }
     ensures only_reads { OnlyReads A.tells (A.bytes archive.old) (A.bytes archive.new)
         (A.faults archive.old) (A.faults archive.new) FileFault.Failed result }
 {

@@ -5,6 +5,7 @@ mod failures;
 mod file;
 mod index_disk;
 mod index_headers;
+mod laws;
 mod lives;
 mod opening;
 mod other_chain;
@@ -14,6 +15,7 @@ mod starting;
 mod status;
 
 pub use file::{FileFault, read_chain};
+pub use laws::file_without_padding_gives_chain;
 pub use lives::{Between, live, lives_go_on};
 pub use program::{serve_all, tell_end};
 pub use serving::serve;

@@ -65,7 +65,7 @@ pub fn scan_all<A: Archive>(
         IsScanned ⟦<A as Archive>⟧ magic archive.old archive.new found.items) }
     ensures never_bad { IsErrOf result FileFault.Bad → ⊥ }
     // They are scanned once.
-    ensures calls { OnOk result (ScansOnce A.tells A.bytes A.file_count A.calls archive.old archive.new) }
+    ensures calls { A.tells → OnOk result (ScansOnce ⟦<A as Archive>⟧ archive.old archive.new) }
     ensures only_reads { OnlyReads A.tells (A.bytes archive.old) (A.bytes archive.new)
         (A.faults archive.old) (A.faults archive.new) FileFault.Failed result }
 {
@@ -144,7 +144,7 @@ pub fn open_headers<G: Ledger, A: Archive>(
         × IsScanned ⟦<A as Archive>⟧ magic archive.old archive.new nodes
         × (other.is_other_chain (nodes_of_chain chain) nodes ≡ true) }
     // The block files are scanned once.
-    ensures calls { OnOk result (ScansOnce A.tells A.bytes A.file_count A.calls archive.old archive.new) }
+    ensures calls { A.tells → OnOk result (ScansOnce ⟦<A as Archive>⟧ archive.old archive.new) }
     ensures quiet { Asked ⟦<G as Ledger>⟧ ledger.old ledger.new }
     ensures cause { CountsOnly (G.faults ledger.old) (G.faults ledger.new) StartFault.DiskFailed result }
     ensures only_reads { OnlyReads A.tells (A.bytes archive.old) (A.bytes archive.new)

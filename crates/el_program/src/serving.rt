@@ -1,7 +1,7 @@
 // The whole of the program.
 ghost use Rattle.std.specs.Prelude.{◌≡◌, ◌≢◌, ◌<◌, ℕ, List, [], IfOk, IsErrOf};
 ghost use Rattle.el_outside.specs.Counts.{OnlyReads};
-ghost use Rattle.el_outside.specs.Files.{AllGrow, IsFile};
+ghost use Rattle.el_outside.specs.Files.{AllGrow};
 ghost use Rattle.el_outside.specs.Trace.{Trace};
 ghost use Rattle.el_chain.specs.declared.node.Node as shape;
 ghost use Rattle.el_chain.specs.Chains.{Chain};
@@ -10,12 +10,11 @@ ghost use Rattle.el_words.specs.Commands.{IsNoCommand, IsServe};
 ghost use Rattle.el_program.specs.IndexDisks.{LeavesOneOf, IsNoIndex, IsAsBefore, IsIndexDisk, IsCall};
 ghost use Rattle.el_loop.specs.Counts.{counts_of, devices};
 ghost use Rattle.el_program.specs.Calls.{call};
-ghost use Rattle.el_program.specs.File.{GivesNoChain};
 ghost use Rattle.el_program.specs.OtherFiles.{OthersStay};
 ghost use Rattle.el_program.specs.Opened.{IsRead, all_added};
 ghost use Rattle.el_program.specs.Statuses.{ShowsCause};
 ghost use Rattle.el_loop.specs.Runs.{WentBy};
-ghost use Rattle.el_program.specs.Ends.{OnceEnds, IndexEnds, IsUnserved, IsUnopened};
+ghost use Rattle.el_program.specs.Ends.{OnceEnds, IndexEnds, IsBadFile, IsUnserved, IsUnopened};
 ghost use Rattle.el_program.specs.within.Unread.{unread_status};
 
 use crate::file::{FileFault, read_chain};
@@ -52,8 +51,8 @@ fn open_file<A: Archive>(
     ensures opened { IfOk result (λ r. (nodes : List shape.Node)
         × IsRead ⟦<A as Archive>⟧ (A.bytes archive.old) (A.bytes archive.new) magic nodes r.1
         × (r.0 ≡ all_added [] nodes)) }
-    ensures bad { IsErrOf result FileFault.Bad → A.tells → (file : List ℕ)
-        × IsFile (A.bytes archive.old 0) file (A.bytes archive.new 0) × GivesNoChain magic file }
+    ensures bad { IsErrOf result FileFault.Bad
+        → IsBadFile ⟦<A as Archive>⟧ magic (A.bytes archive.old) (A.bytes archive.new) }
     ensures only_reads { OnlyReads A.tells (A.bytes archive.old) (A.bytes archive.new)
         (A.faults archive.old) (A.faults archive.new) FileFault.Failed result }
 {

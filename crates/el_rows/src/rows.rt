@@ -58,7 +58,8 @@ pub trait Rows {
         ensures count { result ≡ counts self.now t }
         ensures limit { result ≤ limit_of t };
 
-    /// Reads a row. It takes no memory, counts as one row read, and leaves the store as it was.
+    /// Reads a row. It never fails for want of memory, counts as one row read, and leaves the store as it
+    /// was. A store may take memory to keep what it read.
     fn row(&mut self, t: Table, i: u64, buf: &mut [u8]) -> Result<(), DiskFailed>
         requires live { is_live self.old }
         requires below { i < counts self.old t }

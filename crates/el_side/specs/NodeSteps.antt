@@ -1,18 +1,17 @@
 -- A step of the node's work, over a ledger and block files of which only the types are known.
-use Rattle.std.specs.Prelude.{◌≡◌, ℕ, false, List, [], ⊤}
+use Rattle.std.specs.Prelude.{◌≡◌, false, List, [], ⊤}
 use Rattle.el_base.specs.declared.hash.Hash32.{Hash32}
-use Rattle.el_outside.specs.declared.archive.Archive as archive
-use Rattle.el_outside.specs.Devices.{Device, Rose}
+use Rattle.el_outside.specs.Devices.{Device}
 use Rattle.el_outside.specs.Files.{AllGrow}
 use Rattle.el_chain.specs.declared.node.Node.{Node}
 use Rattle.el_chain.specs.Chains.{Chain}
 use Rattle.el_mempool.specs.Standing.{StandsFor}
-use Rattle.el_model.specs.declared.ledger.Ledger as ledger
-use Rattle.el_model.specs.LedgerCalls.{Moved, failed_calls}
+use Rattle.el_model.specs.LedgerCalls.{Moved}
 use Rattle.el_lines.specs.declared.node_answer.NodeAnswer.{NodeAnswer}
 use Rattle.el_status.specs.Statuses.{status}
 use Rattle.el_status.specs.Untouched.{LooksSame, is_among}
 use Rattle.el_side.specs.declared.holdings.Holdings.{Holdings}
+use Rattle.el_side.specs.Beneath.{Beneath, Ghosts, Lost}
 use Rattle.el_side.specs.Side.{Side}
 
 -- What is held beside the headers, the magic and the unconfirmed set stands for the side, and for the start
@@ -30,11 +29,11 @@ pub record SetStands (holdings : Holdings) (side : Side) (start : Chain) : Type 
 
 -- the ledger stands for the side's chain, the set for what is kept, and the block files have all that the
 -- side knows of them
-pub record IsAt {G A : Type 0} (of_ledger : ledger.Ghosts G) (of_files : archive.Ghosts A) (l : G)
-    (holdings : Holdings) (files : A) (side : Side) (start : Chain) : Type 0 where
-  pub stood : of_ledger.stands l side.chain
+pub record IsAt {G A : Type 0} (of : Ghosts G A) (now : Beneath G A) (holdings : Holdings) (side : Side)
+    (start : Chain) : Type 0 where
+  pub stood : of.ledger.stands now.ledger side.chain
   pub set : SetStands holdings side start
-  pub told : of_files.tells → AllGrow side.files (of_files.bytes files)
+  pub told : of.files.tells → AllGrow side.files (of.files.bytes now.files)
 
 -- The script hashes that a step touched: `moved` by moving the chain, `changed` in the unconfirmed set. Of
 -- each other one that looked over the side's chain as it had over the line's start, the status over the start
@@ -46,24 +45,32 @@ pub record Touches (side : Side) (start : Chain) (next : Side) (next_start : Cha
   pub looks : (s : Hash32) → is_among moved s ≡ false → is_among changed s ≡ false
       → LooksSame start side.chain s.0 → LooksSame next_start next.chain s.0
 
--- A step led on from the side, by what `leads` says of the node's answer, of the devices' failures and of the
--- next side. Found and ahead are then these, `holdings` is what is then held, the ledger went from `old` to
--- `new`, and the block files from `before` to `after`; `moved` and `changed` are the script hashes that it
--- touched.
-pub record Leads {G A : Type 0} (of_ledger : ledger.Ghosts G) (of_files : archive.Ghosts A)
-    (leads : NodeAnswer → List Device → Side → Type 0) (old new : G) (before after : A)
-    (side : Side) (start : Chain) (answer : NodeAnswer) (found ahead : List Node)
-    (moved changed : List Hash32) (holdings : Holdings) : Type 0 where
+-- What a step leaves: the ledger and the block files as they were before it and are after it, what the node
+-- is answered, the headers that are then found, the blocks that are then ahead, the script hashes that it
+-- touched by moving the chain and in the unconfirmed set, and what is then held.
+pub record StepLeft (G A : Type 0) : Type 0 where
+  pub was : Beneath G A
+  pub now : Beneath G A
+  pub answer : NodeAnswer
+  pub found : List Node
+  pub ahead : List Node
+  pub moved : List Hash32
+  pub changed : List Hash32
+  pub holdings : Holdings
+
+-- A step that left this led on from the side, by what `leads` says of the node's answer, of the devices'
+-- failures and of the next side.
+pub record Leads {G A : Type 0} (of : Ghosts G A) (leads : NodeAnswer → List Device → Side → Type 0)
+    (side : Side) (start : Chain) (left : StepLeft G A) : Type 0 where
   pub losses : List Device
   pub next : Side
-  pub led : leads answer losses next
+  pub led : leads left.answer losses next
   pub magic_is : next.magic ≡ side.magic
-  pub found_is : found ≡ next.found
-  pub ahead_is : ahead ≡ next.ahead
+  pub found_is : left.found ≡ next.found
+  pub ahead_is : left.ahead ≡ next.ahead
   pub next_start : Chain
-  pub set : SetStands holdings next next_start
-  pub touches : Touches side start next next_start moved changed
-  pub went : Moved of_ledger old new side.chain next.chain
-  pub told : of_files.tells → AllGrow next.files (of_files.bytes after)
-  pub rose : (of_link : ℕ) → Rose (failed_calls of_ledger of_files of_link old before)
-      (failed_calls of_ledger of_files of_link new after) losses
+  pub set : SetStands left.holdings next next_start
+  pub touches : Touches side start next next_start left.moved left.changed
+  pub went : Moved of.ledger left.was.ledger left.now.ledger side.chain next.chain
+  pub told : of.files.tells → AllGrow next.files (of.files.bytes left.now.files)
+  pub rose : Lost of left.was left.now losses

@@ -1,10 +1,10 @@
 -- The side of the world that the node leads, and what each of its lines does to it. The device of each failed
 -- call stands among `losses`. `of_files` is what the type of the block files says of them: whether they tell
--- their bytes, and which bytes their reads gave; `tells` is the former alone.
-use Rattle.std.specs.Prelude.{◌≡◌, ◌≤◌, ◌<◌, ◌&&◌, ℕ, true, false, not, if◌then◌else◌, MatchBool, List, [], ◌∷◌, ◌++◌, length, drop, Option, Some, None, IfSome}
+-- what they hold, what that is, and which bytes their reads gave.
+use Rattle.std.specs.Prelude.{◌≡◌, ◌≤◌, ◌<◌, ◌&&◌, ℕ, true, false, not, if◌then◌else◌, MatchBool, List, [], ◌∷◌, ◌++◌, Option, Some, None, IfSome}
 use Rattle.el_base.specs.declared.hash.Hash32.{Hash32}
 use Rattle.el_outside.specs.Devices.{Device, archive}
-use Rattle.el_outside.specs.Files.{AllGrow, IsFile}
+use Rattle.el_outside.specs.Files.{AllGrow}
 use Rattle.el_outside.specs.declared.archive.Archive as block_files
 use Rattle.el_tx.specs.declared.types.Tx.{Tx}
 use Rattle.el_tx.specs.Encoding.{Encodes}
@@ -13,9 +13,8 @@ use Rattle.el_chain.specs.declared.node.Node.{Node}
 use Rattle.el_chain.specs.declared.moves.MoveFault.{MoveFault}
 use Rattle.el_chain.specs.Chains.{Chain}
 use Rattle.el_chain.specs.Headers.{IsPath, is_known, is_second, added}
-use Rattle.el_chain.specs.Moves.{Moves, IsRefused, shorter, max_back}
-use Rattle.el_chain.specs.Records.{node_at}
-use Rattle.el_files.specs.Scanning.{IsFoundAt}
+use Rattle.el_chain.specs.Moves.{Moves, StoodAt, IsRefused, shorter, max_back}
+use Rattle.el_files.specs.Scanning.{IsFoundAt, LookedUp}
 use Rattle.el_mempool.specs.declared.entry.PoolLimits.{PoolLimits}
 use Rattle.el_mempool.specs.declared.fault.PoolFault.{PoolFault}
 use Rattle.el_mempool.specs.Refusals.{tx_refusal, is_kept}
@@ -54,14 +53,13 @@ quiet_side chain magic limits found files = record {
   files = files;
 }
 
--- What is found at a place of a block file, as the file was at some moment of the line. Whatever the file
--- tells, the head of the record was read from it. `files` are the block files as the line leaves them.
+-- What is found at a place of a block file, as the file was seen in the line. Whatever the file tells, the
+-- head of the record was read from it. `files` are the block files as the line leaves them.
 pub record LooksUp {A : Type 0} (of_files : block_files.Ghosts A) (side : Side) (file at : ℕ)
     (found : Option Node) (files : ℕ → List ℕ) : Type 0 where
   pub read : IfSome found (IsFoundAt of_files.gave side.magic file at)
   pub grows : of_files.tells → AllGrow side.files files
-  pub record_is : of_files.tells → (bytes : List ℕ) × IsFile (side.files file) bytes (files file)
-      × (found ≡ node_at side.magic file at (drop at bytes) (length (drop at bytes)))
+  pub record_is : of_files.tells → LookedUp of_files side.files files side.magic file at found
 
 -- what the node is answered where this stands at a place
 abbrev pub found_answer : List Node → Option Node → NodeAnswer
@@ -97,11 +95,11 @@ kept_after (n ∷ ns) chain kept = kept
 
 -- One move of a tip line, where so many blocks are to be taken back and these are to be put in. The node is
 -- answered, and the side is then `next`.
-pub data Moving (tells : Type 0) (side : Side) (back : ℕ) (rest : List Node) (answer : NodeAnswer)
-    (losses : List Device) (next : Side) : Type 0 where
+pub data Moving {A : Type 0} (of_files : block_files.Ghosts A) (side : Side) (back : ℕ) (rest : List Node)
+    (answer : NodeAnswer) (losses : List Device) (next : Side) : Type 0 where
   -- it is done, and the node is told where the chain ends
-  commits : (files : ℕ → List ℕ) (blocks : Chain) → (tells → AllGrow side.files files)
-      → Moves tells files side.chain (plan_of back rest) blocks
+  commits : (files : ℕ → List ℕ) (blocks : Chain) → (of_files.tells → AllGrow side.files files)
+      → Moves (StoodAt of_files side.files files) side.chain (plan_of back rest) blocks
       → next ≡ record side {
         chain = shorter back side.chain ++ blocks;
         kept = kept_after (left_of rest) (shorter back side.chain ++ blocks) side.kept;
@@ -109,42 +107,44 @@ pub data Moving (tells : Type 0) (side : Side) (back : ℕ) (rest : List Node) (
         files = files;
       }
       → answer ≡ say.At (tip_of next.chain) (height_of next.chain) → losses ≡ []
-      → Moving tells side back rest answer losses next
+      → Moving of_files side back rest answer losses next
   -- it is refused for one of its blocks, and ends the line, after which the kept ones are sifted
-  refuses : (files : ℕ → List ℕ) (e : MoveFault) → (tells → AllGrow side.files files)
-      → move_refused e ≡ Some answer → IsRefused tells files side.chain (plan_of back rest) e
+  refuses : (files : ℕ → List ℕ) (e : MoveFault) → (of_files.tells → AllGrow side.files files)
+      → move_refused e ≡ Some answer
+      → IsRefused (StoodAt of_files side.files files) side.chain (plan_of back rest) e
       → next ≡ record side { kept = sift side.chain side.kept; ahead = []; files = files } → losses ≡ []
-      → Moving tells side back rest answer losses next
+      → Moving of_files side back rest answer losses next
   -- the block files failed, which ends it too
-  fails : (files : ℕ → List ℕ) → (tells → AllGrow side.files files) → answer ≡ say.Refused refusal.Archive
+  fails : (files : ℕ → List ℕ) → (of_files.tells → AllGrow side.files files)
+      → answer ≡ say.Refused refusal.Archive
       → next ≡ record side { kept = sift side.chain side.kept; ahead = []; files = files }
-      → losses ≡ archive ∷ [] → Moving tells side back rest answer losses next
+      → losses ≡ archive ∷ [] → Moving of_files side back rest answer losses next
 
 -- A tip line along the path to its block, up to its first move.
-pub data GoesAlong (tells : Type 0) (side : Side) (path : List Node) (answer : NodeAnswer)
-    (losses : List Device) (next : Side) : Type 0 where
+pub data GoesAlong {A : Type 0} (of_files : block_files.Ghosts A) (side : Side) (path : List Node)
+    (answer : NodeAnswer) (losses : List Device) (next : Side) : Type 0 where
   -- too many blocks would be taken back
   deep : max_back < back_of side.chain path
       → answer ≡ say.Refused (refusal.Deep (back_of side.chain path)) → next ≡ side → losses ≡ []
-      → GoesAlong tells side path answer losses next
+      → GoesAlong of_files side path answer losses next
   -- the chain ends there
   there : back_of side.chain path ≡ 0 → rest_of side.chain path ≡ []
       → answer ≡ say.At (tip_of side.chain) (height_of side.chain) → next ≡ side → losses ≡ []
-      → GoesAlong tells side path answer losses next
+      → GoesAlong of_files side path answer losses next
   moves : back_of side.chain path ≤ max_back → IsMoving (back_of side.chain path) (rest_of side.chain path)
-      → Moving tells side (back_of side.chain path) (rest_of side.chain path) answer losses next
-      → GoesAlong tells side path answer losses next
+      → Moving of_files side (back_of side.chain path) (rest_of side.chain path) answer losses next
+      → GoesAlong of_files side path answer losses next
 
 -- A tip line, up to its first move.
-pub data Tips (tells : Type 0) (side : Side) (h : Hash32) (answer : NodeAnswer) (losses : List Device)
-    (next : Side) : Type 0 where
+pub data Tips {A : Type 0} (of_files : block_files.Ghosts A) (side : Side) (h : Hash32) (answer : NodeAnswer)
+    (losses : List Device) (next : Side) : Type 0 where
   unknown : is_known side.found h ≡ false → answer ≡ say.Refused (refusal.Unknown h) → next ≡ side
-      → losses ≡ [] → Tips tells side h answer losses next
+      → losses ≡ [] → Tips of_files side h answer losses next
   unconnected : is_known side.found h ≡ true → ((path : List Node) → IsPath side.found h path → ⊥)
       → answer ≡ say.Refused (refusal.Unconnected h) → next ≡ side → losses ≡ []
-      → Tips tells side h answer losses next
-  along : (path : List Node) → IsPath side.found h path → GoesAlong tells side path answer losses next
-      → Tips tells side h answer losses next
+      → Tips of_files side h answer losses next
+  along : (path : List Node) → IsPath side.found h path → GoesAlong of_files side path answer losses next
+      → Tips of_files side h answer losses next
 
 -- A line that tells an unconfirmed transaction by its bytes.
 pub data Adds (side : Side) (bytes : List ℕ) (answer : NodeAnswer) (losses : List Device) (next : Side)
@@ -185,7 +185,7 @@ Orders of_files side (Some (block file at)) answer losses next =
     Looks of_files side file at answer losses next
 -- the chain is to end in that block
 Orders of_files side (Some (tip hash)) answer losses next =
-    Tips of_files.tells side (record { 0 = hash }) answer losses next
+    Tips of_files side (record { 0 = hash }) answer losses next
 -- an unconfirmed transaction came, or one went
 Orders of_files side (Some (tx bytes)) answer losses next = Adds side bytes answer losses next
 Orders of_files side (Some (dropped id)) answer losses next =

@@ -24,8 +24,8 @@ pub record IsFirstMove (side : Side) (met : LineEvent) (p : Plan) : Type 0 where
   pub plan_is : p ≡ plan_of (back_of side.chain path) (rest_of side.chain path)
 
 -- the chain is the one before the step, or the target of a move that it may begin
-pub data IsUnderWay (tells : Type 0) (files : ℕ → List ℕ) (chain : Chain) (is_move : Plan → Type 0)
+pub data IsUnderWay (stood : Node → List ℕ → Type 0) (chain : Chain) (is_move : Plan → Type 0)
     (next : Chain) : Type 0 where
-  before : next ≡ chain → IsUnderWay tells files chain is_move next
-  in_move : (p : Plan) → is_move p → InFlight tells files chain p next
-      → IsUnderWay tells files chain is_move next
+  before : next ≡ chain → IsUnderWay stood chain is_move next
+  in_move : (p : Plan) → is_move p → InFlight stood chain p next
+      → IsUnderWay stood chain is_move next

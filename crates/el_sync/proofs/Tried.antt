@@ -6,9 +6,8 @@ use Rattle.std.specs.Result.{IfErr}
 use Rattle.el_base.specs.declared.hash.Hash32.{Hash32}
 use Rattle.el_outside.specs.Counts.{RoseBy}
 use Rattle.el_outside.specs.Devices as device
-use Rattle.el_outside.specs.Devices.{Device, archive, Rose}
+use Rattle.el_outside.specs.Devices.{Device, archive}
 use Rattle.el_outside.specs.Files.{AllGrow}
-use Rattle.el_outside.specs.declared.archive.Archive as archives
 use Rattle.el_outside.proofs.Devices.{all_rose_on, rose_of, rose_still}
 use Rattle.el_outside.proofs.Moments.{joined, weaker}
 use Rattle.el_outside.proofs.Traces.{all_grow_none, all_grow_more}
@@ -18,15 +17,15 @@ use Rattle.el_chain.specs.declared.moves.MoveFault.TheVariants as stop
 use Rattle.el_chain.specs.declared.moves.Plan.{Plan}
 use Rattle.el_chain.specs.Chains.{Chain, tip}
 use Rattle.el_chain.specs.Headers.{AreLinked}
-use Rattle.el_chain.specs.Moves.{InFlight, IsRefused, Moves, target, shorter, max_forward}
+use Rattle.el_chain.specs.Moves.{InFlight, IsRefused, Moves, StoodAt, StoodBy, target, shorter, max_forward}
 use Rattle.el_mempool.specs.Sift.{sift}
 use Rattle.el_chain.specs.Touches.{AreTouched}
 use Rattle.el_mempool.specs.Standing.{AreChanged, PoolState, StandsFor}
 use Rattle.el_model.specs.Keeping.{Either}
-use Rattle.el_model.specs.LedgerCalls.{Asked, CrashLeaves, Moved, failed_calls}
+use Rattle.el_model.specs.LedgerCalls.{Asked, CrashLeaves, Moved}
 use Rattle.el_model.specs.Queries.{tip_of, height_of}
-use Rattle.el_model.specs.declared.ledger.Ledger as ledgers
 use Rattle.el_model.proofs.LedgerMoves.{LeavesOwn, asked_leaves}
+use Rattle.el_model.proofs.ReadBodies.{stood_longer, stood_up_to, moves_weaker, refused_weaker, flight_weaker}
 use Rattle.el_lines.specs.declared.node_answer.NodeAnswer.{NodeAnswer}
 use Rattle.el_lines.specs.declared.node_answer.NodeAnswer.TheVariants as say
 use Rattle.el_side.specs.UnderWay.{IsUnderWay, before, in_move}
@@ -39,8 +38,9 @@ use Rattle.el_status.proofs.Stays.{status_stays}
 use Rattle.el_status.specs.Statuses.{status}
 use Rattle.el_tx.specs.declared.types.Tx.{Tx}
 use Rattle.el_side.specs.declared.holdings.Holdings.{Holdings}
+use Rattle.el_side.specs.Beneath.{Beneath, Ghosts, Lost, failed_beneath}
 use Rattle.el_side.specs.NodeSteps.{IsAt, Leads, SetStands, Touches}
-use Rattle.el_sync.specs.Steps.{FailsBy, NodeStep, RoseWith, StopsAt, by_disk, by_memory, in_sift, untold}
+use Rattle.el_sync.specs.Steps.{FailsBy, NodeStep, RoseWith, StopsAt, by_disk, by_memory, in_sift, left_by, untold}
 use Rattle.el_sync.specs.within.Parts.{MoveFailed, MoveKeeps, SaysRefusal, Tried, Tries, made, refused, failed}
 use Rattle.el_model.specs.declared.fault.QueryFault.{QueryFault}
 use Rattle.el_model.specs.declared.fault.QueryFault.TheVariants as fault
@@ -156,15 +156,15 @@ pub not_failed : (e : QueryFault) → e ≢ fault.DiskFailed → e ≡ fault.Mem
 not_failed fault.DiskFailed other = absurd (other refl)
 not_failed fault.Memory other = refl
 
-module _ {G A : Type 0} (of_ledger : ledgers.Ghosts G) (of_files : archives.Ghosts A) where
-  pub move_failed : (r : Result Made QueryFault) (e : QueryFault) (old new : G) (a b : A) → r ≡ Err e → MoveFailed of_ledger of_files old new a b e
-      → IfErr r (MoveFailed of_ledger of_files old new a b)
-  move_failed r e old new a b is f = rw is f
+module _ {G A : Type 0} (of : Ghosts G A) where
+  pub move_failed : (r : Result Made QueryFault) (e : QueryFault) (was now : Beneath G A) → r ≡ Err e → MoveFailed of was now e
+      → IfErr r (MoveFailed of was now)
+  move_failed r e was now is f = rw is f
 
   -- a first move that failed stops a later one too
-  pub stops_first : {T : Type 0} (r : Result T QueryFault) (e : QueryFault) (old new : G) (a b : A) (chain : Chain) (later : Bool) (P : Plan → Type 0) → r ≡ Err e
-      → StopsAt of_ledger of_files old new a b chain false P e → IfErr r (StopsAt of_ledger of_files old new a b chain later P)
-  stops_first r e old new a b chain later P is s =
+  pub stops_first : {T : Type 0} (r : Result T QueryFault) (e : QueryFault) (was now : Beneath G A) (chain : Chain) (later : Bool) (P : Plan → Type 0) → r ≡ Err e
+      → StopsAt of was now chain false P e → IfErr r (StopsAt of was now chain later P)
+  stops_first r e was now chain later P is s =
       rw is (record { next = s.next; flight = s.flight; crash = s.crash; stood = s.stood; losses = s.losses; fails = by s.fails; rose = s.rose })
     where
       by : {next : Chain} {losses : List Device} → FailsBy false chain next e losses → FailsBy later chain next e losses
@@ -175,73 +175,81 @@ module _ {G A : Type 0} (of_ledger : ledgers.Ghosts G) (of_files : archives.Ghos
 
   -- ---- moves
 
+  -- what stood in a call stood since the side knew its files, and by the call's end
+  stood_since : (a b : A) (side : Side) → (of.files.tells → AllGrow side.files (of.files.bytes a)) → (n : Node) (t : List ℕ) → StoodAt of.files (of.files.bytes a) (of.files.bytes b) n t
+      → StoodAt of.files side.files (of.files.bytes b) n t
+  stood_since a b side told n t stood = stood_longer of.files side.files (of.files.bytes a) (of.files.bytes b) (of.files.bytes b) n t told (λ tl. all_grow_none (of.files.bytes b)) stood
+
+  stood_by : (a b : A) (n : Node) (t : List ℕ) → StoodAt of.files (of.files.bytes a) (of.files.bytes b) n t → StoodBy of.files (of.files.bytes b) n t
+  stood_by a b n t stood = stood_up_to of.files (of.files.bytes a) (of.files.bytes b) (of.files.bytes b) n t (λ tl. all_grow_none (of.files.bytes b)) stood
+
   -- a move that is made
-  pub made_tries : (old new : G) (a b : A) (side : Side) (back : ℕ) (rest forward : List Node) (top : Option Hash32) (height : Option ℕ) (m : Made)
-      → (of_files.tells → AllGrow side.files (of_files.bytes a)) → (of_files.tells → AllGrow (of_files.bytes a) (of_files.bytes b))
-      → (blocks : Chain) × Moves of_files.tells (of_files.bytes b) side.chain (record { back = back; forward = forward }) blocks
-      × of_ledger.stands new (target (record { back = back; forward = forward }) side.chain blocks) × AreTouched (record { back = back; forward = forward }) side.chain blocks m.touched
-      × CrashLeaves of_ledger old new side.chain (target (record { back = back; forward = forward }) side.chain blocks)
-      → forward ≡ take max_forward rest → ((c : Chain) → of_ledger.stands new c → top ≡ tip_of c) → ((c : Chain) → of_ledger.stands new c → height ≡ height_of c)
-      → m.moved ≡ true → m.answer ≡ say.At top height → of_files.faults b ≡ of_files.faults a → of_ledger.faults new ≡ of_ledger.faults old
-      → Tries of_ledger of_files old new a b side back rest m
-  made_tries old new a b side back rest forward top height m told grows moved is tip_is height_is yes_moved answer_is files_same disk_same = record {
+  pub made_tries : (was now : Beneath G A) (side : Side) (back : ℕ) (rest forward : List Node) (top : Option Hash32) (height : Option ℕ) (m : Made)
+      → (of.files.tells → AllGrow side.files (of.files.bytes was.files)) → (of.files.tells → AllGrow (of.files.bytes was.files) (of.files.bytes now.files))
+      → (blocks : Chain) × Moves (StoodAt of.files (of.files.bytes was.files) (of.files.bytes now.files)) side.chain (record { back = back; forward = forward }) blocks
+      × of.ledger.stands now.ledger (target (record { back = back; forward = forward }) side.chain blocks) × AreTouched (record { back = back; forward = forward }) side.chain blocks m.touched
+      × CrashLeaves of.ledger was.ledger now.ledger side.chain (target (record { back = back; forward = forward }) side.chain blocks)
+      → forward ≡ take max_forward rest → ((c : Chain) → of.ledger.stands now.ledger c → top ≡ tip_of c) → ((c : Chain) → of.ledger.stands now.ledger c → height ≡ height_of c)
+      → m.moved ≡ true → m.answer ≡ say.At top height → of.files.faults now.files ≡ of.files.faults was.files → of.ledger.faults now.ledger ≡ of.ledger.faults was.ledger
+      → Tries of was now side back rest m
+  made_tries was now side back rest forward top height m told grows moved is tip_is height_is yes_moved answer_is files_same disk_same = record {
     losses = [];
     chain = shorter back side.chain ++ moved.0;
-    tried = made moved.0 (rw is at moved.1) (rw is at moved.3) yes_moved refl (rw (← tip_is (shorter back side.chain ++ moved.0) moved.2, ← height_is (shorter back side.chain ++ moved.0) moved.2) answer_is) refl;
-    grows = λ t. all_grow_more side.files (of_files.bytes a) (of_files.bytes b) (told t) (grows t);
+    tried = made moved.0 (rw is at (moves_weaker (StoodAt of.files (of.files.bytes was.files) (of.files.bytes now.files)) (StoodAt of.files side.files (of.files.bytes now.files)) side.chain (record { back = back; forward = forward }) moved.0 (stood_since was.files now.files side told) moved.1)) (rw is at moved.3) yes_moved refl (rw (← tip_is (shorter back side.chain ++ moved.0) moved.2, ← height_is (shorter back side.chain ++ moved.0) moved.2) answer_is) refl;
+    grows = λ t. all_grow_more side.files (of.files.bytes was.files) (of.files.bytes now.files) (told t) (grows t);
     moved = record { stood = moved.2; crash = moved.4 };
     rose = λ of_link. rose_of of_link _ _ _ _ [] refl (rose_still _ _ files_same) (rose_still _ _ disk_same);
   }
 
   -- one that is refused
-  refused_tries : (old new : G) (a b : A) (side : Side) (back : ℕ) (rest : List Node) (m : Made) (losses : List Device)
-      → (of_files.tells → AllGrow side.files (of_files.bytes a)) → (of_files.tells → AllGrow (of_files.bytes a) (of_files.bytes b)) → Moved of_ledger old new side.chain side.chain
-      → Tried of_files.tells side back rest m.moved m.answer m.touched losses side.chain (of_files.bytes b)
-      → ((of_link : ℕ) → Rose (failed_calls of_ledger of_files of_link old a) (failed_calls of_ledger of_files of_link new b) losses)
-      → Tries of_ledger of_files old new a b side back rest m
-  refused_tries old new a b side back rest m losses told grows moved tried rose = record {
+  refused_tries : (was now : Beneath G A) (side : Side) (back : ℕ) (rest : List Node) (m : Made) (losses : List Device)
+      → (of.files.tells → AllGrow side.files (of.files.bytes was.files)) → (of.files.tells → AllGrow (of.files.bytes was.files) (of.files.bytes now.files)) → Moved of.ledger was.ledger now.ledger side.chain side.chain
+      → Tried (StoodAt of.files side.files (of.files.bytes now.files)) side back rest m.moved m.answer m.touched losses side.chain
+      → Lost of was now losses
+      → Tries of was now side back rest m
+  refused_tries was now side back rest m losses told grows moved tried rose = record {
     losses = losses;
     chain = side.chain;
     tried = tried;
-    grows = λ t. all_grow_more side.files (of_files.bytes a) (of_files.bytes b) (told t) (grows t);
+    grows = λ t. all_grow_more side.files (of.files.bytes was.files) (of.files.bytes now.files) (told t) (grows t);
     moved = moved;
     rose = rose;
   }
 
-  pub not_made : (old new : G) (a b : A) (side : Side) (back : ℕ) (rest forward : List Node) (e : MoveFault) (m : Made)
-      → (of_files.tells → AllGrow side.files (of_files.bytes a)) → (of_files.tells → AllGrow (of_files.bytes a) (of_files.bytes b)) → Moved of_ledger old new side.chain side.chain
-      → IsRefused of_files.tells (of_files.bytes b) side.chain (record { back = back; forward = forward }) e → forward ≡ take max_forward rest
-      → (e ≡ stop.ArchiveFailed → RoseBy (of_files.faults a) (of_files.faults b) 1) → (e ≢ stop.ArchiveFailed → of_files.faults b ≡ of_files.faults a)
-      → of_ledger.faults new ≡ of_ledger.faults old → m.moved ≡ false → SaysRefusal e m.answer → m.touched ≡ [] → Tries of_ledger of_files old new a b side back rest m
-  not_made old new a b side back rest forward stop.DiskFailed m told grows moved why is count still disk_same none says apart = absurd says
-  not_made old new a b side back rest forward stop.Memory m told grows moved why is count still disk_same none says apart = absurd says
-  not_made old new a b side back rest forward stop.ArchiveFailed m told grows moved why is count still disk_same none says apart =
-      refused_tries old new a b side back rest m (archive ∷ []) told grows moved (failed none refl says apart refl)
+  pub not_made : (was now : Beneath G A) (side : Side) (back : ℕ) (rest forward : List Node) (e : MoveFault) (m : Made)
+      → (of.files.tells → AllGrow side.files (of.files.bytes was.files)) → (of.files.tells → AllGrow (of.files.bytes was.files) (of.files.bytes now.files)) → Moved of.ledger was.ledger now.ledger side.chain side.chain
+      → IsRefused (StoodAt of.files (of.files.bytes was.files) (of.files.bytes now.files)) side.chain (record { back = back; forward = forward }) e → forward ≡ take max_forward rest
+      → (e ≡ stop.ArchiveFailed → RoseBy (of.files.faults was.files) (of.files.faults now.files) 1) → (e ≢ stop.ArchiveFailed → of.files.faults now.files ≡ of.files.faults was.files)
+      → of.ledger.faults now.ledger ≡ of.ledger.faults was.ledger → m.moved ≡ false → SaysRefusal e m.answer → m.touched ≡ [] → Tries of was now side back rest m
+  not_made was now side back rest forward stop.DiskFailed m told grows moved why is count still disk_same none says apart = absurd says
+  not_made was now side back rest forward stop.Memory m told grows moved why is count still disk_same none says apart = absurd says
+  not_made was now side back rest forward stop.ArchiveFailed m told grows moved why is count still disk_same none says apart =
+      refused_tries was now side back rest m (archive ∷ []) told grows moved (failed none refl says apart refl)
       (λ of_link. rose_of of_link _ _ _ _ (archive ∷ []) refl (count refl) (rose_still _ _ disk_same))
-  not_made old new a b side back rest forward (stop.Changed w f) m told grows moved why is count still disk_same none says apart =
-      refused_tries old new a b side back rest m [] told grows moved (refused (stop.Changed w f) (rw is at why) none refl says apart refl)
+  not_made was now side back rest forward (stop.Changed w f) m told grows moved why is count still disk_same none says apart =
+      refused_tries was now side back rest m [] told grows moved (refused (stop.Changed w f) (rw is at (refused_weaker (StoodAt of.files (of.files.bytes was.files) (of.files.bytes now.files)) (StoodAt of.files side.files (of.files.bytes now.files)) side.chain (record { back = back; forward = forward }) (stop.Changed w f) (stood_since was.files now.files side told) why)) none refl says apart refl)
       (λ of_link. rose_of of_link _ _ _ _ [] refl (rose_still _ _ (still (λ e. let bad = e in cc))) (rose_still _ _ disk_same))
-  not_made old new a b side back rest forward (stop.BadBlock h f) m told grows moved why is count still disk_same none says apart =
-      refused_tries old new a b side back rest m [] told grows moved (refused (stop.BadBlock h f) (rw is at why) none refl says apart refl)
+  not_made was now side back rest forward (stop.BadBlock h f) m told grows moved why is count still disk_same none says apart =
+      refused_tries was now side back rest m [] told grows moved (refused (stop.BadBlock h f) (rw is at (refused_weaker (StoodAt of.files (of.files.bytes was.files) (of.files.bytes now.files)) (StoodAt of.files side.files (of.files.bytes now.files)) side.chain (record { back = back; forward = forward }) (stop.BadBlock h f) (stood_since was.files now.files side told) why)) none refl says apart refl)
       (λ of_link. rose_of of_link _ _ _ _ [] refl (rose_still _ _ (still (λ e. let bad = e in cc))) (rose_still _ _ disk_same))
-  not_made old new a b side back rest forward (stop.Refused h f) m told grows moved why is count still disk_same none says apart =
-      refused_tries old new a b side back rest m [] told grows moved (refused (stop.Refused h f) (rw is at why) none refl says apart refl)
+  not_made was now side back rest forward (stop.Refused h f) m told grows moved why is count still disk_same none says apart =
+      refused_tries was now side back rest m [] told grows moved (refused (stop.Refused h f) (rw is at (refused_weaker (StoodAt of.files (of.files.bytes was.files) (of.files.bytes now.files)) (StoodAt of.files side.files (of.files.bytes now.files)) side.chain (record { back = back; forward = forward }) (stop.Refused h f) (stood_since was.files now.files side told) why)) none refl says apart refl)
       (λ of_link. rose_of of_link _ _ _ _ [] refl (rose_still _ _ (still (λ e. let bad = e in cc))) (rose_still _ _ disk_same))
 
   -- the ledger's device failed in a move, or no memory was found to tell of its refusal
-  pub broke : {T : Type 0} (r : Result T QueryFault) (old new : G) (a b : A) (chain : Chain) (back : ℕ) (rest forward : List Node) (e : QueryFault) → r ≡ Err e → forward ≡ take max_forward rest
-      → (e ≡ fault.DiskFailed → (next : Chain) × InFlight of_files.tells (of_files.bytes b) chain (record { back = back; forward = forward }) next
-      × CrashLeaves of_ledger old new chain next)
-      → (e ≡ fault.Memory → Moved of_ledger old new chain chain) → MoveFailed of_ledger of_files old new a b e
-      → IfErr r (StopsAt of_ledger of_files old new a b chain false (λ (p : Plan). p ≡ plan_of back rest))
-  broke {T} r old new a b chain back rest forward fault.Memory is front broken moved f =
-      rw is (still_there of_ledger of_files {T = T} (Err fault.Memory) old new a b chain _ (moved refl) f.archive_rose
+  pub broke : {T : Type 0} (r : Result T QueryFault) (was now : Beneath G A) (chain : Chain) (back : ℕ) (rest forward : List Node) (e : QueryFault) → r ≡ Err e → forward ≡ take max_forward rest
+      → (e ≡ fault.DiskFailed → (next : Chain) × InFlight (StoodAt of.files (of.files.bytes was.files) (of.files.bytes now.files)) chain (record { back = back; forward = forward }) next
+      × CrashLeaves of.ledger was.ledger now.ledger chain next)
+      → (e ≡ fault.Memory → Moved of.ledger was.ledger now.ledger chain chain) → MoveFailed of was now e
+      → IfErr r (StopsAt of was now chain false (λ (p : Plan). p ≡ plan_of back rest))
+  broke {T} r was now chain back rest forward fault.Memory is front broken moved f =
+      rw is (still_there of {T = T} (Err fault.Memory) was now chain _ (moved refl) f.archive_rose
       (record { counted = λ e. absurd (let bad = e in cc); uncounted = tt; others_uncounted = λ other. f.disk_same other }))
-  broke r old new a b chain back rest forward fault.DiskFailed is front broken moved f =
+  broke r was now chain back rest forward fault.DiskFailed is front broken moved f =
       let flight = broken refl in
       rw is (record {
         next = flight.0;
-        flight = in_move (plan_of back rest) refl (rw front at flight.1);
+        flight = in_move (plan_of back rest) refl (rw front at (flight_weaker (StoodAt of.files (of.files.bytes was.files) (of.files.bytes now.files)) (StoodBy of.files (of.files.bytes now.files)) chain (record { back = back; forward = forward }) flight.0 (stood_by was.files now.files) flight.1));
         crash = flight.2;
         stood = λ m. absurd (let bad = m in cc);
         losses = device.disk ∷ [];
@@ -252,34 +260,34 @@ module _ {G A : Type 0} (of_ledger : ledgers.Ghosts G) (of_files : archives.Ghos
   -- ---- the sift
 
   -- a ledger that was moved, and then asked
-  then_asked : (old mid new : G) (chain next : Chain) → LeavesOwn of_ledger → of_ledger.is_live mid → Moved of_ledger old mid chain next → Asked of_ledger mid new → Moved of_ledger old new chain next
+  then_asked : (old mid new : G) (chain next : Chain) → LeavesOwn of.ledger → of.ledger.is_live mid → Moved of.ledger old mid chain next → Asked of.ledger mid new → Moved of.ledger old new chain next
   then_asked old mid new chain next own live moved asked = record {
     stood = asked.stays.still_stands next moved.stood;
-    crash = λ told. joined of_ledger.moment of_ledger.left_since old mid new (Either of_ledger.means chain next) (moved.crash told)
-        (weaker of_ledger.moment of_ledger.left_since mid new (λ d. of_ledger.means d next) (Either of_ledger.means chain next) (λ d m. inr m)
-        (asked_leaves of_ledger mid new live own asked told next moved.stood));
+    crash = λ told. joined of.ledger.moment of.ledger.left_since old mid new (Either of.ledger.means chain next) (moved.crash told)
+        (weaker of.ledger.moment of.ledger.left_since mid new (λ d. of.ledger.means d next) (Either of.ledger.means chain next) (λ d m. inr m)
+        (asked_leaves of.ledger mid new live own asked told next moved.stood));
   }
 
   -- the set was sifted, or a later move is to do it
-  pub settled : (old mid new : G) (a b : A) (side : Side) (start : Chain) (back : ℕ) (rest : List Node) (holdings : Holdings) (pool_new : PoolState) (m : Made) (changed : List Hash32) (later ends : Bool) → LeavesOwn of_ledger → of_ledger.is_live mid
-      → IsAt of_ledger of_files old holdings a side start → (later ≡ false → side.ahead ≡ []) → Tries of_ledger of_files old mid a b side back rest m → MoveKeeps of_ledger of_files old mid a b rest m
+  pub settled : (was now : Beneath G A) (mid : G) (side : Side) (start : Chain) (back : ℕ) (rest : List Node) (holdings : Holdings) (pool_new : PoolState) (m : Made) (changed : List Hash32) (later ends : Bool) → LeavesOwn of.ledger → of.ledger.is_live mid
+      → IsAt of was holdings side start → (later ≡ false → side.ahead ≡ []) → Tries of was (record now { ledger = mid }) side back rest m → MoveKeeps of was (record now { ledger = mid }) rest m
       → ends ≡ ((length m.left == 0) && (m.moved || later))
-      → ((first chain : Chain) → StandsFor holdings.pool.entries first side.kept → of_ledger.stands mid chain → ends ≡ true → StandsFor pool_new.entries chain (sift chain side.kept)
+      → ((first chain : Chain) → StandsFor holdings.pool.entries first side.kept → of.ledger.stands mid chain → ends ≡ true → StandsFor pool_new.entries chain (sift chain side.kept)
       × AreChanged first side.kept chain (sift chain side.kept) changed)
-      → (ends ≡ false → pool_new ≡ holdings.pool) → pool_new.limits ≡ holdings.pool.limits → Asked of_ledger mid new → of_ledger.faults new ≡ of_ledger.faults mid
-      → Leads of_ledger of_files (Moving of_files.tells side back rest) old new a b side start m.answer side.found m.left m.touched changed (record holdings { pool = pool_new })
-  settled old mid new a b side start back rest holdings pool_new m changed later ends own live at still t k is sifts same limits asked disk_same = by t.tried t.moved t.rose
+      → (ends ≡ false → pool_new ≡ holdings.pool) → pool_new.limits ≡ holdings.pool.limits → Asked of.ledger mid now.ledger → of.ledger.faults now.ledger ≡ of.ledger.faults mid
+      → Leads of (Moving of.files side back rest) side start (left_by was now (record { answer = m.answer; left = m.left; moved = m.touched; changed = changed }) side.found (record holdings { pool = pool_new }))
+  settled was now mid side start back rest holdings pool_new m changed later ends own live at still t k is sifts same limits asked disk_same = by t.tried t.moved t.rose
     where
-      rose_on : (losses : List Device) → ((of_link : ℕ) → Rose (failed_calls of_ledger of_files of_link old a) (failed_calls of_ledger of_files of_link mid b) losses)
-          → (of_link : ℕ) → Rose (failed_calls of_ledger of_files of_link old a) (failed_calls of_ledger of_files of_link new b) losses
+      rose_on : (losses : List Device) → Lost of was (record now { ledger = mid }) losses
+          → Lost of was now losses
       rose_on losses rose of_link = rw disk_same (rose of_link)
 
-      by : {losses : List Device} {chain : Chain} → Tried of_files.tells side back rest m.moved m.answer m.touched losses chain (of_files.bytes b) → Moved of_ledger old mid side.chain chain
-          → ((of_link : ℕ) → Rose (failed_calls of_ledger of_files of_link old a) (failed_calls of_ledger of_files of_link mid b) losses)
-          → Leads of_ledger of_files (Moving of_files.tells side back rest) old new a b side start m.answer side.found m.left m.touched changed (record holdings { pool = pool_new })
+      by : {losses : List Device} {chain : Chain} → Tried (StoodAt of.files side.files (of.files.bytes now.files)) side back rest m.moved m.answer m.touched losses chain → Moved of.ledger was.ledger mid side.chain chain
+          → Lost of was (record now { ledger = mid }) losses
+          → Leads of (Moving of.files side back rest) side start (left_by was now (record { answer = m.answer; left = m.left; moved = m.touched; changed = changed }) side.found (record holdings { pool = pool_new }))
       by {losses} {chain} (made blocks moves touched yes_moved chain_is answer_is lost) moved rose =
           let left_is : m.left ≡ left_of rest = k.left ∙ rw yes_moved refl in
-          let stood : of_ledger.stands mid (shorter back side.chain ++ blocks) = rw chain_is at moved.stood in
+          let stood : of.ledger.stands mid (shorter back side.chain ++ blocks) = rw chain_is at moved.stood in
           let ended : left_of rest ≡ [] → ends ≡ true = λ none. ends_whole (left_of rest) m.left m.moved later ends is yes_moved left_is none in
           record {
             losses = losses;
@@ -287,89 +295,89 @@ module _ {G A : Type 0} (of_ledger : ledgers.Ghosts G) (of_files : archives.Ghos
               chain = shorter back side.chain ++ blocks;
               kept = kept_after (left_of rest) (shorter back side.chain ++ blocks) side.kept;
               ahead = left_of rest;
-              files = of_files.bytes b;
+              files = of.files.bytes now.files;
             };
-            led = side_of.commits (of_files.bytes b) blocks t.grows moves refl (rw chain_is at answer_is) lost;
+            led = side_of.commits (of.files.bytes now.files) blocks t.grows moves refl (rw chain_is at answer_is) lost;
             found_is = refl;
             ahead_is = left_is;
             magic_is = refl;
             next_start = start_after (left_of rest) (shorter back side.chain ++ blocks) start;
-            set = set_moved (left_of rest) (shorter back side.chain ++ blocks) start (of_files.bytes b) holdings pool_new side at.set limits
+            set = set_moved (left_of rest) (shorter back side.chain ++ blocks) start (of.files.bytes now.files) holdings pool_new side at.set limits
                 (λ none. (sifts start (shorter back side.chain ++ blocks) at.set.stood stood (ended none)).0) (λ n ns some. same (ends_not n ns m.left m.moved later ends is (left_is ∙ some)));
-            touches = touches_moved (left_of rest) (shorter back side.chain ++ blocks) start (of_files.bytes b) side m.touched changed
+            touches = touches_moved (left_of rest) (shorter back side.chain ++ blocks) start (of.files.bytes now.files) side m.touched changed
                 (move_keeps (plan_of back rest) side.chain blocks m.touched touched) (λ none. (sifts start (shorter back side.chain ++ blocks) at.set.stood stood (ended none)).1);
-            went = then_asked old mid new side.chain (shorter back side.chain ++ blocks) own live (rw chain_is at moved) asked;
-            told = λ t. all_grow_none (of_files.bytes b);
+            went = then_asked was.ledger mid now.ledger side.chain (shorter back side.chain ++ blocks) own live (rw chain_is at moved) asked;
+            told = λ t. all_grow_none (of.files.bytes now.files);
             rose = rose_on losses rose;
           }
       by {losses} {chain} (refused e why no_moved chain_is says apart lost) moved rose =
           let left_is : m.left ≡ [] = k.left ∙ rw no_moved refl in
           let ended = ends_later m.left m.moved later ends is no_moved left_is in
-          let moved_on : Moved of_ledger old mid side.chain side.chain = rw chain_is at moved in
+          let moved_on : Moved of.ledger was.ledger mid side.chain side.chain = rw chain_is at moved in
           record {
             losses = losses;
-            next = record side { kept = sift side.chain side.kept; ahead = []; files = of_files.bytes b };
-            led = side_of.refuses (of_files.bytes b) e t.grows says why refl lost;
+            next = record side { kept = sift side.chain side.kept; ahead = []; files = of.files.bytes now.files };
+            led = side_of.refuses (of.files.bytes now.files) e t.grows says why refl lost;
             found_is = refl;
             ahead_is = left_is;
             magic_is = refl;
             next_start = side.chain;
-            set = set_refused later start (of_files.bytes b) holdings pool_new side at.set still limits
+            set = set_refused later start (of.files.bytes now.files) holdings pool_new side at.set still limits
                 (λ yes_later. (sifts start side.chain at.set.stood moved_on.stood (ended ∙ yes_later)).0) (λ no_later. same (ended ∙ no_later));
-            touches = touches_refused later start (of_files.bytes b) holdings side m.touched changed at.set still
+            touches = touches_refused later start (of.files.bytes now.files) holdings side m.touched changed at.set still
                 (λ yes_later. (sifts start side.chain at.set.stood moved_on.stood (ended ∙ yes_later)).1);
-            went = then_asked old mid new side.chain side.chain own live moved_on asked;
-            told = λ t. all_grow_none (of_files.bytes b);
+            went = then_asked was.ledger mid now.ledger side.chain side.chain own live moved_on asked;
+            told = λ t. all_grow_none (of.files.bytes now.files);
             rose = rose_on losses rose;
           }
       by {losses} {chain} (failed no_moved chain_is says apart lost) moved rose =
           let left_is : m.left ≡ [] = k.left ∙ rw no_moved refl in
           let ended = ends_later m.left m.moved later ends is no_moved left_is in
-          let moved_on : Moved of_ledger old mid side.chain side.chain = rw chain_is at moved in
+          let moved_on : Moved of.ledger was.ledger mid side.chain side.chain = rw chain_is at moved in
           record {
             losses = losses;
-            next = record side { kept = sift side.chain side.kept; ahead = []; files = of_files.bytes b };
-            led = side_of.fails (of_files.bytes b) t.grows says refl lost;
+            next = record side { kept = sift side.chain side.kept; ahead = []; files = of.files.bytes now.files };
+            led = side_of.fails (of.files.bytes now.files) t.grows says refl lost;
             found_is = refl;
             ahead_is = left_is;
             magic_is = refl;
             next_start = side.chain;
-            set = set_refused later start (of_files.bytes b) holdings pool_new side at.set still limits
+            set = set_refused later start (of.files.bytes now.files) holdings pool_new side at.set still limits
                 (λ yes_later. (sifts start side.chain at.set.stood moved_on.stood (ended ∙ yes_later)).0) (λ no_later. same (ended ∙ no_later));
-            touches = touches_refused later start (of_files.bytes b) holdings side m.touched changed at.set still
+            touches = touches_refused later start (of.files.bytes now.files) holdings side m.touched changed at.set still
                 (λ yes_later. (sifts start side.chain at.set.stood moved_on.stood (ended ∙ yes_later)).1);
-            went = then_asked old mid new side.chain side.chain own live moved_on asked;
-            told = λ t. all_grow_none (of_files.bytes b);
+            went = then_asked was.ledger mid now.ledger side.chain side.chain own live moved_on asked;
+            told = λ t. all_grow_none (of.files.bytes now.files);
             rose = rose_on losses rose;
           }
 
   -- the sift failed
-  pub unsettled : {T : Type 0} (r : Result T QueryFault) (e : QueryFault) (old mid new : G) (a b : A) (side : Side) (back : ℕ) (rest : List Node) (m : Made) (later : Bool) → r ≡ Err e → LeavesOwn of_ledger
-      → of_ledger.is_live mid → Tries of_ledger of_files old mid a b side back rest m → (m.moved ≡ false → later ≡ true) → Asked of_ledger mid new
-      → (e ≡ fault.DiskFailed → RoseBy (of_ledger.faults mid) (of_ledger.faults new) 1) → (e ≢ fault.DiskFailed → of_ledger.faults new ≡ of_ledger.faults mid)
-      → IfErr r (StopsAt of_ledger of_files old new a b side.chain later (λ (p : Plan). p ≡ plan_of back rest))
-  unsettled r e old mid new a b side back rest m later is own live t only asked counted others = rw is (by t.tried t.moved t.rose)
+  pub unsettled : {T : Type 0} (r : Result T QueryFault) (e : QueryFault) (was now : Beneath G A) (mid : G) (side : Side) (back : ℕ) (rest : List Node) (m : Made) (later : Bool) → r ≡ Err e → LeavesOwn of.ledger
+      → of.ledger.is_live mid → Tries of was (record now { ledger = mid }) side back rest m → (m.moved ≡ false → later ≡ true) → Asked of.ledger mid now.ledger
+      → (e ≡ fault.DiskFailed → RoseBy (of.ledger.faults mid) (of.ledger.faults now.ledger) 1) → (e ≢ fault.DiskFailed → of.ledger.faults now.ledger ≡ of.ledger.faults mid)
+      → IfErr r (StopsAt of was now side.chain later (λ (p : Plan). p ≡ plan_of back rest))
+  unsettled r e was now mid side back rest m later is own live t only asked counted others = rw is (by t.tried t.moved t.rose)
     where
       lost_in : QueryFault → List Device
       lost_in fault.DiskFailed = device.disk ∷ []
       lost_in fault.Memory = []
 
-      rose_in : (e : QueryFault) → (e ≡ fault.DiskFailed → RoseBy (of_ledger.faults mid) (of_ledger.faults new) 1) → (e ≢ fault.DiskFailed → of_ledger.faults new ≡ of_ledger.faults mid)
-          → (of_link : ℕ) → Rose (failed_calls of_ledger of_files of_link mid b) (failed_calls of_ledger of_files of_link new b) (lost_in e)
+      rose_in : (e : QueryFault) → (e ≡ fault.DiskFailed → RoseBy (of.ledger.faults mid) (of.ledger.faults now.ledger) 1) → (e ≢ fault.DiskFailed → of.ledger.faults now.ledger ≡ of.ledger.faults mid)
+          → Lost of (record now { ledger = mid }) now (lost_in e)
       rose_in fault.DiskFailed counted others of_link = rose_of of_link _ _ _ _ (device.disk ∷ []) refl (rose_still _ _ refl) (counted refl)
       rose_in fault.Memory counted others of_link = rose_of of_link _ _ _ _ [] refl (rose_still _ _ refl) (rose_still _ _ (others (λ e. let bad = e in cc)))
 
-      stops : (losses : List Device) (next : Chain) → IsUnderWay of_files.tells (of_files.bytes b) side.chain (λ (p : Plan). p ≡ plan_of back rest) next
-          → Moved of_ledger old mid side.chain next → ((of_link : ℕ) → Rose (failed_calls of_ledger of_files of_link old a) (failed_calls of_ledger of_files of_link mid b) losses)
-          → FailsBy later side.chain next e (losses ++ lost_in e) → StopsAt of_ledger of_files old new a b side.chain later (λ (p : Plan). p ≡ plan_of back rest) e
+      stops : (losses : List Device) (next : Chain) → IsUnderWay (StoodBy of.files (of.files.bytes now.files)) side.chain (λ (p : Plan). p ≡ plan_of back rest) next
+          → Moved of.ledger was.ledger mid side.chain next → Lost of was (record now { ledger = mid }) losses
+          → FailsBy later side.chain next e (losses ++ lost_in e) → StopsAt of was now side.chain later (λ (p : Plan). p ≡ plan_of back rest) e
       stops losses next flight moved rose fails = record {
         next = next;
         flight = flight;
-        crash = (then_asked old mid new side.chain next own live moved asked).crash;
-        stood = λ memory. then_asked old mid new side.chain next own live moved asked;
+        crash = (then_asked was.ledger mid now.ledger side.chain next own live moved asked).crash;
+        stood = λ memory. then_asked was.ledger mid now.ledger side.chain next own live moved asked;
         losses = losses ++ lost_in e;
         fails = fails;
-        rose = λ of_link. all_rose_on (failed_calls of_ledger of_files of_link old a) (failed_calls of_ledger of_files of_link mid b) (failed_calls of_ledger of_files of_link new b) losses (lost_in e)
+        rose = λ of_link. all_rose_on (failed_beneath of of_link was) (failed_beneath of of_link (record now { ledger = mid })) (failed_beneath of of_link now) losses (lost_in e)
             (rose of_link) (rose_in e counted others of_link);
       }
 
@@ -381,18 +389,21 @@ module _ {G A : Type 0} (of_ledger : ledgers.Ghosts G) (of_files : archives.Ghos
       after_files fault.DiskFailed yes_later = in_sift yes_later refl refl refl
       after_files fault.Memory yes_later = untold yes_later refl refl refl
 
-      by : {losses : List Device} {chain : Chain} → Tried of_files.tells side back rest m.moved m.answer m.touched losses chain (of_files.bytes b) → Moved of_ledger old mid side.chain chain
-          → ((of_link : ℕ) → Rose (failed_calls of_ledger of_files of_link old a) (failed_calls of_ledger of_files of_link mid b) losses)
-          → StopsAt of_ledger of_files old new a b side.chain later (λ (p : Plan). p ≡ plan_of back rest) e
+      by : {losses : List Device} {chain : Chain} → Tried (StoodAt of.files side.files (of.files.bytes now.files)) side back rest m.moved m.answer m.touched losses chain → Moved of.ledger was.ledger mid side.chain chain
+          → Lost of was (record now { ledger = mid }) losses
+          → StopsAt of was now side.chain later (λ (p : Plan). p ≡ plan_of back rest) e
       by {losses} {chain} (made blocks moves touched yes_moved chain_is answer_is lost) moved rose =
-          stops losses chain (in_move (plan_of back rest) refl (inr (blocks, moves, chain_is))) moved rose (rw lost (alone e chain))
+          let by_then : (n : Node) (u : List ℕ) → StoodAt of.files side.files (of.files.bytes now.files) n u → StoodBy of.files (of.files.bytes now.files) n u =
+          λ n u stood. stood_up_to of.files side.files (of.files.bytes now.files) (of.files.bytes now.files) n u (λ tl. all_grow_none (of.files.bytes now.files)) stood in
+          let moves_then = moves_weaker (StoodAt of.files side.files (of.files.bytes now.files)) (StoodBy of.files (of.files.bytes now.files)) side.chain (plan_of back rest) blocks by_then moves in
+          stops losses chain (in_move (plan_of back rest) refl (inr (blocks, moves_then, chain_is))) moved rose (rw lost (alone e chain))
       by {losses} {chain} (refused f why no_moved chain_is says apart lost) moved rose = stops losses chain (before chain_is) moved rose (rw lost (alone e chain))
       by {losses} {chain} (failed no_moved chain_is says apart lost) moved rose = stops losses chain (before chain_is) moved rose (rw (lost, chain_is) (after_files e (only no_moved)))
 
   -- ---- what the step keeps
 
-  pub step_failed : (r : Result Step QueryFault) (e : QueryFault) (old new : G) (a b : A) (later : Bool) → r ≡ Err e → MoveFailed of_ledger of_files old new a b e → NodeStep of_ledger of_files old new a b later r
-  step_failed r e old new a b later is f = rw is (record {
+  pub step_failed : (r : Result Step QueryFault) (e : QueryFault) (was now : Beneath G A) (later : Bool) → r ≡ Err e → MoveFailed of was now e → NodeStep of was now later r
+  step_failed r e was now later is f = rw is (record {
     live = tt;
     still_live = λ m. f.still_live (same_fault e fault.Memory m);
     nodes = tt;
@@ -407,34 +418,34 @@ module _ {G A : Type 0} (of_ledger : ledgers.Ghosts G) (of_files : archives.Ghos
       same_fault : (x y : QueryFault) → ◌≡◌ {A = Result Step QueryFault} (Err x) (Err y) → x ≡ y
       same_fault x y m = cc
 
-  more_files : (a b : A) (P : Type 0) → RoseBy (of_files.faults a) (of_files.faults b) 0 ⊎ (P × RoseBy (of_files.faults a) (of_files.faults b) 1) → of_files.faults a ≤ of_files.faults b
+  more_files : (a b : A) (P : Type 0) → RoseBy (of.files.faults a) (of.files.faults b) 0 ⊎ (P × RoseBy (of.files.faults a) (of.files.faults b) 1) → of.files.faults a ≤ of.files.faults b
   more_files a b P (inl none) = omega (arith, none)
   more_files a b P (inr one) = omega (arith, one.1)
 
-  pub step_settled : (answer : NodeAnswer) (moved changed : List Hash32) (old mid new : G) (a b : A) (rest : List Node) (m : Made) (later : Bool) → MoveKeeps of_ledger of_files old mid a b rest m → Asked of_ledger mid new
-      → of_ledger.faults new ≡ of_ledger.faults mid → NodeStep of_ledger of_files old new a b later (Ok (record { answer = answer; left = m.left; moved = moved; changed = changed }))
-  step_settled answer moved changed old mid new a b rest m later k asked disk_same = record {
+  pub step_settled : (answer : NodeAnswer) (moved changed : List Hash32) (was now : Beneath G A) (mid : G) (rest : List Node) (m : Made) (later : Bool) → MoveKeeps of was (record now { ledger = mid }) rest m → Asked of.ledger mid now.ledger
+      → of.ledger.faults now.ledger ≡ of.ledger.faults mid → NodeStep of was now later (Ok (record { answer = answer; left = m.left; moved = moved; changed = changed }))
+  step_settled answer moved changed was now mid rest m later k asked disk_same = record {
     live = asked.stays.still_live k.live;
     still_live = λ bad. absurd (let e = bad in cc);
     nodes = k.nodes;
     linked = rw asked.stays.same_tip k.linked;
     keeps = k.keeps;
-    archive_more = more_files a b (m.moved ≡ false) k.archive_rose;
+    archive_more = more_files was.files now.files (m.moved ≡ false) k.archive_rose;
     archive_rose = tt;
     disk_rose = record { counted = λ bad. absurd (let e = bad in cc); uncounted = disk_same ∙ k.disk_same; others_uncounted = tt };
     beside = λ told. asked.below.files told ∙ k.beside told;
   }
 
-  pub step_unsettled : (r : Result Step QueryFault) (e : QueryFault) (old mid new : G) (a b : A) (rest : List Node) (m : Made) (later : Bool) → r ≡ Err e → MoveKeeps of_ledger of_files old mid a b rest m
-      → Asked of_ledger mid new → (m.moved ≡ false → later ≡ true) → (e ≡ fault.DiskFailed → RoseBy (of_ledger.faults mid) (of_ledger.faults new) 1)
-      → (e ≢ fault.DiskFailed → of_ledger.faults new ≡ of_ledger.faults mid) → NodeStep of_ledger of_files old new a b later r
-  step_unsettled r e old mid new a b rest m later is k asked only counted others = rw is (record {
+  pub step_unsettled : (r : Result Step QueryFault) (e : QueryFault) (was now : Beneath G A) (mid : G) (rest : List Node) (m : Made) (later : Bool) → r ≡ Err e → MoveKeeps of was (record now { ledger = mid }) rest m
+      → Asked of.ledger mid now.ledger → (m.moved ≡ false → later ≡ true) → (e ≡ fault.DiskFailed → RoseBy (of.ledger.faults mid) (of.ledger.faults now.ledger) 1)
+      → (e ≢ fault.DiskFailed → of.ledger.faults now.ledger ≡ of.ledger.faults mid) → NodeStep of was now later r
+  step_unsettled r e was now mid rest m later is k asked only counted others = rw is (record {
     live = tt;
     still_live = λ memory. asked.stays.still_live k.live;
     nodes = tt;
     linked = tt;
     keeps = k.keeps;
-    archive_more = more_files a b (m.moved ≡ false) k.archive_rose;
+    archive_more = more_files was.files now.files (m.moved ≡ false) k.archive_rose;
     archive_rose = rose k.archive_rose;
     disk_rose = record { counted = λ bad. rw k.disk_same at (counted (same_fault e fault.DiskFailed bad)); uncounted = tt; others_uncounted = λ other. others other ∙ k.disk_same };
     beside = λ told. asked.below.files told ∙ k.beside told;
@@ -443,7 +454,7 @@ module _ {G A : Type 0} (of_ledger : ledgers.Ghosts G) (of_files : archives.Ghos
       same_fault : (x y : QueryFault) → ◌≡◌ {A = Result Step QueryFault} (Err x) (Err y) → x ≡ y
       same_fault x y bad = cc
 
-      rose : RoseBy (of_files.faults a) (of_files.faults b) 0 ⊎ ((m.moved ≡ false) × RoseBy (of_files.faults a) (of_files.faults b) 1)
-          → RoseWith later (λ n. RoseBy (of_files.faults a) (of_files.faults b) n)
+      rose : RoseBy (of.files.faults was.files) (of.files.faults now.files) 0 ⊎ ((m.moved ≡ false) × RoseBy (of.files.faults was.files) (of.files.faults now.files) 1)
+          → RoseWith later (λ n. RoseBy (of.files.faults was.files) (of.files.faults now.files) n)
       rose (inl none) = inl none
       rose (inr one) = inr (only one.0, one.1)

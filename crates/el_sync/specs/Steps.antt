@@ -4,20 +4,22 @@ use Rattle.std.specs.Prelude.{◌≡◌, ◌⊎◌, ◌≤◌, ℕ, Bool, true, 
 use Rattle.std.specs.List.{AllByRecursion}
 use Rattle.el_base.specs.declared.hash.Hash32.{Hash32}
 use Rattle.el_outside.specs.Counts.{RoseBy, CountsOnly}
-use Rattle.el_outside.specs.Devices.{Device, archive, disk, Rose}
+use Rattle.el_outside.specs.Devices.{Device, archive, disk}
 use Rattle.el_outside.specs.Files.{AllGrow}
-use Rattle.el_outside.specs.declared.archive.Archive as archives
 use Rattle.el_chain.specs.declared.moves.Plan.{Plan}
+use Rattle.el_chain.specs.declared.node.Node.{Node}
 use Rattle.el_chain.specs.Chains.{Chain, zero_hash}
 use Rattle.el_chain.specs.Headers.{AreLinked}
+use Rattle.el_chain.specs.Moves.{StoodBy}
 use Rattle.el_chain.specs.Records.{IsNode}
 use Rattle.el_lines.specs.declared.node_answer.NodeAnswer.TheVariants as say
 use Rattle.el_lines.specs.declared.node_answer.NodeRefusal.TheVariants as refusal
 use Rattle.el_side.specs.declared.holdings.Holdings.{Holdings}
+use Rattle.el_side.specs.Beneath.{Beneath, Ghosts, Lost}
+use Rattle.el_side.specs.NodeSteps.{StepLeft}
 use Rattle.el_side.specs.UnderWay.{IsUnderWay}
-use Rattle.el_model.specs.LedgerCalls.{CrashLeaves, KeepsBeside, Moved, failed_calls}
+use Rattle.el_model.specs.LedgerCalls.{CrashLeaves, KeepsBeside, Moved}
 use Rattle.el_side.specs.Side.{Side}
-use Rattle.el_model.specs.declared.ledger.Ledger as ledgers
 use Rattle.el_model.specs.declared.fault.QueryFault.{QueryFault}
 use Rattle.el_model.specs.declared.fault.QueryFault.TheVariants as fault
 use Rattle.el_sync.specs.declared.moving.Step.{Step}
@@ -48,20 +50,31 @@ pub data FailsBy (later : Bool) (chain next : Chain) (e : QueryFault) (losses : 
 abbrev pub TouchesNoFailed : Step → Type 0
 TouchesNoFailed s = s.answer ≡ say.Refused refusal.Archive → (s.moved ≡ []) × (s.changed ≡ [])
 
+-- what a step left that gave this, where these headers are then found, and this is then held
+abbrev pub left_by : {G A : Type 0} → Beneath G A → Beneath G A → Step → List Node → Holdings → StepLeft G A
+left_by was now s found holdings = record {
+  was = was;
+  now = now;
+  answer = s.answer;
+  found = found;
+  ahead = s.left;
+  moved = s.moved;
+  changed = s.changed;
+  holdings = holdings;
+}
+
 -- The step failed. What a crash since its start leaves is the side's chain or `next`, the target of a move
 -- that the step may make. Where no memory was found the ledger stands for `next`, which is the side's chain
 -- or what the move has made of it before the set was sifted.
-pub record StopsAt {G A : Type 0} (of_ledger : ledgers.Ghosts G) (of_files : archives.Ghosts A) (old new : G)
-    (files_old files_new : A) (chain : Chain) (later : Bool) (is_move : Plan → Type 0) (e : QueryFault)
-    : Type 0 where
+pub record StopsAt {G A : Type 0} (of : Ghosts G A) (was now : Beneath G A) (chain : Chain) (later : Bool)
+    (is_move : Plan → Type 0) (e : QueryFault) : Type 0 where
   pub next : Chain
-  pub flight : IsUnderWay of_files.tells (of_files.bytes files_new) chain is_move next
-  pub crash : CrashLeaves of_ledger old new chain next
-  pub stood : e ≡ fault.Memory → Moved of_ledger old new chain next
+  pub flight : IsUnderWay (StoodBy of.files (of.files.bytes now.files)) chain is_move next
+  pub crash : CrashLeaves of.ledger was.ledger now.ledger chain next
+  pub stood : e ≡ fault.Memory → Moved of.ledger was.ledger now.ledger chain next
   pub losses : List Device
   pub fails : FailsBy later chain next e losses
-  pub rose : (of_link : ℕ) → Rose (failed_calls of_ledger of_files of_link old files_old)
-      (failed_calls of_ledger of_files of_link new files_new) losses
+  pub rose : Lost of was now losses
 
 -- by how much the count of the block files' failures rose where a step failed: by one only in the sift after
 -- a later move that they had failed
@@ -69,18 +82,19 @@ abbrev pub RoseWith : Bool → (ℕ → Type 0) → Type 0
 RoseWith later rose = rose 0 ⊎ ((later ≡ true) × rose 1)
 
 -- What each step of the node's work keeps, whatever the ledger stands for.
-pub record NodeStep {G A : Type 0} (of_ledger : ledgers.Ghosts G) (of_files : archives.Ghosts A) (old new : G)
-    (files_old files_new : A) (later : Bool) (result : Result Step QueryFault) : Type 0 where
-  pub live : OnOk result (of_ledger.is_live new)
-  pub still_live : result ≡ Err fault.Memory → of_ledger.is_live new
+pub record NodeStep {G A : Type 0} (of : Ghosts G A) (was now : Beneath G A) (later : Bool)
+    (result : Result Step QueryFault) : Type 0 where
+  pub live : OnOk result (of.ledger.is_live now.ledger)
+  pub still_live : result ≡ Err fault.Memory → of.ledger.is_live now.ledger
   -- the blocks that are still to be put in, each of which names the one before it
   pub nodes : IfOk result (λ s. AllByRecursion IsNode s.left)
-  pub linked : IfOk result (λ s. AreLinked (named (of_ledger.tip new)) s.left)
+  pub linked : IfOk result (λ s. AreLinked (named (of.ledger.tip now.ledger)) s.left)
   -- block files only grow, and no count falls
-  pub keeps : of_files.tells → AllGrow (of_files.bytes files_old) (of_files.bytes files_new)
-  pub archive_more : of_files.faults files_old ≤ of_files.faults files_new
+  pub keeps : of.files.tells → AllGrow (of.files.bytes was.files) (of.files.bytes now.files)
+  pub archive_more : of.files.faults was.files ≤ of.files.faults now.files
   pub archive_rose : OnErr result
-      (RoseWith later (λ n. RoseBy (of_files.faults files_old) (of_files.faults files_new) n))
-  pub disk_rose : CountsOnly (of_ledger.faults old) (of_ledger.faults new) fault.DiskFailed result
+      (RoseWith later (λ n. RoseBy (of.files.faults was.files) (of.files.faults now.files) n))
+  pub disk_rose :
+      CountsOnly (of.ledger.faults was.ledger) (of.ledger.faults now.ledger) fault.DiskFailed result
   -- the files beside the ledger's own stay
-  pub beside : KeepsBeside of_ledger old new
+  pub beside : KeepsBeside of.ledger was.ledger now.ledger

@@ -10,6 +10,7 @@ ghost use Rattle.el_chain.specs.Moves.{shorter, max_back};
 ghost use Rattle.el_chain.specs.Records.{IsNode};
 ghost use Rattle.el_model.specs.declared.fault.QueryFault.TheVariants as turn_fault;
 ghost use Rattle.el_lines.specs.NodeAnswers as answers;
+ghost use Rattle.el_side.specs.Beneath.{beneath, ghosts};
 ghost use Rattle.el_side.specs.Plans.{plan_of};
 ghost use Rattle.el_side.specs.Side.{Side};
 ghost use Rattle.el_sync.specs.Steps.{StopsAt};
@@ -77,18 +78,18 @@ pub fn make_move<G: Ledger, A: Archive>(
         → (back ≤ length chain) × AreLinked (tip (shorter back chain)) rest }
     ensures tried { (side : Side) → G.stands ledger.old side.chain
         → (A.tells → AllGrow side.files (A.bytes archive.old)) → IfOk result (
-        Tries ⟦<G as Ledger>⟧ ⟦<A as Archive>⟧ ledger.old ledger.new archive.old archive.new side back
-        rest) }
+        Tries (ghosts ⟦<G as Ledger>⟧ ⟦<A as Archive>⟧) (beneath ledger.old archive.old)
+        (beneath ledger.new archive.new) side back rest) }
     // Where it isn't made, it touched nothing, and only then the block files may have failed.
     ensures untouched { IfOk result (λ m. m.moved ≡ false → m.touched ≡ []) }
     ensures made { IfOk result (λ m. m.moved ≡ true → m.answer ≢ NodeAnswer.Refused NodeRefusal.Archive) }
     ensures stopped { (chain : Chain) → G.stands ledger.old chain → IfErr result (
-        StopsAt ⟦<G as Ledger>⟧ ⟦<A as Archive>⟧ ledger.old ledger.new archive.old archive.new chain false
-        (λ (p : moves.Plan). p ≡ plan_of back rest)) }
-    ensures keeps { IfOk result (MoveKeeps ⟦<G as Ledger>⟧ ⟦<A as Archive>⟧ ledger.old ledger.new
-        archive.old archive.new rest) }
-    ensures failed { IfErr result (MoveFailed ⟦<G as Ledger>⟧ ⟦<A as Archive>⟧ ledger.old ledger.new
-        archive.old archive.new) }
+        StopsAt (ghosts ⟦<G as Ledger>⟧ ⟦<A as Archive>⟧) (beneath ledger.old archive.old)
+        (beneath ledger.new archive.new) chain false (λ (p : moves.Plan). p ≡ plan_of back rest)) }
+    ensures keeps { IfOk result (MoveKeeps (ghosts ⟦<G as Ledger>⟧ ⟦<A as Archive>⟧)
+        (beneath ledger.old archive.old) (beneath ledger.new archive.new) rest) }
+    ensures failed { IfErr result (MoveFailed (ghosts ⟦<G as Ledger>⟧ ⟦<A as Archive>⟧)
+        (beneath ledger.old archive.old) (beneath ledger.new archive.new)) }
 {
     let forward = rest.next_blocks(alloc)?;
     let plan = Plan { back, forward };

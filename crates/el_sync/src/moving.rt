@@ -13,10 +13,11 @@ ghost use Rattle.el_mempool.specs.Sift.{sift};
 ghost use Rattle.el_mempool.specs.Standing.{AreChanged, StandsFor};
 ghost use Rattle.el_model.specs.LedgerCalls.{Asked};
 ghost use Rattle.el_model.specs.declared.fault.QueryFault.TheVariants as turn_fault;
+ghost use Rattle.el_side.specs.Beneath.{beneath, ghosts};
 ghost use Rattle.el_side.specs.Plans.{plan_of};
 ghost use Rattle.el_side.specs.Side.{Side, Moving};
 ghost use Rattle.el_side.specs.NodeSteps.{IsAt, Leads};
-ghost use Rattle.el_sync.specs.Steps.{NodeStep, StopsAt, TouchesNoFailed};
+ghost use Rattle.el_sync.specs.Steps.{NodeStep, StopsAt, TouchesNoFailed, left_by};
 
 use crate::ahead::Ahead;
 use crate::fault::StepFault;
@@ -99,23 +100,22 @@ pub fn move_once<G: Ledger, A: Archive>(
     requires linked { (before : hash_shape.Hash32) × AreLinked before rest }
     requires fits { (chain : Chain) → G.stands ledger.old chain
         → (back ≤ length chain) × AreLinked (tip (shorter back chain)) rest }
-    ensures moving { (side : Side) (start : Chain)
-        → IsAt ⟦<G as Ledger>⟧ ⟦<A as Archive>⟧ ledger.old holdings.old archive.old side start
-        → (later ≡ false → side.ahead ≡ []) → IfOk result (λ s.
-        Leads ⟦<G as Ledger>⟧ ⟦<A as Archive>⟧ (Moving A.tells side back rest)
-        ledger.old ledger.new archive.old archive.new side start s.answer side.found s.left s.moved s.changed
-        holdings.new) }
+    ensures moving { let of = ghosts ⟦<G as Ledger>⟧ ⟦<A as Archive>⟧ in
+        let was = beneath ledger.old archive.old in (side : Side) (start : Chain)
+        → IsAt of was holdings.old side start → (later ≡ false → side.ahead ≡ []) → IfOk result (λ s.
+        Leads of (Moving ⟦<A as Archive>⟧ side back rest) side start
+        (left_by was (beneath ledger.new archive.new) s side.found holdings.new)) }
     ensures stopped { (chain : Chain) → G.stands ledger.old chain → IfErr result (
-        StopsAt ⟦<G as Ledger>⟧ ⟦<A as Archive>⟧ ledger.old ledger.new archive.old archive.new chain later
-        (λ (p : moves.Plan). p ≡ plan_of back rest)) }
+        StopsAt (ghosts ⟦<G as Ledger>⟧ ⟦<A as Archive>⟧) (beneath ledger.old archive.old)
+        (beneath ledger.new archive.new) chain later (λ (p : moves.Plan). p ≡ plan_of back rest)) }
     ensures tree { holdings.new.tree ≡ holdings.old.tree }
     ensures magic { holdings.new.magic ≡ holdings.old.magic }
     ensures limits { holdings.new.pool.limits ≡ holdings.old.pool.limits }
     ensures untouched { IfOk result (λ s. later ≡ false → TouchesNoFailed s) }
     ensures no_more { IfOk result (λ s. length s.left ≤ length rest) }
     ensures fewer { IfOk result (λ s. rest ≢ [] → length s.left < length rest) }
-    ensures step { NodeStep ⟦<G as Ledger>⟧ ⟦<A as Archive>⟧ ledger.old ledger.new archive.old archive.new
-        later result }
+    ensures step { NodeStep (ghosts ⟦<G as Ledger>⟧ ⟦<A as Archive>⟧) (beneath ledger.old archive.old)
+        (beneath ledger.new archive.new) later result }
 {
     let Made {
         answer,
@@ -152,21 +152,21 @@ pub fn move_next<G: Ledger, A: Archive>(
     requires nodes { AllByRecursion IsNode rest }
     requires linked { (before : hash_shape.Hash32) × AreLinked before rest }
     requires fits { (chain : Chain) → G.stands ledger.old chain → AreLinked (tip chain) rest }
-    ensures moving { (side : Side) (start : Chain)
-        → IsAt ⟦<G as Ledger>⟧ ⟦<A as Archive>⟧ ledger.old holdings.old archive.old side start
-        → IfOk result (λ s. Leads ⟦<G as Ledger>⟧ ⟦<A as Archive>⟧ (Moving A.tells side 0 rest)
-        ledger.old ledger.new archive.old archive.new side start s.answer side.found s.left s.moved s.changed
-        holdings.new) }
+    ensures moving { let of = ghosts ⟦<G as Ledger>⟧ ⟦<A as Archive>⟧ in
+        let was = beneath ledger.old archive.old in (side : Side) (start : Chain)
+        → IsAt of was holdings.old side start → IfOk result (λ s.
+        Leads of (Moving ⟦<A as Archive>⟧ side 0 rest) side start
+        (left_by was (beneath ledger.new archive.new) s side.found holdings.new)) }
     ensures stopped { (chain : Chain) → G.stands ledger.old chain → IfErr result (
-        StopsAt ⟦<G as Ledger>⟧ ⟦<A as Archive>⟧ ledger.old ledger.new archive.old archive.new chain true
-        (λ (p : moves.Plan). p ≡ plan_of 0 rest)) }
+        StopsAt (ghosts ⟦<G as Ledger>⟧ ⟦<A as Archive>⟧) (beneath ledger.old archive.old)
+        (beneath ledger.new archive.new) chain true (λ (p : moves.Plan). p ≡ plan_of 0 rest)) }
     ensures tree { holdings.new.tree ≡ holdings.old.tree }
     ensures magic { holdings.new.magic ≡ holdings.old.magic }
     ensures limits { holdings.new.pool.limits ≡ holdings.old.pool.limits }
     ensures no_more { IfOk result (λ s. length s.left ≤ length rest) }
     ensures fewer { IfOk result (λ s. rest ≢ [] → length s.left < length rest) }
-    ensures step { NodeStep ⟦<G as Ledger>⟧ ⟦<A as Archive>⟧ ledger.old ledger.new archive.old archive.new
-        true result }
+    ensures step { NodeStep (ghosts ⟦<G as Ledger>⟧ ⟦<A as Archive>⟧) (beneath ledger.old archive.old)
+        (beneath ledger.new archive.new) true result }
 {
     move_once(alloc, ledger, holdings, 0, rest, archive, true)
 }

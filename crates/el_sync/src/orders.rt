@@ -10,6 +10,7 @@ ghost use Rattle.el_chain.specs.Records.{IsNode};
 ghost use Rattle.el_model.specs.declared.fault.QueryFault.TheVariants as turn_fault;
 ghost use Rattle.el_headers.specs.Adding.{IsEndOf};
 ghost use Rattle.el_side.specs.UnderWay.{IsFirstMove};
+ghost use Rattle.el_side.specs.Beneath.{beneath, ghosts};
 ghost use Rattle.el_side.specs.Plans.{back_of};
 ghost use Rattle.el_lines.specs.Lines.{line};
 ghost use Rattle.el_side.specs.Side.{Side, GoesAlong, LooksUp, OrdersLine, Tips, found_answer};
@@ -17,7 +18,7 @@ ghost use Rattle.el_lines.specs.LineStates.{as_listed};
 ghost use Rattle.el_side.specs.NodeSteps.{IsAt, Leads};
 ghost use Rattle.el_sync.specs.RowBounds.{AsksNoMove, ReadsLine, ReadsTip};
 ghost use Rattle.el_sync.specs.Starving.{MayMove, WantsMemory};
-ghost use Rattle.el_sync.specs.Steps.{IsFrom, NodeStep, StopsAt, TouchesNoFailed};
+ghost use Rattle.el_sync.specs.Steps.{IsFrom, NodeStep, StopsAt, TouchesNoFailed, left_by};
 ghost use Rattle.el_sync.specs.within.Parts.{IsTipMove, IsPathMove, Looked};
 
 use crate::ahead::Ahead;
@@ -130,17 +131,16 @@ fn move_along<G: Ledger, A: Archive>(
     requires path { (path : List node_shape.Node) × IsPath holdings.old.tree end.now.node.hash path }
     requires end { (path : List node_shape.Node) → IsPath holdings.old.tree end.now.node.hash path
         → IsEndOf path end.now.node end.now.height }
-    ensures along { (path : List node_shape.Node) (side : Side) (start : Chain)
-        → IsPath holdings.old.tree end.now.node.hash path
-        → IsAt ⟦<G as Ledger>⟧ ⟦<A as Archive>⟧ ledger.old holdings.old archive.old side start
-        → side.ahead ≡ [] → IfOk result (λ s.
-        Leads ⟦<G as Ledger>⟧ ⟦<A as Archive>⟧ (GoesAlong A.tells side path)
-        ledger.old ledger.new archive.old archive.new side start s.answer side.found s.left s.moved s.changed
-        holdings.new) }
+    ensures along { let of = ghosts ⟦<G as Ledger>⟧ ⟦<A as Archive>⟧ in
+        let was = beneath ledger.old archive.old in
+        (path : List node_shape.Node) (side : Side) (start : Chain)
+        → IsPath holdings.old.tree end.now.node.hash path → IsAt of was holdings.old side start
+        → side.ahead ≡ [] → IfOk result (λ s. Leads of (GoesAlong ⟦<A as Archive>⟧ side path) side start
+        (left_by was (beneath ledger.new archive.new) s side.found holdings.new)) }
     ensures stopped { (path : List node_shape.Node) (chain : Chain)
         → IsPath holdings.old.tree end.now.node.hash path → G.stands ledger.old chain → IfErr result (
-        StopsAt ⟦<G as Ledger>⟧ ⟦<A as Archive>⟧ ledger.old ledger.new archive.old archive.new chain
-        false (IsPathMove chain path)) }
+        StopsAt (ghosts ⟦<G as Ledger>⟧ ⟦<A as Archive>⟧) (beneath ledger.old archive.old)
+        (beneath ledger.new archive.new) chain false (IsPathMove chain path)) }
     // That it is too deep is told without memory.
     ensures memory { (path : List node_shape.Node) (chain : Chain)
         → IsPath holdings.old.tree end.now.node.hash path → G.stands ledger.old chain
@@ -153,8 +153,8 @@ fn move_along<G: Ledger, A: Archive>(
     ensures magic { holdings.new.magic ≡ holdings.old.magic }
     ensures limits { holdings.new.pool.limits ≡ holdings.old.pool.limits }
     ensures fewer { IfOk result (λ s. length s.left ≤ length holdings.old.tree) }
-    ensures step { NodeStep ⟦<G as Ledger>⟧ ⟦<A as Archive>⟧ ledger.old ledger.new archive.old archive.new
-        false result }
+    ensures step { NodeStep (ghosts ⟦<G as Ledger>⟧ ⟦<A as Archive>⟧) (beneath ledger.old archive.old)
+        (beneath ledger.new archive.new) false result }
 {
     let Way { back, same } = compare(ledger, &holdings.tree, end)?;
     if back > MAX_BACK as usize {
@@ -180,17 +180,15 @@ fn order_tip<G: Ledger, A: Archive>(
     h: Hash32,
 ) -> Result<Step, StepFault>
     requires live { G.is_live ledger.old }
-    ensures tip { (side : Side) (start : Chain)
-        → IsAt ⟦<G as Ledger>⟧ ⟦<A as Archive>⟧ ledger.old holdings.old archive.old side start
-        → side.found ≡ holdings.old.tree → side.ahead ≡ [] → IfOk result (λ s.
-        Leads ⟦<G as Ledger>⟧ ⟦<A as Archive>⟧ (Tips A.tells side h)
-        ledger.old ledger.new archive.old archive.new side start s.answer side.found s.left s.moved s.changed
-        holdings.new) }
-    ensures stopped { (side : Side) (start : Chain)
-        → IsAt ⟦<G as Ledger>⟧ ⟦<A as Archive>⟧ ledger.old holdings.old archive.old side start
-        → side.found ≡ holdings.old.tree → IfErr result (
-        StopsAt ⟦<G as Ledger>⟧ ⟦<A as Archive>⟧ ledger.old ledger.new archive.old archive.new
-        side.chain false (IsTipMove side h)) }
+    ensures tip { let of = ghosts ⟦<G as Ledger>⟧ ⟦<A as Archive>⟧ in
+        let was = beneath ledger.old archive.old in (side : Side) (start : Chain)
+        → IsAt of was holdings.old side start → side.found ≡ holdings.old.tree → side.ahead ≡ []
+        → IfOk result (λ s. Leads of (Tips ⟦<A as Archive>⟧ side h) side start
+        (left_by was (beneath ledger.new archive.new) s side.found holdings.new)) }
+    ensures stopped { let of = ghosts ⟦<G as Ledger>⟧ ⟦<A as Archive>⟧ in
+        let was = beneath ledger.old archive.old in (side : Side) (start : Chain)
+        → IsAt of was holdings.old side start → side.found ≡ holdings.old.tree → IfErr result (
+        StopsAt of was (beneath ledger.new archive.new) side.chain false (IsTipMove side h)) }
     ensures memory { (side : Side) → G.stands ledger.old side.chain → side.found ≡ holdings.old.tree
         → IsErrOf result turn_fault.Memory → MayMove side h }
     ensures untouched { IfOk result TouchesNoFailed }
@@ -200,8 +198,8 @@ fn order_tip<G: Ledger, A: Archive>(
     ensures magic { holdings.new.magic ≡ holdings.old.magic }
     ensures limits { holdings.new.pool.limits ≡ holdings.old.pool.limits }
     ensures fewer { IfOk result (λ s. length s.left ≤ length holdings.old.tree) }
-    ensures step { NodeStep ⟦<G as Ledger>⟧ ⟦<A as Archive>⟧ ledger.old ledger.new archive.old archive.new
-        false result }
+    ensures step { NodeStep (ghosts ⟦<G as Ledger>⟧ ⟦<A as Archive>⟧) (beneath ledger.old archive.old)
+        (beneath ledger.new archive.new) false result }
 {
     match holdings.tree.path_end(&h) {
         Ok(end) => move_along(alloc, ledger, holdings, archive, &end),
@@ -220,32 +218,30 @@ fn order_line<G: Ledger, A: Archive>(
     text: &[u8],
 ) -> Result<Step, StepFault>
     requires live { G.is_live ledger.old }
-    ensures node { (side : Side) (start : Chain)
-        → IsAt ⟦<G as Ledger>⟧ ⟦<A as Archive>⟧ ledger.old holdings.old archive.old side start
-        → IsFrom holdings.old side → IfOk result (λ s.
-        Leads ⟦<G as Ledger>⟧ ⟦<A as Archive>⟧ (OrdersLine ⟦<A as Archive>⟧ side (line text.now))
-        ledger.old ledger.new archive.old archive.new side start s.answer holdings.new.tree s.left s.moved
-        s.changed holdings.new) }
-    ensures stopped { (side : Side) (start : Chain)
-        → IsAt ⟦<G as Ledger>⟧ ⟦<A as Archive>⟧ ledger.old holdings.old archive.old side start
-        → IsFrom holdings.old side → IfErr result (
-        StopsAt ⟦<G as Ledger>⟧ ⟦<A as Archive>⟧ ledger.old ledger.new archive.old archive.new
-        side.chain false (IsFirstMove side (line text.now))) }
+    ensures node { let of = ghosts ⟦<G as Ledger>⟧ ⟦<A as Archive>⟧ in
+        let was = beneath ledger.old archive.old in (side : Side) (start : Chain)
+        → IsAt of was holdings.old side start → IsFrom holdings.old side → IfOk result (λ s.
+        Leads of (OrdersLine ⟦<A as Archive>⟧ side (line text.now)) side start
+        (left_by was (beneath ledger.new archive.new) s holdings.new.tree holdings.new)) }
+    ensures stopped { let of = ghosts ⟦<G as Ledger>⟧ ⟦<A as Archive>⟧ in
+        let was = beneath ledger.old archive.old in (side : Side) (start : Chain)
+        → IsAt of was holdings.old side start → IsFrom holdings.old side → IfErr result (
+        StopsAt of was (beneath ledger.new archive.new) side.chain false (IsFirstMove side (line text.now))) }
     ensures memory { (side : Side) (start : Chain)
-        → IsAt ⟦<G as Ledger>⟧ ⟦<A as Archive>⟧ ledger.old holdings.old archive.old side start
-        → IsFrom holdings.old side → IsErrOf result turn_fault.Memory
+        → IsAt (ghosts ⟦<G as Ledger>⟧ ⟦<A as Archive>⟧) (beneath ledger.old archive.old)
+        holdings.old side start → IsFrom holdings.old side → IsErrOf result turn_fault.Memory
         → WantsMemory ⟦<A as Archive>⟧ side (A.bytes archive.new) (line text.now) }
     ensures untouched { IfOk result TouchesNoFailed }
     ensures rows { (side : Side) (start : Chain)
-        → IsAt ⟦<G as Ledger>⟧ ⟦<A as Archive>⟧ ledger.old holdings.old archive.old side start
-        → IsFrom holdings.old side → IfOk result (λ s.
+        → IsAt (ghosts ⟦<G as Ledger>⟧ ⟦<A as Archive>⟧) (beneath ledger.old archive.old)
+        holdings.old side start → IsFrom holdings.old side → IfOk result (λ s.
         ReadsLine side (line text.now) (G.reads ledger.old) (G.reads ledger.new)) }
     ensures magic { holdings.new.magic ≡ holdings.old.magic }
     ensures limits { holdings.new.pool.limits ≡ holdings.old.pool.limits }
     ensures fewer { IfOk result (λ s. length s.left ≤ length holdings.old.tree) }
     ensures more { OnOk result (length holdings.new.tree ≤ length holdings.old.tree + 1) }
-    ensures step { NodeStep ⟦<G as Ledger>⟧ ⟦<A as Archive>⟧ ledger.old ledger.new archive.old archive.new
-        false result }
+    ensures step { NodeStep (ghosts ⟦<G as Ledger>⟧ ⟦<A as Archive>⟧) (beneath ledger.old archive.old)
+        (beneath ledger.new archive.new) false result }
 {
     match read_node_line(alloc, text) {
         Ok(NodeLine::Block { file, at }) => {
@@ -282,34 +278,32 @@ pub fn order<G: Ledger, A: Archive>(
     met: LineEvent,
 ) -> Result<Step, StepFault>
     requires live { G.is_live ledger.old }
-    ensures node { (side : Side) (start : Chain)
-        → IsAt ⟦<G as Ledger>⟧ ⟦<A as Archive>⟧ ledger.old holdings.old archive.old side start
-        → IsFrom holdings.old side → IfOk result (λ s.
-        Leads ⟦<G as Ledger>⟧ ⟦<A as Archive>⟧ (OrdersLine ⟦<A as Archive>⟧ side (as_listed met))
-        ledger.old ledger.new archive.old archive.new side start s.answer holdings.new.tree s.left s.moved
-        s.changed holdings.new) }
-    ensures stopped { (side : Side) (start : Chain)
-        → IsAt ⟦<G as Ledger>⟧ ⟦<A as Archive>⟧ ledger.old holdings.old archive.old side start
-        → IsFrom holdings.old side → IfErr result (
-        StopsAt ⟦<G as Ledger>⟧ ⟦<A as Archive>⟧ ledger.old ledger.new archive.old archive.new
-        side.chain false (IsFirstMove side (as_listed met))) }
+    ensures node { let of = ghosts ⟦<G as Ledger>⟧ ⟦<A as Archive>⟧ in
+        let was = beneath ledger.old archive.old in (side : Side) (start : Chain)
+        → IsAt of was holdings.old side start → IsFrom holdings.old side → IfOk result (λ s.
+        Leads of (OrdersLine ⟦<A as Archive>⟧ side (as_listed met)) side start
+        (left_by was (beneath ledger.new archive.new) s holdings.new.tree holdings.new)) }
+    ensures stopped { let of = ghosts ⟦<G as Ledger>⟧ ⟦<A as Archive>⟧ in
+        let was = beneath ledger.old archive.old in (side : Side) (start : Chain)
+        → IsAt of was holdings.old side start → IsFrom holdings.old side → IfErr result (
+        StopsAt of was (beneath ledger.new archive.new) side.chain false (IsFirstMove side (as_listed met))) }
     // What needs no memory is answered without it.
     ensures memory { (side : Side) (start : Chain)
-        → IsAt ⟦<G as Ledger>⟧ ⟦<A as Archive>⟧ ledger.old holdings.old archive.old side start
-        → IsFrom holdings.old side → IsErrOf result turn_fault.Memory
+        → IsAt (ghosts ⟦<G as Ledger>⟧ ⟦<A as Archive>⟧) (beneath ledger.old archive.old)
+        holdings.old side start → IsFrom holdings.old side → IsErrOf result turn_fault.Memory
         → WantsMemory ⟦<A as Archive>⟧ side (A.bytes archive.new) (as_listed met) }
     ensures untouched { IfOk result TouchesNoFailed }
     // How many rows are read, where no move is made and no transaction told.
     ensures rows { (side : Side) (start : Chain)
-        → IsAt ⟦<G as Ledger>⟧ ⟦<A as Archive>⟧ ledger.old holdings.old archive.old side start
-        → IsFrom holdings.old side → IfOk result (λ s.
+        → IsAt (ghosts ⟦<G as Ledger>⟧ ⟦<A as Archive>⟧) (beneath ledger.old archive.old)
+        holdings.old side start → IsFrom holdings.old side → IfOk result (λ s.
         ReadsLine side (as_listed met) (G.reads ledger.old) (G.reads ledger.new)) }
     ensures magic { holdings.new.magic ≡ holdings.old.magic }
     ensures limits { holdings.new.pool.limits ≡ holdings.old.pool.limits }
     ensures fewer { IfOk result (λ s. length s.left ≤ length holdings.old.tree) }
     ensures more { OnOk result (length holdings.new.tree ≤ length holdings.old.tree + 1) }
-    ensures step { NodeStep ⟦<G as Ledger>⟧ ⟦<A as Archive>⟧ ledger.old ledger.new archive.old archive.new
-        false result }
+    ensures step { NodeStep (ghosts ⟦<G as Ledger>⟧ ⟦<A as Archive>⟧) (beneath ledger.old archive.old)
+        (beneath ledger.new archive.new) false result }
 {
     match met {
         LineEvent::TooLong { limit: _ } => Ok(refusing(alloc, NodeRefusal::Long)),

@@ -198,7 +198,7 @@ module _ {A : Type 0} (of_files : block_files.Ghosts A) (world : World) (all : N
   turned done outs losses left of_peers (run_of.takes event still everyone d t) =
       taken event outs losses left (rw d at of_peers).0 t
   turned done outs losses left of_peers (run_of.works busy d w) =
-      led (Moving of_files.tells world.side 0 world.side.ahead) world world outs losses left all
+      led (Moving of_files world.side 0 world.side.ahead) world world outs losses left all
       (λ answer side m. of_moving of_files world.side answer losses side 0 world.side.ahead
       (inr (busy_some world.side.ahead busy)) m) w
   turned done outs losses left of_peers (run_of.notifies still d n) = notified outs losses left n

@@ -220,7 +220,7 @@ module _ {A : Type 0} (of_files : block_files.Ghosts A) (side : Side) (answer : 
   of_looks file at (side_of.fails files grows e n z) = stays (rw e tt) (same_chain side n refl)
 
   pub of_moving : (back : ℕ) (rest : List Node) → (0 < length side.chain - back) ⊎ (0 < length rest)
-      → Moving of_files.tells side back rest answer losses next → TellsEnd side.chain answer next.chain
+      → Moving of_files side back rest answer losses next → TellsEnd side.chain answer next.chain
   of_moving back rest some (side_of.commits files blocks grows moved n e z) =
       let many = as_many (take max_forward rest) moved.texts blocks moved.blocks_are.are in
       tells_of side.chain answer next.chain e (rw n (moved_some back side.chain blocks rest many some))
@@ -228,14 +228,14 @@ module _ {A : Type 0} (of_files : block_files.Ghosts A) (side : Side) (answer : 
       stays (of_move e answer word) (same_chain side n refl)
   of_moving back rest some (side_of.fails files grows e n z) = stays (rw e tt) (same_chain side n refl)
 
-  of_path : (first : Node) (path : List Node) → GoesAlong of_files.tells side (first ∷ path) answer losses next
+  of_path : (first : Node) (path : List Node) → GoesAlong of_files side (first ∷ path) answer losses next
       → TellsEnd side.chain answer next.chain
   of_path first path (side_of.deep many e n z) = stays (rw e tt) (same_chain side n refl)
   of_path first path (side_of.there back rest e n z) =
       tells_of side.chain answer next.chain (rw n e) (rw n (there_some side.chain first path rest))
   of_path first path (side_of.moves few moving made) = of_moving _ _ (path_some side.chain first path) made
 
-  of_tip : (h : Hash32) → Tips of_files.tells side h answer losses next → TellsEnd side.chain answer next.chain
+  of_tip : (h : Hash32) → Tips of_files side h answer losses next → TellsEnd side.chain answer next.chain
   of_tip h (side_of.unknown known e n z) = stays (rw e tt) (same_chain side n refl)
   of_tip h (side_of.unconnected known none e n z) = stays (rw e tt) (same_chain side n refl)
   of_tip h (side_of.along path is goes) = of_path is.first is.rest (rw is.whole at goes)

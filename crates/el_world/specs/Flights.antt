@@ -8,6 +8,7 @@ use Rattle.el_outside.specs.declared.archive.Archive as block_files
 use Rattle.el_outside.specs.Trace.{ArrivalWithBytes, Message, Closing}
 use Rattle.el_chain.specs.declared.moves.Plan.{Plan}
 use Rattle.el_chain.specs.Chains.{Chain}
+use Rattle.el_chain.specs.Moves.{StoodBy}
 use Rattle.el_lines.specs.Lines.{LineEvent, line}
 use Rattle.el_lines.specs.NodeLines.{tip}
 use Rattle.el_side.specs.Plans.{plan_of}
@@ -29,14 +30,14 @@ abbrev pub FliesAt : {A : Type 0} {of_files : block_files.Ghosts A} {world : Wor
 FliesAt {of_files = of_files} {world = world} {left = left} (disk_failed by nodes silent closed lost) now
     flight =
     (files : ℕ → List ℕ) × (of_files.tells → AllGrow world.side.files files × AllGrow files now)
-    × IsUnderWay of_files.tells files world.side.chain (IsMoveOf world left) flight
+    × IsUnderWay (StoodBy of_files files) world.side.chain (IsMoveOf world left) flight
 -- the block files had failed, so that nothing was moved
 FliesAt {world = world} (sift_failed by busy silent closed lost) now flight = flight ≡ world.side.chain
 -- no memory was found before a move, or after it, for the sift
 FliesAt {of_files = of_files} {world = world} {left = left} (no_memory by nodes silent closed lost) now
     flight =
     (files : ℕ → List ℕ) × (of_files.tells → AllGrow world.side.files files × AllGrow files now)
-    × IsUnderWay of_files.tells files world.side.chain (IsMoveOf world left) flight
+    × IsUnderWay (StoodBy of_files files) world.side.chain (IsMoveOf world left) flight
 -- nothing was moved
 FliesAt {world = world} (untold by busy silent closed lost) now flight = flight ≡ world.side.chain
 -- what the turn gave wasn't sent: it is what the turn left

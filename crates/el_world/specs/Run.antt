@@ -22,7 +22,7 @@ pub data OneTurn {A : Type 0} (of_files : block_files.Ghosts A) (world : World) 
   takes : (event : Event) → IsStill world → AllTold world → done ≡ event ∷ []
       → Takes of_files world event outs losses next → OneTurn of_files world done outs losses next
   -- the next move of that line
-  works : IsBusy world → done ≡ [] → Works of_files.tells world outs losses next
+  works : IsBusy world → done ≡ [] → Works of_files world outs losses next
       → OneTurn of_files world done outs losses next
   -- a client is told of the node's last line
   notifies : IsStill world → done ≡ [] → Notifies world outs losses next

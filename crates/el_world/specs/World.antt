@@ -276,8 +276,9 @@ abbrev pub IsBusy : World → Type 0
 IsBusy world = IsMoving 0 world.side.ahead
 
 -- The next move of that line.
-abbrev pub Works : Type 0 → World → Outs → List Device → World → Type 0
-Works tells world outs losses next = IsLed (Moving tells world.side 0 world.side.ahead) world outs losses next
+abbrev pub Works : {A : Type 0} → block_files.Ghosts A → World → Outs → List Device → World → Type 0
+Works of_files world outs losses next =
+    IsLed (Moving of_files world.side 0 world.side.ahead) world outs losses next
 
 -- the first client that is still to be told of the node's last line; clients stand by rising number
 abbrev pub next_told : World → Option Session

@@ -1,11 +1,11 @@
 -- Why the devices in memory keep the laws of their traits. No contract speaks of these lemmas.
-use Rattle.std.specs.Prelude.{◌≡◌, ℕ, ◌<◌, ◌≤◌, ◌==◌, List, [], ◌∷◌, false, length, take, IsTrue, refl}
+use Rattle.std.specs.Prelude.{◌≡◌, ℕ, ◌-◌, ◌<◌, ◌≤◌, ◌==◌, if◌then◌else◌, List, [], ◌∷◌, ◌++◌, false, length, take, replicate, IsTrue, refl}
 use Rattle.std.specs.List.{list_any}
 use Rattle.std.proofs.Common.{ap, arith, ◌∙◌}
 use Rattle.std.proofs.lemmas.List.{get_or_past, take_all}
-use Rattle.std.proofs.lemmas.Bool.{ne_eqb, or_from, not_from_false, and_from}
+use Rattle.std.proofs.lemmas.Bool.{ne_eqb, le-ltb, or_from, not_from_false, and_from}
 use Rattle.el_outside.specs.Trace.{ArrivalWithBytes, opened, brought, closed, quiet, ended, Closing, Trace, opens, leaves, is_new}
-use Rattle.el_fakes.specs.Archives.{ArchiveState, file_bytes, bytes_now}
+use Rattle.el_fakes.specs.Archives.{ArchiveState, file_bytes, bytes_now, size_ahead, padded_size, padding_now}
 use Rattle.el_fakes.specs.Greatest.{number, greatest_arrived, greatest_closed, greatest}
 
 -- a file that isn't there has no bytes
@@ -15,9 +15,33 @@ none_at files file after = get_or_past files file [] after
 none_of_none : (n : ℕ) (xs : List ℕ) → xs ≡ [] → take n xs ≡ []
 none_of_none n xs is = ap (take n) is ∙ take_all n [] (omega arith)
 
-pub none_now : (archive : ArchiveState) (file : ℕ) → length archive.files ≤ file → bytes_now archive file ≡ []
-none_now archive file after =
+bytes_none : (archive : ArchiveState) (file : ℕ) → length archive.files ≤ file → bytes_now archive file ≡ []
+bytes_none archive file after =
     none_of_none _ (file_bytes archive.files file) (none_at archive.files file after)
+
+-- nor has it padding
+pub size_none : (archive : ArchiveState) (file : ℕ) → length archive.files ≤ file
+    → padded_size archive file ≡ length (bytes_now archive file)
+size_none archive file after =
+    ap (λ b. if b then size_ahead archive.calls file archive.rooms (length (bytes_now archive file))
+    else length (bytes_now archive file)) (le-ltb file (length archive.files) after)
+
+pub padding_none : (archive : ArchiveState) (file : ℕ) → length archive.files ≤ file
+    → padding_now archive file ≡ []
+padding_none archive file after =
+    ap (λ n. replicate (n - length (bytes_now archive file)) 0) (size_none archive file after)
+    ∙ ap (λ n. replicate n 0)
+    (let e : length (bytes_now archive file) - length (bytes_now archive file) ≡ 0 = omega arith in e)
+
+pub none_now : (archive : ArchiveState) (file : ℕ) → length archive.files ≤ file
+    → bytes_now archive file ++ padding_now archive file ≡ []
+none_now archive file after =
+    ap (λ bytes. bytes ++ padding_now archive file) (bytes_none archive file after)
+    ∙ padding_none archive file after
+
+pub none_after_none : (files : List (List ℕ)) (file : ℕ) → length files ≤ file
+    → file_bytes files file ++ [] ≡ []
+none_after_none files file after = ap (λ bytes. bytes ++ []) (none_at files file after)
 
 opens_above : (c : ArrivalWithBytes) (p : ℕ) → number c < p → opens p c ≡ false
 opens_above (opened q) p above = ne_eqb p q (λ same. omega arith)

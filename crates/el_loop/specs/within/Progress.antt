@@ -1,6 +1,5 @@
 -- What the server has done of an arrival's events, and what went over the link meanwhile.
 use Rattle.std.specs.Prelude.{◌≡◌, ◌≤◌, ◌==◌, ℕ, false, List, [], ◌++◌, length, IsTrue, Option, None, Some, Bool, if◌then◌else◌}
-use Rattle.el_outside.specs.declared.archive.Archive as archive
 use Rattle.el_outside.specs.declared.link.Link as link
 use Rattle.el_outside.specs.Counts.{RoseBy}
 use Rattle.el_outside.specs.Devices as device
@@ -8,8 +7,7 @@ use Rattle.el_outside.specs.Devices.{Device, failures, Faults, Rose}
 use Rattle.el_outside.specs.Files.{AllGrow}
 use Rattle.el_outside.specs.Trace.{Trace, ArrivalWithBytes, Message, Closing, GoesOn, is_open}
 use Rattle.el_chain.specs.Chains.{Chain}
-use Rattle.el_model.specs.declared.ledger.Ledger as ledger
-use Rattle.el_model.specs.LedgerCalls.{failed_calls}
+use Rattle.el_side.specs.Beneath.{Ghosts, beneath, failed_beneath}
 use Rattle.el_world.specs.World.{World, Event, is_client, without_node, IsStill, AllTold, Outs}
 use Rattle.el_world.specs.Run.{Stop, Turns, Stops, files_at, StopsIn, files_left, Delivers, Run}
 use Rattle.el_world.specs.Flights.{acked, FliesAt, Flies}
@@ -52,6 +50,15 @@ pub record Delivered {G : Type 0} (stands : G → Chain → Type 0) (tells : Typ
       → is_client q world ≡ false → IsTrue (is_open after q) × (is_client q next ≡ false)
   pub rose : RoseBy low high (failures device.link losses)
 
+-- what the types of the ledger, of the block files and of the link tell of them
+pub record AllGhosts (G A K : Type 0) : Type 1 where
+  pub beneath : Ghosts G A
+  pub link : link.Ghosts K
+
+-- what is told of ledger and block files, and of the link, as one
+abbrev pub all_ghosts : {G A K : Type 0} → Ghosts G A → link.Ghosts K → AllGhosts G A K
+all_ghosts of of_link = record { beneath = of; link = of_link }
+
 -- the server, the block files and the link between two calls
 pub record Snapshot (G A K : Type 0) : Type 0 where
   pub server : State G
@@ -70,22 +77,22 @@ pub record CountedSoFar (calls calls_before calls_after : ℕ) (before after : F
   pub called : RoseBy calls_before calls_after calls
   pub more : (device : Device) → before device ≤ after device
 
-module _ {G A K : Type 0} (of_ledger : ledger.Ghosts G) (of_files : archive.Ghosts A)
-    (of_link : link.Ghosts K) where
+module _ {G A K : Type 0} (of : AllGhosts G A K) where
   -- how often calls of the devices have failed
   abbrev pub failed : Snapshot G A K → Faults
-  failed now = failed_calls of_ledger of_files (of_link.faults now.link) now.server.ledger now.files
+  failed now =
+      failed_beneath of.beneath (of.link.faults now.link) (beneath now.server.ledger now.files)
 
   -- The world's clients are open, and the block files have what the world has of them.
   pub record IsReady (world : World) (now : Snapshot G A K) : Type 0 where
-    pub are_open : of_link.tells → ClientsAreOpen now.server world (of_link.trace now.link)
-    pub grown : of_files.tells → AllGrow world.side.files (of_files.bytes now.files)
+    pub are_open : of.link.tells → ClientsAreOpen now.server world (of.link.trace now.link)
+    pub grown : of.beneath.files.tells → AllGrow world.side.files (of.beneath.files.bytes now.files)
 
   -- This went over the link meanwhile, and each failed call is one of these losses.
   pub record WentOn (before now : Snapshot G A K) (arrivals : List ArrivalWithBytes) (messages : List Message)
       (closings : List Closing) (losses : List Device) : Type 0 where
-    pub trace : of_link.tells
-        → GoesOn (of_link.trace before.link) (of_link.trace now.link) arrivals messages closings
+    pub trace : of.link.tells
+        → GoesOn (of.link.trace before.link) (of.link.trace now.link) arrivals messages closings
     pub rose : Rose (failed before) (failed now) losses
 
   -- Of these events some are done, and the others are left.
@@ -97,8 +104,8 @@ module _ {G A K : Type 0} (of_ledger : ledger.Ghosts G) (of_files : archive.Ghos
     pub losses : List Device
     pub world : World
     pub whole : all ≡ done ++ left
-    pub turns : Turns of_files first done messages closings losses world
-    pub stood : Stands of_ledger.stands now.server world left
+    pub turns : Turns of.beneath.files first done messages closings losses world
+    pub stood : Stands of.beneath.ledger.stands now.server world left
     pub went : WentOn before now [] messages closings losses
     pub ready : IsReady world now
 
@@ -108,11 +115,11 @@ module _ {G A K : Type 0} (of_ledger : ledger.Ghosts G) (of_files : archive.Ghos
     pub closings : List Closing
     pub losses : List Device
     pub world : World
-    pub turns : Turns of_files first all messages closings losses world
+    pub turns : Turns of.beneath.files first all messages closings losses world
     pub still : IsStill world
     pub told : AllTold world
     pub statuses : StatusesAreTold world
-    pub stood : Stands of_ledger.stands now.server world []
+    pub stood : Stands of.beneath.ledger.stands now.server world []
     pub went : WentOn before now [] messages closings losses
     pub ready : IsReady world now
 
@@ -127,15 +134,15 @@ module _ {G A K : Type 0} (of_ledger : ledger.Ghosts G) (of_files : archive.Ghos
     pub closings : List Closing
     pub losses : List Device
     pub world : World
-    pub turns : Turns of_files first done messages closings losses world
+    pub turns : Turns of.beneath.files first done messages closings losses world
     pub sent : List Message
     pub closed : List Closing
     pub lost : List Device
-    pub stops : Stops of_files world left stop sent closed lost
-    pub grown : of_files.tells → AllGrow (files_at stops) (of_files.bytes now.files)
+    pub stops : Stops of.beneath.files world left stop sent closed lost
+    pub grown : of.beneath.files.tells → AllGrow (files_at stops) (of.beneath.files.bytes now.files)
     pub went : WentOn before now [] (messages ++ sent) (closings ++ closed) (losses ++ lost)
     pub flight : Chain
-    pub is_flight : FliesAt stops (of_files.bytes now.files) flight
+    pub is_flight : FliesAt stops (of.beneath.files.bytes now.files) flight
     pub crash : leaves world.side.chain flight
 
   -- The run stops in this arrival.
@@ -144,11 +151,11 @@ module _ {G A K : Type 0} (of_ledger : ledger.Ghosts G) (of_files : archive.Ghos
     pub messages : List Message
     pub closings : List Closing
     pub losses : List Device
-    pub stops : StopsIn of_files world arrival stop messages closings losses
-    pub grown : of_files.tells → AllGrow (files_left stops) (of_files.bytes now.files)
+    pub stops : StopsIn of.beneath.files world arrival stop messages closings losses
+    pub grown : of.beneath.files.tells → AllGrow (files_left stops) (of.beneath.files.bytes now.files)
     pub went : WentOn before now [] messages closings losses
     pub flight : Chain
-    pub is_flight : Flies stops (of_files.bytes now.files) flight
+    pub is_flight : Flies stops (of.beneath.files.bytes now.files) flight
     pub crash : leaves (acked stops) flight
 
   -- The arrivals so far, none of which ended the run: as many as `next` was called.
@@ -158,12 +165,12 @@ module _ {G A K : Type 0} (of_ledger : ledger.Ghosts G) (of_files : archive.Ghos
     pub closings : List Closing
     pub losses : List Device
     pub world : World
-    pub run : Run of_files first (taken node arrivals) messages closings losses world
+    pub run : Run of.beneath.files first (taken node arrivals) messages closings losses world
     pub told : AllTold world
     pub statuses : StatusesAreTold world
-    pub stood : Stands of_ledger.stands now.server world []
+    pub stood : Stands of.beneath.ledger.stands now.server world []
     pub none_ends : NoneEnds arrivals
     pub counted : length arrivals ≡ count
     pub went : WentOn before now arrivals messages closings losses
-    pub calls : RoseBy (of_link.calls before.link) (of_link.calls now.link) (length arrivals)
+    pub calls : RoseBy (of.link.calls before.link) (of.link.calls now.link) (length arrivals)
     pub ready : IsReady world now

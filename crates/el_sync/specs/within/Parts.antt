@@ -3,7 +3,7 @@ use Rattle.std.specs.Prelude.{◌≡◌, ◌≢◌, ◌⊎◌, ◌≤◌, ℕ, B
 use Rattle.std.specs.List.{AllByRecursion}
 use Rattle.el_base.specs.declared.hash.Hash32.{Hash32}
 use Rattle.el_outside.specs.Counts.{RoseBy}
-use Rattle.el_outside.specs.Devices.{Device, archive, failures, Rose}
+use Rattle.el_outside.specs.Devices.{Device, archive, failures}
 use Rattle.el_outside.specs.Files.{AllGrow}
 use Rattle.el_outside.specs.declared.archive.Archive as archives
 use Rattle.el_tx.specs.declared.types.Tx.{Tx}
@@ -13,19 +13,19 @@ use Rattle.el_chain.specs.declared.moves.Plan.{Plan}
 use Rattle.el_chain.specs.declared.node.Node.{Node}
 use Rattle.el_chain.specs.Chains.{Chain}
 use Rattle.el_chain.specs.Headers.{AreLinked, IsPath}
-use Rattle.el_chain.specs.Moves.{Moves, IsRefused, shorter, max_back}
+use Rattle.el_chain.specs.Moves.{Moves, StoodAt, IsRefused, shorter, max_back}
 use Rattle.el_chain.specs.Records.{IsNode}
 use Rattle.el_chain.specs.Touches.{AreTouched}
 use Rattle.el_mempool.specs.declared.fault.PoolFault.{PoolFault}
 use Rattle.el_mempool.specs.declared.fault.PoolFault.TheVariants as unkept
 use Rattle.el_mempool.specs.Standing.{AreChanged, PoolState, StandsFor}
-use Rattle.el_model.specs.LedgerCalls.{KeepsBeside, Moved, failed_calls}
+use Rattle.el_model.specs.LedgerCalls.{KeepsBeside, Moved}
 use Rattle.el_model.specs.Queries.{height_of, tip_of}
-use Rattle.el_model.specs.declared.ledger.Ledger as ledgers
 use Rattle.el_lines.specs.NodeAnswers.{move_refused}
 use Rattle.el_lines.specs.declared.node_answer.NodeAnswer.{NodeAnswer}
 use Rattle.el_lines.specs.declared.node_answer.NodeAnswer.TheVariants as say
 use Rattle.el_lines.specs.declared.node_answer.NodeRefusal.TheVariants as refusal
+use Rattle.el_side.specs.Beneath.{Beneath, Ghosts, Lost}
 use Rattle.el_side.specs.Plans.{back_of, rest_of, plan_of, left_of, IsMoving}
 use Rattle.el_side.specs.Side.{Side, Looks}
 use Rattle.el_model.specs.declared.fault.QueryFault.{QueryFault}
@@ -45,53 +45,50 @@ SaysRefusal (stop.Refused h f) answer = move_refused (stop.Refused h f) ≡ Some
 
 -- What came of a move before the set is sifted: whether it was made, what the node is answered, which script
 -- hashes it touched, and the chain then.
-pub data Tried (tells : Type 0) (side : Side) (back : ℕ) (rest : List Node) (moved : Bool)
-    (answer : NodeAnswer) (touched : List Hash32) (losses : List Device) (chain : Chain) (files : ℕ → List ℕ)
-    : Type 0 where
-  made : (blocks : Chain) → Moves tells files side.chain (plan_of back rest) blocks
+pub data Tried (stood : Node → List ℕ → Type 0) (side : Side) (back : ℕ) (rest : List Node) (moved : Bool)
+    (answer : NodeAnswer) (touched : List Hash32) (losses : List Device) (chain : Chain) : Type 0 where
+  made : (blocks : Chain) → Moves stood side.chain (plan_of back rest) blocks
       → AreTouched (plan_of back rest) side.chain blocks touched → moved ≡ true
       → chain ≡ shorter back side.chain ++ blocks → answer ≡ say.At (tip_of chain) (height_of chain)
-      → losses ≡ [] → Tried tells side back rest moved answer touched losses chain files
-  refused : (e : MoveFault) → IsRefused tells files side.chain (plan_of back rest) e → moved ≡ false
+      → losses ≡ [] → Tried stood side back rest moved answer touched losses chain
+  refused : (e : MoveFault) → IsRefused stood side.chain (plan_of back rest) e → moved ≡ false
       → chain ≡ side.chain → move_refused e ≡ Some answer → touched ≡ [] → losses ≡ []
-      → Tried tells side back rest moved answer touched losses chain files
+      → Tried stood side back rest moved answer touched losses chain
   failed : moved ≡ false → chain ≡ side.chain → answer ≡ say.Refused refusal.Archive → touched ≡ []
-      → losses ≡ archive ∷ [] → Tried tells side back rest moved answer touched losses chain files
+      → losses ≡ archive ∷ [] → Tried stood side back rest moved answer touched losses chain
 
 -- A move was tried from the side.
-pub record Tries {G A : Type 0} (of_ledger : ledgers.Ghosts G) (of_files : archives.Ghosts A) (old new : G)
-    (files_old files_new : A) (side : Side) (back : ℕ) (rest : List Node) (made : Made) : Type 0 where
+pub record Tries {G A : Type 0} (of : Ghosts G A) (was now : Beneath G A) (side : Side) (back : ℕ)
+    (rest : List Node) (made : Made) : Type 0 where
   pub losses : List Device
   pub chain : Chain
-  pub tried : Tried of_files.tells side back rest made.moved made.answer made.touched losses chain
-      (of_files.bytes files_new)
-  pub grows : of_files.tells → AllGrow side.files (of_files.bytes files_new)
-  pub moved : Moved of_ledger old new side.chain chain
-  pub rose : (of_link : ℕ) → Rose (failed_calls of_ledger of_files of_link old files_old)
-      (failed_calls of_ledger of_files of_link new files_new) losses
+  pub tried : Tried (StoodAt of.files side.files (of.files.bytes now.files)) side back rest
+      made.moved made.answer made.touched losses chain
+  pub grows : of.files.tells → AllGrow side.files (of.files.bytes now.files)
+  pub moved : Moved of.ledger was.ledger now.ledger side.chain chain
+  pub rose : Lost of was now losses
 
 -- What a move that was made or refused keeps, whatever the ledger stands for.
-pub record MoveKeeps {G A : Type 0} (of_ledger : ledgers.Ghosts G) (of_files : archives.Ghosts A)
-    (old new : G) (files_old files_new : A) (rest : List Node) (made : Made) : Type 0 where
-  pub live : of_ledger.is_live new
+pub record MoveKeeps {G A : Type 0} (of : Ghosts G A) (was now : Beneath G A) (rest : List Node) (made : Made)
+    : Type 0 where
+  pub live : of.ledger.is_live now.ledger
   pub left : made.left ≡ (if made.moved then left_of rest else [])
   pub nodes : AllByRecursion IsNode made.left
-  pub linked : AreLinked (named (of_ledger.tip new)) made.left
-  pub keeps : of_files.tells → AllGrow (of_files.bytes files_old) (of_files.bytes files_new)
-  pub archive_rose : RoseBy (of_files.faults files_old) (of_files.faults files_new) 0
-      ⊎ ((made.moved ≡ false) × RoseBy (of_files.faults files_old) (of_files.faults files_new) 1)
-  pub disk_same : of_ledger.faults new ≡ of_ledger.faults old
-  pub beside : KeepsBeside of_ledger old new
+  pub linked : AreLinked (named (of.ledger.tip now.ledger)) made.left
+  pub keeps : of.files.tells → AllGrow (of.files.bytes was.files) (of.files.bytes now.files)
+  pub archive_rose : RoseBy (of.files.faults was.files) (of.files.faults now.files) 0
+      ⊎ ((made.moved ≡ false) × RoseBy (of.files.faults was.files) (of.files.faults now.files) 1)
+  pub disk_same : of.ledger.faults now.ledger ≡ of.ledger.faults was.ledger
+  pub beside : KeepsBeside of.ledger was.ledger now.ledger
 
 -- What a move that failed keeps.
-pub record MoveFailed {G A : Type 0} (of_ledger : ledgers.Ghosts G) (of_files : archives.Ghosts A)
-    (old new : G) (files_old files_new : A) (e : QueryFault) : Type 0 where
-  pub still_live : e ≡ fault.Memory → of_ledger.is_live new
-  pub keeps : of_files.tells → AllGrow (of_files.bytes files_old) (of_files.bytes files_new)
-  pub archive_rose : RoseBy (of_files.faults files_old) (of_files.faults files_new) 0
-  pub disk_rose : e ≡ fault.DiskFailed → RoseBy (of_ledger.faults old) (of_ledger.faults new) 1
-  pub disk_same : e ≢ fault.DiskFailed → of_ledger.faults new ≡ of_ledger.faults old
-  pub beside : KeepsBeside of_ledger old new
+pub record MoveFailed {G A : Type 0} (of : Ghosts G A) (was now : Beneath G A) (e : QueryFault) : Type 0 where
+  pub still_live : e ≡ fault.Memory → of.ledger.is_live now.ledger
+  pub keeps : of.files.tells → AllGrow (of.files.bytes was.files) (of.files.bytes now.files)
+  pub archive_rose : RoseBy (of.files.faults was.files) (of.files.faults now.files) 0
+  pub disk_rose : e ≡ fault.DiskFailed → RoseBy (of.ledger.faults was.ledger) (of.ledger.faults now.ledger) 1
+  pub disk_same : e ≢ fault.DiskFailed → of.ledger.faults now.ledger ≡ of.ledger.faults was.ledger
+  pub beside : KeepsBeside of.ledger was.ledger now.ledger
 
 -- The set stands for what is kept of these transactions, and these are the script hashes that changed.
 pub record StandsAfter (pool : PoolState) (side : Side) (changed : List Hash32) (does : Side → Type 0)

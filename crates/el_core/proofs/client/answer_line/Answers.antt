@@ -1,4 +1,5 @@
 use Rattle.std.proofs.Common.{inl, refl, sym, [], ℕ, ap, ◌∙◌}
+use Rattle.el_side.specs.Beneath.{ghosts}
 use Rattle.el_core.specs.State.{ClientState}
 use Rattle.el_world.specs.World.{outs_of_reply, closes_memory}
 use Rattle.el_core.specs.within.Clients.{starved}
@@ -9,14 +10,14 @@ use Rattle.el_core.proofs.client.answer_line.Goals.{in-Ok-reply_line, in-Err}
 
 pub returns-in_default-clause-answered : goal.returns-in_default-clause-answered
 returns-in_default-clause-answered g c = λ side at'.
-    starved [] (record {}) (inl refl) (c.closing.ensures ∙ ap closes_memory c.peer-peer.ensures) refl (lost_none g.G.Ledger g.A.Archive _ _ c.args.archive.now refl)
+    starved [] (record {}) (inl refl) (c.closing.ensures ∙ ap closes_memory c.peer-peer.ensures) refl (lost_none (ghosts g.G.Ledger g.A.Archive) _ _ c.args.archive.now refl)
 
 pub returns-clause-answered : goal.returns-clause-answered
 returns-clause-answered g c = rw (← c.client.view_is) (λ side at'.
     let r = c.reply_line.ensures.answered side.chain side.kept side.files at'.stood at'.set at'.told in
     let peer_is = c.peer-peer.ensures ∙ sym (ap (λ (d : ClientState). d.peer) c.client.view_is) in
     let comes = rw at'.found at (r.done []) in
-    let lost = lost_of g.G.Ledger g.A.Archive c.args.ledger.now c.reply_line.new.ledger c.args.archive.now c.reply_line.new.archive r.lost r.no_link r.archive_count r.disk_count in
+    let lost = lost_of (ghosts g.G.Ledger g.A.Archive) c.args.ledger.now c.reply_line.new.ledger c.args.archive.now c.reply_line.new.archive r.lost r.no_link r.archive_count r.disk_count in
     elim c.match-reply_line.branch [
       | in-Ok-reply_line w ↦ rw w.result-is
           (line_replied _ side _ c.client.inside.peer _ _ _ r.lost c.reply_line.result _ _ w.in-Ok-reply_line.reply w.in-Ok-reply_line.is comes

@@ -1,4 +1,5 @@
 use Rattle.std.proofs.Common.{sym, ap, subst, ◌∙◌, refl, List}
+use Rattle.el_side.specs.Beneath.{ghosts}
 use Rattle.el_world.specs.World.{closes_memory}
 use Rattle.el_sessions.specs.Sessions.{Subscription, Edits}
 use Rattle.el_sessions.proofs.Subscribing.{edits_same}
@@ -9,11 +10,11 @@ use Rattle.el_core.proofs.client.client_turn.Goals as goal
 
 pub returns-then-is_lost-clause-turn : goal.returns-then-is_lost-clause-turn
 returns-then-is_lost-clause-turn g c = λ side at'.
-    loses c.closing.result (sym c.is_lost.ensures ∙ c.if-is_lost.true) refl (c.closing.ensures ∙ ap closes_memory c.peer-peer.ensures) refl (lost_none g.G.Ledger g.A.Archive _ _ c.args.archive.now refl)
+    loses c.closing.result (sym c.is_lost.ensures ∙ c.if-is_lost.true) refl (c.closing.ensures ∙ ap closes_memory c.peer-peer.ensures) refl (lost_none (ghosts g.G.Ledger g.A.Archive) _ _ c.args.archive.now refl)
 
 pub returns-in-Err-clause-turn : goal.returns-in-Err-clause-turn
 returns-in-Err-clause-turn g c = λ side at'.
-    departs c.closing-in-Err.result (sym c.is_lost.ensures ∙ c.if-is_lost.false) c.in-Err.ensures.line refl (c.closing-in-Err.ensures ∙ ap closes_memory c.peer-peer.ensures) refl (lost_none g.G.Ledger g.A.Archive _ _ c.args.archive.now refl)
+    departs c.closing-in-Err.result (sym c.is_lost.ensures ∙ c.if-is_lost.false) c.in-Err.ensures.line refl (c.closing-in-Err.ensures ∙ ap closes_memory c.peer-peer.ensures) refl (lost_none (ghosts g.G.Ledger g.A.Archive) _ _ c.args.archive.now refl)
 
 pub returns-in-Ok-None-clause-done : goal.returns-in-Ok-None-clause-done
 returns-in-Ok-None-clause-done g c =

@@ -2,31 +2,29 @@ use Rattle.std.proofs.Common.{◌≡◌, ◌≤◌, arith, rules, inr, ◌∙◌
 use Rattle.std.proofs.lemmas.Result.{err_from_is_err_and}
 use Rattle.el_outside.proofs.Calls.{has_more, reads_failed}
 use Rattle.el_chain.specs.declared.node.Node.{Node}
-use Rattle.el_chain.specs.Records.{records_of_files}
 use Rattle.el_outside.specs.declared.archive.TheConstants.{MOST_FILES}
 use Rattle.el_files.specs.Scanning.{IsFoundIn, IsFoundBelow}
 use Rattle.el_files.specs.declared.limits.TheConstants.{PIECE_SIZE}
 use Rattle.el_files.proofs.Appends.{only_none, only_joined, only_weaker, on_err}
-use Rattle.el_files.proofs.ManyFiles.{scanned_to_none, scanned_to_more, scanned_front, found_below}
-use Rattle.el_files.proofs.Counted.{one_file, up_to}
+use Rattle.el_files.proofs.ManyFiles.{files_begin, files_more, files_all, files_front, called_none, called_more, called_all, found_below}
 use Rattle.el_files.proofs.Scans.{buffer_kept}
 use Rattle.el_files.proofs.scanning.scan.Goals as goal
 
 pub loop-file-init : goal.loop-file-init
 loop-file-init g c = record {
   scanned = λ t.
-      scanned_to_none g.A.Archive.bytes g.A.Archive.file_count c.args.magic _ _ c.in_ok-count.count c.args.found.now.items (c.in_ok-count.ensures.keeps t)
+      files_begin g.A.Archive c.args.magic _ _ c.in_ok-count.count c.args.found.now.items (c.in_ok-count.ensures.keeps t)
       (c.in_ok-count.ensures.number t) (λ file more. g.A.Archive.none_after _ file t more);
   nodes = only_none _ _;
   reads = record { keeps = c.in_ok-count.ensures.keeps; same = c.in_ok-count.ensures.cause.uncounted };
-  calls = λ t. omega (arith, c.files.ensures.called);
+  calls = λ t. called_none g.A.Archive _ _ c.files.ensures.called;
   long = c.in_ok-buffer.ensures;
 }
 
 pub returns-in_err-scan_through-clause-front : goal.returns-in_err-scan_through-clause-front
 returns-in_err-scan_through-clause-front g c = λ t.
     let front = c.in_err-scan_through.ensures.front t in
-    on_err _ _ (inr (scanned_front g.A.Archive.bytes g.A.Archive.file_count c.args.magic _ _ _
+    on_err _ _ (inr (files_front g.A.Archive c.args.magic _ _ _
     c.in_ok-count.count c.loop-file.file c.args.found.now.items c.loop-file.found.items c.scan_through.new.found.items front.0 (c.loop-file.invariant.scanned t)
     c.loop-file-test.true (c.in_err-scan_through.ensures.only_reads.keeps t) front.1 front.2))
 
@@ -48,26 +46,28 @@ loop-file-preserved g c =
     record {
       scanned = λ t.
           let all = c.in_ok-scan_through.ensures.records t in
-          scanned_to_more g.A.Archive.bytes g.A.Archive.file_count c.args.magic _ _ _
+          files_more g.A.Archive c.args.magic _ _ _
           c.in_ok-count.count c.loop-file.file c.args.found.now.items c.loop-file.found.items c.scan_through.new.found.items all.0 (c.loop-file.invariant.scanned t)
           c.loop-file-test.true (c.in_ok-scan_through.ensures.only_reads.keeps t) all.1 all.2;
       nodes = only_joined (IsFoundBelow g.A.Archive.gave c.args.magic MOST_FILES) c.args.found.now.items c.loop-file.found.items c.scan_through.new.found.items c.loop-file.invariant.nodes
           (only_weaker (IsFoundIn g.A.Archive.gave c.args.magic c.loop-file.file) (IsFoundBelow g.A.Archive.gave c.args.magic MOST_FILES) c.loop-file.found.items c.scan_through.new.found.items
           (λ (n : Node) h. found_below g.A.Archive.gave c.args.magic c.loop-file.file c.in_ok-count.count n c.loop-file-test.true few h) c.in_ok-scan_through.ensures.nodes);
       reads = has_more c.loop-file.invariant.reads c.in_ok-scan_through.ensures.only_reads;
-      calls = λ t. one_file c.loop-file.file (g.A.Archive.bytes c.loop-file.archive) (g.A.Archive.bytes c.scan_through.new.archive) (g.A.Archive.calls c.args.archive.now) (g.A.Archive.calls c.loop-file.archive) (g.A.Archive.calls c.scan_through.new.archive)
-          (c.loop-file.invariant.calls t) (c.scan_through.ensures.calls t) (c.in_ok-scan_through.ensures.only_reads.keeps t);
+      calls = λ t. called_more g.A.Archive c.args.archive.now c.loop-file.archive c.scan_through.new.archive c.loop-file.file
+          (c.loop-file.invariant.reads.keeps t) (c.in_ok-scan_through.ensures.only_reads.keeps t) (c.loop-file.invariant.calls t) (c.scan_through.ensures.calls t);
       long = buffer_kept c.loop-file.buffer.len PIECE_SIZE c.scan_through.new.buffer c.loop-file.buffer.items (search rules) c.loop-file.invariant.long (search rules);
     }
 
 pub returns-clause-records : goal.returns-clause-records
 returns-clause-records g c = λ t.
     let s = c.loop-file.invariant.scanned t in
-    let last : c.loop-file.file ≡ g.A.Archive.file_count s.all.told = let k = s.counted in omega (arith, k) in
-    (s.all, s.appended ∙ ap (λ (n : ℕ). c.args.found.now.items ++ records_of_files c.args.magic n s.all.files) last)
+    let few = s.files.few in
+    let counted = s.counted in
+    files_all g.A.Archive c.args.magic _ _ c.in_ok-count.count c.loop-file.file c.args.found.now.items c.loop-file.found.items s (omega (arith, few, counted))
 
 pub returns-clause-calls : goal.returns-clause-calls
 returns-clause-calls g c = λ t.
     let s = c.loop-file.invariant.scanned t in
-    let last : c.loop-file.file ≡ g.A.Archive.file_count s.all.told = let k = s.counted in omega (arith, k) in
-    (s.all, up_to _ _ _ (g.A.Archive.calls c.args.archive.now) (g.A.Archive.calls c.loop-file.archive) last (c.loop-file.invariant.calls t))
+    let few = s.files.few in
+    let counted = s.counted in
+    called_all g.A.Archive c.args.magic _ _ c.in_ok-count.count c.loop-file.file c.args.found.now.items c.loop-file.found.items s (omega (arith, few, counted)) (c.loop-file.invariant.calls t)

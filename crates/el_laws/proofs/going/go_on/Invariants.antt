@@ -10,7 +10,7 @@ invariant-loop-plan g l = record {
   one_each : length l.sent ≡ l.plan-index;
   follow : AreMovesOf (g.G.Ledger.stands l.ledger) (drop l.plan-index l.plans);
   same : g.G.Ledger.faults l.ledger ≡ g.G.Ledger.faults l.fn.ledger;
-  told : (chain : Chain) → g.G.Ledger.stands l.fn.ledger chain → (acked : Chain) × Told g.A.Archive.tells chain (take l.plan-index l.plans) l.sent acked × g.G.Ledger.stands l.ledger acked;
+  told : (chain : Chain) → g.G.Ledger.stands l.fn.ledger chain → (acked : Chain) × Told g.A.Archive chain (take l.plan-index l.plans) l.sent acked × g.G.Ledger.stands l.ledger acked;
   ever : (chain : Chain) → g.G.Ledger.stands l.fn.ledger chain → g.G.Ledger.tells_crash
-      → LeavesOnly g.G.Ledger.moment g.G.Ledger.left_since l.fn.ledger l.ledger (WasSafe g.A.Archive.tells g.G.Ledger.means l.plans chain l.sent);
+      → LeavesOnly g.G.Ledger.moment g.G.Ledger.left_since l.fn.ledger l.ledger (WasSafe g.A.Archive g.G.Ledger.means l.plans chain l.sent);
 }

@@ -5,7 +5,8 @@ use Rattle.el_loop.proofs.Runs.{going_none, one_further, going_more, told_ended,
 use Rattle.el_loop.proofs.Numbers.{above_next, no_less, up_to_next}
 use Rattle.el_outside.proofs.Devices.{each_more}
 use Rattle.el_loop.proofs.Rises.{counted_none, counted_more, caused_end, caused_next, caused_halt}
-use Rattle.el_loop.specs.within.Progress.{taken_one, snapshot}
+use Rattle.el_side.specs.Beneath.{ghosts}
+use Rattle.el_loop.specs.within.Progress.{taken_one, all_ghosts, snapshot}
 use Rattle.el_loop.specs.within.Sending.{stop_of}
 use Rattle.el_core.specs.Arrivals.{with_all_bytes}
 use Rattle.el_loop.proofs.running.run.Goals as goal
@@ -13,7 +14,7 @@ use Rattle.el_loop.proofs.running.run.Goals as goal
 pub loop-turn-init : goal.loop-turn-init
 loop-turn-init g c = record {
   going = λ first stood nobody files.
-      going_none g.G.Ledger g.A.Archive g.K.Link first c.args.options.node _
+      going_none (all_ghosts (ghosts g.G.Ledger g.A.Archive) g.K.Link) first c.args.options.node _
       stood nobody c.requires.idle.surplus (λ t. rw files (all_grow_none _));
   live = c.requires.live;
   idle = c.requires.idle;
@@ -25,7 +26,7 @@ loop-turn-init g c = record {
 
 pub returns-clause-ends : goal.returns-clause-ends
 returns-clause-ends g c = λ first stood nobody files.
-    told_spent g.G.Ledger g.A.Archive g.K.Link _ first c.args.options.node c.loop-turn._turn
+    told_spent (all_ghosts (ghosts g.G.Ledger g.A.Archive) g.K.Link) _ first c.args.options.node c.loop-turn._turn
     c.args.options.turns _ (snapshot c.loop-turn.server c.loop-turn.archive c.loop-turn.link)
     (λ chain stood told left now. inl (g.met.G.Ledger.leaves_own c.loop-turn.server.ledger chain left told
     c.loop-turn.invariant.live stood now)) nobody
@@ -53,7 +54,7 @@ returns-in_default-clause-keeps g c = c.loop-turn.invariant.keeps
 
 pub returns-in_default-clause-ends : goal.returns-in_default-clause-ends
 returns-in_default-clause-ends g c = λ first stood nobody files.
-    told_failed g.G.Ledger g.A.Archive g.K.Link _ first c.args.options.node c.loop-turn._turn
+    told_failed (all_ghosts (ghosts g.G.Ledger g.A.Archive) g.K.Link) _ first c.args.options.node c.loop-turn._turn
     c.args.options.turns _ (snapshot c.loop-turn.server c.loop-turn.archive c.loop-turn.link) c.next.new.self
     (λ chain stood told left now. inl (g.met.G.Ledger.leaves_own c.loop-turn.server.ledger chain left told
     c.loop-turn.invariant.live stood now)) nobody
@@ -72,11 +73,11 @@ returns-in-Err-clause-ends g c = λ first stood nobody files.
     c.in-Ok.ensures.lawful
     c.in-Ok.ensures.took in
     let stopped = c.in-Err.ensures.stopped going.world going.stood going.told going.ready.grown are in
-    rw c.end.ensures (told_halt g.G.Ledger g.A.Archive g.K.Link first c.args.options.node _
+    rw c.end.ensures (told_halt (all_ghosts (ghosts g.G.Ledger g.A.Archive) g.K.Link) first c.args.options.node _
     c.args.options.turns
     (snapshot c.args.server.now c.args.archive.now c.args.link.now)
     (snapshot c.serve_arrival.new.server c.serve_arrival.new.archive c.serve_arrival.new.link) c.in-Err.halt
-    (told_stopped g.G.Ledger g.A.Archive g.K.Link _ first c.args.options.node c.loop-turn._turn
+    (told_stopped (all_ghosts (ghosts g.G.Ledger g.A.Archive) g.K.Link) _ first c.args.options.node c.loop-turn._turn
     c.args.options.turns (with_bytes c.in-Ok.arrival c.next.new.buf) _
     (snapshot c.loop-turn.server c.loop-turn.archive c.loop-turn.link) c.next.new.self _
     (stop_of c.in-Err.halt) nobody
@@ -100,12 +101,12 @@ returns-then-ends-clause-ends g c = λ first stood nobody files.
     c.in-Ok.ensures.lawful
     c.in-Ok.ensures.took in
     let done = c.in_default-serve_arrival.ensures.served going.world going.stood going.told going.ready.grown are in
-    told_ended g.G.Ledger g.A.Archive g.K.Link _ first c.args.options.node c.loop-turn._turn
+    told_ended (all_ghosts (ghosts g.G.Ledger g.A.Archive) g.K.Link) _ first c.args.options.node c.loop-turn._turn
     c.args.options.turns (with_bytes c.in-Ok.arrival c.next.new.buf) _
     (snapshot c.serve_arrival.new.server c.serve_arrival.new.archive c.serve_arrival.new.link)
     (λ chain stood told left now. inl (g.met.G.Ledger.leaves_own c.serve_arrival.new.server.ledger chain left
     told c.in_default-serve_arrival.ensures.live stood now)) nobody
-    (one_further g.G.Ledger g.A.Archive g.K.Link first c.args.options.node c.loop-turn._turn
+    (one_further (all_ghosts (ghosts g.G.Ledger g.A.Archive) g.K.Link) first c.args.options.node c.loop-turn._turn
     (with_bytes c.in-Ok.arrival c.next.new.buf) _
     (snapshot c.loop-turn.server c.loop-turn.archive c.loop-turn.link) c.next.new.self _
     going c.in-Ok.ensures.took c.in-Ok.ensures.cause.uncounted
@@ -127,9 +128,9 @@ loop-turn-preserved g c = record {
       is going.ready.are_open (λ t p lt. g.met.K.Link.greater_is_new c.loop-turn.link p t lt)
       c.in-Ok.ensures.lawful c.in-Ok.ensures.took in
       let done = c.in_default-serve_arrival.ensures.served going.world going.stood going.told going.ready.grown are in
-      going_more g.G.Ledger g.A.Archive g.K.Link first c.args.options.node c.loop-turn._turn
+      going_more (all_ghosts (ghosts g.G.Ledger g.A.Archive) g.K.Link) first c.args.options.node c.loop-turn._turn
       (with_bytes c.in-Ok.arrival c.next.new.buf) _ _
-      (one_further g.G.Ledger g.A.Archive g.K.Link first c.args.options.node c.loop-turn._turn
+      (one_further (all_ghosts (ghosts g.G.Ledger g.A.Archive) g.K.Link) first c.args.options.node c.loop-turn._turn
       (with_bytes c.in-Ok.arrival c.next.new.buf) _
       (snapshot c.loop-turn.server c.loop-turn.archive c.loop-turn.link) c.next.new.self _
       going c.in-Ok.ensures.took c.in-Ok.ensures.cause.uncounted

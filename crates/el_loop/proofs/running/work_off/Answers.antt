@@ -3,11 +3,13 @@ use Rattle.el_outside.proofs.Traces.{all_grow_none, all_grow_more}
 use Rattle.el_core.specs.Turn.{outs_of}
 use Rattle.el_loop.proofs.Progresses.{begins, can_deliver, progress_more, finished, stopped_turn, stopped_sending}
 use Rattle.el_loop.proofs.Rises.{rises_after, rises_other, rises_turn, turn_no_link}
+use Rattle.el_side.specs.Beneath.{ghosts}
+use Rattle.el_loop.specs.within.Progress.{all_ghosts}
 use Rattle.el_loop.proofs.running.work_off.Goals as goal
 
 pub loop-outs-init : goal.loop-outs-init
 loop-outs-init g c = record {
-  progress = λ world all stood ready. begins g.G.Ledger g.A.Archive g.K.Link world all _ stood ready;
+  progress = λ world all stood ready. begins (all_ghosts (ghosts g.G.Ledger g.A.Archive) g.K.Link) world all _ stood ready;
   live = c.requires.live;
   keeps = λ t. all_grow_none _;
   numbers = λ n up. up;
@@ -25,11 +27,11 @@ loop-outs-preserved g c = record {
       let p = c.loop-outs.invariant.progress world all stood ready in
       let t = rw c.in-Ok-Some.field-0-is at (c.in-Ok-Some.ensures.step p.world p.left p.stood p.ready.grown)
       in
-      progress_more g.G.Ledger g.A.Archive g.K.Link world all _ c.loop-outs.server c.turn.new.self
+      progress_more (all_ghosts (ghosts g.G.Ledger g.A.Archive) g.K.Link) world all _ c.loop-outs.server c.turn.new.self
       c.deliver.new.server c.loop-outs.archive c.turn.new.archive c.loop-outs.link c.deliver.new.link
       (outs_of c.in-Ok-Some.outs) p t
       (c.in-Ok.ensures.delivered t.next t.rest
-      (can_deliver g.G.Ledger g.A.Archive g.K.Link p.world p.left (outs_of c.in-Ok-Some.outs)
+      (can_deliver (all_ghosts (ghosts g.G.Ledger g.A.Archive) g.K.Link) p.world p.left (outs_of c.in-Ok-Some.outs)
       c.loop-outs.server
       c.turn.new.self _ _ _ p.stood t p.ready.are_open));
   live = rw c.in-Ok.ensures.same_ledger c.in-Ok-Some.ensures.live;
@@ -51,11 +53,11 @@ pub returns-in-Err-deliver-clause-stopped : goal.returns-in-Err-deliver-clause-s
 returns-in-Err-deliver-clause-stopped g c = λ world all stood ready.
     let p = c.loop-outs.invariant.progress world all stood ready in
     let t = rw c.in-Ok-Some.field-0-is at (c.in-Ok-Some.ensures.step p.world p.left p.stood p.ready.grown) in
-    stopped_sending g.G.Ledger g.A.Archive g.K.Link _ world all _ c.loop-outs.server c.turn.new.self
+    stopped_sending (all_ghosts (ghosts g.G.Ledger g.A.Archive) g.K.Link) _ world all _ c.loop-outs.server c.turn.new.self
     c.deliver.new.server c.loop-outs.archive c.turn.new.archive c.loop-outs.link c.deliver.new.link
     (outs_of c.in-Ok-Some.outs) _ p t
     (c.in-Err-deliver.ensures.undelivered t.next t.rest
-    (can_deliver g.G.Ledger g.A.Archive g.K.Link p.world p.left (outs_of c.in-Ok-Some.outs) c.loop-outs.server
+    (can_deliver (all_ghosts (ghosts g.G.Ledger g.A.Archive) g.K.Link) p.world p.left (outs_of c.in-Ok-Some.outs) c.loop-outs.server
     c.turn.new.self _ _ _ p.stood t p.ready.are_open))
     (λ told left now. inr (g.met.G.Ledger.leaves_own c.turn.new.self.ledger t.next.side.chain left told
     c.in-Ok-Some.ensures.live t.stood.chain (rw c.in-Err-deliver.ensures.same_ledger at now)))
@@ -67,7 +69,7 @@ returns-in-Err-deliver-clause-keeps g c =
 pub returns-in-Ok-None-clause-finished : goal.returns-in-Ok-None-clause-finished
 returns-in-Ok-None-clause-finished g c = λ world all stood ready.
     let p = c.loop-outs.invariant.progress world all stood ready in
-    finished g.G.Ledger g.A.Archive g.K.Link world all _ c.loop-outs.server c.turn.new.self
+    finished (all_ghosts (ghosts g.G.Ledger g.A.Archive) g.K.Link) world all _ c.loop-outs.server c.turn.new.self
     c.loop-outs.archive
     c.turn.new.archive c.loop-outs.link p
     (rw c.in-Ok-None.field-0-is at (c.in-Ok-None.ensures.done p.world p.left p.stood))
@@ -87,7 +89,7 @@ pub returns-in-Err-clause-stopped : goal.returns-in-Err-clause-stopped
 returns-in-Err-clause-stopped g c = λ world all stood ready.
     let p = c.loop-outs.invariant.progress world all stood ready in
     let t = c.in-Err.ensures.failed p.world p.left p.stood p.ready.grown in
-    stopped_turn g.G.Ledger g.A.Archive g.K.Link _ world all _ c.loop-outs.server c.turn.new.self
+    stopped_turn (all_ghosts (ghosts g.G.Ledger g.A.Archive) g.K.Link) _ world all _ c.loop-outs.server c.turn.new.self
     c.loop-outs.archive c.turn.new.archive c.loop-outs.link _ c.in-Err.fault p t
     (λ told left now. let over = t.stops_at.crash told in over.each left (g.met.G.Ledger.earlier
     c.turn.new.self.ledger _ _ left over.later now))

@@ -3,15 +3,16 @@ use Rattle.el_outside.specs.Files.{AllGrow}
 use Rattle.el_model.specs.LedgerCalls.{KeepsBeside}
 use Rattle.el_world.specs.World.{World, Event}
 use Rattle.el_core.specs.State.{Stands, AreUpTo, work}
-use Rattle.el_loop.specs.within.Progress.{IsReady, Progress, snapshot}
+use Rattle.el_side.specs.Beneath.{ghosts}
+use Rattle.el_loop.specs.within.Progress.{IsReady, Progress, all_ghosts, snapshot}
 use Rattle.el_loop.proofs.running.work_off.Given as goal
 
 abbrev pub invariant-loop-outs : goal.invariant-loop-outs
 invariant-loop-outs g l = record {
   progress : (world : World) (all : List Event) → Stands g.G.Ledger.stands l.initial.server world all
-      → IsReady g.G.Ledger g.A.Archive g.K.Link world (snapshot l.initial.server l.initial.archive
+      → IsReady (all_ghosts (ghosts g.G.Ledger g.A.Archive) g.K.Link) world (snapshot l.initial.server l.initial.archive
       l.initial.link)
-      → Progress g.G.Ledger g.A.Archive g.K.Link world all
+      → Progress (all_ghosts (ghosts g.G.Ledger g.A.Archive) g.K.Link) world all
       (snapshot l.initial.server l.initial.archive l.initial.link) (snapshot l.server l.archive l.link);
   live : g.G.Ledger.is_live l.server.ledger;
   keeps : g.A.Archive.tells → AllGrow (g.A.Archive.bytes l.initial.archive) (g.A.Archive.bytes l.archive);

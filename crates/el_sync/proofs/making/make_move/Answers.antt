@@ -15,7 +15,7 @@ go-requires-clause-fits g c = λ chain stands. plan_fits c.args.back c.args.rest
 
 pub returns-in-Ok-clause-tried : goal.returns-in-Ok-clause-tried
 returns-in-Ok-clause-tried g c = λ side stood told.
-    made_tries g.G.Ledger g.A.Archive c.args.ledger.now c.go.new.self c.args.archive.now c.go.new.archive side c.args.back c.args.rest
+    made_tries _ _ _ side c.args.back c.args.rest
     c.in_ok-forward.forward c.in-Ok.moved.tip c.in-Ok.moved.height _ told c.in-Ok.ensures.reads.keeps (c.in-Ok.ensures.moved side.chain stood) c.in_ok-forward.ensures
     (λ d s. c.in-Ok.ensures.answer.0 ∙ g.met.G.Ledger.tip_is c.go.new.self d s) (λ d s. c.in-Ok.ensures.answer.1 ∙ g.met.G.Ledger.height_is c.go.new.self d s)
     refl refl c.in-Ok.ensures.reads.uncounted c.in-Ok.ensures.cause.uncounted
@@ -39,7 +39,7 @@ returns-in_ok-answer-in-Err-clause-tried g c = λ side stood told.
     let e = c.in-Err.ensures in
     let other = not_disk c.in-Err.fault c.in_ok-answer-in-Err.answer c.in_ok-answer-in-Err.ensures.told in
     let quiet = e.unchanged other in
-    not_made g.G.Ledger g.A.Archive c.args.ledger.now c.go.new.self c.args.archive.now c.go.new.archive side c.args.back c.args.rest c.in_ok-forward.forward
+    not_made _ _ _ side c.args.back c.args.rest c.in_ok-forward.forward
     c.in-Err.fault _ told e.reads.keeps
     (asked_moved g.G.Ledger c.args.ledger.now c.go.new.self side.chain (λ a d f h i j k. g.met.G.Ledger.leaves_own a d f h i j k) c.requires.live quiet stood)
     (e.refused side.chain stood) c.in_ok-forward.ensures (λ is. e.reads.counted (ap Err is)) (λ is. e.reads.others_uncounted is) (e.cause.others_uncounted other)
@@ -64,7 +64,7 @@ pub returns-in_err-answer-in-Err-clause-stopped : goal.returns-in_err-answer-in-
 returns-in_err-answer-in-Err-clause-stopped g c = λ chain stands.
     let e = c.in-Err.ensures in
     let p = err_from_is_err_and c.from_residual-in_err-answer-in-Err.result c.from_residual-in_err-answer-in-Err.ensures.1 in
-    broke g.G.Ledger g.A.Archive c.from_residual-in_err-answer-in-Err.result c.args.ledger.now c.go.new.self c.args.archive.now c.go.new.archive chain c.args.back c.args.rest
+    broke _ c.from_residual-in_err-answer-in-Err.result _ _ chain c.args.back c.args.rest
     c.in_ok-forward.forward c.in_err-answer-in-Err.field-0.0 (p.1 ∙ ap Err p.2) c.in_ok-forward.ensures
     (λ failed. e.crash_failed chain stands (ap Err (c.in_err-answer-in-Err.ensures.failed (ap Err failed))))
     (λ memory. asked_moved g.G.Ledger c.args.ledger.now c.go.new.self chain (λ a d f h i j k. g.met.G.Ledger.leaves_own a d f h i j k) c.requires.live
@@ -82,7 +82,7 @@ pub returns-in_err-answer-in-Err-clause-failed : goal.returns-in_err-answer-in-E
 returns-in_err-answer-in-Err-clause-failed g c =
     let e = c.in-Err.ensures in
     let p = err_from_is_err_and c.from_residual-in_err-answer-in-Err.result c.from_residual-in_err-answer-in-Err.ensures.1 in
-    move_failed g.G.Ledger g.A.Archive c.from_residual-in_err-answer-in-Err.result c.in_err-answer-in-Err.field-0.0 c.args.ledger.now c.go.new.self c.args.archive.now c.go.new.archive (p.1 ∙ ap Err p.2)
+    move_failed _ c.from_residual-in_err-answer-in-Err.result c.in_err-answer-in-Err.field-0.0 _ _ (p.1 ∙ ap Err p.2)
     (record {
       still_live = λ memory. (e.unchanged ((c.in_err-answer-in-Err.ensures.memory (ap Err memory)).0)).stays.still_live c.requires.live;
       keeps = e.reads.keeps;
@@ -95,7 +95,7 @@ returns-in_err-answer-in-Err-clause-failed g c =
 pub returns-in_err-forward-clause-stopped : goal.returns-in_err-forward-clause-stopped
 returns-in_err-forward-clause-stopped g c = λ chain stands.
     let p = err_from_is_err_and c.from_residual.result c.from_residual.ensures.1 in
-    starved_still g.G.Ledger g.A.Archive c.from_residual.result c.args.ledger.now c.args.ledger.now c.args.archive.now chain _
+    starved_still _ c.from_residual.result _ c.args.ledger.now chain _
     (asked_moved g.G.Ledger c.args.ledger.now c.args.ledger.now chain (λ a d f h i j k. g.met.G.Ledger.leaves_own a d f h i j k) c.requires.live (asked_none g.G.Ledger c.args.ledger.now) stands)
     (memory_of c.from_residual.result p.0 p.1 p.2) refl
 

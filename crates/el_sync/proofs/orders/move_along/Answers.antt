@@ -14,7 +14,7 @@ pub returns-then-back-clause-along : goal.returns-then-back-clause-along
 returns-then-back-clause-along g c = λ path side start is at still.
     let w = c.in_ok-back.ensures.way path side.chain is (c.requires.end path is) at.stood in
     let asked = c.in_ok-back.ensures.asked in
-    answered g.G.Ledger g.A.Archive c.args.ledger.now c.compare.new.ledger c.args.archive.now c.args.archive.now side start c.args.holdings.now _ _ _ _ _ _ at still
+    answered _ side start _ _ at still
     (deep (rw w.0 at c.if-back.true) (c.refusing.ensures.answer ∙ ap (λ (n : ℕ). say.Refused (refusal.Deep n)) w.0) refl refl) refl c.refusing.ensures.left (λ t. all_grow_none _)
     (asked_moved g.G.Ledger c.args.ledger.now c.compare.new.ledger side.chain (λ a d f h i j k. g.met.G.Ledger.leaves_own a d f h i j k) c.requires.live asked at.stood)
     refl c.in_ok-back.ensures.disk_rose.uncounted
@@ -26,7 +26,7 @@ returns-then-is_there-clause-along g c = λ path side start is at still.
     let asked = c.in_ok-back.ensures.asked in
     let here = asked.stays.still_stands side.chain at.stood in
     let none = c.is_there.ensures.there c.if-is_there.true in
-    answered g.G.Ledger g.A.Archive c.args.ledger.now c.compare.new.ledger c.args.archive.now c.args.archive.now side start c.args.holdings.now _ _ _ _ _ _ at still
+    answered _ side start _ _ at still
     (there (sym w.0 ∙ none.0) (sym rest_is ∙ none.1) (c.only_answer.ensures.answer
     ∙ at_is _ _ _ _ (c.tip.ensures ∙ g.met.G.Ledger.tip_is c.compare.new.ledger side.chain here) (c.height.ensures ∙ g.met.G.Ledger.height_is c.compare.new.ledger side.chain here)) refl refl)
     refl c.only_answer.ensures.left (λ t. all_grow_none _)
@@ -52,10 +52,10 @@ returns-clause-along g c = λ path side start is at still.
     let rest_is = c.in_ok-rest.ensures.rest path is ∙ ap (λ k. drop k path) w.1 in
     let asked = c.in_ok-back.ensures.asked in
     IfOk-weaker c.move_once.result _ _ (λ s leads.
-    leads_as g.G.Ledger g.A.Archive c.args.ledger.now c.move_once.new.ledger c.args.archive.now c.move_once.new.archive side start _ _ s.answer side.found s.left s.moved s.changed c.move_once.new.holdings
-    (λ losses next. along_moves g.G.Ledger g.A.Archive _ side next path c.in_ok-rest.rest c.in_ok-back.field-0.back s.answer losses c.if-back.false w.0 rest_is
+    leads_as _ side start _ _ _
+    (λ losses next. along_moves _ side next path c.in_ok-rest.rest c.in_ok-back.field-0.back s.answer losses c.if-back.false w.0 rest_is
     (c.is_there.ensures.moves c.if-is_there.false))
-    (leads_on g.G.Ledger g.A.Archive c.args.ledger.now c.compare.new.ledger c.move_once.new.ledger c.args.archive.now c.move_once.new.archive side start _ s.answer side.found s.left s.moved s.changed c.move_once.new.holdings
+    (leads_on _ side start _ _ c.compare.new.ledger
     (λ a d f h i j k. g.met.G.Ledger.leaves_own a d f h i j k) c.requires.live asked c.in_ok-back.ensures.disk_rose.uncounted at.stood leads))
     (c.move_once.ensures.moving side start (record { stood = asked.stays.still_stands side.chain at.stood; set = at.set; told = at.told }) (λ e. still))
 
@@ -65,47 +65,47 @@ returns-clause-stopped g c = λ path chain is stands.
     let rest_is = c.in_ok-rest.ensures.rest path is ∙ ap (λ k. drop k path) w.1 in
     let asked = c.in_ok-back.ensures.asked in
     if_err_map c.move_once.result _ _ (λ e f.
-    stops_as g.G.Ledger g.A.Archive c.args.ledger.now c.move_once.new.ledger c.args.archive.now c.move_once.new.archive chain false _ _ e
+    stops_as _ _ _ chain false _ _ e
     (λ p. path_move chain path c.in_ok-rest.rest c.in_ok-back.field-0.back p c.if-back.false w.0 rest_is (c.is_there.ensures.moves c.if-is_there.false))
-    (stops_on g.G.Ledger g.A.Archive c.args.ledger.now c.compare.new.ledger c.move_once.new.ledger c.args.archive.now c.move_once.new.archive chain false _ e (λ a d f h i j k. g.met.G.Ledger.leaves_own a d f h i j k) c.requires.live asked c.in_ok-back.ensures.disk_rose.uncounted stands f))
+    (stops_on _ _ _ c.compare.new.ledger chain false _ e (λ a d f h i j k. g.met.G.Ledger.leaves_own a d f h i j k) c.requires.live asked c.in_ok-back.ensures.disk_rose.uncounted stands f))
     (c.move_once.ensures.stopped chain (asked.stays.still_stands chain stands))
 
 pub returns-in_err-back-clause-stopped : goal.returns-in_err-back-clause-stopped
 returns-in_err-back-clause-stopped g c = λ path chain is stands.
     let p = err_from_is_err_and c.from_residual.result c.from_residual.ensures.1 in
     let e = c.in_err-back.ensures in
-    asked_stops g.G.Ledger g.A.Archive c.from_residual.result c.in_err-back.field-0.0 c.args.ledger.now c.compare.new.ledger c.args.archive.now chain _ (p.1 ∙ ap Err p.2)
+    asked_stops _ c.from_residual.result c.in_err-back.field-0.0 _ c.compare.new.ledger chain _ (p.1 ∙ ap Err p.2)
     (asked_moved g.G.Ledger c.args.ledger.now c.compare.new.ledger chain (λ a d f h i j k. g.met.G.Ledger.leaves_own a d f h i j k) c.requires.live e.asked stands)
     (λ is. e.disk_rose.counted (ap Err is)) (λ other. e.disk_rose.others_uncounted other)
 
 pub returns-in_err-rest-clause-stopped : goal.returns-in_err-rest-clause-stopped
 returns-in_err-rest-clause-stopped g c = λ path chain is stands.
     let p = err_from_is_err_and c.from_residual-in_err-rest.result c.from_residual-in_err-rest.ensures.1 in
-    starved_still g.G.Ledger g.A.Archive c.from_residual-in_err-rest.result c.args.ledger.now c.compare.new.ledger c.args.archive.now chain _
+    starved_still _ c.from_residual-in_err-rest.result _ c.compare.new.ledger chain _
     (asked_moved g.G.Ledger c.args.ledger.now c.compare.new.ledger chain (λ a d f h i j k. g.met.G.Ledger.leaves_own a d f h i j k) c.requires.live c.in_ok-back.ensures.asked stands)
     (memory_of c.from_residual-in_err-rest.result p.0 p.1 (p.2 ∙ c.in_err-rest.ensures.memory)) c.in_ok-back.ensures.disk_rose.uncounted
 
 pub returns-clause-step : goal.returns-clause-step
 returns-clause-step g c =
-    step_on g.G.Ledger g.A.Archive c.args.ledger.now c.compare.new.ledger c.move_once.new.ledger c.args.archive.now c.move_once.new.archive c.move_once.result
+    step_on _ _ _ c.compare.new.ledger c.move_once.result
     c.in_ok-back.ensures.asked c.in_ok-back.ensures.disk_rose.uncounted c.move_once.ensures.step
 
 pub returns-in_err-back-clause-step : goal.returns-in_err-back-clause-step
 returns-in_err-back-clause-step g c =
     let p = err_from_is_err_and c.from_residual.result c.from_residual.ensures.1 in
     let e = c.in_err-back.ensures in
-    step_unmoved g.G.Ledger g.A.Archive c.from_residual.result c.in_err-back.field-0.0 c.args.ledger.now c.compare.new.ledger c.args.archive.now (p.1 ∙ ap Err p.2)
+    step_unmoved _ c.from_residual.result c.in_err-back.field-0.0 _ c.compare.new.ledger (p.1 ∙ ap Err p.2)
     c.requires.live e.asked (λ is. e.disk_rose.counted (ap Err is)) (λ other. e.disk_rose.others_uncounted other)
 
 pub returns-then-back-clause-step : goal.returns-then-back-clause-step
 returns-then-back-clause-step g c =
     let e = c.in_ok-back.ensures in
-    step_asked g.G.Ledger g.A.Archive c.refusing.result c.args.ledger.now c.compare.new.ledger c.args.archive.now c.requires.live e.asked c.refusing.ensures.left e.disk_rose.uncounted
+    step_asked _ c.refusing.result _ c.compare.new.ledger c.requires.live e.asked c.refusing.ensures.left e.disk_rose.uncounted
 
 pub returns-then-is_there-clause-step : goal.returns-then-is_there-clause-step
 returns-then-is_there-clause-step g c =
     let e = c.in_ok-back.ensures in
-    step_asked g.G.Ledger g.A.Archive c.only_answer.result c.args.ledger.now c.compare.new.ledger c.args.archive.now c.requires.live e.asked c.only_answer.ensures.left
+    step_asked _ c.only_answer.result _ c.compare.new.ledger c.requires.live e.asked c.only_answer.ensures.left
     e.disk_rose.uncounted
 
 pub returns-in_err-back-clause-rows : goal.returns-in_err-back-clause-rows

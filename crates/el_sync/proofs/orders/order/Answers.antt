@@ -14,7 +14,7 @@ returns-in-Line-clause-stopped g c = rw c.in-Line.is (rw c.as_slice.ensures at c
 
 pub returns-in-TooLong-clause-node : goal.returns-in-TooLong-clause-node
 returns-in-TooLong-clause-node g c = rw c.in-TooLong.is (λ side start at from.
-    answered g.G.Ledger g.A.Archive c.args.ledger.now c.args.ledger.now c.args.archive.now c.args.archive.now side start c.args.holdings.now (OrdersLine g.A.Archive side too_long) _ _ _ _ _ at from.still
+    answered _ side start (OrdersLine g.A.Archive side too_long) _ at from.still
     (c.refusing.ensures.answer, refl, refl) (sym from.found) c.refusing.ensures.left (λ t. all_grow_none _) (asked_moved g.G.Ledger c.args.ledger.now c.args.ledger.now side.chain (λ a d f h i j k. g.met.G.Ledger.leaves_own a d f h i j k) c.requires.live (asked_none g.G.Ledger c.args.ledger.now) at.stood) refl refl)
 
 pub returns-in-Line-clause-rows : goal.returns-in-Line-clause-rows

@@ -8,7 +8,7 @@ returns-in-Ok-None-clause-looked g c = λ side from told.
     let e = c.in-Ok-None.ensures in
     let is = rw c.in-Ok-None.field-0-is at e.record in
     place_looked g.A.Archive c.args.archive.now c.record_at.new.archive c.args.holdings.now side c.args.file c.args.at None _ _ from told e.only_reads.keeps
-    (record { read = tt; grows = e.only_reads.keeps; record_is = λ t. ((is t).0, (is t).1, (rw from.magic (is t).2)) }) refl refl e.only_reads.uncounted
+    (record { read = tt; grows = e.only_reads.keeps; record_is = λ t. rw from.magic (is t) }) refl refl e.only_reads.uncounted
 
 pub returns-in_ok-answer-in-Ok-Some-clause-looked : goal.returns-in_ok-answer-in-Ok-Some-clause-looked
 returns-in_ok-answer-in-Ok-Some-clause-looked g c = λ side from told.
@@ -16,7 +16,7 @@ returns-in_ok-answer-in-Ok-Some-clause-looked g c = λ side from told.
     let here = rw c.in-Ok-Some.field-0-is at e.node in
     let is = rw c.in-Ok-Some.field-0-is at e.record in
     place_looked g.A.Archive c.args.archive.now c.record_at.new.archive c.args.holdings.now side c.args.file c.args.at (Some c.in-Ok-Some.node) _ _ from told e.only_reads.keeps
-    (record { read = rw from.magic here; grows = e.only_reads.keeps; record_is = λ t. ((is t).0, (is t).1, (rw from.magic (is t).2)) })
+    (record { read = rw from.magic here; grows = e.only_reads.keeps; record_is = λ t. rw from.magic (is t) })
     c.in_ok-answer-in-Ok-Some.ensures.joined c.in_ok-answer-in-Ok-Some.ensures.answer e.only_reads.uncounted
 
 pub returns-in-Err-clause-looked : goal.returns-in-Err-clause-looked
@@ -32,5 +32,5 @@ returns-in_err-answer-in-Ok-Some-clause-there g c = λ side from told.
     on_err c.from_residual.result _ (
       c.in-Ok-Some.node,
       place_there g.A.Archive c.args.archive.now c.record_at.new.archive side c.args.file c.args.at (Some c.in-Ok-Some.node) told e.only_reads.keeps
-          (record { read = rw from.magic here; grows = e.only_reads.keeps; record_is = λ t. ((is t).0, (is t).1, (rw from.magic (is t).2)) }),
+          (record { read = rw from.magic here; grows = e.only_reads.keeps; record_is = λ t. rw from.magic (is t) }),
     )

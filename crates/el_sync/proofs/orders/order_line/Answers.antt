@@ -2,30 +2,33 @@ use Rattle.std.proofs.Common.{None, Some, Err, false, refl, sym, ap, ◌∙◌, 
 use Rattle.std.proofs.lemmas.Result.{err_from_is_err_and, IfOk-weaker}
 use Rattle.el_lines.specs.Lines.{line}
 use Rattle.el_lines.specs.NodeLines as said
+use Rattle.el_side.specs.Beneath.{beneath}
 use Rattle.el_side.specs.Side.{OrdersLine, Tips}
 use Rattle.el_model.proofs.LedgerMoves.{asked_moved, asked_none}
-use Rattle.el_sync.proofs.Led.{asked_stops, block_leads, if_err_map, kept_leads, leads_in, memory_of, refused_leads, said_after, stands_there, starved, starved_still, step_asked, stops_as}
+use Rattle.el_sync.proofs.Led.{answered, asked_stops, block_leads, if_err_map, kept_leads, leads_in, memory_of, said_after, stands_there, starved, starved_still, step_asked, stops_as}
 use Rattle.el_model.specs.declared.fault.QueryFault.TheVariants as fault
+use Rattle.el_sync.specs.Steps.{left_by}
 use Rattle.el_sync.specs.declared.moving.Step.{Step}
+use Rattle.el_outside.proofs.Traces.{all_grow_none}
 use Rattle.el_sync.proofs.orders.order_line.Goals as goal
 
 pub returns-in_ok-answer-in-Ok-Block-clause-node : goal.returns-in_ok-answer-in-Ok-Block-clause-node
 returns-in_ok-answer-in-Ok-Block-clause-node g c = λ side start at from.
-    block_leads g.G.Ledger g.A.Archive c.args.ledger.now c.args.archive.now c.order_block.new.archive side start c.args.holdings.now c.order_block.new.holdings c.args.text.now c.in-Ok-Block.file c.in-Ok-Block.at _ _ _ _ _ _ at from.still
+    block_leads _ side start c.args.holdings.now c.args.text.now c.in-Ok-Block.file c.in-Ok-Block.at _ _ at from.still
     c.in_ok-answer-in-Ok-Block.ensures.same (rw c.in-Ok-Block.field-0-is at c.in-Ok-Block.ensures.read) (c.in_ok-answer-in-Ok-Block.ensures.looked side from at.told) c.only_answer.ensures.answer c.only_answer.ensures.left
-    (asked_moved g.G.Ledger c.args.ledger.now c.args.ledger.now side.chain (λ a d f h i j k. g.met.G.Ledger.leaves_own a d f h i j k) c.requires.live (asked_none g.G.Ledger c.args.ledger.now) at.stood)
+    (asked_moved g.G.Ledger c.args.ledger.now c.args.ledger.now side.chain (λ a d f h i j k. g.met.G.Ledger.leaves_own a d f h i j k) c.requires.live (asked_none g.G.Ledger c.args.ledger.now) at.stood) refl
 
 pub returns-in-Ok-Tip-clause-node : goal.returns-in-Ok-Tip-clause-node
 returns-in-Ok-Tip-clause-node g c = λ side start at from.
     IfOk-weaker c.order_tip.result _ _ (λ s leads.
-    leads_in g.G.Ledger g.A.Archive c.args.ledger.now c.order_tip.new.ledger c.args.archive.now c.order_tip.new.archive side start
-    (Tips g.A.Archive.tells side c.in-Ok-Tip.h) (OrdersLine g.A.Archive side (line c.args.text.now)) s.answer side.found c.order_tip.new.holdings.tree s.left s.moved s.changed c.order_tip.new.holdings (from.found ∙ sym c.order_tip.ensures.tree)
+    leads_in _ side start (Tips g.A.Archive side c.in-Ok-Tip.h) (OrdersLine g.A.Archive side (line c.args.text.now))
+    (left_by (beneath c.args.ledger.now c.args.archive.now) (beneath c.order_tip.new.ledger c.order_tip.new.archive) s side.found c.order_tip.new.holdings) _ (from.found ∙ sym c.order_tip.ensures.tree)
     (λ losses next led. (Some (said.tip c.in-Ok-Tip.h.0), rw c.in-Ok-Tip.field-0-is at c.in-Ok-Tip.ensures.read, led)) leads)
     (c.order_tip.ensures.tip side start at from.found from.still)
 
 pub returns-in-Ok-Tip-clause-stopped : goal.returns-in-Ok-Tip-clause-stopped
 returns-in-Ok-Tip-clause-stopped g c = λ side start at from.
-    if_err_map c.order_tip.result _ _ (λ e f. stops_as g.G.Ledger g.A.Archive _ _ _ _ side.chain false _ _ e
+    if_err_map c.order_tip.result _ _ (λ e f. stops_as _ _ _ side.chain false _ _ e
     (λ p is. record {
       bytes = c.args.text.now;
       hash = c.in-Ok-Tip.h.0;
@@ -42,23 +45,23 @@ returns-in-Ok-Tip-clause-stopped g c = λ side start at from.
 pub returns-in_ok-told-in-Ok-Tx-clause-node : goal.returns-in_ok-told-in-Ok-Tx-clause-node
 returns-in_ok-told-in-Ok-Tx-clause-node g c = λ side start at from.
     let e = c.in_ok-told-in-Ok-Tx.ensures in
-    kept_leads g.G.Ledger g.A.Archive c.args.ledger.now c.order_tx.new.ledger c.args.archive.now side start c.args.holdings.now (record c.args.holdings.now { pool = c.order_tx.new.pool }) _ _ _ _ _ _ _ _ at from.still
+    kept_leads _ side start c.args.holdings.now _ _ _ _ at from.still
     (said_after c.order_tx.new.pool side _ _ c.args.text.now (said.tx c.in-Ok-Tx.bytes) _ (rw c.in-Ok-Tx.field-0-is at c.in-Ok-Tx.ensures.read) (rw c.as_slice.ensures at (e.adds side at.stood (stands_there c.args.holdings.now side start at.set from.still) at.set.limits)))
-    c.pool_step.ensures.answer (sym from.found) c.pool_step.ensures.left c.pool_step.ensures.changed e.limits
+    c.pool_step.ensures.answer (sym from.found) c.pool_step.ensures.left c.pool_step.ensures.changed e.limits refl
     (asked_moved g.G.Ledger c.args.ledger.now c.order_tx.new.ledger side.chain (λ a d f h i j k. g.met.G.Ledger.leaves_own a d f h i j k) c.requires.live e.asked at.stood) e.disk_rose.uncounted
 
 pub returns-in_ok-told-in-Ok-Drop-clause-node : goal.returns-in_ok-told-in-Ok-Drop-clause-node
 returns-in_ok-told-in-Ok-Drop-clause-node g c = λ side start at from.
     let e = c.in_ok-told-in-Ok-Drop.ensures in
-    kept_leads g.G.Ledger g.A.Archive c.args.ledger.now c.args.ledger.now c.args.archive.now side start c.args.holdings.now (record c.args.holdings.now { pool = c.order_drop.new.pool }) _ _ _ _ _ _ _ _ at from.still
+    kept_leads _ side start c.args.holdings.now _ _ _ _ at from.still
     (said_after c.order_drop.new.pool side _ _ c.args.text.now (said.dropped c.in-Ok-Drop.id.0) _ (rw c.in-Ok-Drop.field-0-is at c.in-Ok-Drop.ensures.read) (e.drops side (stands_there c.args.holdings.now side start at.set from.still)))
-    c.pool_step-in-Ok-Drop.ensures.answer (sym from.found) c.pool_step-in-Ok-Drop.ensures.left c.pool_step-in-Ok-Drop.ensures.changed e.limits
+    c.pool_step-in-Ok-Drop.ensures.answer (sym from.found) c.pool_step-in-Ok-Drop.ensures.left c.pool_step-in-Ok-Drop.ensures.changed e.limits refl
     (asked_moved g.G.Ledger c.args.ledger.now c.args.ledger.now side.chain (λ a d f h i j k. g.met.G.Ledger.leaves_own a d f h i j k) c.requires.live (asked_none g.G.Ledger c.args.ledger.now) at.stood) refl
 
 pub returns-in_err-answer-in-Ok-Block-clause-stopped : goal.returns-in_err-answer-in-Ok-Block-clause-stopped
 returns-in_err-answer-in-Ok-Block-clause-stopped g c = λ side start at from.
     let p = err_from_is_err_and c.from_residual.result c.from_residual.ensures.1 in
-    starved g.G.Ledger g.A.Archive c.from_residual.result c.args.ledger.now c.args.ledger.now c.args.archive.now c.order_block.new.archive side.chain _
+    starved _ c.from_residual.result _ _ side.chain _
     (asked_moved g.G.Ledger c.args.ledger.now c.args.ledger.now side.chain (λ a d f h i j k. g.met.G.Ledger.leaves_own a d f h i j k) c.requires.live (asked_none g.G.Ledger c.args.ledger.now) at.stood)
     (memory_of c.from_residual.result p.0 p.1 (p.2 ∙ c.in_err-answer-in-Ok-Block.ensures.memory)) c.in_err-answer-in-Ok-Block.ensures.archive_rose refl
 
@@ -66,31 +69,31 @@ pub returns-in_err-told-in-Ok-Tx-clause-stopped : goal.returns-in_err-told-in-Ok
 returns-in_err-told-in-Ok-Tx-clause-stopped g c = λ side start at from.
     let p = err_from_is_err_and c.from_residual-in_err-told-in-Ok-Tx.result c.from_residual-in_err-told-in-Ok-Tx.ensures.1 in
     let e = c.in_err-told-in-Ok-Tx.ensures in
-    asked_stops g.G.Ledger g.A.Archive c.from_residual-in_err-told-in-Ok-Tx.result c.in_err-told-in-Ok-Tx.field-0.0 c.args.ledger.now c.order_tx.new.ledger c.args.archive.now side.chain _ (p.1 ∙ ap Err p.2)
+    asked_stops _ c.from_residual-in_err-told-in-Ok-Tx.result c.in_err-told-in-Ok-Tx.field-0.0 _ c.order_tx.new.ledger side.chain _ (p.1 ∙ ap Err p.2)
     (asked_moved g.G.Ledger c.args.ledger.now c.order_tx.new.ledger side.chain (λ a d f h i j k. g.met.G.Ledger.leaves_own a d f h i j k) c.requires.live e.asked at.stood)
     (λ is. e.disk_rose.counted (ap Err is)) (λ other. e.disk_rose.others_uncounted other)
 
 pub returns-in_err-told-in-Ok-Drop-clause-stopped : goal.returns-in_err-told-in-Ok-Drop-clause-stopped
 returns-in_err-told-in-Ok-Drop-clause-stopped g c = λ side start at from.
     let p = err_from_is_err_and c.from_residual-in_err-told-in-Ok-Drop.result c.from_residual-in_err-told-in-Ok-Drop.ensures.1 in
-    starved_still g.G.Ledger g.A.Archive c.from_residual-in_err-told-in-Ok-Drop.result c.args.ledger.now c.args.ledger.now c.args.archive.now side.chain _
+    starved_still _ c.from_residual-in_err-told-in-Ok-Drop.result _ c.args.ledger.now side.chain _
     (asked_moved g.G.Ledger c.args.ledger.now c.args.ledger.now side.chain (λ a d f h i j k. g.met.G.Ledger.leaves_own a d f h i j k) c.requires.live (asked_none g.G.Ledger c.args.ledger.now) at.stood)
     (memory_of c.from_residual-in_err-told-in-Ok-Drop.result p.0 p.1 (p.2 ∙ c.in_err-told-in-Ok-Drop.ensures.memory)) refl
 
 pub returns-in-Err-Memory-clause-stopped : goal.returns-in-Err-Memory-clause-stopped
 returns-in-Err-Memory-clause-stopped g c = λ side start at from.
-    starved_still g.G.Ledger g.A.Archive {T = Step} (Err fault.Memory) c.args.ledger.now c.args.ledger.now c.args.archive.now side.chain _
+    starved_still _ {T = Step} (Err fault.Memory) _ c.args.ledger.now side.chain _
     (asked_moved g.G.Ledger c.args.ledger.now c.args.ledger.now side.chain (λ a d f h i j k. g.met.G.Ledger.leaves_own a d f h i j k) c.requires.live (asked_none g.G.Ledger c.args.ledger.now) at.stood)
     refl refl
 
 pub returns-in_ok-told-in-Ok-Tx-clause-step : goal.returns-in_ok-told-in-Ok-Tx-clause-step
 returns-in_ok-told-in-Ok-Tx-clause-step g c =
     let e = c.in_ok-told-in-Ok-Tx.ensures in
-    step_asked g.G.Ledger g.A.Archive c.pool_step.result c.args.ledger.now c.order_tx.new.ledger c.args.archive.now c.requires.live e.asked c.pool_step.ensures.left e.disk_rose.uncounted
+    step_asked _ c.pool_step.result _ c.order_tx.new.ledger c.requires.live e.asked c.pool_step.ensures.left e.disk_rose.uncounted
 
 pub returns-in_ok-told-in-Ok-Drop-clause-step : goal.returns-in_ok-told-in-Ok-Drop-clause-step
 returns-in_ok-told-in-Ok-Drop-clause-step g c =
-    step_asked g.G.Ledger g.A.Archive c.pool_step-in-Ok-Drop.result c.args.ledger.now c.args.ledger.now c.args.archive.now c.requires.live (asked_none g.G.Ledger c.args.ledger.now)
+    step_asked _ c.pool_step-in-Ok-Drop.result _ c.args.ledger.now c.requires.live (asked_none g.G.Ledger c.args.ledger.now)
     c.pool_step-in-Ok-Drop.ensures.left refl
 
 pub returns-in_ok-answer-in-Ok-Block-clause-rows : goal.returns-in_ok-answer-in-Ok-Block-clause-rows
@@ -112,9 +115,9 @@ returns-in_ok-told-in-Ok-Drop-clause-rows g c = λ side start at from.
 
 pub returns-in-Err-Line-clause-node : goal.returns-in-Err-Line-clause-node
 returns-in-Err-Line-clause-node g c = λ side start at from.
-    refused_leads g.G.Ledger g.A.Archive c.refusing.result c.args.ledger.now c.args.archive.now side start c.args.holdings.now c.args.text.now None c.args.holdings.now.tree at from.still from.found
-    (rw c.in-Err-Line.field-0-is at c.in-Err-Line.ensures.refused) (λ answer is. (is, refl, refl)) c.refusing.ensures.answer c.refusing.ensures.left
-    (asked_moved g.G.Ledger c.args.ledger.now c.args.ledger.now side.chain (λ a d f h i j k. g.met.G.Ledger.leaves_own a d f h i j k) c.requires.live (asked_none g.G.Ledger c.args.ledger.now) at.stood)
+    answered _ side start (OrdersLine g.A.Archive side (line c.args.text.now)) _ at from.still
+    (None, rw c.in-Err-Line.field-0-is at c.in-Err-Line.ensures.refused, (c.refusing.ensures.answer, refl, refl)) (sym from.found) c.refusing.ensures.left (λ t. all_grow_none _)
+    (asked_moved g.G.Ledger c.args.ledger.now c.args.ledger.now side.chain (λ a d f h i j k. g.met.G.Ledger.leaves_own a d f h i j k) c.requires.live (asked_none g.G.Ledger c.args.ledger.now) at.stood) refl refl
 
 pub returns-in-Err-Line-clause-rows : goal.returns-in-Err-Line-clause-rows
 returns-in-Err-Line-clause-rows g c = λ side start at from. (None, rw c.in-Err-Line.field-0-is at c.in-Err-Line.ensures.refused, omega arith)

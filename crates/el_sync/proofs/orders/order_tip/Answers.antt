@@ -20,7 +20,7 @@ returns-in-Ok-clause-tip g c = λ side start at found still.
     let path = c.in-Ok.ensures.there.0 in
     let is = c.in-Ok.ensures.there.1 in
     IfOk-weaker c.move_along.result _ _ (λ s leads.
-    leads_as g.G.Ledger g.A.Archive _ _ _ _ side start _ _ s.answer side.found s.left s.moved s.changed c.move_along.new.holdings (λ losses next. along path (rw found is)) leads)
+    leads_as _ side start _ _ _ (λ losses next. along path (rw found is)) leads)
     (c.move_along.ensures.along path side start (rw c.in-Ok.ensures.hash is) at still)
 
 pub returns-in-Ok-clause-stopped : goal.returns-in-Ok-clause-stopped
@@ -28,35 +28,35 @@ returns-in-Ok-clause-stopped g c = λ side start at found.
     let path = c.in-Ok.ensures.there.0 in
     let is = c.in-Ok.ensures.there.1 in
     if_err_map c.move_along.result _ _ (λ e f.
-    stops_as g.G.Ledger g.A.Archive _ _ _ _ side.chain false _ _ e (λ p first. record { path = path; is_path = rw found is; move_is = first }) f)
+    stops_as _ _ _ side.chain false _ _ e (λ p first. record { path = path; is_path = rw found is; move_is = first }) f)
     (c.move_along.ensures.stopped path side.chain (rw c.in-Ok.ensures.hash is) at.stood)
 
 pub returns-in-Err-Unknown-clause-tip : goal.returns-in-Err-Unknown-clause-tip
 returns-in-Err-Unknown-clause-tip g c = λ side start at found still.
-    answered g.G.Ledger g.A.Archive c.args.ledger.now c.args.ledger.now c.args.archive.now c.args.archive.now side start c.args.holdings.now (Tips g.A.Archive.tells side c.args.h) _ _ _ _ _ at still
+    answered _ side start (Tips g.A.Archive side c.args.h) _ at still
     (unknown (rw found (rw c.in-Err-Unknown.field-0-is at c.in-Err-Unknown.ensures.fault)) c.refusing.ensures.answer refl refl) refl
     c.refusing.ensures.left (λ t. all_grow_none _) (asked_moved g.G.Ledger c.args.ledger.now c.args.ledger.now side.chain (λ a d f h i j k. g.met.G.Ledger.leaves_own a d f h i j k) c.requires.live (asked_none g.G.Ledger c.args.ledger.now) at.stood) refl refl
 
 pub returns-in-Err-Unconnected-clause-tip : goal.returns-in-Err-Unconnected-clause-tip
 returns-in-Err-Unconnected-clause-tip g c = λ side start at found still.
     let why = rw c.in-Err-Unconnected.field-0-is at c.in-Err-Unconnected.ensures.fault in
-    answered g.G.Ledger g.A.Archive c.args.ledger.now c.args.ledger.now c.args.archive.now c.args.archive.now side start c.args.holdings.now (Tips g.A.Archive.tells side c.args.h) _ _ _ _ _ at still
+    answered _ side start (Tips g.A.Archive side c.args.h) _ at still
     (unconnected (rw found why.0) (rw found why.1) c.refusing-in-Err-Unconnected.ensures.answer refl refl) refl
     c.refusing-in-Err-Unconnected.ensures.left (λ t. all_grow_none _) (asked_moved g.G.Ledger c.args.ledger.now c.args.ledger.now side.chain (λ a d f h i j k. g.met.G.Ledger.leaves_own a d f h i j k) c.requires.live (asked_none g.G.Ledger c.args.ledger.now) at.stood) refl refl
 
 pub returns-in-Err-Memory-clause-stopped : goal.returns-in-Err-Memory-clause-stopped
 returns-in-Err-Memory-clause-stopped g c = λ side start at found.
-    starved_still g.G.Ledger g.A.Archive {T = Step} (Err fault.Memory) c.args.ledger.now c.args.ledger.now c.args.archive.now side.chain _
+    starved_still _ {T = Step} (Err fault.Memory) _ c.args.ledger.now side.chain _
     (asked_moved g.G.Ledger c.args.ledger.now c.args.ledger.now side.chain (λ a d f h i j k. g.met.G.Ledger.leaves_own a d f h i j k) c.requires.live (asked_none g.G.Ledger c.args.ledger.now) at.stood)
     refl refl
 
 pub returns-in-Err-Unknown-clause-step : goal.returns-in-Err-Unknown-clause-step
 returns-in-Err-Unknown-clause-step g c =
-    step_asked g.G.Ledger g.A.Archive c.refusing.result c.args.ledger.now c.args.ledger.now c.args.archive.now c.requires.live (asked_none g.G.Ledger c.args.ledger.now) c.refusing.ensures.left refl
+    step_asked _ c.refusing.result _ c.args.ledger.now c.requires.live (asked_none g.G.Ledger c.args.ledger.now) c.refusing.ensures.left refl
 
 pub returns-in-Err-Unconnected-clause-step : goal.returns-in-Err-Unconnected-clause-step
 returns-in-Err-Unconnected-clause-step g c =
-    step_asked g.G.Ledger g.A.Archive c.refusing-in-Err-Unconnected.result c.args.ledger.now c.args.ledger.now c.args.archive.now c.requires.live (asked_none g.G.Ledger c.args.ledger.now)
+    step_asked _ c.refusing-in-Err-Unconnected.result _ c.args.ledger.now c.requires.live (asked_none g.G.Ledger c.args.ledger.now)
     c.refusing-in-Err-Unconnected.ensures.left refl
 
 pub returns-in-Ok-clause-rows : goal.returns-in-Ok-clause-rows

@@ -1,5 +1,6 @@
 use Rattle.std.proofs.Common.{◌∙◌, sym, ap, subst, Some, Ok, Err, inr}
 use Rattle.el_sync.proofs.Compared.{nil_if}
+use Rattle.el_side.specs.Beneath.{ghosts}
 use Rattle.el_core.proofs.server.Server.turn.Goals as goal
 use Rattle.el_core.specs.Turn.{outs_of, closing_of}
 use Rattle.el_core.proofs.Causes.{waiting_joins, none_ordered_before, none_given, none_unread, reply_other, found_memory, peers_long, tell_memory, tell_none}
@@ -15,7 +16,7 @@ use Rattle.el_core.proofs.Turned.{ahead_turned, node_turned, peers_turned, peers
 pub returns-in-Ok-clause-step : goal.returns-in-Ok-clause-step
 returns-in-Ok-clause-step g c = λ world left stood told.
     let e = c.in-Ok.ensures in
-    ahead_turned g.G.Ledger g.A.Archive c.args.self.now c.turn_ahead.new.self c.args.archive.now c.turn_ahead.new.archive world left c.in-Ok.outs stood told e.some e.same e.magic e.moving
+    ahead_turned (ghosts g.G.Ledger g.A.Archive) c.args.self.now c.turn_ahead.new.self c.args.archive.now c.turn_ahead.new.archive world left c.in-Ok.outs stood told e.some e.same e.magic e.moving
 
 pub returns-in-Ok-clause-less : goal.returns-in-Ok-clause-less
 returns-in-Ok-clause-less g c = ahead_less c.args.self.now c.turn_ahead.new.self c.in-Ok.ensures.fewer c.in-Ok.ensures.same c.in-Ok.ensures.tree
@@ -24,13 +25,13 @@ pub returns-in-Err-clause-failed : goal.returns-in-Err-clause-failed
 returns-in-Err-clause-failed g c = λ world left stood told.
     let e = c.in-Err.ensures in
     let k = e.step in
-    ahead_failed g.G.Ledger g.A.Archive c.args.self.now.ledger c.turn_ahead.new.self.ledger c.args.archive.now c.turn_ahead.new.archive world left c.in-Err.fault
+    ahead_failed (ghosts g.G.Ledger g.A.Archive) c.args.self.now.ledger c.turn_ahead.new.self.ledger c.args.archive.now c.turn_ahead.new.archive world left c.in-Err.fault
     (λ none. e.some (stood.ahead ∙ none))
     (λ is. k.still_live (ap Err is)) (rw stood.ahead at (e.stopped world.side stood.start (record { stood = stood.chain; set = stood.set; told = told })))
 
 pub returns-in-Err-next_line-clause-failed : goal.returns-in-Err-next_line-clause-failed
 returns-in-Err-next_line-clause-failed g c = λ world left stood told.
-    unread_failed g.G.Ledger g.A.Archive c.args.self.now c.next_line.new.self c.args.archive.now world left (λ m n d t h i j. g.met.G.Ledger.leaves_own m n d t h i j) c.requires.live
+    unread_failed (ghosts g.G.Ledger g.A.Archive) c.args.self.now c.next_line.new.self c.args.archive.now world left (λ m n d t h i j. g.met.G.Ledger.leaves_own m n d t h i j) c.requires.live
     c.in-Err-next_line.ensures.refused stood c.in-Err-next_line.ensures.line (ap (λ (s : State g.row.G.Denot). waiting s.clients) (sym c.self.view_is) ∙ c.in_default.ensures.place)
 
 pub returns-in-Ok-None-clause-step : goal.returns-in-Ok-None-clause-step
@@ -40,7 +41,7 @@ returns-in-Ok-None-clause-step g c = λ world left stood told.
     let p = rw unchanged at c.turn_peers.ensures.peers in
     let q = rw unchanged at c.turn_peers.ensures.quiet in
     let s = rw unchanged at c.turn_peers.ensures.same in
-    peers_turned g.G.Ledger g.A.Archive c.args.self.now c.turn_peers.new.self c.args.archive.now c.turn_peers.new.archive world left c.turn_peers.result (λ m n d t h i j. g.met.G.Ledger.leaves_own m n d t h i j) c.requires.live
+    peers_turned (ghosts g.G.Ledger g.A.Archive) c.args.self.now c.turn_peers.new.self c.args.archive.now c.turn_peers.new.archive world left c.turn_peers.result (λ m n d t h i j. g.met.G.Ledger.leaves_own m n d t h i j) c.requires.live
     stood told c.turn_peers.ensures.keeps (nil_if c.args.self.now.ahead c.is_empty.result c.if-not-is_empty.false (c.is_empty.ensures ∙ ap (λ (s : State g.row.G.Denot). length s.ahead == 0) c.self.view_is)) (ap (λ (s : State g.row.G.Denot). waiting s.clients) (sym c.self.view_is) ∙ c.in_default.ensures.place) all s q p
 
 pub returns-in-Ok-None-clause-done : goal.returns-in-Ok-None-clause-done
@@ -50,7 +51,7 @@ returns-in-Ok-None-clause-done g c = λ world left stood.
     let p = rw unchanged at c.turn_peers.ensures.peers in
     let q = rw unchanged at c.turn_peers.ensures.quiet in
     let s = rw unchanged at c.turn_peers.ensures.same in
-    peers_ended g.G.Ledger g.A.Archive c.args.self.now c.turn_peers.new.self c.args.archive.now c.turn_peers.new.archive world left c.turn_peers.result (λ m n d t h i j. g.met.G.Ledger.leaves_own m n d t h i j) c.requires.live
+    peers_ended (ghosts g.G.Ledger g.A.Archive) c.args.self.now c.turn_peers.new.self c.args.archive.now c.turn_peers.new.archive world left c.turn_peers.result (λ m n d t h i j. g.met.G.Ledger.leaves_own m n d t h i j) c.requires.live
     stood (nil_if c.args.self.now.ahead c.is_empty.result c.if-not-is_empty.false (c.is_empty.ensures ∙ ap (λ (s : State g.row.G.Denot). length s.ahead == 0) c.self.view_is)) (ap (λ (s : State g.row.G.Denot). waiting s.clients) (sym c.self.view_is) ∙ c.in_default.ensures.place) all s q p
 
 pub returns-in-Ok-None-clause-idle : goal.returns-in-Ok-None-clause-idle
@@ -62,7 +63,7 @@ returns-in-Ok-None-clause-idle g c =
 pub returns-in-Ok-turn_node-clause-step : goal.returns-in-Ok-turn_node-clause-step
 returns-in-Ok-turn_node-clause-step g c = λ world left stood told.
     let e = c.in-Ok-turn_node.ensures in
-    node_turned g.G.Ledger g.A.Archive c.args.self.now c.next_line.new.self c.turn_node.new.self c.args.archive.now c.turn_node.new.archive world left c.in-Ok-turn_node.outs
+    node_turned (ghosts g.G.Ledger g.A.Archive) c.args.self.now c.next_line.new.self c.turn_node.new.self c.args.archive.now c.turn_node.new.archive world left c.in-Ok-turn_node.outs
     (as_listed c.in-Ok-Some.met) (λ k chain h. g.met.G.Ledger.tip_is k chain h) stood told e.still e.told c.in-Ok-Some.ensures.same c.in-Ok-Some.ensures.limit (rw c.in-Ok-Some.field-0-is at c.in-Ok-Some.ensures.met) e.same e.magic e.begun e.node
 
 pub returns-in-Ok-turn_node-clause-less : goal.returns-in-Ok-turn_node-clause-less
@@ -74,7 +75,7 @@ pub returns-in-Err-turn_node-clause-failed : goal.returns-in-Err-turn_node-claus
 returns-in-Err-turn_node-clause-failed g c = λ world left stood told.
     let e = c.in-Err-turn_node.ensures in
     let k = e.step in
-    node_failed g.G.Ledger g.A.Archive c.args.self.now c.next_line.new.self c.turn_node.new.self.ledger c.args.archive.now c.turn_node.new.archive world left
+    node_failed (ghosts g.G.Ledger g.A.Archive) c.args.self.now c.next_line.new.self c.turn_node.new.self.ledger c.args.archive.now c.turn_node.new.archive world left
     (as_listed c.in-Ok-Some.met) c.in-Err-turn_node.fault
     stood told e.still e.told c.in-Ok-Some.ensures.same c.in-Ok-Some.ensures.limit (rw c.in-Ok-Some.field-0-is at c.in-Ok-Some.ensures.met)
     (λ is. k.still_live (ap Err is)) e.stopped
@@ -120,14 +121,14 @@ returns-in-Ok-None-clause-memory g c = λ world left p stood.
     let turn = rw unchanged at c.turn_peers.ensures.peers in
     found_memory g.G.Ledger.stands c.args.self.now c.turn_peers.new.self world left _ _ _ c.turn_peers.result p stood
     (none_ordered c.args.self.now.node world.heard stood.ordered stood.node all)
-    (peers_any g.G.Ledger g.A.Archive c.args.self.now c.turn_peers.new.self c.args.archive.now c.turn_peers.new.archive world left c.turn_peers.result stood (nil_if c.args.self.now.ahead c.is_empty.result c.if-not-is_empty.false (c.is_empty.ensures ∙ ap (λ (s : State g.row.G.Denot). length s.ahead == 0) c.self.view_is)) turn)
+    (peers_any (ghosts g.G.Ledger g.A.Archive) c.args.self.now c.turn_peers.new.self c.args.archive.now c.turn_peers.new.archive world left c.turn_peers.result stood (nil_if c.args.self.now.ahead c.is_empty.result c.if-not-is_empty.false (c.is_empty.ensures ∙ ap (λ (s : State g.row.G.Denot). length s.ahead == 0) c.self.view_is)) turn)
 
 pub returns-in-Ok-None-clause-long : goal.returns-in-Ok-None-clause-long
 returns-in-Ok-None-clause-long g c = λ world p rest stood still told is kept.
     let unchanged = rw c.in-Ok-None.field-0-is at c.in-Ok-None.ensures.unchanged in
     let turn = rw unchanged at c.turn_peers.ensures.peers in
     let l = peers_long g.G.Ledger.stands c.args.self.now c.turn_peers.new.self world p rest _ _ _ c.turn_peers.result stood is kept
-    (peers_any g.G.Ledger g.A.Archive c.args.self.now c.turn_peers.new.self c.args.archive.now c.turn_peers.new.archive world _ c.turn_peers.result stood (nil_if c.args.self.now.ahead c.is_empty.result c.if-not-is_empty.false (c.is_empty.ensures ∙ ap (λ (s : State g.row.G.Denot). length s.ahead == 0) c.self.view_is)) turn) in
+    (peers_any (ghosts g.G.Ledger g.A.Archive) c.args.self.now c.turn_peers.new.self c.args.archive.now c.turn_peers.new.archive world _ c.turn_peers.result stood (nil_if c.args.self.now.ahead c.is_empty.result c.if-not-is_empty.false (c.is_empty.ensures ∙ ap (λ (s : State g.row.G.Denot). length s.ahead == 0) c.self.view_is)) turn) in
     (l.0, ap Ok l.1, l.2)
 
 pub returns-in-Ok-turn_node-clause-memory : goal.returns-in-Ok-turn_node-clause-memory

@@ -1,4 +1,5 @@
 use Rattle.std.proofs.Common.{◌∙◌, sym, ap, refl, Option}
+use Rattle.el_side.specs.Beneath.{ghosts}
 use Rattle.el_core.specs.State.{work_of_surplus}
 use Rattle.el_core.specs.within.Clients.{gone, speaker_after}
 use Rattle.el_core.specs.declared.out.Outs.{Outs}
@@ -9,7 +10,7 @@ use Rattle.el_core.proofs.server.Server.turn_client.Goals as goal
 
 pub returns-in_default-place_of-clause-speaker_steps : goal.returns-in_default-place_of-clause-speaker_steps
 returns-in_default-place_of-clause-speaker_steps g c = λ side at'.
-    rw (← c.self.view_is) (gone c.in-Some.p c.in-Some.is c.in_default-place_of.ensures.place refl refl (lost_none g.G.Ledger g.A.Archive _ _ c.args.archive.now refl))
+    rw (← c.self.view_is) (gone c.in-Some.p c.in-Some.is c.in_default-place_of.ensures.place refl refl (lost_none (ghosts g.G.Ledger g.A.Archive) _ _ c.args.archive.now refl))
 
 pub returns-then-not-stays-clause-speaker_steps : goal.returns-then-not-stays-clause-speaker_steps
 returns-then-not-stays-clause-speaker_steps g c = λ side at'.

@@ -1,5 +1,6 @@
 use Rattle.std.proofs.Common.{ℕ, ◌+◌, ◌-◌, length, refl, sym, ap, ◌∙◌, Err}
 use Rattle.std.proofs.lemmas.Result.{err_from_is_err_and}
+use Rattle.el_chain.specs.Moves.{StoodAt}
 use Rattle.el_index.proofs.Kept.{lifted, quiet, blocks_in_top}
 use Rattle.el_index.specs.Means.{top}
 use Rattle.el_model.specs.Queries.{blocks_in}
@@ -13,7 +14,7 @@ returns-in_err-tip-clause-crash_failed g c chain stands failed =
     let p = err_from_is_err_and c.from_residual-in_err-tip.result c.from_residual-in_err-tip.ensures.1 in
     let flight = rw c.as_slice-2.ensures.value at c.in_err-tip.ensures.crash_failed chain stands.told stands.stand (c.requires.fits chain stands) (ap Err (same_fault c.from_residual-in_err-tip.result c.in_err-tip.field-0.0 _ (p.1 ∙ ap Err p.2) failed)) in (
       flight.0,
-      flies a.tells (a.bytes c.read_all.new.archive) chain c.args.plan.now c.in_ok-texts.texts.items flight.0 (rw c.as_slice.ensures at c.in_ok-texts.ensures.read) flight.1,
+      flies (StoodAt a (a.bytes c.args.archive.now) (a.bytes c.read_all.new.archive)) chain c.args.plan.now c.in_ok-texts.texts.items flight.0 (rw c.as_slice.ensures at c.in_ok-texts.ensures.read) flight.1,
       λ crash. lifted r.moment r.left_since (λ l. l.rows) c.args.self.now _ c.change.new.self.rows _ refl (flight.2 crash),
     )
 

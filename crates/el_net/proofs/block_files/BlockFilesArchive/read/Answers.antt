@@ -1,4 +1,4 @@
-use Rattle.std.proofs.Common.{◌∙◌, ◌-◌, ap, subst, sym, refl, min, length}
+use Rattle.std.proofs.Common.{◌∙◌, ◌-◌, ap, subst, sym, refl, min, length, take, drop, append-nil}
 use Rattle.el_outside.specs.Files.{AllGrow}
 use Rattle.el_net.specs.Devices.{BlocksOf}
 use Rattle.el_net.proofs.Unmasking.{reads_grow, length_unmasked}
@@ -18,4 +18,7 @@ returns-in-Err-clause-keeps g c = λ told. reads_grow c.args.self.now.mask c.rea
 
 pub returns-in-Ok-clause-count : goal.returns-in-Ok-clause-count
 returns-in-Ok-clause-count g c = λ told. c.in-Ok.ensures.count told
-    ∙ ap (λ m. min (length c.args.buf.now) (m - c.args.at)) (sym (length_unmasked _ 0 (g.F.Folder.bytes c.read_from.new.self.folder c.args.file)))
+    ∙ ap (λ m. min (length c.args.buf.now) (m - c.args.at)) (sym (length_unmasked _ 0 (g.F.Folder.bytes c.read_from.new.self.folder c.args.file)) ∙ ap length (sym (append-nil _)))
+
+pub returns-in-Ok-clause-filled : goal.returns-in-Ok-clause-filled
+returns-in-Ok-clause-filled g c = λ told. c.in-Ok.ensures.filled told ∙ ap (λ t. take c.in-Ok.n (drop c.args.at t)) (sym (append-nil _))

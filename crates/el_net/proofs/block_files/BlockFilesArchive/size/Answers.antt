@@ -1,4 +1,4 @@
-use Rattle.std.proofs.Common.{◌∙◌, ap, subst, sym, refl}
+use Rattle.std.proofs.Common.{◌∙◌, ap, subst, sym, refl, length, append-nil}
 use Rattle.el_outside.specs.Files.{AllGrow}
 use Rattle.el_net.specs.Devices.{BlocksOf}
 use Rattle.el_net.proofs.Unmasking.{reads_grow, length_unmasked}
@@ -17,4 +17,4 @@ returns-in_default-clause-keeps g c = λ told. reads_grow c.args.self.now.mask c
     (subst (λ (b : BlocksOf _). AllGrow (g.F.Folder.bytes b.folder) (g.F.Folder.bytes c.size_of-found.new.self.folder)) c.count_call.ensures (c.size_of-found.ensures.grows told))
 
 pub returns-in-Ok-clause-size : goal.returns-in-Ok-clause-size
-returns-in-Ok-clause-size g c = λ told. c.in-Ok.ensures.size told ∙ sym (length_unmasked _ 0 (g.F.Folder.bytes c.size_of-found.new.self.folder c.args.file))
+returns-in-Ok-clause-size g c = λ told. c.in-Ok.ensures.size told ∙ sym (length_unmasked _ 0 (g.F.Folder.bytes c.size_of-found.new.self.folder c.args.file)) ∙ ap length (sym (append-nil _))
