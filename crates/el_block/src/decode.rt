@@ -19,6 +19,7 @@ use crate::fault::BlockFault;
 use crate::hashing::txids_of;
 use crate::rules::keep_rules;
 use el_base::{Cursor, Hash32, Listed, read_compact};
+use el_merkle::root;
 use el_tx::{Header, TxFault, TxView, decode_header, view_tx};
 use std::alloc::Global;
 
@@ -152,7 +153,8 @@ pub fn view_with_txids(
 {
     let block = view_form(alloc, bytes)?;
     let hashes = txids_of(alloc, bytes, &block)?;
-    keep_rules(alloc, &block, hashes.as_slice())?;
+    let found = root(alloc, hashes.as_slice())?;
+    keep_rules(alloc, &block, hashes.as_slice(), found)?;
     Ok((block, hashes))
 }
 

@@ -2,7 +2,7 @@
 ghost use Rattle.std.specs.Prelude.{◌≡◌, ◌<◌, length, IfOk};
 
 use el_base::{Hash32, HexFault};
-use el_merkle::{branch, climb, root};
+use el_merkle::{branch, climb, root, row};
 use std::alloc::{AllocError, Global};
 use std::test::Fail;
 
@@ -74,6 +74,21 @@ fn the_root_of_a_block_of_bitcoin(rt: HostRuntime) -> Result<(), Fail> {
         block[at] = Hash32::from_shown(*shown)?;
     }
     assert!(rt; has_root(rt.alloc(), &block, ROOT_100000)?);
+    Ok(())
+}
+
+#[test]
+fn rows_above_three(rt: HostRuntime) -> Result<(), Fail> {
+    let hashes = blocks()?;
+    let below = row(rt.alloc(), 0, &hashes)?;
+    assert!(rt; below.as_slice() == hashes.as_slice());
+    let middle = [
+        Hash32::from_shown(FIRST_TWO)?,
+        Hash32::from_shown(THIRD_TWICE)?,
+    ];
+    assert!(rt; row(rt.alloc(), 1, &hashes)?.as_slice() == middle.as_slice());
+    let top = [Hash32::from_shown(ALL_THREE)?];
+    assert!(rt; row(rt.alloc(), 2, &hashes)?.as_slice() == top.as_slice());
     Ok(())
 }
 

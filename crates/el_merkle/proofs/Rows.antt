@@ -2,9 +2,9 @@
 use Rattle.std.proofs.Common.{◌≡◌, inl, inr, ℕ, zero, suc, ◌+◌, ◌-◌, ◌*◌, ◌/◌, ◌%◌, ◌<◌, ◌≤◌, ◌≢◌, false, cond, List, [], ◌∷◌, ◌++◌, length, take, drop, get_or, refl, sym, ap, ◌∙◌, append_assoc, arith, ltb-false, ltb-true, ◌↔◌, ◌^◌, le-ltb, lt-ltb, eqb-true, eq-eqb, ne_eqb, ◌==◌, nat_lt, Some}
 use Rattle.std.specs.List.{slice_get}
 use Rattle.std.proofs.lemmas.Bool.{eqb-false, cases_Bool}
-use Rattle.std.proofs.lemmas.List.{take_more, drop_more, set_at, take_at, get_or_default, get_or-drop, get_or-append_right, length-take-le, length-set, take_all, drop_all}
+use Rattle.std.proofs.lemmas.List.{take_more, drop_more, set_at, take_at, get_or_default, get_or-drop, get_or-append_right, length-take-le, length-set, take_all, drop_all, take-append-drop}
 use Rattle.std.proofs.Math.ListN.{set}
-use Rattle.std.proofs.Math.Nat.{pow-suc}
+use Rattle.std.proofs.Math.Nat.{pow-suc, mul_comm, mul_left_comm}
 use Rattle.el_base.specs.declared.hash.Hash32.{Hash32}
 use Rattle.el_merkle.specs.Merkle.{joined, pairs, row, half_up, halvings, levels, no_hash, root, neighbour, partner, branch_through, branch_of, climb}
 
@@ -291,3 +291,65 @@ climbed_odd branch i hash after pos d lt odd is =
 pub climbed_all : (branch : List Hash32) (i : ℕ) (hash : Hash32) (pos : ℕ) → length branch ≤ i → climb hash pos (drop i branch) ≡ hash
 unfolding climb
 climbed_all branch i hash pos le = ap (climb hash pos) (drop_all i branch le)
+
+-- ---- rows far above
+
+pub row_none : (list : List Hash32) → row 0 list ≡ list
+unfolding row
+row_none list = refl
+
+-- the row so many levels above is the one a level fewer above the pairs
+pub row_more : (n i : ℕ) (list : List Hash32) → i < n → row (n - i) list ≡ row (n - (i + 1)) (pairs list)
+unfolding row
+row_more n i list lt = let e : n - i ≡ suc (n - (i + 1)) = omega arith in rw e refl
+
+pub row_ends : (n i : ℕ) (list : List Hash32) → n ≤ i → row (n - i) list ≡ list
+row_ends n i list le = let e : n - i ≡ 0 = omega arith in rw e (row_none list)
+
+-- the pairs of a front of whole pairs stand in front of the pairs
+take_pairs : (m : ℕ) (list : List Hash32) → pairs (take (2 * m) list) ≡ take m (pairs list)
+unfolding pairs
+take_pairs zero list = refl
+take_pairs (suc m) [] = let e : 2 * suc m ≡ suc (suc (2 * m)) = omega arith in rw e refl
+take_pairs (suc m) (odd ∷ []) =
+    let e : 2 * suc m ≡ suc (suc (2 * m)) = omega arith in
+    rw e (ap (λ (t : List Hash32). joined odd odd ∷ t) (sym (take_all m [] (omega arith))))
+take_pairs (suc m) (left ∷ right ∷ rest) =
+    let e : 2 * suc m ≡ suc (suc (2 * m)) = omega arith in
+    rw e (ap (λ (t : List Hash32). joined left right ∷ t) (take_pairs m rest))
+
+drop_pairs : (m : ℕ) (list : List Hash32) → pairs (drop (2 * m) list) ≡ drop m (pairs list)
+unfolding pairs
+drop_pairs zero list = refl
+drop_pairs (suc m) [] = let e : 2 * suc m ≡ suc (suc (2 * m)) = omega arith in rw e refl
+drop_pairs (suc m) (odd ∷ []) = let e : 2 * suc m ≡ suc (suc (2 * m)) = omega arith in rw e (sym (drop_all m [] (omega arith)))
+drop_pairs (suc m) (left ∷ right ∷ rest) = let e : 2 * suc m ≡ suc (suc (2 * m)) = omega arith in rw e (drop_pairs m rest)
+
+-- Above a list whose front is of whole groups stand what is above the front, and then what is above the rest.
+pub row_parts : (n m size : ℕ) (list : List Hash32) → size ≡ m * 2 ^ n → row n (take size list) ++ row n (drop size list) ≡ row n list
+unfolding row
+row_parts zero m size list is = take-append-drop size list
+row_parts (suc n) m size list is =
+    let e : size ≡ 2 * (m * 2 ^ n) = is ∙ ap (λ (p : ℕ). m * p) (pow-suc 2 n ∙ mul_comm (2 ^ n) 2) ∙ mul_left_comm m 2 (2 ^ n) in
+    rw (e, take_pairs (m * 2 ^ n) list, drop_pairs (m * 2 ^ n) list) (row_parts n m (m * 2 ^ n) (pairs list) refl)
+
+-- A row in which no level below was joined from a single hash has the root of the list.
+pub root_of_row : (n : ℕ) (list : List Hash32) → 2 ^ n ≤ length list → root (row n list) ≡ root list
+unfolding row
+root_of_row zero list long = refl
+root_of_row (suc n) list long =
+    let power = pow-suc 2 n in
+    let one = positive n in
+    let half = length-pairs list in
+    root_of_row n (pairs list) (omega arith) ∙ sym (root_more list (omega arith))
+
+-- a row above some hashes has some
+pub row_some : (n : ℕ) (list : List Hash32) → 0 < length list → 0 < length (row n list)
+unfolding row
+row_some zero list some = some
+row_some (suc n) list some = let half = length-pairs list in row_some n (pairs list) (omega arith)
+
+pub row_of_none : (n : ℕ) → row n [] ≡ []
+unfolding row pairs
+row_of_none zero = refl
+row_of_none (suc n) = row_of_none n

@@ -10,5 +10,5 @@ mod wallet;
 pub use laws::{
     branch_climbs_to_root, branch_goes_up_by_pairs, branch_has_a_hash_a_level, root_is_paired_down,
 };
-pub use tree::{branch, root};
+pub use tree::{branch, root, row};
 pub use wallet::climb;

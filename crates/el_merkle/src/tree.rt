@@ -19,6 +19,19 @@ pub fn root(alloc: Global, list: &[Hash32]) -> Result<Hash32, OutOfMemory>
     Ok(hashes[0])
 }
 
+/// The row of the tree that many levels above hashes (Bitcoin's block format): each hash in it is that of two
+/// neighbours in the row below, an odd last one joined with itself. All in inner order; no level above is the
+/// hashes themselves. The only error is out of memory for a row of the list's length.
+pub fn row(alloc: Global, levels: u32, list: &[Hash32]) -> Result<Vec<Hash32>, OutOfMemory>
+    ensures { IfOk result (λ v. v.items ≡ spec.row levels list.now) }
+{
+    let mut hashes = list.to_vec(alloc)?;
+    for _ in 0..levels {
+        pair_up(&mut hashes);
+    }
+    Ok(hashes)
+}
+
 /// The partners of the hash at the place from the leaf upwards (Electrum protocol 1.4), and the root, all
 /// in inner order. The only error is out of memory.
 pub fn branch(

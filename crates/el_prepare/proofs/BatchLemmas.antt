@@ -1,17 +1,13 @@
 -- What is prepared of several blocks, one by one and piece by piece.
 use Rattle.std.proofs.Common.{◌≡◌, ◌≢◌, ◌⊎◌, inl, inr, ℕ, ◌+◌, ◌/◌, ◌%◌, ◌<◌, min, List, [], ◌∷◌, ◌++◌, length, take, drop, get_or, Option, Some, None, Result, Ok, Err, refl, sym, ap, subst, ◌∙◌, append_assoc, append-nil}
-use Rattle.std.specs.Prelude.{slice_index_or, IfOk, IfErr, is_some, true, false}
+use Rattle.std.specs.Prelude.{slice_index_or, IfOk, is_some, true, false}
 use Rattle.std.specs.Fork.{slice_chunk}
 use Rattle.std.proofs.lemmas.List.{take-append-drop}
 use Rattle.el_base.proofs.Lists.{cut_at, taken_at}
-use Rattle.el_block.specs.Blocks.{EncodesBlock}
 use Rattle.el_block.specs.BlockFaults.{FirstBlockFault}
-use Rattle.el_block.specs.declared.block.Block.{Block}
 use Rattle.el_block.specs.declared.fault.BlockFault.{BlockFault}
 use Rattle.el_block.specs.declared.fault.BlockFault.TheVariants as fault
-use Rattle.el_block.proofs.BlockLemmas.{one_block, never_both_block}
 use Rattle.el_prepare.specs.declared.prepared.Prepared.{Prepared}
-use Rattle.el_prepare.specs.Prepared.{prepared}
 use Rattle.el_prepare.specs.Batches.{IsPrepared, ArePrepared}
 use Rattle.el_prepare.proofs.PieceLemmas.{Pieces, pieces}
 

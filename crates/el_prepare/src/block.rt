@@ -14,6 +14,7 @@ ghost use Rattle.el_block.specs.declared.fault.BlockFault.{BlockFault};
 ghost use Rattle.el_prepare.specs.Prepared as spec;
 ghost use Rattle.el_prepare.specs.Prepared.{prepared, prepared_txs};
 
+use crate::merkle::root_in_pieces;
 use crate::pieces::{cut, prepare_in_pieces};
 use crate::prepared::{Prepared, PreparedTx};
 use el_base::{Hash32, Listed, OutOfMemory, compact_len, sha256};
@@ -191,11 +192,13 @@ fn txids_in(alloc: Global, txs: &[PreparedTx]) -> Result<Vec<Hash32>, AllocError
 }
 
 // Whether a block whose transactions are prepared keeps the rules.
-fn keep_all(
+fn keep_all<W: Threads + Sync, P: Pace + Sync>(
+    rt: &W,
     alloc: Global,
     bytes: &[u8],
     block: &BlockView<'_>,
     txs: &[PreparedTx],
+    pace: &P,
 ) -> Result<(), BlockFault>
     requires text { IsBlockEncoding bytes.now block.now }
     requires some { 1 ≤ length block.now.txs }
@@ -205,7 +208,8 @@ fn keep_all(
     ensures fault { IfErr result (λ e. (e ≡ BlockFault.Memory) ⊎ FirstBlockFault bytes.now e) }
 {
     let txids = txids_in(alloc, txs)?;
-    keep_rules(alloc, block, txids.as_slice())
+    let found = root_in_pieces(rt, alloc, txids.as_slice(), pace)?;
+    keep_rules(alloc, block, txids.as_slice(), found)
 }
 
 // What an index wants of a block that isn't too long.
@@ -222,7 +226,7 @@ fn prepare_short<W: Threads + Sync, P: Pace + Sync>(
 {
     let block = view_form(alloc, bytes)?;
     let txs = txs_in_pieces(rt, alloc, bytes, &block, pace)?;
-    keep_all(alloc, bytes, &block, txs.as_slice())?;
+    keep_all(rt, alloc, bytes, &block, txs.as_slice(), pace)?;
     Ok(prepared_block(bytes, &block, Listed::from_vec(txs)))
 }
 
@@ -230,7 +234,8 @@ fn prepare_short<W: Threads + Sync, P: Pace + Sync>(
 /// ends, and the first fault of form. Then the transactions are cut into chunks of an eighth of their number,
 /// rounded up: the pieces, numbered from 0, which run side by side where threads can be made. Each enters the
 /// pace as it begins, and hashes its own transactions and their locking scripts. Then comes what needs all
-/// txids. Bytes that are too many for any block are looked at by `prepare_one` alone.
+/// txids; where these are many, the lower levels of their Merkle tree are hashed in pieces too. Bytes that are
+/// too many for any block are looked at by `prepare_one` alone.
 ///
 /// # Errors
 ///

@@ -3,6 +3,7 @@
 
 mod batch;
 mod block;
+mod merkle;
 mod pieces;
 mod prepared;
 
