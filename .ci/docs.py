@@ -30,6 +30,7 @@ CLAIM = [("lives", ("el_program", "live")), ("serve", ("el_program", "serve"))]
 NUMBERS = [
     ("docs/OPERATING.md", "`--pool-count`, from 1 to {},", "el_words", "MAX_POOL_COUNT"),
     ("docs/OPERATING.md", "`--pool-bytes`, from 1 to {},", "el_words", "MAX_POOL_BYTES"),
+    ("docs/OPERATING.md", "of `N` blocks, from 1 to {}, and a side branch", "el_gen", "MOST_MADE"),
     ("docs/OPERATING.md", "with more than {} unsent bytes isn't read", "el_sockets", "STALLED_FROM"),
     ("docs/OPERATING.md", "a message would make them more than {} is gone", "el_sockets", "UNSENT_LIMIT"),
     ("docs/OPERATING.md", "At most {} clients are connected", "el_outside", "CLIENT_LIMIT"),

@@ -77,6 +77,7 @@ NOBODY = 65534
 COMMANDS = b"""\
 electrum_serve once --blocks DIR --network NET
 electrum_serve serve --blocks DIR --index DIR --network NET --client-port N --node-port N [--pool-count N] [--pool-bytes N]
+electrum_serve check-chain N
 NET: main, testnet3 or regtest
 """
 ENDED = (0, "ended")
@@ -614,6 +615,29 @@ def numbers_at_their_bounds(program):
         (" --pool-count 1000", ""), (" --pool-bytes 2000000", ""), (" --pool-count 1000 --pool-bytes 2000000", ""),
     )]
     return all_end_so(program, lines, (b"", because(DISK_FAILED, "index folder index", NOT_THERE)))
+
+
+# Summaries of checks, by the number of blocks, worked out by hand from the rules by which the file is made.
+CHECKS = [
+    ("1", 0, 1, 1, 3, 0, 399),
+    ("0000000002", 1, 3, 4, 3, 2_500_000_000, 877),
+    ("17", 16, 33, 49, 4, 40_000_000_000, 5_418),
+    ("1000", 999, 1999, 2998, 65, 2_497_500_000_000, 240_355),
+]
+
+
+def checks_chains(program):
+    for count, *wanted in CHECKS:
+        line = b"height %d transactions %d outputs %d moves %d balance %d bytes %d\n" % tuple(wanted)
+        did = run(program, ["check-chain", count], ONE)
+        if did != as_wanted((line, ENDED)):
+            break
+    return did, (line, ENDED)
+
+
+def mistyped_checks(program):
+    numbers = ([], ["0"], ["20001"], ["-1"], ["+1"], ["1 "], [""], ["00000000001"], ["1", "1"], ["--count", "1"])
+    return all_end_so(program, [["check-chain", *number] for number in numbers], (b"", USAGE))
 
 
 def serves_two_files(program):
@@ -1821,6 +1845,8 @@ CASES = [
     options_in_any_order,
     options_of_once_in_any_order,
     numbers_at_their_bounds,
+    checks_chains,
+    mistyped_checks,
     serves_two_files,
     serves_blocks_in_any_order,
     serves_without_blocks,

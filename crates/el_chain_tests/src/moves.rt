@@ -17,10 +17,11 @@ use el_chain::{ConnectFault, MoveFault, Moved, Plan};
 use el_fakes::MemArchive;
 use el_laws::{Mark, Stop, go_on};
 use el_model::Ledger;
-use el_outside::Archive;
+use el_outside::{Archive, NoPace};
 use el_plain::{PlainChain, PlainLedger};
 use std::alloc::Global;
 use std::test::Fail;
+use std::thread::Threads;
 
 // The hashes of the blocks after the first two: one that spends the first half of the spent coin, and one of
 // a coinbase alone.
@@ -163,7 +164,8 @@ fn before(ledger: &PlainLedger, back: u32) -> Option<Hash32>
 }
 
 /// Takes so many blocks back and puts in the blocks of the records from one number to before another.
-pub fn move_in<A: Archive>(
+pub fn move_in<W: Threads + Sync, A: Archive>(
+    rt: &W,
     alloc: Global,
     ledger: &mut PlainLedger,
     back: u32,
@@ -175,24 +177,26 @@ pub fn move_in<A: Archive>(
         return Err(Fail::new("too few blocks"));
     };
     let (plan, _) = plan_of(alloc, back, records, from, to, hash)?;
-    Ok(ledger.go(alloc, &plan, archive))
+    Ok(ledger.go(rt, alloc, &plan, archive, &NoPace))
 }
 
 /// The same, where nothing is wrong with the blocks.
-pub fn moved(
+pub fn moved<W: Threads + Sync>(
+    rt: &W,
     alloc: Global,
     ledger: &mut PlainLedger,
     back: u32,
     records: (&[Bytes], usize, usize),
 ) -> Result<Moved, Fail> {
     let mut archive = archive_of(alloc, records.0, NONE_WRONG)?;
-    let moved = move_in(alloc, ledger, back, records, &mut archive)??;
+    let moved = move_in(rt, alloc, ledger, back, records, &mut archive)??;
     Ok(moved)
 }
 
 /// The fault that stops a move which takes so many blocks back and puts in the last three of the records, of
 /// which something is wrong.
-pub fn stopped_by(
+pub fn stopped_by<W: Threads + Sync>(
+    rt: &W,
     alloc: Global,
     ledger: &mut PlainLedger,
     back: u32,
@@ -200,13 +204,17 @@ pub fn stopped_by(
     wrong: Wrong,
 ) -> Result<Option<MoveFault>, Fail> {
     let mut archive = archive_of(alloc, records, wrong)?;
-    Ok(move_in(alloc, ledger, back, (records, 1, 4), &mut archive)?.err())
+    Ok(move_in(rt, alloc, ledger, back, (records, 1, 4), &mut archive)?.err())
 }
 
 // A ledger of the first block.
-fn first_alone(alloc: Global, records: &[Bytes]) -> Result<PlainLedger, Fail> {
+fn first_alone<W: Threads + Sync>(
+    rt: &W,
+    alloc: Global,
+    records: &[Bytes],
+) -> Result<PlainLedger, Fail> {
     let mut ledger = PlainLedger::over(PlainChain::new(alloc));
-    moved(alloc, &mut ledger, 0, (records, 0, 1))?;
+    moved(rt, alloc, &mut ledger, 0, (records, 0, 1))?;
     Ok(ledger)
 }
 
@@ -253,16 +261,21 @@ pub fn touches(moved: &Moved, scripts: &[&str]) -> bool {
 }
 
 // Whether the three blocks after the first lead to the last of the four, and touch the three scripts.
-fn leads_to_last(alloc: Global, ledger: &mut PlainLedger, records: &[Bytes]) -> Result<bool, Fail> {
-    let moved = moved(alloc, ledger, 0, (records, 1, 4))?;
+fn leads_to_last<W: Threads + Sync>(
+    rt: &W,
+    alloc: Global,
+    ledger: &mut PlainLedger,
+    records: &[Bytes],
+) -> Result<bool, Fail> {
+    let moved = moved(rt, alloc, ledger, 0, (records, 1, 4))?;
     let led = moved.height == Some(3) && is_shown(moved.tip, Some(BLOCK_3));
     Ok(led && touches(&moved, [SCRIPT_1, SCRIPT_100, SCRIPT_101].as_slice()))
 }
 
-fn puts_in_three(alloc: Global) -> Result<bool, Fail> {
+fn puts_in_three<W: Threads + Sync>(rt: &W, alloc: Global) -> Result<bool, Fail> {
     let records = four(alloc, NONE_WRONG)?;
-    let mut ledger = first_alone(alloc, records.as_slice())?;
-    let led = leads_to_last(alloc, &mut ledger, records.as_slice())?;
+    let mut ledger = first_alone(rt, alloc, records.as_slice())?;
+    let led = leads_to_last(rt, alloc, &mut ledger, records.as_slice())?;
     Ok(led && stands_at(alloc, &mut ledger, (3, BLOCK_3), &ALL_FOUR)?)
 }
 
@@ -315,10 +328,15 @@ fn fault_of(wanted: Wanted<'_>) -> Result<MoveFault, Fail> {
 
 // Whether the move of three blocks, of which something is wrong, is refused by that fault and changes
 // nothing.
-fn is_refused(alloc: Global, wrong: Wrong, wanted: MoveFault) -> Result<bool, Fail> {
+fn is_refused<W: Threads + Sync>(
+    rt: &W,
+    alloc: Global,
+    wrong: Wrong,
+    wanted: MoveFault,
+) -> Result<bool, Fail> {
     let records = four(alloc, wrong)?;
-    let mut ledger = first_alone(alloc, records.as_slice())?;
-    let found = stopped_by(alloc, &mut ledger, 0, records.as_slice(), wrong)?;
+    let mut ledger = first_alone(rt, alloc, records.as_slice())?;
+    let found = stopped_by(rt, alloc, &mut ledger, 0, records.as_slice(), wrong)?;
     Ok(found == Some(wanted) && stands_at(alloc, &mut ledger, (0, BLOCK_0), &FIRST_ALONE)?)
 }
 
@@ -398,9 +416,9 @@ const WRONG: &[(Wrong, Wanted<'static>)] = &[
 ];
 
 // The first case, counted from 0, that isn't refused so.
-fn not_refused(alloc: Global) -> Result<Option<usize>, Fail> {
+fn not_refused<W: Threads + Sync>(rt: &W, alloc: Global) -> Result<Option<usize>, Fail> {
     for (number, (wrong, wanted)) in WRONG.iter().enumerate() {
-        if !is_refused(alloc, *wrong, fault_of(*wanted)?)? {
+        if !is_refused(rt, alloc, *wrong, fault_of(*wanted)?)? {
             return Ok(Some(number));
         }
     }
@@ -488,7 +506,8 @@ fn records_of(alloc: Global, told: Told<'_>) -> Result<Vec<Bytes>, Fail> {
 }
 
 // Makes the moves, and tells whether the marks are these.
-fn has_marks(
+fn has_marks<W: Threads + Sync>(
+    rt: &W,
     alloc: Global,
     plans: &[Plan],
     archive: &mut MemArchive,
@@ -499,7 +518,7 @@ fn has_marks(
     let marks = marks_of(told)?;
     let mut ledger = PlainLedger::new(alloc);
     let mut sent = Listed::new(alloc);
-    let end = go_on(alloc, &mut ledger, plans, archive, &mut sent);
+    let end = go_on(rt, alloc, &mut ledger, plans, archive, &mut sent, &NoPace);
     let wanted = match told.two {
         Some(_) => Ok(()),
         None => Err(Stop::Refused),
@@ -507,17 +526,17 @@ fn has_marks(
     Ok(end == wanted && sent.as_slice() == marks.as_slice())
 }
 
-fn is_told(alloc: Global, told: Told<'_>) -> Result<bool, Fail> {
+fn is_told<W: Threads + Sync>(rt: &W, alloc: Global, told: Told<'_>) -> Result<bool, Fail> {
     let records = records_of(alloc, told)?;
     let plans = two_moves(alloc, records.as_slice(), told.first)?;
     let mut archive = archive_of(alloc, records.as_slice(), NONE_WRONG)?;
-    has_marks(alloc, plans.as_slice(), &mut archive, told)
+    has_marks(rt, alloc, plans.as_slice(), &mut archive, told)
 }
 
 // The first case, counted from 0, that isn't told so.
-fn not_told(alloc: Global) -> Result<Option<usize>, Fail> {
+fn not_told<W: Threads + Sync>(rt: &W, alloc: Global) -> Result<Option<usize>, Fail> {
     for (number, told) in TOLD.iter().enumerate() {
-        if !is_told(alloc, *told)? {
+        if !is_told(rt, alloc, *told)? {
             return Ok(Some(number));
         }
     }
@@ -540,14 +559,15 @@ const MOVES: &[(usize, Option<u32>, Option<&str>)] = &[
 ];
 
 // Whether a move of so many of the blocks leads there.
-fn leads_to(
+fn leads_to<W: Threads + Sync>(
+    rt: &W,
     alloc: Global,
     records: &[Bytes],
     case: (usize, Option<u32>, Option<&str>),
 ) -> Result<bool, Fail> {
     let (count, height, tip) = case;
     let mut ledger = PlainLedger::new(alloc);
-    let moved = moved(alloc, &mut ledger, 0, (records, 0, count))?;
+    let moved = moved(rt, alloc, &mut ledger, 0, (records, 0, count))?;
     Ok(
         moved.height == height
             && is_shown(moved.tip, tip)
@@ -557,10 +577,10 @@ fn leads_to(
 }
 
 // The first number of coinbases that doesn't lead there.
-fn not_led(alloc: Global) -> Result<Option<usize>, Fail> {
+fn not_led<W: Threads + Sync>(rt: &W, alloc: Global) -> Result<Option<usize>, Fail> {
     let records = coinbases(alloc, 16)?;
     for case in MOVES {
-        if !leads_to(alloc, records.as_slice(), *case)? {
+        if !leads_to(rt, alloc, records.as_slice(), *case)? {
             return Ok(Some(case.0));
         }
     }
@@ -570,16 +590,16 @@ fn not_led(alloc: Global) -> Result<Option<usize>, Fail> {
 // Whether three blocks are put in; then the first case of each table that isn't as it must be.
 type Wrongs = (bool, Option<usize>, Option<usize>, Option<usize>);
 
-fn moves_forth(alloc: Global) -> Result<Wrongs, Fail> {
-    let three = puts_in_three(alloc)?;
-    let refused = not_refused(alloc)?;
-    let told = not_told(alloc)?;
-    Ok((three, refused, told, not_led(alloc)?))
+fn moves_forth<W: Threads + Sync>(rt: &W, alloc: Global) -> Result<Wrongs, Fail> {
+    let three = puts_in_three(rt, alloc)?;
+    let refused = not_refused(rt, alloc)?;
+    let told = not_told(rt, alloc)?;
+    Ok((three, refused, told, not_led(rt, alloc)?))
 }
 
 #[test]
 fn puts_blocks_in(rt: HostRuntime) -> Result<(), Fail> {
-    let wrongs = moves_forth(rt.alloc())?;
+    let wrongs = moves_forth(&rt, rt.alloc())?;
     assert_eq!(rt; wrongs, (true, None, None, None));
     Ok(())
 }

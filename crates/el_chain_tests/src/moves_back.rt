@@ -10,6 +10,7 @@ use el_model::Ledger;
 use el_plain::PlainLedger;
 use std::alloc::Global;
 use std::test::Fail;
+use std::thread::Threads;
 
 // The hashes of the blocks of heights 2 and 101 of a chain of coinbases, which has the time of height 100
 // from there on, and of height 4 of another one.
@@ -20,13 +21,17 @@ const COINBASES_101: &str = "d5ad342de53338cc69e0dd31b02cae137d407036ba9db3cce4b
 const OTHER_4: &str = "552ad6ab34961783bd0bc993d6213f2230ba4bee3f17b163d585a1cdc83cddf7";
 
 // A ledger of the blocks of the records, sixteen in a move.
-fn ledger_of(alloc: Global, records: &[Bytes]) -> Result<PlainLedger, Fail> {
+fn ledger_of<W: Threads + Sync>(
+    rt: &W,
+    alloc: Global,
+    records: &[Bytes],
+) -> Result<PlainLedger, Fail> {
     let mut ledger = PlainLedger::new(alloc);
     for start in 0..7usize {
         let from = 16 * start;
         let to = records.len().min(from + 16);
         if from < to {
-            moved(alloc, &mut ledger, 0, (records, from, to))?;
+            moved(rt, alloc, &mut ledger, 0, (records, from, to))?;
         }
     }
     Ok(ledger)
@@ -42,9 +47,9 @@ fn five(alloc: Global) -> Result<Vec<Bytes>, Fail> {
 }
 
 // A ledger of so many coinbases.
-fn chain_of(alloc: Global, count: u32) -> Result<PlainLedger, Fail> {
+fn chain_of<W: Threads + Sync>(rt: &W, alloc: Global, count: u32) -> Result<PlainLedger, Fail> {
     let records = coinbases(alloc, count)?;
-    ledger_of(alloc, records.as_slice())
+    ledger_of(rt, alloc, records.as_slice())
 }
 
 // Whether both ledgers list the same entries of the script hash.
@@ -87,26 +92,31 @@ const ALL: [(&str, usize, u64); 1] = [(SCRIPT_101, 102, 510_000_000_000)];
 const FIVE: [(&str, usize, u64); 1] = [(SCRIPT_101, 5, 25_000_000_000)];
 
 // Takes a hundred blocks of 102 back, and puts the last three of five others in.
-fn turn(alloc: Global, ledger: &mut PlainLedger, others: &[Bytes]) -> Result<(), Fail> {
+fn turn<W: Threads + Sync>(
+    rt: &W,
+    alloc: Global,
+    ledger: &mut PlainLedger,
+    others: &[Bytes],
+) -> Result<(), Fail> {
     if !stands_at(alloc, ledger, (101, COINBASES_101), &ALL)? {
         return Err(Fail::new("the first chain stands otherwise"));
     }
-    moved(alloc, ledger, 100, (others, 2, 5))?;
+    moved(rt, alloc, ledger, 100, (others, 2, 5))?;
     Ok(())
 }
 
 // A ledger of which a hundred blocks were taken back, and the last three of five others put in.
-fn turned(alloc: Global, others: &[Bytes]) -> Result<PlainLedger, Fail> {
-    let mut ledger = chain_of(alloc, 102)?;
-    turn(alloc, &mut ledger, others)?;
+fn turned<W: Threads + Sync>(rt: &W, alloc: Global, others: &[Bytes]) -> Result<PlainLedger, Fail> {
+    let mut ledger = chain_of(rt, alloc, 102)?;
+    turn(rt, alloc, &mut ledger, others)?;
     Ok(ledger)
 }
 
 // Whether it then stands at the last of the others, and answers as if they had been put in alone.
-fn takes_a_hundred(alloc: Global) -> Result<bool, Fail> {
+fn takes_a_hundred<W: Threads + Sync>(rt: &W, alloc: Global) -> Result<bool, Fail> {
     let others = five(alloc)?;
-    let mut ledger = turned(alloc, others.as_slice())?;
-    let mut anew = ledger_of(alloc, others.as_slice())?;
+    let mut ledger = turned(rt, alloc, others.as_slice())?;
+    let mut anew = ledger_of(rt, alloc, others.as_slice())?;
     let alike = answer_alike(alloc, &mut ledger, &mut anew)?;
     Ok(alike && stands_at(alloc, &mut ledger, (4, OTHER_4), &FIVE)?)
 }
@@ -115,16 +125,16 @@ fn takes_a_hundred(alloc: Global) -> Result<bool, Fail> {
 const ONE: [(&str, usize, u64); 1] = [(SCRIPT_101, 1, 5_000_000_000)];
 
 // A ledger of two coinbases of one txid.
-fn twins(alloc: Global) -> Result<PlainLedger, Fail> {
+fn twins<W: Threads + Sync>(rt: &W, alloc: Global) -> Result<PlainLedger, Fail> {
     let mut records = coinbases(alloc, 1)?;
     add(alloc, &mut records, 0, None)?;
-    ledger_of(alloc, records.as_slice())
+    ledger_of(rt, alloc, records.as_slice())
 }
 
 // Whether the coin that a second coinbase of one txid had replaced is a coin again.
-fn makes_a_coin_again(alloc: Global) -> Result<bool, Fail> {
-    let mut ledger = twins(alloc)?;
-    moved(alloc, &mut ledger, 1, (&[], 0, 0))?;
+fn makes_a_coin_again<W: Threads + Sync>(rt: &W, alloc: Global) -> Result<bool, Fail> {
+    let mut ledger = twins(rt, alloc)?;
+    moved(rt, alloc, &mut ledger, 1, (&[], 0, 0))?;
     let stands = stands_at(alloc, &mut ledger, (0, BLOCK_0), &ONE)?;
     Ok(stands && has_first_coin(alloc, &mut ledger)?)
 }
@@ -145,10 +155,10 @@ const BAD_THIRD: Wrong = Wrong {
 const THREE: [(&str, usize, u64); 2] = [(SCRIPT_1, 0, 0), (SCRIPT_101, 3, 15_000_000_000)];
 
 // Whether a move back whose third new block is bad changes nothing.
-fn changes_nothing(alloc: Global) -> Result<bool, Fail> {
-    let mut ledger = chain_of(alloc, 3)?;
+fn changes_nothing<W: Threads + Sync>(rt: &W, alloc: Global) -> Result<bool, Fail> {
+    let mut ledger = chain_of(rt, alloc, 3)?;
     let others = four(alloc, BAD_THIRD)?;
-    let found = stopped_by(alloc, &mut ledger, 2, others.as_slice(), BAD_THIRD)?;
+    let found = stopped_by(rt, alloc, &mut ledger, 2, others.as_slice(), BAD_THIRD)?;
     let is_bad = matches!(found, Some(MoveFault::BadBlock { .. }));
     Ok(is_bad && stands_at(alloc, &mut ledger, (2, COINBASES_2), &THREE)?)
 }
@@ -157,34 +167,38 @@ fn changes_nothing(alloc: Global) -> Result<bool, Fail> {
 const TWO: [(&str, usize, u64); 2] = [(SCRIPT_1, 0, 0), (SCRIPT_100, 1, 2_500_000_000)];
 
 // A ledger of the four blocks.
-fn first_four(alloc: Global) -> Result<PlainLedger, Fail> {
+fn first_four<W: Threads + Sync>(rt: &W, alloc: Global) -> Result<PlainLedger, Fail> {
     let records = four(alloc, NONE_WRONG)?;
-    ledger_of(alloc, records.as_slice())
+    ledger_of(rt, alloc, records.as_slice())
 }
 
 // Takes two blocks back, and tells whether that touches the scripts of 1 and 101, and no other.
-fn touches_two(alloc: Global, ledger: &mut PlainLedger) -> Result<bool, Fail> {
-    let moved = moved(alloc, ledger, 2, (&[], 0, 0))?;
+fn touches_two<W: Threads + Sync>(
+    rt: &W,
+    alloc: Global,
+    ledger: &mut PlainLedger,
+) -> Result<bool, Fail> {
+    let moved = moved(rt, alloc, ledger, 2, (&[], 0, 0))?;
     Ok(touches(&moved, [SCRIPT_1, SCRIPT_101].as_slice()))
 }
 
 // Whether a move that only takes blocks back touches the scripts of these, and no other.
-fn touches_what_is_removed(alloc: Global) -> Result<bool, Fail> {
-    let mut ledger = first_four(alloc)?;
-    let touched = touches_two(alloc, &mut ledger)?;
+fn touches_what_is_removed<W: Threads + Sync>(rt: &W, alloc: Global) -> Result<bool, Fail> {
+    let mut ledger = first_four(rt, alloc)?;
+    let touched = touches_two(rt, alloc, &mut ledger)?;
     Ok(touched && stands_at(alloc, &mut ledger, (1, BLOCK_1), &TWO)?)
 }
 
-fn moves_back(alloc: Global) -> Result<[bool; 4], Fail> {
-    let hundred = takes_a_hundred(alloc)?;
-    let again = makes_a_coin_again(alloc)?;
-    let nothing = changes_nothing(alloc)?;
-    Ok([hundred, again, nothing, touches_what_is_removed(alloc)?])
+fn moves_back<W: Threads + Sync>(rt: &W, alloc: Global) -> Result<[bool; 4], Fail> {
+    let hundred = takes_a_hundred(rt, alloc)?;
+    let again = makes_a_coin_again(rt, alloc)?;
+    let nothing = changes_nothing(rt, alloc)?;
+    Ok([hundred, again, nothing, touches_what_is_removed(rt, alloc)?])
 }
 
 #[test]
 fn takes_blocks_back(rt: HostRuntime) -> Result<(), Fail> {
-    let rights = moves_back(rt.alloc())?;
+    let rights = moves_back(&rt, rt.alloc())?;
     assert_eq!(rt; rights, [true; 4]);
     Ok(())
 }

@@ -15,6 +15,8 @@ mod headers;
 #[cfg(test)]
 mod json;
 #[cfg(test)]
+mod made;
+#[cfg(test)]
 mod many;
 #[cfg(test)]
 mod merkle;

@@ -112,18 +112,20 @@ fn blocks_of_a_batch_meet(rt: HostRuntime) -> Result<(), Fail> {
     Ok(())
 }
 
-// Any pace that is lent is one.
-fn enter_both(pace: &(dyn Pace + Sync)) {
-    pace.enter(0);
-    pace.enter(1);
+// Two pieces begin, one after the other. Any pace that is lent is one.
+fn enter_both(pace: &(dyn Pace + Sync), first: u64, second: u64) {
+    pace.enter(first);
+    pace.enter(second);
 }
 
 #[test]
 fn one_thread_never_meets(rt: HostRuntime) {
-    let pace = MeetPace::new(0, 1, 1_000);
-    enter_both(&pace);
-    enter_both(&pace);
-    assert!(rt; !pace.met());
+    for (first, second) in [(0, 1), (1, 0)] {
+        let pace = MeetPace::new(0, 1, 1_000);
+        enter_both(&pace, first, second);
+        enter_both(&pace, second, first);
+        assert!(rt; !pace.met(), "{first} first");
+    }
 }
 
 #[test]

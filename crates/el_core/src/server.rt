@@ -30,12 +30,13 @@ use el_base::{Hash32, OutOfMemory};
 use el_chain::Touched;
 use el_lines::{LineBuffer, LineEvent, NODE_LINE_LIMIT, answer_text};
 use el_model::Ledger;
-use el_outside::{Archive, Arrival, CLIENT_LIMIT, Peer, Why};
+use el_outside::{Archive, Arrival, CLIENT_LIMIT, Pace, Peer, Why};
 use el_side::Holdings;
 use el_sync::{Ahead, StepFault, move_next, order};
 use std::alloc::Global;
 use std::marker::Model;
 use std::mem;
+use std::thread::Threads;
 
 /// The server's state: the ledger that it answers from, the headers that were found and the unconfirmed set,
 /// the node's bytes and what its last tip line is still to do, its clients, which of them speaks, a client
@@ -215,7 +216,12 @@ impl<G: Ledger> Server<G> {
     }
 
     // The next move of the node's last tip line.
-    fn turn_ahead<A: Archive>(&mut self, archive: &mut A) -> Result<Outs, StepFault>
+    fn turn_ahead<W: Threads + Sync, A: Archive>(
+        &mut self,
+        rt: &W,
+        archive: &mut A,
+        pace: &(dyn Pace + Sync),
+    ) -> Result<Outs, StepFault>
         requires live { G.is_live self.old.ledger }
         requires some { self.old.ahead ≢ [] }
         ensures moving { let of = ghosts ⟦<G as Ledger>⟧ ⟦<A as Archive>⟧ in
@@ -247,11 +253,13 @@ impl<G: Ledger> Server<G> {
         };
         let rest = mem::replace(&mut self.ahead, Ahead::none(self.alloc));
         match move_next(
+            rt,
             self.alloc,
             &mut self.ledger,
             &mut self.holdings,
             rest,
             archive,
+            pace,
         ) {
             Ok(step) => {
                 let Ok(()) = touch(&self.clients, &mut self.touched, &step.moved, &step.changed)
@@ -276,7 +284,13 @@ impl<G: Ledger> Server<G> {
     }
 
     // A line of the node, which was read: it begins, and is worked.
-    fn turn_node<A: Archive>(&mut self, met: LineEvent, archive: &mut A) -> Result<Outs, StepFault>
+    fn turn_node<W: Threads + Sync, A: Archive>(
+        &mut self,
+        rt: &W,
+        met: LineEvent,
+        archive: &mut A,
+        pace: &(dyn Pace + Sync),
+    ) -> Result<Outs, StepFault>
         requires live { G.is_live self.old.ledger }
         requires still { self.old.ahead ≡ [] }
         requires told { waiting self.old.clients ≡ [] }
@@ -316,11 +330,13 @@ impl<G: Ledger> Server<G> {
         };
         self.begin();
         match order(
+            rt,
             self.alloc,
             &mut self.ledger,
             &mut self.holdings,
             archive,
             met,
+            pace,
         ) {
             Ok(step) => {
                 let Ok(()) = touch(&self.clients, &mut self.touched, &step.moved, &step.changed)
@@ -477,13 +493,19 @@ impl<G: Ledger> Server<G> {
 
     /// Does the next piece of work: the next move of the node's last tip line, the telling of a client after
     /// it, the node's next line, or what is left of the client that speaks. None exactly where none is left
-    /// to do, and everyone was told; the start of a line, which is kept until its end comes, is no work.
+    /// to do, and everyone was told; the start of a line, which is kept until its end comes, is no work. The
+    /// blocks of a move are prepared in threads of the runtime, at the pace that is lent.
     ///
     /// # Errors
     ///
     /// In a line of the node: `StepFault::DiskFailed` where a call on the index's device failed, and
     /// `StepFault::Memory` where memory runs out.
-    pub fn turn<A: Archive>(&mut self, archive: &mut A) -> Result<Option<Outs>, StepFault>
+    pub fn turn<W: Threads + Sync, A: Archive>(
+        &mut self,
+        rt: &W,
+        archive: &mut A,
+        pace: &(dyn Pace + Sync),
+    ) -> Result<Option<Outs>, StepFault>
         requires live { G.is_live self.old.ledger }
         // It takes the next event, or does what an event left, as `Run` allows.
         ensures step { (world : World) (left : List Event) → Stands G.stands self.old world left
@@ -530,7 +552,7 @@ impl<G: Ledger> Server<G> {
             → RoseBy (G.faults self.old.ledger) (G.faults self.new.ledger) 1 }
     {
         if !self.ahead.is_empty() {
-            return match self.turn_ahead(archive) {
+            return match self.turn_ahead(rt, archive, pace) {
                 Ok(outs) => Ok(Some(outs)),
                 Err(fault) => Err(fault),
             };
@@ -541,7 +563,7 @@ impl<G: Ledger> Server<G> {
         match self.next_line() {
             Err(_) => Err(StepFault::Memory),
             Ok(None) => Ok(self.turn_peers(archive)),
-            Ok(Some(met)) => match self.turn_node(met, archive) {
+            Ok(Some(met)) => match self.turn_node(rt, met, archive, pace) {
                 Ok(outs) => Ok(Some(outs)),
                 Err(fault) => Err(fault),
             },

@@ -12,6 +12,7 @@ use el_trials::{
 };
 use std::alloc::Global;
 use std::test::Fail;
+use std::thread::Threads;
 
 // A file that has other bytes after so many calls. It tells nothing, since no archive that tells may do so.
 #[derive(Drop)]
@@ -75,9 +76,9 @@ impl Archive for ChangingFile {
 }
 
 // How often the archive is called before the first arrival, over the two first blocks.
-fn calls_of_scan(alloc: Global) -> Result<u64, Fail> {
+fn calls_of_scan<W: Threads + Sync>(rt: &W, alloc: Global) -> Result<u64, Fail> {
     let files = files_of(alloc, Files::Branch(2))?;
-    let found = call_failing(alloc, SERVE, files, Vec::new(alloc), NONE_FAILS)?;
+    let found = call_failing(rt, alloc, SERVE, files, Vec::new(alloc), NONE_FAILS)?;
     Ok(found.archive_calls)
 }
 
@@ -88,22 +89,31 @@ fn two_blocks(alloc: Global) -> Result<Vec<u8>, Fail> {
 }
 
 // The file of the two first blocks, which has other bytes after the scan.
-fn changing(alloc: Global, after: Vec<u8>) -> Result<ChangingFile, Fail> {
+fn changing<W: Threads + Sync>(
+    rt: &W,
+    alloc: Global,
+    after: Vec<u8>,
+) -> Result<ChangingFile, Fail> {
     let before = two_blocks(alloc)?;
     Ok(ChangingFile {
         before,
         after,
-        calls_before: calls_of_scan(alloc)?,
+        calls_before: calls_of_scan(rt, alloc)?,
         calls: 0,
         made: GhostCount::new(),
     })
 }
 
 // What the node says, and what it is answered, over a file whose second block was found.
-fn answers_after_change(alloc: Global, after: Vec<u8>, lines: &str) -> Result<String, Fail> {
-    let mut archive = changing(alloc, after)?;
+fn answers_after_change<W: Threads + Sync>(
+    rt: &W,
+    alloc: Global,
+    after: Vec<u8>,
+    lines: &str,
+) -> Result<String, Fail> {
+    let mut archive = changing(rt, alloc, after)?;
     let mut link = steady_link(alloc, [Says(0, lines)].as_slice())?;
-    let _status = serve_over(alloc, SERVE, &mut archive, &mut link, TURNS)?;
+    let _status = serve_over(rt, alloc, SERVE, &mut archive, &mut link, TURNS)?;
     transcript(alloc, link.sent(), link.closed())
 }
 
@@ -132,16 +142,22 @@ fn changed(alloc: Global, place: usize, len: usize) -> Result<Vec<u8>, Fail> {
 }
 
 // Whether the node is answered so over a file that changes so.
-fn is_answered(alloc: Global, place: usize, len: usize, want: &str) -> Result<bool, Fail> {
+fn is_answered<W: Threads + Sync>(
+    rt: &W,
+    alloc: Global,
+    place: usize,
+    len: usize,
+    want: &str,
+) -> Result<bool, Fail> {
     let after = changed(alloc, place, len)?;
-    let found = answers_after_change(alloc, after, "tip {a1}\n")?;
+    let found = answers_after_change(rt, alloc, after, "tip {a1}\n")?;
     Ok(found.as_str() == named(alloc, want)?.as_str())
 }
 
 #[test]
 fn a_file_that_changes(rt: HostRuntime) -> Result<(), Fail> {
     for (place, len, want) in CHANGES {
-        let is_answered = is_answered(rt.alloc(), *place, *len, want)?;
+        let is_answered = is_answered(&rt, rt.alloc(), *place, *len, want)?;
         assert!(rt; is_answered, "{place} {len}");
     }
     Ok(())
@@ -149,9 +165,9 @@ fn a_file_that_changes(rt: HostRuntime) -> Result<(), Fail> {
 
 // An archive of two blocks, the second of which comes with the first call after those of the scan, and in
 // which this room is made ahead.
-fn growing(alloc: Global, rooms: &[Room]) -> Result<MemArchive, Fail> {
+fn growing<W: Threads + Sync>(rt: &W, alloc: Global, rooms: &[Room]) -> Result<MemArchive, Fail> {
     let later = [Later {
-        call: calls_of_scan(alloc)?.saturating_add(1),
+        call: calls_of_scan(rt, alloc)?.saturating_add(1),
         file: 0,
         from: 160,
     }];
@@ -162,11 +178,15 @@ fn growing(alloc: Global, rooms: &[Room]) -> Result<MemArchive, Fail> {
 }
 
 // Serves the node over such an archive, which moves to the second block once it is told where that is.
-fn expect_second(alloc: Global, archive: &mut MemArchive) -> Result<(), Fail> {
+fn expect_second<W: Threads + Sync>(
+    rt: &W,
+    alloc: Global,
+    archive: &mut MemArchive,
+) -> Result<(), Fail> {
     let given = "tip {a1}\nblock 0 160\nblock 0 160\ntip {a1}\n";
     let want = "0 refused unknown {a1}\n0 block {a1}\n0 block {a1}\n0 at {a1} 1\n";
     let mut link = steady_link(alloc, [Says(0, given)].as_slice())?;
-    let status = serve_over(alloc, SERVE, archive, &mut link, TURNS)?;
+    let status = serve_over(rt, alloc, SERVE, archive, &mut link, TURNS)?;
     let found = transcript(alloc, link.sent(), link.closed())?;
     let wanted = (Status::Ended, want);
     expect_ended(alloc, (status, found.as_str()), wanted)
@@ -175,8 +195,8 @@ fn expect_second(alloc: Global, archive: &mut MemArchive) -> Result<(), Fail> {
 #[test]
 fn a_file_that_grows(rt: HostRuntime) -> Result<(), Fail> {
     let alloc = rt.alloc();
-    let mut archive = growing(alloc, &[])?;
-    expect_second(alloc, &mut archive)?;
+    let mut archive = growing(&rt, alloc, &[])?;
+    expect_second(&rt, alloc, &mut archive)?;
     assert!(rt; archive.faults() == 0);
     Ok(())
 }
@@ -190,8 +210,8 @@ fn a_file_that_is_made_ahead(rt: HostRuntime) -> Result<(), Fail> {
         file: 0,
         size: 1_048_576,
     };
-    let mut archive = growing(alloc, &[room])?;
-    expect_second(alloc, &mut archive)?;
+    let mut archive = growing(&rt, alloc, &[room])?;
+    expect_second(&rt, alloc, &mut archive)?;
     assert!(rt; archive.faults() == 0);
     Ok(())
 }

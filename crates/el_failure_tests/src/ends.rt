@@ -11,6 +11,7 @@ use el_trials::{
 };
 use std::alloc::{AllocError, Global};
 use std::test::Fail;
+use std::thread::Threads;
 
 // Words of no call.
 const OTHER_WORDS: &[&str] = &[
@@ -40,11 +41,11 @@ const OTHER_WORDS: &[&str] = &[
 ];
 
 // Whether a call with these words ends at once.
-fn is_refused(alloc: Global, words: &str) -> Result<bool, Fail> {
+fn is_refused<W: Threads + Sync>(rt: &W, alloc: Global, words: &str) -> Result<bool, Fail> {
     let steps = [Opens(1), Says(1, "{}\n"), Says(0, "x\n")];
     let steps = coming(alloc, steps.as_slice(), 1_000)?;
     let files = files_of(alloc, Files::Branch(1))?;
-    let found = call_failing(alloc, words, files, steps, NONE_FAILS)?;
+    let found = call_failing(rt, alloc, words, files, steps, NONE_FAILS)?;
     let is_silent = found.text.as_str() == "" && found.archive_calls == 0;
     Ok(is_silent && found.status == Status::Usage)
 }
@@ -52,7 +53,7 @@ fn is_refused(alloc: Global, words: &str) -> Result<bool, Fail> {
 #[test]
 fn other_words(rt: HostRuntime) -> Result<(), Fail> {
     for words in OTHER_WORDS {
-        assert!(rt; is_refused(rt.alloc(), words)?, "{words}");
+        assert!(rt; is_refused(&rt, rt.alloc(), words)?, "{words}");
     }
     Ok(())
 }
@@ -86,7 +87,8 @@ const TURNS: &[(&[Step<'static>], u64, Status, &str)] = &[
 ];
 
 // Whether a call of which so many turns may be made ends so and sends this, and nothing fails.
-fn ends_after(
+fn ends_after<W: Threads + Sync>(
+    rt: &W,
     alloc: Global,
     words: &str,
     steps: &[Step<'static>],
@@ -99,7 +101,7 @@ fn ends_after(
         turns,
         ..NONE_FAILS
     };
-    let found = call_failing(alloc, words, files, steps, fails)?;
+    let found = call_failing(rt, alloc, words, files, steps, fails)?;
     let is_sent = found.text.as_str() == named(alloc, wanted.1)?.as_str();
     Ok(is_sent && found.status == wanted.0 && found.faults == (0, 0))
 }
@@ -108,7 +110,7 @@ fn ends_after(
 fn turns_that_end(rt: HostRuntime) -> Result<(), Fail> {
     for (steps, turns, status, sent) in TURNS {
         for words in [SERVE, ONCE] {
-            let has_ended = ends_after(rt.alloc(), words, steps, *turns, (*status, *sent))?;
+            let has_ended = ends_after(&rt, rt.alloc(), words, steps, *turns, (*status, *sent))?;
             assert!(rt; has_ended, "{turns} {words}");
         }
     }
@@ -171,18 +173,23 @@ const LEAVING: &[(&[Step<'static>], u64, Status, &str)] = &[
 ];
 
 // How the run ends where this send fails, and what is sent and closed.
-fn leave(alloc: Global, steps: &[Step<'static>], send: u64) -> Result<(Status, String), Fail> {
+fn leave<W: Threads + Sync>(
+    rt: &W,
+    alloc: Global,
+    steps: &[Step<'static>],
+    send: u64,
+) -> Result<(Status, String), Fail> {
     let steps = coming(alloc, steps, 1_000)?;
     let files = files_of(alloc, Files::Branch(1))?;
     let fails = Failing { send, ..NONE_FAILS };
-    let found = call_failing(alloc, SERVE, files, steps, fails)?;
+    let found = call_failing(rt, alloc, SERVE, files, steps, fails)?;
     Ok((found.status, found.text))
 }
 
 #[test]
 fn peers_that_leave(rt: HostRuntime) -> Result<(), Fail> {
     for (steps, send, status, sent) in LEAVING {
-        let (ended, text) = leave(rt.alloc(), steps, *send)?;
+        let (ended, text) = leave(&rt, rt.alloc(), steps, *send)?;
         expect_ended(rt.alloc(), (ended, text.as_str()), (*status, *sent))?;
     }
     Ok(())
@@ -245,7 +252,7 @@ const CHAINS: &[(&str, Files, Status)] = &[
 fn files_and_their_chains(rt: HostRuntime) -> Result<(), Fail> {
     for (words, files, status) in CHAINS {
         let wanted = (*status, "");
-        expect_sends(rt.alloc(), words, *files, &[Opens(1)], wanted)?;
+        expect_sends(&rt, rt.alloc(), words, *files, &[Opens(1)], wanted)?;
     }
     Ok(())
 }
@@ -284,15 +291,21 @@ const LENGTHS: &[(&str, Peer, usize, &str)] = &[
 ];
 
 // How a call ends in which that line comes, and what is sent and closed.
-fn hear(alloc: Global, words: &str, peer: Peer, len: usize) -> Result<(Status, String), Fail> {
+fn hear<W: Threads + Sync>(
+    rt: &W,
+    alloc: Global,
+    words: &str,
+    peer: Peer,
+    len: usize,
+) -> Result<(Status, String), Fail> {
     let steps = long_line(alloc, peer, len)?;
-    call_steady(alloc, words, files_of(alloc, Files::Branch(1))?, steps)
+    call_steady(rt, alloc, words, files_of(alloc, Files::Branch(1))?, steps)
 }
 
 #[test]
 fn longest_lines(rt: HostRuntime) -> Result<(), Fail> {
     for (words, peer, len, want) in LENGTHS {
-        let (status, text) = hear(rt.alloc(), words, *peer, *len)?;
+        let (status, text) = hear(&rt, rt.alloc(), words, *peer, *len)?;
         let wanted = (Status::Ended, *want);
         expect_ended(rt.alloc(), (status, text.as_str()), wanted)?;
     }

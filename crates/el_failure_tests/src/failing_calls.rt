@@ -7,6 +7,7 @@ use el_trials::{
 use std::alloc::Global;
 use std::process::Abort;
 use std::test::Fail;
+use std::thread::Threads;
 
 // A small run over two blocks.
 const STEPS: &[Step<'static>] = &[
@@ -32,20 +33,26 @@ const TEXTS: &[&str] = &[
 type Ending = (Status, &'static [usize], (u64, u64));
 
 // A run over two blocks of which these calls fail.
-fn run(
+fn run<W: Threads + Sync>(
+    rt: &W,
     alloc: Global,
     words: &str,
     steps: &[Step<'static>],
     fails: Failing,
 ) -> Result<Counted, Fail> {
     let files = files_of(alloc, Files::Branch(2))?;
-    call_failing(alloc, words, files, coming(alloc, steps, 1_000)?, fails)
+    call_failing(rt, alloc, words, files, coming(alloc, steps, 1_000)?, fails)
 }
 
 // How often the archive is called in a run in which nothing fails.
-fn archive_calls(alloc: Global, words: &str, steps: &[Step<'static>]) -> Result<u64, Fail> {
+fn archive_calls<W: Threads + Sync>(
+    rt: &W,
+    alloc: Global,
+    words: &str,
+    steps: &[Step<'static>],
+) -> Result<u64, Fail> {
     Ok(
-        run(alloc, words, steps, NONE_FAILS)?
+        run(rt, alloc, words, steps, NONE_FAILS)?
             .archive_calls
             .min(1_000),
     )
@@ -62,10 +69,16 @@ fn joined(alloc: Global, numbers: &[usize]) -> Result<String, Fail> {
 }
 
 // Whether the small run ends so where these calls fail.
-fn ends_so(alloc: Global, words: &str, fails: Failing, ending: Ending) -> Result<bool, Fail> {
+fn ends_so<W: Threads + Sync>(
+    rt: &W,
+    alloc: Global,
+    words: &str,
+    fails: Failing,
+    ending: Ending,
+) -> Result<bool, Fail> {
     let (status, texts, faults) = ending;
     let want = joined(alloc, texts)?;
-    let found = run(alloc, words, STEPS, fails)?;
+    let found = run(rt, alloc, words, STEPS, fails)?;
     let is_sent = found.text.as_str() == want.as_str();
     Ok(is_sent && found.status == status && found.faults == faults)
 }
@@ -82,8 +95,8 @@ const SOUND_ONCE: Ending = (Status::Ended, &[4, 4], (0, 0));
 
 // Asserts that the small run ends so where a call of the archive after the first number and up to the second
 // fails.
-fn assert_each<A: Abort>(
-    rt: &A,
+fn assert_each<W: Abort + Threads + Sync>(
+    rt: &W,
     alloc: Global,
     words: &str,
     calls: (u64, u64),
@@ -94,24 +107,27 @@ fn assert_each<A: Abort>(
             archive,
             ..NONE_FAILS
         };
-        assert!(rt; ends_so(alloc, words, fails, ending)?, "{words} {archive}");
+        assert!(rt;
+            ends_so(rt, alloc, words, fails, ending)?,
+            "{words} {archive}"
+        );
     }
     Ok(())
 }
 
 // How often `serve` calls the archive up to the first arrival, to the end of the node's first line, and to
 // that of its second.
-fn calls_of_serve(alloc: Global) -> Result<(u64, u64, u64), Fail> {
-    let scanned = archive_calls(alloc, SERVE, &[])?;
-    let looked = archive_calls(alloc, SERVE, &[Says(0, "block 0 0\n")])?;
-    let moved = archive_calls(alloc, SERVE, STEPS)?;
+fn calls_of_serve<W: Threads + Sync>(rt: &W, alloc: Global) -> Result<(u64, u64, u64), Fail> {
+    let scanned = archive_calls(rt, alloc, SERVE, &[])?;
+    let looked = archive_calls(rt, alloc, SERVE, &[Says(0, "block 0 0\n")])?;
+    let moved = archive_calls(rt, alloc, SERVE, STEPS)?;
     Ok((scanned, looked, moved))
 }
 
 #[test]
 fn each_call_of_the_archive(rt: HostRuntime) -> Result<(), Fail> {
     let alloc = rt.alloc();
-    let (scanned, looked, moved) = calls_of_serve(alloc)?;
+    let (scanned, looked, moved) = calls_of_serve(&rt, alloc)?;
     assert!(rt; 0 < scanned && scanned < looked && looked < moved);
     assert_each(&rt, alloc, SERVE, (0, scanned), FAILED)?;
     assert_each(&rt, alloc, SERVE, (scanned, looked), IN_BLOCK)?;
@@ -122,7 +138,7 @@ fn each_call_of_the_archive(rt: HostRuntime) -> Result<(), Fail> {
 #[test]
 fn each_call_of_the_archive_once(rt: HostRuntime) -> Result<(), Fail> {
     let alloc = rt.alloc();
-    let read = archive_calls(alloc, ONCE, STEPS)?;
+    let read = archive_calls(&rt, alloc, ONCE, STEPS)?;
     assert!(rt; 0 < read);
     assert_each(&rt, alloc, ONCE, (0, read), FAILED)?;
     assert_each(&rt, alloc, ONCE, (read, read.saturating_add(1)), SOUND_ONCE)
@@ -156,7 +172,7 @@ fn each_call_of_the_link(rt: HostRuntime) -> Result<(), Fail> {
             ..NONE_FAILS
         };
         assert!(rt;
-            ends_so(rt.alloc(), SERVE, fails, *ending)?,
+            ends_so(&rt, rt.alloc(), SERVE, fails, *ending)?,
             "{next} {send}"
         );
     }

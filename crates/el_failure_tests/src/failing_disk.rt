@@ -5,6 +5,7 @@ use el_trials::Step::Says;
 use el_trials::{Files, Life, NO_FILES, SERVE, life_on, named};
 use std::alloc::Global;
 use std::test::Fail;
+use std::thread::Threads;
 
 // A small run: an opening and two moves.
 const MOVES: &str = "tip {a1}\ntip {a3}\n";
@@ -22,7 +23,12 @@ const CHAINS: &[&str] = &[
 ];
 
 // The small run on a fresh disk of which this call fails.
-fn run(alloc: Global, call: u64, residue: Residue) -> Result<Life, Fail> {
+fn run<W: Threads + Sync>(
+    rt: &W,
+    alloc: Global,
+    call: u64,
+    residue: Residue,
+) -> Result<Life, Fail> {
     let failing = FailingCalls {
         listed: Vec::from_slice(alloc, &[call])?,
         from: None,
@@ -30,6 +36,7 @@ fn run(alloc: Global, call: u64, residue: Residue) -> Result<Life, Fail> {
     };
     let disk = MemDisk::new(alloc, failing);
     life_on(
+        rt,
         alloc,
         SERVE,
         disk,
@@ -57,9 +64,14 @@ fn has_chain(alloc: Global, text: &str, number: usize) -> Result<bool, Fail> {
 }
 
 // Whether an index alone on the disk has the chain of that number or the one after it.
-fn has_either(alloc: Global, disk: MemDisk, told: usize) -> Result<bool, Fail> {
+fn has_either<W: Threads + Sync>(
+    rt: &W,
+    alloc: Global,
+    disk: MemDisk,
+    told: usize,
+) -> Result<bool, Fail> {
     let steps = [Says(0, ASKS)];
-    let next = life_on(alloc, SERVE, disk, NO_FILES, steps.as_slice())?;
+    let next = life_on(rt, alloc, SERVE, disk, NO_FILES, steps.as_slice())?;
     let text = next.text.as_str();
     let is_last = has_chain(alloc, text, told)? || has_chain(alloc, text, told.saturating_add(1))?;
     Ok(next.status == Status::Ended && is_last)
@@ -67,17 +79,22 @@ fn has_either(alloc: Global, disk: MemDisk, told: usize) -> Result<bool, Fail> {
 
 // Whether the small run ends or goes on where this call fails, and the index then has the chain that was
 // told last or the one after it.
-fn is_kept(alloc: Global, call: u64, residue: Residue) -> Result<bool, Fail> {
-    let life = run(alloc, call, residue)?;
+fn is_kept<W: Threads + Sync>(
+    rt: &W,
+    alloc: Global,
+    call: u64,
+    residue: Residue,
+) -> Result<bool, Fail> {
+    let life = run(rt, alloc, call, residue)?;
     let told = moves_told(alloc, life.text.as_str())?;
     let ends = life.status == Status::DiskFailed || life.status == Status::Ended && told == 2;
     let has_failed = life.disk.faults() == 1 && life.disk.starved() == 0;
-    Ok(has_either(alloc, life.disk, told)? && ends && has_failed)
+    Ok(has_either(rt, alloc, life.disk, told)? && ends && has_failed)
 }
 
 // How many calls of the disk the small run makes where none fails, and how many moves are told.
-fn calls_of_sound(alloc: Global) -> Result<(u64, usize), Fail> {
-    let sound = run(alloc, 0, Residue::Nothing)?;
+fn calls_of_sound<W: Threads + Sync>(rt: &W, alloc: Global) -> Result<(u64, usize), Fail> {
+    let sound = run(rt, alloc, 0, Residue::Nothing)?;
     if sound.status != Status::Ended || sound.disk.faults() != 0 {
         return Err(Fail::new("the run failed"));
     }
@@ -87,13 +104,18 @@ fn calls_of_sound(alloc: Global) -> Result<(u64, usize), Fail> {
 
 // The first call at which the run doesn't end as it must, of each third call from this one on, where so much
 // of what fails is done.
-fn wrong_call(alloc: Global, first: u64, residue: Residue) -> Result<Option<u64>, Fail> {
-    let (calls, told) = calls_of_sound(alloc)?;
+fn wrong_call<W: Threads + Sync>(
+    rt: &W,
+    alloc: Global,
+    first: u64,
+    residue: Residue,
+) -> Result<Option<u64>, Fail> {
+    let (calls, told) = calls_of_sound(rt, alloc)?;
     if told != 2 {
         return Err(Fail::new("the run ends early"));
     }
     for call in 1..=calls {
-        if call % 3 == first && !is_kept(alloc, call, residue)? {
+        if call % 3 == first && !is_kept(rt, alloc, call, residue)? {
             return Ok(Some(call));
         }
     }
@@ -102,36 +124,36 @@ fn wrong_call(alloc: Global, first: u64, residue: Residue) -> Result<Option<u64>
 
 #[test]
 fn each_third_call_of_the_disk(rt: HostRuntime) -> Result<(), Fail> {
-    assert_eq!(rt; wrong_call(rt.alloc(), 0, Residue::Nothing)?, None);
+    assert_eq!(rt; wrong_call(&rt, rt.alloc(), 0, Residue::Nothing)?, None);
     Ok(())
 }
 
 #[test]
 fn each_call_after_a_third_of_the_disk(rt: HostRuntime) -> Result<(), Fail> {
-    assert_eq!(rt; wrong_call(rt.alloc(), 1, Residue::Nothing)?, None);
+    assert_eq!(rt; wrong_call(&rt, rt.alloc(), 1, Residue::Nothing)?, None);
     Ok(())
 }
 
 #[test]
 fn each_call_before_a_third_of_the_disk(rt: HostRuntime) -> Result<(), Fail> {
-    assert_eq!(rt; wrong_call(rt.alloc(), 2, Residue::Nothing)?, None);
+    assert_eq!(rt; wrong_call(&rt, rt.alloc(), 2, Residue::Nothing)?, None);
     Ok(())
 }
 
 #[test]
 fn each_third_call_that_is_done_of_the_disk(rt: HostRuntime) -> Result<(), Fail> {
-    assert_eq!(rt; wrong_call(rt.alloc(), 0, Residue::All)?, None);
+    assert_eq!(rt; wrong_call(&rt, rt.alloc(), 0, Residue::All)?, None);
     Ok(())
 }
 
 #[test]
 fn each_call_after_a_third_that_is_done(rt: HostRuntime) -> Result<(), Fail> {
-    assert_eq!(rt; wrong_call(rt.alloc(), 1, Residue::All)?, None);
+    assert_eq!(rt; wrong_call(&rt, rt.alloc(), 1, Residue::All)?, None);
     Ok(())
 }
 
 #[test]
 fn each_call_before_a_third_that_is_done(rt: HostRuntime) -> Result<(), Fail> {
-    assert_eq!(rt; wrong_call(rt.alloc(), 2, Residue::All)?, None);
+    assert_eq!(rt; wrong_call(&rt, rt.alloc(), 2, Residue::All)?, None);
     Ok(())
 }

@@ -9,6 +9,7 @@ use el_trials::{
 use std::alloc::Global;
 use std::process::Abort;
 use std::test::Fail;
+use std::thread::Threads;
 
 // A run: what comes, what is sent where no call fails, and how much of that before the first arrival, before
 // the second, and so on.
@@ -139,9 +140,21 @@ const CHAINS: &[&str] = &[
 ];
 
 // The run where these calls fail.
-fn played(alloc: Global, run: &Run, fails: Failing) -> Result<Counted, Fail> {
+fn played<W: Threads + Sync>(
+    rt: &W,
+    alloc: Global,
+    run: &Run,
+    fails: Failing,
+) -> Result<Counted, Fail> {
     let files = files_of(alloc, Files::Forks)?;
-    call_failing(alloc, SERVE, files, coming(alloc, run.steps, 1_000)?, fails)
+    call_failing(
+        rt,
+        alloc,
+        SERVE,
+        files,
+        coming(alloc, run.steps, 1_000)?,
+        fails,
+    )
 }
 
 // The first so many messages of those that are sent where no call fails.
@@ -165,8 +178,8 @@ fn chains_in(run: &Run, count: usize) -> usize {
 }
 
 // The chain that the life after finds, by its number.
-fn chain_on(alloc: Global, disk: MemDisk) -> Result<usize, Fail> {
-    let life = life_on(alloc, SERVE, disk, NO_FILES, [Says(0, ASKS)].as_slice())?;
+fn chain_on<W: Threads + Sync>(rt: &W, alloc: Global, disk: MemDisk) -> Result<usize, Fail> {
+    let life = life_on(rt, alloc, SERVE, disk, NO_FILES, [Says(0, ASKS)].as_slice())?;
     for (number, chain) in CHAINS.iter().enumerate() {
         if life.text.as_str() == named(alloc, *chain)?.as_str() {
             return Ok(number);
@@ -181,7 +194,8 @@ fn faults_of(found: &Counted) -> (u64, u64, u64) {
 }
 
 // Whether the run ended so, had sent this, and left the chain of that number.
-fn is_ended(
+fn is_ended<W: Threads + Sync>(
+    rt: &W,
     alloc: Global,
     found: Counted,
     status: Status,
@@ -189,24 +203,30 @@ fn is_ended(
     chain: usize,
 ) -> Result<bool, Fail> {
     let is_sent = found.status == status && found.text.as_str() == text;
-    Ok(chain_on(alloc, found.disk)? == chain && is_sent)
+    Ok(chain_on(rt, alloc, found.disk)? == chain && is_sent)
 }
 
 // Whether the run ends before that arrival, which fails, and has sent so many messages.
-fn ends_at_arrival(alloc: Global, run: &Run, next: u64, count: usize) -> Result<bool, Fail> {
+fn ends_at_arrival<W: Threads + Sync>(
+    rt: &W,
+    alloc: Global,
+    run: &Run,
+    next: u64,
+    count: usize,
+) -> Result<bool, Fail> {
     let text = front(alloc, run, count)?;
-    let found = played(alloc, run, Failing { next, ..NONE_FAILS })?;
+    let found = played(rt, alloc, run, Failing { next, ..NONE_FAILS })?;
     let has_failed = faults_of(&found) == (0, 1, 0);
     let chain = chains_in(run, count);
-    let is_ended = is_ended(alloc, found, Status::LinkFailed, text.as_str(), chain)?;
+    let is_ended = is_ended(rt, alloc, found, Status::LinkFailed, text.as_str(), chain)?;
     Ok(has_failed && is_ended)
 }
 
 // Whether the run sends all where no call fails.
-fn ends_well(alloc: Global, run: &Run) -> Result<bool, Fail> {
+fn ends_well<W: Threads + Sync>(rt: &W, alloc: Global, run: &Run) -> Result<bool, Fail> {
     let text = front(alloc, run, run.sent.len())?;
-    let found = played(alloc, run, NONE_FAILS)?;
-    is_ended(alloc, found, Status::Ended, text.as_str(), 2)
+    let found = played(rt, alloc, run, NONE_FAILS)?;
+    is_ended(rt, alloc, found, Status::Ended, text.as_str(), 2)
 }
 
 #[test]
@@ -216,9 +236,9 @@ fn each_arrival_with_a_set(rt: HostRuntime) -> Result<(), Fail> {
         let mut next = 0u64;
         for count in tried.before {
             next = next.saturating_add(1);
-            assert!(rt; ends_at_arrival(alloc, tried, next, *count)?, "{next}");
+            assert!(rt; ends_at_arrival(&rt, alloc, tried, next, *count)?, "{next}");
         }
-        assert!(rt; ends_well(alloc, tried)?);
+        assert!(rt; ends_well(&rt, alloc, tried)?);
     }
     Ok(())
 }
@@ -272,12 +292,18 @@ fn wanted_after_send(
 }
 
 // Whether the run ends so where the send of that message to this peer fails.
-fn ends_at_send(alloc: Global, run: &Run, sent: usize, peer: &str) -> Result<bool, Fail> {
+fn ends_at_send<W: Threads + Sync>(
+    rt: &W,
+    alloc: Global,
+    run: &Run,
+    sent: usize,
+    peer: &str,
+) -> Result<bool, Fail> {
     let (status, text, chain) = wanted_after_send(alloc, run, sent, peer)?;
     let send = (sent as u64).saturating_add(1);
-    let found = played(alloc, run, Failing { send, ..NONE_FAILS })?;
+    let found = played(rt, alloc, run, Failing { send, ..NONE_FAILS })?;
     let has_failed = faults_of(&found) == (0, 1, 0);
-    let is_ended = is_ended(alloc, found, status, text.as_str(), chain)?;
+    let is_ended = is_ended(rt, alloc, found, status, text.as_str(), chain)?;
     Ok(has_failed && is_ended)
 }
 
@@ -285,7 +311,7 @@ fn ends_at_send(alloc: Global, run: &Run, sent: usize, peer: &str) -> Result<boo
 fn each_send_with_a_set(rt: HostRuntime) -> Result<(), Fail> {
     for tried in RUNS {
         for (sent, line) in tried.sent.iter().enumerate() {
-            let is_ended = ends_at_send(rt.alloc(), tried, sent, peer_of(*line))?;
+            let is_ended = ends_at_send(&rt, rt.alloc(), tried, sent, peer_of(*line))?;
             assert!(rt; is_ended, "{sent}");
         }
     }
@@ -303,32 +329,44 @@ fn place_of(alloc: Global, text: &str, place: usize) -> Result<usize, Fail> {
 }
 
 // Whether the run ended as the one at that place.
-fn is_ended_at(alloc: Global, found: Counted, place: usize) -> Result<bool, Fail> {
+fn is_ended_at<W: Threads + Sync>(
+    rt: &W,
+    alloc: Global,
+    found: Counted,
+    place: usize,
+) -> Result<bool, Fail> {
     let (status, text, chain) = ARCHIVE_FAILS.get(place).copied().ok_or("no such text")?;
     let text = named(alloc, text)?;
-    is_ended(alloc, found, status, text.as_str(), chain)
+    is_ended(rt, alloc, found, status, text.as_str(), chain)
 }
 
 // Whether a run of which that call of the archive fails ends so, and its place. The one before had this place
 // or the one before it: calls of the opening come first, then those of each line.
-fn ends_at_call(alloc: Global, archive: u64, place: usize) -> Result<(bool, usize), Fail> {
+fn ends_at_call<W: Threads + Sync>(
+    rt: &W,
+    alloc: Global,
+    archive: u64,
+    place: usize,
+) -> Result<(bool, usize), Fail> {
     let fails = Failing {
         archive,
         ..NONE_FAILS
     };
-    let found = played(alloc, &ASKING, fails)?;
+    let found = played(rt, alloc, &ASKING, fails)?;
     let has_failed = faults_of(&found) == (1, 0, 0);
     let place = place_of(alloc, found.text.as_str(), place)?;
-    Ok((is_ended_at(alloc, found, place)? && has_failed, place))
+    Ok((is_ended_at(rt, alloc, found, place)? && has_failed, place))
 }
 
 #[test]
 fn each_call_of_the_archive_with_a_set(rt: HostRuntime) -> Result<(), Fail> {
     let alloc = rt.alloc();
-    let all = played(alloc, &ASKING, NONE_FAILS)?.archive_calls.min(1_000);
+    let all = played(&rt, alloc, &ASKING, NONE_FAILS)?
+        .archive_calls
+        .min(1_000);
     let mut place = 0usize;
     for archive in 1..=all {
-        let (is_ended, next) = ends_at_call(alloc, archive, place)?;
+        let (is_ended, next) = ends_at_call(&rt, alloc, archive, place)?;
         assert!(rt; is_ended, "{archive}");
         place = next;
     }
@@ -348,7 +386,12 @@ fn count_sent(alloc: Global, run: &Run, text: &str) -> Result<Option<usize>, Fai
 
 // How many chains were told before the failure that ended the run, and the chain that is left; nothing, if
 // other messages were sent than the first ones, or the one that is missing next isn't the node's.
-fn left_by(alloc: Global, run: &Run, found: Counted) -> Result<Option<(usize, usize)>, Fail> {
+fn left_by<W: Threads + Sync>(
+    rt: &W,
+    alloc: Global,
+    run: &Run,
+    found: Counted,
+) -> Result<Option<(usize, usize)>, Fail> {
     let Some(count) = count_sent(alloc, run, found.text.as_str())? else {
         return Ok(None);
     };
@@ -356,7 +399,7 @@ fn left_by(alloc: Global, run: &Run, found: Counted) -> Result<Option<(usize, us
     if peer_of(next) != "0" {
         return Ok(None);
     }
-    Ok(Some((chains_in(run, count), chain_on(alloc, found.disk)?)))
+    Ok(Some((chains_in(run, count), chain_on(rt, alloc, found.disk)?)))
 }
 
 // The lines of a text but those that are that client's, or tell that it is closed.
@@ -387,14 +430,19 @@ fn has_failed_for(alloc: Global, run: &Run, text: &str, peer: &str) -> Result<bo
 }
 
 // Whether the run went on to its end, and a query of one client failed.
-fn goes_on(alloc: Global, run: &Run, found: Counted) -> Result<bool, Fail> {
+fn goes_on<W: Threads + Sync>(
+    rt: &W,
+    alloc: Global,
+    run: &Run,
+    found: Counted,
+) -> Result<bool, Fail> {
     let mut clients = 0usize;
     for peer in ["1", "2", "3"] {
         if has_failed_for(alloc, run, found.text.as_str(), peer)? {
             clients = clients.saturating_add(1);
         }
     }
-    Ok(clients == 1 && chain_on(alloc, found.disk)? == 2)
+    Ok(clients == 1 && chain_on(rt, alloc, found.disk)? == 2)
 }
 
 // How many calls of the disk leave each chain, by how many chains were told.
@@ -414,18 +462,24 @@ fn add_one(counts: &mut Counts, told: usize, chain: usize) {
 
 // Counts what that call of the disk leaves, and says whether the run ended as it must: where a node's line or
 // the opening failed, it ended, and where a client's query did, it went on.
-fn count_call(alloc: Global, run: &Run, disk: u64, counts: &mut Counts) -> Result<bool, Fail> {
-    let found = played(alloc, run, Failing { disk, ..NONE_FAILS })?;
+fn count_call<W: Threads + Sync>(
+    rt: &W,
+    alloc: Global,
+    run: &Run,
+    disk: u64,
+    counts: &mut Counts,
+) -> Result<bool, Fail> {
+    let found = played(rt, alloc, run, Failing { disk, ..NONE_FAILS })?;
     if faults_of(&found) != (0, 0, 1) {
         return Ok(false);
     }
     if found.status == Status::Ended {
-        return goes_on(alloc, run, found);
+        return goes_on(rt, alloc, run, found);
     }
     if found.status != Status::DiskFailed {
         return Ok(false);
     }
-    match left_by(alloc, run, found)? {
+    match left_by(rt, alloc, run, found)? {
         Some((told, chain)) => {
             add_one(counts, told, chain);
             Ok(true)
@@ -448,11 +502,16 @@ fn are_all_left(counts: Counts) -> bool {
 
 // What each third call of the disk leaves, up to the first at which the run doesn't end as it must: those
 // whose number leaves that remainder.
-fn count_all(alloc: Global, run: &Run, remainder: u64) -> Result<(Counts, Option<u64>), Fail> {
-    let all = played(alloc, run, NONE_FAILS)?.disk.calls().min(1_000);
+fn count_all<W: Threads + Sync>(
+    rt: &W,
+    alloc: Global,
+    run: &Run,
+    remainder: u64,
+) -> Result<(Counts, Option<u64>), Fail> {
+    let all = played(rt, alloc, run, NONE_FAILS)?.disk.calls().min(1_000);
     let mut counts = Counts { left: [[0; 3]; 3] };
     for disk in 1..=all {
-        if disk % 3 == remainder && !count_call(alloc, run, disk, &mut counts)? {
+        if disk % 3 == remainder && !count_call(rt, alloc, run, disk, &mut counts)? {
             return Ok((counts, Some(disk)));
         }
     }
@@ -460,8 +519,13 @@ fn count_all(alloc: Global, run: &Run, remainder: u64) -> Result<(Counts, Option
 }
 
 // Asserts that the run ends as it must at each of these calls, and that they leave each chain.
-fn assert_left<A: Abort>(rt: &A, alloc: Global, run: &Run, remainder: u64) -> Result<(), Fail> {
-    let (counts, wrong) = count_all(alloc, run, remainder)?;
+fn assert_left<W: Abort + Threads + Sync>(
+    rt: &W,
+    alloc: Global,
+    run: &Run,
+    remainder: u64,
+) -> Result<(), Fail> {
+    let (counts, wrong) = count_all(rt, alloc, run, remainder)?;
     assert_eq!(rt; wrong, None);
     assert!(rt; are_all_left(counts));
     Ok(())

@@ -12,6 +12,7 @@ use el_trials::{
 use el_tx::{Outpoint, Tx, txid};
 use std::alloc::Global;
 use std::test::Fail;
+use std::thread::Threads;
 
 // Blocks at height 1 that are refused, with the nonces 10, 11 and so on: the word for what is wrong, and the
 // block's hash.
@@ -170,17 +171,17 @@ fn wanted(alloc: Global) -> Result<String, Fail> {
 }
 
 // How the call ends, and what is sent.
-fn run(alloc: Global) -> Result<(Status, String), Fail> {
+fn run<W: Threads + Sync>(rt: &W, alloc: Global) -> Result<(Status, String), Fail> {
     let mut steps = Vec::new(alloc);
     say(alloc, &mut steps, 0, given(alloc)?.as_bytes(), 10_000)?;
-    call_steady(alloc, SERVE, only(alloc, file(alloc)?)?, steps)
+    call_steady(rt, alloc, SERVE, only(alloc, file(alloc)?)?, steps)
 }
 
 #[test]
 fn each_word_for_a_bad_block(rt: HostRuntime) -> Result<(), Fail> {
     let alloc = rt.alloc();
     let wanted = wanted(alloc)?;
-    let (status, text) = run(alloc)?;
+    let (status, text) = run(&rt, alloc)?;
     let wanted = (Status::Ended, wanted.as_str());
     expect_ended(alloc, (status, text.as_str()), wanted)?;
     Ok(())

@@ -10,6 +10,7 @@ use el_trials::{
 use std::alloc::Global;
 use std::process::Abort;
 use std::test::Fail;
+use std::thread::Threads;
 
 // One move in the second of two lives: the files, what the node says in both, and what it is answered in the
 // second, line by line, and how many of these lines come before the move's; what it asks of the index alone,
@@ -82,9 +83,10 @@ fn shortened(disk: MemDisk) -> Result<MemDisk, Fail> {
 }
 
 // The disk after the first life, with all that was written synced.
-fn first_life(alloc: Global, moving: &Moving) -> Result<MemDisk, Fail> {
+fn first_life<W: Threads + Sync>(rt: &W, alloc: Global, moving: &Moving) -> Result<MemDisk, Fail> {
     let steps = [Says(0, moving.first)];
     let life = life_on(
+        rt,
         alloc,
         SERVE,
         fresh_disk(alloc),
@@ -95,7 +97,8 @@ fn first_life(alloc: Global, moving: &Moving) -> Result<MemDisk, Fail> {
 }
 
 // The second life, in which each call of the disk fails from this one on.
-fn second_life(
+fn second_life<W: Threads + Sync>(
+    rt: &W,
     alloc: Global,
     moving: &Moving,
     disk: &MemDisk,
@@ -103,6 +106,7 @@ fn second_life(
 ) -> Result<Life, Fail> {
     let disk = disk.crashed(&[], failing_from(alloc, from))?;
     life_on(
+        rt,
         alloc,
         SERVE,
         disk,
@@ -112,9 +116,14 @@ fn second_life(
 }
 
 // How many calls of the disk a second life makes in which none fails.
-fn calls_of(alloc: Global, moving: &Moving, disk: &MemDisk) -> Result<u64, Fail> {
+fn calls_of<W: Threads + Sync>(
+    rt: &W,
+    alloc: Global,
+    moving: &Moving,
+    disk: &MemDisk,
+) -> Result<u64, Fail> {
     Ok(
-        second_life(alloc, moving, disk, None)?
+        second_life(rt, alloc, moving, disk, None)?
             .disk
             .calls()
             .min(1_000),
@@ -152,9 +161,14 @@ fn told_in(alloc: Global, moving: &Moving, life: &Life) -> Result<Option<bool>, 
 }
 
 // Whether the disk has the new chain and not the old one; nothing, if it has neither.
-fn has_new(alloc: Global, moving: &Moving, disk: MemDisk) -> Result<Option<bool>, Fail> {
+fn has_new<W: Threads + Sync>(
+    rt: &W,
+    alloc: Global,
+    moving: &Moving,
+    disk: MemDisk,
+) -> Result<Option<bool>, Fail> {
     let steps = [Says(0, moving.asks)];
-    let life = life_on(alloc, SERVE, disk, NO_FILES, steps.as_slice())?;
+    let life = life_on(rt, alloc, SERVE, disk, NO_FILES, steps.as_slice())?;
     if life.status != Status::Ended {
         return Ok(None);
     }
@@ -168,15 +182,22 @@ fn has_new(alloc: Global, moving: &Moving, disk: MemDisk) -> Result<Option<bool>
 }
 
 // Whether it has the one or the other, and the new one where that was told.
-fn has_either(alloc: Global, moving: &Moving, disk: MemDisk, told: bool) -> Result<bool, Fail> {
-    Ok(match has_new(alloc, moving, disk)? {
+fn has_either<W: Threads + Sync>(
+    rt: &W,
+    alloc: Global,
+    moving: &Moving,
+    disk: MemDisk,
+    told: bool,
+) -> Result<bool, Fail> {
+    Ok(match has_new(rt, alloc, moving, disk)? {
         Some(is_new) => is_new || !told,
         None => false,
     })
 }
 
 // In how many of so many images a crash leaves the new chain; nothing, if it leaves neither in one.
-fn count_new(
+fn count_new<W: Threads + Sync>(
+    rt: &W,
     alloc: Global,
     moving: &Moving,
     disk: &MemDisk,
@@ -185,7 +206,7 @@ fn count_new(
     let mut count = 0u64;
     for image in 0..images {
         let left = after_crash(alloc, disk, image, None)?;
-        match has_new(alloc, moving, left)? {
+        match has_new(rt, alloc, moving, left)? {
             Some(true) => count = count.saturating_add(1),
             Some(false) => {}
             None => return Ok(None),
@@ -203,7 +224,8 @@ enum Left {
 }
 
 // What a crash leaves of the disk; nothing, if it is wrong. All images are one where nothing is unsynced.
-fn left_on(
+fn left_on<W: Threads + Sync>(
+    rt: &W,
     alloc: Global,
     moving: &Moving,
     disk: &MemDisk,
@@ -214,7 +236,7 @@ fn left_on(
     } else {
         IMAGE_COUNT
     };
-    let left = match count_new(alloc, moving, disk, images)? {
+    let left = match count_new(rt, alloc, moving, disk, images)? {
         None => return Ok(None),
         Some(0) => Left::Old,
         Some(count) if count == images => Left::New,
@@ -227,28 +249,33 @@ fn left_on(
 }
 
 // What is left where the second life's disk fails at this call; nothing, if that is wrong.
-fn left_at(
+fn left_at<W: Threads + Sync>(
+    rt: &W,
     alloc: Global,
     moving: &Moving,
     disk: &MemDisk,
     call: u64,
 ) -> Result<Option<Left>, Fail> {
-    let life = second_life(alloc, moving, disk, Some(call))?;
+    let life = second_life(rt, alloc, moving, disk, Some(call))?;
     match told_in(alloc, moving, &life)? {
-        Some(told) => left_on(alloc, moving, &life.disk, told),
+        Some(told) => left_on(rt, alloc, moving, &life.disk, told),
         None => Ok(None),
     }
 }
 
 // Asserts that the stops at each call of the second life leave the old chain, then either, then the new one,
 // and says at how many they leave either.
-fn count_both<A: Abort>(rt: &A, alloc: Global, moving: &Moving) -> Result<u64, Fail> {
-    let disk = first_life(alloc, moving)?;
-    let calls = calls_of(alloc, moving, &disk)?;
+fn count_both<W: Abort + Threads + Sync>(
+    rt: &W,
+    alloc: Global,
+    moving: &Moving,
+) -> Result<u64, Fail> {
+    let disk = first_life(rt, alloc, moving)?;
+    let calls = calls_of(rt, alloc, moving, &disk)?;
     let mut before = Left::Old;
     let mut both = 0u64;
     for call in 1..=calls.saturating_add(1) {
-        let left = left_at(alloc, moving, &disk, call)?;
+        let left = left_at(rt, alloc, moving, &disk, call)?;
         let goes_on = match left {
             Some(Left::Old) => before == Left::Old,
             Some(Left::Both) => before != Left::New,
@@ -286,25 +313,27 @@ fn a_move_with_a_set_stopped_at_each_call(rt: HostRuntime) -> Result<(), Fail> {
 const OPENING: u64 = 200;
 
 // Whether an opening of the disk is stopped; and whether a crash then leaves one of the two chains.
-fn opens_to_one(
+fn opens_to_one<W: Threads + Sync>(
+    rt: &W,
     alloc: Global,
     moving: &Moving,
     disk: MemDisk,
     told: bool,
     image: u64,
 ) -> Result<(bool, bool), Fail> {
-    let opened = life_on(alloc, SERVE, disk, NO_FILES, &[])?;
+    let opened = life_on(rt, alloc, SERVE, disk, NO_FILES, &[])?;
     if opened.status == Status::Ended {
         return Ok((false, true));
     }
     let left = after_crash(alloc, &opened.disk, image, None)?;
-    let is_kept = opened.status == Status::DiskFailed && has_either(alloc, moving, left, told)?;
+    let is_kept = opened.status == Status::DiskFailed && has_either(rt, alloc, moving, left, told)?;
     Ok((true, is_kept))
 }
 
 // Whether a crash, in an image that is another one for each call, and then an opening that is stopped at each
 // of its calls leave one of the two chains.
-fn opens_to_either(
+fn opens_to_either<W: Threads + Sync>(
+    rt: &W,
     alloc: Global,
     moving: &Moving,
     disk: &MemDisk,
@@ -315,6 +344,7 @@ fn opens_to_either(
         let image = image.saturating_add(stop);
         let left = after_crash(alloc, disk, image, Some(stop))?;
         let (is_stopped, is_kept) = opens_to_one(
+            rt,
             alloc,
             moving,
             left,
@@ -330,25 +360,31 @@ fn opens_to_either(
 
 // Whether the second life ends as it must where its disk fails at this call, and a crash and an opening that
 // is stopped then leave one of the two chains.
-fn is_stopped_twice(
+fn is_stopped_twice<W: Threads + Sync>(
+    rt: &W,
     alloc: Global,
     moving: &Moving,
     disk: &MemDisk,
     call: u64,
 ) -> Result<bool, Fail> {
-    let life = second_life(alloc, moving, disk, Some(call))?;
+    let life = second_life(rt, alloc, moving, disk, Some(call))?;
     match told_in(alloc, moving, &life)? {
-        Some(told) => opens_to_either(alloc, moving, &life.disk, told, call),
+        Some(told) => opens_to_either(rt, alloc, moving, &life.disk, told, call),
         None => Ok(false),
     }
 }
 
 // The first call of the second life at which a stop isn't as it must be, of those of the first half or of the
 // second. Calls before the first write leave what is on the disk, so that the last of them stands for all.
-fn first_wrong(alloc: Global, moving: &Moving, is_late: bool) -> Result<Option<u64>, Fail> {
-    let disk = first_life(alloc, moving)?;
-    let calls = calls_of(alloc, moving, &disk)?;
-    let first = first_write(alloc, moving, &disk, calls)?;
+fn first_wrong<W: Threads + Sync>(
+    rt: &W,
+    alloc: Global,
+    moving: &Moving,
+    is_late: bool,
+) -> Result<Option<u64>, Fail> {
+    let disk = first_life(rt, alloc, moving)?;
+    let calls = calls_of(rt, alloc, moving, &disk)?;
+    let first = first_write(rt, alloc, moving, &disk, calls)?;
     let half = (first.saturating_add(calls)) / 2;
     let (from, to) = if is_late {
         (half.saturating_add(1), calls.saturating_add(1))
@@ -356,7 +392,7 @@ fn first_wrong(alloc: Global, moving: &Moving, is_late: bool) -> Result<Option<u
         (first.saturating_sub(1), half)
     };
     for call in from..=to {
-        if !is_stopped_twice(alloc, moving, &disk, call)? {
+        if !is_stopped_twice(rt, alloc, moving, &disk, call)? {
             return Ok(Some(call));
         }
     }
@@ -364,9 +400,15 @@ fn first_wrong(alloc: Global, moving: &Moving, is_late: bool) -> Result<Option<u
 }
 
 // The first call of the second life that writes.
-fn first_write(alloc: Global, moving: &Moving, disk: &MemDisk, calls: u64) -> Result<u64, Fail> {
+fn first_write<W: Threads + Sync>(
+    rt: &W,
+    alloc: Global,
+    moving: &Moving,
+    disk: &MemDisk,
+    calls: u64,
+) -> Result<u64, Fail> {
     for call in 1..=calls {
-        let life = second_life(alloc, moving, disk, Some(call))?;
+        let life = second_life(rt, alloc, moving, disk, Some(call))?;
         if !is_settled(alloc, &life.disk)? {
             return Ok(call);
         }
@@ -376,12 +418,12 @@ fn first_write(alloc: Global, moving: &Moving, disk: &MemDisk, calls: u64) -> Re
 
 #[test]
 fn a_reorganisation_stopped_early(rt: HostRuntime) -> Result<(), Fail> {
-    assert_eq!(rt; first_wrong(rt.alloc(), &TURNED, false)?, None);
+    assert_eq!(rt; first_wrong(&rt, rt.alloc(), &TURNED, false)?, None);
     Ok(())
 }
 
 #[test]
 fn a_reorganisation_stopped_late(rt: HostRuntime) -> Result<(), Fail> {
-    assert_eq!(rt; first_wrong(rt.alloc(), &TURNED, true)?, None);
+    assert_eq!(rt; first_wrong(&rt, rt.alloc(), &TURNED, true)?, None);
     Ok(())
 }

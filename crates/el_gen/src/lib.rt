@@ -4,6 +4,7 @@
 
 mod blocks;
 mod fixtures;
+mod made;
 mod transactions;
 
 pub use blocks::{block, block_bytes, block_record};
@@ -12,4 +13,5 @@ pub use fixtures::{
     GENESIS_HASH, GENESIS_SCRIPT_HASH, GENESIS_TXID, HEADER_0, HEADER_1, OP_1_SCRIPT_HASH,
     P2PKH_SCRIPT, P2PKH_SCRIPT_HASH, WITNESS_TX, WITNESS_TXID,
 };
+pub use made::{MOST_MADE, Made, make};
 pub use transactions::{coinbase, locking_script, spend};

@@ -1,5 +1,5 @@
 -- Blocks are put in, one after the other.
-use Rattle.std.proofs.Common.{◌≡◌, ◌⊎◌, inl, inr, ℕ, ◌+◌, ◌-◌, ◌≤◌, ◌||◌, List, [], ◌∷◌, ◌++◌, length, take, drop, None, Some, refl, sym, subst, ap, ◌∙◌, append_assoc, append-nil, arith}
+use Rattle.std.proofs.Common.{◌≡◌, ◌⊎◌, inl, inr, ℕ, ◌+◌, ◌-◌, ◌≤◌, ◌||◌, List, [], ◌∷◌, ◌++◌, length, drop, None, Some, refl, sym, subst, ap, ◌∙◌, append_assoc, append-nil, arith}
 use Rattle.std.specs.List.{list_any}
 use Rattle.std.proofs.lemmas.List.{take_all}
 use Rattle.el_base.specs.declared.hash.Hash32.{Hash32}
@@ -25,7 +25,7 @@ use Rattle.el_chain.proofs.DraftSteps.{header_same}
 use Rattle.el_chain.proofs.MoveSteps.{NextIs, next_blocks_more, stops_at}
 use Rattle.el_row_formats.specs.Tables.{Tables}
 use Rattle.el_index.specs.Means.{AreRowsOf}
-use Rattle.el_index.specs.within.Adding.{AreAdded, IsAfter, AreAfter, AreMoved, IsOwn}
+use Rattle.el_index.specs.within.Adding.{AreAdded, IsAfter, AreAfter, AreMoved, IsAdding, IsOwn}
 use Rattle.el_index.proofs.Touchings.{Law, moved_touches, whole}
 
 -- why a block isn't connected
@@ -55,11 +55,6 @@ is_after chain n t rows b node of s names done =
 
 pub names_tip : (n : Node) (t : List ℕ) (b : Block) (before : Hash32) → IsNode n → IsBlockOf n t → EncodesBlock t b → n.header.previous ≡ before → b.header.previous ≡ before
 names_tip n t b before node of s names = ap (λ (h : Header). h.previous) (header_same n t b node of s) ∙ names
-
--- The blocks of the first nodes stand after the chain, and the nodes that are left go on.
-pub record IsAdding (chain : Chain) (nodes : List Node) (texts : List (List ℕ)) (i : ℕ) (rows : Tables) (blocks : Chain) : Type 0 where
-  pub after : AreAfter chain (take i nodes) (take i texts) rows blocks
-  pub linked : AreLinked (tip (chain ++ blocks)) (drop i nodes)
 
 pub adding_begins : (chain : Chain) (nodes : List Node) (texts : List (List ℕ)) (rows : Tables) → AreRowsOf rows chain → AreLinked (tip chain) nodes
     → (blocks : Chain) × IsAdding chain nodes texts 0 rows blocks

@@ -4,3 +4,4 @@ pub mod Touchings
 pub mod Addings
 pub mod LastBlock
 pub mod Targets
+pub mod Puttings

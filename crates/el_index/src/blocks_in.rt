@@ -1,5 +1,5 @@
 // Blocks are put after the last.
-ghost use Rattle.std.specs.Prelude.{◌≡◌, ◌≢◌, ◌⊎◌, ◌≤◌, ◌+◌, ◌++◌, ◌∷◌, ℕ, List, [], length, None, IfOk, IfErr, OnOk};
+ghost use Rattle.std.specs.Prelude.{◌≡◌, ◌≢◌, ◌⊎◌, ◌<◌, ◌+◌, ◌++◌, ◌∷◌, ℕ, List, [], length, drop, None, IfOk, IfErr, OnOk};
 ghost use Rattle.std.specs.List.{AllByRecursion};
 ghost use Rattle.el_block.specs.Blocks.{EncodesBlock, HasBlockEncoding};
 ghost use Rattle.el_block.specs.declared.block.Block as shape;
@@ -10,20 +10,22 @@ ghost use Rattle.el_chain.specs.Headers.{AreLinked};
 ghost use Rattle.el_chain.specs.Moves.{AreOf, AreNextBlocks, FaultInAt, IsStop};
 ghost use Rattle.el_chain.specs.Records.{IsNode, IsBlockOf};
 ghost use Rattle.el_prepare.specs.Prepared as spec;
+ghost use Rattle.el_prepare.specs.Batches.{IsPrepared, ArePrepared};
 ghost use Rattle.el_rows.specs.Transaction.{tables_in, EditsRows};
 ghost use Rattle.el_row_formats.specs.declared.table.Table.{Table};
 ghost use Rattle.el_schema.specs.Standing.{StandWith, StandFor, heads_after};
 ghost use Rattle.el_index.specs.Means.{AreRowsOf};
-ghost use Rattle.el_index.specs.within.Adding.{IsAfter, AreAfter, IsOwn};
+ghost use Rattle.el_index.specs.within.Adding.{IsAfter, AreAfter, IsAdding, IsOwn};
 
-use el_base::{Bytes, Hash32};
+use el_base::{Bytes, Hash32, OutOfMemory};
 use el_block::BlockFault;
 use el_chain::{ConnectFault, MoveFault, Node};
 use el_connect::connect;
-use el_outside::Place;
-use el_prepare::{Prepared, prepare_one};
+use el_outside::{Pace, Place};
+use el_prepare::{Prepared, prepare_batch};
 use el_rows::{Rows, Txn};
 use std::alloc::Global;
+use std::thread::Threads;
 
 // The fault of a block of that hash that isn't read.
 fn bad(hash: Hash32, fault: BlockFault) -> MoveFault
@@ -34,19 +36,6 @@ fn bad(hash: Hash32, fault: BlockFault) -> MoveFault
     match fault {
         BlockFault::Memory => MoveFault::Memory,
         _ => MoveFault::BadBlock { hash, fault },
-    }
-}
-
-// What the rows want of the block of that hash.
-fn prepare_for(alloc: Global, hash: Hash32, text: &[u8]) -> Result<Prepared, MoveFault>
-    ensures read { IfOk result (λ p. (block : shape.Block) × EncodesBlock text.now block
-        × (p ≡ spec.prepared block)) }
-    ensures first_fault { (chain : Chain) → IfErr result (IsStop chain hash text.now) }
-    ensures no_device { IfErr result (λ e. (e ≢ MoveFault.DiskFailed) × (e ≢ MoveFault.ArchiveFailed)) }
-{
-    match prepare_one(alloc, text) {
-        Ok(prepared) => Ok(prepared),
-        Err(fault) => Err(bad(hash, fault)),
     }
 }
 
@@ -97,16 +86,17 @@ fn connect_for<R: Rows>(
     }
 }
 
-// Puts the block of the node, which the bytes encode, after the last.
-fn add_one<R: Rows>(
-    alloc: Global,
+// Puts the block of the node, which is prepared, after the last.
+fn put_one<R: Rows>(
     t: &mut Txn<'_, R>,
     node: &Node,
     text: &[u8],
+    prepared: &Prepared,
 ) -> Result<(), MoveFault>
     requires live { R.is_live t.old.rows.now }
     requires node { IsNode node.now }
     requires of { IsBlockOf node.now text.now }
+    requires prepared { IsPrepared text.now prepared.now }
     ensures added { (chain : Chain) → R.tells → AreRowsOf (tables_in t.old) chain
         → node.now.header.previous ≡ tip chain → OnOk result ((b : placed_shape.Placed)
         × IsAfter chain node.now text.now (tables_in t.new) b) }
@@ -118,17 +108,103 @@ fn add_one<R: Rows>(
     ensures edits { EditsRows MoveFault.DiskFailed t.old t.new result }
     ensures no_archive { IfErr result (λ e. e ≢ MoveFault.ArchiveFailed) }
 {
-    let prepared = prepare_for(alloc, node.hash, text)?;
-    connect_for(t, node.hash, node.place, &prepared)?;
+    connect_for(t, node.hash, node.place, prepared)?;
     Ok(())
 }
 
-// Puts the blocks of the nodes after the last, one after the other.
-pub(crate) fn add_all<R: Rows>(
+// Puts prepared blocks after the last, one after the other; so many of the move's stand there before them.
+fn put_all<R: Rows>(
+    t: &mut Txn<'_, R>,
+    nodes: &[Node],
+    texts: &[Bytes],
+    from: usize,
+    blocks: &[Prepared],
+) -> Result<(), MoveFault>
+    requires live { R.is_live t.old.rows.now }
+    requires nodes { AllByRecursion IsNode nodes.now }
+    requires of { AreOf nodes.now texts.now }
+    requires prepared { (passed rest : List (List ℕ)) × (drop from texts.now ≡ passed ++ rest)
+        × ArePrepared passed blocks.now None }
+    ensures added { (chain blocks_before : Chain) → R.tells
+        → IsAdding chain nodes.now texts.now from (tables_in t.old) blocks_before
+        → OnOk result ((all : Chain)
+        × IsAdding chain nodes.now texts.now (from + length blocks.now) (tables_in t.new) all) }
+    ensures more { OnOk result (length (tables_in t.new Table.Blocks)
+        ≡ length (tables_in t.old Table.Blocks) + length blocks.now) }
+    ensures first_fault { (chain blocks_before : Chain) → R.tells
+        → IsAdding chain nodes.now texts.now from (tables_in t.old) blocks_before
+        → IfErr result (λ e. IsOwn e ⊎ FaultInAt chain nodes.now texts.now e) }
+    ensures edits { EditsRows MoveFault.DiskFailed t.old t.new result }
+    ensures no_archive { IfErr result (λ e. e ≢ MoveFault.ArchiveFailed) }
+{
+    for (index, prepared) in blocks.iter().enumerate() {
+        let at = from + index;
+        put_one(t, &nodes[at], texts[at].as_slice(), prepared)?;
+    }
+    Ok(())
+}
+
+// What was prepared of a batch, or that no memory was found for it.
+type Batch = Result<(Vec<Prepared>, Option<BlockFault>), OutOfMemory>;
+
+// Puts the blocks of a batch after the last, up to the first bad one.
+fn put_batch<R: Rows>(
+    t: &mut Txn<'_, R>,
+    nodes: &[Node],
+    texts: &[Bytes],
+    from: usize,
+    batch: &[Bytes],
+    ready: &Batch,
+) -> Result<(), MoveFault>
+    requires live { R.is_live t.old.rows.now }
+    requires nodes { AllByRecursion IsNode nodes.now }
+    requires of { AreOf nodes.now texts.now }
+    requires batch { (rest : List (List ℕ)) × (drop from texts.now ≡ batch.now ++ rest) }
+    requires ready { IfOk ready.now (λ r. ArePrepared batch.now r.0.items r.1) }
+    ensures added { (chain blocks_before : Chain) → R.tells
+        → IsAdding chain nodes.now texts.now from (tables_in t.old) blocks_before
+        → OnOk result ((all : Chain)
+        × IsAdding chain nodes.now texts.now (from + length batch.now) (tables_in t.new) all) }
+    ensures more { OnOk result (length (tables_in t.new Table.Blocks)
+        ≡ length (tables_in t.old Table.Blocks) + length batch.now) }
+    ensures first_fault { (chain blocks_before : Chain) → R.tells
+        → IsAdding chain nodes.now texts.now from (tables_in t.old) blocks_before
+        → IfErr result (λ e. IsOwn e ⊎ FaultInAt chain nodes.now texts.now e) }
+    ensures edits { EditsRows MoveFault.DiskFailed t.old t.new result }
+    ensures no_archive { IfErr result (λ e. e ≢ MoveFault.ArchiveFailed) }
+{
+    match ready {
+        Ok((blocks, fault)) => {
+            put_all(t, nodes, texts, from, blocks.as_slice())?;
+            match fault {
+                None => Ok(()),
+                Some(fault) => Err(bad(nodes[from + blocks.len()].hash, *fault)),
+            }
+        }
+        Err(_) => Err(MoveFault::Memory),
+    }
+}
+
+// How many blocks are prepared at once.
+const BATCH: usize = 4;
+
+// The next batch, and what is left after it.
+fn next_batch(texts: &[Bytes]) -> (&[Bytes], &[Bytes])
+    ensures cut { texts.now ≡ result.0.now ++ result.1.now }
+    ensures some { 0 < length texts.now → length result.1.now < length texts.now }
+{
+    texts.split_at(texts.len().min(BATCH))
+}
+
+// Puts the blocks of the nodes after the last, batch after batch, each of which is prepared before it is put
+// in.
+pub(crate) fn add_all<W: Threads + Sync, R: Rows, P: Pace + Sync>(
+    rt: &W,
     alloc: Global,
     t: &mut Txn<'_, R>,
     nodes: &[Node],
     texts: &[Bytes],
+    pace: &P,
 ) -> Result<(), MoveFault>
     requires live { R.is_live t.old.rows.now }
     requires nodes { AllByRecursion IsNode nodes.now }
@@ -144,8 +220,13 @@ pub(crate) fn add_all<R: Rows>(
     ensures edits { EditsRows MoveFault.DiskFailed t.old t.new result }
     ensures no_archive { IfErr result (λ e. e ≢ MoveFault.ArchiveFailed) }
 {
-    for (index, node) in nodes.iter().enumerate() {
-        add_one(alloc, t, node, texts[index].as_slice())?;
+    let mut left = texts;
+    while !left.is_empty() {
+        let from = texts.len() - left.len();
+        let (batch, after) = next_batch(left);
+        let ready = prepare_batch(rt, alloc, batch, pace);
+        put_batch(t, nodes, texts, from, batch, &ready)?;
+        left = after;
     }
     Ok(())
 }

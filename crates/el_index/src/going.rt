@@ -19,19 +19,22 @@ use crate::last_block::last_hash;
 use crate::step_faults::touch_all;
 use el_base::{Bytes, Hash32};
 use el_chain::{MoveFault, Node, Plan, Touched};
-use el_outside::DiskFailed;
+use el_outside::{DiskFailed, Pace};
 use el_queries::each_block_touches_what_the_move_touches;
 use el_row_formats::Table;
 use el_rows::{CommitFault, Rows, Txn};
 use std::alloc::Global;
+use std::thread::Threads;
 
 // The edits of a move, and the script hashes that it touches.
-fn edit<R: Rows>(
+fn edit<W: Threads + Sync, R: Rows, P: Pace + Sync>(
+    rt: &W,
     alloc: Global,
     t: &mut Txn<'_, R>,
     plan: &Plan,
     texts: &[Bytes],
     touched: &mut Touched,
+    pace: &P,
 ) -> Result<(), MoveFault>
     requires live { R.is_live t.old.rows.now }
     requires plan { IsPlan plan.now }
@@ -52,7 +55,7 @@ fn edit<R: Rows>(
     take_back(t, plan.back, touched)?;
     let txs = t.count(Table::Txs);
     let entries = t.count(Table::Entries);
-    add_all(alloc, t, plan.forward.as_slice(), texts)?;
+    add_all(rt, alloc, t, plan.forward.as_slice(), texts, pace)?;
     touch_all(t, txs, entries, touched)?;
     // What the blocks that were taken back touch one by one is what the move touches.
     each_block_touches_what_the_move_touches();
@@ -81,12 +84,14 @@ fn hash_after<R: Rows>(t: &mut Txn<'_, R>, nodes: &[Node]) -> Result<Option<Hash
 impl<R: Rows> Index<R> {
     // Makes a move on the rows, in one commit, and answers the hash of the last block. The hash that is kept
     // stays.
-    pub(crate) fn change(
+    pub(crate) fn change<W: Threads + Sync, P: Pace + Sync>(
         &mut self,
+        rt: &W,
         alloc: Global,
         plan: &Plan,
         texts: &[Bytes],
         touched: &mut Touched,
+        pace: &P,
     ) -> Result<Option<Hash32>, MoveFault>
         requires live { R.is_live self.old.rows }
         requires plan { IsPlan plan.now }
@@ -122,7 +127,7 @@ impl<R: Rows> Index<R> {
         ensures no_archive { IfErr result (λ e. e ≢ MoveFault.ArchiveFailed) }
     {
         let mut txn = Txn::new(alloc, &mut self.rows);
-        edit(alloc, &mut txn, plan, texts, touched)?;
+        edit(rt, alloc, &mut txn, plan, texts, touched, pace)?;
         let hash = hash_after(&mut txn, plan.forward.as_slice())?;
         let sealed = txn.seal()?;
         match self.rows.commit(&sealed) {

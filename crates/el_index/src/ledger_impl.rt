@@ -11,7 +11,7 @@ use crate::index::Index;
 use el_base::Hash32;
 use el_chain::{Coin, Entry, MoveFault, Moved, Plan, Spot, Touched};
 use el_model::{Ledger, QueryFault, read_all};
-use el_outside::{Archive, DiskFailed, Place};
+use el_outside::{Archive, DiskFailed, Pace, Place};
 use el_queries::{
     balance, block_txids, coin, find_tx, hashes, header, history, place, spender, unspent,
 };
@@ -19,6 +19,7 @@ use el_row_formats::Table;
 use el_rows::{Rows, Txn};
 use el_tx::Outpoint;
 use std::alloc::Global;
+use std::thread::Threads;
 
 // The height of the last of so many blocks.
 fn top_of(count: u64) -> Option<u32>
@@ -138,15 +139,17 @@ impl<R: Rows> Ledger for Index<R> {
         Ok(found)
     }
 
-    fn go<A: Archive>(
+    fn go<W: Threads + Sync, A: Archive>(
         &mut self,
+        rt: &W,
         alloc: Global,
         plan: &Plan,
         archive: &mut A,
+        pace: &(dyn Pace + Sync),
     ) -> Result<Moved, MoveFault> {
         let texts = read_all(alloc, archive, plan.forward.as_slice())?;
         let mut touched = Touched::new(alloc);
-        let tip = self.change(alloc, plan, texts.as_slice(), &mut touched)?;
+        let tip = self.change(rt, alloc, plan, texts.as_slice(), &mut touched, &pace)?;
         // The list says that no script hash stands twice.
         let _listed = touched.list();
         self.tip = tip;

@@ -9,8 +9,9 @@ ghost use Rattle.el_laws.specs.declared.going.Stop.TheVariants as stop;
 use el_base::{Hash32, Listed, OutOfMemory};
 use el_chain::{MoveFault, Plan};
 use el_model::Ledger;
-use el_outside::Archive;
+use el_outside::{Archive, Pace};
 use std::alloc::Global;
+use std::thread::Threads;
 
 /// What is told of a move.
 #[derive(Clone, Copy, Debug, PartialEq, Eq)]
@@ -49,12 +50,14 @@ impl From<OutOfMemory> for Stop {
 /// Makes the moves, up to the first that is refused, and tells of each once it is made: the law of what a
 /// crash leaves of a run of moves, for every ledger. The first may take blocks back. At its end, and at every
 /// moment of it, all that a crash may leave stands for the last chain that was told or for the one in flight.
-pub fn go_on<G: Ledger, A: Archive>(
+pub fn go_on<W: Threads + Sync, G: Ledger, A: Archive>(
+    rt: &W,
     alloc: Global,
     ledger: &mut G,
     plans: &[Plan],
     archive: &mut A,
     sent: &mut Listed<Mark>,
+    pace: &(dyn Pace + Sync),
 ) -> Result<(), Stop>
     requires live { G.is_live ledger.old }
     requires follow { AreMovesOf (G.stands ledger.old) plans.now }
@@ -72,7 +75,7 @@ pub fn go_on<G: Ledger, A: Archive>(
     ensures cause { CountsOnly (G.faults ledger.old) (G.faults ledger.new) Stop.DiskFailed result }
 {
     for plan in plans {
-        match ledger.go(alloc, plan, archive) {
+        match ledger.go(rt, alloc, plan, archive, pace) {
             Ok(moved) => sent.push(Mark::At {
                 tip: moved.tip,
                 height: moved.height,

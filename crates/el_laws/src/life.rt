@@ -8,8 +8,9 @@ use el_base::Listed;
 use el_chain::Plan;
 use el_index::Index;
 use el_model::{Ledger, QueryFault};
-use el_outside::Archive;
+use el_outside::{Archive, Pace};
 use std::alloc::Global;
+use std::thread::Threads;
 
 /// Makes moves from no blocks on, up to the first that is refused or whose commit fails, over rows in
 /// memory of which so many commits are good. Those rows tell what a crash may leave of them: so what is
@@ -18,12 +19,14 @@ use std::alloc::Global;
 /// # Errors
 ///
 /// `QueryFault::Memory`, and `QueryFault::DiskFailed` where the rows can't be read before the first move.
-pub fn moves_over_versions<A: Archive>(
+pub fn moves_over_versions<W: Threads + Sync, A: Archive>(
+    rt: &W,
     alloc: Global,
     good: u64,
     plans: &[Plan],
     archive: &mut A,
     sent: &mut Listed<Mark>,
+    pace: &(dyn Pace + Sync),
 ) -> Result<(Index<VersionedRows>, Result<(), Stop>), QueryFault>
     requires follow { AreMovesOf (λ chain. chain ≡ []) plans.now }
     requires none { sent.old ≡ [] }
@@ -38,7 +41,7 @@ pub fn moves_over_versions<A: Archive>(
     match Index::over(alloc, rows) {
         Ok(index) => {
             let mut index = index;
-            let end = go_on(alloc, &mut index, plans, archive, sent);
+            let end = go_on(rt, alloc, &mut index, plans, archive, sent, pace);
             Ok((index, end))
         }
         Err((fault, _)) => Err(QueryFault::from(fault)),

@@ -14,6 +14,7 @@ use el_vec_rows::VecRows;
 use std::alloc::Global;
 use std::process::Abort;
 use std::test::Fail;
+use std::thread::Threads;
 
 // The transactions of the blocks below.
 const TXS: [Made; 8] = [
@@ -258,41 +259,46 @@ fn have<R: Abort>(
 }
 
 // The rows are those of an index in which the blocks of these numbers were put in from nothing.
-fn rows_are_of<R: Abort>(
-    rt: &R,
+fn rows_are_of<W: Abort + Threads + Sync>(
+    rt: &W,
     alloc: Global,
     index: Index<VecRows>,
     numbers: &[usize],
     files: &mut Files,
 ) -> Result<(), Fail> {
-    let wanted = built(alloc, numbers, files)?;
+    let wanted = built(rt, alloc, numbers, files)?;
     let mut rows = index.into_rows();
     let mut wanted = wanted.into_rows();
     same_rows(rt, &mut rows, &mut wanted)
 }
 
 // Makes the move, and looks at where it leads.
-fn moves<R: Abort>(
-    rt: &R,
+fn moves<W: Abort + Threads + Sync>(
+    rt: &W,
     alloc: Global,
     index: &mut Index<VecRows>,
     case: &Case,
     files: &mut Files,
 ) -> Result<(), Fail> {
-    let moved = go(alloc, index, case.back, case.forward, files)?;
+    let moved = go(rt, alloc, index, case.back, case.forward, files)?;
     led_to(rt, &moved, case.to, files)?;
     touches(rt, alloc, &moved, case.touched)
 }
 
 // Makes the move, and looks at what it leaves.
-fn leads<R: Abort>(rt: &R, alloc: Global, case: &Case, files: &mut Files) -> Result<(), Fail> {
-    let mut index = built(alloc, case.from, files)?;
+fn leads<W: Abort + Threads + Sync>(
+    rt: &W,
+    alloc: Global,
+    case: &Case,
+    files: &mut Files,
+) -> Result<(), Fail> {
+    let mut index = built(rt, alloc, case.from, files)?;
     moves(rt, alloc, &mut index, case, files)?;
     have(rt, alloc, &mut index, case)?;
     rows_are_of(rt, alloc, index, case.to, files)
 }
 
-fn all_cases<R: Abort>(rt: &R, alloc: Global) -> Result<(), Fail> {
+fn all_cases<W: Abort + Threads + Sync>(rt: &W, alloc: Global) -> Result<(), Fail> {
     let mut files = laid_out(alloc, &TXS, &BLOCKS)?;
     for case in &CASES {
         leads(rt, alloc, case, &mut files)?;
@@ -314,17 +320,8 @@ const TWO: Held = Held {
 };
 
 // Puts in 102 blocks of a coinbase.
-fn put_all<G: Ledger>(alloc: Global, ledger: &mut G, files: &mut Files) -> Result<(), Fail>
-    requires live { G.is_live ledger.old }
-    ensures live { OnOk result (G.is_live ledger.new) }
-{
-    let all = numbers(alloc, 0, 102)?;
-    put_in(alloc, ledger, all.as_slice(), files)
-}
-
-// Takes a hundred back.
-fn take_back<R: Abort, G: Ledger>(
-    rt: &R,
+fn put_all<W: Threads + Sync, G: Ledger>(
+    rt: &W,
     alloc: Global,
     ledger: &mut G,
     files: &mut Files,
@@ -332,14 +329,28 @@ fn take_back<R: Abort, G: Ledger>(
     requires live { G.is_live ledger.old }
     ensures live { OnOk result (G.is_live ledger.new) }
 {
-    let moved = go(alloc, ledger, 100, &[], files)?;
+    let all = numbers(alloc, 0, 102)?;
+    put_in(rt, alloc, ledger, all.as_slice(), files)
+}
+
+// Takes a hundred back.
+fn take_back<W: Abort + Threads + Sync, G: Ledger>(
+    rt: &W,
+    alloc: Global,
+    ledger: &mut G,
+    files: &mut Files,
+) -> Result<(), Fail>
+    requires live { G.is_live ledger.old }
+    ensures live { OnOk result (G.is_live ledger.new) }
+{
+    let moved = go(rt, alloc, ledger, 100, &[], files)?;
     led_to(rt, &moved, &[0, 1], files)?;
     touches(rt, alloc, &moved, &[101])
 }
 
 // Puts in 102 blocks of a coinbase, and takes a hundred back.
-fn takes_back<R: Abort, G: Ledger>(
-    rt: &R,
+fn takes_back<W: Abort + Threads + Sync, G: Ledger>(
+    rt: &W,
     alloc: Global,
     ledger: &mut G,
     files: &mut Files,
@@ -347,17 +358,17 @@ fn takes_back<R: Abort, G: Ledger>(
     requires live { G.is_live ledger.old }
     ensures live { OnOk result (G.is_live ledger.new) }
 {
-    put_all(alloc, ledger, files)?;
+    put_all(rt, alloc, ledger, files)?;
     take_back(rt, alloc, ledger, files)?;
     let ids = txids_of(alloc, &TXS)?;
     has(rt, alloc, ledger, &TWO, ids.as_slice())
 }
 
-fn a_hundred<R: Abort>(rt: &R, alloc: Global) -> Result<(), Fail> {
+fn a_hundred<W: Abort + Threads + Sync>(rt: &W, alloc: Global) -> Result<(), Fail> {
     let mut files = coinbases(alloc, 102)?;
     let mut plain = PlainLedger::new(alloc);
     takes_back(rt, alloc, &mut plain, &mut files)?;
-    let mut index = built(alloc, &[], &mut files)?;
+    let mut index = built(rt, alloc, &[], &mut files)?;
     takes_back(rt, alloc, &mut index, &mut files)?;
     rows_are_of(rt, alloc, index, &[0, 1], &mut files)
 }

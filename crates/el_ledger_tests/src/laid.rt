@@ -16,7 +16,7 @@ use el_fakes::MemArchive;
 use el_gen::{block, block_record, coinbase, locking_script, spend};
 use el_index::Index;
 use el_model::Ledger;
-use el_outside::Place;
+use el_outside::{NoPace, Place};
 use el_row_formats::Table;
 use el_rows::Rows;
 use el_tx::{Outpoint, Tx, block_hash, decode_header, encode_header, txid};
@@ -24,6 +24,7 @@ use el_vec_rows::VecRows;
 use std::alloc::Global;
 use std::process::Abort;
 use std::test::Fail;
+use std::thread::Threads;
 
 // What a first block names as the one before.
 const NO_HASH: Hash32 = Hash32([0; 32]);
@@ -316,7 +317,8 @@ fn named_after<G: Ledger>(ledger: &mut G, back: u32) -> Result<Hash32, Fail>
 }
 
 /// How a move is answered that takes so many blocks back and puts in the blocks of these numbers.
-pub fn answer<G: Ledger>(
+pub fn answer<W: Threads + Sync, G: Ledger>(
+    rt: &W,
     alloc: Global,
     ledger: &mut G,
     back: u32,
@@ -328,11 +330,12 @@ pub fn answer<G: Ledger>(
 {
     let before = named_after(ledger, back)?;
     let plan = plan_of(alloc, back, files.records.as_slice(), forward, before)?;
-    Ok(ledger.go(alloc, &plan, &mut files.archive))
+    Ok(ledger.go(rt, alloc, &plan, &mut files.archive, &NoPace))
 }
 
 /// Takes so many blocks back, and puts in the blocks of these numbers.
-pub fn go<G: Ledger>(
+pub fn go<W: Threads + Sync, G: Ledger>(
+    rt: &W,
     alloc: Global,
     ledger: &mut G,
     back: u32,
@@ -342,12 +345,13 @@ pub fn go<G: Ledger>(
     requires live { G.is_live ledger.old }
     ensures live { OnOk result (G.is_live ledger.new) }
 {
-    let moved = answer(alloc, ledger, back, forward, files)??;
+    let moved = answer(rt, alloc, ledger, back, forward, files)??;
     Ok(moved)
 }
 
 /// Puts in the blocks of these numbers, as many in a move as it may have.
-pub fn put_in<G: Ledger>(
+pub fn put_in<W: Threads + Sync, G: Ledger>(
+    rt: &W,
     alloc: Global,
     ledger: &mut G,
     numbers: &[usize],
@@ -357,7 +361,7 @@ pub fn put_in<G: Ledger>(
     ensures live { OnOk result (G.is_live ledger.new) }
 {
     for some in numbers.chunks(MAX_FORWARD) {
-        go(alloc, ledger, 0, some, files)?;
+        go(rt, alloc, ledger, 0, some, files)?;
     }
     Ok(())
 }
@@ -371,9 +375,14 @@ pub fn opened(alloc: Global, rows: VecRows) -> Result<Index<VecRows>, Fail> {
 }
 
 /// An index in which the blocks of these numbers were put in from nothing.
-pub fn built(alloc: Global, numbers: &[usize], files: &mut Files) -> Result<Index<VecRows>, Fail> {
+pub fn built<W: Threads + Sync>(
+    rt: &W,
+    alloc: Global,
+    numbers: &[usize],
+    files: &mut Files,
+) -> Result<Index<VecRows>, Fail> {
     let mut index = opened(alloc, VecRows::new(alloc))?;
-    put_in(alloc, &mut index, numbers, files)?;
+    put_in(rt, alloc, &mut index, numbers, files)?;
     Ok(index)
 }
 

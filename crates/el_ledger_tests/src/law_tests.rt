@@ -12,7 +12,7 @@ use el_index::Index;
 use el_laws::{
     connect_and_disconnect, disconnect_and_connect, moves_over_versions, rows_of_two_indexes,
 };
-use el_outside::Place;
+use el_outside::{NoPace, Place};
 use el_prepare::{Prepared, prepare_one};
 use el_row_formats::Table;
 use el_rows::{Rows, Txn};
@@ -20,6 +20,7 @@ use el_vec_rows::VecRows;
 use std::alloc::Global;
 use std::process::Abort;
 use std::test::Fail;
+use std::thread::Threads;
 
 const PLACE: Place = Place {
     file: 0,
@@ -75,11 +76,19 @@ fn indexes_of_no_blocks(rt: HostRuntime) -> Result<(), Fail> {
     two_indexes(&rt, rt.alloc())
 }
 
-fn no_moves<A: Abort>(rt: &A, alloc: Global) -> Result<(), Fail> {
+fn no_moves<W: Abort + Threads + Sync>(rt: &W, alloc: Global) -> Result<(), Fail> {
     let mut archive = MemArchive::new(Vec::new(alloc), Vec::new(alloc));
     let mut sent = Listed::new(alloc);
     let plans = Vec::new(alloc);
-    let (index, end) = moves_over_versions(alloc, 1, plans.as_slice(), &mut archive, &mut sent)?;
+    let (index, end) = moves_over_versions(
+        rt,
+        alloc,
+        1,
+        plans.as_slice(),
+        &mut archive,
+        &mut sent,
+        &NoPace,
+    )?;
     assert!(rt; end == Ok(()));
     assert!(rt; sent.is_empty());
     assert!(rt; index.into_rows().count(Table::Blocks) == 0);

@@ -21,6 +21,7 @@ use el_vec_rows::VecRows;
 use std::alloc::Global;
 use std::process::Abort;
 use std::test::Fail;
+use std::thread::Threads;
 
 // How many locking scripts the blocks pay.
 const SCRIPTS: u32 = 11;
@@ -109,14 +110,14 @@ fn are_same(moved: &Moved, wanted: &Moved) -> bool {
 }
 
 // Puts the blocks of these numbers into both, which answer the same.
-fn both_go<R: Abort>(
-    rt: &R,
+fn both_go<W: Abort + Threads + Sync>(
+    rt: &W,
     alloc: Global,
     both: &mut Both,
     numbers: &[usize],
 ) -> Result<(), Fail> {
-    let moved = go(alloc, &mut both.index, 0, numbers, &mut both.files)?;
-    let wanted = go(alloc, &mut both.plain, 0, numbers, &mut both.files)?;
+    let moved = go(rt, alloc, &mut both.index, 0, numbers, &mut both.files)?;
+    let wanted = go(rt, alloc, &mut both.plain, 0, numbers, &mut both.files)?;
     assert!(rt; are_same(&moved, &wanted));
     Ok(())
 }
@@ -256,7 +257,12 @@ fn compare_blocks<R: Abort>(rt: &R, alloc: Global, both: &mut Both) -> Result<()
 }
 
 // Puts the first blocks, so many, into both, as many in a move as it may have.
-fn go_all<R: Abort>(rt: &R, alloc: Global, both: &mut Both, count: usize) -> Result<(), Fail> {
+fn go_all<W: Abort + Threads + Sync>(
+    rt: &W,
+    alloc: Global,
+    both: &mut Both,
+    count: usize,
+) -> Result<(), Fail> {
     let all = numbers(alloc, 0, count)?;
     for some in all.as_slice().chunks(MAX_FORWARD) {
         both_go(rt, alloc, both, some)?;
@@ -265,7 +271,7 @@ fn go_all<R: Abort>(rt: &R, alloc: Global, both: &mut Both, count: usize) -> Res
     Ok(())
 }
 
-fn goes_beside<R: Abort>(rt: &R, alloc: Global) -> Result<(), Fail> {
+fn goes_beside<W: Abort + Threads + Sync>(rt: &W, alloc: Global) -> Result<(), Fail> {
     let mut both = begin(alloc, 200, false)?;
     compare_scripts(rt, alloc, &mut both)?;
     go_all(rt, alloc, &mut both, 200)?;
@@ -279,20 +285,20 @@ fn is_as_the_plain_ledger(rt: HostRuntime) -> Result<(), Fail> {
 }
 
 // Whether the move that puts in the last five of ten blocks is refused for the missing coin.
-fn is_refused(alloc: Global, both: &mut Both) -> Result<bool, Fail> {
+fn is_refused<W: Threads + Sync>(rt: &W, alloc: Global, both: &mut Both) -> Result<bool, Fail> {
     let more = [5, 6, 7, 8, 9];
     let wanted = ConnectFault::MissingCoin { tx: 1, input: 0 };
-    let found = answer(alloc, &mut both.index, 0, &more, &mut both.files)?;
+    let found = answer(rt, alloc, &mut both.index, 0, &more, &mut both.files)?;
     match found {
         Err(MoveFault::Refused { fault, .. }) => Ok(fault == wanted),
         _ => Ok(false),
     }
 }
 
-fn stays<R: Abort>(rt: &R, alloc: Global) -> Result<(), Fail> {
+fn stays<W: Abort + Threads + Sync>(rt: &W, alloc: Global) -> Result<(), Fail> {
     let mut both = begin(alloc, 10, true)?;
     both_go(rt, alloc, &mut both, &[0, 1, 2, 3, 4])?;
-    assert!(rt; is_refused(alloc, &mut both)?);
+    assert!(rt; is_refused(rt, alloc, &mut both)?);
     compare_scripts(rt, alloc, &mut both)
 }
 

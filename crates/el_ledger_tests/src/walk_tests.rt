@@ -11,6 +11,7 @@ use el_vec_rows::VecRows;
 use std::alloc::Global;
 use std::process::Abort;
 use std::test::Fail;
+use std::thread::Threads;
 
 // The transactions of the branches. The first of them are those of the common blocks, most of which stand in
 // several branches.
@@ -105,8 +106,8 @@ fn common(one: &[usize], other: &[usize]) -> usize {
 
 // The rows are those of an index in which the blocks of these numbers were put in from nothing. Its rows are
 // kept by the number of its last block.
-fn rows_are_of<R: Abort>(
-    rt: &R,
+fn rows_are_of<W: Abort + Threads + Sync>(
+    rt: &W,
     alloc: Global,
     rows: &mut VecRows,
     numbers: &[usize],
@@ -120,7 +121,7 @@ fn rows_are_of<R: Abort>(
         return Err(Fail::new("no such block"));
     };
     if slot.is_none() {
-        *slot = Some(built(alloc, numbers, files)?.into_rows());
+        *slot = Some(built(rt, alloc, numbers, files)?.into_rows());
     }
     match slot {
         Some(wanted) => same_rows(rt, rows, wanted),
@@ -129,7 +130,8 @@ fn rows_are_of<R: Abort>(
 }
 
 // Moves the index from the blocks of these numbers to those of others.
-fn walk_to(
+fn walk_to<W: Threads + Sync>(
+    rt: &W,
     alloc: Global,
     index: &mut Index<VecRows>,
     from: &[usize],
@@ -138,26 +140,26 @@ fn walk_to(
 ) -> Result<Moved, Fail> {
     let same = common(from, to).min(to.len());
     let back = from.len().saturating_sub(same).min(100) as u32;
-    go(alloc, index, back, &to[same..], files)
+    go(rt, alloc, index, back, &to[same..], files)
 }
 
 // Makes the move from the blocks of the one numbers to those of the others. It answers the tip and the
 // height.
-fn led<R: Abort>(
-    rt: &R,
+fn led<W: Abort + Threads + Sync>(
+    rt: &W,
     alloc: Global,
     index: &mut Index<VecRows>,
     way: (&[usize], &[usize]),
     files: &mut Files,
 ) -> Result<(Option<Hash32>, Option<u32>), Fail> {
-    let moved = walk_to(alloc, index, way.0, way.1, files)?;
+    let moved = walk_to(rt, alloc, index, way.0, way.1, files)?;
     led_to(rt, &moved, way.1, files)?;
     Ok((moved.tip, moved.height))
 }
 
 // Makes the move, looks at the rows, and opens an index over them.
-fn step_to<R: Abort>(
-    rt: &R,
+fn step_to<W: Abort + Threads + Sync>(
+    rt: &W,
     alloc: Global,
     mut index: Index<VecRows>,
     way: (&[usize], &[usize]),
@@ -182,9 +184,9 @@ fn none_kept(alloc: Global) -> Result<Vec<Option<VecRows>>, Fail> {
 }
 
 // Sixty moves.
-fn walk<R: Abort>(rt: &R, alloc: Global) -> Result<(), Fail> {
+fn walk<W: Abort + Threads + Sync>(rt: &W, alloc: Global) -> Result<(), Fail> {
     let mut files = laid_out(alloc, &TXS, &BLOCKS)?;
-    let mut index = built(alloc, &[], &mut files)?;
+    let mut index = built(rt, alloc, &[], &mut files)?;
     let mut kept = none_kept(alloc)?;
     let mut seed = 1;
     let mut at: &[usize] = &[];

@@ -19,13 +19,16 @@ use crate::options::RunOptions;
 use crate::sending::deliver;
 use el_core::Server;
 use el_model::Ledger;
-use el_outside::{Archive, Arrival, BUFFER_SIZE, Link};
+use el_outside::{Archive, Arrival, BUFFER_SIZE, Link, Pace};
+use std::thread::Threads;
 
 // Takes turns until no work is left.
-fn work_off<G: Ledger, A: Archive, K: Link>(
+fn work_off<W: Threads + Sync, G: Ledger, A: Archive, K: Link>(
+    rt: &W,
     server: &mut Server<G>,
     archive: &mut A,
     link: &mut K,
+    pace: &(dyn Pace + Sync),
 ) -> Result<(), Halt>
     requires live { G.is_live server.old.ledger }
     ensures finished { let of = all_ghosts (ghosts ⟦<G as Ledger>⟧ ⟦<A as Archive>⟧) ⟦<K as Link>⟧ in
@@ -51,7 +54,7 @@ fn work_off<G: Ledger, A: Archive, K: Link>(
     ensures beside { KeepsBeside ⟦<G as Ledger>⟧ server.old.ledger server.new.ledger }
 {
     loop {
-        match server.turn(archive) {
+        match server.turn(rt, archive, pace) {
             Ok(Some(outs)) => match deliver(server, link, &outs) {
                 Ok(()) => {}
                 Err(halt) => return Err(halt),
@@ -98,12 +101,14 @@ fn as_taken(arrival: Arrival, node: bool) -> Arrival
 }
 
 // Takes an arrival, and all turns that it asks for.
-fn serve_arrival<G: Ledger, A: Archive, K: Link>(
+fn serve_arrival<W: Threads + Sync, G: Ledger, A: Archive, K: Link>(
+    rt: &W,
     server: &mut Server<G>,
     archive: &mut A,
     link: &mut K,
     arrival: Arrival,
     bytes: &[u8],
+    pace: &(dyn Pace + Sync),
 ) -> Result<(), Halt>
     requires live { G.is_live server.old.ledger }
     requires idle { IsIdle server.old }
@@ -141,16 +146,18 @@ fn serve_arrival<G: Ledger, A: Archive, K: Link>(
     ensures beside { KeepsBeside ⟦<G as Ledger>⟧ server.old.ledger server.new.ledger }
 {
     match server.take(arrival, bytes) {
-        Ok(()) => work_off(server, archive, link),
+        Ok(()) => work_off(rt, server, archive, link, pace),
         Err(_) => Err(Halt::Memory),
     }
 }
 
 /// Serves the arrivals that calls of `next` bring, as the options say.
-pub fn run<G: Ledger, A: Archive, K: Link>(
+pub fn run<W: Threads + Sync, G: Ledger, A: Archive, K: Link>(
+    rt: &W,
     server: &mut Server<G>,
     archive: &mut A,
     link: &mut K,
+    pace: &(dyn Pace + Sync),
     options: RunOptions,
 ) -> End
     requires live { G.is_live server.old.ledger }
@@ -177,7 +184,8 @@ pub fn run<G: Ledger, A: Archive, K: Link>(
             return End::LinkFailed;
         };
         let taken = as_taken(arrival, options.node);
-        if let Err(halt) = serve_arrival(server, archive, link, taken, brought(arrival, &buf)) {
+        let bytes = brought(arrival, &buf);
+        if let Err(halt) = serve_arrival(rt, server, archive, link, taken, bytes, pace) {
             return halt.end();
         }
         if ends(arrival) {

@@ -15,19 +15,22 @@ use crate::running::run;
 use el_core::Server;
 use el_headers::HeaderTree;
 use el_model::Ledger;
-use el_outside::{Archive, Link};
+use el_outside::{Archive, Link, Pace};
 use el_pool::Pool;
 use el_side::Holdings;
 use std::alloc::Global;
+use std::thread::Threads;
 
 /// Serves the arrivals that calls of `next` bring, as the options say, from a ledger and the headers that
 /// were found. Nothing unconfirmed is kept at the start. The ledger comes back as it stands.
-pub fn serve_from<G: Ledger, A: Archive, K: Link>(
+pub fn serve_from<W: Threads + Sync, G: Ledger, A: Archive, K: Link>(
+    rt: &W,
     alloc: Global,
     ledger: G,
     tree: HeaderTree,
     archive: &mut A,
     link: &mut K,
+    pace: &(dyn Pace + Sync),
     options: RunOptions,
 ) -> (End, G)
     requires live { G.is_live ledger }
@@ -51,6 +54,6 @@ pub fn serve_from<G: Ledger, A: Archive, K: Link>(
     let pool = Pool::new(alloc, options.limits);
     let holdings = Holdings { tree, magic, pool };
     let mut server = Server::new(alloc, ledger, holdings);
-    let end = run(&mut server, archive, link, options);
+    let end = run(rt, &mut server, archive, link, pace, options);
     (end, server.into_ledger())
 }

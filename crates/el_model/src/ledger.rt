@@ -1,5 +1,6 @@
 // The trait of ledgers: a chain that can be asked and moved.
 ghost use Rattle.std.specs.Prelude.{◌≡◌, ◌≢◌, ◌≤◌, ◌+◌, ◌-◌, ◌*◌, ℕ, List, [], ◌++◌, length, Some, Option, IfOk, IfErr, IfSome, MatchOption, OnOk, IsErrOf};
+ghost use Rattle.std.specs.Thread.{IsSync};
 ghost use Rattle.el_base.specs.declared.hash.Hash32 as shape;
 ghost use Rattle.el_outside.specs.Counts.{HasCause, CountsOnly, OnlyReads};
 ghost use Rattle.el_outside.specs.Disk.{Image};
@@ -17,9 +18,10 @@ ghost use Rattle.el_chain.specs.declared.moves.MoveFault.TheVariants as stop;
 use crate::fault::QueryFault;
 use el_base::Hash32;
 use el_chain::{Coin, Entry, MoveFault, Moved, Plan, Spot};
-use el_outside::{Archive, DiskFailed, Place};
+use el_outside::{Archive, DiskFailed, Pace, Place};
 use el_tx::Outpoint;
 use std::alloc::Global;
+use std::thread::Threads;
 
 /// A chain that can be asked and moved. Every call but `height` and `tip` asks that the ledger is live, and
 /// every call but `go` leaves it as it was, whatever it answers. A clause on content holds for every chain
@@ -192,19 +194,24 @@ pub trait Ledger {
         ensures cause { HasCause (faults self.old) (faults self.new) result };
 
     /// One move: `back` blocks are taken back and the blocks of `forward` are put in their place, all of it
-    /// or nothing. Their bytes are read from the block files.
+    /// or nothing. Their bytes are read from the block files. What can be prepared of them side by side may
+    /// be, in threads of the runtime; each piece of that enters the pace as it begins. Nothing that is
+    /// answered depends on either.
     ///
     /// # Errors
     ///
     /// In this order: `ArchiveFailed`; `Changed` for the first block whose bytes don't begin with its header;
     /// `BadBlock` or `Refused` for the first block in chain order that has a fault. After `DiskFailed`
     /// nothing says that the ledger is live; every other refusal changes nothing.
-    fn go<A: Archive>(
+    fn go<W: Threads + Sync, A: Archive>(
         &mut self,
+        rt: &W,
         alloc: Global,
         plan: &Plan,
         archive: &mut A,
+        pace: &(dyn Pace + Sync),
     ) -> Result<Moved, MoveFault>
+        requires sync { IsSync W.row }
         requires live { is_live self.old }
         requires plan { IsPlan plan.now }
         requires fits { (chain : Chain) → stands self.old chain → FitsChain plan.now chain }

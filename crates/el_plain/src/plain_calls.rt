@@ -16,9 +16,10 @@ use crate::txid::txid_of;
 use el_base::{Hash32, OutOfMemory};
 use el_chain::{Coin, Entry, MoveFault, Moved, Placed, Plan, Spot};
 use el_model::{Ledger, QueryFault};
-use el_outside::{Archive, DiskFailed, Place};
+use el_outside::{Archive, DiskFailed, Pace, Place};
 use el_tx::{Outpoint, Tx, block_hash, encode_header};
 use std::alloc::Global;
+use std::thread::Threads;
 
 // The header of the block at that height.
 fn header_in(blocks: &[Placed], h: u32) -> [u8; 80]
@@ -151,11 +152,13 @@ impl Ledger for PlainLedger {
         Ok(spender_of(self.blocks(), o))
     }
 
-    fn go<A: Archive>(
+    fn go<W: Threads + Sync, A: Archive>(
         &mut self,
+        _rt: &W,
         alloc: Global,
         plan: &Plan,
         archive: &mut A,
+        _pace: &(dyn Pace + Sync),
     ) -> Result<Moved, MoveFault> {
         // What is kept is good, before the move and after it.
         let _kept = self.blocks();

@@ -1,4 +1,6 @@
+pub mod Checks
 pub mod FileLemmas
+pub mod FreshDisks
 pub mod IndexDisks
 pub mod LifeLemmas
 pub mod Openings

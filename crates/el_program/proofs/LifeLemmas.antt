@@ -28,7 +28,9 @@ use Rattle.el_pages.specs.declared.layout.TheConstants.{FORMAT_1}
 use Rattle.el_pages.specs.Layouts.{rows_in}
 use Rattle.el_pages.specs.Indexes.{tables_in}
 use Rattle.el_words.specs.Commands.{IsServe}
-use Rattle.el_program.specs.IndexDisks.{ImageMeans, LeavesOneOf, IsIndexDisk, IsCall}
+use Rattle.el_program.specs.AnyCall.{IsCall}
+use Rattle.el_program.specs.IndexDisks.{ImageMeans, LeavesOneOf, IsIndexDisk}
+use Rattle.el_program.proofs.Checks.{serve_no_check}
 use Rattle.el_program.specs.Calls.{Call, CallEnds}
 use Rattle.el_program.specs.Ends.{serve, IndexEnds, UnopenedEnds, ServeEnds, IsServed}
 use Rattle.el_program.specs.Lives.{IsLeftBy, AreLives, GoOn, LeavesOthers, none, one}
@@ -183,7 +185,7 @@ module _ {D A K : Type 0} (of_disk : disk.Ghosts D) (of_files : archive.Ghosts A
       → IsIndexDisk of_disk magic l.before.disk was flight chain → IsCall of_disk of_files of_link l
       → Ended l was flight chain
   ended l was flight chain serves is call =
-      let e = call was flight chain (λ m also. rw (same_networks also serves) is) in
+      let e = call.served (λ count check. serve_no_check serves.is_serve check) was flight chain (λ m also. rw (same_networks also serves) is) in
       let only = only_served serves e.2 in
       let k = index_pinned (LeavesOneOf of_disk magic l.after.disk) of_files magic serves.said.settings.limits chain _ l.before.files l.after.files e.0 was flight l.status only
       in record {

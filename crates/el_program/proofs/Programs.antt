@@ -11,11 +11,12 @@ use Rattle.el_words.specs.Commands.{IsCommand}
 use Rattle.el_words.specs.declared.words.Command.{Command}
 use Rattle.el_words.specs.declared.words.Command.TheVariants as command
 use Rattle.el_program.specs.Calls.{Call}
-use Rattle.el_program.specs.IndexDisks.{IsCall}
-use Rattle.el_program.specs.Program.{IsServing, serve, once}
+use Rattle.el_program.specs.AnyCall.{IsCall}
+use Rattle.el_program.specs.Lives.{IsFresh}
+use Rattle.el_program.specs.Program.{IsServing, IsChecking, serve, once}
 use Rattle.el_program.specs.declared.status.Status.{Status}
 use Rattle.el_program.specs.declared.status.Status.TheVariants as status
-use Rattle.el_program.specs.within.Devices.{folder_of, index_of, ports_of, IsServeCommand, IsOnceCommand}
+use Rattle.el_program.specs.within.Devices.{folder_of, index_of, ports_of, IsServeCommand, IsOnceCommand, IsCheckCommand}
 
 -- a call over these files and ports is one over those that the command asks for
 pub asked_for : {E : Type 0} (P : Call (FilesOf Word) (BlocksOf Word) LinkOverPorts → Type 0)
@@ -43,8 +44,9 @@ asked_for P words asked (Ok s) index ports left is at_index at_ports = (
 )
 
 -- the words of a command are served
-pub command_served : {N S E : Type 0} (of_index : disk.Ghosts (FilesOf Word)) (of_none : disk.Ghosts N)
-    (of_files : archive.Ghosts (BlocksOf Word)) (of_ports : link.Ghosts LinkOverPorts)
+pub command_served : {N F B S E : Type 0} (of_index : disk.Ghosts (FilesOf Word)) (of_none : disk.Ghosts N)
+    (of_fresh : disk.Ghosts F) (of_files : archive.Ghosts (BlocksOf Word)) (of_no_files : archive.Ghosts B)
+    (of_ports : link.Ghosts LinkOverPorts)
     (of_streams : link.Ghosts S) (words : List Word) (asked : Command) (result : Result Status E)
     → IsCommand words asked
     → (IsServeCommand asked → IfOk result (λ s. (c : Call (FilesOf Word) (BlocksOf Word) LinkOverPorts)
@@ -54,23 +56,42 @@ pub command_served : {N S E : Type 0} (of_index : disk.Ghosts (FilesOf Word)) (o
     → (IsOnceCommand asked → IfOk result (λ s. (c : Call N (BlocksOf Word) S)
     × IsCall of_none of_files of_streams c × (c.words ≡ words) × (c.turns ≡ 2 ^ 64 - 1)
     × (c.before.files.folder ≡ folder_of asked) × (c.status ≡ s)))
-    → IfOk result (IsServing of_index of_none of_files of_ports of_streams words)
-command_served of_index of_none of_files of_ports of_streams words asked (Err e) is by_serve by_once = tt
-command_served of_index of_none of_files of_ports of_streams words (command.Serve said) (Ok s) is by_serve
-    by_once =
+    → (IsCheckCommand asked → IfOk result (λ s. (c : Call F B S)
+    × IsCall of_fresh of_no_files of_streams c × (c.words ≡ words) × (c.turns ≡ 2 ^ 64 - 1)
+    × IsFresh of_fresh c.before.disk × (c.status ≡ s)))
+    → IfOk result (λ s. IsServing of_index of_none of_files of_ports of_streams words s
+    ⊎ IsChecking of_fresh of_no_files of_streams words s)
+command_served of_index of_none of_fresh of_files of_no_files of_ports of_streams words asked (Err e) is by_serve
+    by_once by_check = tt
+command_served of_index of_none of_fresh of_files of_no_files of_ports of_streams words (command.Serve said)
+    (Ok s) is by_serve by_once by_check =
     let c = by_serve tt in
-    serve said is (record { call = c.0; is = c.1; words_are = c.2; turns_are = c.3; ends = c.7 }) c.4 c.5 c.6
-command_served of_index of_none of_files of_ports of_streams words (command.Once blocks network) (Ok s) is
-    by_serve by_once =
+    inl (serve said is (record { call = c.0; is = c.1; words_are = c.2; turns_are = c.3; ends = c.7 }) c.4 c.5 c.6)
+command_served of_index of_none of_fresh of_files of_no_files of_ports of_streams words
+    (command.Once blocks network) (Ok s) is by_serve by_once by_check =
     let c = by_once tt in
-    once blocks network is (record { call = c.0; is = c.1; words_are = c.2; turns_are = c.3; ends = c.5 }) c.4
+    inl (once blocks network is (record { call = c.0; is = c.1; words_are = c.2; turns_are = c.3; ends = c.5 }) c.4)
+command_served of_index of_none of_fresh of_files of_no_files of_ports of_streams words
+    (command.CheckChain count) (Ok s) is by_serve by_once by_check =
+    let c = by_check tt in
+    inr (record {
+      count = count;
+      is = is;
+      called = record { call = c.0; is = c.1; words_are = c.2; turns_are = c.3; ends = c.5 };
+      fresh = c.4;
+    })
 
 -- words were served, or memory ran out
-pub all_served : {N S E : Type 0} (of_index : disk.Ghosts (FilesOf Word)) (of_none : disk.Ghosts N)
-    (of_files : archive.Ghosts (BlocksOf Word)) (of_ports : link.Ghosts LinkOverPorts)
+pub all_served : {N F B S E : Type 0} (of_index : disk.Ghosts (FilesOf Word)) (of_none : disk.Ghosts N)
+    (of_fresh : disk.Ghosts F) (of_files : archive.Ghosts (BlocksOf Word)) (of_no_files : archive.Ghosts B)
+    (of_ports : link.Ghosts LinkOverPorts)
     (of_streams : link.Ghosts S) (words : List Word) (r : Result Status E) (s : Status)
-    → IfOk r (IsServing of_index of_none of_files of_ports of_streams words)
+    → IfOk r (λ ended. IsServing of_index of_none of_files of_ports of_streams words ended
+    ⊎ IsChecking of_fresh of_no_files of_streams words ended)
     → s ≡ result_unwrap_or r status.OutOfMemory
-    → (s ≡ status.OutOfMemory) ⊎ ((ws : List Word) × IsServing of_index of_none of_files of_ports of_streams ws s)
-all_served of_index of_none of_files of_ports of_streams words (Ok x) s is e = inr (words, rw e is)
-all_served of_index of_none of_files of_ports of_streams words (Err x) s is e = inl e
+    → (s ≡ status.OutOfMemory) ⊎ ((ws : List Word)
+    × (IsServing of_index of_none of_files of_ports of_streams ws s
+    ⊎ IsChecking of_fresh of_no_files of_streams ws s))
+all_served of_index of_none of_fresh of_files of_no_files of_ports of_streams words (Ok x) s is e =
+    inr (words, rw e is)
+all_served of_index of_none of_fresh of_files of_no_files of_ports of_streams words (Err x) s is e = inl e

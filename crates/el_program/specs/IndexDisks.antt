@@ -1,8 +1,6 @@
 -- The index on a disk, and what a call promises of it.
 use Rattle.std.specs.Prelude.{ℕ, List, length}
-use Rattle.el_outside.specs.declared.archive.Archive as archive
 use Rattle.el_outside.specs.declared.disk.Disk as disk
-use Rattle.el_outside.specs.declared.link.Link as link
 use Rattle.el_outside.specs.Disk.{Image}
 use Rattle.el_outside.specs.Moments.{LeftNow, LeavesOnly}
 use Rattle.el_chain.specs.Chains.{Chain}
@@ -13,8 +11,6 @@ use Rattle.el_pages.specs.declared.layout.TheConstants.{FORMAT_1}
 use Rattle.el_pages.specs.Indexes.{Shows}
 use Rattle.el_recovery.specs.Checks.{HasHeads}
 use Rattle.el_index.specs.Means.{Means}
-use Rattle.el_words.specs.Commands.{IsServe}
-use Rattle.el_program.specs.Calls.{Call, CallEnds}
 use Rattle.el_program.specs.OtherFiles.{OthersStay}
 
 -- the image of a disk stands for the tables, as those of the network with this magic
@@ -57,10 +53,3 @@ pub record IsIndexDisk {D : Type 0} (G : disk.Ghosts D) (magic : List ℕ) (d : 
   pub told : G.tells
   pub left : LeavesOneOf G magic d was flight
   pub reads : ImageMeans magic (G.seen d) chain
-
--- The call ends as `serve` promises, wherever the disk that its words ask for is an index.
-abbrev pub IsCall : {D A K : Type 0} → disk.Ghosts D → archive.Ghosts A → link.Ghosts K → Call D A K → Type 0
-IsCall of_disk of_files of_link c = (was flight chain : Chain)
-    → ((magic : List ℕ) → IsServe c.words magic → IsIndexDisk of_disk magic c.before.disk was flight chain)
-    → CallEnds of_disk of_files of_link c was flight chain
-    (λ magic acked flight'. LeavesOneOf of_disk magic c.after.disk acked flight')

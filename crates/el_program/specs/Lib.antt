@@ -7,5 +7,7 @@ pub mod Calls
 pub mod OtherFiles
 pub mod IndexDisks
 pub mod Lives
+pub mod Checks
+pub mod AnyCall
 pub mod Program
 pub mod within

@@ -1,17 +1,18 @@
 -- What the program does with the words that it is started with.
-use Rattle.std.specs.Prelude.{◌≡◌, ◌-◌, ◌^◌, List}
+use Rattle.std.specs.Prelude.{◌≡◌, ◌-◌, ◌^◌, ℕ, List}
 use Rattle.el_outside.specs.declared.archive.Archive as archive
 use Rattle.el_outside.specs.declared.disk.Disk as disk
 use Rattle.el_outside.specs.declared.link.Link as link
 use Rattle.el_open_files.specs.OpenFiles.{FilesOf}
 use Rattle.el_net.specs.Devices.{BlocksOf, LinkOverPorts}
 use Rattle.el_words.specs.Options.{Word}
-use Rattle.el_words.specs.Words.{IsServeOf, IsOnceOf}
+use Rattle.el_words.specs.Words.{IsServeOf, IsOnceOf, IsCheckOf}
 use Rattle.el_words.specs.Commands.{IsNoCommand}
 use Rattle.el_words.specs.declared.words.Network.{Network}
 use Rattle.el_words.specs.declared.words.ServeWords.{ServeWords}
 use Rattle.el_program.specs.Calls.{Call}
-use Rattle.el_program.specs.IndexDisks.{IsCall}
+use Rattle.el_program.specs.AnyCall.{IsCall}
+use Rattle.el_program.specs.Lives.{IsFresh}
 use Rattle.el_program.specs.declared.status.Status.{Status}
 use Rattle.el_program.specs.declared.status.Status.TheVariants as status
 
@@ -26,8 +27,8 @@ pub record IsCallWith {D A K : Type 0} (of_disk : disk.Ghosts D) (of_files : arc
   pub ends : call.status ≡ s
 
 -- The words were served over the devices that they ask for, and that ended so: with those of `serve` over the
--- two folders and the two ports, with those of `once` over the one folder and the standard streams. Others
--- are refused.
+-- two folders and the two ports, with those of `once` over the one folder and the standard streams. Words of
+-- no command are refused.
 pub data IsServing {N S : Type 0} (of_index : disk.Ghosts (FilesOf Word)) (of_none : disk.Ghosts N)
     (of_files : archive.Ghosts (BlocksOf Word)) (of_ports : link.Ghosts LinkOverPorts)
     (of_streams : link.Ghosts S) (words : List Word) (s : Status) : Type 0 where
@@ -41,3 +42,12 @@ pub data IsServing {N S : Type 0} (of_index : disk.Ghosts (FilesOf Word)) (of_no
       → IsServing of_index of_none of_files of_ports of_streams words s
   refused : IsNoCommand words → s ≡ status.Usage
       → IsServing of_index of_none of_files of_ports of_streams words s
+
+-- Words of `check-chain` were served over a disk whose files are empty, no block files, and the standard
+-- streams, and that ended so.
+pub record IsChecking {F B S : Type 0} (of_fresh : disk.Ghosts F) (of_no_files : archive.Ghosts B)
+    (of_streams : link.Ghosts S) (words : List Word) (s : Status) : Type 0 where
+  pub count : ℕ
+  pub is : IsCheckOf words count
+  pub called : IsCallWith of_fresh of_no_files of_streams words s
+  pub fresh : IsFresh of_fresh called.call.before.disk

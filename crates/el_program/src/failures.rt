@@ -126,6 +126,7 @@ pub fn tell_commands(rt: &HostRuntime) {
         "electrum_serve once --blocks DIR --network NET\n\
          electrum_serve serve --blocks DIR --index DIR --network NET --client-port N --node-port N \
          [--pool-count N] [--pool-bytes N]\n\
+         electrum_serve check-chain N\n\
          NET: main, testnet3 or regtest\n"
     );
 }

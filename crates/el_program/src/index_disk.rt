@@ -1,5 +1,5 @@
 // The index on a disk.
-ghost use Rattle.std.specs.Prelude.{◌≡◌, ◌≢◌, ◌⊎◌, ◌<◌, ℕ, IfOk, IfErr, MatchResult};
+ghost use Rattle.std.specs.Prelude.{◌≡◌, ◌≢◌, ◌⊎◌, ◌<◌, ◌≤◌, ℕ, IfOk, IfErr, MatchResult};
 ghost use Rattle.el_chain.specs.Chains.{Chain};
 ghost use Rattle.el_outside.specs.Counts.{RoseBy};
 ghost use Rattle.el_program.specs.IndexDisks.{LeavesOneOf, IsNoIndex, IsAsBefore, IsIndexDisk};
@@ -40,6 +40,9 @@ pub fn open_index<D: Disk, N: NetworkMagic>(
     // It stands for what the disk stands for as it reads.
     ensures stands { (was flight chain : Chain) → IsIndexDisk ⟦<D as Disk>⟧ N.magic disk was flight chain
         → IfOk result (λ i. ⟦<Index<Pages<D, N>> as el_model::Ledger>⟧.stands i chain) }
+    // Its clock goes on from the disk's.
+    ensures later { D.tells → IfOk result (λ i. D.moment disk
+        ≤ ⟦<Index<Pages<D, N>> as el_model::Ledger>⟧.moment i) }
     ensures unopened { (was flight chain : Chain) → IsIndexDisk ⟦<D as Disk>⟧ N.magic disk was flight chain
         → IfErr result (λ e. (e.0 ≢ Status.BadIndex) × LeavesOneOf ⟦<D as Disk>⟧ N.magic e.1 was flight) }
     ensures status { IfErr result (λ e. (e.0 ≡ Status.BadIndex)

@@ -1,6 +1,7 @@
 //! The program: the words of the command line, the opening, calls of `serve`, statuses.
 #![tactic(auto)]
 
+mod checked;
 mod failures;
 mod file;
 mod index_disk;

@@ -6,14 +6,16 @@ ghost use Rattle.el_outside.specs.Disk.{Image};
 ghost use Rattle.el_words.specs.Commands.{IsServe};
 ghost use Rattle.el_words.specs.Words.{texts};
 ghost use Rattle.el_program.specs.Calls.{Call};
-ghost use Rattle.el_program.specs.IndexDisks.{ImageMeans, LeavesOneOf, IsCall};
+ghost use Rattle.el_program.specs.IndexDisks.{ImageMeans, LeavesOneOf};
+ghost use Rattle.el_program.specs.AnyCall.{IsCall};
 ghost use Rattle.el_program.specs.Lives.{AreLives, AreOver, GoOn, IsFresh, IsLeftBy, LeavesOthers, last_disk};
 ghost use Rattle.el_program.specs.within.Lived.{Lived};
 
 use crate::serving::serve;
 use crate::status::Status;
-use el_outside::{Archive, Disk, Link};
+use el_outside::{Archive, Disk, Link, Pace};
 use std::alloc::Global;
+use std::thread::Threads;
 
 /// Lives that follow each other on one disk, each a call of `serve`, however each ended: each is a run from
 /// the chain that its opening found, and that is the one that the life before acknowledged last, or the one
@@ -36,11 +38,13 @@ pub trait Between<D: Disk> {
 }
 
 // Lives one after the other, the first on what this disk leaves, which stands for the one chain or the other.
-fn live_on<D: Disk, A: Archive, K: Link, B: Between<D>>(
+fn live_on<W: Threads + Sync, D: Disk, A: Archive, K: Link, B: Between<D>>(
+    rt: &W,
     alloc: Global,
     words: &[String],
     disk: D,
     between: &mut B,
+    pace: &(dyn Pace + Sync),
     turns: u64,
     archives: &mut [A],
     links: &mut [K],
@@ -63,19 +67,23 @@ fn live_on<D: Disk, A: Archive, K: Link, B: Between<D>>(
         return disk;
     };
     let disk = between.next(disk);
-    let (status, disk) = serve(alloc, words, disk, archive, link, turns);
+    let (status, disk) = serve(rt, alloc, words, disk, archive, link, pace, turns);
     *end = status;
-    live_on(alloc, words, disk, between, turns, archives, links, ends)
+    live_on(
+        rt, alloc, words, disk, between, pace, turns, archives, links, ends,
+    )
 }
 
 /// Lives of the program, one after the other, one for each of the links, over the block files beside it. The
 /// first begins on a disk whose files are empty, each next on what the one before may leave. It writes down
 /// how each ends, and gives back the disk as the last leaves it.
-pub fn live<D: Disk, A: Archive, K: Link, B: Between<D>>(
+pub fn live<W: Threads + Sync, D: Disk, A: Archive, K: Link, B: Between<D>>(
+    rt: &W,
     alloc: Global,
     words: &[String],
     disk: D,
     between: &mut B,
+    pace: &(dyn Pace + Sync),
     turns: u64,
     archives: &mut [A],
     links: &mut [K],
@@ -92,5 +100,7 @@ pub fn live<D: Disk, A: Archive, K: Link, B: Between<D>>(
         × AllByRecursion (LeavesOthers ⟦<D as Disk>⟧) lives
         × GoOn ⟦<D as Disk>⟧ ⟦<A as Archive>⟧ ⟦<K as Link>⟧ [] [] lives }
 {
-    live_on(alloc, words, disk, between, turns, archives, links, ends)
+    live_on(
+        rt, alloc, words, disk, between, pace, turns, archives, links, ends,
+    )
 }

@@ -4,26 +4,29 @@ ghost use Rattle.std.specs.Process.{exit_status};
 ghost use Rattle.el_words.specs.Options.{Word};
 ghost use Rattle.el_words.specs.Words.{texts};
 ghost use Rattle.el_words.specs.Commands.{IsNoCommand};
-ghost use Rattle.el_program.specs.within.Devices.{folder_of, index_of, ports_of, IsServeCommand, IsOnceCommand};
+ghost use Rattle.el_program.specs.within.Devices.{folder_of, index_of, ports_of, IsServeCommand, IsOnceCommand, IsCheckCommand};
 ghost use Rattle.el_program.specs.Calls.{Call};
-ghost use Rattle.el_program.specs.IndexDisks.{IsCall};
-ghost use Rattle.el_program.specs.Program.{IsServing};
+ghost use Rattle.el_program.specs.AnyCall.{IsCall};
+ghost use Rattle.el_program.specs.Lives.{IsFresh};
+ghost use Rattle.el_program.specs.Program.{IsServing, IsChecking};
 ghost use Rattle.el_program.specs.Statuses.{code_of};
 
 use crate::failures::{Failing, tell_cause, tell_commands};
 use crate::serving::serve;
 use crate::status::Status;
 use el_base::OutOfMemory;
+use el_mem_disk::{FailingCalls, MemDisk, Residue};
 use el_net::{
     BlockFiles, BlockFolder, IndexFolder, NoDisk, NoFiles, NoLink, StandardLink, TcpLink,
     index_files,
 };
 use el_open_files::FileDisk;
-use el_outside::{Disk, Link};
+use el_outside::{Disk, Link, NoPace};
 use el_sockets::Ports;
 use el_words::{Command, read_words};
 use std::alloc::Global;
 use std::process::ExitCode;
+use std::thread::Threads;
 use std::{env, io};
 
 // At most this many calls of `next` are made: more than a program makes in its life.
@@ -49,7 +52,7 @@ fn words_of(rt: &HostRuntime) -> Result<Vec<String>, OutOfMemory> {
     }
 }
 
-// The block files that the command asks for: those of its folder.
+// The block files that the command asks for: those of its folder. `check-chain` asks for none.
 fn files_of(
     rt: HostRuntime,
     alloc: Global,
@@ -58,13 +61,14 @@ fn files_of(
     ensures { IfOk result (λ files. (files.folder ≡ folder_of command.now) × (files.faults ≡ 0)) }
 {
     let folder = match command {
-        Command::Serve(said) => &said.blocks,
-        Command::Once { blocks, .. } => blocks,
+        Command::Serve(said) => said.blocks.as_str(),
+        Command::Once { blocks, .. } => blocks.as_str(),
+        Command::CheckChain { .. } => "",
     };
-    BlockFiles::new(rt, alloc, folder.as_str())
+    BlockFiles::new(rt, alloc, folder)
 }
 
-// The index that the command asks for: the files of its folder. `once` asks for none.
+// The index that the command asks for: the files of its folder. Only `serve` asks for one.
 fn disk_of(
     rt: HostRuntime,
     alloc: Global,
@@ -74,15 +78,16 @@ fn disk_of(
 {
     let folder = match command {
         Command::Serve(said) => said.index.as_str(),
-        Command::Once { .. } => "",
+        Command::Once { .. } | Command::CheckChain { .. } => "",
     };
     index_files(rt, alloc, folder)
 }
 
 // Serves the words over a disk, the block files of their command and a link: a call of `serve` with them ends
 // so.
-fn serve_over<D: Disk + Failing + Drop, K: Link + Failing>(
+fn serve_over<W: Threads + Sync, D: Disk + Failing + Drop, K: Link + Failing>(
     rt: &HostRuntime,
+    threads: &W,
     words: &[String],
     command: &Command,
     disk: D,
@@ -97,12 +102,21 @@ fn serve_over<D: Disk + Failing + Drop, K: Link + Failing>(
     ensures lawful { IfOk result (λ status. status ≡ Status.Usage → IsNoCommand (texts words.now)) }
 {
     let mut archive = files_of(rt.clone()?, rt.alloc(), command)?;
-    let (status, disk) = serve(rt.alloc(), words, disk, &mut archive, link, TURNS);
+    let (status, disk) = serve(
+        threads,
+        rt.alloc(),
+        words,
+        disk,
+        &mut archive,
+        link,
+        &NoPace,
+        TURNS,
+    );
     tell_cause(rt, status, &disk, &archive, &*link);
     Ok(status)
 }
 
-// What is told once the ports are open: the network, the folders and the ports. Nothing for `once`.
+// What is told once the ports are open: the network, the folders and the ports. Nothing but for `serve`.
 fn start_line(alloc: Global, command: &Command) -> Result<String, OutOfMemory> {
     match command {
         Command::Serve(said) => {
@@ -116,14 +130,57 @@ fn start_line(alloc: Global, command: &Command) -> Result<String, OutOfMemory> {
                  clients on port {client_port}, node on port {node_port}\n"
             )?)
         }
-        Command::Once { .. } => Ok(String::new(alloc)),
+        Command::Once { .. } | Command::CheckChain { .. } => Ok(String::new(alloc)),
     }
 }
 
-// Serves the command of these words over its devices: for `serve` the files of its index and two ports, for
-// `once` the standard streams.
-fn serve_command(
+// A disk in memory whose files are empty, no call of which is made to fail.
+fn fresh_disk(alloc: Global) -> MemDisk
+    ensures { IsFresh ⟦<MemDisk as Disk>⟧ result }
+{
+    MemDisk::new(
+        alloc,
+        FailingCalls {
+            listed: Vec::new(alloc),
+            from: None,
+            residue: Residue::Nothing,
+        },
+    )
+}
+
+// Serves the words over a disk in memory whose files are empty, no block files, and the standard streams.
+fn serve_fresh<W: Threads + Sync>(
     rt: &HostRuntime,
+    threads: &W,
+    words: &[String],
+) -> Result<Status, OutOfMemory>
+    ensures ends { IfOk result (λ status. (c : Call _ _ _)
+        × IsCall ⟦<MemDisk as Disk>⟧ ⟦<NoFiles as el_outside::Archive>⟧
+        ⟦<StandardLink<HostRuntime> as Link>⟧ c
+        × (c.words ≡ texts words.now) × (c.turns ≡ 2 ^ 64 - 1) × IsFresh ⟦<MemDisk as Disk>⟧ c.before.disk
+        × (c.status ≡ status)) }
+    ensures refused { IsNoCommand (texts words.now) → IfOk result (λ status. status ≡ Status.Usage) }
+    ensures lawful { IfOk result (λ status. status ≡ Status.Usage → IsNoCommand (texts words.now)) }
+{
+    let mut link = StandardLink::new(rt.clone()?);
+    let (status, _) = serve(
+        threads,
+        rt.alloc(),
+        words,
+        fresh_disk(rt.alloc()),
+        &mut NoFiles::new(),
+        &mut link,
+        &NoPace,
+        TURNS,
+    );
+    Ok(status)
+}
+
+// Serves the command of these words over its devices: for `serve` the files of its index and two ports, for
+// `once` the standard streams, for `check-chain` a disk in memory and the standard streams.
+fn serve_command<W: Threads + Sync>(
+    rt: &HostRuntime,
+    threads: &W,
     words: &[String],
     command: &Command,
 ) -> Result<Status, OutOfMemory>
@@ -138,6 +195,11 @@ fn serve_command(
         ⟦<StandardLink<HostRuntime> as Link>⟧ c
         × (c.words ≡ texts words.now) × (c.turns ≡ 2 ^ 64 - 1)
         × (c.before.files.folder ≡ folder_of command.now) × (c.status ≡ status)) }
+    ensures check { IsCheckCommand command.now → IfOk result (λ status. (c : Call _ _ _)
+        × IsCall ⟦<MemDisk as Disk>⟧ ⟦<NoFiles as el_outside::Archive>⟧
+        ⟦<StandardLink<HostRuntime> as Link>⟧ c
+        × (c.words ≡ texts words.now) × (c.turns ≡ 2 ^ 64 - 1) × IsFresh ⟦<MemDisk as Disk>⟧ c.before.disk
+        × (c.status ≡ status)) }
     ensures refused { IsNoCommand (texts words.now) → IfOk result (λ status. status ≡ Status.Usage) }
     ensures lawful { IfOk result (λ status. status ≡ Status.Usage → IsNoCommand (texts words.now)) }
 {
@@ -150,58 +212,71 @@ fn serve_command(
             };
             let line = start_line(rt.alloc(), command)?;
             let mut link = TcpLink::new(rt.clone()?, rt.alloc(), ports, line)?;
-            serve_over(rt, words, command, disk, &mut link)
+            serve_over(rt, threads, words, command, disk, &mut link)
         }
         Command::Once { .. } => {
             let mut link = StandardLink::new(rt.clone()?);
-            serve_over(rt, words, command, NoDisk::new(), &mut link)
+            serve_over(rt, threads, words, command, NoDisk::new(), &mut link)
         }
+        Command::CheckChain { .. } => serve_fresh(rt, threads, words),
     }
 }
 
 // Serves words that are no command over devices that have nothing.
-fn serve_nobody(rt: &HostRuntime, words: &[String]) -> Status
+fn serve_nobody<W: Threads + Sync>(rt: &HostRuntime, threads: &W, words: &[String]) -> Status
     requires { IsNoCommand (texts words.now) }
     ensures { result ≡ Status.Usage }
 {
     let (status, _) = serve(
+        threads,
         rt.alloc(),
         words,
         NoDisk::new(),
         &mut NoFiles::new(),
         &mut NoLink { calls: 0 },
+        &NoPace,
         TURNS,
     );
     status
 }
 
 // Serves the words over the devices that they ask for.
-fn serve_words(rt: &HostRuntime, words: &[String]) -> Result<Status, OutOfMemory>
-    ensures serving { IfOk result (IsServing ⟦<FileDisk<IndexFolder<HostRuntime>> as Disk>⟧ ⟦<NoDisk as Disk>⟧
+fn serve_words<W: Threads + Sync>(
+    rt: &HostRuntime,
+    threads: &W,
+    words: &[String],
+) -> Result<Status, OutOfMemory>
+    ensures serving { IfOk result (λ status.
+        IsServing ⟦<FileDisk<IndexFolder<HostRuntime>> as Disk>⟧ ⟦<NoDisk as Disk>⟧
         ⟦<BlockFiles<BlockFolder<HostRuntime>> as el_outside::Archive>⟧ ⟦<TcpLink<HostRuntime> as Link>⟧
-        ⟦<StandardLink<HostRuntime> as Link>⟧ (texts words.now)) }
+        ⟦<StandardLink<HostRuntime> as Link>⟧ (texts words.now) status
+        ⊎ IsChecking ⟦<MemDisk as Disk>⟧ ⟦<NoFiles as el_outside::Archive>⟧
+        ⟦<StandardLink<HostRuntime> as Link>⟧ (texts words.now) status) }
     ensures refused { IsNoCommand (texts words.now) → IfOk result (λ status. status ≡ Status.Usage) }
     ensures lawful { IfOk result (λ status. status ≡ Status.Usage → IsNoCommand (texts words.now)) }
 {
     match read_words(rt.alloc(), words)? {
-        Some(command) => serve_command(rt, words, &command),
+        Some(command) => serve_command(rt, threads, words, &command),
         None => {
             tell_commands(rt);
-            Ok(serve_nobody(rt, words))
+            Ok(serve_nobody(rt, threads, words))
         }
     }
 }
 
 /// Serves the words that the program was started with, with no end of turns, and answers how that ended. What
-/// the words are is the system's to say; a word that is no text counts as no command.
-pub fn serve_all(rt: &HostRuntime) -> Status
+/// the words are is the system's to say; a word that is no text counts as no command. `threads` is the runtime
+/// once more, as what starts threads: only `main` can lend it as that.
+pub fn serve_all<W: Threads + Sync>(rt: &HostRuntime, threads: &W) -> Status
     ensures { (result ≡ Status.OutOfMemory) ⊎ ((words : List Word)
-        × IsServing ⟦<FileDisk<IndexFolder<HostRuntime>> as Disk>⟧ ⟦<NoDisk as Disk>⟧
+        × (IsServing ⟦<FileDisk<IndexFolder<HostRuntime>> as Disk>⟧ ⟦<NoDisk as Disk>⟧
         ⟦<BlockFiles<BlockFolder<HostRuntime>> as el_outside::Archive>⟧ ⟦<TcpLink<HostRuntime> as Link>⟧
-        ⟦<StandardLink<HostRuntime> as Link>⟧ words result) }
+        ⟦<StandardLink<HostRuntime> as Link>⟧ words result
+        ⊎ IsChecking ⟦<MemDisk as Disk>⟧ ⟦<NoFiles as el_outside::Archive>⟧
+        ⟦<StandardLink<HostRuntime> as Link>⟧ words result)) }
 {
     match words_of(rt) {
-        Ok(words) => serve_words(rt, words.as_slice()).unwrap_or(Status::OutOfMemory),
+        Ok(words) => serve_words(rt, threads, words.as_slice()).unwrap_or(Status::OutOfMemory),
         Err(_) => Status::OutOfMemory,
     }
 }

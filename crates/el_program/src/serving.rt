@@ -5,9 +5,10 @@ ghost use Rattle.el_outside.specs.Files.{AllGrow};
 ghost use Rattle.el_outside.specs.Trace.{Trace};
 ghost use Rattle.el_chain.specs.declared.node.Node as shape;
 ghost use Rattle.el_chain.specs.Chains.{Chain};
-ghost use Rattle.el_words.specs.Words.{network_magic, texts};
+ghost use Rattle.el_words.specs.Words.{IsCheckOf, network_magic, texts};
 ghost use Rattle.el_words.specs.Commands.{IsNoCommand, IsServe};
-ghost use Rattle.el_program.specs.IndexDisks.{LeavesOneOf, IsNoIndex, IsAsBefore, IsIndexDisk, IsCall};
+ghost use Rattle.el_program.specs.IndexDisks.{LeavesOneOf, IsNoIndex, IsAsBefore, IsIndexDisk};
+ghost use Rattle.el_program.specs.AnyCall.{IsCall};
 ghost use Rattle.el_loop.specs.Counts.{counts_of, devices};
 ghost use Rattle.el_program.specs.Calls.{call};
 ghost use Rattle.el_program.specs.OtherFiles.{OthersStay};
@@ -17,6 +18,7 @@ ghost use Rattle.el_loop.specs.Runs.{WentBy};
 ghost use Rattle.el_program.specs.Ends.{OnceEnds, IndexEnds, IsBadFile, IsUnserved, IsUnopened};
 ghost use Rattle.el_program.specs.within.Unread.{unread_status};
 
+use crate::checked::serve_check;
 use crate::file::{FileFault, read_chain};
 use crate::index_disk::open_index;
 use crate::opening::tree_of;
@@ -25,11 +27,12 @@ use crate::status::Status;
 use el_headers::HeaderTree;
 use el_loop::{RunOptions, serve_from};
 use el_mempool::PoolLimits;
-use el_outside::{Archive, Disk, Link};
+use el_outside::{Archive, Disk, Link, Pace};
 use el_plain::PlainLedger;
 use el_redo::{Mainnet, NetworkMagic, Regtest, Testnet3};
-use el_words::{Network, greatest_limits, once_of, serve_of};
+use el_words::{Network, check_of, greatest_limits, once_of, serve_of};
 use std::alloc::Global;
+use std::thread::Threads;
 
 // How the program ends where file 0 can't be read.
 fn status_of(fault: FileFault) -> Status
@@ -67,12 +70,14 @@ fn open_file<A: Archive>(
 }
 
 // `serve`: a node and clients, from the index on the disk and the headers of all block files.
-fn serve_disk<D: Disk, N: NetworkMagic, A: Archive, K: Link>(
+fn serve_disk<W: Threads + Sync, D: Disk, N: NetworkMagic, A: Archive, K: Link>(
+    rt: &W,
     alloc: Global,
     limits: PoolLimits,
     disk: D,
     archive: &mut A,
     link: &mut K,
+    pace: &(dyn Pace + Sync),
     turns: u64,
 ) -> (Status, D)
     ensures ends { (was flight chain : Chain) → IsIndexDisk ⟦<D as Disk>⟧ N.magic disk was flight chain
@@ -98,12 +103,14 @@ fn serve_disk<D: Disk, N: NetworkMagic, A: Archive, K: Link>(
     match open_index::<D, N>(alloc, disk) {
         Ok(index) => {
             let (status, index) = serve_index(
+                rt,
                 alloc,
                 index,
                 N::magic(),
                 limits,
                 archive,
                 link,
+                pace,
                 turns,
             );
             (status, index.into_rows().into_disk())
@@ -113,13 +120,15 @@ fn serve_disk<D: Disk, N: NetworkMagic, A: Archive, K: Link>(
 }
 
 // `serve` for a network.
-fn serve_network<D: Disk, A: Archive, K: Link>(
+fn serve_network<W: Threads + Sync, D: Disk, A: Archive, K: Link>(
+    rt: &W,
     alloc: Global,
     network: Network,
     limits: PoolLimits,
     disk: D,
     archive: &mut A,
     link: &mut K,
+    pace: &(dyn Pace + Sync),
     turns: u64,
 ) -> (Status, D)
     ensures ends { (was flight chain : Chain)
@@ -146,22 +155,26 @@ fn serve_network<D: Disk, A: Archive, K: Link>(
     ensures keeps { A.tells → AllGrow (A.bytes archive.old) (A.bytes archive.new) }
 {
     match network {
-        Network::Main => serve_disk::<D, Mainnet, A, K>(alloc, limits, disk, archive, link, turns),
-        Network::Testnet3 => serve_disk::<D, Testnet3, A, K>(
-            alloc, limits, disk, archive, link, turns,
+        Network::Main => serve_disk::<W, D, Mainnet, A, K>(
+            rt, alloc, limits, disk, archive, link, pace, turns,
         ),
-        Network::Regtest => serve_disk::<D, Regtest, A, K>(
-            alloc, limits, disk, archive, link, turns,
+        Network::Testnet3 => serve_disk::<W, D, Testnet3, A, K>(
+            rt, alloc, limits, disk, archive, link, pace, turns,
+        ),
+        Network::Regtest => serve_disk::<W, D, Regtest, A, K>(
+            rt, alloc, limits, disk, archive, link, pace, turns,
         ),
     }
 }
 
 // `once`: clients without a node, from the chain and the headers of file 0.
-fn serve_file<A: Archive, K: Link>(
+fn serve_file<W: Threads + Sync, A: Archive, K: Link>(
+    rt: &W,
     alloc: Global,
     magic: [u8; 4],
     archive: &mut A,
     link: &mut K,
+    pace: &(dyn Pace + Sync),
     turns: u64,
 ) -> Status
     ensures ends { (disk : ℕ) → (traffic : Trace)
@@ -182,7 +195,7 @@ fn serve_file<A: Archive, K: Link>(
                 node: false,
                 turns,
             };
-            let (end, _) = serve_from(alloc, ledger, tree, archive, link, options);
+            let (end, _) = serve_from(rt, alloc, ledger, tree, archive, link, pace, options);
             Status::of_end(end)
         }
         Err(fault) => status_of(fault),
@@ -192,18 +205,25 @@ fn serve_file<A: Archive, K: Link>(
 /// Does all that the program does. With the words of `serve` it opens the index on the disk, finds the
 /// headers of all block files, and answers the node and the clients of the link, from the chain to which the
 /// node leads it. With those of `once` it reads file 0, and answers the link's clients from its chain,
-/// without the disk. It ends as the link does, or fails, and makes at most `turns` calls of `next`. The disk
-/// comes back as it stands; where it is no index of the network, it stands for what it stood for before.
-pub fn serve<D: Disk, A: Archive, K: Link>(
+/// without the disk. It ends as the link does, or fails, and makes at most `turns` calls of `next`. With
+/// those of `check-chain` it leads an index on the disk, whose files are to be empty, over a file that it
+/// makes, and sends client 1 one line that sums it up. The blocks of a move are prepared in threads of the
+/// runtime, each piece of which enters the pace as it begins. The disk comes back as it stands; where it is no
+/// index of the network, it stands for what it stood for before.
+pub fn serve<W: Threads + Sync, D: Disk, A: Archive, K: Link>(
+    rt: &W,
     alloc: Global,
     words: &[String],
     disk: D,
     archive: &mut A,
     link: &mut K,
+    pace: &(dyn Pace + Sync),
     turns: u64,
 ) -> (Status, D)
     // What was sent and closed is a run from what the disk and the block files gave, each status has its
     // cause, and what a crash may leave in the end is the chain that is acknowledged or the one in flight.
+    // With the words of `check-chain`, over a disk whose files are empty, the line of the check was sent, or
+    // nothing.
     ensures ends { IsCall ⟦<D as Disk>⟧ ⟦<A as Archive>⟧ ⟦<K as Link>⟧ (call (texts words.now) turns
         (devices disk archive.old link.old) (devices result.1 archive.new link.new) result.0) }
     // The index is bad exactly where the disk stands for no tables of the network.
@@ -225,27 +245,33 @@ pub fn serve<D: Disk, A: Archive, K: Link>(
     ensures refused { IsNoCommand (texts words.now) → result.0 ≡ Status.Usage }
     ensures lawful { result.0 ≡ Status.Usage → IsNoCommand (texts words.now) }
     ensures unread { result.0 ≡ Status.Usage → archive.new ≡ archive.old }
-    // The disk is called only for an index, and the link only to serve.
-    ensures untouched { ((magic : List ℕ) → IsServe (texts words.now) magic → ⊥) → result.1 ≡ disk }
+    // The disk is called only for an index or a check, and the link only to serve.
+    ensures untouched { ((magic : List ℕ) → IsServe (texts words.now) magic → ⊥)
+        → ((count : ℕ) → IsCheckOf (texts words.now) count → ⊥) → result.1 ≡ disk }
     ensures unserved { IsUnserved result.0 → link.new ≡ link.old }
     ensures keeps { A.tells → AllGrow (A.bytes archive.old) (A.bytes archive.new) }
 {
     if let Some(settings) = serve_of(words) {
-        return serve_network::<D, A, K>(
+        return serve_network::<W, D, A, K>(
+            rt,
             alloc,
             settings.network,
             settings.limits,
             disk,
             archive,
             link,
+            pace,
             turns,
         );
     }
-    match once_of(words) {
-        Some(network) => (
-            serve_file::<A, K>(alloc, network.magic(), archive, link, turns),
+    if let Some(network) = once_of(words) {
+        return (
+            serve_file::<W, A, K>(rt, alloc, network.magic(), archive, link, pace, turns),
             disk,
-        ),
+        );
+    }
+    match check_of(words) {
+        Some(count) => serve_check(rt, alloc, count, disk, link, pace),
         None => (Status::Usage, disk),
     }
 }

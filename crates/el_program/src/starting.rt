@@ -16,8 +16,9 @@ use crate::status::Status;
 use el_loop::{RunOptions, serve_from};
 use el_mempool::PoolLimits;
 use el_model::Ledger;
-use el_outside::{Archive, Link};
+use el_outside::{Archive, Link, Pace};
 use std::alloc::Global;
+use std::thread::Threads;
 
 // How the program ends where nobody can be served from an index that is open.
 fn status_of(fault: StartFault) -> Status
@@ -33,13 +34,15 @@ fn status_of(fault: StartFault) -> Status
 
 /// Serves a node and clients from an index that is open, with these limits of the unconfirmed set. The ledger
 /// comes back as it stands.
-pub fn serve_index<G: Ledger, A: Archive, K: Link>(
+pub fn serve_index<W: Threads + Sync, G: Ledger, A: Archive, K: Link>(
+    rt: &W,
     alloc: Global,
     ledger: G,
     magic: [u8; 4],
     limits: PoolLimits,
     archive: &mut A,
     link: &mut K,
+    pace: &(dyn Pace + Sync),
     turns: u64,
 ) -> (Status, G)
     requires live { G.is_live ledger }
@@ -66,7 +69,7 @@ pub fn serve_index<G: Ledger, A: Archive, K: Link>(
                 node: true,
                 turns,
             };
-            let (end, ledger) = serve_from(alloc, ledger, tree, archive, link, options);
+            let (end, ledger) = serve_from(rt, alloc, ledger, tree, archive, link, pace, options);
             (Status::of_end(end), ledger)
         }
         Err(fault) => (status_of(fault), ledger),

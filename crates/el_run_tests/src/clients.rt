@@ -8,6 +8,7 @@ use el_trials::{
 };
 use std::alloc::Global;
 use std::test::Fail;
+use std::thread::Threads;
 
 // Two clients of three subscribe to the script of the second block, which comes; one of them leaves, and the
 // block is taken back.
@@ -48,18 +49,18 @@ const ENDINGS: &[(u64, Status, &str)] = &[
 ];
 
 // How the run ends where this call of `send` fails, and what is sent and closed.
-fn run(alloc: Global, send: u64) -> Result<(Status, String), Fail> {
+fn run<W: Threads + Sync>(rt: &W, alloc: Global, send: u64) -> Result<(Status, String), Fail> {
     let steps = coming(alloc, STEPS, 1_000)?;
     let fails = Failing { send, ..NONE_FAILS };
     let files = files_of(alloc, Files::Branch(2))?;
-    let found = call_failing(alloc, SERVE, files, steps, fails)?;
+    let found = call_failing(rt, alloc, SERVE, files, steps, fails)?;
     Ok((found.status, found.text))
 }
 
 #[test]
 fn clients_are_told_in_their_order(rt: HostRuntime) -> Result<(), Fail> {
     for (send, status, want) in ENDINGS {
-        let (ended, text) = run(rt.alloc(), *send)?;
+        let (ended, text) = run(&rt, rt.alloc(), *send)?;
         expect_ended(rt.alloc(), (ended, text.as_str()), (*status, *want))?;
     }
     Ok(())
@@ -79,7 +80,7 @@ fn one_client_more_than_may_be(rt: HostRuntime) -> Result<(), Fail> {
     let alloc = rt.alloc();
     let steps = openings(alloc, 257)?;
     let files = files_of(alloc, Files::Branch(1))?;
-    let (status, text) = call_steady(alloc, SERVE, files, steps)?;
+    let (status, text) = call_steady(&rt, alloc, SERVE, files, steps)?;
     let wanted = (Status::Ended, "closed 257 Clients\n");
     expect_ended(alloc, (status, text.as_str()), wanted)?;
     Ok(())
@@ -153,7 +154,7 @@ fn one_subscription_more_than_may_be(rt: HostRuntime) -> Result<(), Fail> {
     let alloc = rt.alloc();
     let steps = nearly_full(alloc)?;
     let files = files_of(alloc, Files::Branch(2))?;
-    let (status, text) = call_steady(alloc, SERVE, files, steps)?;
+    let (status, text) = call_steady(&rt, alloc, SERVE, files, steps)?;
     let wanted = (Status::Ended, LAST_SENT);
     expect_ended(alloc, (status, text.as_str()), wanted)?;
     Ok(())

@@ -1,5 +1,6 @@
 // Calls over a ledger that already has a chain, as an index of an earlier life has.
 use el_gen::{BLOCK_1, GENESIS};
+use el_outside::NoPace;
 use el_plain::PlainLedger;
 use el_program::{Status, read_chain, serve_index};
 use el_trials::Part::Block;
@@ -10,6 +11,7 @@ use el_trials::{
 use el_words::greatest_limits;
 use std::alloc::Global;
 use std::test::Fail;
+use std::thread::Threads;
 
 // A ledger with the first blocks of the first branch.
 fn ledger_of(alloc: Global, count: u32) -> Result<PlainLedger, Fail> {
@@ -21,7 +23,8 @@ fn ledger_of(alloc: Global, count: u32) -> Result<PlainLedger, Fail> {
 }
 
 // How a call over such a ledger ends, and what is sent and closed.
-fn call(
+fn call<W: Threads + Sync>(
+    rt: &W,
     alloc: Global,
     count: u32,
     files: Files,
@@ -32,12 +35,14 @@ fn call(
     let mut archive = steady_archive(alloc, files)?;
     let mut link = steady_link(alloc, steps)?;
     let (status, _) = serve_index(
+        rt,
         alloc,
         ledger,
         magic,
         greatest_limits(),
         &mut archive,
         &mut link,
+        &NoPace,
         TURNS,
     );
     Ok((status, transcript(alloc, link.sent(), link.closed())?))
@@ -127,7 +132,7 @@ const CALLS: &[(u32, Files, [u8; 4], &[Step<'static>], Status, &str)] = &[
 #[test]
 fn an_index_that_has_blocks(rt: HostRuntime) -> Result<(), Fail> {
     for (count, files, magic, steps, status, text) in CALLS {
-        let (ended, sent) = call(rt.alloc(), *count, *files, *magic, steps)?;
+        let (ended, sent) = call(&rt, rt.alloc(), *count, *files, *magic, steps)?;
         expect_ended(rt.alloc(), (ended, sent.as_str()), (*status, *text))?;
     }
     Ok(())

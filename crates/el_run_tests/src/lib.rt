@@ -10,6 +10,8 @@ mod many_lives;
 #[cfg(test)]
 mod moves;
 #[cfg(test)]
+mod pieces;
+#[cfg(test)]
 mod reopened;
 #[cfg(test)]
 mod runs;

@@ -4,7 +4,7 @@ ghost use Rattle.el_program.specs.Lives.{IsLeftBy};
 
 use el_fakes::{SteadyArchive, SteadyLink};
 use el_mem_disk::MemDisk;
-use el_outside::Disk;
+use el_outside::{Disk, NoPace};
 use el_program::{Between, Status, live};
 use el_trials::Step::Says;
 use el_trials::{
@@ -13,6 +13,7 @@ use el_trials::{
 };
 use std::alloc::Global;
 use std::test::Fail;
+use std::thread::Threads;
 
 // A crash after each life, in the image of that number; and from which call on the calls of each next life's
 // disk fail, the last life first.
@@ -60,17 +61,23 @@ fn links(alloc: Global) -> Result<[SteadyLink; 3], Fail> {
 
 // How three lives end, and what is sent in the last: one block is put in; three more, where each call of the
 // disk fails from this one on; and then the node asks what there is.
-fn three_lives(alloc: Global, from: u64) -> Result<([Status; 3], String), Fail> {
+fn three_lives<W: Threads + Sync>(
+    rt: &W,
+    alloc: Global,
+    from: u64,
+) -> Result<([Status; 3], String), Fail> {
     let words = words_of(alloc, SERVE)?;
     let mut between = crashes_from(alloc, from)?;
     let mut archives = archives(alloc)?;
     let mut links = links(alloc)?;
     let mut ends = [Status::Usage; 3];
     let _ = live(
+        rt,
         alloc,
         words.as_slice(),
         fresh_disk(alloc),
         &mut between,
+        &NoPace,
         TURNS,
         archives.as_mut_slice(),
         links.as_mut_slice(),
@@ -97,8 +104,8 @@ enum Found {
 }
 
 // What they come to; nothing, if the last finds neither or a life ends otherwise than it must.
-fn found_from(alloc: Global, from: u64) -> Result<Option<Found>, Fail> {
-    let (ends, text) = three_lives(alloc, from)?;
+fn found_from<W: Threads + Sync>(rt: &W, alloc: Global, from: u64) -> Result<Option<Found>, Fail> {
+    let (ends, text) = three_lives(rt, alloc, from)?;
     let is_new = text.as_str() == named(alloc, NEW)?.as_str();
     let is_old = text.as_str() == named(alloc, OLD)?.as_str();
     if ends == [Status::Ended; 3] && is_new {
@@ -115,7 +122,7 @@ fn lives_over_crashes(rt: HostRuntime) -> Result<(), Fail> {
     let mut kept = false;
     let mut moved = false;
     for from in 1..MOST {
-        let found = found_from(rt.alloc(), from)?;
+        let found = found_from(&rt, rt.alloc(), from)?;
         assert!(rt; found.is_some(), "{from}");
         if found == Some(Found::Sound) {
             // A crash in the move left the one chain or the other.

@@ -61,7 +61,7 @@ const MOVES: &[(Files, &[Step<'static>], &str)] = &[
 fn moves_between_branches(rt: HostRuntime) -> Result<(), Fail> {
     for (files, steps, sent) in MOVES {
         let wanted = (Status::Ended, *sent);
-        expect_sends(rt.alloc(), SERVE, *files, steps, wanted)?;
+        expect_sends(&rt, rt.alloc(), SERVE, *files, steps, wanted)?;
     }
     Ok(())
 }

@@ -9,6 +9,7 @@ use el_trials::{
 };
 use std::alloc::Global;
 use std::test::Fail;
+use std::thread::Threads;
 
 // What comes in a life that nobody is served in.
 const UNSERVED: &[Step<'static>] = &[Opens(1), Says(0, "tip {a0}\n"), Says(1, "{}\n")];
@@ -81,19 +82,28 @@ const LIVES: &[Lives] = &[
 ];
 
 // The disk after the first life, in which the node says this.
-fn first_life(alloc: Global, files: Files, said: &str) -> Result<MemDisk, Fail> {
+fn first_life<W: Threads + Sync>(
+    rt: &W,
+    alloc: Global,
+    files: Files,
+    said: &str,
+) -> Result<MemDisk, Fail> {
     let steps = [Says(0, said)];
-    let life = life_on(alloc, SERVE, fresh_disk(alloc), files, steps.as_slice())?;
+    let life = life_on(rt, alloc, SERVE, fresh_disk(alloc), files, steps.as_slice())?;
     Ok(life.disk)
 }
 
 // How the second life ends, and what is sent; and what is sent in the third one.
-fn run(alloc: Global, lives: &Lives) -> Result<(Status, String, String), Fail> {
-    let disk = first_life(alloc, lives.files, lives.first)?;
+fn run<W: Threads + Sync>(
+    rt: &W,
+    alloc: Global,
+    lives: &Lives,
+) -> Result<(Status, String, String), Fail> {
+    let disk = first_life(rt, alloc, lives.files, lives.first)?;
     let (files, steps) = lives.second;
-    let Life { status, text, disk } = life_on(alloc, lives.words, disk, files, steps)?;
+    let Life { status, text, disk } = life_on(rt, alloc, lives.words, disk, files, steps)?;
     let asks = [Says(0, lives.first)];
-    let third = life_on(alloc, SERVE, disk, NO_FILES, asks.as_slice())?;
+    let third = life_on(rt, alloc, SERVE, disk, NO_FILES, asks.as_slice())?;
     Ok((status, text, third.text))
 }
 
@@ -101,7 +111,7 @@ fn run(alloc: Global, lives: &Lives) -> Result<(Status, String, String), Fail> {
 fn an_index_of_an_earlier_life(rt: HostRuntime) -> Result<(), Fail> {
     let alloc = rt.alloc();
     for lives in LIVES {
-        let (status, sent, kept) = run(alloc, lives)?;
+        let (status, sent, kept) = run(&rt, alloc, lives)?;
         let wanted = (lives.status, lives.sent);
         expect_ended(alloc, (status, sent.as_str()), wanted)?;
         expect_sent(alloc, kept.as_str(), lives.kept)?;
@@ -118,6 +128,7 @@ fn files_of_the_first_block(rt: HostRuntime) -> Result<(), Fail> {
     let files = Files::Parts(&[Block(GENESIS)]);
     let steps = [Says(0, "tip {genesis}\n")];
     let life = life_on(
+        &rt,
         alloc,
         SERVE_MAIN,
         fresh_disk(alloc),
@@ -131,20 +142,21 @@ fn files_of_the_first_block(rt: HostRuntime) -> Result<(), Fail> {
 }
 
 // How often the disk of an earlier life is called in one where a client says this.
-fn calls_for(alloc: Global, said: &str) -> Result<u64, Fail> {
-    let disk = first_life(alloc, Files::Forks, "tip {z-d1}\n")?;
+fn calls_for<W: Threads + Sync>(rt: &W, alloc: Global, said: &str) -> Result<u64, Fail> {
+    let disk = first_life(rt, alloc, Files::Forks, "tip {z-d1}\n")?;
     let before = disk.calls();
     let steps = [Opens(1), Says(1, said)];
-    let life = life_on(alloc, SERVE, disk, NO_FILES, steps.as_slice())?;
+    let life = life_on(rt, alloc, SERVE, disk, NO_FILES, steps.as_slice())?;
     Ok(life.disk.calls().saturating_sub(before))
 }
 
 #[test]
 fn a_history_asked_again_calls_no_disk(rt: HostRuntime) -> Result<(), Fail> {
     let alloc = rt.alloc();
-    let none = calls_for(alloc, "")?;
-    let once = calls_for(alloc, "{asks}{script101}{asked}\n")?;
+    let none = calls_for(&rt, alloc, "")?;
+    let once = calls_for(&rt, alloc, "{asks}{script101}{asked}\n")?;
     let twice = calls_for(
+        &rt,
         alloc,
         "{asks}{script101}{asked}\n{asks}{script101}{asked}\n",
     )?;

@@ -12,6 +12,7 @@ use el_trials::{
 };
 use std::alloc::Global;
 use std::test::Fail;
+use std::thread::Threads;
 
 // A hundred zeros, and the magic, size and first 50 bytes of the second block.
 const CUT: &str =
@@ -224,7 +225,8 @@ const RUNS: &[(&str, Files, &[Step<'static>], &str)] = &[
 ];
 
 // How the run ends, and what is sent and closed, where all bytes come in pieces of that length.
-fn run(
+fn run<W: Threads + Sync>(
+    rt: &W,
     alloc: Global,
     words: &str,
     files: Files,
@@ -234,13 +236,13 @@ fn run(
     requires { 0 < piece }
 {
     let steps = coming(alloc, steps, piece)?;
-    call_steady(alloc, words, files_of(alloc, files)?, steps)
+    call_steady(rt, alloc, words, files_of(alloc, files)?, steps)
 }
 
 #[test]
 fn answers_whole(rt: HostRuntime) -> Result<(), Fail> {
     for (words, files, steps, want) in RUNS {
-        let (status, text) = run(rt.alloc(), words, *files, steps, 1_000)?;
+        let (status, text) = run(&rt, rt.alloc(), words, *files, steps, 1_000)?;
         let wanted = (Status::Ended, *want);
         expect_ended(rt.alloc(), (status, text.as_str()), wanted)?;
     }
@@ -250,7 +252,7 @@ fn answers_whole(rt: HostRuntime) -> Result<(), Fail> {
 #[test]
 fn answers_byte_by_byte(rt: HostRuntime) -> Result<(), Fail> {
     for (words, files, steps, want) in RUNS {
-        let (status, text) = run(rt.alloc(), words, *files, steps, 1)?;
+        let (status, text) = run(&rt, rt.alloc(), words, *files, steps, 1)?;
         let wanted = (Status::Ended, *want);
         expect_ended(rt.alloc(), (status, text.as_str()), wanted)?;
     }
@@ -259,7 +261,12 @@ fn answers_byte_by_byte(rt: HostRuntime) -> Result<(), Fail> {
 
 // What is sent where the node's line and the client's come in two pieces each, in this order: n for a piece
 // of the node's. `cuts` are the places of the cuts.
-fn in_order(alloc: Global, order: &str, cuts: (usize, usize)) -> Result<String, Fail> {
+fn in_order<W: Threads + Sync>(
+    rt: &W,
+    alloc: Global,
+    order: &str,
+    cuts: (usize, usize),
+) -> Result<String, Fail> {
     let line = named(alloc, "tip {a1}\n")?;
     let request = named(alloc, "{asks}{script1}{asked}\n")?;
     let (first, last) = line.as_bytes().split_at(cuts.0.min(line.len()));
@@ -277,7 +284,7 @@ fn in_order(alloc: Global, order: &str, cuts: (usize, usize)) -> Result<String, 
         say(alloc, &mut steps, peer, piece.unwrap_or(&[]), 1_000)?;
     }
     let files = files_of(alloc, Files::Branch(2))?;
-    Ok(call_steady(alloc, SERVE, files, steps)?.1)
+    Ok(call_steady(rt, alloc, SERVE, files, steps)?.1)
 }
 
 const TIP_FIRST: &str = "0 at {a1} 1\n1 {lists}{entry1}{listed}\n";
@@ -303,7 +310,7 @@ fn two_pieces_in_each_order(rt: HostRuntime) -> Result<(), Fail> {
     for (order, want) in ORDERS {
         let want = named(alloc, want)?;
         for cuts in CUTS {
-            let text = in_order(alloc, order, *cuts)?;
+            let text = in_order(&rt, alloc, order, *cuts)?;
             assert!(rt; text.as_str() == want.as_str(), "{order} {cuts:?}");
         }
     }

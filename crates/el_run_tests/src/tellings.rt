@@ -79,7 +79,7 @@ const RUNS: &[(&[Step<'static>], &str)] = &[
 fn what_a_client_is_told(rt: HostRuntime) -> Result<(), Fail> {
     for (steps, sent) in RUNS {
         let wanted = (Status::Ended, *sent);
-        expect_sends(rt.alloc(), SERVE, Files::Forks, steps, wanted)?;
+        expect_sends(&rt, rt.alloc(), SERVE, Files::Forks, steps, wanted)?;
     }
     Ok(())
 }

@@ -74,7 +74,7 @@ const RUNS: &[(&str, &[Step<'static>], &str)] = &[
 fn unconfirmed_transactions(rt: HostRuntime) -> Result<(), Fail> {
     for (words, steps, sent) in RUNS {
         let wanted = (Status::Ended, *sent);
-        expect_sends(rt.alloc(), words, Files::Forks, steps, wanted)?;
+        expect_sends(&rt, rt.alloc(), words, Files::Forks, steps, wanted)?;
     }
     Ok(())
 }

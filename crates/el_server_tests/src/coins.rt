@@ -214,7 +214,7 @@ fn coins_and_histories(rt: HostRuntime) -> Result<(), Fail> {
     let file = coins_file(rt.alloc())?;
     for (run, wanted) in CASES.iter() {
         assert!(rt;
-            says(rt.alloc(), file.as_slice(), *run, *wanted)?,
+            says(&rt, rt.alloc(), file.as_slice(), *run, *wanted)?,
             "{wanted}"
         );
     }

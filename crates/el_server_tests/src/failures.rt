@@ -7,6 +7,7 @@ use el_mempool::PoolLimits;
 use std::alloc::Global;
 use std::mem::replace;
 use std::test::Fail;
+use std::thread::Threads;
 
 // All that is said is kept.
 const LIMITS: PoolLimits = PoolLimits {
@@ -15,7 +16,8 @@ const LIMITS: PoolLimits = PoolLimits {
 };
 
 // What is shown in a life over these rows of which these calls of the device fail.
-pub(crate) fn live(
+pub(crate) fn live<W: Threads + Sync>(
+    rt: &W,
     alloc: Global,
     rows: &mut FailingRows,
     failing: &[u64],
@@ -25,19 +27,20 @@ pub(crate) fn live(
     let failing = Vec::from_slice(alloc, failing)?;
     let mut kept = replace(rows, FailingRows::new(alloc));
     kept.fail_at(failing);
-    let (shown, ledger) = play(alloc, index_of(alloc, kept)?, LIMITS, file, steps)?;
+    let (shown, ledger) = play(rt, alloc, index_of(alloc, kept)?, LIMITS, file, steps)?;
     *rows = ledger.into_rows();
     Ok(shown)
 }
 
 // How often the device is called in a life in which none fails.
-pub(crate) fn calls_of(
+pub(crate) fn calls_of<W: Threads + Sync>(
+    rt: &W,
     alloc: Global,
     rows: &mut FailingRows,
     file: &[u8],
     steps: &[Step<'_>],
 ) -> Result<u64, Fail> {
-    live(alloc, rows, &[], file, steps)?;
+    live(rt, alloc, rows, &[], file, steps)?;
     Ok(rows.counts().0.min(10_000))
 }
 
@@ -149,7 +152,8 @@ fn each_in_turn(alloc: Global, before: u64, calls: u64) -> Result<Vec<u64>, Fail
 }
 
 // What is shown where the question is asked over and over: each of its calls fails once, and then none.
-fn asked_in_turn(
+fn asked_in_turn<W: Threads + Sync>(
+    rt: &W,
     alloc: Global,
     rows: &mut FailingRows,
     file: &[u8],
@@ -159,11 +163,12 @@ fn asked_in_turn(
 ) -> Result<Vec<u8>, Fail> {
     let failing = each_in_turn(alloc, before, calls)?;
     let steps = asking(alloc, ask, calls.saturating_add(1))?;
-    live(alloc, rows, failing.as_slice(), file, steps.as_slice())
+    live(rt, alloc, rows, failing.as_slice(), file, steps.as_slice())
 }
 
 // How often a client's question calls the device, which was called so often before it.
-fn calls_to_answer(
+fn calls_to_answer<W: Threads + Sync>(
+    rt: &W,
     alloc: Global,
     rows: &mut FailingRows,
     file: &[u8],
@@ -171,13 +176,14 @@ fn calls_to_answer(
     before: u64,
 ) -> Result<u64, Fail> {
     let steps = asking(alloc, ask, 1)?;
-    let after = calls_of(alloc, rows, file, steps.as_slice())?;
+    let after = calls_of(rt, alloc, rows, file, steps.as_slice())?;
     Ok(after.saturating_sub(before))
 }
 
 // Whether each call of the question that fails is told, and the question is answered where none does; the
 // device was called so often before it.
-fn is_told(
+fn is_told<W: Threads + Sync>(
+    rt: &W,
     alloc: Global,
     rows: &mut FailingRows,
     file: &[u8],
@@ -185,8 +191,8 @@ fn is_told(
     before: u64,
 ) -> Result<bool, Fail> {
     let (ask, failed, reply) = *request;
-    let calls = calls_to_answer(alloc, rows, file, ask, before)?;
-    let shown = asked_in_turn(alloc, rows, file, ask, before, calls)?;
+    let calls = calls_to_answer(rt, alloc, rows, file, ask, before)?;
+    let shown = asked_in_turn(rt, alloc, rows, file, ask, before, calls)?;
     let wanted = answers(alloc, failed, calls, reply)?;
     Ok(0 < calls && rows.counts().1 == calls && shown.as_slice() == wanted.as_bytes())
 }
@@ -196,11 +202,11 @@ fn each_read_of_a_request(rt: HostRuntime) -> Result<(), Fail> {
     let alloc = rt.alloc();
     let file = coins_file(alloc)?;
     let mut rows = FailingRows::new(alloc);
-    live(alloc, &mut rows, &[], file.as_slice(), BEGINS)?;
-    let before = calls_of(alloc, &mut rows, file.as_slice(), BEGINS)?;
+    live(&rt, alloc, &mut rows, &[], file.as_slice(), BEGINS)?;
+    let before = calls_of(&rt, alloc, &mut rows, file.as_slice(), BEGINS)?;
     for request in REQUESTS.iter() {
         assert!(rt;
-            is_told(alloc, &mut rows, file.as_slice(), request, before)?,
+            is_told(&rt, alloc, &mut rows, file.as_slice(), request, before)?,
             "{}",
             request.0
         );
@@ -261,8 +267,8 @@ const AT_V2: &str =
     "{result}{balance}10000000000{of-it}0}}\n{result}{balance}5000000000{of-it}0}}\n";
 
 // What a client is answered over what is left of these rows, none of whose calls fails any more.
-fn left(alloc: Global, rows: &mut FailingRows) -> Result<Vec<u8>, Fail> {
-    live(alloc, rows, &[], b"", ASKS)
+fn left<W: Threads + Sync>(rt: &W, alloc: Global, rows: &mut FailingRows) -> Result<Vec<u8>, Fail> {
+    live(rt, alloc, rows, &[], b"", ASKS)
 }
 
 // What the node says over a file before a line, and that with the line.
@@ -298,22 +304,28 @@ fn texts_of(alloc: Global, answer: &str, old: &str, new: &str) -> Result<Texts, 
 }
 
 // How often the device is called before the line, over rows that have the old chain before and after that.
-fn calls_before(alloc: Global, rows: &mut FailingRows, line: &Line<'_>) -> Result<u64, Fail> {
-    live(alloc, rows, &[], line.file, line.before.as_slice())?;
-    calls_of(alloc, rows, line.file, line.before.as_slice())
+fn calls_before<W: Threads + Sync>(
+    rt: &W,
+    alloc: Global,
+    rows: &mut FailingRows,
+    line: &Line<'_>,
+) -> Result<u64, Fail> {
+    live(rt, alloc, rows, &[], line.file, line.before.as_slice())?;
+    calls_of(rt, alloc, rows, line.file, line.before.as_slice())
 }
 
 // How often it is called up to the line's end where no call fails; 0 where the line is answered otherwise, or
 // leaves another chain.
-fn calls_to_end(
+fn calls_to_end<W: Threads + Sync>(
+    rt: &W,
     alloc: Global,
     rows: &mut FailingRows,
     line: &Line<'_>,
     texts: &Texts,
 ) -> Result<u64, Fail> {
-    let shown = live(alloc, rows, &[], line.file, line.whole.as_slice())?;
+    let shown = live(rt, alloc, rows, &[], line.file, line.whole.as_slice())?;
     let calls = rows.counts().0.min(10_000);
-    let found = left(alloc, rows)?;
+    let found = left(rt, alloc, rows)?;
     if shown.as_slice() == texts.answer.as_bytes() && found.as_slice() == texts.new.as_bytes() {
         Ok(calls)
     } else {
@@ -323,24 +335,26 @@ fn calls_to_end(
 
 // What is left of the old chain where this call of the line fails, by which the server stops; None where it
 // doesn't.
-fn left_by(
+fn left_by<W: Threads + Sync>(
+    rt: &W,
     alloc: Global,
     rows: &mut FailingRows,
     line: &Line<'_>,
     call: u64,
 ) -> Result<Option<Vec<u8>>, Fail> {
     // the rows have the old chain before the life
-    live(alloc, rows, &[], line.file, line.before.as_slice())?;
-    let shown = live(alloc, rows, &[call], line.file, line.whole.as_slice())?;
+    live(rt, alloc, rows, &[], line.file, line.before.as_slice())?;
+    let shown = live(rt, alloc, rows, &[call], line.file, line.whole.as_slice())?;
     if rows.counts().1 != 1 || shown.as_slice() != b"stopped by the disk\n".as_slice() {
         return Ok(None);
     }
-    Ok(Some(left(alloc, rows)?))
+    Ok(Some(left(rt, alloc, rows)?))
 }
 
 // Whether each of these calls that fails stops the server, and leaves the old chain up to some call and from
 // then on the new one.
-fn stops_between(
+fn stops_between<W: Threads + Sync>(
+    rt: &W,
     alloc: Global,
     rows: &mut FailingRows,
     line: &Line<'_>,
@@ -349,7 +363,7 @@ fn stops_between(
 ) -> Result<bool, Fail> {
     let mut is_new = false;
     for call in calls.0.saturating_add(1)..=calls.1 {
-        let Some(found) = left_by(alloc, rows, line, call)? else {
+        let Some(found) = left_by(rt, alloc, rows, line, call)? else {
             return Ok(false);
         };
         is_new = is_new || found.as_slice() != texts.old.as_bytes();
@@ -362,7 +376,8 @@ fn stops_between(
 
 // Whether each call of a line that fails stops the server, and leaves the old chain up to some call and from
 // then on the new one, which also is what a line leaves in which no call fails.
-fn stops_anywhere(
+fn stops_anywhere<W: Threads + Sync>(
+    rt: &W,
     alloc: Global,
     rows: &mut FailingRows,
     file: &[u8],
@@ -371,9 +386,9 @@ fn stops_anywhere(
     let [before, said, answer, old, new] = *stop;
     let line = line_of(file, before, said);
     let texts = texts_of(alloc, answer, old, new)?;
-    let from = calls_before(alloc, rows, &line)?;
-    let to = calls_to_end(alloc, rows, &line, &texts)?;
-    Ok(from < to && stops_between(alloc, rows, &line, &texts, (from, to))?)
+    let from = calls_before(rt, alloc, rows, &line)?;
+    let to = calls_to_end(rt, alloc, rows, &line, &texts)?;
+    Ok(from < to && stops_between(rt, alloc, rows, &line, &texts, (from, to))?)
 }
 
 #[test]
@@ -383,7 +398,7 @@ fn each_call_of_a_line(rt: HostRuntime) -> Result<(), Fail> {
     for stop in STOPS.iter() {
         let mut rows = FailingRows::new(alloc);
         assert!(rt;
-            stops_anywhere(alloc, &mut rows, file.as_slice(), stop)?,
+            stops_anywhere(&rt, alloc, &mut rows, file.as_slice(), stop)?,
             "{}{}",
             stop[0],
             stop[1]

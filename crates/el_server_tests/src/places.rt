@@ -4,6 +4,7 @@ use crate::server::{Step, says};
 use el_gen::{BLOCK_1, BLOCK_1_HASH, GENESIS, GENESIS_HASH};
 use std::alloc::Global;
 use std::test::Fail;
+use std::thread::Threads;
 
 // A block after Bitcoin's second one: a coinbase, a transaction with a witness that takes the coin of the
 // first block, and one that takes that of the second.
@@ -106,7 +107,8 @@ const CASES: &[Case] = &[
 ];
 
 // Whether this is shown where the node says the one text and a client the other one.
-fn shows<'a>(
+fn shows<'a, W: Threads + Sync>(
+    rt: &W,
     alloc: Global,
     file: &[u8],
     said: &'a str,
@@ -120,15 +122,27 @@ fn shows<'a>(
         Step::Opens(1),
         Step::Says(1, asked),
     ];
-    says(alloc, file, run.as_slice(), wanted)
+    says(rt, alloc, file, run.as_slice(), wanted)
 }
 
 // Whether node and client are answered so.
-fn is_answered(alloc: Global, file: &[u8], case: &Case) -> Result<bool, Fail> {
+fn is_answered<W: Threads + Sync>(
+    rt: &W,
+    alloc: Global,
+    file: &[u8],
+    case: &Case,
+) -> Result<bool, Fail> {
     let said = filled(alloc, case.0)?;
     let asked = filled(alloc, case.1)?;
     let wanted = filled(alloc, case.2)?;
-    shows(alloc, file, said.as_str(), asked.as_str(), wanted.as_str())
+    shows(
+        rt,
+        alloc,
+        file,
+        said.as_str(),
+        asked.as_str(),
+        wanted.as_str(),
+    )
 }
 
 // The records of Bitcoin's first two blocks and of the third one.
@@ -144,7 +158,7 @@ fn requests_over_three_transactions(rt: HostRuntime) -> Result<(), Fail> {
     let file = three_records(rt.alloc())?;
     for case in CASES.iter() {
         assert!(rt;
-            is_answered(rt.alloc(), file.as_slice(), case)?,
+            is_answered(&rt, rt.alloc(), file.as_slice(), case)?,
             "{}",
             case.1
         );

@@ -20,7 +20,7 @@ use el_index::Index;
 use el_lines::LINE_LIMIT;
 use el_mempool::PoolLimits;
 use el_model::Ledger;
-use el_outside::{Arrival, Peer, Why};
+use el_outside::{Arrival, NoPace, Peer, Why};
 use el_pool::Pool;
 use el_side::Holdings;
 use el_sync::StepFault;
@@ -29,6 +29,7 @@ use itoa::Buffer;
 use std::alloc::Global;
 use std::process::Abort;
 use std::test::Fail;
+use std::thread::Threads;
 
 // Hashes that another program computed: of the blocks of heights 0, 1, 15, 16 and 101 that `chain_file`
 // makes, of a second block without one before it, and of blocks that break one rule each.
@@ -218,7 +219,8 @@ fn stop_word(fault: StepFault) -> &'static str {
 }
 
 // Makes all turns, and tells why the server stops, if it does.
-fn work_off(
+fn work_off<W: Threads + Sync>(
+    rt: &W,
     server: &mut Server<Tested>,
     archive: &mut MemArchive,
     shown: &mut Vec<u8>,
@@ -228,7 +230,7 @@ fn work_off(
         → OnOk result (AreUpTo last server.new.clients) }
 {
     loop {
-        match server.turn(archive) {
+        match server.turn(rt, archive, &NoPace) {
             Ok(Some(outs)) => show(&outs, shown)?,
             Ok(None) => return Ok(None),
             Err(fault) => return Ok(Some(fault)),
@@ -297,7 +299,8 @@ struct Run {
 }
 
 // Makes one step, with all turns after it, and tells why the server stops, if it does.
-fn make_step(
+fn make_step<W: Threads + Sync>(
+    rt: &W,
     alloc: Global,
     file: &[u8],
     run: &mut Run,
@@ -317,7 +320,7 @@ fn make_step(
         Step::Gone(p) => run.server.gone(p),
         Step::Forget => run.shown.truncate(0),
     }
-    work_off(&mut run.server, &mut run.archive, &mut run.shown)
+    work_off(rt, &mut run.server, &mut run.archive, &mut run.shown)
 }
 
 // An index over these rows, of which the device doesn't fail at once.
@@ -349,12 +352,18 @@ fn begun(alloc: Global, ledger: Tested, limits: PoolLimits, file: &[u8]) -> Resu
 }
 
 // Makes these steps, and shows why the server stops, if it does.
-fn play_all(alloc: Global, file: &[u8], run: &mut Run, steps: &[Step<'_>]) -> Result<(), Fail>
+fn play_all<W: Threads + Sync>(
+    rt: &W,
+    alloc: Global,
+    file: &[u8],
+    run: &mut Run,
+    steps: &[Step<'_>],
+) -> Result<(), Fail>
     requires idle { IsIdle run.old.server }
     requires numbers { AreUpTo run.old.last run.old.server.clients }
 {
     for step in steps {
-        if let Some(fault) = make_step(alloc, file, run, *step)? {
+        if let Some(fault) = make_step(rt, alloc, file, run, *step)? {
             run.shown.extend_from_slice(stop_word(fault).as_bytes())?;
             return Ok(());
         }
@@ -364,7 +373,8 @@ fn play_all(alloc: Global, file: &[u8], run: &mut Run, steps: &[Step<'_>]) -> Re
 
 // Makes these steps over this ledger, and answers what was shown, where a server that stops is shown too, and
 // the ledger at the end.
-pub(crate) fn play(
+pub(crate) fn play<W: Threads + Sync>(
+    rt: &W,
     alloc: Global,
     ledger: Tested,
     limits: PoolLimits,
@@ -372,14 +382,19 @@ pub(crate) fn play(
     steps: &[Step<'_>],
 ) -> Result<(Vec<u8>, Tested), Fail> {
     let mut run = begun(alloc, ledger, limits, file)?;
-    play_all(alloc, file, &mut run, steps)?;
+    play_all(rt, alloc, file, &mut run, steps)?;
     Ok((run.shown, run.server.into_ledger()))
 }
 
 // The text that these steps show over a ledger of no blocks, and the height that the ledger then has.
-fn played(alloc: Global, file: &[u8], steps: &[Step<'_>]) -> Result<(Vec<u8>, Option<u32>), Fail> {
+fn played<W: Threads + Sync>(
+    rt: &W,
+    alloc: Global,
+    file: &[u8],
+    steps: &[Step<'_>],
+) -> Result<(Vec<u8>, Option<u32>), Fail> {
     let ledger = index_of(alloc, FailingRows::new(alloc))?;
-    let (shown, ledger) = play(alloc, ledger, LIMITS, file, steps)?;
+    let (shown, ledger) = play(rt, alloc, ledger, LIMITS, file, steps)?;
     Ok((shown, ledger.height()))
 }
 
@@ -418,14 +433,15 @@ pub(crate) fn first_file(alloc: Global) -> Result<Vec<u8>, Fail> {
 
 // Whether these steps show this text, where a capital letter stands for a hash, and leave the ledger with
 // that height.
-fn shows(
+fn shows<W: Threads + Sync>(
+    rt: &W,
     alloc: Global,
     file: &[u8],
     run: &[Step<'_>],
     wanted: &str,
     height: Option<u32>,
 ) -> Result<bool, Fail> {
-    let (shown, top) = played(alloc, file, run)?;
+    let (shown, top) = played(rt, alloc, file, run)?;
     let wanted = spelled(alloc, wanted)?;
     Ok(shown.as_slice() == wanted.as_bytes() && top == height)
 }
@@ -507,11 +523,11 @@ const FAILING_FILES: &[Case] = &[
 ];
 
 // Whether each case of a table shows its text over the file of the first two blocks.
-fn all_show<R: Abort>(rt: &R, alloc: Global, cases: &[Case]) -> Result<(), Fail> {
+fn all_show<W: Abort + Threads + Sync>(rt: &W, alloc: Global, cases: &[Case]) -> Result<(), Fail> {
     let file = first_file(alloc)?;
     for (run, wanted, height) in cases {
         assert!(rt;
-            shows(alloc, file.as_slice(), *run, *wanted, *height)?,
+            shows(rt, alloc, file.as_slice(), *run, *wanted, *height)?,
             "{wanted}"
         );
     }
@@ -585,7 +601,8 @@ fn telling_lines(alloc: Global, count: u32) -> Result<String, Fail>
 }
 
 // Whether what the node says after these lines shows this text.
-fn moves<'x>(
+fn moves<'x, W: Threads + Sync>(
+    rt: &W,
     alloc: Global,
     file: &[u8],
     before: &'x str,
@@ -594,15 +611,15 @@ fn moves<'x>(
     height: u32,
 ) -> Result<bool, Fail> {
     let run = [Step::Says(0, before), Step::Forget, Step::Says(0, said)];
-    shows(alloc, file, run.as_slice(), answers, Some(height))
+    shows(rt, alloc, file, run.as_slice(), answers, Some(height))
 }
 
 // What the node says of tips, what it is answered, and the height that the ledger then has.
 type Tips = (&'static str, &'static str, u32);
 
 // Whether each row of a table holds after these lines over the file.
-fn all_move<R: Abort>(
-    rt: &R,
+fn all_move<W: Abort + Threads + Sync>(
+    rt: &W,
     alloc: Global,
     file: &[u8],
     before: &str,
@@ -610,7 +627,7 @@ fn all_move<R: Abort>(
 ) -> Result<(), Fail> {
     for (said, answers, height) in rows {
         assert!(rt;
-            moves(alloc, file, before, *said, *answers, *height)?,
+            moves(rt, alloc, file, before, *said, *answers, *height)?,
             "{answers}"
         );
     }
@@ -671,18 +688,30 @@ pub(crate) fn first_coin(alloc: Global) -> Result<(Tx, Outpoint), Fail>
 }
 
 // Whether the node is told that the block of the file with this hash is bad, by this word.
-fn shows_bad(alloc: Global, file: &[u8], hash: &str, word: &str) -> Result<bool, Fail> {
+fn shows_bad<W: Threads + Sync>(
+    rt: &W,
+    alloc: Global,
+    file: &[u8],
+    hash: &str,
+    word: &str,
+) -> Result<bool, Fail> {
     let said = format!(in alloc; "block 0 0\ntip {hash}\n")?;
     let wanted = format!(in alloc; "block {hash}\nrefused bad {hash} {word}\n")?;
     let run = [Step::Says(0, said.as_str())];
-    shows(alloc, file, run.as_slice(), wanted.as_str(), None)
+    shows(rt, alloc, file, run.as_slice(), wanted.as_str(), None)
 }
 
 // Whether the node is told that the block with these bytes and this hash is bad, by this word.
-fn is_bad(alloc: Global, text: &[u8], hash: &str, word: &str) -> Result<bool, Fail> {
+fn is_bad<W: Threads + Sync>(
+    rt: &W,
+    alloc: Global,
+    text: &[u8],
+    hash: &str,
+    word: &str,
+) -> Result<bool, Fail> {
     let mut file = Vec::new(alloc);
     add_record(text, &mut file)?;
-    shows_bad(alloc, file.as_slice(), hash, word)
+    shows_bad(rt, alloc, file.as_slice(), hash, word)
 }
 
 // The header of the first block, its coinbase, and a transaction that spends that.
@@ -717,15 +746,24 @@ fn make_pieces(alloc: Global) -> Result<Pieces, Fail> {
 
 // Whether the node is told by this word that the bytes of the parts are a bad block, under the first block's
 // header.
-fn is_no_block(alloc: Global, parts: &[&[u8]], word: &str) -> Result<bool, Fail> {
+fn is_no_block<W: Threads + Sync>(
+    rt: &W,
+    alloc: Global,
+    parts: &[&[u8]],
+    word: &str,
+) -> Result<bool, Fail> {
     let text = listed(alloc, parts)?;
-    is_bad(alloc, text.as_slice(), FIRST, word)
+    is_bad(rt, alloc, text.as_slice(), FIRST, word)
 }
 
 // Whether the node is told so of each of these.
-fn are_no_blocks<R: Abort>(rt: &R, alloc: Global, table: &[(&[&[u8]], &str)]) -> Result<(), Fail> {
+fn are_no_blocks<W: Abort + Threads + Sync>(
+    rt: &W,
+    alloc: Global,
+    table: &[(&[&[u8]], &str)],
+) -> Result<(), Fail> {
     for (parts, word) in table {
-        assert!(rt; is_no_block(alloc, *parts, *word)?, "{word}");
+        assert!(rt; is_no_block(rt, alloc, *parts, *word)?, "{word}");
     }
     Ok(())
 }
@@ -809,21 +847,22 @@ fn heavy(alloc: Global) -> Result<Bytes, Fail> {
 }
 
 // Whether the node is told by this word that the block is bad.
-fn is_bad_block(
+fn is_bad_block<W: Threads + Sync>(
+    rt: &W,
     alloc: Global,
     made: Result<Bytes, Fail>,
     hash: &str,
     word: &str,
 ) -> Result<bool, Fail> {
-    is_bad(alloc, made?.as_slice(), hash, word)
+    is_bad(rt, alloc, made?.as_slice(), hash, word)
 }
 
 #[test]
 fn blocks_that_break_a_rule(rt: HostRuntime) -> Result<(), Fail> {
     let alloc = rt.alloc();
-    assert!(rt; is_bad_block(alloc, taking_no_coin(alloc), TAKES_NO_COIN, "coin")?);
-    assert!(rt; is_bad_block(alloc, making_money(alloc), MAKES_MONEY, "money")?);
-    assert!(rt; is_bad_block(alloc, heavy(alloc), HEAVY, "heavy")?);
+    assert!(rt; is_bad_block(&rt, alloc, taking_no_coin(alloc), TAKES_NO_COIN, "coin")?);
+    assert!(rt; is_bad_block(&rt, alloc, making_money(alloc), MAKES_MONEY, "money")?);
+    assert!(rt; is_bad_block(&rt, alloc, heavy(alloc), HEAVY, "heavy")?);
     Ok(())
 }
 
@@ -995,13 +1034,14 @@ const REQUESTS: &[(&str, &str)] = &[
 ];
 
 // Whether these steps show this text.
-pub(crate) fn says(
+pub(crate) fn says<W: Threads + Sync>(
+    rt: &W,
     alloc: Global,
     file: &[u8],
     run: &[Step<'_>],
     wanted: &str,
 ) -> Result<bool, Fail> {
-    let (shown, _) = played(alloc, file, run)?;
+    let (shown, _) = played(rt, alloc, file, run)?;
     let wanted = spelled(alloc, wanted)?;
     Ok(shown.as_slice() == wanted.as_bytes())
 }
@@ -1011,7 +1051,7 @@ fn client_lines(rt: HostRuntime) -> Result<(), Fail> {
     let file = first_file(rt.alloc())?;
     for (run, wanted) in CLIENT_LINES.iter() {
         assert!(rt;
-            says(rt.alloc(), file.as_slice(), *run, *wanted)?,
+            says(&rt, rt.alloc(), file.as_slice(), *run, *wanted)?,
             "{wanted}"
         );
     }
@@ -1019,9 +1059,15 @@ fn client_lines(rt: HostRuntime) -> Result<(), Fail> {
 }
 
 // Whether a client is answered so over Bitcoin's first two blocks.
-fn is_answered(alloc: Global, file: &[u8], asks: &str, wanted: &str) -> Result<bool, Fail> {
+fn is_answered<W: Threads + Sync>(
+    rt: &W,
+    alloc: Global,
+    file: &[u8],
+    asks: &str,
+    wanted: &str,
+) -> Result<bool, Fail> {
     let run = [BOTH_TOLD, Step::Forget, Step::Opens(1), Step::Says(1, asks)];
-    says(alloc, file, run.as_slice(), wanted)
+    says(rt, alloc, file, run.as_slice(), wanted)
 }
 
 #[test]
@@ -1029,7 +1075,7 @@ fn requests_over_two_blocks(rt: HostRuntime) -> Result<(), Fail> {
     let file = first_file(rt.alloc())?;
     for (asks, wanted) in REQUESTS.iter() {
         assert!(rt;
-            is_answered(rt.alloc(), file.as_slice(), *asks, *wanted)?,
+            is_answered(&rt, rt.alloc(), file.as_slice(), *asks, *wanted)?,
             "{wanted}"
         );
     }
@@ -1074,16 +1120,22 @@ fn long_text(alloc: Global, len: usize) -> Result<String, Fail> {
 }
 
 // Whether this is shown where a client says the text and then its end.
-fn ends<'a>(alloc: Global, text: &'a str, end: &'a str, wanted: &str) -> Result<bool, Fail> {
+fn ends<'a, W: Threads + Sync>(
+    rt: &W,
+    alloc: Global,
+    text: &'a str,
+    end: &'a str,
+    wanted: &str,
+) -> Result<bool, Fail> {
     let run = [Step::Opens(1), Step::Says(1, text), Step::Says(1, end)];
-    says(alloc, b"", run.as_slice(), wanted)
+    says(rt, alloc, b"", run.as_slice(), wanted)
 }
 
 #[test]
 fn lines_round_the_limit(rt: HostRuntime) -> Result<(), Fail> {
     let text = long_text(rt.alloc(), LINE_LIMIT)?;
-    assert!(rt; ends(rt.alloc(), text.as_str(), "\n", NO_JSON)?);
-    assert!(rt; ends(rt.alloc(), text.as_str(), "x", "long\n")?);
-    assert!(rt; ends(rt.alloc(), text.as_str(), "x\n{}\n", "long\n")?);
+    assert!(rt; ends(&rt, rt.alloc(), text.as_str(), "\n", NO_JSON)?);
+    assert!(rt; ends(&rt, rt.alloc(), text.as_str(), "x", "long\n")?);
+    assert!(rt; ends(&rt, rt.alloc(), text.as_str(), "x\n{}\n", "long\n")?);
     Ok(())
 }

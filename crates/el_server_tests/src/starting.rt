@@ -4,6 +4,7 @@ use el_base::sha256;
 use el_gen::locking_script;
 use std::alloc::Global;
 use std::test::Fail;
+use std::thread::Threads;
 
 // What it asks before it subscribes to scripts, and what it is answered.
 const BEFORE: (&str, &str) = (
@@ -99,10 +100,15 @@ fn answered(alloc: Global) -> Result<String, Fail> {
 }
 
 // Whether a wallet is answered so.
-fn is_served(alloc: Global, asks: &str, wanted: &str) -> Result<bool, Fail> {
+fn is_served<W: Threads + Sync>(
+    rt: &W,
+    alloc: Global,
+    asks: &str,
+    wanted: &str,
+) -> Result<bool, Fail> {
     let file = first_file(alloc)?;
     let run = [BOTH_TOLD, Step::Forget, Step::Opens(1), Step::Says(1, asks)];
-    says(alloc, file.as_slice(), run.as_slice(), wanted)
+    says(rt, alloc, file.as_slice(), run.as_slice(), wanted)
 }
 
 #[test]
@@ -110,7 +116,7 @@ fn a_wallet_starts(rt: HostRuntime) -> Result<(), Fail> {
     let asks = asked(rt.alloc())?;
     let wanted = answered(rt.alloc())?;
     assert!(rt;
-        is_served(rt.alloc(), asks.as_str(), wanted.as_str())?,
+        is_served(&rt, rt.alloc(), asks.as_str(), wanted.as_str())?,
         "{wanted}"
     );
     Ok(())

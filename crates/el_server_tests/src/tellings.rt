@@ -6,6 +6,7 @@ use crate::server::Step::{Forget, Gone, Opens, Says, Spells};
 use crate::server::{Step, says, spelled};
 use std::alloc::Global;
 use std::test::Fail;
+use std::thread::Threads;
 
 // What happens once 257 clients came.
 const LATER: &[Step<'static>] = &[
@@ -32,7 +33,7 @@ fn many(alloc: Global) -> Result<Vec<Step<'static>>, Fail> {
 fn clients_round_the_limit(rt: HostRuntime) -> Result<(), Fail> {
     let steps = many(rt.alloc())?;
     let wanted = "257 clients\n256 {invalid}\n259 clients\n258 {invalid}\n";
-    assert!(rt; says(rt.alloc(), b"", steps.as_slice(), wanted)?);
+    assert!(rt; says(&rt, rt.alloc(), b"", steps.as_slice(), wanted)?);
     Ok(())
 }
 
@@ -98,10 +99,15 @@ fn holding<'x>(alloc: Global, lines: &'x [String]) -> Result<Vec<Step<'x>>, Fail
 }
 
 // Whether this is shown where a client says these lines before.
-fn shows_after(alloc: Global, lines: &[String], wanted: &str) -> Result<bool, Fail> {
+fn shows_after<W: Threads + Sync>(
+    rt: &W,
+    alloc: Global,
+    lines: &[String],
+    wanted: &str,
+) -> Result<bool, Fail> {
     let file = coins_file(alloc)?;
     let steps = holding(alloc, lines)?;
-    says(alloc, file.as_slice(), steps.as_slice(), wanted)
+    says(rt, alloc, file.as_slice(), steps.as_slice(), wanted)
 }
 
 #[test]
@@ -109,7 +115,7 @@ fn subscriptions_round_the_limit(rt: HostRuntime) -> Result<(), Fail> {
     let lines = batches(rt.alloc())?;
     let wanted =
         "{result}null}\n{too-many}\n{result}null}\nblock {z}\nat {z} 0\ntx Q\n{too-many}\n";
-    assert!(rt; shows_after(rt.alloc(), lines.as_slice(), wanted)?);
+    assert!(rt; shows_after(&rt, rt.alloc(), lines.as_slice(), wanted)?);
     Ok(())
 }
 
@@ -268,34 +274,37 @@ const BEGINS: &[Step<'static>] = &[TELLS, Says(0, "tip {z}\n")];
 
 // What is shown in a life of these steps of which these calls fail, over rows that have the first block alone
 // before it.
-fn over_one_block(
+fn over_one_block<W: Threads + Sync>(
+    rt: &W,
     alloc: Global,
     rows: &mut FailingRows,
     failing: &[u64],
     file: &[u8],
     steps: &[Step<'_>],
 ) -> Result<Vec<u8>, Fail> {
-    live(alloc, rows, &[], file, BEGINS)?;
-    live(alloc, rows, failing, file, steps)
+    live(rt, alloc, rows, &[], file, BEGINS)?;
+    live(rt, alloc, rows, failing, file, steps)
 }
 
 // How often the device is called before the last of these steps, over rows that have the first block alone,
 // and with it.
-fn calls_round(
+fn calls_round<W: Threads + Sync>(
+    rt: &W,
     alloc: Global,
     rows: &mut FailingRows,
     file: &[u8],
     before: &[Step<'_>],
     whole: &[Step<'_>],
 ) -> Result<(u64, u64), Fail> {
-    live(alloc, rows, &[], file, BEGINS)?;
-    let from = calls_of(alloc, rows, file, before)?;
-    Ok((from, calls_of(alloc, rows, file, whole)?))
+    live(rt, alloc, rows, &[], file, BEGINS)?;
+    let from = calls_of(rt, alloc, rows, file, before)?;
+    Ok((from, calls_of(rt, alloc, rows, file, whole)?))
 }
 
 // Whether each of these calls that fails stops the server up to some call, from then on closes the first
 // client, then the second, then the third, and nothing else; the others are told of both lines.
-fn closes_in_turn(
+fn closes_in_turn<W: Threads + Sync>(
+    rt: &W,
     alloc: Global,
     rows: &mut FailingRows,
     file: &[u8],
@@ -305,7 +314,7 @@ fn closes_in_turn(
     let steps = steps_of(telling);
     let mut last = 0usize;
     for call in calls.0.saturating_add(1)..=calls.1 {
-        let shown = over_one_block(alloc, rows, &[call], file, steps.as_slice())?;
+        let shown = over_one_block(rt, alloc, rows, &[call], file, steps.as_slice())?;
         let closed = closed_in(alloc, telling, shown.as_slice())?;
         if rows.counts().1 != 1 || closed < last || closed > last.saturating_add(1) {
             return Ok(false);
@@ -317,18 +326,19 @@ fn closes_in_turn(
 
 // Whether all are told of both lines where no call fails, and each call that fails in the first line has its
 // effect alone.
-fn is_told(
+fn is_told<W: Threads + Sync>(
+    rt: &W,
     alloc: Global,
     rows: &mut FailingRows,
     file: &[u8],
     telling: &Telling,
 ) -> Result<bool, Fail> {
     let steps = steps_of(telling);
-    let calls = calls_round(alloc, rows, file, &steps[..9], &steps[..10])?;
-    let shown = over_one_block(alloc, rows, &[], file, steps.as_slice())?;
+    let calls = calls_round(rt, alloc, rows, file, &steps[..9], &steps[..10])?;
+    let shown = over_one_block(rt, alloc, rows, &[], file, steps.as_slice())?;
     Ok(
         is_without(alloc, telling, 0, shown.as_slice())?
-            && closes_in_turn(alloc, rows, file, telling, calls)?,
+            && closes_in_turn(rt, alloc, rows, file, telling, calls)?,
     )
 }
 
@@ -339,7 +349,7 @@ fn each_call_of_a_telling(rt: HostRuntime) -> Result<(), Fail> {
     for telling in TELLINGS.iter() {
         let mut rows = FailingRows::new(alloc);
         assert!(rt;
-            is_told(alloc, &mut rows, file.as_slice(), telling)?,
+            is_told(&rt, alloc, &mut rows, file.as_slice(), telling)?,
             "{}",
             telling.lines.first
         );
@@ -380,7 +390,8 @@ const SESSIONS: &[[&str; 5]] = &[
 ];
 
 // Whether each of these calls that fails has this shown.
-fn each_shows(
+fn each_shows<W: Threads + Sync>(
+    rt: &W,
     alloc: Global,
     rows: &mut FailingRows,
     file: &[u8],
@@ -391,14 +402,15 @@ fn each_shows(
     let wanted = spelled(alloc, wanted)?;
     let mut is_shown = true;
     for call in calls.0.saturating_add(1)..=calls.1 {
-        let shown = over_one_block(alloc, rows, &[call], file, steps)?;
+        let shown = over_one_block(rt, alloc, rows, &[call], file, steps)?;
         is_shown = is_shown && shown.as_slice() == wanted.as_bytes();
     }
     Ok(is_shown)
 }
 
 // Whether this is shown where no call fails.
-fn shows_sound(
+fn shows_sound<W: Threads + Sync>(
+    rt: &W,
     alloc: Global,
     rows: &mut FailingRows,
     file: &[u8],
@@ -406,12 +418,13 @@ fn shows_sound(
     wanted: &str,
 ) -> Result<bool, Fail> {
     let wanted = spelled(alloc, wanted)?;
-    let shown = live(alloc, rows, &[], file, steps)?;
+    let shown = live(rt, alloc, rows, &[], file, steps)?;
     Ok(shown.as_slice() == wanted.as_bytes())
 }
 
 // Whether a session stays as it was at each call of the question that fails.
-fn stays(
+fn stays<W: Threads + Sync>(
+    rt: &W,
     alloc: Global,
     rows: &mut FailingRows,
     file: &[u8],
@@ -427,9 +440,9 @@ fn stays(
         Says(1, asks),
         Says(0, line),
     ];
-    let calls = calls_round(alloc, rows, file, &steps[..5], &steps[..6])?;
-    let is_sound = shows_sound(alloc, rows, file, steps.as_slice(), sound)?;
-    let is_kept = each_shows(alloc, rows, file, steps.as_slice(), calls, failed)?;
+    let calls = calls_round(rt, alloc, rows, file, &steps[..5], &steps[..6])?;
+    let is_sound = shows_sound(rt, alloc, rows, file, steps.as_slice(), sound)?;
+    let is_kept = each_shows(rt, alloc, rows, file, steps.as_slice(), calls, failed)?;
     Ok(calls.0 < calls.1 && is_sound && is_kept)
 }
 
@@ -440,7 +453,7 @@ fn each_read_of_a_subscription(rt: HostRuntime) -> Result<(), Fail> {
     for session in SESSIONS.iter() {
         let mut rows = FailingRows::new(alloc);
         assert!(rt;
-            stays(alloc, &mut rows, file.as_slice(), session)?,
+            stays(&rt, alloc, &mut rows, file.as_slice(), session)?,
             "{}{}",
             session[0],
             session[1]

@@ -21,8 +21,9 @@ use crate::fault::StepFault;
 use el_chain::{MoveFault, Plan, Touched};
 use el_lines::{NodeAnswer, NodeRefusal, move_refused};
 use el_model::Ledger;
-use el_outside::Archive;
+use el_outside::{Archive, Pace};
 use std::alloc::Global;
+use std::thread::Threads;
 
 /// What a move leaves, which was made or refused.
 #[derive(Debug, Drop)]
@@ -63,12 +64,14 @@ fn refusal(fault: MoveFault) -> Result<NodeAnswer, StepFault>
 ///
 /// `StepFault::DiskFailed`, after which the ledger isn't live, and `StepFault::Memory`, after which the move
 /// isn't made.
-pub fn make_move<G: Ledger, A: Archive>(
+pub fn make_move<W: Threads + Sync, G: Ledger, A: Archive>(
+    rt: &W,
     alloc: Global,
     ledger: &mut G,
     back: u32,
     rest: Ahead,
     archive: &mut A,
+    pace: &(dyn Pace + Sync),
 ) -> Result<Made, StepFault>
     requires live { G.is_live ledger.old }
     requires back { back ≤ max_back }
@@ -93,7 +96,7 @@ pub fn make_move<G: Ledger, A: Archive>(
 {
     let forward = rest.next_blocks(alloc)?;
     let plan = Plan { back, forward };
-    match ledger.go(alloc, &plan, archive) {
+    match ledger.go(rt, alloc, &plan, archive, pace) {
         Ok(moved) => Ok(Made {
             answer: NodeAnswer::At {
                 tip: moved.tip,

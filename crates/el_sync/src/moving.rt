@@ -25,10 +25,11 @@ use crate::making::{Made, make_move};
 use el_chain::Touched;
 use el_lines::NodeAnswer;
 use el_model::Ledger;
-use el_outside::Archive;
+use el_outside::{Archive, Pace};
 use el_pool::Pool;
 use el_side::Holdings;
 use std::alloc::Global;
+use std::thread::Threads;
 
 /// What a line of the node, or a move that one left, leaves.
 #[derive(Debug, Drop)]
@@ -85,7 +86,8 @@ fn settle<G: Ledger>(
 ///
 /// `StepFault::DiskFailed`, after which the ledger isn't live, and `StepFault::Memory`; what was moved before
 /// stays so, and the set isn't used again.
-pub fn move_once<G: Ledger, A: Archive>(
+pub fn move_once<W: Threads + Sync, G: Ledger, A: Archive>(
+    rt: &W,
     alloc: Global,
     ledger: &mut G,
     holdings: &mut Holdings,
@@ -93,6 +95,7 @@ pub fn move_once<G: Ledger, A: Archive>(
     rest: Ahead,
     archive: &mut A,
     later: bool,
+    pace: &(dyn Pace + Sync),
 ) -> Result<Step, StepFault>
     requires live { G.is_live ledger.old }
     requires back { back ≤ max_back }
@@ -122,7 +125,7 @@ pub fn move_once<G: Ledger, A: Archive>(
         left,
         moved,
         touched,
-    } = make_move(alloc, ledger, back, rest, archive)?;
+    } = make_move(rt, alloc, ledger, back, rest, archive, pace)?;
     let ends = ends_line(&left, moved, later);
     let changed = settle(alloc, ledger, &mut holdings.pool, ends)?;
     Ok(Step {
@@ -141,12 +144,14 @@ pub fn move_once<G: Ledger, A: Archive>(
 ///
 /// `StepFault::DiskFailed`, after which the ledger isn't live, and `StepFault::Memory`; what was moved before
 /// stays so, and the set isn't used again.
-pub fn move_next<G: Ledger, A: Archive>(
+pub fn move_next<W: Threads + Sync, G: Ledger, A: Archive>(
+    rt: &W,
     alloc: Global,
     ledger: &mut G,
     holdings: &mut Holdings,
     rest: Ahead,
     archive: &mut A,
+    pace: &(dyn Pace + Sync),
 ) -> Result<Step, StepFault>
     requires live { G.is_live ledger.old }
     requires nodes { AllByRecursion IsNode rest }
@@ -168,5 +173,5 @@ pub fn move_next<G: Ledger, A: Archive>(
     ensures step { NodeStep (ghosts ⟦<G as Ledger>⟧ ⟦<A as Archive>⟧) (beneath ledger.old archive.old)
         (beneath ledger.new archive.new) true result }
 {
-    move_once(alloc, ledger, holdings, 0, rest, archive, true)
+    move_once(rt, alloc, ledger, holdings, 0, rest, archive, true, pace)
 }

@@ -32,9 +32,10 @@ use el_files::record_at;
 use el_headers::{Added, HeaderTree, PathEnd, PathFault};
 use el_lines::{LineEvent, NodeAnswer, NodeLine, NodeLineFault, NodeRefusal, read_node_line};
 use el_model::Ledger;
-use el_outside::Archive;
+use el_outside::{Archive, Pace};
 use el_side::Holdings;
 use std::alloc::Global;
+use std::thread::Threads;
 
 // Looks at a place of the block files. Fails only where the tree finds no memory for the node there.
 fn order_block<A: Archive>(
@@ -120,12 +121,14 @@ fn pool_step(alloc: Global, told: PoolAnswer) -> Step
 }
 
 // Moves the chain along the path that ends there.
-fn move_along<G: Ledger, A: Archive>(
+fn move_along<W: Threads + Sync, G: Ledger, A: Archive>(
+    rt: &W,
     alloc: Global,
     ledger: &mut G,
     holdings: &mut Holdings,
     archive: &mut A,
     end: &PathEnd,
+    pace: &(dyn Pace + Sync),
 ) -> Result<Step, StepFault>
     requires live { G.is_live ledger.old }
     requires path { (path : List node_shape.Node) × IsPath holdings.old.tree end.now.node.hash path }
@@ -168,16 +171,28 @@ fn move_along<G: Ledger, A: Archive>(
         };
         return Ok(only_answer(alloc, answer));
     }
-    move_once(alloc, ledger, holdings, back as u32, rest, archive, false)
+    move_once(
+        rt,
+        alloc,
+        ledger,
+        holdings,
+        back as u32,
+        rest,
+        archive,
+        false,
+        pace,
+    )
 }
 
 // Moves the chain towards a block: its first move.
-fn order_tip<G: Ledger, A: Archive>(
+fn order_tip<W: Threads + Sync, G: Ledger, A: Archive>(
+    rt: &W,
     alloc: Global,
     ledger: &mut G,
     holdings: &mut Holdings,
     archive: &mut A,
     h: Hash32,
+    pace: &(dyn Pace + Sync),
 ) -> Result<Step, StepFault>
     requires live { G.is_live ledger.old }
     ensures tip { let of = ghosts ⟦<G as Ledger>⟧ ⟦<A as Archive>⟧ in
@@ -202,7 +217,7 @@ fn order_tip<G: Ledger, A: Archive>(
         (beneath ledger.new archive.new) false result }
 {
     match holdings.tree.path_end(&h) {
-        Ok(end) => move_along(alloc, ledger, holdings, archive, &end),
+        Ok(end) => move_along(rt, alloc, ledger, holdings, archive, &end, pace),
         Err(PathFault::Unknown) => Ok(refusing(alloc, NodeRefusal::Unknown(h))),
         Err(PathFault::Unconnected) => Ok(refusing(alloc, NodeRefusal::Unconnected(h))),
         Err(PathFault::Memory) => Err(StepFault::Memory),
@@ -210,12 +225,14 @@ fn order_tip<G: Ledger, A: Archive>(
 }
 
 // A whole line of the node.
-fn order_line<G: Ledger, A: Archive>(
+fn order_line<W: Threads + Sync, G: Ledger, A: Archive>(
+    rt: &W,
     alloc: Global,
     ledger: &mut G,
     holdings: &mut Holdings,
     archive: &mut A,
     text: &[u8],
+    pace: &(dyn Pace + Sync),
 ) -> Result<Step, StepFault>
     requires live { G.is_live ledger.old }
     ensures node { let of = ghosts ⟦<G as Ledger>⟧ ⟦<A as Archive>⟧ in
@@ -248,7 +265,7 @@ fn order_line<G: Ledger, A: Archive>(
             let answer = order_block(holdings, archive, file, at)?;
             Ok(only_answer(alloc, answer))
         }
-        Ok(NodeLine::Tip(h)) => order_tip(alloc, ledger, holdings, archive, h),
+        Ok(NodeLine::Tip(h)) => order_tip(rt, alloc, ledger, holdings, archive, h, pace),
         Ok(NodeLine::Tx(bytes)) => {
             let told = order_tx(alloc, ledger, &mut holdings.pool, bytes.as_slice())?;
             Ok(pool_step(alloc, told))
@@ -270,12 +287,14 @@ fn order_line<G: Ledger, A: Archive>(
 /// `StepFault::DiskFailed` where a call on the ledger's device failed, after which it isn't live, and
 /// `StepFault::Memory` where no memory was found, which no line that is refused before a move takes. What was
 /// moved before stays so, and the set isn't used again.
-pub fn order<G: Ledger, A: Archive>(
+pub fn order<W: Threads + Sync, G: Ledger, A: Archive>(
+    rt: &W,
     alloc: Global,
     ledger: &mut G,
     holdings: &mut Holdings,
     archive: &mut A,
     met: LineEvent,
+    pace: &(dyn Pace + Sync),
 ) -> Result<Step, StepFault>
     requires live { G.is_live ledger.old }
     ensures node { let of = ghosts ⟦<G as Ledger>⟧ ⟦<A as Archive>⟧ in
@@ -307,6 +326,8 @@ pub fn order<G: Ledger, A: Archive>(
 {
     match met {
         LineEvent::TooLong { limit: _ } => Ok(refusing(alloc, NodeRefusal::Long)),
-        LineEvent::Line(text) => { order_line(alloc, ledger, holdings, archive, text.as_slice()) }
+        LineEvent::Line(text) => {
+            order_line(rt, alloc, ledger, holdings, archive, text.as_slice(), pace)
+        }
     }
 }

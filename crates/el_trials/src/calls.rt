@@ -5,10 +5,11 @@ use crate::names::named;
 use el_base::Bytes;
 use el_fakes::{Coming, MemArchive, MemLink, SteadyArchive, SteadyLink};
 use el_mem_disk::{FailingCalls, MemDisk, Residue};
-use el_outside::{Archive, Disk, Link};
+use el_outside::{Archive, Disk, Link, NoPace, Pace};
 use el_program::{Status, serve};
 use std::alloc::{AllocError, Global};
 use std::test::Fail;
+use std::thread::Threads;
 
 /// The words of `serve` for a network of one's own.
 pub const SERVE: &str =
@@ -50,8 +51,33 @@ pub fn words_of(alloc: Global, text: &str) -> Result<Vec<String>, AllocError> {
     Ok(all)
 }
 
+/// Calls `serve` with the words of the text, at this pace.
+pub fn serve_at<W: Threads + Sync, D: Disk + Drop, A: Archive, K: Link>(
+    rt: &W,
+    alloc: Global,
+    words: &str,
+    disk: D,
+    archive: &mut A,
+    link: &mut K,
+    pace: &(dyn Pace + Sync),
+    turns: u64,
+) -> Result<(Status, D), AllocError> {
+    let words = words_of(alloc, words)?;
+    Ok(serve(
+        rt,
+        alloc,
+        words.as_slice(),
+        disk,
+        archive,
+        link,
+        pace,
+        turns,
+    ))
+}
+
 /// Calls `serve` with the words of the text.
-pub fn serve_on<D: Disk + Drop, A: Archive, K: Link>(
+pub fn serve_on<W: Threads + Sync, D: Disk + Drop, A: Archive, K: Link>(
+    rt: &W,
     alloc: Global,
     words: &str,
     disk: D,
@@ -59,19 +85,19 @@ pub fn serve_on<D: Disk + Drop, A: Archive, K: Link>(
     link: &mut K,
     turns: u64,
 ) -> Result<(Status, D), AllocError> {
-    let words = words_of(alloc, words)?;
-    Ok(serve(alloc, words.as_slice(), disk, archive, link, turns))
+    serve_at(rt, alloc, words, disk, archive, link, &NoPace, turns)
 }
 
 /// Calls `serve` with the words of the text, over a fresh disk.
-pub fn serve_over<A: Archive, K: Link>(
+pub fn serve_over<W: Threads + Sync, A: Archive, K: Link>(
+    rt: &W,
     alloc: Global,
     words: &str,
     archive: &mut A,
     link: &mut K,
     turns: u64,
 ) -> Result<Status, AllocError> {
-    let (status, _) = serve_on(alloc, words, fresh_disk(alloc), archive, link, turns)?;
+    let (status, _) = serve_on(rt, alloc, words, fresh_disk(alloc), archive, link, turns)?;
     Ok(status)
 }
 
@@ -86,7 +112,8 @@ pub fn steady_link(alloc: Global, steps: &[Step<'_>]) -> Result<SteadyLink, Fail
 }
 
 /// How a call over devices of which no call fails ends, and what is sent and closed.
-pub fn call_steady(
+pub fn call_steady<W: Threads + Sync>(
+    rt: &W,
     alloc: Global,
     words: &str,
     files: Vec<Bytes>,
@@ -94,7 +121,7 @@ pub fn call_steady(
 ) -> Result<(Status, String), Fail> {
     let mut archive = SteadyArchive::new(files).ok_or("no such files")?;
     let mut link = SteadyLink::new(alloc, coming)?;
-    let status = serve_over(alloc, words, &mut archive, &mut link, TURNS)?;
+    let status = serve_over(rt, alloc, words, &mut archive, &mut link, TURNS)?;
     Ok((status, transcript(alloc, link.sent(), link.closed())?))
 }
 
@@ -121,7 +148,8 @@ pub fn expect_ended(
 }
 
 /// Fails unless a call that has these files, in which this comes and nothing fails, ends so, and sends this.
-pub fn expect_sends(
+pub fn expect_sends<W: Threads + Sync>(
+    rt: &W,
     alloc: Global,
     words: &str,
     files: Files,
@@ -129,7 +157,7 @@ pub fn expect_sends(
     wanted: (Status, &str),
 ) -> Result<(), Fail> {
     let files = files_of(alloc, files)?;
-    let (status, text) = call_steady(alloc, words, files, coming(alloc, steps, 1_000)?)?;
+    let (status, text) = call_steady(rt, alloc, words, files, coming(alloc, steps, 1_000)?)?;
     expect_ended(alloc, (status, text.as_str()), wanted)
 }
 
@@ -189,7 +217,8 @@ fn failing_disk(alloc: Global, call: u64) -> Result<MemDisk, AllocError> {
 }
 
 // A call over these devices.
-fn call_over(
+fn call_over<W: Threads + Sync>(
+    rt: &W,
     alloc: Global,
     words: &str,
     disk: MemDisk,
@@ -197,7 +226,7 @@ fn call_over(
     link: &mut MemLink,
     turns: u64,
 ) -> Result<Counted, Fail> {
-    let (status, disk) = serve_on(alloc, words, disk, archive, link, turns)?;
+    let (status, disk) = serve_on(rt, alloc, words, disk, archive, link, turns)?;
     let text = transcript(alloc, link.sent(), link.closed())?;
     Ok(Counted {
         status,
@@ -209,7 +238,8 @@ fn call_over(
 }
 
 /// A call over devices of which these calls fail.
-pub fn call_failing(
+pub fn call_failing<W: Threads + Sync>(
+    rt: &W,
     alloc: Global,
     words: &str,
     files: Vec<Bytes>,
@@ -219,5 +249,5 @@ pub fn call_failing(
     let mut archive = MemArchive::new(files, Vec::from_slice(alloc, &[fails.archive])?);
     let mut link = failing_link(alloc, coming, fails)?;
     let disk = failing_disk(alloc, fails.disk)?;
-    call_over(alloc, words, disk, &mut archive, &mut link, fails.turns)
+    call_over(rt, alloc, words, disk, &mut archive, &mut link, fails.turns)
 }

@@ -11,6 +11,7 @@ use el_outside::Disk;
 use el_program::Status;
 use std::alloc::Global;
 use std::test::Fail;
+use std::thread::Threads;
 
 /// Block files that have no file.
 pub const NO_FILES: Files = Files::Parts(&[]);
@@ -27,7 +28,8 @@ pub struct Life {
 }
 
 /// A life on the disk.
-pub fn life_on(
+pub fn life_on<W: Threads + Sync>(
+    rt: &W,
     alloc: Global,
     words: &str,
     disk: MemDisk,
@@ -36,7 +38,7 @@ pub fn life_on(
 ) -> Result<Life, Fail> {
     let mut archive = steady_archive(alloc, files)?;
     let mut link = steady_link(alloc, steps)?;
-    let (status, disk) = serve_on(alloc, words, disk, &mut archive, &mut link, TURNS)?;
+    let (status, disk) = serve_on(rt, alloc, words, disk, &mut archive, &mut link, TURNS)?;
     let text = transcript(alloc, link.sent(), link.closed())?;
     Ok(Life { status, text, disk })
 }

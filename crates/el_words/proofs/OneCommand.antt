@@ -1,7 +1,8 @@
 -- Words are those of one command.
 use Rattle.std.proofs.Common.{◌≡◌, ◌∙◌, ℕ, List, ◌∷◌, Option, Some, None, codes, refl, sym, ap, ap₂, subst, drop, IsSomeAnd}
+use Rattle.std.specs.Str.Parse.{digits_value}
 use Rattle.el_words.specs.Options.{Word, Given, words_of, value_of}
-use Rattle.el_words.specs.Words.{IsOnceOf, IsServeOf, IsPort, IsLimit, network_name}
+use Rattle.el_words.specs.Words.{IsOnceOf, IsServeOf, IsCheckOf, IsPort, IsLimit, network_name}
 use Rattle.el_words.specs.Commands.{IsCommand, IsNoCommand}
 use Rattle.el_mempool.specs.declared.entry.PoolLimits.{PoolLimits}
 use Rattle.el_words.specs.declared.words.ServeSettings.{ServeSettings}
@@ -99,9 +100,24 @@ one_command words (command.Once blocks m) (command.Once blocks' n) a b =
     let e1 = one_value (codes "--blocks") same a.blocks_is b.blocks_is in
     let e2 = one_network same a.network_is b.network_is in
     cc
+one_command words (command.Serve s) (command.CheckChain count') a b =
+    absurd (let one = a.words_are in let other = b.words_are in cc)
+one_command words (command.Once blocks m) (command.CheckChain count') a b =
+    absurd (let one = a.words_are in let other = b.words_are in cc)
+one_command words (command.CheckChain count) (command.Serve s') a b =
+    absurd (let one = a.words_are in let other = b.words_are in cc)
+one_command words (command.CheckChain count) (command.Once blocks' n) a b =
+    absurd (let one = a.words_are in let other = b.words_are in cc)
+one_command words (command.CheckChain count) (command.CheckChain count') a b =
+    let one = a.words_are in
+    let other = b.words_are in
+    let same : a.number ≡ b.number = cc in
+    ap command.CheckChain (a.shown.number.value ∙ ap (digits_value 10) same ∙ sym b.shown.number.value)
 
--- words of neither are those of no command
+-- words of none of the three are those of no command
 pub no_command : (words : List Word) → ((said : ServeWords) → IsServeOf words said → ⊥)
-    → ((blocks : Word) (network : Network) → IsOnceOf words blocks network → ⊥) → IsNoCommand words
-no_command words no_serve no_once (command.Serve said) is = no_serve said is
-no_command words no_serve no_once (command.Once blocks network) is = no_once blocks network is
+    → ((blocks : Word) (network : Network) → IsOnceOf words blocks network → ⊥)
+    → ((count : ℕ) → IsCheckOf words count → ⊥) → IsNoCommand words
+no_command words no_serve no_once no_check (command.Serve said) is = no_serve said is
+no_command words no_serve no_once no_check (command.Once blocks network) is = no_once blocks network is
+no_command words no_serve no_once no_check (command.CheckChain count) is = no_check count is

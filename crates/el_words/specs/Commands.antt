@@ -1,7 +1,7 @@
 -- What the words ask for.
 use Rattle.std.specs.Prelude.{◌≡◌, ℕ, List}
 use Rattle.el_words.specs.Options.{Word}
-use Rattle.el_words.specs.Words.{IsOnceOf, IsServeOf, network_magic}
+use Rattle.el_words.specs.Words.{IsOnceOf, IsServeOf, IsCheckOf, network_magic}
 use Rattle.el_words.specs.declared.words.Network.{Network}
 use Rattle.el_words.specs.declared.words.Command.{Command}
 use Rattle.el_words.specs.declared.words.Command.TheVariants as command
@@ -11,6 +11,7 @@ use Rattle.el_words.specs.declared.words.ServeWords.{ServeWords}
 abbrev pub IsCommand : List Word → Command → Type 0
 IsCommand words (command.Serve said) = IsServeOf words said
 IsCommand words (command.Once blocks network) = IsOnceOf words blocks network
+IsCommand words (command.CheckChain count) = IsCheckOf words count
 
 -- the words are those of no command
 abbrev pub IsNoCommand : List Word → Type 0

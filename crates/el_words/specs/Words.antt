@@ -79,6 +79,12 @@ pub record IsServeOf (words : List Word) (said : ServeWords) : Type 0 where
   pub ports : ArePorts given said.settings.client_port said.settings.node_port
   pub limits_are : AreLimits given said.settings.limits
 
+-- the words `check-chain N`, with a number from 1 to 20,000
+pub record IsCheckOf (words : List Word) (count : ℕ) : Type 0 where
+  pub number : Word
+  pub words_are : words ≡ codes "check-chain" ∷ number ∷ []
+  pub shown : IsUpTo 20000 number count
+
 -- the words as bytes
 abbrev pub texts : List (String Global) → List Word
 texts ws = map string_bytes ws

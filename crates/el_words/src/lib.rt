@@ -8,5 +8,6 @@ mod words;
 
 pub use laws::words_are_of_one_command;
 pub use words::{
-    Command, Network, ServeSettings, ServeWords, greatest_limits, once_of, read_words, serve_of,
+    Command, Network, ServeSettings, ServeWords, check_of, greatest_limits, once_of, read_words,
+    serve_of,
 };

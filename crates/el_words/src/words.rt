@@ -2,7 +2,7 @@
 ghost use Rattle.std.specs.Prelude.{◌≡◌, ◌≢◌, ◌<◌, ◌^◌, ℕ, List, [], ◌∷◌, codes, is_some, true, map, Some, IfSome, IfNone, IfOk, IsSomeAnd, MatchOption};
 ghost use Rattle.clap.specs.Matches.{first_value, found_of};
 ghost use Rattle.el_words.specs.Options.{Word, Given, words_of, value_of};
-ghost use Rattle.el_words.specs.Words.{IsOnceOf, IsServeOf, IsUpTo, IsPort, IsLimit, ArePorts, AreLimits, greatest_limits, network_name, network_magic, once_options, serve_options, texts};
+ghost use Rattle.el_words.specs.Words.{IsOnceOf, IsServeOf, IsCheckOf, IsUpTo, IsPort, IsLimit, ArePorts, AreLimits, greatest_limits, network_name, network_magic, once_options, serve_options, texts};
 ghost use Rattle.el_words.specs.Commands.{IsCommand, IsNoCommand};
 ghost use Rattle.el_words.specs.within.Reading.{GiveOptions};
 ghost use Rattle.el_words.specs.declared.words.Network as shape;
@@ -34,6 +34,9 @@ const SERVE_OPTIONS: [&str; 7] = [
 const MAX_POOL_COUNT: u64 = 1_000_000;
 
 const MAX_POOL_BYTES: u64 = 300_000_000;
+
+// How many blocks the first branch of a made file may have at most.
+const MOST_MADE: u64 = 20_000;
 
 /// A Bitcoin network.
 #[derive(Clone, Copy, Debug, PartialEq, Eq)]
@@ -131,6 +134,11 @@ pub enum Command {
         blocks: Text,
         /// The network whose blocks they are.
         network: Network,
+    },
+    /// Leads an index over blocks that are made for it, and sums it up in one line.
+    CheckChain {
+        /// How many blocks the first of the two made branches has, from 1 to 20,000.
+        count: u32,
     },
 }
 
@@ -256,6 +264,21 @@ pub fn once_of(words: &[String]) -> Option<Network>
     network_in(options)
 }
 
+/// The number of the words `check-chain N`; None exactly for other words. Takes no memory.
+pub fn check_of(words: &[String]) -> Option<u32>
+    ensures found { IfSome result (IsCheckOf (texts words.now)) }
+    ensures none { IfNone result ((count : ℕ) → IsCheckOf (texts words.now) count → ⊥) }
+{
+    let [command, number] = words else {
+        return None;
+    };
+    if command.as_str() != "check-chain" {
+        return None;
+    }
+    let count = number_up_to(number.as_str(), MOST_MADE)?;
+    Some(count as u32)
+}
+
 // The words after the first.
 fn after_first(words: &[String]) -> &[String]
     ensures { (first : Word) (more : List Word) → texts words.now ≡ first ∷ more → texts result.now ≡ more }
@@ -316,9 +339,12 @@ pub fn read_words(alloc: Global, words: &[String]) -> Result<Option<Command>, Ou
         let command = serve_command(alloc, words, settings)?;
         return Ok(Some(command));
     }
-    let Some(network) = once_of(words) else {
-        return Ok(None);
-    };
-    let command = once_command(alloc, words, network)?;
-    Ok(Some(command))
+    if let Some(network) = once_of(words) {
+        let command = once_command(alloc, words, network)?;
+        return Ok(Some(command));
+    }
+    match check_of(words) {
+        Some(count) => Ok(Some(Command::CheckChain { count })),
+        None => Ok(None),
+    }
 }

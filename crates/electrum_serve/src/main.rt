@@ -5,5 +5,5 @@ use el_program::{serve_all, tell_end};
 use std::process::ExitCode;
 
 fn main(rt: HostRuntime) -> ExitCode {
-    tell_end(&rt, serve_all(&rt))
+    tell_end(&rt, serve_all(&rt, &rt))
 }

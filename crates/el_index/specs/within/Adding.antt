@@ -1,5 +1,5 @@
 -- What stands after a chain once blocks were put in or taken back.
-use Rattle.std.specs.Prelude.{◌≡◌, ◌⊎◌, ℕ, ◌-◌, ◌||◌, Bool, false, List, [], ◌∷◌, ◌++◌, length, drop}
+use Rattle.std.specs.Prelude.{◌≡◌, ◌⊎◌, ℕ, ◌-◌, ◌||◌, Bool, false, List, [], ◌∷◌, ◌++◌, length, take, drop}
 use Rattle.std.specs.List.{list_any}
 use Rattle.el_base.specs.declared.hash.Hash32.{Hash32}
 use Rattle.el_block.specs.Blocks.{EncodesBlock}
@@ -11,7 +11,7 @@ use Rattle.el_chain.specs.declared.placed.Placed.{Placed}
 use Rattle.el_chain.specs.Chains.{Chain, tip}
 use Rattle.el_chain.specs.Coins.{coins}
 use Rattle.el_chain.specs.Faults.{IsNext}
-use Rattle.el_chain.specs.Headers.{same_hash}
+use Rattle.el_chain.specs.Headers.{AreLinked, same_hash}
 use Rattle.el_chain.specs.Moves.{AreNextBlocks, shorter, target}
 use Rattle.el_chain.specs.Touches.{Touch}
 use Rattle.el_row_formats.specs.Tables.{Tables}
@@ -42,6 +42,12 @@ pub record AreAfter (chain : Chain) (nodes : List Node) (texts : List (List ℕ)
     (blocks : Chain) : Type 0 where
   pub next : AreNextBlocks chain nodes texts blocks
   pub stand : AreRowsOf rows (chain ++ blocks)
+
+-- The blocks of the first i nodes stand after the chain, and the nodes that are left go on.
+pub record IsAdding (chain : Chain) (nodes : List Node) (texts : List (List ℕ)) (i : ℕ) (rows : Tables)
+    (blocks : Chain) : Type 0 where
+  pub after : AreAfter chain (take i nodes) (take i texts) rows blocks
+  pub linked : AreLinked (tip (chain ++ blocks)) (drop i nodes)
 
 -- The rows are those of the chain that the move leads to, with these blocks, and these are the script hashes
 -- that it touches.

@@ -35,6 +35,11 @@ abbrev pub index_fault : QueryFault → StartFault
 index_fault query.DiskFailed = start.DiskFailed
 index_fault query.Memory = start.Memory
 
+-- of a check
+abbrev pub check_status : QueryFault → Status
+check_status query.DiskFailed = status.DiskFailed
+check_status query.Memory = status.OutOfMemory
+
 -- of all block files; a scan tells of no bad file
 abbrev pub start_fault : FileFault → StartFault
 start_fault fault.Failed = start.ArchiveFailed

@@ -37,13 +37,13 @@ pub returns-clause-keeps : goal.returns-clause-keeps
 returns-clause-keeps g c = c.loop-turn.invariant.keeps
 
 pub serve_arrival-requires-clause-live : goal.serve_arrival-requires-clause-live
-serve_arrival-requires-clause-live g c = c.loop-turn.invariant.live
+serve_arrival-requires-clause-live g c = λ lifetimes outlive. c.loop-turn.invariant.live
 
 pub serve_arrival-requires-clause-idle : goal.serve_arrival-requires-clause-idle
-serve_arrival-requires-clause-idle g c = c.loop-turn.invariant.idle
+serve_arrival-requires-clause-idle g c = λ lifetimes outlive. c.loop-turn.invariant.idle
 
 pub serve_arrival-requires-clause-new : goal.serve_arrival-requires-clause-new
-serve_arrival-requires-clause-new g c = (
+serve_arrival-requires-clause-new g c = λ lifetimes outlive. (
   _,
   c.loop-turn.invariant.numbers,
   c.as_taken-taken.ensures.above _ (above_next _ _ _ c.in-Ok.ensures.lawful),
@@ -64,11 +64,11 @@ returns-in_default-clause-ends g c = λ first stood nobody files.
 pub returns-in-Err-clause-ends : goal.returns-in-Err-clause-ends
 returns-in-Err-clause-ends g c = λ first stood nobody files.
     let going = c.loop-turn.invariant.going first stood nobody files in
-    let is = c.as_taken-taken.ensures.taken c.brought.result.now ∙ ap (taken_one c.args.options.node)
-    c.brought.ensures in
+    let is = c.as_taken-taken.ensures.taken c.brought-bytes.result.now ∙ ap (taken_one c.args.options.node)
+    c.brought-bytes.ensures in
     let are = enters g.K.Link.tells c.args.options.node c.loop-turn.server going.world c.in-Ok.arrival
     c.next.new.buf
-    (with_all_bytes c.as_taken-taken.result c.brought.result.now) _ _ _ _
+    (with_all_bytes c.as_taken-taken.result c.brought-bytes.result.now) _ _ _ _
     is going.ready.are_open (λ t p lt. g.met.K.Link.greater_is_new c.loop-turn.link p t lt)
     c.in-Ok.ensures.lawful
     c.in-Ok.ensures.took in
@@ -92,11 +92,11 @@ returns-in-Err-clause-keeps g c =
 pub returns-then-ends-clause-ends : goal.returns-then-ends-clause-ends
 returns-then-ends-clause-ends g c = λ first stood nobody files.
     let going = c.loop-turn.invariant.going first stood nobody files in
-    let is = c.as_taken-taken.ensures.taken c.brought.result.now ∙ ap (taken_one c.args.options.node)
-    c.brought.ensures in
+    let is = c.as_taken-taken.ensures.taken c.brought-bytes.result.now ∙ ap (taken_one c.args.options.node)
+    c.brought-bytes.ensures in
     let are = enters g.K.Link.tells c.args.options.node c.loop-turn.server going.world c.in-Ok.arrival
     c.next.new.buf
-    (with_all_bytes c.as_taken-taken.result c.brought.result.now) _ _ _ _
+    (with_all_bytes c.as_taken-taken.result c.brought-bytes.result.now) _ _ _ _
     is going.ready.are_open (λ t p lt. g.met.K.Link.greater_is_new c.loop-turn.link p t lt)
     c.in-Ok.ensures.lawful
     c.in-Ok.ensures.took in
@@ -121,10 +121,10 @@ pub loop-turn-preserved : goal.loop-turn-preserved
 loop-turn-preserved g c = record {
   going = λ first stood nobody files.
       let going = c.loop-turn.invariant.going first stood nobody files in
-      let is = c.as_taken-taken.ensures.taken c.brought.result.now ∙ ap (taken_one c.args.options.node)
-      c.brought.ensures in
+      let is = c.as_taken-taken.ensures.taken c.brought-bytes.result.now ∙ ap (taken_one c.args.options.node)
+      c.brought-bytes.ensures in
       let are = enters g.K.Link.tells c.args.options.node c.loop-turn.server going.world c.in-Ok.arrival
-      c.next.new.buf (with_all_bytes c.as_taken-taken.result c.brought.result.now) _ _ _ _
+      c.next.new.buf (with_all_bytes c.as_taken-taken.result c.brought-bytes.result.now) _ _ _ _
       is going.ready.are_open (λ t p lt. g.met.K.Link.greater_is_new c.loop-turn.link p t lt)
       c.in-Ok.ensures.lawful c.in-Ok.ensures.took in
       let done = c.in_default-serve_arrival.ensures.served going.world going.stood going.told going.ready.grown are in

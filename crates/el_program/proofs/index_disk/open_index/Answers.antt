@@ -71,3 +71,10 @@ returns-in-Err-over-clause-others g c = λ told f beyond.
     sym (c.into_disk.ensures.beside f beyond)
     ∙ ap (λ (image : Image). image f) (c.in-Err-over.ensures.failed.below.files told)
     ∙ c.in-Ok.ensures.beside told f beyond
+
+-- the clock goes on
+pub returns-in-Ok-over-clause-later : goal.returns-in-Ok-over-clause-later
+returns-in-Ok-over-clause-later g c = λ told.
+    let opened = (c.in-Ok.ensures.crash told).later in
+    let over = (c.in-Ok-over.ensures.reads.below.crash told).later in
+    omega arith

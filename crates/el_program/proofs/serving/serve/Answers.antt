@@ -1,7 +1,7 @@
-use Rattle.std.proofs.Common.{rules, refl}
+use Rattle.std.proofs.Common.{ℕ, rules, refl}
 use Rattle.el_outside.proofs.Traces.{goes_none}
 use Rattle.el_words.specs.Options.{Word}
-use Rattle.el_words.specs.Words.{IsServeOf, IsOnceOf, texts}
+use Rattle.el_words.specs.Words.{IsServeOf, IsOnceOf, IsCheckOf, texts}
 use Rattle.el_words.specs.declared.words.Network.{Network}
 use Rattle.el_words.specs.declared.words.ServeWords.{ServeWords}
 use Rattle.el_words.specs.declared.words.Command.TheVariants as command
@@ -9,17 +9,21 @@ use Rattle.el_words.proofs.OneCommand.{no_command}
 use Rattle.el_program.specs.Ends.{usage, once}
 use Rattle.el_loop.specs.Runs.{no_traffic}
 use Rattle.el_outside.proofs.Devices.{all_rose_none}
+use Rattle.el_program.proofs.Checks.{serve_no_check, once_no_check, one_check}
 use Rattle.el_program.proofs.IndexDisks.{unchanged}
 use Rattle.el_program.proofs.Rises.{caused_none}
 use Rattle.el_program.proofs.Servings.{is_serve, is_once, magic_of, network_in, served_with}
 use Rattle.el_program.proofs.serving.serve.Goals as goal
 
 pub returns-in-Some-clause-ends : goal.returns-in-Some-clause-ends
-returns-in-Some-clause-ends g c = λ was flight chain starts.
-    let found = c.in-Some.ensures.found in
-    let is = is_serve found.1 (magic_of found.0 found.2) in
-    let e = c.serve_network.ensures.ends was flight chain (starts _ is) in
-    (e.0, e.1, served_with found e.2)
+returns-in-Some-clause-ends g c = record {
+  served = λ no_check was flight chain starts.
+      let found = c.in-Some.ensures.found in
+      let is = is_serve found.1 (magic_of found.0 found.2) in
+      let e = c.serve_network.ensures.ends was flight chain (starts _ is) in
+      (e.0, e.1, served_with found e.2);
+  checked = λ count is. absurd (serve_no_check c.in-Some.ensures.found.1 is);
+}
 
 pub returns-in-Some-clause-bad : goal.returns-in-Some-clause-bad
 returns-in-Some-clause-bad g c = λ told bad magic is.
@@ -48,9 +52,12 @@ pub returns-in-Some-clause-untouched : goal.returns-in-Some-clause-untouched
 returns-in-Some-clause-untouched g c = λ none. absurd (none _ (is_serve c.in-Some.ensures.found.1 refl))
 
 pub returns-in-Some-once_of-clause-ends : goal.returns-in-Some-once_of-clause-ends
-returns-in-Some-once_of-clause-ends g c = λ was flight chain starts.
-    let e = c.serve_file.ensures.ends (g.D.Disk.faults c.args.disk) in
-    (e.0, e.1, once _ (is_once c.in-Some-once_of.ensures.found.1 c.magic.ensures) e.2)
+returns-in-Some-once_of-clause-ends g c = record {
+  served = λ no_check was flight chain starts.
+      let e = c.serve_file.ensures.ends (g.D.Disk.faults c.args.disk) in
+      (e.0, e.1, once _ (is_once c.in-Some-once_of.ensures.found.1 c.magic.ensures) e.2);
+  checked = λ count is. absurd (once_no_check c.in-Some-once_of.ensures.found.1 is);
+}
 
 pub returns-in-Some-once_of-clause-causes : goal.returns-in-Some-once_of-clause-causes
 returns-in-Some-once_of-clause-causes g c = c.serve_file.ensures.causes (g.D.Disk.faults c.args.disk)
@@ -71,22 +78,27 @@ returns-in-Some-once_of-clause-lawful g c = λ usage.
     absurd (rw usage at e.2)
 
 pub returns-in-None-clause-ends : goal.returns-in-None-clause-ends
-returns-in-None-clause-ends g c = λ was flight chain starts.
+returns-in-None-clause-ends g c =
     let no_serve : (said : ServeWords) → IsServeOf (texts c.args.words.now) said → ⊥ = search rules in
     let no_once : (blocks : Word) (network : Network) → IsOnceOf (texts c.args.words.now) blocks network → ⊥ =
-    search rules in (
-      no_traffic,
-      λ t. goes_none _,
-      usage (no_command (texts c.args.words.now) no_serve no_once) refl
-          (record { traffic = refl; calls = refl; rose = all_rose_none _ }),
-    )
+    search rules in
+    let no_check : (count : ℕ) → IsCheckOf (texts c.args.words.now) count → ⊥ = search rules in record {
+      served = λ not_check was flight chain starts. (
+        no_traffic,
+        λ t. goes_none _,
+        usage (no_command (texts c.args.words.now) no_serve no_once no_check) refl
+            (record { traffic = refl; calls = refl; rose = all_rose_none _ }),
+      );
+      checked = λ count is. absurd (no_check count is);
+    }
 
 pub returns-in-None-clause-lawful : goal.returns-in-None-clause-lawful
 returns-in-None-clause-lawful g c = λ is.
     let no_serve : (said : ServeWords) → IsServeOf (texts c.args.words.now) said → ⊥ = search rules in
     let no_once : (blocks : Word) (network : Network) → IsOnceOf (texts c.args.words.now) blocks network → ⊥ =
     search rules in
-    no_command (texts c.args.words.now) no_serve no_once
+    let no_check : (count : ℕ) → IsCheckOf (texts c.args.words.now) count → ⊥ = search rules in
+    no_command (texts c.args.words.now) no_serve no_once no_check
 
 pub returns-in-None-clause-causes : goal.returns-in-None-clause-causes
 returns-in-None-clause-causes g c = caused_none _ _ _
@@ -130,3 +142,41 @@ returns-in-None-clause-others g c = λ told f beyond. refl
 
 pub returns-in-Some-clause-others : goal.returns-in-Some-clause-others
 returns-in-Some-clause-others g c = c.serve_network.ensures.others
+
+-- a check
+pub returns-in-Some-check_of-clause-ends : goal.returns-in-Some-check_of-clause-ends
+returns-in-Some-check_of-clause-ends g c = record {
+  served = λ no_check. absurd (no_check _ c.in-Some-check_of.ensures.found);
+  checked = λ count is told fresh.
+      rw (one_check count c.in-Some-check_of.count is c.in-Some-check_of.ensures.found)
+      (c.serve_check.ensures.ends c.args.turns (g.A.Archive.faults c.args.archive.now) told fresh);
+}
+
+pub returns-in-Some-check_of-clause-causes : goal.returns-in-Some-check_of-clause-causes
+returns-in-Some-check_of-clause-causes g c =
+    c.serve_check.ensures.causes c.args.turns (g.A.Archive.faults c.args.archive.now)
+
+pub returns-in-Some-check_of-clause-refused : goal.returns-in-Some-check_of-clause-refused
+returns-in-Some-check_of-clause-refused g c = λ none.
+    absurd (none (command.CheckChain c.in-Some-check_of.count) c.in-Some-check_of.ensures.found)
+
+pub returns-in-Some-check_of-clause-bad : goal.returns-in-Some-check_of-clause-bad
+returns-in-Some-check_of-clause-bad g c = λ told bad magic is.
+    absurd (serve_no_check is.is_serve c.in-Some-check_of.ensures.found)
+
+pub returns-in-Some-check_of-clause-is_bad : goal.returns-in-Some-check_of-clause-is_bad
+returns-in-Some-check_of-clause-is_bad g c = λ told magic is bad.
+    absurd (serve_no_check is.is_serve c.in-Some-check_of.ensures.found)
+
+pub returns-in-Some-check_of-clause-kept : goal.returns-in-Some-check_of-clause-kept
+returns-in-Some-check_of-clause-kept g c = λ told magic is bad.
+    absurd (serve_no_check is.is_serve c.in-Some-check_of.ensures.found)
+
+pub returns-in-Some-check_of-clause-lawful : goal.returns-in-Some-check_of-clause-lawful
+returns-in-Some-check_of-clause-lawful g c = λ usage. absurd (c.serve_check.ensures.read usage)
+
+pub returns-in-Some-check_of-clause-untouched : goal.returns-in-Some-check_of-clause-untouched
+returns-in-Some-check_of-clause-untouched g c = λ none no_check. absurd (no_check _ c.in-Some-check_of.ensures.found)
+
+pub returns-in-Some-check_of-clause-others : goal.returns-in-Some-check_of-clause-others
+returns-in-Some-check_of-clause-others g c = c.serve_check.ensures.others

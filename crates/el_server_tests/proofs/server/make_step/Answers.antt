@@ -7,7 +7,7 @@ use Rattle.el_server_tests.proofs.server.make_step.Goals.{in-Gone, in-Forget}
 use Rattle.el_server_tests.proofs.server.make_step.Goals as goal
 
 pub returns-clause-numbers : goal.returns-clause-numbers
-returns-clause-numbers c = c.work_off.ensures.numbers c.match-step.run.last (elim c.match-step.branch [
+returns-clause-numbers g c = c.work_off.ensures.numbers c.match-step.run.last (elim c.match-step.branch [
   | in-Part+in_ok-run-in-Part w ↦ rw w.run-is c.requires.numbers
   | in-Fails+in_ok-run-in-Fails w ↦ rw w.run-is c.requires.numbers
   | in-Opens+in_ok-open-in-Opens w ↦ rw w.run-is w.in_ok-open-in-Opens.ensures.numbers

@@ -1,7 +1,7 @@
 use Rattle.std.proofs.Common.{ap, [], ◌∙◌, Err}
 use Rattle.std.proofs.lemmas.Result.{err_from_is_err_and}
 use Rattle.el_side.specs.Side.{quiet_side}
-use Rattle.el_sync.proofs.Tried.{later_then, made_fewer, made_no_more, settled, stops_first, unsettled}
+use Rattle.el_sync.proofs.Tried.{later_then, made_fewer, made_no_more, settled, step_unsettled, stops_first, unsettled}
 use Rattle.el_outside.proofs.Traces.{all_grow_none}
 use Rattle.el_sync.proofs.moving.move_once.Goals as goal
 
@@ -27,6 +27,16 @@ returns-in_err-changed-clause-stopped g c = λ chain stands.
     let tried = e.tried (quiet_side chain [] (record { count = 0; bytes = 0 }) [] (g.A.Archive.bytes c.args.archive.now)) stands (λ t. all_grow_none _) in
     unsettled _ c.from_residual-in_err-changed.result c.in_err-changed.field-0.0 _ _ c.make_move.new.ledger _ c.args.back c.args.rest c.in_ok-answer.field-0 c.args.later (p.1 ∙ ap Err p.2) (λ a d f h i j k. g.met.G.Ledger.leaves_own a d f h i j k) e.keeps.live tried
     (later_then c.in_ok-answer.field-0.left c.in_ok-answer.field-0.moved c.args.later c.ends_line-ends.result c.ends_line-ends.ensures s.only) s.asked
+    (λ is. s.disk_rose.counted (ap Err is)) (λ other. s.disk_rose.others_uncounted other)
+
+pub returns-in_err-changed-clause-step : goal.returns-in_err-changed-clause-step
+returns-in_err-changed-clause-step g c =
+    let e = c.in_ok-answer.ensures in
+    let s = c.in_err-changed.ensures in
+    let p = err_from_is_err_and c.from_residual-in_err-changed.result c.from_residual-in_err-changed.ensures.1 in
+    step_unsettled _ c.from_residual-in_err-changed.result c.in_err-changed.field-0.0 _ _ c.make_move.new.ledger c.args.rest c.in_ok-answer.field-0 c.args.later
+    (p.1 ∙ ap Err p.2) e.keeps s.asked
+    (later_then c.in_ok-answer.field-0.left c.in_ok-answer.field-0.moved c.args.later c.ends_line-ends.result c.ends_line-ends.ensures s.only)
     (λ is. s.disk_rose.counted (ap Err is)) (λ other. s.disk_rose.others_uncounted other)
 
 pub returns-clause-no_more : goal.returns-clause-no_more

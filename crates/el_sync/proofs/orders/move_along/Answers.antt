@@ -34,12 +34,12 @@ returns-then-is_there-clause-along g c = λ path side start is at still.
     refl c.in_ok-back.ensures.disk_rose.uncounted
 
 pub move_once-requires-clause-linked : goal.move_once-requires-clause-linked
-move_once-requires-clause-linked g c =
+move_once-requires-clause-linked g c = λ lifetimes outlive.
     let path = c.requires.path.0 in
     drop_linked path c.in_ok-rest.rest (path_linked c.args.holdings.now.tree path c.args.end.now.node.hash c.requires.path.1) (c.in_ok-back.field-0.same, c.in_ok-rest.ensures.rest path c.requires.path.1)
 
 pub move_once-requires-clause-fits : goal.move_once-requires-clause-fits
-move_once-requires-clause-fits g c = λ chain stands.
+move_once-requires-clause-fits g c = λ lifetimes outlive chain stands.
     let path = c.requires.path.0 in
     let is = c.requires.path.1 in
     let w = c.in_ok-back.ensures.way path chain is (c.requires.end path is) (c.in_ok-back.ensures.asked.stays.stood chain stands) in

@@ -10,10 +10,10 @@ use Rattle.el_outside.proofs.Traces.{all_grow_none}
 use Rattle.el_sync.proofs.orders.order_tip.Goals as goal
 
 pub move_along-requires-clause-path : goal.move_along-requires-clause-path
-move_along-requires-clause-path g c = (c.in-Ok.ensures.there.0, rw c.in-Ok.ensures.hash c.in-Ok.ensures.there.1)
+move_along-requires-clause-path g c = λ lifetimes outlive. (c.in-Ok.ensures.there.0, rw c.in-Ok.ensures.hash c.in-Ok.ensures.there.1)
 
 pub move_along-requires-clause-end : goal.move_along-requires-clause-end
-move_along-requires-clause-end g c = λ path is. c.in-Ok.ensures.end path (rw c.in-Ok.ensures.hash at is)
+move_along-requires-clause-end g c = λ lifetimes outlive path is. c.in-Ok.ensures.end path (rw c.in-Ok.ensures.hash at is)
 
 pub returns-in-Ok-clause-tip : goal.returns-in-Ok-clause-tip
 returns-in-Ok-clause-tip g c = λ side start at found still.

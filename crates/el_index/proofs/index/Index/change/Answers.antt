@@ -1,5 +1,5 @@
-use Rattle.std.specs.Prelude.{Result}
-use Rattle.std.proofs.Common.{Err, inl, inr, ℕ, ◌+◌, ◌-◌, length, refl, sym, ap, ◌∙◌}
+use Rattle.std.specs.Prelude.{IfErr, Result}
+use Rattle.std.proofs.Common.{Ok, Err, inl, inr, ℕ, ◌+◌, ◌-◌, length, refl, sym, ap, ◌∙◌}
 use Rattle.el_row_formats.specs.declared.table.Table.TheVariants as table
 use Rattle.el_rows.proofs.UnderLemmas.{length-under}
 use Rattle.el_rows.specs.Changes.{under}
@@ -12,6 +12,19 @@ use Rattle.el_index.proofs.IndexRows.{same_rows}
 use Rattle.el_index.proofs.Kept.{only_read, begun, beside_read}
 use Rattle.el_index.proofs.Targets.{moved_rows, tip_moved}
 use Rattle.el_index.proofs.index.Index.change.Goals as goal
+
+-- what holds whatever the fault is
+whatever_fault : {T E : Type 0} (r : Result T E) (P : E → Type 0) → ((e : E) → P e) → IfErr r P
+whatever_fault (Ok x) P each = tt
+whatever_fault (Err e) P each = each e
+
+-- no memory was found to seal the edits
+pub returns-in_err-sealed-clause-unchanged : goal.returns-in_err-sealed-clause-unchanged
+returns-in_err-sealed-clause-unchanged g c =
+    let r = g.R.Rows in
+    let mid = c.hash_after.new.t.rows.now in
+    let reads = read_joined r c.args.self.now.rows c.edit.new.t.rows.now mid (rw c.new-txn.ensures.below at c.edit.ensures.edits.only) c.hash_after.ensures.read.only in
+    whatever_fault c.from_residual-in_err-sealed.result _ (λ e other. rw c.in_err-sealed.ensures.rows reads)
 
 pub returns-in_err-edit-clause-crash_failed : goal.returns-in_err-edit-clause-crash_failed
 returns-in_err-edit-clause-crash_failed g c chain told stand fits failed =

@@ -1,0 +1,153 @@
+-- How tip lines lead on, step by step.
+use Rattle.std.proofs.Common.{◌≡◌, ◌≢◌, ◌≤◌, ◌+◌, ◌==◌, ℕ, Bool, true, false, List, [], ◌∷◌, length, Option, Some, None, Result, Ok, Err, refl, sym, ap, ◌∙◌, subst, arith, eqb-true, eq-eqb}
+use Rattle.el_base.specs.declared.hash.Hash32.{Hash32}
+use Rattle.el_outside.specs.Counts.{RoseBy, CountsOnly}
+use Rattle.el_outside.specs.Devices.{Device, archive, failures}
+use Rattle.el_outside.proofs.Traces.{all_grow_none}
+use Rattle.el_chain.specs.Chains.{Chain, tip}
+use Rattle.el_chain.specs.Headers.{AreLinked}
+use Rattle.el_chain.specs.declared.node.Node.{Node}
+use Rattle.el_chain.proofs.TouchLemmas.{hash_gives, hash_from}
+use Rattle.el_lines.specs.Lines.{line}
+use Rattle.el_lines.specs.declared.node_answer.NodeAnswer.{NodeAnswer}
+use Rattle.el_model.specs.Queries.{tip_of}
+use Rattle.el_model.specs.declared.fault.QueryFault.{QueryFault}
+use Rattle.el_model.specs.declared.fault.QueryFault.TheVariants as fault
+use Rattle.el_side.specs.Beneath.{Beneath, Ghosts, Lost, beneath}
+use Rattle.el_side.specs.NodeSteps.{Leads}
+use Rattle.el_side.specs.Side.{Side, Moving, OrdersLine, quiet_side}
+use Rattle.el_side.specs.declared.holdings.Holdings.{Holdings}
+use Rattle.el_sync.specs.Steps.{IsFrom, named, left_by}
+use Rattle.el_sync.specs.declared.moving.Step.{Step}
+use Rattle.el_check_chain.specs.Checked.{no_room}
+use Rattle.el_check_chain.specs.Leading.{tip_line, moves_told, none, more, there, led}
+use Rattle.el_check_chain.specs.within.Ways.{StandWith, AreUnderWay, IsLed, is_tip}
+
+-- a list that has none, and one that has some
+pub empty_left : (ns : List Node) → (length ns == 0) ≡ true → ns ≡ []
+empty_left [] e = refl
+empty_left (n ∷ ns) e = absurd (let z = eqb-true (length (n ∷ ns)) 0 e in omega arith)
+
+pub some_left : (ns : List Node) → (length ns == 0) ≡ false → ns ≡ [] → ⊥
+some_left ns e is =
+    let yes = eq-eqb (length ns) 0 (ap (λ (l : List Node). length l) is) in
+    cc
+
+-- the last block has this hash, or it hasn't
+pub ends_there : (t : Option Hash32) (h : Hash32) → is_tip t h ≡ true → t ≡ Some h
+ends_there None h e = absurd cc
+ends_there (Some last) h e = ap Some (hash_gives last h e)
+
+pub ends_elsewhere : (t : Option Hash32) (h : Hash32) → is_tip t h ≡ false → t ≡ Some h → ⊥
+ends_elsewhere None h e is = cc
+ends_elsewhere (Some last) h e is =
+    let same : last ≡ h = cc in
+    let yes = hash_from last h same in
+    cc
+
+-- the hash that a next block names
+pub names_tip : (chain : Chain) → named (tip_of chain) ≡ tip chain
+names_tip [] = refl
+names_tip (b ∷ bs) = refl
+
+-- blocks that are linked to the ledger's tip are linked to the chain's
+pub linked_to : (t : Option Hash32) (chain : Chain) (ns : List Node) → t ≡ tip_of chain → AreLinked (named t) ns → AreLinked (tip chain) ns
+linked_to t chain ns is linked = subst (λ (h : Hash32). AreLinked h ns) (ap named is ∙ names_tip chain) linked
+
+counts_err : {S T : Type 0} (a b c : ℕ) (e : QueryFault) → b ≡ a → CountsOnly {T = S} b c fault.DiskFailed (Err e)
+    → CountsOnly {T = T} a c fault.DiskFailed (Err e)
+counts_err a b c e same q = record {
+  counted = λ is.
+      let disk : e ≡ fault.DiskFailed = cc in
+      subst (λ (n : ℕ). RoseBy n c 1) same (q.counted (ap (λ (f : QueryFault). Err f) disk));
+  uncounted = tt;
+  others_uncounted = λ other. q.others_uncounted other ∙ same;
+}
+
+-- a call that fails is counted as it was counted below
+pub counts_on : {S T : Type 0} (a b c : ℕ) (r : Result T QueryFault) (e : QueryFault) → (y : QueryFault) × (r ≡ Err y) × (y ≡ e) → b ≡ a
+    → CountsOnly {T = S} b c fault.DiskFailed (Err e) → CountsOnly {T = T} a c fault.DiskFailed r
+counts_on {S} {T} a b c r e is same q =
+    let failed : r ≡ Err e = is.1 ∙ ap (λ (f : QueryFault). Err f) is.2 in
+    subst (λ (x : Result T QueryFault). CountsOnly {T = T} a c fault.DiskFailed x) (sym failed) (counts_err a b c e same q)
+
+none_rose : (a b n : ℕ) → a ≡ 0 → b ≡ 0 → RoseBy a b n → n ≡ 0
+none_rose a b n ea eb rose = omega arith
+
+module _ {G A : Type 0} (of : Ghosts G A) where
+  -- where no call of the block files fails, none is among the losses
+  pub no_losses : ((a : A) → of.files.faults a ≡ 0) → (was now : Beneath G A) (losses : List Device) → Lost of was now losses → failures archive losses ≡ 0
+  no_losses never was now losses lost =
+      none_rose (of.files.faults was.files) (of.files.faults now.files) (failures archive losses) (never was.files) (never now.files) (lost 0 archive)
+
+  -- what stands after a step
+  pub next_stands : (leads : NodeAnswer → List Device → Side → Type 0) (was now : Beneath G A) (step : Step) (found : List Node) (h : Holdings) (side : Side) (start : Chain)
+      → (l : Leads of leads side start (left_by was now step found h)) → found ≡ h.tree → side.magic ≡ h.magic → StandWith of now h step.left l.next
+  next_stands leads was now step found h side start l tree magic = record {
+    start = l.next_start;
+    at = record { stood = l.went.stood; set = l.set; told = l.told };
+    found = sym l.found_is ∙ tree;
+    magic = l.magic_is ∙ magic;
+    ahead = sym l.ahead_is;
+  }
+
+  -- no move was made yet
+  pub none_made : (was : Beneath G A) (h : Holdings) (left : List Node) (side : Side) → StandWith of was h left side → AreUnderWay of was was h left side 0
+  none_made was h left side stand = record { last = side; moves = none; stand = stand; later = λ told. omega arith }
+
+  -- one move more
+  pub one_more : ((a : A) → of.files.faults a ≡ 0) → (first : Side) (n : ℕ) (begin was now : Beneath G A) (h h' : Holdings) (left : List Node) (step : Step)
+      → (u : AreUnderWay of begin was h left first n) → (left ≡ [] → ⊥) → h'.tree ≡ h.tree → h'.magic ≡ h.magic
+      → Leads of (Moving of.files u.last 0 left) u.last u.stand.start (left_by was now step u.last.found h')
+      → AreUnderWay of begin now h' step.left first (n + moves_told step.answer)
+  one_more never first n begin was now h h' left step u some tree magic l = record {
+    last = l.next;
+    moves = more n u.last l.next step.answer l.losses u.moves (λ e. some (sym u.stand.ahead ∙ e))
+        (subst (λ (ns : List Node). Moving of.files u.last 0 ns step.answer l.losses l.next) (sym u.stand.ahead) l.led)
+        (no_losses never was now l.losses l.rose);
+    stand = next_stands (Moving of.files u.last 0 left) was now step u.last.found h' u.last u.stand.start l (u.stand.found ∙ sym tree) (u.stand.magic ∙ sym magic);
+    later = λ told. let a = u.later told in let b = (l.went.crash told).later in omega arith;
+  }
+
+  -- a line may be taken
+  pub line_from : (was : Beneath G A) (h : Holdings) (side : Side) → StandWith of was h [] side → IsFrom h side
+  line_from was h side stand = record { found = stand.found; magic = stand.magic; still = stand.ahead }
+
+  -- nothing is to be done
+  pub is_there : (was : Beneath G A) (h : Holdings) (side : Side) (t : Hash32) → StandWith of was h [] side → tip_of side.chain ≡ Some t → IsLed of was was h side t 0
+  is_there was h side t stand ends = record { last = side; leads = there ends refl refl; stand = stand; later = λ told. omega arith }
+
+  -- a line and its later moves
+  pub line_led : ((a : A) → of.files.faults a ≡ 0) → (side : Side) (t : Hash32) (start : Chain) (begin was now : Beneath G A) (h h' h'' : Holdings) (step : Step) (later : ℕ)
+      → side.magic ≡ h.magic → h'.magic ≡ h.magic → (tip_of side.chain ≡ Some t → ⊥)
+      → Leads of (OrdersLine of.files side (line (tip_line t))) side start (left_by begin was step h'.tree h')
+      → ((mid : Side) → StandWith of was h' step.left mid → AreUnderWay of was now h'' [] mid later)
+      → IsLed of begin now h'' side t (moves_told step.answer + later)
+  line_led never side t start begin was now h h' h'' step later from magic away l on =
+      let u = on l.next (next_stands (OrdersLine of.files side (line (tip_line t))) begin was step h'.tree h' side start l refl (from ∙ sym magic)) in
+      record {
+        last = u.last;
+        leads = led away step.answer l.losses l.next l.led (no_losses never begin was l.losses l.rose) later u.moves u.stand.ahead refl;
+        stand = u.stand;
+        later = λ told. let a = u.later told in let b = (l.went.crash told).later in omega arith;
+      }
+
+  -- before the first line
+  pub starts : (l : G) (a : A) (chain : Chain) (h : Holdings) → of.ledger.stands l chain → h.pool.entries ≡ [] → h.pool.limits ≡ no_room
+      → StandWith of (beneath l a) h [] (quiet_side chain h.magic no_room h.tree (of.files.bytes a))
+  starts l a chain h stood empty limits = record {
+    start = chain;
+    at = record {
+      stood = stood;
+      set = record {
+        stood = record { sifted = refl; are = empty; once = tt };
+        beside = tt;
+        still = λ e. refl;
+        limits = limits;
+      };
+      told = λ t. all_grow_none (of.files.bytes a);
+    };
+    found = refl;
+    magic = refl;
+    ahead = refl;
+  }

@@ -1,0 +1,4 @@
+pub mod Summaries
+pub mod Leading
+pub mod Checked
+pub mod within

@@ -1,0 +1,46 @@
+use Rattle.std.proofs.Common.{◌≡◌, ◌≤◌, ◌⊎◌, inl, inr, ap, refl, sym, ◌∙◌, arith}
+use Rattle.el_outside.specs.Disk.{Image}
+use Rattle.el_pages.specs.Stores.{disk_below, beside_in}
+use Rattle.el_gen.specs.MadeFile.{regtest_magic}
+use Rattle.el_check_chain.specs.Summaries.{summary_line}
+use Rattle.el_program.specs.declared.status.Status.TheVariants as status
+use Rattle.el_program.proofs.Checks.{summary_sent, nothing_sent}
+use Rattle.el_program.proofs.FreshDisks.{fresh_index}
+use Rattle.el_program.proofs.Rises.{unopened_caused}
+use Rattle.el_program.proofs.checked.serve_check.Goals as goal
+
+pub returns-in-Err-clause-ends : goal.returns-in-Err-clause-ends
+returns-in-Err-clause-ends g c = λ turns of_files told fresh.
+    let is = fresh_index g.D.Disk regtest_magic c.args.disk told (g.met.D.Disk.reads_an_image c.args.disk told) fresh in
+    let u = c.in-Err.ensures.unopened _ _ _ is in
+    let why : (c.in-Err.status ≡ status.DiskFailed) ⊎ (c.in-Err.status ≡ status.OutOfMemory) =
+    elim c.in-Err.ensures.status [ inl bad ↦ absurd (u.0 bad) | inr other ↦ other ] in
+    nothing_sent g.K.Link c.args.link.now _ turns of_files _ _ c.in-Err.status why c.in-Err.ensures.counted
+    c.in-Err.ensures.others_uncounted
+
+pub returns-in-Err-clause-causes : goal.returns-in-Err-clause-causes
+returns-in-Err-clause-causes g c = λ turns of_files. unopened_caused _ _ _ _ _ _ c.in-Err.status
+    c.in-Err.ensures.status c.in-Err.ensures.counted c.in-Err.ensures.others_uncounted
+
+pub returns-in-Err-clause-others : goal.returns-in-Err-clause-others
+returns-in-Err-clause-others g c = c.in-Err.ensures.others
+
+pub returns-in-Ok-checked-clause-ends : goal.returns-in-Ok-checked-clause-ends
+returns-in-Ok-checked-clause-ends g c = λ turns of_files told fresh.
+    let is = fresh_index g.D.Disk regtest_magic c.args.disk told (g.met.D.Disk.reads_an_image c.args.disk told) fresh in
+    let k = rw c.in-Ok-checked.is at (c.check_chain-checked.ensures.checked (c.in-Ok.ensures.stands _ _ _ is)) in
+    summary_sent g.K.Link c.args.link.now c.send_summary.new.link _ (summary_line c.in-Ok-checked.summary) turns
+    of_files _ _ c.send_summary.result c.send_summary.ensures.ends c.send_summary.ensures.sent
+    c.send_summary.ensures.not_sent c.send_summary.ensures.counted c.send_summary.ensures.uncounted
+    c.send_summary.ensures.same_calls
+    (sym c.into_disk-disk.ensures.faults
+    ∙ (rw c.in-Ok-checked.is at c.check_chain-checked.ensures.cause).uncounted ∙ c.in-Ok.ensures.uncounted)
+    (record {
+      way = k.way;
+      line = ap summary_line k.sums;
+      leaves = λ image now. inl (k.leaves told image (told, rw c.into_disk-disk.ensures.disk at now));
+      between = disk_below (k.between told).0;
+      later = (let a = c.in-Ok.ensures.later told in let b = (k.between told).1 in omega arith);
+      earlier = rw c.into_disk-disk.ensures.disk ((k.between told).2);
+      stood = λ image now. inl ((k.between told).3 image (told, now));
+    })
