@@ -1,6 +1,6 @@
 -- How many rows the tables of transactions and of outputs have, and which height the last block has.
-use Rattle.std.proofs.Common.{◌≡◌, ◌∙◌, ℕ, ◌+◌, ◌-◌, List, [], ◌∷◌, length, refl, sym, ap, arith}
-use Rattle.std.specs.Prelude.{unwrap_or, sum_by}
+use Rattle.std.proofs.Common.{◌≡◌, ◌∙◌, ◌+◌, ◌-◌, List, [], ◌∷◌, length, refl, sym, ap, arith}
+use Rattle.std.specs.Prelude.{unwrap_or}
 use Rattle.std.proofs.lemmas.List.{length-map}
 use Rattle.std.proofs.lemmas.List.Sums.{sum_by-cons}
 use Rattle.el_chain.specs.Chains.{Chain}

@@ -1,8 +1,7 @@
 -- What a ledger has at the end of the way of a check, and what its rows have.
-use Rattle.std.proofs.Common.{◌≡◌, ◌≤◌, ◌+◌, ◌-◌, ℕ, List, [], ◌∷◌, length, refl, sym, ap, ◌∙◌, arith}
+use Rattle.std.proofs.Common.{◌≡◌, ◌+◌, ◌-◌, ℕ, true, List, [], ◌∷◌, length, refl, ◌∙◌, arith}
 use Rattle.std.specs.Prelude.{fold}
 use Rattle.sha2.specs.Sha256.{sha256}
-use Rattle.el_base.specs.declared.hash.Hash32.{Hash32}
 use Rattle.el_outside.specs.Files.{AllGrow}
 use Rattle.el_gen.specs.Generated.{locking_script}
 use Rattle.el_gen.specs.MadeFile.{made_file, first_tip, side_tip, regtest_magic}
@@ -16,25 +15,25 @@ use Rattle.el_files.specs.Scanning.{AllScanned}
 use Rattle.el_model.specs.LedgerCalls.{Asked}
 use Rattle.el_model.specs.Queries.{balance}
 use Rattle.el_model.specs.declared.ledger.Ledger as ledger
-use Rattle.el_side.specs.Beneath.{Beneath, beneath, ghosts}
+use Rattle.el_side.specs.Beneath.{beneath, ghosts}
 use Rattle.el_side.specs.Side.{quiet_side}
 use Rattle.el_check_chain.specs.Checked.{Way, no_room, steady, summary_at_end}
-use Rattle.el_check_chain.specs.Summaries.{summary_of}
 use Rattle.el_check_chain.specs.declared.summary.Summary.{Summary}
+use Rattle.el_check_chain.specs.declared.walking.Tips.{Tips}
 use Rattle.el_check_chain.specs.declared.walking.Walked.{Walked}
 use Rattle.el_check_chain.specs.within.Ways.{HaveLed, HasWalked}
 
-pub has_walked : {G : Type 0} (of_ledger : ledger.Ghosts G) (count : ℕ) (archive scanned files : SteadyFiles) (magic : List ℕ) (tree nodes : List Node) (first other : Hash32)
+pub has_walked : {G : Type 0} (of_ledger : ledger.Ghosts G) (count : ℕ) (archive scanned files : SteadyFiles) (magic : List ℕ) (tree nodes : List Node) (tips : Tips)
     (start mid now : G) (moves : ℕ) (walked : Walked)
-    → archive.files ≡ made_file count ∷ [] → magic ≡ regtest_magic → first ≡ first_tip count → other ≡ side_tip count
+    → archive.files ≡ made_file count ∷ [] → magic ≡ regtest_magic → tips.first ≡ first_tip count → tips.other ≡ side_tip count
     → AllGrow (file_bytes archive.files) (file_bytes scanned.files)
     → AllScanned steady (file_bytes archive.files) (file_bytes scanned.files) magic nodes → tree ≡ fold added [] nodes
-    → HaveLed (ghosts of_ledger steady) (beneath start scanned) (beneath mid files) (quiet_side [] magic no_room tree (file_bytes scanned.files)) first other moves
+    → HaveLed (ghosts of_ledger steady) (beneath start scanned) (beneath mid files) (quiet_side true [] magic no_room tree (file_bytes scanned.files)) tips moves
     → Asked of_ledger mid now → walked.moves ≡ moves → walked.bytes ≡ length (made_file count)
     → ((chain : Chain) → of_ledger.stands now chain → walked.height ≡ length chain - 1)
     → ((chain : Chain) → of_ledger.stands mid chain → walked.balance ≡ balance chain (sha256 (locking_script 100)))
     → HasWalked of_ledger count start now walked
-has_walked of_ledger count archive scanned files magic tree nodes first other start mid now moves walked e_files e_magic e_first e_other grow scan e_tree led asked e_moves e_bytes height balance_is =
+has_walked of_ledger count archive scanned files magic tree nodes tips start mid now moves walked e_files e_magic e_first e_other grow scan e_tree led asked e_moves e_bytes height balance_is =
     let stood = asked.stays.still_stands led.last.chain led.stood in record {
       way = record {
         files = file_bytes scanned.files;

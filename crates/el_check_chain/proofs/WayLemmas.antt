@@ -1,5 +1,5 @@
 -- How tip lines lead on, step by step.
-use Rattle.std.proofs.Common.{◌≡◌, ◌≢◌, ◌≤◌, ◌+◌, ◌==◌, ℕ, Bool, true, false, List, [], ◌∷◌, length, Option, Some, None, Result, Ok, Err, refl, sym, ap, ◌∙◌, subst, arith, eqb-true, eq-eqb}
+use Rattle.std.proofs.Common.{◌≡◌, ◌+◌, ◌==◌, ℕ, true, false, List, [], ◌∷◌, length, Option, Some, None, Result, Err, refl, sym, ap, ◌∙◌, subst, arith, eqb-true, eq-eqb}
 use Rattle.el_base.specs.declared.hash.Hash32.{Hash32}
 use Rattle.el_outside.specs.Counts.{RoseBy, CountsOnly}
 use Rattle.el_outside.specs.Devices.{Device, archive, failures}
@@ -15,7 +15,7 @@ use Rattle.el_model.specs.declared.fault.QueryFault.{QueryFault}
 use Rattle.el_model.specs.declared.fault.QueryFault.TheVariants as fault
 use Rattle.el_side.specs.Beneath.{Beneath, Ghosts, Lost, beneath}
 use Rattle.el_side.specs.NodeSteps.{Leads}
-use Rattle.el_side.specs.Side.{Side, Moving, OrdersLine, quiet_side}
+use Rattle.el_side.specs.Side.{Side, IsSure, Moving, OrdersLine, quiet_side}
 use Rattle.el_side.specs.declared.holdings.Holdings.{Holdings}
 use Rattle.el_sync.specs.Steps.{IsFrom, named, left_by}
 use Rattle.el_sync.specs.declared.moving.Step.{Step}
@@ -82,10 +82,11 @@ module _ {G A : Type 0} (of : Ghosts G A) where
 
   -- what stands after a step
   pub next_stands : (leads : NodeAnswer → List Device → Side → Type 0) (was now : Beneath G A) (step : Step) (found : List Node) (h : Holdings) (side : Side) (start : Chain)
-      → (l : Leads of leads side start (left_by was now step found h)) → found ≡ h.tree → side.magic ≡ h.magic → StandWith of now h step.left l.next
-  next_stands leads was now step found h side start l tree magic = record {
+      → (l : Leads of leads side start (left_by was now step found h)) → IsSure side → found ≡ h.tree → side.magic ≡ h.magic → StandWith of now h step.left l.next
+  next_stands leads was now step found h side start l sure tree magic = record {
+    sure = l.sure_is ∙ sure;
     start = l.next_start;
-    at = record { stood = l.went.stood; set = l.set; told = l.told };
+    at = record { stood = λ s. (l.went sure).stood; set = l.set; told = l.told };
     found = sym l.found_is ∙ tree;
     magic = l.magic_is ∙ magic;
     ahead = sym l.ahead_is;
@@ -105,8 +106,8 @@ module _ {G A : Type 0} (of : Ghosts G A) where
     moves = more n u.last l.next step.answer l.losses u.moves (λ e. some (sym u.stand.ahead ∙ e))
         (subst (λ (ns : List Node). Moving of.files u.last 0 ns step.answer l.losses l.next) (sym u.stand.ahead) l.led)
         (no_losses never was now l.losses l.rose);
-    stand = next_stands (Moving of.files u.last 0 left) was now step u.last.found h' u.last u.stand.start l (u.stand.found ∙ sym tree) (u.stand.magic ∙ sym magic);
-    later = λ told. let a = u.later told in let b = (l.went.crash told).later in omega arith;
+    stand = next_stands (Moving of.files u.last 0 left) was now step u.last.found h' u.last u.stand.start l u.stand.sure (u.stand.found ∙ sym tree) (u.stand.magic ∙ sym magic);
+    later = λ told. let a = u.later told in let b = ((l.went u.stand.sure).crash told).later in omega arith;
   }
 
   -- a line may be taken
@@ -119,29 +120,30 @@ module _ {G A : Type 0} (of : Ghosts G A) where
 
   -- a line and its later moves
   pub line_led : ((a : A) → of.files.faults a ≡ 0) → (side : Side) (t : Hash32) (start : Chain) (begin was now : Beneath G A) (h h' h'' : Holdings) (step : Step) (later : ℕ)
-      → side.magic ≡ h.magic → h'.magic ≡ h.magic → (tip_of side.chain ≡ Some t → ⊥)
+      → IsSure side → side.magic ≡ h.magic → h'.magic ≡ h.magic → (tip_of side.chain ≡ Some t → ⊥)
       → Leads of (OrdersLine of.files side (line (tip_line t))) side start (left_by begin was step h'.tree h')
       → ((mid : Side) → StandWith of was h' step.left mid → AreUnderWay of was now h'' [] mid later)
       → IsLed of begin now h'' side t (moves_told step.answer + later)
-  line_led never side t start begin was now h h' h'' step later from magic away l on =
-      let u = on l.next (next_stands (OrdersLine of.files side (line (tip_line t))) begin was step h'.tree h' side start l refl (from ∙ sym magic)) in
+  line_led never side t start begin was now h h' h'' step later sure from magic away l on =
+      let u = on l.next (next_stands (OrdersLine of.files side (line (tip_line t))) begin was step h'.tree h' side start l sure refl (from ∙ sym magic)) in
       record {
         last = u.last;
         leads = led away step.answer l.losses l.next l.led (no_losses never begin was l.losses l.rose) later u.moves u.stand.ahead refl;
         stand = u.stand;
-        later = λ told. let a = u.later told in let b = (l.went.crash told).later in omega arith;
+        later = λ told. let a = u.later told in let b = ((l.went sure).crash told).later in omega arith;
       }
 
   -- before the first line
   pub starts : (l : G) (a : A) (chain : Chain) (h : Holdings) → of.ledger.stands l chain → h.pool.entries ≡ [] → h.pool.limits ≡ no_room
-      → StandWith of (beneath l a) h [] (quiet_side chain h.magic no_room h.tree (of.files.bytes a))
+      → StandWith of (beneath l a) h [] (quiet_side true chain h.magic no_room h.tree (of.files.bytes a))
   starts l a chain h stood empty limits = record {
+    sure = refl;
     start = chain;
     at = record {
-      stood = stood;
+      stood = λ s. stood;
       set = record {
-        stood = record { sifted = refl; are = empty; once = tt };
-        beside = tt;
+        stood = λ s. record { sifted = refl; are = empty; once = tt };
+        beside = λ s. tt;
         still = λ e. refl;
         limits = limits;
       };

@@ -1,5 +1,5 @@
 -- What becomes of an index that is checked over a made file.
-use Rattle.std.specs.Prelude.{◌≡◌, ◌≤◌, ℕ, ◌+◌, List, [], ◌∷◌, length, fold}
+use Rattle.std.specs.Prelude.{◌≡◌, ◌≤◌, ℕ, ◌+◌, true, List, [], ◌∷◌, length, fold}
 use Rattle.el_outside.specs.Files.{AllGrow}
 use Rattle.el_outside.specs.Moments.{LeftNow}
 use Rattle.el_outside.specs.declared.archive.Archive as block_files
@@ -51,7 +51,7 @@ pub record Way (count : ℕ) : Type 0 where
   pub to_first : ℕ
   pub to_side : ℕ
   pub back : ℕ
-  pub leads_first : LeadsTo steady (quiet_side [] regtest_magic no_room (fold added [] nodes) files)
+  pub leads_first : LeadsTo steady (quiet_side true [] regtest_magic no_room (fold added [] nodes) files)
       (first_tip count) to_first first
   pub leads_side : LeadsTo steady first (side_tip count) to_side side
   pub leads_back : LeadsTo steady side (first_tip count) back last

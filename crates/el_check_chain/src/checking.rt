@@ -56,7 +56,8 @@ pub fn check_chain<W: Threads + Sync, R: Rows>(
         (IsChecked ⟦<R as Rows>⟧ count (⟦<Index<R> as Ledger>⟧.moment index) result.1) }
     // However it ends, the files beside the index's own stay, and a failed call of its device is counted.
     ensures beside { R.tells_crash → R.beside result.1 ≡ ⟦<Index<R> as Ledger>⟧.beside index }
-    ensures cause { CountsOnly (⟦<Index<R> as Ledger>⟧.faults index) (R.faults result.1) QueryFault.DiskFailed result.0 }
+    ensures cause { CountsOnly (⟦<Index<R> as Ledger>⟧.faults index) (R.faults result.1)
+        QueryFault.DiskFailed result.0 }
 {
     let mut index = index;
     let result = walk(rt, alloc, &mut index, count, pace);

@@ -14,12 +14,13 @@ use el_headers::HeaderTree;
 use el_outside::Archive;
 use std::alloc::Global;
 
-// The nodes of the records of block files none of whose calls fails.
+// The nodes of the records of block files none of whose calls fails. Fails only where memory runs out.
 fn scanned_nodes<A: Archive>(
     alloc: Global,
     archive: &mut A,
     magic: [u8; 4],
 ) -> Result<Vec<Node>, OutOfMemory>
+    requires { (a : A) → A.faults a ≡ 0 }
     ensures scanned { A.tells → IfOk result (λ nodes.
         AllScanned ⟦<A as Archive>⟧ (A.bytes archive.old) (A.bytes archive.new) magic nodes.items) }
     ensures nodes { IfOk result (λ nodes. AllByRecursion IsNode nodes.items) }
@@ -50,6 +51,7 @@ pub fn scanned_tree<A: Archive>(
     archive: &mut A,
     magic: [u8; 4],
 ) -> Result<HeaderTree, OutOfMemory>
+    requires { (a : A) → A.faults a ≡ 0 }
     ensures scanned { A.tells → IfOk result (λ tree. (nodes : List shape.Node)
         × AllScanned ⟦<A as Archive>⟧ (A.bytes archive.old) (A.bytes archive.new) magic nodes
         × (tree ≡ fold added [] nodes)) }

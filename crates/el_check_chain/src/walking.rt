@@ -7,16 +7,14 @@ ghost use Rattle.el_gen.specs.Generated as made;
 ghost use Rattle.el_model.specs.LedgerCalls.{Asked, KeepsBeside};
 ghost use Rattle.el_model.specs.Queries as asked;
 ghost use Rattle.el_side.specs.Beneath.{beneath, ghosts};
-ghost use Rattle.el_side.specs.Side.{quiet_side};
-ghost use Rattle.el_check_chain.specs.Checked.{no_room};
-ghost use Rattle.el_check_chain.specs.within.Ways.{HaveLed, HasWalked};
+ghost use Rattle.el_side.specs.Side.{Side};
+ghost use Rattle.el_check_chain.specs.within.Ways.{StandWith, HaveLed, HasWalked};
 
 use crate::headers::scanned_tree;
 use crate::leading::lead;
 use el_base::{Bytes, Hash32, OutOfMemory, sha256};
 use el_fakes::SteadyArchive;
 use el_gen::{MOST_MADE, Made, locking_script, make};
-use el_headers::HeaderTree;
 use el_mempool::PoolLimits;
 use el_model::{Ledger, QueryFault};
 use el_outside::{Archive, Pace};
@@ -45,8 +43,17 @@ pub struct Walked {
     pub bytes: u64,
 }
 
-// Block files of which file 0 has these bytes, and there is no other. Fails only where memory runs out, as a
-// file of 2^62 bytes would let it.
+/// The last blocks of two branches.
+#[derive(Clone, Copy, Debug)]
+pub struct Tips {
+    /// The hash of the first branch's, in inner order.
+    pub first: Hash32,
+    /// The hash of the other branch's, in inner order.
+    pub other: Hash32,
+}
+
+// Block files of which file 0 has these bytes, and there is no other. Fails only where memory runs out; bytes
+// that are 2^62 or more, which no memory holds, count as such.
 fn archive_of(alloc: Global, file: Bytes) -> Result<SteadyArchive, OutOfMemory>
     ensures { IfOk result (λ archive. archive ≡ record { files = file ∷ []; made = 0 }) }
 {
@@ -64,28 +71,24 @@ fn lead_all<W: Threads + Sync, G: Ledger, A: Archive>(
     rt: &W,
     alloc: Global,
     ledger: &mut G,
-    tree: HeaderTree,
-    magic: [u8; 4],
+    holdings: &mut Holdings,
     archive: &mut A,
-    first: Hash32,
-    other: Hash32,
+    tips: Tips,
     pace: &(dyn Pace + Sync),
 ) -> Result<u64, QueryFault>
     requires live { G.is_live ledger.old }
     requires never_fails { (a : A) → A.faults a ≡ 0 }
     ensures led { let of = ghosts ⟦<G as Ledger>⟧ ⟦<A as Archive>⟧ in
-        let was = beneath ledger.old archive.old in (chain : Chain) → G.stands ledger.old chain
-        → IfOk result (HaveLed of was (beneath ledger.new archive.new)
-        (quiet_side chain magic no_room tree (A.bytes archive.old)) first other) }
+        let was = beneath ledger.old archive.old in (side : Side)
+        → StandWith of was holdings.old [] side → IfOk result
+        (HaveLed of was (beneath ledger.new archive.new) side tips) }
     ensures live { OnOk result (G.is_live ledger.new) }
     ensures beside { KeepsBeside ⟦<G as Ledger>⟧ ledger.old ledger.new }
     ensures cause { CountsOnly (G.faults ledger.old) (G.faults ledger.new) QueryFault.DiskFailed result }
 {
-    let pool = Pool::new(alloc, NO_ROOM);
-    let mut holdings = Holdings { tree, magic, pool };
-    let to_first = lead(rt, alloc, ledger, &mut holdings, archive, first, pace)?;
-    let to_other = lead(rt, alloc, ledger, &mut holdings, archive, other, pace)?;
-    let back = lead(rt, alloc, ledger, &mut holdings, archive, first, pace)?;
+    let to_first = lead(rt, alloc, ledger, holdings, archive, tips.first, pace)?;
+    let to_other = lead(rt, alloc, ledger, holdings, archive, tips.other, pace)?;
+    let back = lead(rt, alloc, ledger, holdings, archive, tips.first, pace)?;
     Ok(to_first + to_other + back)
 }
 
@@ -131,20 +134,16 @@ pub fn walk<W: Threads + Sync, G: Ledger>(
         side_tip,
     } = make(alloc, count)?;
     let bytes = file.len() as u64;
+    let tips = Tips {
+        first: first_tip,
+        other: side_tip,
+    };
     let mut archive = archive_of(alloc, file)?;
     let magic = Regtest::magic();
     let tree = scanned_tree(alloc, &mut archive, magic)?;
-    let moves = lead_all(
-        rt,
-        alloc,
-        ledger,
-        tree,
-        magic,
-        &mut archive,
-        first_tip,
-        side_tip,
-        pace,
-    )?;
+    let pool = Pool::new(alloc, NO_ROOM);
+    let mut holdings = Holdings { tree, magic, pool };
+    let moves = lead_all(rt, alloc, ledger, &mut holdings, &mut archive, tips, pace)?;
     let balance = asked_balance(alloc, ledger)?;
     Ok(Walked {
         moves,

@@ -1,5 +1,5 @@
 -- What the server makes of an arrival.
-use Rattle.std.proofs.Common.{◌≡◌, inl, inr, ℕ, zero, suc, ◌<◌, ◌≤◌, true, false, nat_lt, List, [], ◌∷◌, ◌++◌, length, map, drop, slice_get, Option, Some, None, refl, sym, ap, ◌∙◌, append-nil, subst, eq-eqb, arith, length-append, length-drop}
+use Rattle.std.proofs.Common.{◌≡◌, Bool, inl, inr, ℕ, zero, suc, ◌<◌, ◌≤◌, true, false, nat_lt, List, [], ◌∷◌, ◌++◌, length, map, drop, slice_get, Option, Some, None, refl, sym, ap, ◌∙◌, append-nil, subst, eq-eqb, arith, length-append, length-drop}
 use Rattle.std.specs.List.{AllByRecursion, AllZip, flat_map}
 use Rattle.std.proofs.lemmas.List.{length-map}
 use Rattle.el_outside.specs.declared.archive.Archive as archive
@@ -129,8 +129,8 @@ module _ {G : Type 0} (stands : G → Chain → Type 0) where
         quietly = joined p (rw (← zip_length (IsSession None []) s.clients world.sessions are.each) few);
         stood = clients_change s world (s.clients ++ c ∷ []) s.speaker s.surplus (with_client p world).sessions [] stood here (λ q e. absurd (no_some q (sym e ∙ idle.speaker))) (λ q e. absurd (no_some q (sym e ∙ idle.surplus)))
             (record {
-              untouched = all_more _ world.sessions (new_session p) t.untouched tt;
-              told = λ still. all_more _ world.sessions (new_session p) (t.told still) (λ w. tt);
+              untouched = λ sure. all_more _ world.sessions (new_session p) (t.untouched sure) tt;
+              told = λ sure still. all_more _ world.sessions (new_session p) (t.told sure still) (λ w. tt);
               busy = λ some. absurd (some (sym stood.ahead ∙ idle.ahead));
             });
         after = inl (refl, idle.surplus);
@@ -261,8 +261,8 @@ module _ {G : Type 0} (stands : G → Chain → Type 0) where
       (λ q e. all_replaced _ world.sessions i (Some (record x { heard = x.heard ++ bytes })) quiet_before (all_at _ world.sessions i x quiet_before z.1))
       (λ q e. absurd (no_some q (sym e ∙ idle.surplus)))
       (record {
-        untouched = all_replaced _ world.sessions i (Some (record x { heard = x.heard ++ bytes })) t.untouched (all_at _ world.sessions i x t.untouched z.1);
-        told = λ still. all_replaced _ world.sessions i (Some (record x { heard = x.heard ++ bytes })) (t.told still) (all_at _ world.sessions i x (t.told still) z.1);
+        untouched = λ sure. all_replaced _ world.sessions i (Some (record x { heard = x.heard ++ bytes })) (t.untouched sure) (all_at _ world.sessions i x (t.untouched sure) z.1);
+        told = λ sure still. all_replaced _ world.sessions i (Some (record x { heard = x.heard ++ bytes })) (t.told sure still) (all_at _ world.sessions i x (t.told sure still) z.1);
         busy = λ some. absurd (some (sym stood.ahead ∙ idle.ahead));
       }) in
       record {
@@ -337,7 +337,7 @@ module _ {G : Type 0} (stands : G → Chain → Type 0) where
           sessions = rw (ap (λ (u : State G). u.clients) same, ap (λ (u : State G). u.speaker) same, ap (λ (u : State G). u.surplus) same) (sessions_none s world stood);
           speaker_last = λ q e. absurd (no_some q (sym e ∙ ap (λ (u : State G). u.speaker) same ∙ idle.speaker));
           surplus_last = λ q e. absurd (no_some q (sym e ∙ ap (λ (u : State G). u.surplus) same ∙ idle.surplus));
-          before = ap (λ (u : State G). u.before) same ∙ stood.before;
+          before = λ sure. ap (λ (u : State G). u.before) same ∙ stood.before sure;
           tellings = rw (ap (λ (u : State G). u.touched) same) stood.tellings;
           left_is = sym (append-nil (map orders (added_lines node_limit world.heard bytes)));
         };
@@ -345,22 +345,22 @@ module _ {G : Type 0} (stands : G → Chain → Type 0) where
       })
 
   -- before any arrival
-  pub new_stands : (s : State G) (chain : Chain) (magic : List ℕ) (found : List Node) (files : ℕ → List ℕ) → stands s.ledger chain → s.holdings.magic ≡ magic → s.holdings.tree ≡ found → s.ahead ≡ []
-      → s.holdings.pool.entries ≡ [] → s.clients ≡ [] → s.speaker ≡ None → s.surplus ≡ None → s.before ≡ None → s.node.limit ≡ node_limit → IsAt s.node [] 0 → Stands stands s (model.initial_world chain magic s.holdings.pool.limits found files) []
-  new_stands s chain magic found files stood m f a none_kept c sp u b limit at' = record {
+  pub new_stands : (s : State G) (sure : Bool) (chain : Chain) (magic : List ℕ) (found : List Node) (files : ℕ → List ℕ) → (sure ≡ true → stands s.ledger chain) → s.holdings.magic ≡ magic → s.holdings.tree ≡ found → s.ahead ≡ []
+      → s.holdings.pool.entries ≡ [] → s.clients ≡ [] → s.speaker ≡ None → s.surplus ≡ None → s.before ≡ None → s.node.limit ≡ node_limit → IsAt s.node [] 0 → Stands stands s (model.initial_world sure chain magic s.holdings.pool.limits found files) []
+  new_stands s sure chain magic found files stood m f a none_kept c sp u b limit at' = record {
     chain = stood;
     magic = m;
     found = f;
     ahead = a;
     start = chain;
-    set = record { stood = rw none_kept (record { sifted = refl; are = refl; once = tt }); beside = tt; still = λ e. refl; limits = refl };
+    set = record { stood = λ e. rw none_kept (record { sifted = refl; are = refl; once = tt }); beside = λ e. tt; still = λ e. refl; limits = refl };
     ordered = [];
     node = record { limit = limit; given = 0; at = at'; few = omega arith; left_is = refl };
     said = [];
     sessions = rw (c, sp, u) (record { each = tt; rising = tt; leaves_left = tt });
     speaker_last = λ q e. absurd (no_some q (sym e ∙ sp));
     surplus_last = λ q e. absurd (no_some q (sym e ∙ u));
-    before = b;
-    tellings = record { untouched = tt; told = λ e. tt; busy = λ some. tt };
+    before = λ e. b;
+    tellings = record { untouched = λ e. tt; told = λ e still. tt; busy = λ some. tt };
     left_is = refl;
   }

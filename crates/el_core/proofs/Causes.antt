@@ -224,9 +224,10 @@ module _ {G : Type 0} (stands : G → Chain → Type 0) where
 
   -- who is told is closed as out of memory
   tell_starves : (side : Side) (before : Option Hash32) (rose : ℕ → Type 0) (c : ClientState) (outs : model.Outs) (now : Option ClientState) (p : ℕ) → TellTurn side before rose c outs now → CloseIs outs.closing p → c.peer ≡ p
-  tell_starves side before rose c outs now p (telling.tells outs_is now_is rose_so) told = absurd (none_other p (ap (λ (x : model.Outs). x.closing) (sym outs_is) ∙ told))
+  tell_starves side before rose c outs now p (telling.tells sure outs_is now_is rose_so) told = absurd (none_other p (ap (λ (x : model.Outs). x.closing) (sym outs_is) ∙ told))
   tell_starves side before rose c outs now p (telling.fails outs_is now_is rose_so) told = absurd (disk_other c.peer p (ap (λ (x : model.Outs). x.closing) (sym outs_is) ∙ told))
   tell_starves side before rose c outs now p (telling.starves outs_is now_is rose_so) told = same_peer c.peer p (ap (λ (x : model.Outs). x.closing) (sym outs_is) ∙ told)
+  tell_starves side before rose c outs now p (telling.unsure un some rose_so) told = absurd (none_other p (ap (λ (x : model.Outs). x.closing) (sym some.outs_are) ∙ told))
 
   pub tell_memory : (old : State G) (world : World) (left : List Event) (rose : ℕ → Type 0) (outs : model.Outs) (i p : ℕ) (next : List ClientState) → Stands stands old world left → old.ahead ≡ [] → IsFirstWaiting old.clients (Some i)
       → TellsAt (λ c now. (side : Side) → IsToTell stands old.ledger old.holdings old.touched side c → TellTurn side old.before rose c outs now) i old.clients next → CloseIs outs.closing p → WaitsToBeTold p world

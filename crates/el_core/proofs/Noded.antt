@@ -3,20 +3,24 @@ use Rattle.std.proofs.Common.{◌≡◌, inl, inr, ℕ, ◌+◌, Bool, true, fal
 use Rattle.std.specs.List.{AllByRecursion, slice_get}
 use Rattle.el_base.specs.declared.hash.Hash32.{Hash32}
 use Rattle.std.proofs.lemmas.Option.{slice_get_within}
+use Rattle.el_outside.specs.Counts.{CountsOnly, RoseBy}
+use Rattle.el_outside.specs.Devices as device
 use Rattle.el_outside.specs.Devices.{Device}
-use Rattle.el_outside.proofs.Devices.{all_rose_none}
+use Rattle.el_outside.proofs.Devices.{all_rose_none, rose_of, rose_still}
 use Rattle.el_outside.proofs.Traces.{all_grow_none}
 use Rattle.el_chain.specs.declared.moves.Plan.{Plan}
 use Rattle.el_chain.specs.declared.node.Node.{Node}
 use Rattle.el_chain.specs.Chains.{Chain}
 use Rattle.el_chain.specs.Moves.{StoodBy}
 use Rattle.el_model.specs.LedgerCalls.{Moved}
+use Rattle.el_side.specs.Beneath.{Beneath}
 use Rattle.el_side.specs.NodeSteps.{IsAt, Leads, StepLeft}
 use Rattle.el_lines.specs.Lines.{LineEvent, lines}
 use Rattle.el_lines.specs.NodeAnswers.{node_limit, text_of}
 use Rattle.el_lines.specs.declared.node_answer.NodeAnswer.{NodeAnswer}
 use Rattle.el_side.specs.Plans.{plan_of}
-use Rattle.el_side.specs.Side.{Side, Moving, OrdersLine}
+use Rattle.el_side.proofs.Settled.{by_sure, not_both}
+use Rattle.el_side.specs.Side.{Side, IsSure, Moving, OrdersLine}
 use Rattle.el_world.specs.World as model
 use Rattle.el_world.specs.World.{World, Session, Event, orders, reply_to, IsStill, IsBusy, AllTold, begun}
 use Rattle.el_world.specs.Run as run
@@ -25,7 +29,7 @@ use Rattle.el_side.specs.UnderWay.{IsFirstMove, IsUnderWay, before as not_moved,
 use Rattle.el_world.specs.Flights.{later, first, IsMoveOf}
 use Rattle.el_model.proofs.LedgerMoves.{LeavesOwn, asked_none, asked_moved}
 use Rattle.el_lines.specs.LineStates.{LineState}
-use Rattle.el_sync.specs.Steps.{IsFrom, NodeStep, FailsBy, by_disk, by_memory, untold, in_sift, StopsAt}
+use Rattle.el_sync.specs.Steps.{IsFrom, NodeStep, RoseWith, Fails, FailsBy, by_disk, by_memory, untold, in_sift, StopsAt}
 use Rattle.el_model.specs.declared.fault.QueryFault.{QueryFault}
 use Rattle.el_sync.specs.declared.moving.Step.{Step}
 use Rattle.el_model.specs.declared.fault.QueryFault.TheVariants as fault
@@ -86,6 +90,41 @@ module _ {G A : Type 0} (of : Ghosts G A) where
         rose = λ of_link. all_rose_none (failed_beneath of of_link (beneath old files));
       }
 
+  -- nothing was done for a side that is unsure either
+  pub fails_still : (old : G) (files : A) (chain : Chain) (again : Bool) → Fails of (beneath old files) (beneath old files) chain again fault.Memory
+  fails_still old files chain again = record {
+    losses = [];
+    fails = by_memory refl refl;
+    rose = λ of_link. all_rose_none (failed_beneath of of_link (beneath old files));
+  }
+
+  -- what was lost in a step that failed
+  pub step_fails : (was now : Beneath G A) (chain : Chain) (again : Bool) (e : QueryFault) → NodeStep of was now again (Err e) → Fails of was now chain again e
+  step_fails was now chain again e k = by e k.archive_rose k.disk_rose
+    where
+      by : (e : QueryFault) → RoseWith again (λ n. RoseBy (of.files.faults was.files) (of.files.faults now.files) n)
+          → CountsOnly {T = Step} (of.ledger.faults was.ledger) (of.ledger.faults now.ledger) fault.DiskFailed (Err e) → Fails of was now chain again e
+      by fault.DiskFailed (inl none) counts = record {
+        losses = device.disk ∷ [];
+        fails = by_disk refl refl;
+        rose = λ of_link. rose_of of_link _ _ _ _ (device.disk ∷ []) refl none (counts.counted refl);
+      }
+      by fault.DiskFailed (inr one) counts = record {
+        losses = device.archive ∷ device.disk ∷ [];
+        fails = in_sift one.0 refl refl refl;
+        rose = λ of_link. rose_of of_link _ _ _ _ (device.archive ∷ device.disk ∷ []) refl one.1 (counts.counted refl);
+      }
+      by fault.Memory (inl none) counts = record {
+        losses = [];
+        fails = by_memory refl refl;
+        rose = λ of_link. rose_of of_link _ _ _ _ [] refl none (rose_still _ _ (counts.others_uncounted (λ e. let bad = e in cc)));
+      }
+      by fault.Memory (inr one) counts = record {
+        losses = device.archive ∷ [];
+        fails = untold one.0 refl refl refl;
+        rose = λ of_link. rose_of of_link _ _ _ _ (device.archive ∷ []) refl one.1 (rose_still _ _ (counts.others_uncounted (λ e. let bad = e in cc)));
+      }
+
   pub step_still : (old : G) (files : A) → of.ledger.is_live old → NodeKeeps of (beneath old files) (beneath old files) (Err fault.Memory)
   step_still old files live = record {
     live = tt;
@@ -135,10 +174,10 @@ module _ {G A : Type 0} (of : Ghosts G A) where
   -- ---- a line that has begun
 
   pub stops_begun : (s mid : State G) (new : G) (before after : A) (tip : Option Hash32) (e : LineEvent) (why : QueryFault) → mid ≡ begun_at tip s
-      → ((side : Side) (start : Chain) → IsAt of (beneath mid.ledger before) mid.holdings side start → IsFrom mid.holdings side → StopsAt of (beneath mid.ledger before) (beneath new after) side.chain false (IsFirstMove side e) why)
-      → (side : Side) (start : Chain) → IsAt of (beneath s.ledger before) s.holdings side start → IsFrom s.holdings side → StopsAt of (beneath s.ledger before) (beneath new after) side.chain false (IsFirstMove side e) why
+      → ((side : Side) (start : Chain) → IsSure side → IsAt of (beneath mid.ledger before) mid.holdings side start → IsFrom mid.holdings side → StopsAt of (beneath mid.ledger before) (beneath new after) side.chain false (IsFirstMove side e) why)
+      → (side : Side) (start : Chain) → IsSure side → IsAt of (beneath s.ledger before) s.holdings side start → IsFrom s.holdings side → StopsAt of (beneath s.ledger before) (beneath new after) side.chain false (IsFirstMove side e) why
   stops_begun s mid new before after tip e why same stops =
-      subst (λ (m : State G). (side : Side) (start : Chain) → IsAt of (beneath m.ledger before) m.holdings side start → IsFrom m.holdings side → StopsAt of (beneath m.ledger before) (beneath new after) side.chain false (IsFirstMove side e) why) same stops
+      subst (λ (m : State G). (side : Side) (start : Chain) → IsSure side → IsAt of (beneath m.ledger before) m.holdings side start → IsFrom m.holdings side → StopsAt of (beneath m.ledger before) (beneath new after) side.chain false (IsFirstMove side e) why) same stops
 
   pub led_begun : (s mid : State G) (before : A) (tip : Option Hash32) (e : LineEvent) (left : StepLeft G A) → mid ≡ begun_at tip s
       → ((side : Side) (start : Chain) → IsAt of (beneath mid.ledger before) mid.holdings side start → IsFrom mid.holdings side
@@ -148,6 +187,10 @@ module _ {G A : Type 0} (of : Ghosts G A) where
   led_begun s mid before tip e left same led =
       subst (λ (m : State G). (side : Side) (start : Chain) → IsAt of (beneath m.ledger before) m.holdings side start → IsFrom m.holdings side
       → Leads of (OrdersLine of.files side e) side start (record left { was = beneath m.ledger before })) same led
+
+  pub fails_begun : (s mid : State G) (new : G) (before after : A) (tip : Option Hash32) (chain : Chain) (why : QueryFault) → mid ≡ begun_at tip s → Fails of (beneath mid.ledger before) (beneath new after) chain false why
+      → Fails of (beneath s.ledger before) (beneath new after) chain false why
+  fails_begun s mid new before after tip chain why same fails = subst (λ (m : State G). Fails of (beneath m.ledger before) (beneath new after) chain false why) same fails
 
   pub keeps_begun : (s mid : State G) (new : G) (before after : A) (tip : Option Hash32) (result : Result Outs QueryFault) → mid ≡ begun_at tip s → NodeKeeps of (beneath mid.ledger before) (beneath new after) result → NodeKeeps of (beneath s.ledger before) (beneath new after) result
   keeps_begun s mid new before after tip result same keeps = subst (λ (m : State G). NodeKeeps of (beneath m.ledger before) (beneath new after) result) same keeps
@@ -184,7 +227,7 @@ module _ {G A : Type 0} (of : Ghosts G A) where
         whole = whole;
         turn = turn;
         stood = record {
-          chain = led.went.stood;
+          chain = λ sure. (led.went (sym led.sure_is ∙ sure)).stood;
           magic = r.magic ∙ r.stood.magic ∙ sym led.magic_is;
           found = led.found_is;
           ahead = led.ahead_is;
@@ -196,12 +239,13 @@ module _ {G A : Type 0} (of : Ghosts G A) where
           sessions = rw (r.clients, r.speaker, r.surplus) r.stood.sessions;
           speaker_last = λ q e. spoken q (sym r.speaker ∙ e);
           surplus_last = λ q e. surplus_so q (sym r.surplus ∙ e);
-          before = r.before_is ∙ r.stood.before;
+          before = λ sure. r.before_is ∙ r.stood.before (sym led.sure_is ∙ sure);
           tellings = tellings_led world.side led.next r.stood.start led.next_start a.moved a.changed old.touched new.touched old.clients world.sessions old.speaker r.stood.said
-              r.stood.tellings led.touches a.covers r.stood.sessions.each r.waits;
+              r.stood.tellings led.sure_is led.touches a.covers r.stood.sessions.each r.waits;
           left_is = refl;
         };
-        moved = subst (λ (k : G). Moved of.ledger k new.ledger start.side.chain led.next.chain) ledger_is (subst (λ (s : Side). Moved of.ledger old.ledger new.ledger s.chain led.next.chain) side_is led.went);
+        moved = λ sure. subst (λ (k : G). Moved of.ledger k new.ledger start.side.chain led.next.chain) ledger_is
+            (subst (λ (s : Side). Moved of.ledger old.ledger new.ledger s.chain led.next.chain) side_is (led.went (ap (λ (s : Side). s.sure) side_is ∙ sure)));
         told = led.told;
         sends_to = to_node_goes (outs_of o) (text_of a.answer) (record world { side = led.next }) new.surplus a.sends;
         rose = subst (λ (k : G). Lost of (beneath k before) (beneath new.ledger after) led.losses) ledger_is led.rose;
@@ -239,47 +283,91 @@ module _ {G A : Type 0} (of : Ghosts G A) where
 
   -- ---- turns that fail
 
-  failed_so : (old new : G) (before after : A) (world : World) (left : List Event) (again : Bool) (e : QueryFault) → IsNodesTurn world left → (again ≡ true → IsBusy world)
+  failed_so : (old new : G) (before after : A) (world : World) (left : List Event) (again : Bool) (e : QueryFault) → IsNodesTurn world left → (again ≡ true → IsBusy world) → IsSure world.side
       → (r : StopsAt of (beneath old before) (beneath new after) world.side.chain again (IsMoveOf world left) e) → FailsBy again world.side.chain r.next e r.losses → (e ≡ fault.Memory → of.ledger.is_live new)
       → TurnFailed of (beneath old before) (beneath new after) world left e
-  failed_so old new before after world left again e nodes busy r (by_disk is lost) live = record {
+  failed_so old new before after world left again e nodes busy sure r (by_disk is lost) live = record {
     losses = r.losses;
     stops = run.disk_failed (ap stop_of is) nodes refl refl lost;
     within = tt;
     rose = r.rose;
     later = again;
-    stops_at = r;
-    kept = λ k. absurd k;
+    stops_at = λ s. r;
+    kept = λ k s. absurd k;
     live = live;
   }
-  failed_so old new before after world left again e nodes busy r (by_memory is lost) live = record {
+  failed_so old new before after world left again e nodes busy sure r (by_memory is lost) live = record {
     losses = r.losses;
     stops = run.no_memory (ap stop_of is) nodes refl refl lost;
     within = tt;
     rose = r.rose;
     later = again;
-    stops_at = r;
-    kept = λ k. absurd k;
+    stops_at = λ s. r;
+    kept = λ k s. absurd k;
     live = live;
   }
-  failed_so old new before after world left again e nodes busy r (untold is_later is lost same) live = record {
+  failed_so old new before after world left again e nodes busy sure r (untold is_later is lost same) live = record {
     losses = r.losses;
     stops = run.untold (ap stop_of is) (busy is_later) refl refl lost;
     within = tt;
     rose = r.rose;
     later = again;
-    stops_at = r;
-    kept = λ k. same;
+    stops_at = λ s. r;
+    kept = λ k s. same;
     live = live;
   }
-  failed_so old new before after world left again e nodes busy r (in_sift is_later is lost same) live = record {
+  failed_so old new before after world left again e nodes busy sure r (in_sift is_later is lost same) live = record {
     losses = r.losses;
     stops = run.sift_failed (ap stop_of is) (busy is_later) refl refl lost;
     within = tt;
     rose = r.rose;
     later = again;
-    stops_at = r;
-    kept = λ k. same;
+    stops_at = λ s. r;
+    kept = λ k s. same;
+    live = live;
+  }
+
+  failed_unsure : (old new : G) (before after : A) (world : World) (left : List Event) (again : Bool) (e : QueryFault) → IsNodesTurn world left → (again ≡ true → IsBusy world) → world.side.sure ≡ false
+      → (r : Fails of (beneath old before) (beneath new after) world.side.chain again e) → FailsBy again world.side.chain world.side.chain e r.losses → (e ≡ fault.Memory → of.ledger.is_live new)
+      → TurnFailed of (beneath old before) (beneath new after) world left e
+  failed_unsure old new before after world left again e nodes busy un r (by_disk is lost) live = record {
+    losses = r.losses;
+    stops = run.disk_failed (ap stop_of is) nodes refl refl lost;
+    within = tt;
+    rose = r.rose;
+    later = again;
+    stops_at = λ sure. absurd (not_both world.side sure un);
+    kept = λ k sure. absurd (not_both world.side sure un);
+    live = live;
+  }
+  failed_unsure old new before after world left again e nodes busy un r (by_memory is lost) live = record {
+    losses = r.losses;
+    stops = run.no_memory (ap stop_of is) nodes refl refl lost;
+    within = tt;
+    rose = r.rose;
+    later = again;
+    stops_at = λ sure. absurd (not_both world.side sure un);
+    kept = λ k sure. absurd (not_both world.side sure un);
+    live = live;
+  }
+  failed_unsure old new before after world left again e nodes busy un r (untold is_later is lost same) live = record {
+    losses = r.losses;
+    stops = run.untold (ap stop_of is) (busy is_later) refl refl lost;
+    within = tt;
+    rose = r.rose;
+    later = again;
+    stops_at = λ sure. absurd (not_both world.side sure un);
+    kept = λ k sure. absurd (not_both world.side sure un);
+    live = live;
+  }
+  failed_unsure old new before after world left again e nodes busy un r (in_sift is_later is lost same) live = record {
+    losses = r.losses;
+    stops = run.sift_failed (ap stop_of is) (busy is_later) refl refl lost;
+    within = tt;
+    rose = r.rose;
+    later = again;
+    stops_at = λ sure. absurd (not_both world.side sure un);
+    kept = λ k sure. absurd (not_both world.side sure un);
     live = live;
   }
 
@@ -302,16 +390,22 @@ module _ {G A : Type 0} (of : Ghosts G A) where
   nodes_busy world (model.says p said ∷ left) busy = busy
 
   pub ahead_failed : (old new : G) (before after : A) (world : World) (left : List Event) (e : QueryFault) → (world.side.ahead ≡ [] → ⊥)
-      → (e ≡ fault.Memory → of.ledger.is_live new) → StopsAt of (beneath old before) (beneath new after) world.side.chain true (λ (p : Plan). p ≡ plan_of 0 world.side.ahead) e
+      → (e ≡ fault.Memory → of.ledger.is_live new) → (IsSure world.side → StopsAt of (beneath old before) (beneath new after) world.side.chain true (λ (p : Plan). p ≡ plan_of 0 world.side.ahead) e)
+      → (world.side.sure ≡ false → Fails of (beneath old before) (beneath new after) world.side.chain true e)
       → TurnFailed of (beneath old before) (beneath new after) world left e
-  ahead_failed old new before after world left e some live r =
+  ahead_failed old new before after world left e some live of_sure of_unsure =
       let busy = moving_any 0 world.side.ahead some in
-      let s = stops_by old new before after world.side.chain true _ (IsMoveOf world left) e (λ p is. later busy is) r in
-      failed_so old new before after world left true e (nodes_busy world left busy) (λ y. busy) s s.fails live
+      by_sure world.side (TurnFailed of (beneath old before) (beneath new after) world left e)
+      (λ sure. let s = stops_by old new before after world.side.chain true _ (IsMoveOf world left) e (λ p is. later busy is) (of_sure sure) in
+      failed_so old new before after world left true e (nodes_busy world left busy) (λ y. busy) sure s s.fails live)
+      (λ un. let f = of_unsure un in failed_unsure old new before after world left true e (nodes_busy world left busy) (λ y. busy) un f f.fails live)
 
   pub line_failed : (old new : G) (before after : A) (world : World) (left rest : List Event) (e : QueryFault) (said : LineEvent)
       → IsStill world → AllTold world → left ≡ orders said ∷ rest → (e ≡ fault.Memory → of.ledger.is_live new)
-      → StopsAt of (beneath old before) (beneath new after) world.side.chain false (IsFirstMove world.side said) e → TurnFailed of (beneath old before) (beneath new after) world left e
-  line_failed old new before after world left rest e said still all_told is live r =
-      let s = stops_by old new before after world.side.chain false (IsFirstMove world.side said) (IsMoveOf world left) e (λ p move. first said rest still all_told is move) r in
-      failed_so old new before after world left false e (rw is (inr all_told)) (λ y. absurd (true≢false (sym y))) s s.fails live
+      → (IsSure world.side → StopsAt of (beneath old before) (beneath new after) world.side.chain false (IsFirstMove world.side said) e)
+      → (world.side.sure ≡ false → Fails of (beneath old before) (beneath new after) world.side.chain false e) → TurnFailed of (beneath old before) (beneath new after) world left e
+  line_failed old new before after world left rest e said still all_told is live of_sure of_unsure =
+      by_sure world.side (TurnFailed of (beneath old before) (beneath new after) world left e)
+      (λ sure. let s = stops_by old new before after world.side.chain false (IsFirstMove world.side said) (IsMoveOf world left) e (λ p move. first said rest still all_told is move) (of_sure sure) in
+      failed_so old new before after world left false e (rw is (inr all_told)) (λ y. absurd (true≢false (sym y))) sure s s.fails live)
+      (λ un. let f = of_unsure un in failed_unsure old new before after world left false e (rw is (inr all_told)) (λ y. absurd (true≢false (sym y))) un f f.fails live)

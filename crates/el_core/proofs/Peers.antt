@@ -17,7 +17,7 @@ use Rattle.el_replies.specs.declared.line.LineReply.{LineReply}
 use Rattle.el_subs.specs.Told as status_told
 use Rattle.el_subs.specs.Told.{status}
 use Rattle.el_side.specs.declared.holdings.Holdings.{Holdings}
-use Rattle.el_side.specs.Side.{Side}
+use Rattle.el_side.specs.Side.{Side, IsSure}
 use Rattle.el_world.specs.World as model
 use Rattle.el_world.specs.World.{World, Session, Event, IsStill, AllTold, joins, says, orders, leaves, Takes, Outs, Comes, outs_of_reply, after_reply, nothing, closes_long, closes_memory, closes_surplus, is_client, is_peer, without_client, line_limit}
 use Rattle.el_world.specs.Run as run
@@ -135,7 +135,7 @@ module _ {G A : Type 0} (of : Ghosts G A) where
     pub none_left : stood.ordered ≡ []
     pub still : IsStill world
     pub all_told : AllTold world
-    pub moved : Moved of.ledger old.ledger new.ledger world.side.chain world.side.chain
+    pub moved : IsSure world.side → Moved of.ledger old.ledger new.ledger world.side.chain world.side.chain
     pub holdings : new.holdings ≡ old.holdings
     pub ahead : new.ahead ≡ old.ahead
     pub node : new.node ≡ old.node
@@ -149,7 +149,7 @@ module _ {G A : Type 0} (of : Ghosts G A) where
       → SessionsAre new.clients new.speaker new.surplus ss rest → ((q : ℕ) → new.speaker ≡ Some q → NoneWaits ss) → new.surplus ≡ None → Tellings world.side r.stood.start old.touched ss
       → Stands of.ledger.stands new (record world { sessions = ss }) rest
   stood_after old new world left r ss rest are spoken unused tellings = record {
-    chain = r.moved.stood;
+    chain = λ sure. (r.moved sure).stood;
     magic = ap (λ (h : Holdings). h.magic) r.holdings ∙ r.stood.magic;
     found = ap (λ (h : Holdings). h.tree) r.holdings ∙ r.stood.found;
     ahead = r.ahead ∙ r.stood.ahead;
@@ -161,7 +161,7 @@ module _ {G A : Type 0} (of : Ghosts G A) where
     sessions = are;
     speaker_last = λ q e. (refl, spoken q e);
     surplus_last = λ q e. absurd (no_some q (sym e ∙ unused));
-    before = r.before ∙ r.stood.before;
+    before = λ sure. r.before ∙ r.stood.before sure;
     tellings = rw r.touched tellings;
     left_is = refl;
   }
@@ -215,11 +215,11 @@ module _ {G A : Type 0} (of : Ghosts G A) where
       subst (λ (ss : List Session). OneTurn of.files world done o losses (record world { sessions = ss })) gone_is turn in
       built old new before after world left o r told (replaced i None world.sessions) done rest losses whole turn'
       (rw (clients, speaker, unused) (speaker_changes old.clients world.sessions p i c w.session r.stood.said rest None None None w.are w.session_at w.peer (inr refl) tt tt void'))
-      (λ q e. absurd (no_some q (sym e ∙ speaker))) unused (tellings_replaced world.side r.stood.start old.touched world.sessions i None r.stood.tellings tt tt r.still) (rw unused (sends (record world { sessions = replaced i None world.sessions }))) rose
+      (λ q e. absurd (no_some q (sym e ∙ speaker))) unused (tellings_replaced world.side r.stood.start old.touched world.sessions i None r.stood.tellings (λ sure. tt) (λ sure. tt) r.still) (rw unused (sends (record world { sessions = replaced i None world.sessions }))) rose
 
   -- the client stays with this session, and these events are left
   stays : (old new : State G) (before after : A) (world : World) (left : List Event) (o : Outs) (r : Beside old new world left) (told : of.files.tells → AllGrow world.side.files (of.files.bytes after)) (p i : ℕ) (c now : ClientState) (x : Session) (w : Speaking old world r.stood.said p i c)
-      (done rest : List Event) (losses : List Device) → x.peer ≡ w.session.peer → x.waits ≡ w.session.waits → status_told.AllTold (status world.side.chain world.side.kept) x.client.subs → left ≡ done ++ rest → OneTurn of.files world done o losses (record world { sessions = replaced i (Some x) world.sessions })
+      (done rest : List Event) (losses : List Device) → x.peer ≡ w.session.peer → x.waits ≡ w.session.waits → (IsSure world.side → status_told.AllTold (status world.side.chain world.side.kept) x.client.subs) → left ≡ done ++ rest → OneTurn of.files world done o losses (record world { sessions = replaced i (Some x) world.sessions })
       → IsSession (Some p) rest now x → new.clients ≡ replaced i (Some now) old.clients → new.speaker ≡ Some p → new.surplus ≡ None
       → AllByRecursion (GoesTo (record world { sessions = replaced i (Some x) world.sessions }) None o.closing) o.messages → Lost of (beneath old.ledger before) (beneath new.ledger after) losses
       → TookTurn of (serving old before) (serving new after) world left o
@@ -230,7 +230,7 @@ module _ {G A : Type 0} (of : Ghosts G A) where
       (rw (clients, speaker, unused) (speaker_changes old.clients world.sessions p i c w.session r.stood.said rest (Some p) (Some now) (Some x) w.are w.session_at w.peer (inl refl) session same
       (one_there p (replaced i (Some x) world.sessions) i x (at_replaced world.sessions i w.session x w.session_at) (same ∙ w.peer))))
       (λ q e. all_replaced _ world.sessions i (Some x) quiet_before (waits_same ∙ all_at _ world.sessions i w.session quiet_before w.session_at)) unused
-      (tellings_replaced world.side r.stood.start old.touched world.sessions i (Some x) r.stood.tellings (untouched_of world.side r.stood.start old.touched x.client.subs start_is statuses) (λ e. statuses) r.still)
+      (tellings_replaced world.side r.stood.start old.touched world.sessions i (Some x) r.stood.tellings (λ sure. untouched_of world.side r.stood.start old.touched x.client.subs start_is (statuses sure)) (λ sure e. statuses sure) r.still)
       (rw unused sends) rose
 
   -- it is closed as out of memory, for its bytes or a line of them
@@ -338,9 +338,10 @@ module _ {G A : Type 0} (of : Ghosts G A) where
       let mapped = sym (one_mapped p (λ (y : Session). x) world.sessions i w.session w.are.rising w.session_at w.peer) in
       let next_is : record world { sessions = replaced i (Some x) world.sessions } ≡ after_reply p reply w.session now world =
       rw stays_open (ap (λ (ss : List Session). record world { sessions = ss }) mapped) in
-      let all = all_statuses world.side r.stood.start old.touched world.sessions r.stood.tellings r.still (none_wait_world world.sessions r.all_told) in
+      let statuses : IsSure world.side → status_told.AllTold (status world.side.chain world.side.kept) now.subs = λ sure.
+      let all = all_statuses world.side r.stood.start old.touched world.sessions sure r.stood.tellings r.still (none_wait_world world.sessions r.all_told) in
       let was_told = all_at _ world.sessions i w.session all w.session_at in
-      let statuses = replies_keep_told of.files.tells world.side bytes w.session.client now losses reply was_told comes' in
+      replies_keep_told of.files.tells world.side bytes w.session.client now losses reply sure was_told comes' in
       stays old new before after world left o r told p i c (record c { buffer = b; session = now }) x w (says c.peer (line bytes) ∷ []) rest losses refl refl statuses
       (left_said old new world left r ∙ n.first)
       (rw peer_is (run.takes (says p (line bytes)) r.still r.all_told refl
@@ -451,7 +452,7 @@ module _ {G A : Type 0} (of : Ghosts G A) where
     turns = void_more world [] left r.still r.all_told (rw (left_said old new world left r) void) run.none;
     still = r.still;
     told = r.all_told;
-    statuses = all_statuses world.side r.stood.start old.touched world.sessions r.stood.tellings r.still (none_wait_world world.sessions r.all_told);
+    statuses = λ sure. all_statuses world.side r.stood.start old.touched world.sessions sure r.stood.tellings r.still (none_wait_world world.sessions r.all_told);
     stood = stood_after old new world left r world.sessions [] (rw (speaker, unused) are) (λ q e. absurd (no_some q (sym e ∙ speaker))) unused r.stood.tellings;
   }
 

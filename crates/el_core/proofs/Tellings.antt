@@ -10,7 +10,7 @@ use Rattle.el_subs.specs.Told as status_told
 use Rattle.el_subs.specs.Told.{status, OthersTold, marked}
 use Rattle.el_lines.proofs.Cuts.{either}
 use Rattle.el_side.specs.NodeSteps.{Touches}
-use Rattle.el_side.specs.Side.{Side}
+use Rattle.el_side.specs.Side.{Side, IsSure}
 use Rattle.el_world.specs.World.{Session, Event, is_peer}
 use Rattle.el_core.specs.State.{ClientState, IsSession, IsUntouched, NoneWaits, Tellings, waiting}
 use Rattle.el_core.specs.within.Clients.{replaced}
@@ -72,9 +72,9 @@ marked_told st [] = tt
 marked_told st (sub ∷ subs) = (refl, marked_told st subs)
 
 -- where nobody waits, all were told
-pub all_statuses : (side : Side) (start : Chain) (touched : List Hash32) (sessions : List Session) → Tellings side start touched sessions → side.ahead ≡ [] → NoneWaits sessions
+pub all_statuses : (side : Side) (start : Chain) (touched : List Hash32) (sessions : List Session) → IsSure side → Tellings side start touched sessions → side.ahead ≡ [] → NoneWaits sessions
     → AllByRecursion (λ (x : Session). status_told.AllTold (status side.chain side.kept) x.client.subs) sessions
-all_statuses side start touched sessions t still quiet_all = both sessions (t.told still) quiet_all
+all_statuses side start touched sessions sure t still quiet_all = both sessions (t.told sure still) quiet_all
   where
     both : (ys : List Session) → AllByRecursion (λ (x : Session). x.waits ≡ false → status_told.AllTold (status side.chain side.kept) x.client.subs) ys → NoneWaits ys
         → AllByRecursion (λ (x : Session). status_told.AllTold (status side.chain side.kept) x.client.subs) ys
@@ -86,18 +86,18 @@ all_statuses side start touched sessions t still quiet_all = both sessions (t.to
 pub tellings_gone : (side : Side) (start : Chain) (touched : List Hash32) (sessions : List Session) (p : ℕ) → Tellings side start touched sessions
     → Tellings side start touched (filter (λ (y : Session). not (is_peer p y)) sessions)
 tellings_gone side start touched sessions p t = record {
-  untouched = all_filter _ _ sessions t.untouched;
-  told = λ still. all_filter _ _ sessions (t.told still);
+  untouched = λ sure. all_filter _ _ sessions (t.untouched sure);
+  told = λ sure still. all_filter _ _ sessions (t.told sure still);
   busy = λ some. all_filter _ _ sessions (t.busy some);
 }
 
 pub tellings_replaced : (side : Side) (start : Chain) (touched : List Hash32) (sessions : List Session) (i : ℕ) (session : Option Session) → Tellings side start touched sessions
-    → IfThere (λ (n : Session). AllByRecursion (IsUntouched side start touched) n.client.subs) session
-    → IfThere (λ (n : Session). n.waits ≡ false → status_told.AllTold (status side.chain side.kept) n.client.subs) session
+    → (IsSure side → IfThere (λ (n : Session). AllByRecursion (IsUntouched side start touched) n.client.subs) session)
+    → (IsSure side → IfThere (λ (n : Session). n.waits ≡ false → status_told.AllTold (status side.chain side.kept) n.client.subs) session)
     → side.ahead ≡ [] → Tellings side start touched (replaced i session sessions)
 tellings_replaced side start touched sessions i session t untouched told still = record {
-  untouched = all_replaced _ sessions i session t.untouched untouched;
-  told = λ s. all_replaced _ sessions i session (t.told s) told;
+  untouched = λ sure. all_replaced _ sessions i session (t.untouched sure) (untouched sure);
+  told = λ sure s. all_replaced _ sessions i session (t.told sure s) (told sure);
   busy = λ some. absurd (some still);
 }
 
@@ -105,8 +105,8 @@ tellings_replaced side start touched sessions i session t untouched told still =
 pub tellings_begun : (side : Side) (start : Chain) (touched : List Hash32) (sessions : List Session) → Tellings side start touched sessions → side.ahead ≡ [] → start ≡ side.chain → NoneWaits sessions
     → Tellings side start [] (map (λ (x : Session). record x { waits = true }) sessions)
 tellings_begun side start touched sessions t still same quiet_all = record {
-  untouched = all_mapped _ _ (λ (x : Session). record x { waits = true }) sessions (λ x all. untouched_of side start [] x.client.subs same all) (all_statuses side start touched sessions t still quiet_all);
-  told = λ s. all_mapped _ _ (λ (x : Session). record x { waits = true }) sessions (λ x w e. absurd (true≢false e)) quiet_all;
+  untouched = λ sure. all_mapped _ _ (λ (x : Session). record x { waits = true }) sessions (λ x all. untouched_of side start [] x.client.subs same all) (all_statuses side start touched sessions sure t still quiet_all);
+  told = λ sure s. all_mapped _ _ (λ (x : Session). record x { waits = true }) sessions (λ x w e. absurd (true≢false e)) quiet_all;
   busy = λ some. absurd (some still);
 }
 
@@ -146,16 +146,17 @@ both_all P Q R (x ∷ xs) f p q = (f x p.0 q.0, both_all P Q R xs f p.1 q.1)
 
 -- what the step didn't touch is as it was
 pub tellings_led : (side next : Side) (start next_start : Chain) (moved changed touched now : List Hash32) (clients : List ClientState) (sessions : List Session) (speaker : Option ℕ) (left : List Event)
-    → Tellings side start touched sessions → Touches side start next next_start moved changed → CoversAll clients touched moved changed now → AllZip (IsSession speaker left) clients sessions
+    → Tellings side start touched sessions → next.sure ≡ side.sure → (IsSure side → Touches side start next next_start moved changed) → CoversAll clients touched moved changed now → AllZip (IsSession speaker left) clients sessions
     → AllByRecursion (λ (x : Session). x.waits ≡ true) sessions → Tellings next next_start now sessions
-tellings_led side next start next_start moved changed touched now clients sessions speaker left t touches covers each all_wait = record {
-  untouched = both_all _ _ _ sessions (λ x untouched held. both_all _ _ _ x.client.subs one untouched held) t.untouched (sessions_held speaker left clients clients sessions each (λ s there. there));
-  told = λ still. all_map _ _ sessions (λ x w e. absurd (true≢false (sym w ∙ e))) all_wait;
+tellings_led side next start next_start moved changed touched now clients sessions speaker left t sure_is touches covers each all_wait = record {
+  untouched = λ sure. both_all _ _ _ sessions (λ x untouched held. both_all _ _ _ x.client.subs (one (sym sure_is ∙ sure)) untouched held) (t.untouched (sym sure_is ∙ sure)) (sessions_held speaker left clients clients sessions each (λ s there. there));
+  told = λ sure still. all_map _ _ sessions (λ x w e. absurd (true≢false (sym w ∙ e))) all_wait;
   busy = λ some. all_wait;
 }
   where
-    one : (sub : Subscription) → IsUntouched side start touched sub → is_held clients sub.0 ≡ true → IsUntouched next next_start now sub
-    one sub untouched held none =
+    one : IsSure side → (sub : Subscription) → IsUntouched side start touched sub → is_held clients sub.0 ≡ true → IsUntouched next next_start now sub
+    one sure sub untouched held none =
+        let t = touches sure in
         let c = covers sub.0 held none in
         let was = untouched c.0 in
-        (was.0 ∙ sym (touches.status_stays sub.0 c.1 c.2 was.1), touches.looks sub.0 c.1 c.2 was.1)
+        (was.0 ∙ sym (t.status_stays sub.0 c.1 c.2 was.1), t.looks sub.0 c.1 c.2 was.1)

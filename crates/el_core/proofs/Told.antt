@@ -15,14 +15,16 @@ use Rattle.el_side.specs.Beneath.{Ghosts}
 use Rattle.el_subs.specs.Told as status_told
 use Rattle.el_subs.specs.Told.{status}
 use Rattle.el_subs.specs.Notices.{notified}
-use Rattle.el_side.specs.Side.{Side}
-use Rattle.el_world.specs.World.{World, Session, Event, IsStill, Outs, closes_disk, closes_memory, is_client, is_peer, next_told, told, outs_of_telling}
+use Rattle.el_side.proofs.Settled.{not_both}
+use Rattle.el_side.specs.Side.{Side, IsSure}
+use Rattle.el_sessions.specs.declared.session.Session as known
+use Rattle.el_world.specs.World.{World, Session, Event, IsStill, Outs, closes_disk, closes_memory, is_client, is_peer, next_told, told, outs_of_telling, texts_to, StaysSubscribed}
 use Rattle.el_world.specs.World as model
 use Rattle.el_world.specs.Run as run
 use Rattle.el_world.specs.Run.{OneTurn}
 use Rattle.el_core.specs.State.{State, ClientState, IsSession, IsUntouched, SessionsAre, NoneWaits, AllVoid, Stands, serving}
 use Rattle.el_core.specs.Turn.{TookTurn, GoesTo}
-use Rattle.el_core.specs.within.Clients.{TellTurn, tells, fails, starves, TellsAt, IsToTell, IsFirstWaiting, told_client, replaced}
+use Rattle.el_core.specs.within.Clients.{TellTurn, tells, fails, starves, unsure, TellsAt, IsToTell, IsFirstWaiting, told_client, replaced}
 use Rattle.el_core.proofs.Losing.{lost_of}
 use Rattle.el_core.proofs.Peers.{at_replaced}
 use Rattle.el_core.proofs.Places.{Both, IfThere, same_some, no_some, zip_at, zip_replaced, all_at, all_map, all_replaced, rising_replaced, one_mapped, one_filtered, one_there, none_found, found_none}
@@ -67,6 +69,17 @@ told_session world said c x s = record {
   speaks = λ e. absurd (no_some c.peer (sym e));
 }
 
+-- a client that was told something
+some_session : (said : List Event) (c : ClientState) (x : Session) (now : known.Session) → IsSession None said c x → IsSession None said (record c { session = now; waits = false }) (record x { client = now; waits = false })
+some_session said c x now s = record {
+  peer = s.peer;
+  limit = s.limit;
+  kept = refl;
+  waits = refl;
+  met = λ n. record { kept = (s.met n).kept; at = (s.met n).at };
+  speaks = λ e. absurd (no_some c.peer (sym e));
+}
+
 -- the first client that waits is the next to be told
 pub first_waits : {G : Type 0} (stands : G → Chain → Type 0) (old : State G) (world : World) (left : List Event) (i : ℕ) → Stands stands old world left → IsFirstWaiting old.clients (Some i) → (c : ClientState) → slice_get old.clients i ≡ Some c
     → (x : Session) × (next_told world ≡ Some x) × (c.peer ≡ x.peer)
@@ -85,9 +98,9 @@ to_tell stands old world left i c stood still at =
     let start_is = stood.set.still still in
     record {
       stood = stood.chain;
-      set = subst (λ (k : Chain). StandsFor old.holdings.pool.entries k world.side.kept) start_is stood.set.stood;
-      beside = tt;
-      others = rw z.2.kept (others_of world.side stood.start old.touched z.0.client.subs start_is (all_at _ world.sessions i z.0 stood.tellings.untouched z.1));
+      set = λ sure. subst (λ (k : Chain). StandsFor old.holdings.pool.entries k world.side.kept) start_is (stood.set.stood sure);
+      beside = λ sure. tt;
+      others = λ sure. rw z.2.kept (others_of world.side stood.start old.touched z.0.client.subs start_is (all_at _ world.sessions i z.0 (stood.tellings.untouched sure) z.1));
     }
 
 module _ {G A : Type 0} (of : Ghosts G A) where
@@ -97,7 +110,7 @@ module _ {G A : Type 0} (of : Ghosts G A) where
     pub told : of.files.tells → AllGrow world.side.files (of.files.bytes files)
     pub still : IsStill world
     pub first : IsFirstWaiting old.clients (Some i)
-    pub went : Moved of.ledger old.ledger new.ledger world.side.chain world.side.chain
+    pub went : IsSure world.side → Moved of.ledger old.ledger new.ledger world.side.chain world.side.chain
     pub same : new ≡ record old { ledger = new.ledger; clients = new.clients }
 
   -- the client and its session changed, or both gone
@@ -105,7 +118,7 @@ module _ {G A : Type 0} (of : Ghosts G A) where
       (now : Option ClientState) (session : Option Session) (losses : List Device)
       → SessionsAre old.clients None None world.sessions r.stood.said → old.speaker ≡ None → old.surplus ≡ None → slice_get world.sessions i ≡ Some x
       → new.clients ≡ replaced i now old.clients → Both (IsSession None r.stood.said) now session → IfThere (λ (n : Session). n.peer ≡ x.peer) session
-      → IfThere (λ (n : Session). status_told.AllTold (status world.side.chain world.side.kept) n.client.subs) session
+      → (IsSure world.side → IfThere (λ (n : Session). status_told.AllTold (status world.side.chain world.side.kept) n.client.subs) session)
       → OneTurn of.files world [] o losses (record world { sessions = replaced i session world.sessions })
       → AllByRecursion (GoesTo (record world { sessions = replaced i session world.sessions }) None o.closing) o.messages → RoseBy (of.ledger.faults old.ledger) (of.ledger.faults new.ledger) (failures device.disk losses)
       → failures device.link losses ≡ 0 → failures device.archive losses ≡ 0
@@ -129,7 +142,7 @@ module _ {G A : Type 0} (of : Ghosts G A) where
         whole = refl;
         turn = turn;
         stood = record {
-          chain = r.went.stood;
+          chain = λ sure. (r.went sure).stood;
           magic = ap (λ (s : State G). s.holdings.magic) r.same ∙ st.magic;
           found = ap (λ (s : State G). s.holdings.tree) r.same ∙ st.found;
           ahead = ap (λ (s : State G). s.ahead) r.same ∙ st.ahead;
@@ -141,8 +154,8 @@ module _ {G A : Type 0} (of : Ghosts G A) where
           sessions = rw (clients, speaker, surplus) now_are;
           speaker_last = λ q e. absurd (no_some q (sym e ∙ speaker));
           surplus_last = λ q e. absurd (no_some q (sym e ∙ surplus));
-          before = ap (λ (s : State G). s.before) r.same ∙ st.before;
-          tellings = rw (ap (λ (s : State G). s.touched) r.same) (tellings_replaced world.side st.start old.touched world.sessions i session st.tellings (unmoved session start_is statuses) (already session statuses) r.still);
+          before = λ sure. ap (λ (s : State G). s.before) r.same ∙ st.before sure;
+          tellings = rw (ap (λ (s : State G). s.touched) r.same) (tellings_replaced world.side st.start old.touched world.sessions i session st.tellings (λ sure. unmoved session start_is (statuses sure)) (λ sure. already session (statuses sure)) r.still);
           left_is = st.left_is;
         };
         moved = r.went;
@@ -166,26 +179,36 @@ module _ {G A : Type 0} (of : Ghosts G A) where
       → IsSession None r.stood.said c x → SessionsAre old.clients None None world.sessions r.stood.said → slice_get world.sessions i ≡ Some x → old.speaker ≡ None → old.surplus ≡ None
       → next_told world ≡ Some x → new.clients ≡ replaced i now old.clients → TellTurn world.side old.before (λ n. RoseBy (of.ledger.faults old.ledger) (of.ledger.faults new.ledger) n) c o now
       → TookTurn of (serving old files) (serving new files) world left o
-  tell_one old new files world left o i r c now x is are x_at no_speaker no_surplus next_is clients (tells outs_is now_is rose) =
+  tell_one old new files world left o i r c now x is are x_at no_speaker no_surplus next_is clients (tells sure outs_is now_is rose) =
       let mapped = one_mapped x.peer (λ (y : Session). told world x) world.sessions i x are.rising x_at refl in
       let there = one_there x.peer (replaced i (Some (told world x)) world.sessions) i (told world x) (at_replaced world.sessions i x (told world x) x_at) refl in
-      let o_is : o ≡ outs_of_telling world x = outs_is ∙ rw (is.peer, is.kept, r.stood.before) refl in
+      let o_is : o ≡ outs_of_telling world x = outs_is ∙ rw (is.peer, is.kept, r.stood.before sure) refl in
       told_by old new files world left o i r c x (Some (told_client world.side c)) (Some (told world x)) [] are no_speaker no_surplus x_at
-      (clients ∙ ap (λ (n : Option ClientState). replaced i n old.clients) now_is) (told_session world r.stood.said c x is) refl (marked_told (status world.side.chain world.side.kept) x.client.subs)
+      (clients ∙ ap (λ (n : Option ClientState). replaced i n old.clients) now_is) (told_session world r.stood.said c x is) refl (λ s. marked_told (status world.side.chain world.side.kept) x.client.subs)
       (run.notifies r.still refl (model.tells x next_is o_is (ap (λ (ss : List Session). record world { sessions = ss }) (sym mapped)) refl))
       (rw o_is (goes_to_all (record world { sessions = replaced i (Some (told world x)) world.sessions }) None x.peer _ there)) rose refl refl
   tell_one old new files world left o i r c now x is are x_at no_speaker no_surplus next_is clients (fails outs_is now_is rose) =
       let filtered = one_filtered x.peer world.sessions i x are.rising x_at refl in
       told_by old new files world left o i r c x None None (device.disk ∷ []) are no_speaker no_surplus x_at
-      (clients ∙ ap (λ (n : Option ClientState). replaced i n old.clients) now_is) tt tt tt
+      (clients ∙ ap (λ (n : Option ClientState). replaced i n old.clients) now_is) tt tt (λ s. tt)
       (run.notifies r.still refl (model.fails x next_is (outs_is ∙ ap closes_disk is.peer) (ap (λ (ss : List Session). record world { sessions = ss }) (sym filtered)) refl))
       (rw outs_is tt) rose refl refl
   tell_one old new files world left o i r c now x is are x_at no_speaker no_surplus next_is clients (starves outs_is now_is rose) =
       let filtered = one_filtered x.peer world.sessions i x are.rising x_at refl in
       told_by old new files world left o i r c x None None [] are no_speaker no_surplus x_at
-      (clients ∙ ap (λ (n : Option ClientState). replaced i n old.clients) now_is) tt tt tt
+      (clients ∙ ap (λ (n : Option ClientState). replaced i n old.clients) now_is) tt tt (λ s. tt)
       (run.departs x.peer (one_there x.peer world.sessions i x x_at refl) refl (outs_is ∙ ap closes_memory is.peer) (ap (λ (ss : List Session). record world { sessions = ss }) (sym filtered)) refl)
       (rw outs_is tt) rose refl refl
+  tell_one old new files world left o i r c now x is are x_at no_speaker no_surplus next_is clients (unsure un some rose) =
+      let y : Session = record x { client = some.now; waits = false } in
+      let mapped = one_mapped x.peer (λ (z : Session). y) world.sessions i x are.rising x_at refl in
+      let there = one_there x.peer (replaced i (Some y) world.sessions) i y (at_replaced world.sessions i x y x_at) refl in
+      let o_is : o ≡ texts_to x.peer some.texts = some.outs_are ∙ ap (λ (q : ℕ). texts_to q some.texts) is.peer in
+      let stays = subst (λ (k : known.Session). StaysSubscribed k some.now) is.kept some.stays in
+      told_by old new files world left o i r c x (Some (record c { session = some.now; waits = false })) (Some y) [] are no_speaker no_surplus x_at
+      (clients ∙ ap (λ (n : Option ClientState). replaced i n old.clients) some.left_is) (some_session r.stood.said c x some.now is) refl (λ sure. absurd (not_both world.side sure un))
+      (run.notifies r.still refl (model.unsure un x some.texts some.now next_is some.told stays o_is (ap (λ (ss : List Session). record world { sessions = ss }) (sym mapped)) refl))
+      (rw o_is (goes_to_all (record world { sessions = replaced i (Some y) world.sessions }) None x.peer some.texts there)) rose refl refl
 
   -- the telling of the first client that waits
   tell_step : (old new : State G) (files : A) (world : World) (left : List Event) (o : Outs) (i : ℕ) (r : BesideTelling old new files world left i) (c : ClientState) (now : Option ClientState)
@@ -212,5 +235,5 @@ module _ {G A : Type 0} (of : Ghosts G A) where
   tell_turned old new files world left o i own live asked stood grown ahead first same t =
       let still : IsStill world = sym stood.ahead ∙ ahead in
       tell_step old new files world left o i
-      (record { stood = stood; told = grown; still = still; first = first; went = asked_moved of.ledger old.ledger new.ledger world.side.chain own live asked stood.chain; same = same })
+      (record { stood = stood; told = grown; still = still; first = first; went = λ sure. asked_moved of.ledger old.ledger new.ledger world.side.chain own live asked (stood.chain sure); same = same })
       t.client t.left t.at (ap (λ (d : ClientState). d.waits) (same_some _ _ (sym t.at ∙ first.1)) ∙ first.2) t.next_is (t.said world.side (to_tell of.ledger.stands old world left i t.client stood still t.at))

@@ -12,19 +12,19 @@ use Rattle.el_model.specs.LedgerCalls.{Asked}
 use Rattle.el_model.specs.Queries.{tip_of}
 use Rattle.el_lines.specs.Lines.{LineEvent}
 use Rattle.el_mempool.specs.Standing.{StandsFor}
-use Rattle.el_side.specs.NodeSteps.{IsAt, Leads}
-use Rattle.el_side.specs.Side.{Side, Moving, OrdersLine}
+use Rattle.el_side.specs.NodeSteps.{IsAt, IsSettled, Leads}
+use Rattle.el_side.specs.Side.{Side, IsSure, Moving, OrdersLine}
 use Rattle.el_world.specs.World.{World, Session, Event, orders, IsStill, AllTold, begun, is_peer}
 use Rattle.el_world.specs.Run as run
 use Rattle.el_side.specs.UnderWay.{IsFirstMove}
 use Rattle.el_model.proofs.LedgerMoves.{LeavesOwn, asked_moved}
-use Rattle.el_sync.specs.Steps.{IsFrom, StopsAt}
+use Rattle.el_sync.specs.Steps.{Fails, IsFrom, StopsAt}
 use Rattle.el_model.specs.declared.fault.QueryFault.{QueryFault}
 use Rattle.el_model.specs.declared.fault.QueryFault.TheVariants as fault
 use Rattle.el_side.specs.Beneath.{Ghosts, Lost, beneath, failed_beneath}
 use Rattle.el_core.specs.State.{State, ClientState, HasGivenAll, IsSession, SessionsAre, AllVoid, Stands, waiting, serving}
 use Rattle.el_core.specs.Turn.{TookTurn, TurnFailed, IsDone, outs_of}
-use Rattle.el_core.specs.within.Answering.{Answered, IsSettled}
+use Rattle.el_core.specs.within.Answering.{Answered}
 use Rattle.el_core.specs.within.Clients.{Gives, NextIsLine, PeersTurn, all_wait, begun_at}
 use Rattle.el_core.specs.within.Touching.{CoversAll}
 use Rattle.el_core.specs.declared.out.Outs as code
@@ -64,7 +64,7 @@ none_where None ordered rest e P is last = refl
 none_where (Some q) ordered rest e P is last = absurd (let n = (last q refl).0 in let f = sym is ∙ n in cc)
 
 begun_stands : {G : Type 0} (stands : G → Chain → Type 0) (old : State G) (start : World) (left rest : List Event) (e : LineEvent) (tip : Option Hash32) (stood : Stands stands old start left) → stood.ordered ≡ orders e ∷ rest
-    → IsStill start → AllTold start → tip ≡ tip_of start.side.chain → Stands stands (begun_at tip old) (begun start) left
+    → IsStill start → AllTold start → (IsSure start.side → tip ≡ tip_of start.side.chain) → Stands stands (begun_at tip old) (begun start) left
 begun_stands {G} stands old start left rest e tip stood is still all_told tip_is =
     let no_speaker = none_where old.speaker stood.ordered rest e _ is stood.speaker_last in
     let no_surplus = none_where old.surplus stood.ordered rest e _ is stood.surplus_last in
@@ -141,7 +141,7 @@ module _ {G A : Type 0} (of : Ghosts G A) where
       let clients_is : read.clients ≡ old.clients = ap (λ (s : State G). s.clients) same in
       let all_told : AllTold world = all_told_world old.clients old.speaker stood.said world.sessions stood.sessions.each (rw clients_is at quiet_all) in
       let n = next_order old.node read.node world.heard stood.ordered e stood.node limit gives in
-      let tip : of.ledger.tip read.ledger ≡ tip_of world.side.chain = tip_is read.ledger world.side.chain (rw ledger_is stood.chain) in
+      let tip : IsSure world.side → of.ledger.tip read.ledger ≡ tip_of world.side.chain = λ sure. tip_is read.ledger world.side.chain (rw ledger_is (stood.chain sure)) in
       let began = begun_stands of.ledger.stands old world left n.rest e (of.ledger.tip read.ledger) stood n.first_is from.still all_told tip in
       let a = turn world.side stood.start (record { stood = rw ledger_is stood.chain; set = rw (ap (λ (s : State G). s.holdings) same) stood.set; told = told }) from in
       let node : new.node ≡ read.node = ap (λ (s : State G). s.node) then in
@@ -171,8 +171,8 @@ module _ {G A : Type 0} (of : Ghosts G A) where
       → IsSettled of (beneath old.ledger files) old.holdings (record world.side { files = known_files })
   settled old files world left known_files stood told still = record {
     stood = stood.chain;
-    set = subst (λ (c : Chain). StandsFor old.holdings.pool.entries c world.side.kept) (stood.set.still (sym stood.ahead ∙ still)) stood.set.stood;
-    beside = tt;
+    set = λ sure. subst (λ (c : Chain). StandsFor old.holdings.pool.entries c world.side.kept) (stood.set.still (sym stood.ahead ∙ still)) (stood.set.stood sure);
+    beside = λ sure. tt;
     found = stood.found;
     told = told;
   }
@@ -185,7 +185,7 @@ module _ {G A : Type 0} (of : Ghosts G A) where
     none_left = none_ordered old.node world.heard stood.ordered stood.node all;
     still = sym stood.ahead ∙ still;
     all_told = all_told_world old.clients old.speaker stood.said world.sessions stood.sessions.each quiet_all;
-    moved = asked_moved of.ledger old.ledger new.ledger world.side.chain own live asked stood.chain;
+    moved = λ sure. asked_moved of.ledger old.ledger new.ledger world.side.chain own live asked (stood.chain sure);
     holdings = ap (λ (s : State G). s.holdings) same;
     ahead = ap (λ (s : State G). s.ahead) same;
     node = ap (λ (s : State G). s.node) same;
@@ -230,8 +230,8 @@ unread_failed of old new files world left own live same stood line quiet_all =
       within = tt;
       rose = λ of_link. all_rose_none (failed_beneath of of_link (beneath old.ledger files));
       later = false;
-      stops_at = stops_still of old.ledger files world.side.chain false _ own live stood.chain;
-      kept = λ k. absurd k;
+      stops_at = λ sure. stops_still of old.ledger files world.side.chain false _ own live (stood.chain sure);
+      kept = λ k sure. absurd k;
       live = λ m. live;
     })
 
@@ -239,13 +239,16 @@ unread_failed of old new files world left own live same stood line quiet_all =
 pub node_failed : {G A : Type 0} (of : Ghosts G A) (old read : State G) (new : G) (before after : A) (world : World) (left : List Event) (said : LineEvent) (e : QueryFault)
     → Stands of.ledger.stands old world left → (of.files.tells → AllGrow world.side.files (of.files.bytes before)) → read.ahead ≡ [] → waiting read.clients ≡ [] → read ≡ record old { node = read.node } → read.node.limit ≡ old.node.limit
     → Gives old.node said read.node → (e ≡ fault.Memory → of.ledger.is_live new)
-    → ((side : Side) (start : Chain) → IsAt of (beneath read.ledger before) read.holdings side start → IsFrom read.holdings side → StopsAt of (beneath read.ledger before) (beneath new after) side.chain false (IsFirstMove side said) e)
+    → ((side : Side) (start : Chain) → IsSure side → IsAt of (beneath read.ledger before) read.holdings side start → IsFrom read.holdings side → StopsAt of (beneath read.ledger before) (beneath new after) side.chain false (IsFirstMove side said) e)
+    → ((side : Side) (start : Chain) → side.sure ≡ false → IsAt of (beneath read.ledger before) read.holdings side start → IsFrom read.holdings side → Fails of (beneath read.ledger before) (beneath new after) side.chain false e)
     → TurnFailed of (beneath old.ledger before) (beneath new after) world left e
-node_failed {G} of old read new before after world left said e stood told still quiet_all same limit gives live stopped =
+node_failed {G} of old read new before after world left said e stood told still quiet_all same limit gives live stopped lost =
     let ledger_is : read.ledger ≡ old.ledger = ap (λ (s : State G). s.ledger) same in
     let from = from_side of old read world left stood same still in
     let all_told : AllTold world = all_told_world old.clients old.speaker stood.said world.sessions stood.sessions.each (rw (ap (λ (s : State G). s.clients) same) at quiet_all) in
     let n = next_order old.node read.node world.heard stood.ordered said stood.node limit gives in
-    let r = rw ledger_is at (stopped world.side stood.start (record { stood = rw ledger_is stood.chain; set = rw (ap (λ (s : State G). s.holdings) same) stood.set; told = told }) from) in
+    let at : IsAt of (beneath read.ledger before) read.holdings world.side stood.start = record { stood = rw ledger_is stood.chain; set = rw (ap (λ (s : State G). s.holdings) same) stood.set; told = told } in
+    let r : IsSure world.side → StopsAt of (beneath old.ledger before) (beneath new after) world.side.chain false (IsFirstMove world.side said) e = λ sure. rw ledger_is at (stopped world.side stood.start sure at from) in
+    let f : world.side.sure ≡ false → Fails of (beneath old.ledger before) (beneath new after) world.side.chain false e = λ un. rw ledger_is at (lost world.side stood.start un at from) in
     line_failed of old.ledger new before after world left (n.rest ++ stood.said) e said from.still all_told
-    (stood.left_is ∙ ap (λ (es : List Event). es ++ stood.said) n.first_is) live r
+    (stood.left_is ∙ ap (λ (es : List Event). es ++ stood.said) n.first_is) live r f

@@ -14,7 +14,7 @@ use Rattle.el_status.specs.Untouched.{LooksSame}
 use Rattle.el_side.specs.declared.holdings.Holdings.{Holdings}
 use Rattle.el_side.specs.Beneath.{Beneath, beneath}
 use Rattle.el_side.specs.NodeSteps.{SetStands}
-use Rattle.el_side.specs.Side.{Side}
+use Rattle.el_side.specs.Side.{Side, IsSure}
 use Rattle.el_world.specs.World.{World, Session, Event, says, orders, joins, leaves, is_peer, line_limit, client_limit}
 use Rattle.el_lines.specs.LineStates.{LineState, IsAt, held}
 
@@ -194,13 +194,13 @@ IsUntouched side start touched sub =
     is_touched touched sub ≡ false
     → IsTold (status start side.kept) sub × LooksSame start side.chain sub.0.0
 
--- What was told last is right: of script hashes that aren't touched, and, once the node's last line is worked
--- off, of all where the client was told of it. Nobody is told before.
+-- What was told last is right, where the side is sure: of script hashes that aren't touched, and, once the
+-- node's last line is worked off, of all where the client was told of it. Nobody is told before.
 pub record Tellings (side : Side) (start : Chain) (touched : List Hash32) (sessions : List Session)
     : Type 0 where
-  pub untouched : AllByRecursion
+  pub untouched : IsSure side → AllByRecursion
       (λ (x : Session). AllByRecursion (IsUntouched side start touched) x.client.subs) sessions
-  pub told : side.ahead ≡ [] → AllByRecursion
+  pub told : IsSure side → side.ahead ≡ [] → AllByRecursion
       (λ (x : Session). x.waits ≡ false
       → status_told.AllTold (status side.chain side.kept) x.client.subs) sessions
   pub busy : (side.ahead ≡ [] → ⊥) → AllByRecursion (λ (x : Session). x.waits ≡ true) sessions
@@ -214,11 +214,12 @@ pub record NodeLeaves (node : LineState) (heard : List ℕ) (left : List Event) 
   pub left_is : left ≡ map orders (drop given (lines node_limit heard))
 
 -- The server stands for the world, and these events of the last arrival are left: the node's lines, and then
--- what the clients' bytes leave. `stands` says for which chains its ledger stands; `start` is the chain that
--- was there when the node's last tip line began, or the side's.
+-- what the clients' bytes leave. `stands` says for which chains its ledger stands: where the side is sure, it
+-- stands for the side's chain; `start` is the chain that was there when the node's last tip line began, or the
+-- side's.
 pub record Stands {G : Type 0} (stands : G → Chain → Type 0) (s : State G) (world : World) (left : List Event)
     : Type 0 where
-  pub chain : stands s.ledger world.side.chain
+  pub chain : IsSure world.side → stands s.ledger world.side.chain
   pub magic : s.holdings.magic ≡ world.side.magic
   pub found : s.holdings.tree ≡ world.side.found
   pub ahead : s.ahead ≡ world.side.ahead
@@ -231,6 +232,6 @@ pub record Stands {G : Type 0} (stands : G → Chain → Type 0) (s : State G) (
   -- where a client speaks, or one too many waits, the node has nothing left, and everyone was told
   pub speaker_last : (p : ℕ) → s.speaker ≡ Some p → (ordered ≡ []) × NoneWaits world.sessions
   pub surplus_last : (p : ℕ) → s.surplus ≡ Some p → (ordered ≡ []) × NoneWaits world.sessions
-  pub before : s.before ≡ world.before
+  pub before : IsSure world.side → s.before ≡ world.before
   pub tellings : Tellings world.side start s.touched world.sessions
   pub left_is : left ≡ ordered ++ said

@@ -10,6 +10,7 @@ use Rattle.el_chain.specs.Chains.{Chain}
 use Rattle.el_model.specs.LedgerCalls.{Moved}
 use Rattle.el_lines.specs.Lines.{line}
 use Rattle.el_side.specs.Beneath.{Beneath, Ghosts, Lost}
+use Rattle.el_side.specs.Side.{IsSure}
 use Rattle.el_subs.specs.Told as status_told
 use Rattle.el_subs.specs.Told.{status}
 use Rattle.el_world.specs.Flights.{IsMoveOf}
@@ -67,19 +68,21 @@ pub record TookTurn {G A : Type 0} (of : Ghosts G A) (was now : Serving G A) (wo
   pub whole : left ≡ done ++ rest
   pub turn : OneTurn of.files world done outs losses next
   pub stood : Stands of.ledger.stands now.server next rest
-  pub moved : Moved of.ledger was.server.ledger now.server.ledger world.side.chain next.side.chain
+  pub moved : IsSure world.side
+      → Moved of.ledger was.server.ledger now.server.ledger world.side.chain next.side.chain
   pub told : of.files.tells → AllGrow next.side.files (of.files.bytes now.files)
   pub sends_to : AllByRecursion (GoesTo next now.server.surplus outs.closing) outs.messages
   pub rose : Lost of (beneath_of was) (beneath_of now) losses
 
 -- No event is left, but perhaps lines of a client that is closed, which have no effect. Everyone was told of
--- the node's last line, and of each subscription the status that was told last is its status.
+-- the node's last line, and of each subscription the status that was told last is its status, where the side is
+-- sure.
 pub record IsDone {G A : Type 0} (stands : G → Chain → Type 0) (of_files : archive.Ghosts A) (world : World)
     (left : List Event) (s : State G) : Type 0 where
   pub turns : Turns of_files world left [] [] [] world
   pub still : IsStill world
   pub told : AllTold world
-  pub statuses : AllByRecursion (λ (x : Session).
+  pub statuses : IsSure world.side → AllByRecursion (λ (x : Session).
       status_told.AllTold (status world.side.chain world.side.kept) x.client.subs) world.sessions
   pub stood : Stands stands s world []
 
@@ -111,7 +114,8 @@ KeepsChain (unsent done rest outs failed after front back m lost last next whole
     ⊥
 
 -- A turn failed, and with it the server stops. The ledger is still live where no memory was found; `later` is
--- whether the turn was to make a later move of a tip line.
+-- whether the turn was to make a later move of a tip line. Where the side is sure, so is what the ledger stands
+-- for then.
 pub record TurnFailed {G A : Type 0} (of : Ghosts G A) (was now : Beneath G A) (world : World)
     (left : List Event) (e : QueryFault) : Type 0 where
   pub losses : List Device
@@ -119,6 +123,6 @@ pub record TurnFailed {G A : Type 0} (of : Ghosts G A) (was now : Beneath G A) (
   pub within : IsWithin stops
   pub rose : Lost of was now losses
   pub later : Bool
-  pub stops_at : StopsAt of was now world.side.chain later (IsMoveOf world left) e
-  pub kept : KeepsChain stops → stops_at.next ≡ world.side.chain
+  pub stops_at : IsSure world.side → StopsAt of was now world.side.chain later (IsMoveOf world left) e
+  pub kept : KeepsChain stops → (sure : IsSure world.side) → (stops_at sure).next ≡ world.side.chain
   pub live : e ≡ fault.Memory → of.ledger.is_live now.ledger

@@ -1,19 +1,20 @@
 // A client and its bytes.
 ghost use Rattle.std.specs.Prelude.{◌≡◌, ◌<◌, ◌≤◌, [], ◌∷◌, true, false, not, None, Some, OnOk, OnErr, OnSome, IfOk, IfSome, IfNone, length, vec_capacity};
+ghost use Rattle.std.specs.List.{AllByRecursion};
 ghost use Rattle.std.specs.Map.{keys_of};
 ghost use Rattle.el_outside.specs.Counts.{CountsOnly};
 ghost use Rattle.el_outside.specs.Files.{AllGrow};
 ghost use Rattle.el_model.specs.LedgerCalls.{Asked};
-ghost use Rattle.el_subs.specs.Notices.{notices};
+ghost use Rattle.el_subs.specs.Notices.{notices, IsNotice};
 ghost use Rattle.el_subs.specs.Told.{status};
 ghost use Rattle.el_side.specs.Beneath.{Lost, beneath, ghosts};
-ghost use Rattle.el_side.specs.Side.{Side};
-ghost use Rattle.el_world.specs.World.{line_limit, new_client, outs_of_reply, reply_to};
+ghost use Rattle.el_side.specs.Side.{Side, IsSure};
+ghost use Rattle.el_world.specs.World.{StaysSubscribed, line_limit, new_client, outs_of_reply, reply_to};
 ghost use Rattle.el_lines.specs.LineStates.{as_listed, held};
 ghost use Rattle.el_sessions.specs.Sessions.{Edits};
 ghost use Rattle.el_core.specs.State.{HasGivenAll, HasNoWork, IsHeardOut, work_of_client};
 ghost use Rattle.el_core.specs.Turn.{messages_of, outs_of};
-ghost use Rattle.el_core.specs.within.Answering.{IsSettled};
+ghost use Rattle.el_side.specs.NodeSteps.{IsSettled};
 ghost use Rattle.el_core.specs.within.Clients.{IsFresh, Keeps, Gives, NextIsLine, LineAnswered, Answers, ClientTurn, IsToTell, left_if, told_client};
 
 use crate::out::Outs;
@@ -128,13 +129,17 @@ impl Client {
         before: &Option<Hash32>,
     ) -> Result<Vec<Bytes>, QueryFault>
         requires live { G.is_live ledger.old }
-        ensures told { (side : Side)
+        ensures told { (side : Side) → IsSure side
             → IsToTell G.stands ledger.old holdings.now touched.now side self.old
             → IfOk result (λ lines. lines.items
             ≡ notices (status side.chain side.kept) before.now side.chain self.old.session) }
-        ensures marked { (side : Side)
+        ensures marked { (side : Side) → IsSure side
             → IsToTell G.stands ledger.old holdings.now touched.now side self.old
             → OnOk result (self.new ≡ told_client side self.old) }
+        // Whatever the ledger and the set stand for.
+        ensures notices { IfOk result (λ lines. AllByRecursion IsNotice lines.items) }
+        ensures stays { StaysSubscribed self.old.session self.new.session }
+        ensures only { OnOk result (self.new ≡ record self.old { session = self.new.session; waits = false }) }
         ensures done { OnOk result (self.new.waits ≡ false) }
         ensures bytes { self.new.buffer ≡ self.old.buffer }
         ensures peer { self.new.peer ≡ self.old.peer }

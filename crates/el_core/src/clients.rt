@@ -6,7 +6,7 @@ ghost use Rattle.el_model.specs.LedgerCalls.{Asked};
 ghost use Rattle.el_side.specs.Beneath.{Lost, beneath, ghosts};
 ghost use Rattle.el_side.specs.Side.{Side};
 ghost use Rattle.el_core.specs.Arrivals.{kept_clients};
-ghost use Rattle.el_core.specs.within.Answering.{IsSettled};
+ghost use Rattle.el_side.specs.NodeSteps.{IsSettled};
 ghost use Rattle.el_core.specs.Turn.{outs_of};
 ghost use Rattle.el_core.specs.within.Clients.{IsPlace, IsFirstWaiting, HearsAt, ClientTurn, TurnsAt, IsToTell, TellTurn, TellsAt, all_wait, replaced};
 ghost use Rattle.el_core.specs.within.Touching.{is_held};

@@ -1,5 +1,5 @@
 // The server: a pure core that takes arrivals and answers by turns.
-ghost use Rattle.std.specs.Prelude.{◌≡◌, ◌≢◌, ◌⊎◌, ◌<◌, ◌≤◌, ◌+◌, ℕ, List, [], ◌∷◌, None, Some, true, false, OnSome, OnOk, OnErr, IfOk, IfErr, IfSome, IfNone, IsErrOf, length};
+ghost use Rattle.std.specs.Prelude.{◌≡◌, ◌≢◌, ◌⊎◌, ◌<◌, ◌≤◌, ◌+◌, ℕ, Bool, List, [], ◌∷◌, None, Some, true, false, OnSome, OnOk, OnErr, IfOk, IfErr, IfSome, IfNone, IsErrOf, length};
 ghost use Rattle.el_outside.specs.Counts.{RoseBy};
 ghost use Rattle.el_outside.specs.Files.{AllGrow};
 ghost use Rattle.el_chain.specs.declared.moves.Plan as moves;
@@ -9,17 +9,17 @@ ghost use Rattle.el_model.specs.LedgerCalls.{Asked, KeepsBeside};
 ghost use Rattle.el_model.specs.declared.fault.QueryFault.TheVariants as turn_fault;
 ghost use Rattle.el_lines.specs.Lines.{too_long};
 ghost use Rattle.el_side.specs.Beneath.{Lost, beneath, ghosts};
-ghost use Rattle.el_side.specs.NodeSteps.{IsAt};
+ghost use Rattle.el_side.specs.NodeSteps.{IsAt, IsSettled};
 ghost use Rattle.el_side.specs.Plans.{plan_of};
 ghost use Rattle.el_world.specs.Run.{MayStarve};
-ghost use Rattle.el_side.specs.Side.{Side, Moving, OrdersLine};
+ghost use Rattle.el_side.specs.Side.{Side, IsSure, Moving, OrdersLine};
 ghost use Rattle.el_world.specs.World.{World, Event, joins, says, is_client, IsStill, AllTold, initial_world, without_client, reply_to};
 ghost use Rattle.el_lines.specs.LineStates.{as_listed, held};
-ghost use Rattle.el_sync.specs.Steps.{IsFrom, StopsAt};
+ghost use Rattle.el_sync.specs.Steps.{Fails, IsFrom, StopsAt};
 ghost use Rattle.el_core.specs.State.{AreUpTo, IsIdle, Stands, HasGivenAll, beneath_of, serving, waiting, work, work_of_peers};
 ghost use Rattle.el_core.specs.Arrivals.{TookArrival, IsAbove, IsUpTo, with_all_bytes, gone_from};
 ghost use Rattle.el_core.specs.Turn.{TookTurn, TurnFailed, IsDone, HasLost, MeetsLine, WaitsToBeTold, ClosesLong, outs_of};
-ghost use Rattle.el_core.specs.within.Answering.{Answered, IsSettled, NodeKeeps};
+ghost use Rattle.el_core.specs.within.Answering.{Answered, NodeKeeps};
 ghost use Rattle.el_core.specs.within.Clients.{Hears, Opens, Gives, NextIsLine, IsFirstWaiting, SpeakerSteps, PeersTurn, IsToTell, TellTurn, TellsAt, all_wait, begun_at};
 
 use crate::client::{Client, closing, rooms_for_one, sending_in};
@@ -93,9 +93,9 @@ impl<G: Ledger> Server<G> {
     pub fn new(alloc: Global, ledger: G, holdings: Holdings) -> Server<G>
         requires live { G.is_live ledger }
         ensures ledger { result.ledger ≡ ledger }
-        ensures stands { (chain : Chain) (files : ℕ → List ℕ) → G.stands ledger chain
-            → holdings.pool.entries ≡ [] → Stands G.stands result
-            (initial_world chain holdings.magic holdings.pool.limits holdings.tree files) [] }
+        ensures stands { (sure : Bool) (chain : Chain) (files : ℕ → List ℕ)
+            → (sure ≡ true → G.stands ledger chain) → holdings.pool.entries ≡ [] → Stands G.stands result
+            (initial_world sure chain holdings.magic holdings.pool.limits holdings.tree files) [] }
         ensures idle { IsIdle result }
         ensures clients { result.clients ≡ [] }
     {
@@ -232,9 +232,13 @@ impl<G: Ledger> Server<G> {
         ensures sends { IfOk result (λ o. (text : List ℕ) × (outs_of o ≡ reply_to 0 text)) }
         ensures stopped { let of = ghosts ⟦<G as Ledger>⟧ ⟦<A as Archive>⟧ in
             let was = beneath self.old.ledger archive.old in (side : Side) (start : Chain)
-            → IsAt of was self.old.holdings side start → IfErr result (
+            → IsSure side → IsAt of was self.old.holdings side start → IfErr result (
             StopsAt of was (beneath self.new.ledger archive.new) side.chain true
             (λ (p : moves.Plan). p ≡ plan_of 0 self.old.ahead)) }
+        ensures lost { let of = ghosts ⟦<G as Ledger>⟧ ⟦<A as Archive>⟧ in
+            let was = beneath self.old.ledger archive.old in (side : Side) (start : Chain)
+            → side.sure ≡ false → IsAt of was self.old.holdings side start → IfErr result (
+            Fails of was (beneath self.new.ledger archive.new) side.chain true) }
         ensures some { self.old.ahead ≢ [] }
         ensures fewer { OnOk result (length self.new.ahead < length self.old.ahead) }
         ensures same { self.new ≡ record self.old {
@@ -303,9 +307,14 @@ impl<G: Ledger> Server<G> {
         ensures sends { IfOk result (λ o. (text : List ℕ) × (outs_of o ≡ reply_to 0 text)) }
         ensures stopped { let of = ghosts ⟦<G as Ledger>⟧ ⟦<A as Archive>⟧ in
             let was = beneath self.old.ledger archive.old in (side : Side) (start : Chain)
-            → IsAt of was self.old.holdings side start → IsFrom self.old.holdings side → IfErr result (
+            → IsSure side → IsAt of was self.old.holdings side start → IsFrom self.old.holdings side
+            → IfErr result (
             StopsAt of was (beneath self.new.ledger archive.new) side.chain false
             (IsFirstMove side (as_listed met))) }
+        ensures lost { let of = ghosts ⟦<G as Ledger>⟧ ⟦<A as Archive>⟧ in
+            let was = beneath self.old.ledger archive.old in (side : Side) (start : Chain)
+            → side.sure ≡ false → IsAt of was self.old.holdings side start → IsFrom self.old.holdings side
+            → IfErr result (Fails of was (beneath self.new.ledger archive.new) side.chain false) }
         ensures still { self.old.ahead ≡ [] }
         ensures told { waiting self.old.clients ≡ [] }
         ensures fewer { OnOk result (length self.new.ahead ≤ length self.old.holdings.tree) }

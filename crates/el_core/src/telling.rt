@@ -1,11 +1,11 @@
 // What a client is told after a line of the node.
-ghost use Rattle.std.specs.Prelude.{◌≡◌, ◌≤◌, ◌++◌, List, ℕ, IfOk, OnOk, map, drop, true, false};
+ghost use Rattle.std.specs.Prelude.{◌≡◌, ◌≤◌, ◌++◌, List, ℕ, IfOk, OnOk, Some, map, drop, true, false};
 ghost use Rattle.std.specs.Map.{keys_of};
 ghost use Rattle.el_outside.specs.Counts.{RoseBy, CountsOnly};
 ghost use Rattle.el_model.specs.LedgerCalls.{Asked};
-ghost use Rattle.el_side.specs.Side.{Side};
+ghost use Rattle.el_side.specs.Side.{Side, IsSure};
 ghost use Rattle.el_core.specs.Turn.{outs_of, messages_of};
-ghost use Rattle.el_core.specs.within.Clients.{IsToTell, TellTurn, left_if, told_client, told_outs};
+ghost use Rattle.el_core.specs.within.Clients.{IsToTell, TellTurn, TellsSome, left_if, told_client, told_outs};
 
 use crate::client::{Client, closing};
 use crate::out::Outs;
@@ -42,12 +42,13 @@ fn tell_all<G: Ledger>(
     client: &mut Client,
 ) -> Result<Outs, QueryFault>
     requires live { G.is_live ledger.old }
-    ensures told { (side : Side)
+    ensures told { (side : Side) → IsSure side
         → IsToTell G.stands ledger.old holdings.now touched.now side client.old
         → IfOk result (λ o. outs_of o ≡ told_outs side before.now client.old) }
-    ensures marked { (side : Side)
+    ensures marked { (side : Side) → IsSure side
         → IsToTell G.stands ledger.old holdings.now touched.now side client.old
         → OnOk result (client.new ≡ told_client side client.old) }
+    ensures some { IfOk result (λ o. TellsSome client.old (outs_of o) (Some client.new)) }
     ensures done { OnOk result (client.new.waits ≡ false) }
     ensures bytes { client.new.buffer ≡ client.old.buffer }
     ensures peer { client.new.peer ≡ client.old.peer }

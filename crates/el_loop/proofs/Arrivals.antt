@@ -7,6 +7,8 @@ use Rattle.el_outside.specs.Files.{AllGrow}
 use Rattle.el_outside.specs.Trace.{Trace, ArrivalWithBytes, opened, brought, closed, quiet, ended, GoesOn, is_new, leaves as left_by}
 use Rattle.el_outside.proofs.Traces.{goes_none, arrived_stays_open, new_not_open}
 use Rattle.el_chain.specs.Chains.{Chain}
+use Rattle.el_side.specs.Side.{Side, IsSure}
+use Rattle.el_world.proofs.Sureness.{turns_sure, heard_side}
 use Rattle.el_world.specs.World.{World, Session, Event, is_peer, hearing, after_hearing, events, IsStill, AllTold, nothing}
 use Rattle.el_world.specs.Run.{Turns, none as no_turns, more, takes, all, Stop, by_memory, unheard, in_turn, MayStarve}
 use Rattle.el_lines.proofs.Cuts.{either}
@@ -145,7 +147,7 @@ module _ {G A K : Type 0} (of : AllGhosts G A K) where
         turns = rw t.whole turns;
         still = f.still;
         told = f.told;
-        statuses = f.statuses;
+        statuses = λ sure. f.statuses (turns_sure q ∙ sure);
         stood = f.stood;
         went = record { trace = f.went.trace; rose = rw (← same) f.went.rose };
         ready = f.ready;
@@ -176,14 +178,14 @@ module _ {G A K : Type 0} (of : AllGhosts G A K) where
         went = record { trace = f.went.trace; rose = rw (← same) f.went.rose };
         flight = f.flight;
         is_flight = f.is_flight;
-        crash = f.crash;
+        crash = λ sure. f.crash (turns_sure q ∙ ap (λ (s : Side). s.sure) (heard_side a world) ∙ sure);
       }
 
   -- no memory was found for the node's bytes, or for a new client
   pub arrival_lost : (leaves : Chain → Chain → Type 0) (a : ArrivalWithBytes) (world : World)
       (now : Snapshot G A K) → MayStarve a
       → (of.beneath.files.tells → AllGrow world.side.files (of.beneath.files.bytes now.files))
-      → leaves world.side.chain world.side.chain
+      → (IsSure world.side → leaves world.side.chain world.side.chain)
       → StoppedIn of leaves world a by_memory now now
   arrival_lost leaves a world now may grows crash = record {
     messages = [];

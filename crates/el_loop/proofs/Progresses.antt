@@ -14,7 +14,10 @@ use Rattle.el_chain.specs.Moves.{StoodBy}
 use Rattle.el_side.specs.Beneath.{Lost, beneath}
 use Rattle.el_world.specs.World.{World, Event, Outs}
 use Rattle.el_world.specs.Run.{Turns, none, more, Stop, Stops, disk_failed, sift_failed, no_memory, untold, unsent, files_at, Delivers, all, sends, loses, lost_by, IsDeparture, LostBy, by_disk, by_link, by_memory}
-use Rattle.el_side.specs.UnderWay.{IsUnderWay}
+use Rattle.el_side.proofs.Settled.{by_sure, not_both}
+use Rattle.el_side.specs.Side.{IsSure}
+use Rattle.el_side.specs.UnderWay.{IsUnderWay, before as not_moved}
+use Rattle.el_world.proofs.Sureness.{turn_sure, turns_sure}
 use Rattle.el_world.specs.Flights.{FliesAt, IsMoveOf}
 use Rattle.el_core.specs.State.{State, Stands, serving}
 use Rattle.el_core.specs.Turn.{TookTurn, TurnFailed, IsWithin, KeepsChain, IsDone, stop_of}
@@ -111,6 +114,29 @@ within_flies (untold by busy silent closed lost) within now next grows way kept 
 within_flies (unsent done rest outs failed after front back m lost last next' whole turn cut node delivers
     by all')
     within now next grows way kept = absurd within
+
+-- The chain that is then in flight; where the side is unsure, its own is taken.
+record InFlight {A : Type 0} (of_files : archive.Ghosts A) (world : World) (left : List Event) (now : ℕ → List ℕ)
+    (leaves : Chain → Chain → Type 0) (keeps : Type 0) : Type 0 where
+  next : Chain
+  way : IsUnderWay (StoodBy of_files now) world.side.chain (IsMoveOf world left) next
+  kept : keeps → next ≡ world.side.chain
+  crash : IsSure world.side → leaves world.side.chain next
+
+in_flight : {A : Type 0} {of_files : archive.Ghosts A} (world : World) (left : List Event) (now : ℕ → List ℕ)
+    (leaves : Chain → Chain → Type 0) (keeps : Type 0)
+    → (IsSure world.side → (next : Chain) × IsUnderWay (StoodBy of_files now) world.side.chain (IsMoveOf world left) next
+    × (keeps → next ≡ world.side.chain) × leaves world.side.chain next)
+    → InFlight of_files world left now leaves keeps
+in_flight {of_files = of_files} world left now leaves keeps of_sure =
+    by_sure world.side (InFlight of_files world left now leaves keeps)
+    (λ sure. let s = of_sure sure in record { next = s.0; way = s.1; kept = s.2; crash = λ again. s.3 })
+    (λ un. record {
+      next = world.side.chain;
+      way = not_moved refl;
+      kept = λ k. refl;
+      crash = λ sure. absurd (not_both world.side sure un);
+    })
 
 module _ {G A K : Type 0} (of : AllGhosts G A K) where
   -- before the first turn
@@ -237,7 +263,7 @@ module _ {G A K : Type 0} (of : AllGhosts G A K) where
         turns = rw p.whole (rw (append-nil p.messages, append-nil p.closings, append-nil p.losses) at both);
         still = d.still;
         told = d.told;
-        statuses = d.statuses;
+        statuses = λ sure. d.statuses (turns_sure p.turns ∙ sure);
         stood = d.stood;
         went = record { trace = p.went.trace; rose = rw (same.0, same.1) p.went.rose };
         ready = record {
@@ -255,12 +281,14 @@ module _ {G A K : Type 0} (of : AllGhosts G A K) where
       (before : Snapshot G A K) (s turned : State G) (files files' : A) (k : K) (stop : Stop) (e : QueryFault)
       → (p : Progress of first all' before (snapshot s files k))
       → (t : TurnFailed of.beneath (beneath s.ledger files) (beneath turned.ledger files') p.world p.left e)
-      → leaves p.world.side.chain t.stops_at.next
+      → ((sure : IsSure p.world.side) → leaves p.world.side.chain (t.stops_at sure).next)
       → (of.beneath.files.tells → AllGrow (of.beneath.files.bytes files) (of.beneath.files.bytes files')) → stop ≡ stop_of e
       → Stopped of leaves first all' stop before (snapshot turned files' k)
   stopped_turn leaves first all' before s turned files files' k stop e p t left grows is =
       let grown = λ (told : of.beneath.files.tells). all_grow_more p.world.side.files (of.beneath.files.bytes files)
       (of.beneath.files.bytes files') (p.ready.grown told) (grows told) in
+      let flight = in_flight p.world p.left (of.beneath.files.bytes files') leaves (KeepsChain t.stops)
+      (λ sure. ((t.stops_at sure).next, (t.stops_at sure).flight, λ k. t.kept k sure, left sure)) in
       rw is (record {
         done = p.done;
         left = p.left;
@@ -282,10 +310,9 @@ module _ {G A K : Type 0} (of : AllGhosts G A K) where
               (failed of (snapshot turned files' k)) p.losses t.losses p.went.rose
               (t.rose (of.link.faults k));
         };
-        flight = t.stops_at.next;
-        is_flight = within_flies t.stops t.within (of.beneath.files.bytes files') t.stops_at.next grown
-            t.stops_at.flight t.kept;
-        crash = left;
+        flight = flight.next;
+        is_flight = within_flies t.stops t.within (of.beneath.files.bytes files') flight.next grown flight.way flight.kept;
+        crash = λ sure. flight.crash (turns_sure p.turns ∙ sure);
       })
 
   -- an answer to the node was not sent
@@ -297,7 +324,7 @@ module _ {G A K : Type 0} (of : AllGhosts G A K) where
       → StoppedSending of.link.tells t.next outs.messages stop turned (of.link.trace k) (of.link.faults k)
       later
       (of.link.trace k') (of.link.faults k')
-      → leaves p.world.side.chain t.next.side.chain
+      → (IsSure t.next.side → leaves p.world.side.chain t.next.side.chain)
       → Stopped of leaves first all' stop before (snapshot later files' k')
   stopped_sending leaves first all' before s turned later files files' k k' outs stop p t d crash =
       let alone = both_of_link d.losses d.last
@@ -330,5 +357,5 @@ module _ {G A K : Type 0} (of : AllGhosts G A K) where
         };
         flight = t.next.side.chain;
         is_flight = refl;
-        crash = crash;
+        crash = λ sure. crash (turn_sure of.beneath.files p.world outs t.losses t.next t.done t.turn ∙ turns_sure p.turns ∙ sure);
       }

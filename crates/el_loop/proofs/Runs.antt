@@ -1,5 +1,5 @@
 -- A run, one arrival after the other.
-use Rattle.std.proofs.Common.{◌≡◌, inl, inr, ℕ, ◌+◌, ◌<◌, ◌==◌, Bool, true, false, List, [], ◌∷◌, ◌++◌, length, None, refl, sym, ◌∙◌, append-nil, arith, IsTrue, length-append, add-zero}
+use Rattle.std.proofs.Common.{◌≡◌, inl, inr, ℕ, ◌+◌, ◌<◌, ◌==◌, Bool, true, false, List, [], ◌∷◌, ◌++◌, length, None, refl, sym, ap, ◌∙◌, append-nil, arith, IsTrue, length-append, add-zero}
 use Rattle.std.proofs.lemmas.List.{map-append}
 use Rattle.el_base.proofs.Lists.{all_more}
 use Rattle.el_outside.specs.declared.archive.Archive as archive
@@ -14,7 +14,9 @@ use Rattle.el_outside.proofs.Traces.{goes_none, goes_more, rose_more, rose_none,
 use Rattle.el_chain.specs.Chains.{Chain}
 use Rattle.el_world.specs.World.{World, new_session, after_hearing, events, without_node, without_client, AllTold}
 use Rattle.el_world.specs.Run.{Run, none, more, Stop, Halts}
+use Rattle.el_side.specs.Side.{Side, IsSure}
 use Rattle.el_world.proofs.LastTold.{run_last_told, halt_last_told}
+use Rattle.el_world.proofs.Sureness.{run_sure, heard_side}
 use Rattle.el_lines.proofs.Cuts.{either}
 use Rattle.el_core.specs.State.{State, Stands}
 use Rattle.el_core.specs.Arrivals.{IsAfterArrival}
@@ -161,7 +163,7 @@ module _ {G A K : Type 0} (of : AllGhosts G A K) where
     world = first;
     run = run_none of.beneath.files first node;
     told = rw nobody refl;
-    statuses = rw nobody tt;
+    statuses = λ sure. rw nobody tt;
     stood = stood;
     none_ends = tt;
     counted = refl;
@@ -260,8 +262,8 @@ module _ {G A K : Type 0} (of : AllGhosts G A K) where
           last = record { front = g.arrivals; last = a; whole = refl; before = g.none_ends };
           flight = f.flight;
           is_flight = f.is_flight;
-          acknowledged = halt_last_told nobody halts;
-          crash = f.crash;
+          acknowledged = λ sure. halt_last_told nobody sure halts;
+          crash = λ sure. f.crash (run_sure g.run ∙ sure);
         },
       )
 
@@ -275,7 +277,7 @@ module _ {G A K : Type 0} (of : AllGhosts G A K) where
     pub world : World
     pub run : Run of.beneath.files first (taken node (front ++ a ∷ [])) messages closings losses world
     pub told : AllTold world
-    pub statuses : StatusesAreTold world
+    pub statuses : IsSure first.side → StatusesAreTold world
     pub stood : Stands of.beneath.ledger.stands now.server world []
     pub none_ends : NoneEnds front
     pub counted : length front ≡ count
@@ -302,7 +304,7 @@ module _ {G A K : Type 0} (of : AllGhosts G A K) where
         (more (taken node g.arrivals) g.messages g.closings g.losses g.world (taken_one node a) f.messages
         f.closings f.losses f.world g.run f.turns f.still f.told);
     told = f.told;
-    statuses = f.statuses;
+    statuses = λ sure. f.statuses (ap (λ (s : Side). s.sure) (heard_side (taken_one node a) g.world) ∙ run_sure g.run ∙ sure);
     stood = f.stood;
     none_ends = g.none_ends;
     counted = g.counted;
@@ -365,8 +367,8 @@ module _ {G A K : Type 0} (of : AllGhosts G A K) where
           turns = let h = f.counted in simp length-append (omega arith);
           rose = rw (append-nil f.losses) f.went.rose;
         };
-        acknowledged = run_last_told nobody f.run;
-        crash = own f.world.side.chain f.stood.chain;
+        acknowledged = λ sure. run_last_told nobody sure f.run;
+        crash = λ sure. own f.world.side.chain (f.stood.chain (run_sure f.run ∙ sure));
       },
       record { front = f.front; last = a; whole = refl; before = f.none_ends; ends = stop },
     ),
@@ -393,8 +395,8 @@ module _ {G A K : Type 0} (of : AllGhosts G A K) where
           turns = let h = g.counted in omega arith;
           rose = rw (append-nil g.losses) g.went.rose;
         };
-        acknowledged = run_last_told nobody g.run;
-        crash = own g.world.side.chain g.stood.chain;
+        acknowledged = λ sure. run_last_told nobody sure g.run;
+        crash = λ sure. own g.world.side.chain (g.stood.chain (run_sure g.run ∙ sure));
       },
       g.none_ends,
       g.counted ∙ spent,
@@ -430,8 +432,8 @@ module _ {G A K : Type 0} (of : AllGhosts G A K) where
               g.went.rose (rose_next (of.link.faults mid.link) (of.link.faults k) (of.beneath.files.faults mid.files)
               (of.beneath.ledger.faults mid.server.ledger) rose);
         };
-        acknowledged = run_last_told nobody g.run;
-        crash = own g.world.side.chain g.stood.chain;
+        acknowledged = λ sure. run_last_told nobody sure g.run;
+        crash = λ sure. own g.world.side.chain (g.stood.chain (run_sure g.run ∙ sure));
       },
       g.none_ends,
     ),

@@ -13,7 +13,7 @@ use Rattle.el_lines.specs.declared.node_answer.NodeAnswer.{NodeAnswer}
 use Rattle.el_subs.specs.Told.{status}
 use Rattle.el_subs.specs.Notices.{notices}
 use Rattle.el_side.specs.Side.{Side}
-use Rattle.el_world.specs.World.{World, Session, Event, joins, leaves, says, orders, Outs, IsLed, Takes, Replied, replied, starved, uncounted, Notifies, tells as is_told, fails, told, begun, outs_of_telling, with_session, is_peer, is_client, without_client, client_limit}
+use Rattle.el_world.specs.World.{World, Session, Event, joins, leaves, says, orders, Outs, IsLed, Takes, Replied, replied, starved, uncounted, Notifies, tells as is_told, fails, unsure, told, begun, outs_of_telling, texts_to, with_session, is_peer, is_client, without_client, client_limit}
 use Rattle.el_outside.specs.Devices.{Device}
 use Rattle.el_world.specs.Run.{OneTurn, takes, works, notifies, departs}
 use Rattle.el_lines.proofs.Cuts.{either}
@@ -57,6 +57,13 @@ by_telling : (world : World) (session : Session) (outs : Outs) (next : World) �
 by_telling world session outs next outs_is next_is = record {
   none = rw outs_is refl;
   same = rw next_is (peers_with world.sessions session.peer (told world session) refl);
+}
+
+by_texts : (world : World) (session now : Session) (texts : List (List ℕ)) (outs : Outs) (next : World) → outs ≡ texts_to session.peer texts → now.peer ≡ session.peer
+    → next ≡ with_session session.peer now world → Quietly world outs next
+by_texts world session now texts outs next outs_is peer next_is = record {
+  none = rw outs_is refl;
+  same = rw next_is (peers_with world.sessions session.peer now peer);
 }
 
 -- a client is closed
@@ -178,6 +185,8 @@ by_notice trace world outs losses next (is_told session is outs_is next_is lossl
 by_notice trace world outs losses next (fails session is outs_is next_is lost) are =
     shut trace world session.peer why.Disk outs next (who_is_client world.sessions _ session is)
     (ap (λ (o : Outs). o.closing) outs_is) next_is are
+by_notice trace world outs losses next (unsure un session texts now is all' stays outs_is next_is lossless) are =
+    quiet_after trace world outs next (by_texts world session (record session { client = now; waits = false }) texts outs next outs_is refl next_is) are
 
 pub after_turn : {G A : Type 0} (stands : G → Chain → Type 0) (of_files : archive.Ghosts A) (trace : Trace)
     (s : State G)
@@ -306,6 +315,8 @@ stays_told world outs losses next q (is_told session is outs_is next_is lossless
 stays_told world outs losses next q (fails session is outs_is next_is lost) =
     stays_apart world outs next session.peer q why.Disk (who_is_client world.sessions _ session is)
     (ap (λ (o : Outs). o.closing) outs_is) next_is
+stays_told world outs losses next q (unsure un session texts now is all' stays outs_is next_is lossless) =
+    stays_by world outs next q (by_texts world session (record session { client = now; waits = false }) texts outs next outs_is refl next_is)
 
 -- Where a client too many waits after a turn, it waited before, and stays as it was.
 pub still_waiting : {G A : Type 0} (stands : G → Chain → Type 0) (of_files : archive.Ghosts A)
@@ -389,6 +400,8 @@ notice_to_one world outs losses next (is_told session is outs_is next_is lossles
     let told = notices (status world.side.chain world.side.kept) world.before world.side.chain session.client in
     (session.peer, rw outs_is (all_to session.peer told))
 notice_to_one world outs losses next (fails session is outs_is next_is lost) = (0, rw outs_is tt)
+notice_to_one world outs losses next (unsure un session texts now is all' stays outs_is next_is lossless) =
+    (session.peer, rw outs_is (all_to session.peer texts))
 
 pub turn_to_one : {A : Type 0} (of_files : archive.Ghosts A) (world : World) (done : List Event)
     (outs : Outs) (losses : List Device) (next : World) → OneTurn of_files world done outs losses next → ToOne outs

@@ -7,6 +7,7 @@ use Rattle.el_outside.specs.declared.archive.Archive as archive
 use Rattle.el_outside.specs.declared.link.Link as links
 use Rattle.el_outside.specs.Trace.{Trace, GoesOn, ArrivalWithBytes, opened, brought, closed, quiet, ended}
 use Rattle.el_chain.specs.Chains.{Chain}
+use Rattle.el_side.specs.Side.{IsSure}
 use Rattle.el_subs.specs.Told.{AllTold, status}
 use Rattle.el_world.specs.World.{World, Session, without_node}
 use Rattle.el_outside.specs.Devices.{Device, link}
@@ -79,18 +80,19 @@ StatusesAreTold world = AllByRecursion
 -- The traffic is that of a run from the first world, all turns of which were made. `of_files` is what the
 -- type of the block files says of them, and `files` are their bytes as they are in the end. `leaves` says of
 -- two chains that all that a crash may leave in the end stands for the one, which is acknowledged, or for the
--- other, which is in flight; acknowledged is the one that the node was told last.
+-- other, which is in flight; acknowledged is the one that the node was told last. What is said of chains is said
+-- where the side of the first world is sure.
 pub record IsRun {A : Type 0} (of_files : archive.Ghosts A) (first : World) (node : Bool)
     (leaves : Chain → Chain → Type 0) (files : ℕ → List ℕ) (c : Counts) (t : Trace) (failed : List Device)
     : Type 0 where
   pub losses : List Device
   pub world : World
   pub run : Run of_files first (taken node t.arrivals) t.messages t.closings losses world
-  pub statuses : StatusesAreTold world
+  pub statuses : IsSure first.side → StatusesAreTold world
   pub grown : of_files.tells → AllGrow world.side.files files
   pub counted : IsCounted c t losses failed
-  pub acknowledged : IsLastTold first.side.chain t.messages world.side.chain
-  pub crash : leaves world.side.chain world.side.chain
+  pub acknowledged : IsSure first.side → IsLastTold first.side.chain t.messages world.side.chain
+  pub crash : IsSure first.side → leaves world.side.chain world.side.chain
 
 -- The traffic is that of a run that stopped so in its last arrival. `files` are the block files as they are
 -- in the end: they have all that each turn had of them.
@@ -104,8 +106,8 @@ pub record IsHalted {A : Type 0} (of_files : archive.Ghosts A) (first : World) (
   pub last : NoneEndsBefore t.arrivals
   pub flight : Chain
   pub is_flight : Flies halts.stops files flight
-  pub acknowledged : IsLastTold first.side.chain t.messages (acked halts.stops)
-  pub crash : leaves (acked halts.stops) flight
+  pub acknowledged : IsSure first.side → IsLastTold first.side.chain t.messages (acked halts.stops)
+  pub crash : IsSure first.side → leaves (acked halts.stops) flight
 
 -- How a run ends.
 abbrev pub RunEnds : {A : Type 0} → archive.Ghosts A → World → Bool → (Chain → Chain → Type 0)

@@ -1,5 +1,5 @@
 // A run from a ledger.
-ghost use Rattle.std.specs.Prelude.{◌≡◌};
+ghost use Rattle.std.specs.Prelude.{◌≡◌, Bool, true};
 ghost use Rattle.el_outside.specs.Files.{AllGrow};
 ghost use Rattle.el_outside.specs.Trace.{Trace};
 ghost use Rattle.el_chain.specs.Chains.{Chain};
@@ -34,10 +34,11 @@ pub fn serve_from<W: Threads + Sync, G: Ledger, A: Archive, K: Link>(
     options: RunOptions,
 ) -> (End, G)
     requires live { G.is_live ledger }
-    // What was sent and closed is a run from the chain that the ledger stands for, and so it ends.
-    ensures ends { (chain : Chain) → G.stands ledger chain → (traffic : Trace)
+    // What was sent and closed is a run from the chain that the ledger stands for, and so it ends. It is a run
+    // from a side that is unsure whatever the ledger stands for.
+    ensures ends { (sure : Bool) (chain : Chain) → (sure ≡ true → G.stands ledger chain) → (traffic : Trace)
         × WentBy ⟦<K as Link>⟧ link.old link.new traffic
-        × RunEnds ⟦<A as Archive>⟧ (initial_world chain options.magic options.limits tree
+        × RunEnds ⟦<A as Archive>⟧ (initial_world sure chain options.magic options.limits tree
         (A.bytes archive.old)) options.node
         (LeavesEither G.tells_crash G.means G.moment G.left_since result.1)
         (A.bytes archive.new) (counts_of G.faults ⟦<A as Archive>⟧ ⟦<K as Link>⟧ options.turns

@@ -53,6 +53,15 @@ TellsNoFiles (Err stop.Archive) = ⊥
 TellsNoFiles (Err stop.Changed) = ⊥
 TellsNoFiles (Err stop.Memory) = ⊤
 
+-- A call is refused for these reasons alone.
+abbrev pub RefusesOnly : {T : Type 0} → (Refusal → Type 0) → Result T Stop → Type 0
+RefusesOnly may (Ok answer) = ⊤
+RefusesOnly may (Err (stop.Refused r)) = may r
+RefusesOnly may (Err stop.Disk) = ⊤
+RefusesOnly may (Err stop.Archive) = ⊤
+RefusesOnly may (Err stop.Changed) = ⊤
+RefusesOnly may (Err stop.Memory) = ⊤
+
 -- An answer can be printed: none of its numbers is a float.
 abbrev pub IsPrintableAnswer : {E : Type 0} → Result Data E → Type 0
 IsPrintableAnswer (Ok found) = IsPrintable found

@@ -1,5 +1,5 @@
 -- What each call is answered (Electrum Protocol 1.4): the table of methods.
-use Rattle.std.specs.Prelude.{◌≡◌, ◌≢◌, ⊤, negsuc, Bool, true, false, if◌then◌else◌, List, [], Option, None, Some, Result, Ok, Err, codes}
+use Rattle.std.specs.Prelude.{◌≡◌, ◌≢◌, ◌⊎◌, ⊤, negsuc, Bool, true, false, not, if◌then◌else◌, List, [], Option, None, Some, Result, Ok, Err, OnErr, codes}
 use Rattle.serde_json.specs.Data.{Data, null, boolean, number, string, array, no_items, item}
 use Rattle.serde_json.specs.Find.{of_integer}
 use Rattle.el_base.specs.declared.hash.Hash32.{Hash32}
@@ -11,7 +11,9 @@ use Rattle.el_model.specs.Queries.{find_tx}
 use Rattle.el_view.specs.Views.{balance}
 use Rattle.el_methods.specs.Results as result
 use Rattle.el_methods.specs.Results.{whole, hex, balance_value}
-use Rattle.el_methods.specs.Outcomes.{IsReplyWith, TellsNoFiles}
+use Rattle.el_side.specs.Side.{Side, IsSure}
+use Rattle.el_methods.specs.Archives.{HasAsked}
+use Rattle.el_methods.specs.Outcomes.{IsReplyWith, RefusesOnly, TellsNoFiles}
 use Rattle.el_methods.specs.declared.stop.Stop.{Stop}
 use Rattle.el_methods.specs.declared.stop.Stop.TheVariants as stop
 use Rattle.el_calls.specs.Versions.{is_shared}
@@ -89,6 +91,43 @@ replied chain kept found s (call.IdFromPos height pos merkle) =
     with_session s (result.id_from_pos chain height pos merkle)
 replied chain kept found s call.FeeHistogram = Ok (array no_items, s)
 
+-- the answer is read from the chain or from the unconfirmed set
+abbrev pub reads_chain : Call → Bool
+reads_chain (call.BlockHeader height cp_height) = true
+reads_chain (call.BlockHeaders start count cp_height) = true
+reads_chain call.HeadersSubscribe = true
+reads_chain (call.GetBalance script_hash) = true
+reads_chain (call.GetHistory script_hash) = true
+reads_chain (call.GetMempool script_hash) = true
+reads_chain (call.ListUnspent script_hash) = true
+reads_chain (call.ScriptHashSubscribe script_hash) = true
+reads_chain (call.TransactionGet id verbose) = not verbose
+reads_chain (call.GetMerkle id height) = true
+reads_chain (call.IdFromPos height pos merkle) = true
+reads_chain c = false
+
+-- For which reasons such a call may be refused, whatever the chain and the unconfirmed set are.
+abbrev pub MayRefuse : Session → Call → Refusal → Type 0
+MayRefuse s (call.BlockHeader height cp_height) r =
+    (r ≡ refusal.NoSuchHeight) ⊎ (r ≡ refusal.BadCheckpoint)
+MayRefuse s (call.BlockHeaders start count cp_height) r = r ≡ refusal.BadCheckpoint
+MayRefuse s call.HeadersSubscribe r = r ≡ refusal.NoBlocks
+MayRefuse s (call.GetHistory script_hash) r = r ≡ refusal.HistoryTooLarge
+MayRefuse s (call.GetMempool script_hash) r = r ≡ refusal.HistoryTooLarge
+MayRefuse s (call.ListUnspent script_hash) r = r ≡ refusal.HistoryTooLarge
+MayRefuse s (call.ScriptHashSubscribe script_hash) r =
+    (r ≡ refusal.TooManySubscriptions) × (result.is_one_too_many s.subs script_hash ≡ true)
+MayRefuse s (call.TransactionGet id verbose) r = r ≡ refusal.NoSuchTransaction
+MayRefuse s (call.GetMerkle id height) r = (r ≡ refusal.NoSuchHeight) ⊎ (r ≡ refusal.NotInThatBlock)
+MayRefuse s (call.IdFromPos height pos merkle) r =
+    (r ≡ refusal.NoSuchHeight) ⊎ (r ≡ refusal.NoSuchPosition)
+MayRefuse s c r = ⊥
+
+-- the answer may be read from the block files
+abbrev pub may_read_files : Call → Bool
+may_read_files (call.TransactionGet id verbose) = not verbose
+may_read_files c = false
+
 -- the answer is read from the block files too
 abbrev pub reads_files : List Tx → Call → Bool
 reads_files kept (call.TransactionGet id verbose) = result.is_in_files kept id verbose
@@ -114,16 +153,30 @@ abbrev pub GivesOwn : Chain → Call → Result Data Stop → Type 0
 GivesOwn chain (call.TransactionGet id verbose) given = IsOwnAnswer chain id given
 GivesOwn chain c given = ⊤
 
--- A call is given this. It is as defined, unless it is read from the block files and they may not have the
--- transaction that is asked for; `has` is that they have what a call asks for. Where it is read from them,
--- what is kept of the client stays as it was in any case, and another transaction is never given, whatever
--- they hold. That a call of the block files failed, or that they have changed, is told only where it is read
--- from them, and that they have changed only where they lack what is asked for.
-pub record IsGiven (has : Call → Type 0) (chain : Chain) (kept : List Tx) (found : List Node) (c : Call)
-    (s t : Session) (given : Result Data Stop) : Type 0 where
-  pub of_index : reads_files kept c ≡ false → IsReplyWith (replied chain kept found s c) s t given
-  pub of_files : has c → IsReplyWith (replied chain kept found s c) s t given
-  pub own : reads_files kept c ≡ true → GivesOwn chain c given
-  pub still : reads_files kept c ≡ true → t ≡ s
-  pub untold : reads_files kept c ≡ false → TellsNoFiles given
-  pub unchanged : has c → given ≢ Err stop.Changed
+-- What the call asks for is there: the side is sure, and the block files tell that they have it.
+abbrev pub IsThere : Type 0 → Side → Call → Type 0
+IsThere tells side c = IsSure side × tells × HasAsked side.files side.chain c
+
+-- A call is given this over the side; `tells` is that the block files tell what they hold. Whatever the index
+-- stands for, a call that reads neither the chain nor the unconfirmed set is given what is defined, each other
+-- one is refused only as it may be, that block files failed or have changed is told only where the answer may
+-- be read from them, and where a call has no answer, what is kept of the client stays as it was. Over a sure
+-- side the answer is what is defined, unless it is read from the block files and they may not have the
+-- transaction that is asked for. Where it is read from them, what is kept of the client stays as it was in any
+-- case, and another transaction is never given, whatever they hold. That a call of the block files failed, or
+-- that they have changed, is told only where it is read from them, and that they have changed only where they
+-- lack what is asked for.
+pub record IsGiven (tells : Type 0) (side : Side) (c : Call) (s t : Session) (given : Result Data Stop)
+    : Type 0 where
+  pub of_server : reads_chain c ≡ false
+      → IsReplyWith (replied side.chain side.kept side.found s c) s t given
+  pub refusals : reads_chain c ≡ true → RefusesOnly (MayRefuse s c) given
+  pub alone : may_read_files c ≡ false → TellsNoFiles given
+  pub unanswered : OnErr given (t ≡ s)
+  pub of_index : IsSure side → reads_files side.kept c ≡ false
+      → IsReplyWith (replied side.chain side.kept side.found s c) s t given
+  pub of_files : IsThere tells side c → IsReplyWith (replied side.chain side.kept side.found s c) s t given
+  pub own : IsSure side → reads_files side.kept c ≡ true → GivesOwn side.chain c given
+  pub still : reads_files side.kept c ≡ true → t ≡ s
+  pub untold : IsSure side → reads_files side.kept c ≡ false → TellsNoFiles given
+  pub unchanged : IsThere tells side c → given ≢ Err stop.Changed

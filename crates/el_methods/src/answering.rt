@@ -1,5 +1,5 @@
 // The answer to a call.
-ghost use Rattle.std.specs.Prelude.{◌≡◌, ◌≢◌, ◌≤◌, ◌+◌, List, Err, IfOk, true, false, codes};
+ghost use Rattle.std.specs.Prelude.{◌≡◌, ◌≢◌, ◌≤◌, ◌+◌, List, Err, IfOk, OnErr, true, false, codes};
 ghost use Rattle.el_outside.specs.Counts.{RoseBy};
 ghost use Rattle.el_outside.specs.Files.{AllGrow};
 ghost use Rattle.el_tx.specs.declared.types.Tx as shape;
@@ -8,8 +8,8 @@ ghost use Rattle.el_mempool.specs.Standing.{StandsFor};
 ghost use Rattle.el_model.specs.LedgerCalls.{Asked};
 ghost use Rattle.el_methods.specs.Archives.{HasAsked};
 ghost use Rattle.el_methods.specs.RowBounds.{rows_of};
-ghost use Rattle.el_methods.specs.Outcomes.{IsReplyWith, IsCounted, IsDiskCounted, TellsNoFiles, IsPrintableAnswer};
-ghost use Rattle.el_methods.specs.Replied.{replied, reads_files, GivesOwn, agreed};
+ghost use Rattle.el_methods.specs.Outcomes.{IsReplyWith, IsCounted, IsDiskCounted, RefusesOnly, TellsNoFiles, IsPrintableAnswer};
+ghost use Rattle.el_methods.specs.Replied.{replied, reads_chain, reads_files, may_read_files, MayRefuse, GivesOwn, agreed};
 ghost use Rattle.el_sessions.specs.Sessions.{Edits};
 ghost use Rattle.el_methods.specs.declared.stop.Stop.TheVariants as stop;
 ghost use Rattle.serde_json.specs.Data.{array, item, no_items, string};
@@ -107,6 +107,12 @@ pub fn answer<G: Ledger, A: Archive>(
     ensures unchanged { (chain : Chain) → G.stands ledger.old chain → A.tells
         → HasAsked (A.bytes archive.new) chain call → result ≢ Err stop.Changed }
     ensures still { (kept : List shape.Tx) → reads_files kept call ≡ true → session.new ≡ session.old }
+    // Whatever the ledger and the unconfirmed set stand for.
+    ensures of_server { (chain : Chain) (kept : List shape.Tx) → reads_chain call ≡ false
+        → IsReplyWith (replied chain kept holdings.now.tree session.old call) session.old session.new result }
+    ensures refusals { reads_chain call ≡ true → RefusesOnly (MayRefuse session.old call) result }
+    ensures alone { may_read_files call ≡ false → TellsNoFiles result }
+    ensures unanswered { OnErr result (session.new ≡ session.old) }
     // No subscription is dropped, and new ones come last, whatever the ledger stands for.
     ensures edits { Edits session.old.subs session.new.subs }
     ensures printable { IsPrintableAnswer result }

@@ -1,16 +1,17 @@
 // Headers from a height on, and the header of the tip.
-ghost use Rattle.std.specs.Prelude.{◌≡◌, ◌+◌, ◌-◌, ◌^◌, ◌≤◌, ◌<◌, ◌||◌, ◌&&◌, min, nat_le, nat_lt, ℕ, IfOk, IfErr, MatchOption, Ok, length};
+ghost use Rattle.std.specs.Prelude.{◌≡◌, ◌+◌, ◌-◌, ◌^◌, ◌≤◌, ◌<◌, ◌||◌, ◌&&◌, min, nat_le, nat_lt, ℕ, IfOk, IfErr, OnErr, MatchOption, Ok, length};
 ghost use Rattle.el_outside.specs.Counts.{RoseBy};
 ghost use Rattle.el_chain.specs.Chains.{Chain};
 ghost use Rattle.el_model.specs.LedgerCalls.{Asked};
 ghost use Rattle.el_methods.specs.Results as defined;
 ghost use Rattle.el_methods.specs.Results.{header_count, headers_bytes};
 ghost use Rattle.el_methods.specs.RowBounds.{proof_rows};
-ghost use Rattle.el_methods.specs.Outcomes.{IsAnswer, IsReplyWith, IsDiskCounted, IsPrintableAnswer};
+ghost use Rattle.el_methods.specs.Outcomes.{IsAnswer, IsReplyWith, IsDiskCounted, RefusesOnly, IsPrintableAnswer};
 ghost use Rattle.el_model.specs.Queries.{hashes_to};
 ghost use Rattle.el_methods.specs.Results.{told_tip};
 ghost use Rattle.el_methods.specs.within.Tops.{blocks_of};
 ghost use Rattle.el_calls.specs.declared.refusal.Refusal as shape;
+ghost use Rattle.el_calls.specs.declared.refusal.Refusal.TheVariants as refusal;
 ghost use Rattle.el_methods.specs.declared.stop.Stop.TheVariants as stop;
 
 use crate::stop::Stop;
@@ -132,6 +133,7 @@ fn headers_plain<G: Ledger>(
     requires fits { start + count ≤ 2 ^ 32 }
     ensures answer { (chain : Chain) → G.stands ledger.old chain
         → IsAnswer (Ok (defined.headers_value count (headers_bytes chain start count))) result }
+    ensures refusals { RefusesOnly (λ r. ⊥) result }
     ensures printable { IsPrintableAnswer result }
     ensures rows { G.reads ledger.new ≤ G.reads ledger.old + count }
     ensures quiet { Asked ⟦<G as Ledger>⟧ ledger.old ledger.new }
@@ -162,6 +164,7 @@ fn headers_proved<G: Ledger>(
     ensures answer { (chain : Chain) → G.stands ledger.old chain
         → IsAnswer (Ok (defined.headers_among (hashes_to chain cp_height) (start + count - 1) count
         (headers_bytes chain start count))) result }
+    ensures refusals { RefusesOnly (λ r. ⊥) result }
     ensures printable { IsPrintableAnswer result }
     ensures rows { G.reads ledger.new ≤ G.reads ledger.old + (count + (cp_height + 1)) }
     ensures quiet { Asked ⟦<G as Ledger>⟧ ledger.old ledger.new }
@@ -198,6 +201,7 @@ pub fn block_headers<G: Ledger>(
     requires live { G.is_live ledger.old }
     ensures answer { (chain : Chain) → G.stands ledger.old chain
         → IsAnswer (defined.block_headers chain start_height count cp_height) result }
+    ensures refusals { RefusesOnly (λ r. r ≡ refusal.BadCheckpoint) result }
     ensures printable { IsPrintableAnswer result }
     ensures rows { (chain : Chain) → G.stands ledger.old chain
         → G.reads ledger.new ≤ G.reads ledger.old
@@ -241,6 +245,8 @@ pub fn headers_subscribe<G: Ledger>(
     requires live { G.is_live ledger.old }
     ensures answer { (chain : Chain) → G.stands ledger.old chain
         → IsReplyWith (told_tip (defined.headers_subscribe chain)) is_told.old is_told.new result }
+    ensures refusals { RefusesOnly (λ r. r ≡ refusal.NoBlocks) result }
+    ensures unanswered { OnErr result (is_told.new ≡ is_told.old) }
     ensures printable { IsPrintableAnswer result }
     ensures rows { G.reads ledger.new ≤ G.reads ledger.old + 1 }
     ensures quiet { Asked ⟦<G as Ledger>⟧ ledger.old ledger.new }

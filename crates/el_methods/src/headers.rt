@@ -1,5 +1,5 @@
 // Headers, and proofs of their heights.
-ghost use Rattle.std.specs.Prelude.{◌≡◌, ◌≤◌, ◌<◌, ◌+◌, ℕ, IfOk, IfSome, IfNone, MatchOption, ok_or, Ok, codes, length};
+ghost use Rattle.std.specs.Prelude.{◌≡◌, ◌⊎◌, ◌≤◌, ◌<◌, ◌+◌, ℕ, IfOk, IfSome, IfNone, MatchOption, ok_or, Ok, codes, length};
 ghost use Rattle.el_outside.specs.Counts.{RoseBy};
 ghost use Rattle.el_chain.specs.Chains.{Chain};
 ghost use Rattle.el_model.specs.LedgerCalls.{Asked};
@@ -7,7 +7,8 @@ ghost use Rattle.el_model.specs.Queries.{header_at, hashes_to};
 ghost use Rattle.el_methods.specs.Results as defined;
 ghost use Rattle.el_methods.specs.Results.{hex};
 ghost use Rattle.el_methods.specs.RowBounds.{proof_rows};
-ghost use Rattle.el_methods.specs.Outcomes.{IsAnswer, IsDiskCounted, IsPrintableAnswer};
+ghost use Rattle.el_calls.specs.declared.refusal.Refusal.TheVariants as refusal;
+ghost use Rattle.el_methods.specs.Outcomes.{IsAnswer, IsDiskCounted, RefusesOnly, IsPrintableAnswer};
 
 use crate::stop::Stop;
 use crate::texts::{hashes_of, hex_of, shown_of};
@@ -39,6 +40,7 @@ fn header_alone<G: Ledger>(alloc: Global, ledger: &mut G, height: u32) -> Result
     requires within { MatchOption (G.height ledger.old) ⊥ (λ top. height ≤ top) }
     ensures answer { (chain : Chain) → G.stands ledger.old chain
         → IsAnswer (defined.of_header chain height hex) result }
+    ensures refusals { RefusesOnly (λ r. ⊥) result }
     ensures printable { IsPrintableAnswer result }
     ensures rows { G.reads ledger.new ≤ G.reads ledger.old + 1 }
     ensures quiet { Asked ⟦<G as Ledger>⟧ ledger.old ledger.new }
@@ -85,6 +87,7 @@ fn header_among<G: Ledger>(
     requires below { height ≤ cp_height }
     ensures answer { (chain : Chain) → G.stands ledger.old chain
         → IsAnswer (Ok (defined.header_proof chain height cp_height header.now)) result }
+    ensures refusals { RefusesOnly (λ r. ⊥) result }
     ensures printable { IsPrintableAnswer result }
     ensures rows { G.reads ledger.new ≤ G.reads ledger.old + (cp_height + 1) }
     ensures quiet { Asked ⟦<G as Ledger>⟧ ledger.old ledger.new }
@@ -115,6 +118,7 @@ fn header_proved<G: Ledger>(
     requires below { height ≤ cp_height }
     ensures answer { (chain : Chain) → G.stands ledger.old chain
         → IsAnswer (defined.of_header chain height (defined.header_proof chain height cp_height)) result }
+    ensures refusals { RefusesOnly (λ r. ⊥) result }
     ensures printable { IsPrintableAnswer result }
     ensures rows { G.reads ledger.new ≤ G.reads ledger.old + (1 + (cp_height + 1)) }
     ensures quiet { Asked ⟦<G as Ledger>⟧ ledger.old ledger.new }
@@ -138,6 +142,7 @@ pub fn block_header<G: Ledger>(
     requires live { G.is_live ledger.old }
     ensures answer { (chain : Chain) → G.stands ledger.old chain
         → IsAnswer (defined.block_header chain height cp_height) result }
+    ensures refusals { RefusesOnly (λ r. (r ≡ refusal.NoSuchHeight) ⊎ (r ≡ refusal.BadCheckpoint)) result }
     ensures printable { IsPrintableAnswer result }
     ensures rows { G.reads ledger.new ≤ G.reads ledger.old + (1 + proof_rows cp_height) }
     ensures quiet { Asked ⟦<G as Ledger>⟧ ledger.old ledger.new }

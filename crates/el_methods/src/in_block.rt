@@ -1,12 +1,13 @@
 // Transactions by their places in a block.
-ghost use Rattle.std.specs.Prelude.{◌≡◌, ◌<◌, ◌≤◌, ◌+◌, ℕ, IfOk, IfSome, IfNone, length};
+ghost use Rattle.std.specs.Prelude.{◌≡◌, ◌⊎◌, ◌<◌, ◌≤◌, ◌+◌, ℕ, IfOk, IfSome, IfNone, length};
 ghost use Rattle.el_outside.specs.Counts.{RoseBy};
 ghost use Rattle.el_chain.specs.Chains.{Chain};
 ghost use Rattle.el_model.specs.LedgerCalls.{Asked};
 ghost use Rattle.el_model.specs.Queries.{txids_at};
 ghost use Rattle.el_methods.specs.Results as defined;
 ghost use Rattle.el_methods.specs.RowBounds.{ids_rows};
-ghost use Rattle.el_methods.specs.Outcomes.{IsAnswer, IsDiskCounted, IsPrintableAnswer};
+ghost use Rattle.el_calls.specs.declared.refusal.Refusal.TheVariants as refusal;
+ghost use Rattle.el_methods.specs.Outcomes.{IsAnswer, IsDiskCounted, RefusesOnly, IsPrintableAnswer};
 
 use crate::headers::height_within;
 use crate::stop::Stop;
@@ -56,6 +57,7 @@ pub fn get_merkle<G: Ledger>(
     requires live { G.is_live ledger.old }
     ensures answer { (chain : Chain) → G.stands ledger.old chain
         → IsAnswer (defined.get_merkle chain id.now height) result }
+    ensures refusals { RefusesOnly (λ r. (r ≡ refusal.NoSuchHeight) ⊎ (r ≡ refusal.NotInThatBlock)) result }
     ensures printable { IsPrintableAnswer result }
     ensures rows { (chain : Chain) → G.stands ledger.old chain
         → G.reads ledger.new ≤ G.reads ledger.old + ids_rows (txids_at chain height) }
@@ -122,6 +124,7 @@ pub fn id_from_pos<G: Ledger>(
     requires live { G.is_live ledger.old }
     ensures answer { (chain : Chain) → G.stands ledger.old chain
         → IsAnswer (defined.id_from_pos chain height tx_pos merkle) result }
+    ensures refusals { RefusesOnly (λ r. (r ≡ refusal.NoSuchHeight) ⊎ (r ≡ refusal.NoSuchPosition)) result }
     ensures printable { IsPrintableAnswer result }
     ensures rows { (chain : Chain) → G.stands ledger.old chain
         → G.reads ledger.new ≤ G.reads ledger.old + ids_rows (txids_at chain height) }

@@ -12,7 +12,8 @@ ghost use Rattle.el_methods.specs.Results as defined;
 ghost use Rattle.el_methods.specs.Results.{both_values};
 ghost use Rattle.el_view.specs.Rows.{script_rows, history_rows, unspent_rows};
 ghost use Rattle.el_methods.specs.within.Lengths.{are_too_many};
-ghost use Rattle.el_methods.specs.Outcomes.{IsAnswer, IsDiskCounted, IsPrintableAnswer};
+ghost use Rattle.el_calls.specs.declared.refusal.Refusal.TheVariants as refusal;
+ghost use Rattle.el_methods.specs.Outcomes.{IsAnswer, IsDiskCounted, RefusesOnly, IsPrintableAnswer};
 
 use crate::limits::ENTRY_LIMIT;
 use crate::stop::Stop;
@@ -48,6 +49,7 @@ pub fn get_balance<G: Ledger>(
     ensures answer { (chain : Chain) (kept : List shape.Tx) → G.stands ledger.old chain
         → StandsFor pool.now.entries chain kept
         → IsAnswer (Ok (defined.balance_value (view.balance chain kept s.now.0))) result }
+    ensures refusals { RefusesOnly (λ r. ⊥) result }
     ensures printable { IsPrintableAnswer result }
     ensures rows { (chain : Chain) → G.stands ledger.old chain
         → G.reads ledger.new ≤ G.reads ledger.old + script_rows chain (G.buckets ledger.old) s.now.0 }
@@ -141,6 +143,7 @@ pub fn get_history<G: Ledger>(
     ensures answer { (chain : Chain) (kept : List shape.Tx) → G.stands ledger.old chain
         → StandsFor pool.now.entries chain kept
         → IsAnswer (defined.get_history chain kept s.now.0) result }
+    ensures refusals { RefusesOnly (λ r. r ≡ refusal.HistoryTooLarge) result }
     ensures printable { IsPrintableAnswer result }
     ensures rows { (chain : Chain) → G.stands ledger.old chain
         → G.reads ledger.new ≤ G.reads ledger.old + history_rows chain (G.buckets ledger.old) s.now.0 }
@@ -173,6 +176,7 @@ fn pool_entries_value(alloc: Global, entries: &[PoolEntry]) -> Result<Answer, Ou
 pub fn get_mempool(alloc: Global, pool: &Pool, s: &Hash32) -> Result<Answer, Stop>
     ensures answer { (chain : Chain) (kept : List shape.Tx) → StandsFor pool.now.entries chain kept
         → IsAnswer (defined.get_mempool chain kept s.now.0) result }
+    ensures refusals { RefusesOnly (λ r. r ≡ refusal.HistoryTooLarge) result }
     ensures printable { IsPrintableAnswer result }
     ensures counted { IsDiskCounted (λ n. n ≡ 0) result }
 {
@@ -223,6 +227,7 @@ pub fn list_unspent<G: Ledger>(
     ensures answer { (chain : Chain) (kept : List shape.Tx) → G.stands ledger.old chain
         → StandsFor pool.now.entries chain kept
         → IsAnswer (defined.list_unspent chain kept s.now.0) result }
+    ensures refusals { RefusesOnly (λ r. r ≡ refusal.HistoryTooLarge) result }
     ensures printable { IsPrintableAnswer result }
     ensures rows { (chain : Chain) → G.stands ledger.old chain
         → G.reads ledger.new ≤ G.reads ledger.old + unspent_rows chain (G.buckets ledger.old) s.now.0 }

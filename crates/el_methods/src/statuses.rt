@@ -1,14 +1,15 @@
 // Subscriptions to the statuses of script hashes.
-ghost use Rattle.std.specs.Prelude.{◌≡◌, ◌+◌, ◌≤◌, List, IfOk};
+ghost use Rattle.std.specs.Prelude.{◌≡◌, ◌+◌, ◌≤◌, true, List, IfOk, OnErr};
 ghost use Rattle.el_outside.specs.Counts.{RoseBy};
 ghost use Rattle.el_tx.specs.declared.types.Tx as shape;
 ghost use Rattle.el_chain.specs.Chains.{Chain};
 ghost use Rattle.el_mempool.specs.Standing.{StandsFor};
 ghost use Rattle.el_model.specs.LedgerCalls.{Asked};
 ghost use Rattle.el_methods.specs.Results as defined;
-ghost use Rattle.el_methods.specs.Results.{told};
+ghost use Rattle.el_methods.specs.Results.{told, is_one_too_many};
 ghost use Rattle.el_view.specs.Rows.{history_rows};
-ghost use Rattle.el_methods.specs.Outcomes.{IsReplyWith, IsDiskCounted, IsPrintableAnswer};
+ghost use Rattle.el_methods.specs.Outcomes.{IsReplyWith, IsDiskCounted, RefusesOnly, IsPrintableAnswer};
+ghost use Rattle.el_calls.specs.declared.refusal.Refusal.TheVariants as refusal;
 ghost use Rattle.el_sessions.specs.Sessions.{Edits};
 
 use crate::stop::Stop;
@@ -49,6 +50,9 @@ pub fn script_hash_subscribe<G: Ledger>(
         → StandsFor pool.now.entries chain kept
         → IsReplyWith (defined.script_hash_subscribe chain kept subs.old s) subs.old subs.new result }
     ensures edits { Edits subs.old subs.new }
+    ensures refusals { RefusesOnly (λ r. (r ≡ refusal.TooManySubscriptions)
+        × (is_one_too_many subs.old s ≡ true)) result }
+    ensures unanswered { OnErr result (subs.new ≡ subs.old) }
     ensures printable { IsPrintableAnswer result }
     ensures rows { (chain : Chain) → G.stands ledger.old chain
         → G.reads ledger.new ≤ G.reads ledger.old + history_rows chain (G.buckets ledger.old) s.0 }

@@ -14,7 +14,7 @@ ghost use Rattle.el_methods.specs.Replied.{IsTextOf, IsOwnAnswer};
 ghost use Rattle.el_mempool.specs.Standing.{StandsFor};
 ghost use Rattle.el_tx.specs.declared.types.Tx as tx_shape;
 ghost use Rattle.el_methods.specs.Archives.{HasTransaction, HasChanged};
-ghost use Rattle.el_methods.specs.Outcomes.{IsAnswer, IsCounted, IsDiskCounted, TellsNoFiles, IsPrintableAnswer};
+ghost use Rattle.el_methods.specs.Outcomes.{IsAnswer, IsCounted, IsDiskCounted, RefusesOnly, TellsNoFiles, IsPrintableAnswer};
 ghost use Rattle.el_methods.specs.declared.stop.Stop.TheVariants as stop;
 ghost use Rattle.el_calls.specs.declared.refusal.Refusal as shape;
 ghost use Rattle.el_calls.specs.declared.refusal.Refusal.TheVariants as refusal;
@@ -40,6 +40,7 @@ fn spot_of<G: Ledger>(ledger: &mut G, id: &Hash32) -> Result<Spot, Stop>
     ensures none { (chain : Chain) → G.stands ledger.old chain
         → IfErr result (λ e. (r : shape.Refusal) → e ≡ stop.Refused r
         → (r ≡ refusal.NoSuchTransaction) × (find_tx chain id.now ≡ None)) }
+    ensures refusals { RefusesOnly (λ r. r ≡ refusal.NoSuchTransaction) result }
     ensures rows { (chain : Chain) → G.stands ledger.old chain
         → G.reads ledger.new ≤ G.reads ledger.old
         + (2 + txs_in_bucket chain (G.buckets ledger.old) id.now.0) }
@@ -67,6 +68,7 @@ fn text_of<A: Archive>(
     ensures never { IfErr result (λ e. (r : shape.Refusal) → e ≡ stop.Refused r → ⊥) }
     ensures changed { A.tells → IfErr result (λ e. e ≡ stop.Changed
         → HasChanged spot.now id (seen ⟦<A as Archive>⟧ archive.new spot.now.place.file)) }
+    ensures refusals { RefusesOnly (λ r. ⊥) result }
     ensures printable { IsPrintableAnswer result }
     ensures grows { A.tells → AllGrow (A.bytes archive.old) (A.bytes archive.new) }
     ensures counted { IsCounted (λ n. n ≡ 0)
@@ -100,6 +102,7 @@ fn confirmed_get<G: Ledger, A: Archive>(
     ensures changed { (chain : Chain) → G.stands ledger.old chain → A.tells
         → IfErr result (λ e. e ≡ stop.Changed → (spot : place.Spot) × (find_tx chain id ≡ Some spot)
         × HasChanged spot id (seen ⟦<A as Archive>⟧ archive.new spot.place.file)) }
+    ensures refusals { RefusesOnly (λ r. r ≡ refusal.NoSuchTransaction) result }
     ensures printable { IsPrintableAnswer result }
     ensures rows { (chain : Chain) → G.stands ledger.old chain
         → G.reads ledger.new ≤ G.reads ledger.old + (2 + txs_in_bucket chain (G.buckets ledger.old) id.0) }
@@ -119,6 +122,7 @@ fn confirmed_get<G: Ledger, A: Archive>(
 fn kept_text(alloc: Global, found: &KeptTx) -> Result<Answer, Stop>
     ensures text { IfOk result (λ a. a ≡ hex found.now.bytes) }
     ensures stops { IfErr result (λ e. e ≡ stop.Memory) }
+    ensures refusals { RefusesOnly (λ r. ⊥) result }
     ensures printable { IsPrintableAnswer result }
     ensures counted { IsCounted (λ n. n ≡ 0) (λ n. n ≡ 0) result }
 {
@@ -157,6 +161,8 @@ pub fn transaction_get<G: Ledger, A: Archive>(
     ensures changed { (chain : Chain) → G.stands ledger.old chain → A.tells
         → IfErr result (λ e. e ≡ stop.Changed → (spot : place.Spot) × (find_tx chain id ≡ Some spot)
         × HasChanged spot id (seen ⟦<A as Archive>⟧ archive.new spot.place.file)) }
+    ensures refusals { verbose ≡ false → RefusesOnly (λ r. r ≡ refusal.NoSuchTransaction) result }
+    ensures verbose { verbose ≡ true → result ≡ Err (stop.Refused refusal.VerboseNotServed) }
     ensures printable { IsPrintableAnswer result }
     ensures rows { (chain : Chain) → G.stands ledger.old chain
         → G.reads ledger.new ≤ G.reads ledger.old + (2 + txs_in_bucket chain (G.buckets ledger.old) id.0) }

@@ -1,8 +1,8 @@
 -- How a check ends.
-use Rattle.std.proofs.Common.{◌≡◌, ◌≢◌, ◌⊎◌, inl, inr, ℕ, ◌≤◌, List, [], ◌∷◌, length, refl, sym, subst, arith, Some}
+use Rattle.std.proofs.Common.{◌≡◌, ◌≢◌, ◌⊎◌, inl, inr, ℕ, ◌≤◌, List, [], ◌∷◌, length, refl, sym, ◌∙◌, subst, arith, Some, Err}
 use Rattle.el_outside.specs.declared.disk.Disk as disks
 use Rattle.el_outside.specs.declared.link.Link as links
-use Rattle.el_outside.specs.Counts.{RoseBy}
+use Rattle.el_outside.specs.Counts.{RoseBy, CountsOnly}
 use Rattle.el_outside.specs.Devices.{Device, link, archive, disk, Faults, faults, failures, Rose}
 use Rattle.el_outside.specs.Disk.{Image}
 use Rattle.el_outside.specs.Moments.{LeftNow}
@@ -21,10 +21,13 @@ use Rattle.el_words.specs.declared.words.ServeWords.{ServeWords}
 use Rattle.el_words.proofs.OneCommand.{one_command}
 use Rattle.el_loop.specs.Counts.{counts, HasRisen}
 use Rattle.el_loop.specs.Runs.{WentBy, no_traffic}
+use Rattle.el_model.specs.declared.fault.QueryFault.{QueryFault}
+use Rattle.el_model.specs.declared.fault.QueryFault.TheVariants as query
 use Rattle.el_program.specs.Checks.{SummaryEnds}
 use Rattle.el_program.specs.Statuses.{failed_device, ShowsCause}
 use Rattle.el_program.specs.declared.status.Status.{Status}
 use Rattle.el_program.specs.declared.status.Status.TheVariants as status
+use Rattle.el_program.specs.within.Unread.{check_status}
 
 -- words are those of one command alone, and say one number
 pub serve_no_check : {words : List (List ℕ)} {said : ServeWords} {count : ℕ} → IsServeOf words said → IsCheckOf words count → ⊥
@@ -140,6 +143,40 @@ check_caused turns calls calls' a a' b d d' s same more_link more_disk no_turns 
 
 pub risen_by : (a b : ℕ) → RoseBy a b 1 → (a ≤ b) × HasRisen a b
 risen_by a b r = (omega arith, omega arith)
+
+-- where a summary was there to be sent
+pub sent_caused : (turns calls calls' a a' b d d' : ℕ) (s : Status)
+    → (s ≡ status.Ended) ⊎ ((s ≡ status.LinkFailed) ⊎ (s ≡ status.OutOfMemory))
+    → (s ≡ status.LinkFailed → RoseBy a a' 1) → (s ≢ status.LinkFailed → a' ≡ a) → calls' ≡ calls → d' ≡ d
+    → ShowsCause (counts turns calls calls' (faults a b d) (faults a' b d')) s
+sent_caused turns calls calls' a a' b d d' s is counted uncounted same still = elim is [
+  | inl e ↦
+      let x = uncounted (λ f. let g = sym e in let h = f in cc) in
+      rw e (check_caused turns calls calls' a a' b d d' status.Ended same (omega arith) (omega arith) (λ f. cc)
+      (λ f. cc) (λ f. absurd cc) (λ f. absurd cc))
+  | inr (inl e) ↦
+      let r = risen_by a a' (counted e) in
+      rw e (check_caused turns calls calls' a a' b d d' status.LinkFailed same r.0 (omega arith) (λ f. cc)
+      (λ f. cc) (λ f. r.1) (λ f. absurd cc))
+  | inr (inr e) ↦
+      let x = uncounted (λ f. let g = sym e in let h = f in cc) in
+      rw e (check_caused turns calls calls' a a' b d d' status.OutOfMemory same (omega arith) (omega arith)
+      (λ f. cc) (λ f. cc) (λ f. absurd cc) (λ f. absurd cc))
+]
+
+-- a check that stops ends in one of two ways
+pub check_ends : (e : QueryFault) → (check_status e ≡ status.DiskFailed) ⊎ (check_status e ≡ status.OutOfMemory)
+check_ends query.DiskFailed = inl refl
+check_ends query.Memory = inr refl
+
+-- and by a failed call exactly in the first of them
+pub check_counts : {T : Type 0} (low high before after : ℕ) (e : QueryFault) → before ≡ low → after ≡ high
+    → CountsOnly {T = T} before after query.DiskFailed (Err e)
+    → (check_status e ≡ status.DiskFailed → RoseBy low high 1) × (check_status e ≢ status.DiskFailed → high ≡ low)
+check_counts {T} low high before after query.DiskFailed one other k =
+    (λ e. rw (sym one, sym other) (k.counted refl), λ apart. absurd (apart refl))
+check_counts {T} low high before after query.Memory one other k =
+    (λ e. absurd cc, λ apart. let same = k.others_uncounted (λ f. cc) in sym other ∙ same ∙ one)
 
 -- a new disk in memory is fresh
 none_long : (xs : List ℕ) → length xs ≤ 0 → xs ≡ []

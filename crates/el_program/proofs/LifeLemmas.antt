@@ -1,5 +1,5 @@
 -- Lives follow each other.
-use Rattle.std.proofs.Common.{Bool, true, ◌≡◌, ◌⊎◌, inl, inr, ℕ, List, [], ◌∷◌, length, refl, arith}
+use Rattle.std.proofs.Common.{Bool, true, true≢false, ◌≡◌, ◌⊎◌, inl, inr, ℕ, List, [], ◌∷◌, length, refl, arith}
 use Rattle.std.specs.List.{AllByRecursion}
 use Rattle.el_outside.specs.Trace.{Trace}
 use Rattle.el_outside.specs.declared.archive.Archive as archive
@@ -33,6 +33,7 @@ use Rattle.el_program.specs.IndexDisks.{ImageMeans, LeavesOneOf, IsIndexDisk}
 use Rattle.el_program.proofs.Checks.{serve_no_check}
 use Rattle.el_program.specs.Calls.{Call, CallEnds}
 use Rattle.el_program.specs.Ends.{serve, IndexEnds, UnopenedEnds, ServeEnds, IsServed}
+use Rattle.el_program.specs.Opened.{certain}
 use Rattle.el_program.specs.Lives.{IsLeftBy, AreLives, GoOn, LeavesOthers, none, one}
 use Rattle.el_program.specs.within.Lived.{Lived}
 use Rattle.el_loop.specs.Counts.{Counts}
@@ -60,12 +61,12 @@ module _ (P : Chain → Chain → Type 0) where
 
   run_pinned : {A : Type 0} (of_files : archive.Ghosts A) (first : World) (node : Bool)
       (files : ℕ → List ℕ) (c : Counts) (t : Trace) (failed : List Device)
-      → IsRun of_files first node P files c t failed
+      → first.side.sure ≡ true → IsRun of_files first node P files c t failed
       → Pinned P (λ Q. IsRun of_files first node Q files c t failed)
-  run_pinned of_files first node files c t failed r = record {
+  run_pinned of_files first node files c t failed sure r = record {
     acked = r.world.side.chain;
     flight = r.world.side.chain;
-    leaves = r.crash;
+    leaves = r.crash sure;
     ends = record {
       losses = r.losses;
       world = r.world;
@@ -74,18 +75,18 @@ module _ (P : Chain → Chain → Type 0) where
       grown = r.grown;
       counted = r.counted;
       acknowledged = r.acknowledged;
-      crash = both r.world.side.chain r.world.side.chain;
+      crash = λ s. both r.world.side.chain r.world.side.chain;
     };
   }
 
   halt_pinned : {A : Type 0} (of_files : archive.Ghosts A) (first : World) (node : Bool)
       (files : ℕ → List ℕ) (c : Counts) (t : Trace) (stop : Stop)
-      → IsHalted of_files first node P files c t stop
+      → first.side.sure ≡ true → IsHalted of_files first node P files c t stop
       → Pinned P (λ Q. IsHalted of_files first node Q files c t stop)
-  halt_pinned of_files first node files c t stop h = record {
+  halt_pinned of_files first node files c t stop sure h = record {
     acked = acked h.halts.stops;
     flight = h.flight;
-    leaves = h.crash;
+    leaves = h.crash sure;
     ends = record {
       losses = h.losses;
       halts = h.halts;
@@ -95,7 +96,7 @@ module _ (P : Chain → Chain → Type 0) where
       flight = h.flight;
       is_flight = h.is_flight;
       acknowledged = h.acknowledged;
-      crash = both (acked h.halts.stops) h.flight;
+      crash = λ s. both (acked h.halts.stops) h.flight;
     };
   }
 
@@ -107,66 +108,68 @@ module _ (P : Chain → Chain → Type 0) where
 
   ends_pinned : {A : Type 0} (of_files : archive.Ghosts A) (first : World) (node : Bool)
       (files : ℕ → List ℕ) (c : Counts) (t : Trace) (e : End)
-      → RunEnds of_files first node P files c t e
+      → first.side.sure ≡ true → RunEnds of_files first node P files c t e
       → Pinned P (λ Q. RunEnds of_files first node Q files c t e)
-  ends_pinned of_files first node files c t end.Ended r =
-      with_more (λ X k. (k, r.1)) (run_pinned of_files first node files c t _ r.0)
-  ends_pinned of_files first node files c t end.DiskFailed r = halt_pinned of_files first node files c t _ r
-  ends_pinned of_files first node files c t end.LinkFailed (inl r) =
-      with_more (λ X k. inl (k, r.1)) (run_pinned of_files first node files c t _ r.0)
-  ends_pinned of_files first node files c t end.LinkFailed (inr r) =
-      with_more (λ X k. inr k) (halt_pinned of_files first node files c t _ r)
-  ends_pinned of_files first node files c t end.OutOfMemory r = halt_pinned of_files first node files c t _ r
-  ends_pinned of_files first node files c t end.TurnsSpent r =
-      with_more (λ X k. (k, r.1, r.2)) (run_pinned of_files first node files c t _ r.0)
+  ends_pinned of_files first node files c t end.Ended sure r =
+      with_more (λ X k. (k, r.1)) (run_pinned of_files first node files c t _ sure r.0)
+  ends_pinned of_files first node files c t end.DiskFailed sure r = halt_pinned of_files first node files c t _ sure r
+  ends_pinned of_files first node files c t end.LinkFailed sure (inl r) =
+      with_more (λ X k. inl (k, r.1)) (run_pinned of_files first node files c t _ sure r.0)
+  ends_pinned of_files first node files c t end.LinkFailed sure (inr r) =
+      with_more (λ X k. inr k) (halt_pinned of_files first node files c t _ sure r)
+  ends_pinned of_files first node files c t end.OutOfMemory sure r = halt_pinned of_files first node files c t _ sure r
+  ends_pinned of_files first node files c t end.TurnsSpent sure r =
+      with_more (λ X k. (k, r.1, r.2)) (run_pinned of_files first node files c t _ sure r.0)
 
   module _ {A : Type 0} (of_files : archive.Ghosts A) (magic : List ℕ)
       (limits : PoolLimits) (chain : Chain) (c : Counts) (before after : A) (t : Trace) where
-    served_pinned : (e : End) → IsServed of_files magic limits chain P c before after t e
-        → Pinned P (λ Q. IsServed of_files magic limits chain Q c before after t e)
+    served_pinned : (e : End) → IsServed of_files magic limits (certain chain) P c before after t e
+        → Pinned P (λ Q. IsServed of_files magic limits (certain chain) Q c before after t e)
     served_pinned e r = with_more (λ X k. record {
+      headers = r.headers;
+      told = r.told;
       now = r.now;
       nodes = r.nodes;
       scanned = r.scanned;
       same = r.same;
       grows = r.grows;
       run = k;
-    }) (ends_pinned of_files _ true (of_files.bytes after) c t e r.run)
+    }) (ends_pinned of_files _ true (of_files.bytes after) c t e refl r.run)
 
     alone : {Q : (Chain → Chain → Type 0) → Type 0} → (a b : Chain) → P a b → Q (these a b) → Pinned P Q
     alone a b leaves ends = record { acked = a; flight = b; leaves = leaves; ends = ends }
 
-    serve_pinned : (s : Status) → ServeEnds of_files magic limits chain P c before after t s
-        → Pinned P (λ Q. ServeEnds of_files magic limits chain Q c before after t s)
+    serve_pinned : (s : Status) → ServeEnds of_files magic limits (certain chain) P c before after t s
+        → Pinned P (λ Q. ServeEnds of_files magic limits (certain chain) Q c before after t s)
     serve_pinned status.Ended r = served_pinned _ r
     serve_pinned status.Usage r = absurd r
     serve_pinned status.BadIndex r = absurd r
-    serve_pinned status.ArchiveFailed r = alone chain chain r.1 (r.0, both chain chain)
-    serve_pinned status.DiskFailed (inl r) = alone chain chain r.1 (inl (r.0, both chain chain))
+    serve_pinned status.ArchiveFailed r = alone chain chain (r.1 refl) (r.0, λ s. both chain chain)
+    serve_pinned status.DiskFailed (inl r) = alone chain chain (r.1 refl) (inl (r.0, λ s. both chain chain))
     serve_pinned status.DiskFailed (inr r) = with_more (λ X k. inr k) (served_pinned _ r)
     serve_pinned status.LinkFailed r = served_pinned _ r
-    serve_pinned status.OutOfMemory (inl r) = alone chain chain r.1 (inl (r.0, both chain chain))
+    serve_pinned status.OutOfMemory (inl r) = alone chain chain (r.1 refl) (inl (r.0, λ s. both chain chain))
     serve_pinned status.OutOfMemory (inr r) = with_more (λ X k. inr k) (served_pinned _ r)
     serve_pinned status.TurnsSpent r = served_pinned _ r
-    serve_pinned status.OtherChain r = alone chain chain r.2 (r.0, r.1, both chain chain)
+    serve_pinned status.OtherChain r = alone chain chain (r.2 refl) (r.0, r.1, λ s. both chain chain)
     serve_pinned status.BadChain r = absurd r
 
-    unopened_pinned : (was flight : Chain) (s : Status) → UnopenedEnds was flight P c t s
-        → Pinned P (λ Q. UnopenedEnds was flight Q c t s)
+    unopened_pinned : (was flight : Chain) (s : Status) → UnopenedEnds true was flight P c t s
+        → Pinned P (λ Q. UnopenedEnds true was flight Q c t s)
     unopened_pinned was flight status.Ended r = absurd r
     unopened_pinned was flight status.Usage r = absurd r
-    unopened_pinned was flight status.BadIndex r = absurd r
+    unopened_pinned was flight status.BadIndex r = absurd (true≢false r.0)
     unopened_pinned was flight status.ArchiveFailed r = absurd r
-    unopened_pinned was flight status.DiskFailed r = alone was flight r.1 (r.0, both was flight)
+    unopened_pinned was flight status.DiskFailed r = alone was flight (r.1 refl) (r.0, λ s. both was flight)
     unopened_pinned was flight status.LinkFailed r = absurd r
-    unopened_pinned was flight status.OutOfMemory r = alone was flight r.1 (r.0, both was flight)
+    unopened_pinned was flight status.OutOfMemory r = alone was flight (r.1 refl) (r.0, λ s. both was flight)
     unopened_pinned was flight status.TurnsSpent r = absurd r
     unopened_pinned was flight status.OtherChain r = absurd r
     unopened_pinned was flight status.BadChain r = absurd r
 
     index_pinned : (was flight : Chain) (s : Status)
-        → IndexEnds of_files magic limits was flight chain P c before after t s
-        → Pinned P (λ Q. IndexEnds of_files magic limits was flight chain Q c before after t s)
+        → IndexEnds of_files magic limits was flight (certain chain) P c before after t s
+        → Pinned P (λ Q. IndexEnds of_files magic limits was flight (certain chain) Q c before after t s)
     index_pinned was flight s (inl r) = with_more (λ X k. inl k) (unopened_pinned was flight s r)
     index_pinned was flight s (inr r) = with_more (λ X k. inr k) (serve_pinned s r)
 
@@ -179,13 +182,13 @@ module _ {D A K : Type 0} (of_disk : disk.Ghosts D) (of_files : archive.Ghosts A
     pub acked : Chain
     pub in_flight : Chain
     pub leaves : LeavesOneOf of_disk magic l.after.disk acked in_flight
-    pub ends : CallEnds of_disk of_files of_link l was flight chain (λ m a b. these acked in_flight a b)
+    pub ends : CallEnds of_disk of_files of_link l was flight (certain chain) (λ m a b. these acked in_flight a b)
 
   ended : (l : Call D A K) (was flight chain : Chain) → IsServe l.words magic
       → IsIndexDisk of_disk magic l.before.disk was flight chain → IsCall of_disk of_files of_link l
       → Ended l was flight chain
   ended l was flight chain serves is call =
-      let e = call.served (λ count check. serve_no_check serves.is_serve check) was flight chain (λ m also. rw (same_networks also serves) is) in
+      let e = call.served (λ count check. serve_no_check serves.is_serve check) was flight (certain chain) (λ sure m also. rw (same_networks also serves) is) in
       let only = only_served serves e.2 in
       let k = index_pinned (LeavesOneOf of_disk magic l.after.disk) of_files magic serves.said.settings.limits chain _ l.before.files l.after.files e.0 was flight l.status only
       in record {

@@ -1,5 +1,5 @@
 -- How a call of `serve` ends.
-use Rattle.std.proofs.Common.{◌≡◌, ◌≢◌, inl, inr, ℕ, List, [], ◌∷◌, ◌++◌, ◌∙◌, refl, sym, ap, Bool, true, arith}
+use Rattle.std.proofs.Common.{◌≡◌, ◌≢◌, inl, inr, ℕ, List, [], ◌∷◌, ◌++◌, ◌∙◌, refl, sym, ap, Bool, true, false, arith}
 use Rattle.std.specs.Prelude.{◌⊎◌, Err}
 use Rattle.el_outside.specs.declared.archive.Archive as block_files
 use Rattle.el_outside.specs.Trace.{Trace}
@@ -13,12 +13,11 @@ use Rattle.el_outside.specs.Devices.{Device, archive, disk, failures, link}
 use Rattle.el_world.specs.Run.{Stop}
 use Rattle.el_words.specs.Words.{IsOnceOf, IsServeOf, network_magic}
 use Rattle.el_words.specs.Commands.{IsServe, IsOnce}
-use Rattle.el_program.specs.Opened.{IsScanned, nodes_of_chain}
-use Rattle.el_program.specs.OtherChain.{is_other_chain}
+use Rattle.el_program.specs.Opened.{IndexChain}
 use Rattle.el_outside.specs.Devices.{Faults, Rose, faults}
 use Rattle.el_loop.specs.Counts.{Counts, counts}
 use Rattle.el_loop.specs.Runs.{IsCounted, no_traffic, RunEnds, IsRun, IsHalted}
-use Rattle.el_program.specs.Ends.{Ends, usage, serve, once, IndexEnds, IsSilent, ServeEnds, UnopenedEnds, OnceEnds, IsServed, IsServedOnce, IsBadFile}
+use Rattle.el_program.specs.Ends.{Ends, usage, serve, once, IndexEnds, IsSilent, IsOtherChain, LeavesChain, ServeEnds, UnopenedEnds, OnceEnds, IsServed, IsServedOnce, IsBadFile}
 use Rattle.el_program.specs.Statuses.{status_of_end}
 use Rattle.el_program.specs.within.Unread.{unread_status, start_status}
 use Rattle.el_program.specs.declared.file.FileFault.{FileFault}
@@ -77,10 +76,10 @@ same_networks x y = one_network x y.is_serve ∙ sym y.magic_is
 
 -- a call with the words of `serve` ends as such
 pub only_served : {A : Type 0} {of_files : block_files.Ghosts A}
-    {words : List (List ℕ)} {was flight chain : Chain} {leaves : List ℕ → Chain → Chain → Type 0} {c : Counts}
+    {words : List (List ℕ)} {was flight : Chain} {index : IndexChain} {leaves : List ℕ → Chain → Chain → Type 0} {c : Counts}
     {before after : A} {t : Trace} {s : Status} {magic : List ℕ} (asked : IsServe words magic)
-    → Ends of_files words was flight chain leaves c before after t s
-    → IndexEnds of_files magic asked.said.settings.limits was flight chain (leaves magic) c before after t s
+    → Ends of_files words was flight index leaves c before after t s
+    → IndexEnds of_files magic asked.said.settings.limits was flight index (leaves magic) c before after t s
 only_served is (usage none spent silent) =
     absurd (none (command.Serve is.said) is.is_serve)
 only_served is (serve magic also e) = rw (same_networks also is, same_limits also is) at e
@@ -89,18 +88,18 @@ only_served is (once magic other e) =
 
 -- a call with the words that were read ends so
 pub served_with : {A : Type 0} {of_files : block_files.Ghosts A} {words : List (List ℕ)}
-    {was flight chain : Chain} {leaves : List ℕ → Chain → Chain → Type 0} {c : Counts} {before after : A}
+    {was flight : Chain} {index : IndexChain} {leaves : List ℕ → Chain → Chain → Type 0} {c : Counts} {before after : A}
     {t : Trace} {s : Status} {settings : ServeSettings}
     (found : (said : ServeWords) × IsServeOf words said × (said.settings ≡ settings))
-    → IndexEnds of_files (network_magic settings.network) settings.limits was flight chain
+    → IndexEnds of_files (network_magic settings.network) settings.limits was flight index
     (leaves (network_magic settings.network)) c before after t s
-    → Ends of_files words was flight chain leaves c before after t s
+    → Ends of_files words was flight index leaves c before after t s
 served_with found e = serve _ (is_serve found.1 refl) (rw (sym found.2) at e)
 
--- a run told in other words: what a crash leaves, and how often calls failed
+-- a run told in other words: what a crash leaves, where the chain is sure, and how often calls failed
 module _ (c : Counts) (of_before of_after : Faults) (rises : (losses : List Device)
     → Rose c.faults_before c.faults_after losses → Rose of_before of_after losses)
-    (P Q : Chain → Chain → Type 0) (gives : (a b : Chain) → P a b → Q a b) where
+    (P Q : Chain → Chain → Type 0) (S : Type 0) (gives : S → (a b : Chain) → P a b → Q a b) where
   abbrev pub told : Counts
   told = record c { faults_before = of_before; faults_after = of_after }
 
@@ -110,9 +109,10 @@ module _ (c : Counts) (of_before of_after : Faults) (rises : (losses : List Devi
       record { calls = k.calls; turns = k.turns; rose = rises (losses ++ failed) k.rose }
 
   run_told : {A : Type 0} (of_files : block_files.Ghosts A) (first : World) (node : Bool)
-      (files : ℕ → List ℕ) (t : Trace) (failed : List Device) → IsRun of_files first node P files c t failed
+      (files : ℕ → List ℕ) (t : Trace) (failed : List Device) → (first.side.sure ≡ true → S)
+      → IsRun of_files first node P files c t failed
       → IsRun of_files first node Q files told t failed
-  run_told of_files first node files t failed r = record {
+  run_told of_files first node files t failed is r = record {
     losses = r.losses;
     world = r.world;
     run = r.run;
@@ -120,13 +120,13 @@ module _ (c : Counts) (of_before of_after : Faults) (rises : (losses : List Devi
     grown = r.grown;
     counted = counted_told t r.losses failed r.counted;
     acknowledged = r.acknowledged;
-    crash = gives r.world.side.chain r.world.side.chain r.crash;
+    crash = λ sure. gives (is sure) r.world.side.chain r.world.side.chain (r.crash sure);
   }
 
   halt_told : {A : Type 0} (of_files : block_files.Ghosts A) (first : World) (node : Bool)
-      (files : ℕ → List ℕ) (t : Trace) (stop : Stop)
+      (files : ℕ → List ℕ) (t : Trace) (stop : Stop) → (first.side.sure ≡ true → S)
       → IsHalted of_files first node P files c t stop → IsHalted of_files first node Q files told t stop
-  halt_told of_files first node files t stop h = record {
+  halt_told of_files first node files t stop is h = record {
     losses = h.losses;
     halts = h.halts;
     grown = h.grown;
@@ -135,66 +135,69 @@ module _ (c : Counts) (of_before of_after : Faults) (rises : (losses : List Devi
     flight = h.flight;
     is_flight = h.is_flight;
     acknowledged = h.acknowledged;
-    crash = gives _ h.flight h.crash;
+    crash = λ sure. gives (is sure) _ h.flight (h.crash sure);
   }
 
   pub ends_told : {A : Type 0} (of_files : block_files.Ghosts A) (first : World) (node : Bool)
-      (files : ℕ → List ℕ) (t : Trace) (e : End)
+      (files : ℕ → List ℕ) (t : Trace) (e : End) → (first.side.sure ≡ true → S)
       → RunEnds of_files first node P files c t e → RunEnds of_files first node Q files told t e
-  ends_told of_files first node files t end.Ended r = (run_told of_files first node files t _ r.0, r.1)
-  ends_told of_files first node files t end.DiskFailed r = halt_told of_files first node files t _ r
-  ends_told of_files first node files t end.LinkFailed (inl r) = inl (
-    run_told of_files first node files t _ r.0,
+  ends_told of_files first node files t end.Ended is r =
+      (run_told of_files first node files t _ is r.0, r.1)
+  ends_told of_files first node files t end.DiskFailed is r = halt_told of_files first node files t _ is r
+  ends_told of_files first node files t end.LinkFailed is (inl r) = inl (
+    run_told of_files first node files t _ is r.0,
     r.1,
   )
-  ends_told of_files first node files t end.LinkFailed (inr r) =
-      inr (halt_told of_files first node files t _ r)
-  ends_told of_files first node files t end.OutOfMemory r = halt_told of_files first node files t _ r
-  ends_told of_files first node files t end.TurnsSpent r =
-      (run_told of_files first node files t _ r.0, r.1, r.2)
+  ends_told of_files first node files t end.LinkFailed is (inr r) =
+      inr (halt_told of_files first node files t _ is r)
+  ends_told of_files first node files t end.OutOfMemory is r = halt_told of_files first node files t _ is r
+  ends_told of_files first node files t end.TurnsSpent is r =
+      (run_told of_files first node files t _ is r.0, r.1, r.2)
 
   silent_told : (t : Trace) (losses : List Device) → IsSilent c t losses → IsSilent told t losses
   silent_told t losses k =
       record { traffic = k.traffic; calls = k.calls; rose = rises losses k.rose }
 
   served_told : {A : Type 0} (of_files : block_files.Ghosts A) (magic : List ℕ)
-      (limits : PoolLimits) (chain : Chain) (before after : A) (t : Trace) (e : End)
-      → IsServed of_files magic limits chain P c before after t e
-      → IsServed of_files magic limits chain Q told before after t e
-  served_told of_files magic limits chain before after t e r = record {
+      (limits : PoolLimits) (index : IndexChain) (before after : A) (t : Trace) (e : End)
+      → (index.sure ≡ true → S) → IsServed of_files magic limits index P c before after t e
+      → IsServed of_files magic limits index Q told before after t e
+  served_told of_files magic limits index before after t e is r = record {
+    headers = r.headers;
+    told = r.told;
     now = r.now;
     nodes = r.nodes;
     scanned = r.scanned;
     same = r.same;
     grows = r.grows;
-    run = ends_told of_files _ true (of_files.bytes after) t e r.run;
+    run = ends_told of_files _ true (of_files.bytes after) t e is r.run;
   }
 
   pub serve_told : {A : Type 0} (of_files : block_files.Ghosts A)
-      (magic : List ℕ) (limits : PoolLimits) (chain : Chain) (before after : A) (t : Trace) (s : Status)
-      → ServeEnds of_files magic limits chain P c before after t s
-      → ServeEnds of_files magic limits chain Q told before after t s
-  serve_told of_files magic limits chain before after t status.Ended r =
-      served_told of_files magic limits chain before after t _ r
-  serve_told of_files magic limits chain before after t status.Usage r = r
-  serve_told of_files magic limits chain before after t status.BadIndex r = r
-  serve_told of_files magic limits chain before after t status.ArchiveFailed r =
-      (silent_told t _ r.0, gives chain chain r.1)
-  serve_told of_files magic limits chain before after t status.DiskFailed (inl r) =
-      inl (silent_told t _ r.0, gives chain chain r.1)
-  serve_told of_files magic limits chain before after t status.DiskFailed (inr r) =
-      inr (served_told of_files magic limits chain before after t _ r)
-  serve_told of_files magic limits chain before after t status.LinkFailed r =
-      served_told of_files magic limits chain before after t _ r
-  serve_told of_files magic limits chain before after t status.OutOfMemory (inl r) =
-      inl (silent_told t _ r.0, gives chain chain r.1)
-  serve_told of_files magic limits chain before after t status.OutOfMemory (inr r) =
-      inr (served_told of_files magic limits chain before after t _ r)
-  serve_told of_files magic limits chain before after t status.TurnsSpent r =
-      served_told of_files magic limits chain before after t _ r
-  serve_told of_files magic limits chain before after t status.OtherChain r =
-      (r.0, silent_told t _ r.1, gives chain chain r.2)
-  serve_told of_files magic limits chain before after t status.BadChain r = r
+      (magic : List ℕ) (limits : PoolLimits) (index : IndexChain) (before after : A) (t : Trace) (s : Status)
+      → (index.sure ≡ true → S) → ServeEnds of_files magic limits index P c before after t s
+      → ServeEnds of_files magic limits index Q told before after t s
+  serve_told of_files magic limits index before after t status.Ended is r =
+      served_told of_files magic limits index before after t _ is r
+  serve_told of_files magic limits index before after t status.Usage is r = r
+  serve_told of_files magic limits index before after t status.BadIndex is r = r
+  serve_told of_files magic limits index before after t status.ArchiveFailed is r =
+      (silent_told t _ r.0, λ sure. gives (is sure) index.chain index.chain (r.1 sure))
+  serve_told of_files magic limits index before after t status.DiskFailed is (inl r) =
+      inl (silent_told t _ r.0, λ sure. gives (is sure) index.chain index.chain (r.1 sure))
+  serve_told of_files magic limits index before after t status.DiskFailed is (inr r) =
+      inr (served_told of_files magic limits index before after t _ is r)
+  serve_told of_files magic limits index before after t status.LinkFailed is r =
+      served_told of_files magic limits index before after t _ is r
+  serve_told of_files magic limits index before after t status.OutOfMemory is (inl r) =
+      inl (silent_told t _ r.0, λ sure. gives (is sure) index.chain index.chain (r.1 sure))
+  serve_told of_files magic limits index before after t status.OutOfMemory is (inr r) =
+      inr (served_told of_files magic limits index before after t _ is r)
+  serve_told of_files magic limits index before after t status.TurnsSpent is r =
+      served_told of_files magic limits index before after t _ is r
+  serve_told of_files magic limits index before after t status.OtherChain is r =
+      (r.0, silent_told t _ r.1, λ sure. gives (is sure) index.chain index.chain (r.2 sure))
+  serve_told of_files magic limits index before after t status.BadChain is r = r
 
 -- a count that stays 0 counts nothing, and another count may stay
 stays_still : (d n : ℕ) → RoseBy 0 0 n → RoseBy d d n
@@ -210,16 +213,16 @@ with_disk of_link of_archive link_now archive_now of_disk losses rose disk =
 
 -- a node and clients were served
 pub served_ends : {A : Type 0} (of_files : block_files.Ghosts A)
-    (magic : List ℕ) (limits : PoolLimits) (chain : Chain) (leaves : Chain → Chain → Type 0) (c : Counts)
+    (magic : List ℕ) (limits : PoolLimits) (index : IndexChain) (leaves : Chain → Chain → Type 0) (c : Counts)
     (before after : A)
-    (t : Trace) (e : End) → IsServed of_files magic limits chain leaves c before after t e
-    → ServeEnds of_files magic limits chain leaves c before after t (status_of_end e)
-served_ends of_files magic limits chain leaves c before after t end.Ended served = served
-served_ends of_files magic limits chain leaves c before after t end.DiskFailed served = inr served
-served_ends of_files magic limits chain leaves c before after t end.LinkFailed served = served
-served_ends of_files magic limits chain leaves c before after t end.OutOfMemory served =
+    (t : Trace) (e : End) → IsServed of_files magic limits index leaves c before after t e
+    → ServeEnds of_files magic limits index leaves c before after t (status_of_end e)
+served_ends of_files magic limits index leaves c before after t end.Ended served = served
+served_ends of_files magic limits index leaves c before after t end.DiskFailed served = inr served
+served_ends of_files magic limits index leaves c before after t end.LinkFailed served = served
+served_ends of_files magic limits index leaves c before after t end.OutOfMemory served =
     inr served
-served_ends of_files magic limits chain leaves c before after t end.TurnsSpent served = served
+served_ends of_files magic limits index leaves c before after t end.TurnsSpent served = served
 
 -- nothing went over the link, and the other counts rose by these losses
 silent : (turns calls of_link low high of_disk now : ℕ) (losses : List Device) → failures link losses ≡ 0
@@ -239,40 +242,37 @@ silent turns calls of_link low high of_disk now losses none files index = record
 
 -- nobody was served from an index that is open
 pub start_ends : {A T : Type 0} (of_files : block_files.Ghosts A)
-    (magic : List ℕ) (limits : PoolLimits) (chain : Chain) (leaves : Chain → Chain → Type 0)
+    (magic : List ℕ) (limits : PoolLimits) (index : IndexChain) (leaves : Chain → Chain → Type 0)
     (turns calls of_link low high of_disk now : ℕ) (before after : A) (e : StartFault)
     → OnlyReads {T = T} of_files.tells (of_files.bytes before) (of_files.bytes after) low high start.ArchiveFailed (Err e)
     → CountsOnly {T = T} of_disk now start.DiskFailed (Err e)
-    → (e ≡ start.OtherChain → (nodes : List Node)
-    × IsScanned of_files magic before after nodes
-    × (is_other_chain (nodes_of_chain chain) nodes ≡ true))
-    → leaves chain chain
-    → ServeEnds of_files magic limits chain leaves
+    → (e ≡ start.OtherChain → IsOtherChain of_files magic index before after)
+    → LeavesChain index leaves
+    → ServeEnds of_files magic limits index leaves
     (counts turns calls calls (faults of_link low of_disk) (faults of_link high now))
     before after no_traffic (start_status e)
-start_ends of_files magic limits chain leaves turns calls of_link low high of_disk now before
+start_ends of_files magic limits index leaves turns calls of_link low high of_disk now before
     after start.DiskFailed reads counts other left =
     inl (
       silent turns calls of_link low high of_disk now (disk ∷ []) refl
           (rose_still low high (reads.others_uncounted (λ e. cc))) (counts.counted refl),
       left,
     )
-start_ends of_files magic limits chain leaves turns calls of_link low high of_disk now before
+start_ends of_files magic limits index leaves turns calls of_link low high of_disk now before
     after start.ArchiveFailed reads counts other left = (
       silent turns calls of_link low high of_disk now (archive ∷ []) refl (reads.counted refl)
           (rose_still of_disk now (counts.others_uncounted (λ e. cc))),
       left,
     )
-start_ends of_files magic limits chain leaves turns calls of_link low high of_disk now before
-    after start.OtherChain reads counts other left =
-    let o = other refl in (
-      record { nodes = o.0; scanned = o.1; other = o.2 },
+start_ends of_files magic limits index leaves turns calls of_link low high of_disk now before
+    after start.OtherChain reads counts other left = (
+      other refl,
       silent turns calls of_link low high of_disk now [] refl
           (rose_still low high (reads.others_uncounted (λ e. cc)))
           (rose_still of_disk now (counts.others_uncounted (λ e. cc))),
       left,
     )
-start_ends of_files magic limits chain leaves turns calls of_link low high of_disk now before
+start_ends of_files magic limits index leaves turns calls of_link low high of_disk now before
     after start.Memory reads counts other left =
     inl (
       silent turns calls of_link low high of_disk now [] refl
@@ -282,27 +282,39 @@ start_ends of_files magic limits chain leaves turns calls of_link low high of_di
     )
 
 -- the index is not opened
-pub unopened_ends : (was flight : Chain) (leaves : Chain → Chain → Type 0)
-    (turns calls of_link of_archive low high : ℕ) (s : Status) → s ≢ status.BadIndex
-    → (s ≡ status.BadIndex) ⊎ ((s ≡ status.DiskFailed) ⊎ (s ≡ status.OutOfMemory)) → leaves was flight
+pub unopened_ends : (sure : Bool) (was flight : Chain) (leaves : Chain → Chain → Type 0)
+    (turns calls of_link of_archive low high : ℕ) (s : Status)
+    → (s ≡ status.BadIndex) ⊎ ((s ≡ status.DiskFailed) ⊎ (s ≡ status.OutOfMemory))
+    → (sure ≡ true → (s ≢ status.BadIndex) × leaves was flight)
     → (s ≡ status.DiskFailed → RoseBy low high 1) → (s ≢ status.DiskFailed → high ≡ low)
-    → UnopenedEnds was flight leaves
+    → UnopenedEnds sure was flight leaves
     (counts turns calls calls (faults of_link of_archive low) (faults of_link of_archive high))
     no_traffic s
-unopened_ends was flight leaves turns calls of_link of_archive low high s good is left counted uncounted =
+unopened_ends sure was flight leaves turns calls of_link of_archive low high s is left counted uncounted =
     elim is [
-      | inl bad ↦ absurd (good bad)
+      | inl bad ↦ rw bad (
+        unsure sure (λ yes. (left yes).0 bad),
+        silent turns calls of_link of_archive of_archive low high [] refl (rose_none of_archive)
+            (rose_still low high (uncounted (λ e. other_status (sym bad ∙ e)))),
+      )
       | inr (inl failed) ↦ rw failed (
         silent turns calls of_link of_archive of_archive low high (disk ∷ []) refl (rose_none of_archive)
             (counted failed),
-        left,
+        λ yes. (left yes).1,
       )
       | inr (inr memory) ↦ rw memory (
         silent turns calls of_link of_archive of_archive low high [] refl (rose_none of_archive)
             (rose_still low high (uncounted (λ e. cc))),
-        left,
+        λ yes. (left yes).1,
       )
     ]
+  where
+    unsure : (b : Bool) → (b ≡ true → ⊥) → b ≡ false
+    unsure true not_so = absurd (not_so refl)
+    unsure false not_so = refl
+
+    other_status : status.BadIndex ≡ status.DiskFailed → ⊥
+    other_status e = cc
 
 -- clients were served without a node
 pub served_once : {A : Type 0} (of_files : block_files.Ghosts A) (magic : List ℕ) (c : Counts)

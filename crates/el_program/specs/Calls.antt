@@ -6,6 +6,7 @@ use Rattle.el_outside.specs.declared.link.Link as link
 use Rattle.el_outside.specs.Trace.{Trace}
 use Rattle.el_chain.specs.Chains.{Chain}
 use Rattle.el_program.specs.Ends.{Ends}
+use Rattle.el_program.specs.Opened.{IndexChain}
 use Rattle.el_loop.specs.Counts.{Devices, counts_of}
 use Rattle.el_loop.specs.Runs.{WentBy}
 use Rattle.el_program.specs.declared.status.Status.{Status}
@@ -23,13 +24,13 @@ abbrev pub call : {D A K : Type 0} → List (List ℕ) → ℕ → Devices D A K
 call words turns before after status =
     record { words = words; turns = turns; before = before; after = after; status = status }
 
--- How the call ends, where the disk reads as an index of `chain`, `was` was acknowledged before and
+-- How the call ends, where the disk reads as an index with this chain, `was` was acknowledged before and
 -- `flight` was in flight. `leaves` says of a network's magic and two chains that all that a crash may leave
 -- of the disk in the end stands for the one or for the other.
 abbrev pub CallEnds : {D A K : Type 0} → disk.Ghosts D → archive.Ghosts A → link.Ghosts K → Call D A K
-    → Chain → Chain → Chain → (List ℕ → Chain → Chain → Type 0) → Type 0
-CallEnds of_disk of_files of_link c was flight chain leaves = (t : Trace)
+    → Chain → Chain → IndexChain → (List ℕ → Chain → Chain → Type 0) → Type 0
+CallEnds of_disk of_files of_link c was flight index leaves = (t : Trace)
     × WentBy of_link c.before.link c.after.link t
-    × Ends of_files c.words was flight chain leaves
+    × Ends of_files c.words was flight index leaves
     (counts_of of_disk.faults of_files of_link c.turns c.before c.after) c.before.files c.after.files t
     c.status

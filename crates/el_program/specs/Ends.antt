@@ -1,5 +1,5 @@
 -- How a call of `serve` ends.
-use Rattle.std.specs.Prelude.{◌≡◌, ◌⊎◌, ℕ, List, [], ◌∷◌, true, false}
+use Rattle.std.specs.Prelude.{◌≡◌, ◌⊎◌, ℕ, List, [], ◌∷◌, Bool, true, false}
 use Rattle.el_outside.specs.declared.archive.Archive as block_files
 use Rattle.el_outside.specs.Trace.{Trace}
 use Rattle.el_outside.specs.Files.{AllGrow}
@@ -13,7 +13,7 @@ use Rattle.el_words.specs.Words.{greatest_limits}
 use Rattle.el_chain.specs.Moves.{StoodAt}
 use Rattle.el_files.specs.Scanning.{WasScanned}
 use Rattle.el_program.specs.File.{HasBadBlock}
-use Rattle.el_program.specs.Opened.{all_added, nodes_of_chain, IsScanned, IsRead}
+use Rattle.el_program.specs.Opened.{IndexChain, AreHeaders, all_added, IsScanned, IsRead}
 use Rattle.el_program.specs.OtherChain.{is_other_chain}
 use Rattle.el_outside.specs.Devices.{Rose}
 use Rattle.el_loop.specs.Counts.{Counts}
@@ -29,68 +29,80 @@ pub record IsSilent (c : Counts) (t : Trace) (losses : List Device) : Type 0 whe
   pub calls : c.calls_after ≡ c.calls_before
   pub rose : Rose c.faults_before c.faults_after losses
 
--- A node and clients were served, from the chain that the index had, with the headers of its blocks and then
+-- A node and clients were served, from the chain that the index had, with the headers that it told and then
 -- those that the scan of all block files found; an unconfirmed set that is empty at first keeps to these
 -- limits. `before` and `after` are the archive before the call and after it.
 pub record IsServed {A : Type 0} (of_files : block_files.Ghosts A)
-    (magic : List ℕ) (limits : PoolLimits) (chain : Chain) (leaves : Chain → Chain → Type 0) (c : Counts)
+    (magic : List ℕ) (limits : PoolLimits) (index : IndexChain) (leaves : Chain → Chain → Type 0) (c : Counts)
     (before after : A) (t : Trace) (e : End) : Type 0 where
+  pub headers : List Node
+  pub told : AreHeaders index headers
   pub now : A
   pub nodes : List Node
   pub scanned : IsScanned of_files magic before now nodes
-  pub same : is_other_chain (nodes_of_chain chain) nodes ≡ false
+  pub same : is_other_chain headers nodes ≡ false
   pub grows : of_files.tells → AllGrow (of_files.bytes now) (of_files.bytes after)
-  pub run : RunEnds of_files (initial_world chain magic limits
-      (all_added (all_added [] (nodes_of_chain chain)) nodes) (of_files.bytes now))
+  pub run : RunEnds of_files (initial_world index.sure index.chain magic limits
+      (all_added (all_added [] headers) nodes) (of_files.bytes now))
       true leaves (of_files.bytes after) c t e
 
 -- the block files are those of another chain than the index's
 pub record IsOtherChain {A : Type 0} (of_files : block_files.Ghosts A)
-    (magic : List ℕ) (chain : Chain) (before after : A) : Type 0 where
+    (magic : List ℕ) (index : IndexChain) (before after : A) : Type 0 where
+  pub headers : List Node
+  pub told : AreHeaders index headers
   pub nodes : List Node
   pub scanned : IsScanned of_files magic before after nodes
-  pub other : is_other_chain (nodes_of_chain chain) nodes ≡ true
+  pub other : is_other_chain headers nodes ≡ true
+
+-- what a crash may leave stands for the index's chain, where that is sure
+abbrev pub LeavesChain : IndexChain → (Chain → Chain → Type 0) → Type 0
+LeavesChain index leaves = index.sure ≡ true → leaves index.chain index.chain
 
 -- How a call with the words of `serve` ends, once the index is open and has this chain. `leaves` says of two
 -- chains that all that a crash may leave in the end stands for the one or for the other.
-abbrev pub ServeEnds : {A : Type 0} → block_files.Ghosts A → List ℕ → PoolLimits → Chain
+abbrev pub ServeEnds : {A : Type 0} → block_files.Ghosts A → List ℕ → PoolLimits → IndexChain
     → (Chain → Chain → Type 0) → Counts → A → A → Trace → Status → Type 0
-ServeEnds of_files magic limits chain leaves c before after t status.Ended =
-    IsServed of_files magic limits chain leaves c before after t end.Ended
-ServeEnds of_files magic limits chain leaves c before after t status.LinkFailed =
-    IsServed of_files magic limits chain leaves c before after t end.LinkFailed
-ServeEnds of_files magic limits chain leaves c before after t status.TurnsSpent =
-    IsServed of_files magic limits chain leaves c before after t end.TurnsSpent
+ServeEnds of_files magic limits index leaves c before after t status.Ended =
+    IsServed of_files magic limits index leaves c before after t end.Ended
+ServeEnds of_files magic limits index leaves c before after t status.LinkFailed =
+    IsServed of_files magic limits index leaves c before after t end.LinkFailed
+ServeEnds of_files magic limits index leaves c before after t status.TurnsSpent =
+    IsServed of_files magic limits index leaves c before after t end.TurnsSpent
 -- a call of the block files failed before the first arrival
-ServeEnds of_files magic limits chain leaves c before after t status.ArchiveFailed =
-    IsSilent c t (archive ∷ []) × leaves chain chain
-ServeEnds of_files magic limits chain leaves c before after t status.OtherChain =
-    IsOtherChain of_files magic chain before after × IsSilent c t [] × leaves chain chain
+ServeEnds of_files magic limits index leaves c before after t status.ArchiveFailed =
+    IsSilent c t (archive ∷ []) × LeavesChain index leaves
+ServeEnds of_files magic limits index leaves c before after t status.OtherChain =
+    IsOtherChain of_files magic index before after × IsSilent c t [] × LeavesChain index leaves
 -- a call of the index's device failed before the first arrival, or in the run
-ServeEnds of_files magic limits chain leaves c before after t status.DiskFailed =
-    (IsSilent c t (disk ∷ []) × leaves chain chain)
-    ⊎ IsServed of_files magic limits chain leaves c before after t end.DiskFailed
+ServeEnds of_files magic limits index leaves c before after t status.DiskFailed =
+    (IsSilent c t (disk ∷ []) × LeavesChain index leaves)
+    ⊎ IsServed of_files magic limits index leaves c before after t end.DiskFailed
 -- out of memory before the first arrival, or in the run
-ServeEnds of_files magic limits chain leaves c before after t status.OutOfMemory =
-    (IsSilent c t [] × leaves chain chain)
-    ⊎ IsServed of_files magic limits chain leaves c before after t end.OutOfMemory
-ServeEnds of_files magic limits chain leaves c before after t other = ⊥
+ServeEnds of_files magic limits index leaves c before after t status.OutOfMemory =
+    (IsSilent c t [] × LeavesChain index leaves)
+    ⊎ IsServed of_files magic limits index leaves c before after t end.OutOfMemory
+ServeEnds of_files magic limits index leaves c before after t other = ⊥
 
--- How a call with the words of `serve` ends where the index isn't opened. A crash leaves then what it left
--- before: the chain that was acknowledged or the one that was in flight.
-abbrev pub UnopenedEnds : Chain → Chain → (Chain → Chain → Type 0) → Counts → Trace → Status → Type 0
+-- How a call with the words of `serve` ends where the index isn't opened. Where its chain is sure, a crash
+-- leaves then what it left before: the chain that was acknowledged or the one that was in flight.
+abbrev pub UnopenedEnds : Bool → Chain → Chain → (Chain → Chain → Type 0) → Counts → Trace → Status → Type 0
 -- a call of the index's device failed
-UnopenedEnds was flight leaves c t status.DiskFailed = IsSilent c t (disk ∷ []) × leaves was flight
-UnopenedEnds was flight leaves c t status.OutOfMemory = IsSilent c t [] × leaves was flight
-UnopenedEnds was flight leaves c t other = ⊥
+UnopenedEnds sure was flight leaves c t status.DiskFailed =
+    IsSilent c t (disk ∷ []) × (sure ≡ true → leaves was flight)
+UnopenedEnds sure was flight leaves c t status.OutOfMemory =
+    IsSilent c t [] × (sure ≡ true → leaves was flight)
+-- it is no index
+UnopenedEnds sure was flight leaves c t status.BadIndex = (sure ≡ false) × IsSilent c t []
+UnopenedEnds sure was flight leaves c t other = ⊥
 
--- How a call with the words of `serve` ends, for a disk that reads as an index of `chain`: the index is not
--- opened, or it is, and has this chain.
+-- How a call with the words of `serve` ends, for a disk that reads as an index with this chain: the index is
+-- not opened, or it is, and has it.
 abbrev pub IndexEnds : {A : Type 0} → block_files.Ghosts A → List ℕ → PoolLimits → Chain
-    → Chain → Chain → (Chain → Chain → Type 0) → Counts → A → A → Trace → Status → Type 0
-IndexEnds of_files magic limits was flight chain leaves c before after t s =
-    UnopenedEnds was flight leaves c t s
-    ⊎ ServeEnds of_files magic limits chain leaves c before after t s
+    → Chain → IndexChain → (Chain → Chain → Type 0) → Counts → A → A → Trace → Status → Type 0
+IndexEnds of_files magic limits was flight index leaves c before after t s =
+    UnopenedEnds index.sure was flight leaves c t s
+    ⊎ ServeEnds of_files magic limits index leaves c before after t s
 
 -- the statuses with which a call ends whose index is open
 abbrev pub IsOpenedEnd : Status → Type 0
@@ -115,7 +127,7 @@ pub record IsServedOnce {A : Type 0} (of_files : block_files.Ghosts A) (magic : 
   pub chain : Chain
   pub read : IsRead of_files before now magic nodes chain
   pub grows : of_files.tells → AllGrow now after
-  pub run : RunEnds of_files (initial_world chain magic greatest_limits (all_added [] nodes) now) false
+  pub run : RunEnds of_files (initial_world true chain magic greatest_limits (all_added [] nodes) now) false
       (λ acked flight. Unit {0}) after c t e
 
 -- the records of file 0, up to the size that was told of it, are no chain
@@ -153,18 +165,19 @@ IsUnserved status.OtherChain = Unit {0}
 IsUnserved status.BadChain = Unit {0}
 IsUnserved other = ⊥
 
--- How a call ends. The words of `serve` ask for an index on a disk, which reads as that of `chain`, and give
+-- How a call ends. The words of `serve` ask for an index on a disk, which reads as one with this chain, and give
 -- the limits of the unconfirmed set; `was` was acknowledged before, and `flight` was in flight. `leaves` says
 -- of a magic and two chains that all that a crash may leave of the disk in the end stands for the one or for
 -- the other, as an index of that network.
 pub data Ends {A : Type 0} (of_files : block_files.Ghosts A)
-    (words : List (List ℕ)) (was flight chain : Chain) (leaves : List ℕ → Chain → Chain → Type 0) (c : Counts)
-    (before after : A) (t : Trace) (s : Status) : Type 0 where
+    (words : List (List ℕ)) (was flight : Chain) (index : IndexChain)
+    (leaves : List ℕ → Chain → Chain → Type 0) (c : Counts) (before after : A) (t : Trace) (s : Status)
+    : Type 0 where
   usage : IsNoCommand words → s ≡ status.Usage → IsSilent c t []
-      → Ends of_files words was flight chain leaves c before after t s
+      → Ends of_files words was flight index leaves c before after t s
   serve : (magic : List ℕ) (asked : IsServe words magic)
-      → IndexEnds of_files magic asked.said.settings.limits was flight chain (leaves magic) c before after t s
-      → Ends of_files words was flight chain leaves c before after t s
+      → IndexEnds of_files magic asked.said.settings.limits was flight index (leaves magic) c before after t s
+      → Ends of_files words was flight index leaves c before after t s
   once : (magic : List ℕ) → IsOnce words magic
       → OnceEnds of_files magic c (of_files.bytes before) (of_files.bytes after) t s
-      → Ends of_files words was flight chain leaves c before after t s
+      → Ends of_files words was flight index leaves c before after t s

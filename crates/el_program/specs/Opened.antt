@@ -1,5 +1,5 @@
 -- What the program knows before the first arrival.
-use Rattle.std.specs.Prelude.{◌≡◌, ℕ, List, [], ◌∷◌, map}
+use Rattle.std.specs.Prelude.{◌≡◌, ℕ, Bool, true, List, [], ◌∷◌, map}
 use Rattle.std.specs.List.{AllByRecursion}
 use Rattle.el_outside.specs.declared.archive.Archive as block_files
 use Rattle.el_outside.specs.declared.archive.TheConstants.{MOST_FILES}
@@ -27,6 +27,21 @@ node_of_block b = record { hash = block_hash b.block.header; header = b.block.he
 -- the nodes of the chain's blocks, in their order
 abbrev pub nodes_of_chain : Chain → List Node
 nodes_of_chain chain = map node_of_block chain
+
+-- The chain that an index has, as far as that is sure: where it isn't, the index may stand for no chain, and this
+-- one is a name that says nothing.
+pub record IndexChain : Type 0 where
+  pub sure : Bool
+  pub chain : Chain
+
+-- a chain that the index surely has
+abbrev pub certain : Chain → IndexChain
+certain chain = record { sure = true; chain = chain }
+
+-- The headers that an index tells: where its chain is sure, they are those of its blocks.
+pub record AreHeaders (index : IndexChain) (headers : List Node) : Type 0 where
+  pub each : AllByRecursion IsNode headers
+  pub of_chain : index.sure ≡ true → headers ≡ nodes_of_chain index.chain
 
 -- The nodes are those of all records of all block files, each file up to the size that was told of it, in the
 -- order of their places. Whatever the files tell, the head of each node's record was read from one of them.

@@ -2,12 +2,12 @@
 ghost use Rattle.std.specs.Prelude.{◌≡◌, ◌≢◌, ℕ, List, [], Err, IfOk, OnOk, IsErrOf, true, false};
 ghost use Rattle.std.specs.List.{AllByRecursion};
 ghost use Rattle.el_outside.specs.Counts.{OnlyReads, CountsOnly};
-ghost use Rattle.el_chain.specs.Chains.{Chain};
 ghost use Rattle.el_chain.specs.Records.{IsNode};
 ghost use Rattle.el_chain.specs.declared.node.Node as shape;
 ghost use Rattle.el_files.specs.Scanning.{ScansOnce};
 ghost use Rattle.el_model.specs.LedgerCalls.{Asked};
-ghost use Rattle.el_program.specs.Opened.{IsScanned, all_added, nodes_of_chain};
+ghost use Rattle.el_program.specs.Ends.{IsOtherChain};
+ghost use Rattle.el_program.specs.Opened.{IndexChain, AreHeaders, IsScanned, all_added};
 ghost use Rattle.el_program.specs.OtherChain as other;
 ghost use Rattle.el_program.specs.within.Unread.{start_fault, index_fault};
 
@@ -134,15 +134,13 @@ pub fn open_headers<G: Ledger, A: Archive>(
     magic: [u8; 4],
 ) -> Result<HeaderTree, StartFault>
     requires live { G.is_live ledger.old }
-    ensures opened { (chain : Chain) → G.stands ledger.old chain → IfOk result (λ tree.
-        (nodes : List shape.Node)
+    ensures opened { (index : IndexChain) → (index.sure ≡ true → G.stands ledger.old index.chain)
+        → IfOk result (λ tree. (headers nodes : List shape.Node) × AreHeaders index headers
         × IsScanned ⟦<A as Archive>⟧ magic archive.old archive.new nodes
-        × (tree ≡ all_added (all_added [] (nodes_of_chain chain)) nodes)
-        × (other.is_other_chain (nodes_of_chain chain) nodes ≡ false)) }
-    ensures other { (chain : Chain) → G.stands ledger.old chain → IsErrOf result StartFault.OtherChain
-        → (nodes : List shape.Node)
-        × IsScanned ⟦<A as Archive>⟧ magic archive.old archive.new nodes
-        × (other.is_other_chain (nodes_of_chain chain) nodes ≡ true) }
+        × (tree ≡ all_added (all_added [] headers) nodes)
+        × (other.is_other_chain headers nodes ≡ false)) }
+    ensures other { (index : IndexChain) → (index.sure ≡ true → G.stands ledger.old index.chain)
+        → IsErrOf result StartFault.OtherChain → IsOtherChain ⟦<A as Archive>⟧ magic index archive.old archive.new }
     // The block files are scanned once.
     ensures calls { A.tells → OnOk result (ScansOnce ⟦<A as Archive>⟧ archive.old archive.new) }
     ensures quiet { Asked ⟦<G as Ledger>⟧ ledger.old ledger.new }

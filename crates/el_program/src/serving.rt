@@ -1,5 +1,5 @@
 // The whole of the program.
-ghost use Rattle.std.specs.Prelude.{◌≡◌, ◌≢◌, ◌<◌, ℕ, List, [], IfOk, IsErrOf};
+ghost use Rattle.std.specs.Prelude.{◌≡◌, ◌≢◌, ◌<◌, ℕ, true, List, [], IfOk, IsErrOf};
 ghost use Rattle.el_outside.specs.Counts.{OnlyReads};
 ghost use Rattle.el_outside.specs.Files.{AllGrow};
 ghost use Rattle.el_outside.specs.Trace.{Trace};
@@ -12,7 +12,7 @@ ghost use Rattle.el_program.specs.AnyCall.{IsCall};
 ghost use Rattle.el_loop.specs.Counts.{counts_of, devices};
 ghost use Rattle.el_program.specs.Calls.{call};
 ghost use Rattle.el_program.specs.OtherFiles.{OthersStay};
-ghost use Rattle.el_program.specs.Opened.{IsRead, all_added};
+ghost use Rattle.el_program.specs.Opened.{IndexChain, IsRead, all_added};
 ghost use Rattle.el_program.specs.Statuses.{ShowsCause};
 ghost use Rattle.el_loop.specs.Runs.{WentBy};
 ghost use Rattle.el_program.specs.Ends.{OnceEnds, IndexEnds, IsBadFile, IsUnserved, IsUnopened};
@@ -80,10 +80,11 @@ fn serve_disk<W: Threads + Sync, D: Disk, N: NetworkMagic, A: Archive, K: Link>(
     pace: &(dyn Pace + Sync),
     turns: u64,
 ) -> (Status, D)
-    ensures ends { (was flight chain : Chain) → IsIndexDisk ⟦<D as Disk>⟧ N.magic disk was flight chain
+    ensures ends { (was flight : Chain) (index : IndexChain)
+        → (index.sure ≡ true → IsIndexDisk ⟦<D as Disk>⟧ N.magic disk was flight index.chain)
         → (traffic : Trace)
         × WentBy ⟦<K as Link>⟧ link.old link.new traffic
-        × IndexEnds ⟦<A as Archive>⟧ N.magic limits was flight chain
+        × IndexEnds ⟦<A as Archive>⟧ N.magic limits was flight index
         (LeavesOneOf ⟦<D as Disk>⟧ N.magic result.1) (counts_of D.faults ⟦<A as Archive>⟧ ⟦<K as Link>⟧ turns
         (devices disk archive.old link.old) (devices result.1 archive.new link.new))
         archive.old archive.new traffic result.0 }
@@ -131,11 +132,11 @@ fn serve_network<W: Threads + Sync, D: Disk, A: Archive, K: Link>(
     pace: &(dyn Pace + Sync),
     turns: u64,
 ) -> (Status, D)
-    ensures ends { (was flight chain : Chain)
-        → IsIndexDisk ⟦<D as Disk>⟧ (network_magic network) disk was flight chain
+    ensures ends { (was flight : Chain) (index : IndexChain)
+        → (index.sure ≡ true → IsIndexDisk ⟦<D as Disk>⟧ (network_magic network) disk was flight index.chain)
         → (traffic : Trace)
         × WentBy ⟦<K as Link>⟧ link.old link.new traffic
-        × IndexEnds ⟦<A as Archive>⟧ (network_magic network) limits was flight chain
+        × IndexEnds ⟦<A as Archive>⟧ (network_magic network) limits was flight index
         (LeavesOneOf ⟦<D as Disk>⟧ (network_magic network) result.1)
         (counts_of D.faults ⟦<A as Archive>⟧ ⟦<K as Link>⟧ turns
         (devices disk archive.old link.old) (devices result.1 archive.new link.new))

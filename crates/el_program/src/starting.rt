@@ -1,13 +1,13 @@
 // A run from an index that is open.
-ghost use Rattle.std.specs.Prelude.{◌≡◌};
+ghost use Rattle.std.specs.Prelude.{◌≡◌, true};
 ghost use Rattle.el_outside.specs.Files.{AllGrow};
 ghost use Rattle.el_outside.specs.Trace.{Trace};
-ghost use Rattle.el_chain.specs.Chains.{Chain};
 ghost use Rattle.el_model.specs.Keeping.{LeavesEither};
 ghost use Rattle.el_model.specs.LedgerCalls.{KeepsBeside};
 ghost use Rattle.el_loop.specs.Counts.{counts_of, devices};
 ghost use Rattle.el_loop.specs.Runs.{WentBy};
 ghost use Rattle.el_program.specs.Ends.{ServeEnds, IsUnserved, IsOpenedEnd};
+ghost use Rattle.el_program.specs.Opened.{IndexChain};
 ghost use Rattle.el_program.specs.Statuses.{ShowsCause};
 ghost use Rattle.el_program.specs.within.Unread.{start_status};
 
@@ -46,9 +46,9 @@ pub fn serve_index<W: Threads + Sync, G: Ledger, A: Archive, K: Link>(
     turns: u64,
 ) -> (Status, G)
     requires live { G.is_live ledger }
-    ensures ends { (chain : Chain) → G.stands ledger chain → (traffic : Trace)
+    ensures ends { (index : IndexChain) → (index.sure ≡ true → G.stands ledger index.chain) → (traffic : Trace)
         × WentBy ⟦<K as Link>⟧ link.old link.new traffic
-        × ServeEnds ⟦<A as Archive>⟧ magic limits chain
+        × ServeEnds ⟦<A as Archive>⟧ magic limits index
         (LeavesEither G.tells_crash G.means G.moment G.left_since result.1)
         (counts_of G.faults ⟦<A as Archive>⟧ ⟦<K as Link>⟧ turns
         (devices ledger archive.old link.old) (devices result.1 archive.new link.new))

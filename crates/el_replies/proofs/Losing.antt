@@ -7,9 +7,7 @@ use Rattle.el_outside.specs.Counts.{RoseBy}
 use Rattle.el_outside.specs.Devices.{Device, link, archive, disk, failures}
 use Rattle.el_outside.proofs.Devices.{failures_on}
 use Rattle.el_outside.proofs.Traces.{rose_none, rose_more}
-use Rattle.el_tx.specs.declared.types.Tx.{Tx}
-use Rattle.el_chain.specs.Chains.{Chain}
-use Rattle.el_chain.specs.declared.node.Node.{Node}
+use Rattle.el_side.specs.Side.{Side}
 use Rattle.el_json.specs.declared.request.Request.{Request}
 use Rattle.el_json.specs.declared.request.Item.TheVariants.{Good}
 use Rattle.el_replies.specs.Batches.{Replies, InTime, Step, with_reply}
@@ -18,7 +16,6 @@ use Rattle.el_replies.specs.Losses as told
 use Rattle.el_replies.specs.Requested.{IsAnswered, told_of}
 use Rattle.el_replies.specs.Requested as reply
 use Rattle.el_methods.specs.Outcomes.{IsCounted}
-use Rattle.el_calls.specs.declared.call.Call.{Call}
 use Rattle.el_calls.specs.declared.refusal.Refusal.{Refusal}
 use Rattle.el_calls.specs.declared.refusal.Refusal.TheVariants as refusal
 use Rattle.el_sessions.specs.declared.session.Session.{Session}
@@ -53,11 +50,10 @@ pub never_less : (d e a b : ℕ) (given : Result Data Stop)
 never_less d e a b given h =
     let n = counts (λ n. RoseBy d e n) (λ n. RoseBy a b n) given h in (rises d e _ n.0, rises a b _ n.1)
 
-pub with_losses : (has : Call → Type 0) (chain : Chain) (kept : List Tx) (found : List Node) (r : Request)
-    (s t : Session) (d e a b : ℕ) (answered : Result Data Refusal)
-    → IsAnswered has chain kept found r s (λ n. RoseBy d e n) (λ n. RoseBy a b n) answered t
-    → Loses d e a b (λ before after. AnswersOf has chain kept found before r s answered after t)
-with_losses has chain kept found r s t d e a b answered (reply.refused x c is same p q) =
+pub with_losses : (tells : Type 0) (side : Side) (r : Request) (s t : Session) (d e a b : ℕ) (answered : Result Data Refusal)
+    → IsAnswered tells side r s (λ n. RoseBy d e n) (λ n. RoseBy a b n) answered t
+    → Loses d e a b (λ before after. AnswersOf tells side before r s answered after t)
+with_losses tells side r s t d e a b answered (reply.refused x c is same p q) =
     record {
       lost = [];
       done = λ before. ([], told.refused x c is same refl, refl);
@@ -65,11 +61,11 @@ with_losses has chain kept found r s t d e a b answered (reply.refused x c is sa
       archive_count = q;
       no_link = refl;
     }
-with_losses has chain kept found r s t d e a b answered (reply.asked c given is tells so count) =
+with_losses tells side r s t d e a b answered (reply.asked c given is says so count) =
     let n = counts (λ n. RoseBy d e n) (λ n. RoseBy a b n) given count in
     record {
       lost = losses_of given;
-      done = λ before. (losses_of given, told.asked c given is tells so refl, refl);
+      done = λ before. (losses_of given, told.asked c given is says so refl, refl);
       disk_count = n.0;
       archive_count = n.1;
       no_link = none_of_link given;
@@ -165,16 +161,14 @@ none_of_result (Err stop.Archive) (Err r) is ok = absurd (true≢false (sym ok))
 none_of_result (Err stop.Changed) answered is ok = refl
 none_of_result (Err stop.Memory) answered is ok = refl
 
-none_of_told : (has : Call → Type 0) (chain : Chain) (kept : List Tx) (found : List Node) (r : Request)
-    (s t : Session) (answered : Result Data Refusal) (lost : List Device)
-    → IsTold has chain kept found r s answered t lost → IsOk answered → lost ≡ []
-none_of_told has chain kept found r s t answered lost (told.refused e c is same none) ok = none
-none_of_told has chain kept found r s t answered lost (told.asked c given is tells so lost_is) ok =
-    lost_is ∙ none_of_result given answered tells ok
+none_of_told : (tells : Type 0) (side : Side) (r : Request) (s t : Session) (answered : Result Data Refusal) (lost : List Device)
+    → IsTold tells side r s answered t lost → IsOk answered → lost ≡ []
+none_of_told tells side r s t answered lost (told.refused e c is same none) ok = none
+none_of_told tells side r s t answered lost (told.asked c given is says so lost_is) ok =
+    lost_is ∙ none_of_result given answered says ok
 
-pub result_unlost : (has : Call → Type 0) (chain : Chain) (kept : List Tx) (found : List Node)
-    (before after : List Device) (r : Request) (s t : Session) (answered : Result Data Refusal)
-    → AnswersOf has chain kept found before r s answered after t → IsOk answered → after ≡ before
-result_unlost has chain kept found before after r s t answered h ok =
-    h.2 ∙ ap (λ (l : List Device). before ++ l) (none_of_told has chain kept found r s t answered h.0 h.1 ok)
+pub result_unlost : (tells : Type 0) (side : Side) (before after : List Device) (r : Request) (s t : Session) (answered : Result Data Refusal)
+    → AnswersOf tells side before r s answered after t → IsOk answered → after ≡ before
+result_unlost tells side before after r s t answered h ok =
+    h.2 ∙ ap (λ (l : List Device). before ++ l) (none_of_told tells side r s t answered h.0 h.1 ok)
     ∙ append-nil before

@@ -3,11 +3,9 @@ use Rattle.std.specs.Prelude.{◌≡◌, ℕ, List, [], ◌∷◌, ◌++◌, Som
 use Rattle.serde_json.specs.Data.{Data}
 use Rattle.el_outside.specs.Counts.{RoseBy}
 use Rattle.el_outside.specs.Devices.{Device, link, archive, disk, failures}
-use Rattle.el_tx.specs.declared.types.Tx.{Tx}
-use Rattle.el_chain.specs.Chains.{Chain}
-use Rattle.el_chain.specs.declared.node.Node.{Node}
 use Rattle.el_json.specs.declared.request.Request.{Request}
 use Rattle.el_calls.specs.Methods.{IsCalled}
+use Rattle.el_side.specs.Side.{Side}
 use Rattle.el_methods.specs.Replied.{IsGiven}
 use Rattle.el_replies.specs.Requested.{told_of}
 use Rattle.el_calls.specs.declared.call.Call.{Call}
@@ -26,24 +24,24 @@ losses_of (Err stop.Archive) = archive ∷ []
 losses_of (Err stop.Changed) = []
 losses_of (Err stop.Memory) = []
 
--- The client with this session is told so of the request, has that session then, and this was lost. `has` is
--- that the block files have what a call asks for.
-pub data IsTold (has : Call → Type 0) (chain : Chain) (kept : List Tx) (found : List Node) (r : Request)
-    (s : Session) (told : Result Data Refusal) (t : Session) (lost : List Device) : Type 0 where
+-- The client with this session is told so of the request over the side, has that session then, and this was
+-- lost. `tells` is that the block files tell what they hold.
+pub data IsTold (tells : Type 0) (side : Side) (r : Request) (s : Session) (told : Result Data Refusal)
+    (t : Session) (lost : List Device) : Type 0 where
   -- it asks for no call
   refused : (e : Refusal) → IsCalled r.method r.params (Err e) → told ≡ Err e → t ≡ s → lost ≡ []
-      → IsTold has chain kept found r s told t lost
+      → IsTold tells side r s told t lost
   -- it asks for this call
   asked : (c : Call) (given : Result Data Stop)
       → IsCalled r.method r.params (Ok c) → told_of given ≡ Some told
-      → IsGiven has chain kept found c s t given → lost ≡ losses_of given
-      → IsTold has chain kept found r s told t lost
+      → IsGiven tells side c s t given → lost ≡ losses_of given
+      → IsTold tells side r s told t lost
 
 -- As `IsTold`, where `before` was lost already, and `after` is that with what this request lost.
-abbrev pub AnswersOf : (Call → Type 0) → Chain → List Tx → List Node → List Device → Request → Session
-    → Result Data Refusal → List Device → Session → Type 0
-AnswersOf has chain kept found before r s told after t =
-    (lost : List Device) × IsTold has chain kept found r s told t lost × (after ≡ before ++ lost)
+abbrev pub AnswersOf : Type 0 → Side → List Device → Request → Session → Result Data Refusal → List Device
+    → Session → Type 0
+AnswersOf tells side before r s told after t =
+    (lost : List Device) × IsTold tells side r s told t lost × (after ≡ before ++ lost)
 
 -- Something was done, and this was lost meanwhile, whatever was lost before; the counts of the index's
 -- device and of the block files rose by as many, and no call of the link was made.

@@ -1,12 +1,9 @@
--- What a request is answered over a chain and the unconfirmed transactions that are kept: what is defined, or
--- that a device failed, which its count tells.
-use Rattle.std.specs.Prelude.{◌≡◌, ℕ, List, Option, None, Some, Result, Ok, Err}
+-- What a request is answered over a side: what is defined, or that a device failed, which its count tells.
+use Rattle.std.specs.Prelude.{◌≡◌, ℕ, Option, None, Some, Result, Ok, Err}
 use Rattle.serde_json.specs.Data.{Data}
-use Rattle.el_tx.specs.declared.types.Tx.{Tx}
-use Rattle.el_chain.specs.Chains.{Chain}
-use Rattle.el_chain.specs.declared.node.Node.{Node}
 use Rattle.el_json.specs.declared.request.Request.{Request}
 use Rattle.el_calls.specs.Methods.{IsCalled}
+use Rattle.el_side.specs.Side.{Side}
 use Rattle.el_methods.specs.Outcomes.{IsCounted}
 use Rattle.el_methods.specs.Replied.{IsGiven}
 use Rattle.el_calls.specs.declared.call.Call.{Call}
@@ -25,16 +22,16 @@ told_of (Err stop.Archive) = Some (Err refusal.ArchiveFailed)
 told_of (Err stop.Changed) = Some (Err refusal.ArchiveChanged)
 told_of (Err stop.Memory) = None
 
--- The client with this session is told so of the request, and has that session then. `has` is that the block
--- files have what a call asks for; `disk` and `archive` say by how much the counts of the two devices
+-- The client with this session is told so of the request over the side, and has that session then. `tells` is
+-- that the block files tell what they hold; `disk` and `archive` say by how much the counts of the two devices
 -- rose.
-pub data IsAnswered (has : Call → Type 0) (chain : Chain) (kept : List Tx) (found : List Node) (r : Request)
-    (s : Session) (disk archive : ℕ → Type 0) (told : Result Data Refusal) (t : Session) : Type 0 where
+pub data IsAnswered (tells : Type 0) (side : Side) (r : Request) (s : Session) (disk archive : ℕ → Type 0)
+    (told : Result Data Refusal) (t : Session) : Type 0 where
   -- it asks for no call
   refused : (e : Refusal) → IsCalled r.method r.params (Err e) → told ≡ Err e → t ≡ s → disk 0 → archive 0
-      → IsAnswered has chain kept found r s disk archive told t
+      → IsAnswered tells side r s disk archive told t
   -- it asks for this call
   asked : (c : Call) (given : Result Data Stop)
       → IsCalled r.method r.params (Ok c) → told_of given ≡ Some told
-      → IsGiven has chain kept found c s t given → IsCounted disk archive given
-      → IsAnswered has chain kept found r s disk archive told t
+      → IsGiven tells side c s t given → IsCounted disk archive given
+      → IsAnswered tells side r s disk archive told t

@@ -2,11 +2,10 @@
 ghost use Rattle.std.specs.Prelude.{◌≡◌, ◌<◌, ◌≤◌, ◌+◌, ℕ, List, IfOk, IsOk, OnOk, OnErr, Ok, Err, MatchResult, MatchOption, option_map, length, vec_capacity};
 ghost use Rattle.serde_json.specs.Written.{compact_text};
 ghost use Rattle.el_outside.specs.Files.{AllGrow};
-ghost use Rattle.el_chain.specs.Chains.{Chain};
 ghost use Rattle.el_model.specs.LedgerCalls.{Asked};
-ghost use Rattle.el_methods.specs.Archives.{HasAsked};
-ghost use Rattle.el_mempool.specs.Standing.{StandsFor};
-ghost use Rattle.el_tx.specs.declared.types.Tx as shape;
+ghost use Rattle.el_side.specs.Beneath.{beneath, ghosts};
+ghost use Rattle.el_side.specs.NodeSteps.{IsSettled};
+ghost use Rattle.el_side.specs.Side.{Side};
 ghost use Rattle.el_replies.specs.Envelopes.{reply_value};
 ghost use Rattle.el_replies.specs.Losses.{AnswersOf, Loses};
 ghost use Rattle.el_replies.specs.Batches.{added, noted, with_reply, InTime, Step, Steps, CutSteps};
@@ -187,12 +186,11 @@ fn answer_in_time<G: Ledger, A: Archive>(
     requires live { G.is_live ledger.old }
     requires id { IsPrintableId request.id }
     requires end { HasEnd replies.old }
-    ensures answered { (chain : Chain) (kept : List shape.Tx) (files : ℕ → List ℕ)
-        → G.stands ledger.old chain → StandsFor holdings.now.pool.entries chain kept
-        → (A.tells → AllGrow files (A.bytes archive.old)) → Loses
+    ensures answered { (side : Side) → IsSettled (ghosts ⟦<G as Ledger>⟧ ⟦<A as Archive>⟧)
+        (beneath ledger.old archive.old) holdings.now side → Loses
         (G.faults ledger.old) (G.faults ledger.new) (A.faults archive.old) (A.faults archive.new)
         (λ before after. MatchResult result
-        (λ _. InTime (AnswersOf (λ c. A.tells × HasAsked files chain c) chain kept holdings.now.tree)
+        (λ _. InTime (AnswersOf A.tells side)
         request before session.old (replies_of replies.old) after session.new (replies_of replies.new))
         (λ _. after ≡ before)) }
     ensures end { OnOk result (HasEnd replies.new) }
@@ -221,12 +219,11 @@ fn answer_item<G: Ledger, A: Archive>(
     requires live { G.is_live ledger.old }
     requires printable { HasPrintableId item }
     requires end { HasEnd replies.old }
-    ensures answered { (chain : Chain) (kept : List shape.Tx) (files : ℕ → List ℕ)
-        → G.stands ledger.old chain → StandsFor holdings.now.pool.entries chain kept
-        → (A.tells → AllGrow files (A.bytes archive.old)) → Loses
+    ensures answered { (side : Side) → IsSettled (ghosts ⟦<G as Ledger>⟧ ⟦<A as Archive>⟧)
+        (beneath ledger.old archive.old) holdings.now side → Loses
         (G.faults ledger.old) (G.faults ledger.new) (A.faults archive.old) (A.faults archive.new)
         (λ before after. MatchResult result
-        (λ _. Step (AnswersOf (λ c. A.tells × HasAsked files chain c) chain kept holdings.now.tree)
+        (λ _. Step (AnswersOf A.tells side)
         item before session.old (replies_of replies.old) after session.new (replies_of replies.new))
         (λ _. after ≡ before)) }
     ensures end { OnOk result (HasEnd replies.new) }
@@ -262,14 +259,13 @@ pub(crate) fn answer_items<G: Ledger, A: Archive>(
 ) -> Result<(), OutOfMemory>
     requires live { G.is_live ledger.old }
     requires end { HasEnd replies.old }
-    ensures answered { (chain : Chain) (kept : List shape.Tx) (files : ℕ → List ℕ)
-        → G.stands ledger.old chain → StandsFor holdings.now.pool.entries chain kept
-        → (A.tells → AllGrow files (A.bytes archive.old)) → Loses
+    ensures answered { (side : Side) → IsSettled (ghosts ⟦<G as Ledger>⟧ ⟦<A as Archive>⟧)
+        (beneath ledger.old archive.old) holdings.now side → Loses
         (G.faults ledger.old) (G.faults ledger.new) (A.faults archive.old) (A.faults archive.new)
         (λ before after. MatchResult result
-        (λ _. Steps (AnswersOf (λ c. A.tells × HasAsked files chain c) chain kept holdings.now.tree)
+        (λ _. Steps (AnswersOf A.tells side)
         elements.old before session.old (replies_of replies.old) after session.new (replies_of replies.new))
-        (λ _. CutSteps (AnswersOf (λ c. A.tells × HasAsked files chain c) chain kept holdings.now.tree)
+        (λ _. CutSteps (AnswersOf A.tells side)
         elements.old before session.old (replies_of replies.old) after)) }
     ensures end { OnOk result (HasEnd replies.new) }
     ensures edits { Edits session.old.subs session.new.subs }

@@ -3,11 +3,10 @@ ghost use Rattle.std.specs.Prelude.{◌≡◌, ◌≤◌, ◌++◌, ◌∷◌, �
 ghost use Rattle.serde_json.specs.Written.{compact_text};
 ghost use Rattle.el_json.specs.Lines.{IsPrintable, IsPrintableId};
 ghost use Rattle.el_outside.specs.Files.{AllGrow};
-ghost use Rattle.el_chain.specs.Chains.{Chain};
 ghost use Rattle.el_model.specs.LedgerCalls.{Asked};
-ghost use Rattle.el_methods.specs.Archives.{HasAsked};
-ghost use Rattle.el_mempool.specs.Standing.{StandsFor};
-ghost use Rattle.el_tx.specs.declared.types.Tx as shape;
+ghost use Rattle.el_side.specs.Beneath.{beneath, ghosts};
+ghost use Rattle.el_side.specs.NodeSteps.{IsSettled};
+ghost use Rattle.el_side.specs.Side.{Side};
 ghost use Rattle.el_replies.specs.Losses.{AnswersOf, Loses};
 ghost use Rattle.el_replies.specs.Batches.{CutSteps, is_closing};
 ghost use Rattle.el_replies.specs.LineReplies.{message, message_to, reply_to, says, batch_message, no_replies, IsReplyTo, IsLineReply};
@@ -134,12 +133,11 @@ fn one_reply<G: Ledger, A: Archive>(
 ) -> Result<LineReply, OutOfMemory>
     requires live { G.is_live ledger.old }
     requires printable { IsPrintableId request.id }
-    ensures answered { (chain : Chain) (kept : List shape.Tx) (files : ℕ → List ℕ)
-        → G.stands ledger.old chain → StandsFor holdings.now.pool.entries chain kept
-        → (A.tells → AllGrow files (A.bytes archive.old)) → Loses
+    ensures answered { (side : Side) → IsSettled (ghosts ⟦<G as Ledger>⟧ ⟦<A as Archive>⟧)
+        (beneath ledger.old archive.old) holdings.now side → Loses
         (G.faults ledger.old) (G.faults ledger.new) (A.faults archive.old) (A.faults archive.new)
         (λ before after. MatchResult result
-        (λ reply. IsReplyTo (AnswersOf (λ c. A.tells × HasAsked files chain c) chain kept holdings.now.tree)
+        (λ reply. IsReplyTo (AnswersOf A.tells side)
         (Ok (Envelope.One request)) before session.old after session.new reply)
         (λ _. after ≡ before)) }
     ensures edits { Edits session.old.subs session.new.subs }
@@ -176,14 +174,13 @@ fn batch_reply<G: Ledger, A: Archive>(
     elements: Elements,
 ) -> Result<LineReply, OutOfMemory>
     requires live { G.is_live ledger.old }
-    ensures answered { (chain : Chain) (kept : List shape.Tx) (files : ℕ → List ℕ)
-        → G.stands ledger.old chain → StandsFor holdings.now.pool.entries chain kept
-        → (A.tells → AllGrow files (A.bytes archive.old)) → Loses
+    ensures answered { (side : Side) → IsSettled (ghosts ⟦<G as Ledger>⟧ ⟦<A as Archive>⟧)
+        (beneath ledger.old archive.old) holdings.now side → Loses
         (G.faults ledger.old) (G.faults ledger.new) (A.faults archive.old) (A.faults archive.new)
         (λ before after. MatchResult result
-        (λ reply. IsReplyTo (AnswersOf (λ c. A.tells × HasAsked files chain c) chain kept holdings.now.tree)
+        (λ reply. IsReplyTo (AnswersOf A.tells side)
         (Ok (Envelope.Batch elements)) before session.old after session.new reply)
-        (λ _. CutSteps (AnswersOf (λ c. A.tells × HasAsked files chain c) chain kept holdings.now.tree)
+        (λ _. CutSteps (AnswersOf A.tells side)
         elements before session.old no_replies after)) }
     ensures edits { Edits session.old.subs session.new.subs }
     ensures disk_more { G.faults ledger.old ≤ G.faults ledger.new }
@@ -234,12 +231,11 @@ pub fn reply_line<G: Ledger, A: Archive>(
 ) -> Result<LineReply, OutOfMemory>
     requires live { G.is_live ledger.old }
     // `files` are the bytes of the block files at some moment before, as the server knows them.
-    ensures answered { (chain : Chain) (kept : List shape.Tx) (files : ℕ → List ℕ)
-        → G.stands ledger.old chain → StandsFor holdings.now.pool.entries chain kept
-        → (A.tells → AllGrow files (A.bytes archive.old)) → Loses
+    ensures answered { (side : Side) → IsSettled (ghosts ⟦<G as Ledger>⟧ ⟦<A as Archive>⟧)
+        (beneath ledger.old archive.old) holdings.now side → Loses
         (G.faults ledger.old) (G.faults ledger.new) (A.faults archive.old) (A.faults archive.new)
         (λ before after. IsLineReply
-        (AnswersOf (λ c. A.tells × HasAsked files chain c) chain kept holdings.now.tree)
+        (AnswersOf A.tells side)
         line.now before session.old after session.new result) }
     // No subscription is dropped, and new ones come last, whatever the ledger stands for.
     ensures edits { Edits session.old.subs session.new.subs }

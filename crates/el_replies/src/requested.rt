@@ -2,11 +2,10 @@
 ghost use Rattle.std.specs.Prelude.{◌≡◌, ◌≤◌, ℕ, List, IfOk, OnErr, MatchOption, Some, None};
 ghost use Rattle.el_outside.specs.Counts.{RoseBy};
 ghost use Rattle.el_outside.specs.Files.{AllGrow};
-ghost use Rattle.el_chain.specs.Chains.{Chain};
 ghost use Rattle.el_model.specs.LedgerCalls.{Asked};
-ghost use Rattle.el_methods.specs.Archives.{HasAsked};
-ghost use Rattle.el_mempool.specs.Standing.{StandsFor};
-ghost use Rattle.el_tx.specs.declared.types.Tx as shape;
+ghost use Rattle.el_side.specs.Beneath.{beneath, ghosts};
+ghost use Rattle.el_side.specs.NodeSteps.{IsSettled};
+ghost use Rattle.el_side.specs.Side.{Side};
 ghost use Rattle.el_replies.specs.Requested.{IsAnswered, told_of};
 ghost use Rattle.el_methods.specs.Outcomes.{IsPrintableAnswer};
 ghost use Rattle.el_sessions.specs.Sessions.{Edits};
@@ -46,10 +45,9 @@ pub fn answer_request<G: Ledger, A: Archive>(
     request: &Request,
 ) -> Result<Result<Answer, Refusal>, OutOfMemory>
     requires live { G.is_live ledger.old }
-    ensures answered { (chain : Chain) (kept : List shape.Tx) (files : ℕ → List ℕ)
-        → G.stands ledger.old chain → StandsFor holdings.now.pool.entries chain kept
-        → (A.tells → AllGrow files (A.bytes archive.old)) → IfOk result
-        (λ told. IsAnswered (λ c. A.tells × HasAsked files chain c) chain kept holdings.now.tree request.now
+    ensures answered { (side : Side) → IsSettled (ghosts ⟦<G as Ledger>⟧ ⟦<A as Archive>⟧)
+        (beneath ledger.old archive.old) holdings.now side → IfOk result
+        (λ told. IsAnswered A.tells side request.now
         session.old (λ n. RoseBy (G.faults ledger.old) (G.faults ledger.new) n)
         (λ n. RoseBy (A.faults archive.old) (A.faults archive.new) n) told session.new) }
     // Where memory runs out nothing is lost.

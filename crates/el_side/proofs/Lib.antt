@@ -1,2 +1,3 @@
 mod PlanLaws
 mod Prefixes
+pub mod Settled

@@ -12,7 +12,7 @@ use Rattle.el_status.specs.Statuses.{status}
 use Rattle.el_status.specs.Untouched.{LooksSame, is_among}
 use Rattle.el_side.specs.declared.holdings.Holdings.{Holdings}
 use Rattle.el_side.specs.Beneath.{Beneath, Ghosts, Lost}
-use Rattle.el_side.specs.Side.{Side}
+use Rattle.el_side.specs.Side.{Side, IsSure}
 
 -- What is held beside the headers, the magic and the unconfirmed set stands for the side, and for the start
 -- of its last tip line: there is nothing.
@@ -20,19 +20,31 @@ abbrev pub StandsBeside : Holdings → Side → Chain → Type 0
 StandsBeside holdings side start = ⊤
 
 -- The set stands for the transactions that are kept, over the chain that was there when the node's last tip
--- line began, its start: that is the side's chain where the line left nothing to do.
+-- line began, its start: that is the side's chain where the line left nothing to do. Of a side that is unsure
+-- the set may hold anything.
 pub record SetStands (holdings : Holdings) (side : Side) (start : Chain) : Type 0 where
-  pub stood : StandsFor holdings.pool.entries start side.kept
-  pub beside : StandsBeside holdings side start
+  pub stood : IsSure side → StandsFor holdings.pool.entries start side.kept
+  pub beside : IsSure side → StandsBeside holdings side start
   pub still : side.ahead ≡ [] → start ≡ side.chain
   pub limits : holdings.pool.limits ≡ side.limits
 
--- the ledger stands for the side's chain, the set for what is kept, and the block files have all that the
--- side knows of them
+-- the ledger stands for the side's chain, where that is sure, the set for what is kept, and the block files
+-- have all that the side knows of them
 pub record IsAt {G A : Type 0} (of : Ghosts G A) (now : Beneath G A) (holdings : Holdings) (side : Side)
     (start : Chain) : Type 0 where
-  pub stood : of.ledger.stands now.ledger side.chain
+  pub stood : IsSure side → of.ledger.stands now.ledger side.chain
   pub set : SetStands holdings side start
+  pub told : of.files.tells → AllGrow side.files (of.files.bytes now.files)
+
+-- A client is answered from these: where the side is sure, the ledger stands for its chain, and the set for
+-- what is kept over it; the found headers are the side's, and the block files have all that the side knows of
+-- them.
+pub record IsSettled {G A : Type 0} (of : Ghosts G A) (now : Beneath G A) (holdings : Holdings) (side : Side)
+    : Type 0 where
+  pub stood : IsSure side → of.ledger.stands now.ledger side.chain
+  pub set : IsSure side → StandsFor holdings.pool.entries side.chain side.kept
+  pub beside : IsSure side → StandsBeside holdings side side.chain
+  pub found : holdings.tree ≡ side.found
   pub told : of.files.tells → AllGrow side.files (of.files.bytes now.files)
 
 -- The script hashes that a step touched: `moved` by moving the chain, `changed` in the unconfirmed set. Of
@@ -59,18 +71,19 @@ pub record StepLeft (G A : Type 0) : Type 0 where
   pub holdings : Holdings
 
 -- A step that left this led on from the side, by what `leads` says of the node's answer, of the devices'
--- failures and of the next side.
+-- failures and of the next side. A sure side stays sure, and no other becomes so.
 pub record Leads {G A : Type 0} (of : Ghosts G A) (leads : NodeAnswer → List Device → Side → Type 0)
     (side : Side) (start : Chain) (left : StepLeft G A) : Type 0 where
   pub losses : List Device
   pub next : Side
   pub led : leads left.answer losses next
+  pub sure_is : next.sure ≡ side.sure
   pub magic_is : next.magic ≡ side.magic
   pub found_is : left.found ≡ next.found
   pub ahead_is : left.ahead ≡ next.ahead
   pub next_start : Chain
   pub set : SetStands left.holdings next next_start
-  pub touches : Touches side start next next_start left.moved left.changed
-  pub went : Moved of.ledger left.was.ledger left.now.ledger side.chain next.chain
+  pub touches : IsSure side → Touches side start next next_start left.moved left.changed
+  pub went : IsSure side → Moved of.ledger left.was.ledger left.now.ledger side.chain next.chain
   pub told : of.files.tells → AllGrow next.files (of.files.bytes left.now.files)
   pub rose : Lost of left.was left.now losses

@@ -1,7 +1,7 @@
 -- The side of the world that the node leads, and what each of its lines does to it. The device of each failed
 -- call stands among `losses`. `of_files` is what the type of the block files says of them: whether they tell
 -- what they hold, what that is, and which bytes their reads gave.
-use Rattle.std.specs.Prelude.{◌≡◌, ◌≤◌, ◌<◌, ◌&&◌, ℕ, true, false, not, if◌then◌else◌, MatchBool, List, [], ◌∷◌, ◌++◌, Option, Some, None, IfSome}
+use Rattle.std.specs.Prelude.{◌≡◌, ◌⊎◌, ◌≤◌, ◌<◌, ◌&&◌, ℕ, Bool, true, false, not, if◌then◌else◌, List, [], ◌∷◌, ◌++◌, drop, Option, Some, None, IfSome}
 use Rattle.el_base.specs.declared.hash.Hash32.{Hash32}
 use Rattle.el_outside.specs.Devices.{Device, archive}
 use Rattle.el_outside.specs.Files.{AllGrow}
@@ -31,8 +31,11 @@ use Rattle.el_model.specs.Queries.{height_of, tip_of}
 
 -- What the node leads: the chain that is answered from; the magic of the network; how much may be kept; the
 -- unconfirmed transactions that are kept, in order of arrival; the nodes that were found; the blocks that its
--- last tip line is still to put in; and the bytes of the block files as its last line left them.
+-- last tip line is still to put in; and the bytes of the block files as its last line left them. `sure` is
+-- whether the index stands for the chain, and the unconfirmed set for what is kept. It never changes; of a
+-- side that is unsure the chain and what is kept are names that say nothing.
 pub record Side : Type 0 where
+  pub sure : Bool
   pub chain : Chain
   pub magic : List ℕ
   pub limits : PoolLimits
@@ -41,9 +44,14 @@ pub record Side : Type 0 where
   pub ahead : List Node
   pub files : ℕ → List ℕ
 
+-- the index stands for the side's chain, and the unconfirmed set for what it keeps
+abbrev pub IsSure : Side → Type 0
+IsSure side = side.sure ≡ true
+
 -- the side of a chain before the node said anything
-abbrev pub quiet_side : Chain → List ℕ → PoolLimits → List Node → (ℕ → List ℕ) → Side
-quiet_side chain magic limits found files = record {
+abbrev pub quiet_side : Bool → Chain → List ℕ → PoolLimits → List Node → (ℕ → List ℕ) → Side
+quiet_side sure chain magic limits found files = record {
+  sure = sure;
   chain = chain;
   magic = magic;
   limits = limits;
@@ -93,6 +101,13 @@ abbrev pub kept_after : List Node → Chain → List Tx → List Tx
 kept_after [] chain kept = sift chain kept
 kept_after (n ∷ ns) chain kept = kept
 
+-- What the node may be told of a move, whatever the index stands for, and which blocks are left of these:
+-- where the chain ends, or for what of its blocks the move is refused.
+pub data MayTellMove (rest : List Node) (answer : NodeAnswer) : List Node → Type 0 where
+  made : (hash : Option Hash32) (height : Option ℕ) → answer ≡ say.At hash height
+      → MayTellMove rest answer (left_of rest)
+  refused : (e : MoveFault) → move_refused e ≡ Some answer → MayTellMove rest answer []
+
 -- One move of a tip line, where so many blocks are to be taken back and these are to be put in. The node is
 -- answered, and the side is then `next`.
 pub data Moving {A : Type 0} (of_files : block_files.Ghosts A) (side : Side) (back : ℕ) (rest : List Node)
@@ -119,6 +134,22 @@ pub data Moving {A : Type 0} (of_files : block_files.Ghosts A) (side : Side) (ba
       → answer ≡ say.Refused refusal.Archive
       → next ≡ record side { kept = sift side.chain side.kept; ahead = []; files = files }
       → losses ≡ archive ∷ [] → Moving of_files side back rest answer losses next
+  -- the side is unsure
+  unsure : side.sure ≡ false → (left : List Node) (files : ℕ → List ℕ)
+      → (of_files.tells → AllGrow side.files files) → MayTellMove rest answer left
+      → next ≡ record side { ahead = left; files = files } → losses ≡ []
+      → Moving of_files side back rest answer losses next
+
+-- A tip line of a side that is unsure: so many blocks are said to be taken back, and these are to be put in.
+pub data GoesUnsure {A : Type 0} (of_files : block_files.Ghosts A) (side : Side) (back : ℕ)
+    (rest : List Node) (answer : NodeAnswer) (losses : List Device) (next : Side) : Type 0 where
+  deep : max_back < back → answer ≡ say.Refused (refusal.Deep back) → next ≡ side → losses ≡ []
+      → GoesUnsure of_files side back rest answer losses next
+  there : (hash : Option Hash32) (height : Option ℕ) → back ≡ 0 → rest ≡ []
+      → answer ≡ say.At hash height → next ≡ side → losses ≡ []
+      → GoesUnsure of_files side back rest answer losses next
+  moves : back ≤ max_back → IsMoving back rest → Moving of_files side back rest answer losses next
+      → GoesUnsure of_files side back rest answer losses next
 
 -- A tip line along the path to its block, up to its first move.
 pub data GoesAlong {A : Type 0} (of_files : block_files.Ghosts A) (side : Side) (path : List Node)
@@ -134,6 +165,10 @@ pub data GoesAlong {A : Type 0} (of_files : block_files.Ghosts A) (side : Side) 
   moves : back_of side.chain path ≤ max_back → IsMoving (back_of side.chain path) (rest_of side.chain path)
       → Moving of_files side (back_of side.chain path) (rest_of side.chain path) answer losses next
       → GoesAlong of_files side path answer losses next
+  -- the side is unsure: how much of the path the index has is said by the index alone
+  unsure : side.sure ≡ false → (back same : ℕ)
+      → GoesUnsure of_files side back (drop same path) answer losses next
+      → GoesAlong of_files side path answer losses next
 
 -- A tip line, up to its first move.
 pub data Tips {A : Type 0} (of_files : block_files.Ghosts A) (side : Side) (h : Hash32) (answer : NodeAnswer)
@@ -145,6 +180,11 @@ pub data Tips {A : Type 0} (of_files : block_files.Ghosts A) (side : Side) (h : 
       → Tips of_files side h answer losses next
   along : (path : List Node) → IsPath side.found h path → GoesAlong of_files side path answer losses next
       → Tips of_files side h answer losses next
+
+-- what the node may be told of an unconfirmed transaction, whatever is kept and the index stands for
+pub data MayTellTx (answer : NodeAnswer) : Type 0 where
+  taken : (id : Hash32) → answer ≡ say.Tx id → MayTellTx answer
+  refused : (id : Hash32) (e : PoolFault) → pool_refused id e ≡ Some answer → MayTellTx answer
 
 -- A line that tells an unconfirmed transaction by its bytes.
 pub data Adds (side : Side) (bytes : List ℕ) (answer : NodeAnswer) (losses : List Device) (next : Side)
@@ -160,14 +200,21 @@ pub data Adds (side : Side) (bytes : List ℕ) (answer : NodeAnswer) (losses : L
   -- the bytes are not one whole transaction
   misread : ((t : Tx) → Encodes bytes t → ⊥) → answer ≡ say.Refused refusal.Form → next ≡ side
       → losses ≡ [] → Adds side bytes answer losses next
+  -- the side is unsure
+  unsure : side.sure ≡ false → MayTellTx answer → next ≡ side → losses ≡ []
+      → Adds side bytes answer losses next
 
 -- A line that takes the transaction with that txid out of the kept ones, with those that spend it.
-abbrev pub Drops : Side → Hash32 → NodeAnswer → List Device → Side → Type 0
-Drops side id answer losses next =
-    MatchBool (is_kept id side.kept)
-    ((answer ≡ say.Gone id) × (next ≡ record side { kept = sift side.chain (other_than id side.kept) })
-    × (losses ≡ []))
-    ((answer ≡ say.Refused (refusal.Absent id)) × (next ≡ side) × (losses ≡ []))
+pub data Drops (side : Side) (id : Hash32) (answer : NodeAnswer) (losses : List Device) (next : Side)
+    : Type 0 where
+  goes : is_kept id side.kept ≡ true → answer ≡ say.Gone id
+      → next ≡ record side { kept = sift side.chain (other_than id side.kept) } → losses ≡ []
+      → Drops side id answer losses next
+  absent : is_kept id side.kept ≡ false → answer ≡ say.Refused (refusal.Absent id) → next ≡ side
+      → losses ≡ [] → Drops side id answer losses next
+  -- the side is unsure
+  unsure : side.sure ≡ false → (answer ≡ say.Gone id) ⊎ (answer ≡ say.Refused (refusal.Absent id))
+      → next ≡ side → losses ≡ [] → Drops side id answer losses next
 
 -- what a line of the node says, if it says something
 abbrev pub IsSaid : List ℕ → Option NodeLine → Type 0

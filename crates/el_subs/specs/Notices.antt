@@ -1,7 +1,7 @@
 -- What a client is told without having asked: notifications (JSON-RPC 2.0, section 4.1) of a new tip and of
 -- new statuses, each ended by byte 10 (Electrum Protocol 1.4, blockchain.headers.subscribe and
 -- blockchain.scripthash.subscribe, "Notifications").
-use Rattle.std.specs.Prelude.{ℕ, ◌&&◌, not, if◌then◌else◌, Bool, List, [], ◌∷◌, ◌++◌, codes, map, Option, Result, Ok, Err}
+use Rattle.std.specs.Prelude.{◌≡◌, ℕ, ◌&&◌, not, if◌then◌else◌, Bool, List, [], ◌∷◌, ◌++◌, codes, map, Option, Result, Ok, Err}
 use Rattle.std.specs.Option.{option_eq}
 use Rattle.serde_json.specs.Data.{Data, string, array, no_items, item}
 use Rattle.serde_json.specs.Written.{compact_text}
@@ -49,6 +49,13 @@ script_line sub =
 abbrev pub notices : (Hash32 → Option Hash32) → Option Hash32 → Chain → Session → List (List ℕ)
 notices status before chain session =
     header_lines before chain session.headers ++ map script_line (news status session.subs)
+
+-- the line tells a tip, or the status of a script hash
+pub data IsNotice (line : List ℕ) : Type 0 where
+  of_tip : (shown : Data)
+      → line ≡ line_of (notification (codes "blockchain.headers.subscribe") (array (item shown no_items)))
+      → IsNotice line
+  of_status : (sub : Subscription) → line ≡ script_line sub → IsNotice line
 
 -- what is kept of the client once it was told
 abbrev pub notified : (Hash32 → Option Hash32) → Session → Session

@@ -1,5 +1,6 @@
 // The lines that a client is told.
 ghost use Rattle.std.specs.Prelude.{◌≡◌, ◌≤◌, ◌+◌, ◌++◌, List, map, IfOk, OnOk, codes};
+ghost use Rattle.std.specs.List.{AllByRecursion};
 ghost use Rattle.std.specs.Map.{keys_of};
 ghost use Rattle.serde_json.specs.Data.{array, item, no_items};
 ghost use Rattle.el_base.specs.declared.hash.Hash32 as hash_shape;
@@ -13,7 +14,7 @@ ghost use Rattle.el_view.specs.Rows.{history_rows};
 ghost use Rattle.el_methods.specs.Results as defined;
 ghost use Rattle.el_subs.specs.Told.{status, OthersTold, cost_of};
 ghost use Rattle.el_subs.specs.Notices as noticed;
-ghost use Rattle.el_subs.specs.Notices.{notification, line_of, tip_lines, notices, notified};
+ghost use Rattle.el_subs.specs.Notices.{notification, line_of, tip_lines, notices, notified, IsNotice};
 
 use crate::telling::tell;
 use el_base::{Bytes, Hash32, OutOfMemory};
@@ -87,6 +88,8 @@ fn add_tip_line<G: Ledger>(
     requires live { G.is_live ledger.old }
     ensures line { (chain : Chain) → G.stands ledger.old chain
         → OnOk result (lines.new.items ≡ lines.old.items ++ tip_lines (defined.headers_subscribe chain)) }
+    ensures notices { AllByRecursion IsNotice lines.old.items
+        → OnOk result (AllByRecursion IsNotice lines.new.items) }
     ensures rows { G.reads ledger.new ≤ G.reads ledger.old + 1 }
     ensures quiet { Asked ⟦<G as Ledger>⟧ ledger.old ledger.new }
     ensures cause { CountsOnly (G.faults ledger.old) (G.faults ledger.new) QueryFault.DiskFailed result }
@@ -134,8 +137,10 @@ pub fn notify<G: Ledger>(
         → G.reads ledger.new ≤ G.reads ledger.old
         + (1 + cost_of (λ (x : hash_shape.Hash32). history_rows chain (G.buckets ledger.old) x.0) touched.now
         (keys_of session.old.subs)) }
-    // The script hashes stay, whatever the ledger stands for.
+    // What is told is a tip or a status, and the script hashes stay, whatever the ledger stands for.
+    ensures notices { IfOk result (λ lines. AllByRecursion IsNotice lines.items) }
     ensures keys { keys_of session.new.subs ≡ keys_of session.old.subs }
+    ensures only_subs { session.new ≡ record session.old { subs = session.new.subs } }
     ensures quiet { Asked ⟦<G as Ledger>⟧ ledger.old ledger.new }
     ensures cause { CountsOnly (G.faults ledger.old) (G.faults ledger.new) QueryFault.DiskFailed result }
 {

@@ -1,6 +1,6 @@
 -- What steps leave of a ledger and of block files, of which only the traits are known.
 use Rattle.std.specs.Prelude.{OnErr}
-use Rattle.std.proofs.Common.{◌≡◌, ◌≢◌, inl, Bool, false, ℕ, ◌≤◌, arith, List, [], ◌∷◌, ◌++◌, Option, Some, Result, Ok, Err, refl, sym, ap, ◌∙◌}
+use Rattle.std.proofs.Common.{◌≡◌, ◌≢◌, inl, Bool, false, ℕ, ◌≤◌, arith, List, [], ◌∷◌, ◌++◌, drop, Option, Some, Result, Ok, Err, refl, sym, ap, ◌∙◌}
 use Rattle.std.specs.Result.{IfOk, IfErr}
 use Rattle.el_base.specs.declared.hash.Hash32.{Hash32}
 use Rattle.el_outside.specs.Counts.{CountsOnly, RoseBy}
@@ -25,7 +25,8 @@ use Rattle.el_lines.specs.NodeLines as line_said
 use Rattle.el_lines.specs.NodeLines.{NodeLine, ReadsNodeLine}
 use Rattle.el_side.specs.Plans.{back_of, rest_of, IsMoving, plan_of}
 use Rattle.el_side.specs.Side as side_of
-use Rattle.el_side.specs.Side.{Side, GoesAlong, Looks, Moving, Orders, OrdersLine, found_answer, found_after}
+use Rattle.el_side.proofs.Settled.{not_both}
+use Rattle.el_side.specs.Side.{Side, IsSure, GoesAlong, Looks, Moving, Orders, OrdersLine, found_answer, found_after}
 use Rattle.el_model.proofs.LedgerMoves.{LeavesOwn, asked_then, moved_then}
 use Rattle.el_tx.specs.declared.types.Tx.{Tx}
 use Rattle.el_mempool.specs.Standing.{AreChanged, PoolState, StandsFor}
@@ -65,8 +66,8 @@ pub not_disk : (e : MoveFault) (answer : NodeAnswer) → SaysRefusal e answer �
 not_disk e answer says is = let h = rw is at says in h
 
 -- the set of a side that has left nothing to do stands over its chain
-pub stands_there : (holdings : Holdings) (side : Side) (start : Chain) → SetStands holdings side start → side.ahead ≡ [] → StandsFor holdings.pool.entries side.chain side.kept
-stands_there holdings side start set still = rw (set.still still) at set.stood
+pub stands_there : (holdings : Holdings) (side : Side) (start : Chain) → IsSure side → SetStands holdings side start → side.ahead ≡ [] → StandsFor holdings.pool.entries side.chain side.kept
+stands_there holdings side start sure set still = rw (set.still still) at (set.stood sure)
 
 -- where chain and kept ones stay, nothing is touched
 pub touches_none : (side next : Side) (start : Chain) (moved changed : List Hash32) → next.chain ≡ side.chain → next.kept ≡ side.kept → Touches side start next start moved changed
@@ -89,6 +90,12 @@ pub said_after : {A : Type 0} {of_files : archives.Ghosts A} (pool : PoolState) 
     → StandsAfter pool side changed (Orders of_files side (Some said) answer losses) → StandsAfter pool side changed (OrdersLine of_files side (line bytes) answer losses)
 said_after pool side changed answer bytes said losses reads after = record { kept = after.kept; done = (Some said, reads, after.done); stood = after.stood; changes = after.changes }
 
+-- the first move along a path of a side that is unsure
+pub unsure_moves : {A : Type 0} (of_files : archives.Ghosts A) (side next : Side) (path rest : List Node) (back same : ℕ) (answer : NodeAnswer) (losses : List Device) → side.sure ≡ false → back ≤ max_back
+    → rest ≡ drop same path → IsMoving back rest → Moving of_files side back rest answer losses next → GoesAlong of_files side path answer losses next
+unsure_moves of_files side next path rest back same answer losses un few is moving move =
+    side_of.unsure un back same (side_of.moves few (rw is at moving) (rw is at move))
+
 -- the first move along a path, where the path and the chain were compared
 pub along_moves : {A : Type 0} (of_files : archives.Ghosts A) (side next : Side) (path rest : List Node) (back : ℕ) (answer : NodeAnswer) (losses : List Device) → back ≤ max_back
     → back ≡ back_of side.chain path → rest ≡ rest_of side.chain path → IsMoving back rest → Moving of_files side back rest answer losses next → GoesAlong of_files side path answer losses next
@@ -101,40 +108,62 @@ module _ {G A : Type 0} (of : Ghosts G A) where
   -- a line that is only answered
   pub answered : (side : Side) (start : Chain) (leads : NodeAnswer → List Device → Side → Type 0) (left : StepLeft G A) → IsAt of left.was left.holdings side start → side.ahead ≡ [] → leads left.answer [] side
       → left.found ≡ side.found → left.ahead ≡ [] → (of.files.tells → AllGrow (of.files.bytes left.was.files) (of.files.bytes left.now.files))
-      → Moved of.ledger left.was.ledger left.now.ledger side.chain side.chain → of.files.faults left.now.files ≡ of.files.faults left.was.files → of.ledger.faults left.now.ledger ≡ of.ledger.faults left.was.ledger
+      → (IsSure side → Moved of.ledger left.was.ledger left.now.ledger side.chain side.chain) → of.files.faults left.now.files ≡ of.files.faults left.was.files → of.ledger.faults left.now.ledger ≡ of.ledger.faults left.was.ledger
       → Leads of leads side start left
   answered side start leads left at still led same none grows went files_same disk_same = record {
     losses = [];
     next = side;
     led = led;
+    sure_is = refl;
     found_is = same;
     ahead_is = none ∙ sym still;
     magic_is = refl;
     next_start = start;
     set = at.set;
-    touches = touches_none side side start left.moved left.changed refl refl;
+    touches = λ sure. touches_none side side start left.moved left.changed refl refl;
     went = went;
     told = λ t. all_grow_more side.files (of.files.bytes left.was.files) (of.files.bytes left.now.files) (at.told t) (grows t);
     rose = λ of_link. rose_of of_link _ _ _ _ [] refl (rose_still _ _ files_same) (rose_still _ _ disk_same);
   }
 
-  -- one after which other transactions are kept
+  -- one of a side that is unsure, after which the set may hold anything
+  pub unsure_leads : (side : Side) (start : Chain) (holdings : Holdings) (leads : NodeAnswer → List Device → Side → Type 0) (left : StepLeft G A) → side.sure ≡ false → IsAt of left.was holdings side start
+      → side.ahead ≡ [] → leads left.answer [] side → left.found ≡ side.found → left.ahead ≡ [] → left.holdings.pool.limits ≡ holdings.pool.limits → left.now.files ≡ left.was.files
+      → of.ledger.faults left.now.ledger ≡ of.ledger.faults left.was.ledger → Leads of leads side start left
+  unsure_leads side start holdings leads left un at still led same none limits files_same disk_same = record {
+    losses = [];
+    next = side;
+    led = led;
+    sure_is = refl;
+    found_is = same;
+    ahead_is = none ∙ sym still;
+    magic_is = refl;
+    next_start = start;
+    set = record { stood = λ sure. absurd (not_both side sure un); beside = λ sure. tt; still = at.set.still; limits = limits ∙ at.set.limits };
+    touches = λ sure. absurd (not_both side sure un);
+    went = λ sure. absurd (not_both side sure un);
+    told = rw files_same at.told;
+    rose = λ of_link. rose_of of_link _ _ _ _ [] refl (rose_still _ _ (ap of.files.faults files_same)) (rose_still _ _ disk_same);
+  }
+
+  -- one of a sure side, after which other transactions are kept
   pub kept_leads : (side : Side) (start : Chain) (holdings : Holdings) (leads : NodeAnswer → List Device → Side → Type 0) (answer : NodeAnswer) (changed : List Hash32) (left : StepLeft G A)
-      → IsAt of left.was holdings side start → side.ahead ≡ [] → StandsAfter left.holdings.pool side changed (leads answer []) → left.answer ≡ answer → left.found ≡ side.found → left.ahead ≡ []
+      → IsSure side → IsAt of left.was holdings side start → side.ahead ≡ [] → StandsAfter left.holdings.pool side changed (leads answer []) → left.answer ≡ answer → left.found ≡ side.found → left.ahead ≡ []
       → left.changed ≡ changed → left.holdings.pool.limits ≡ holdings.pool.limits → left.now.files ≡ left.was.files
       → Moved of.ledger left.was.ledger left.now.ledger side.chain side.chain → of.ledger.faults left.now.ledger ≡ of.ledger.faults left.was.ledger
       → Leads of leads side start left
-  kept_leads side start holdings leads answer changed left at still after says same none tells limits files_same went disk_same = record {
+  kept_leads side start holdings leads answer changed left sure at still after says same none tells limits files_same went disk_same = record {
     losses = [];
     next = record side { kept = after.kept };
     led = rw says after.done;
+    sure_is = refl;
     found_is = same;
     ahead_is = none ∙ sym still;
     magic_is = refl;
     next_start = side.chain;
-    set = record { stood = after.stood; beside = tt; still = λ e. refl; limits = limits ∙ at.set.limits };
-    touches = touches_kept side start after.kept left.moved left.changed (at.set.still still) (rw tells after.changes);
-    went = went;
+    set = record { stood = λ s. after.stood; beside = λ s. tt; still = λ e. refl; limits = limits ∙ at.set.limits };
+    touches = λ s. touches_kept side start after.kept left.moved left.changed (at.set.still still) (rw tells after.changes);
+    went = λ s. went;
     told = rw files_same at.told;
     rose = λ of_link. rose_of of_link _ _ _ _ [] refl (rose_still _ _ (ap of.files.faults files_same)) (rose_still _ _ disk_same);
   }
@@ -146,6 +175,7 @@ module _ {G A : Type 0} (of : Ghosts G A) where
     losses = l.losses;
     next = l.next;
     led = says l.losses l.next l.led;
+    sure_is = l.sure_is;
     found_is = sym same ∙ l.found_is;
     ahead_is = l.ahead_is;
     magic_is = l.magic_is;
@@ -163,19 +193,20 @@ module _ {G A : Type 0} (of : Ghosts G A) where
 
   -- a step after the ledger was asked
   pub leads_on : (side : Side) (start : Chain) (P : NodeAnswer → List Device → Side → Type 0) (left : StepLeft G A) (mid : G) → LeavesOwn of.ledger → of.ledger.is_live left.was.ledger → Asked of.ledger left.was.ledger mid
-      → of.ledger.faults mid ≡ of.ledger.faults left.was.ledger → of.ledger.stands left.was.ledger side.chain
+      → of.ledger.faults mid ≡ of.ledger.faults left.was.ledger → (IsSure side → of.ledger.stands left.was.ledger side.chain)
       → Leads of P side start (record left { was = record left.was { ledger = mid } }) → Leads of P side start left
   leads_on side start P left mid own live asked same stood l = record {
     losses = l.losses;
     next = l.next;
     led = l.led;
+    sure_is = l.sure_is;
     found_is = l.found_is;
     ahead_is = l.ahead_is;
     magic_is = l.magic_is;
     next_start = l.next_start;
     set = l.set;
     touches = l.touches;
-    went = moved_then of.ledger left.was.ledger mid left.now.ledger side.chain l.next.chain own live asked stood l.went;
+    went = λ sure. moved_then of.ledger left.was.ledger mid left.now.ledger side.chain l.next.chain own live asked (stood sure) (l.went sure);
     told = l.told;
     rose = rw same at l.rose;
   }
@@ -311,17 +342,18 @@ module _ {G A : Type 0} (of : Ghosts G A) where
   -- a line that tells a place
   pub block_leads : (side : Side) (start : Chain) (holdings : Holdings) (bytes : List ℕ) (file at : ℕ) (answer : NodeAnswer) (left : StepLeft G A) → IsAt of left.was holdings side start → side.ahead ≡ []
       → left.holdings ≡ record holdings { tree = left.found } → ReadsNodeLine bytes (line_said.block file at) → Looked of.files left.was.files left.now.files side file at answer left.found → left.answer ≡ answer → left.ahead ≡ []
-      → Moved of.ledger left.was.ledger left.now.ledger side.chain side.chain → of.ledger.faults left.now.ledger ≡ of.ledger.faults left.was.ledger → Leads of (OrdersLine of.files side (line bytes)) side start left
+      → (IsSure side → Moved of.ledger left.was.ledger left.now.ledger side.chain side.chain) → of.ledger.faults left.now.ledger ≡ of.ledger.faults left.was.ledger → Leads of (OrdersLine of.files side (line bytes)) side start left
   block_leads side start holdings bytes file at answer left here still same reads looked says none went disk_same = record {
     losses = looked.losses;
     next = record side { found = left.found; files = of.files.bytes left.now.files };
     led = (Some (line_said.block file at), reads, rw says looked.looks);
+    sure_is = refl;
     magic_is = refl;
     found_is = refl;
     ahead_is = none ∙ sym still;
     next_start = start;
-    set = rw same (record { stood = here.set.stood; beside = tt; still = here.set.still; limits = here.set.limits });
-    touches = touches_none side (record side { found = left.found; files = of.files.bytes left.now.files }) start left.moved left.changed refl refl;
+    set = rw same (record { stood = here.set.stood; beside = λ sure. tt; still = here.set.still; limits = here.set.limits });
+    touches = λ sure. touches_none side (record side { found = left.found; files = of.files.bytes left.now.files }) start left.moved left.changed refl refl;
     went = went;
     told = λ t. all_grow_none (of.files.bytes left.now.files);
     rose = λ of_link. rose_of of_link _ _ _ _ looked.losses (archive_alone link looked.looks (λ e. cc)) looked.rose

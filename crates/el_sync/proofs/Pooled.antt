@@ -97,13 +97,13 @@ pub drops_side : (pool pool_new : PoolState) (side : Side) (id : Hash32) (answer
     × AreChanged side.chain side.kept side.chain (sift side.chain (other_than id side.kept)) scripts → answer ≡ say.Gone id → StandsAfter pool_new side scripts (Drops side id answer [])
 drops_side pool pool_new side id answer scripts stood there after says =
     let kept : is_kept id side.kept ≡ true = sym (has_kept pool side id stood) ∙ sym there in
-    record { kept = sift side.chain (other_than id side.kept); done = rw kept (says, refl, refl); stood = after.0; changes = after.1 }
+    record { kept = sift side.chain (other_than id side.kept); done = side_of.goes kept says refl refl; stood = after.0; changes = after.1 }
 
 pub absent_side : (pool pool_new : PoolState) (side : Side) (id : Hash32) (answer : NodeAnswer) (scripts : List Hash32) → scripts ≡ [] → StandsFor pool.entries side.chain side.kept → false ≡ has_entry id pool.entries
     → pool_new ≡ pool → answer ≡ say.Refused (refusal.Absent id) → StandsAfter pool_new side scripts (Drops side id answer [])
 absent_side pool pool_new side id answer scripts apart stood there same says =
     let none : is_kept id side.kept ≡ false = sym (has_kept pool side id stood) ∙ sym there in
-    record { kept = side.kept; done = rw none (says, refl, refl); stood = rw same stood; changes = rw apart (unchanged side.chain side.kept) }
+    record { kept = side.kept; done = side_of.absent none says refl refl; stood = rw same stood; changes = rw apart (unchanged side.chain side.kept) }
 
 pub refused_told : (r : Result PoolAnswer QueryFault) (pool pool_new : PoolState) (side : Side) (bytes : List ℕ) (e : PoolFault) → StandsFor pool.entries side.chain side.kept → pool_new ≡ pool
     → (e ≡ unkept.Memory) ⊎ ((e ≡ unkept.DiskFailed) ⊎ IsRefused side.limits side.chain side.kept bytes e) → OnOk r (e ≢ unkept.DiskFailed) → OnOk r (e ≢ unkept.Memory)

@@ -1,7 +1,7 @@
 -- Moves, and the sift after them.
 use Rattle.std.proofs.lemmas.List.{take_all}
 use Rattle.std.specs.Prelude.{if◌then◌else◌}
-use Rattle.std.proofs.Common.{◌≡◌, ◌≢◌, ◌⊎◌, inl, inr, ℕ, ◌-◌, ◌<◌, ◌≤◌, ◌==◌, ◌&&◌, ◌||◌, arith, Bool, true, false, List, [], ◌∷◌, ◌++◌, length, take, Option, Result, Ok, Err, refl, sym, ap, ◌∙◌, eqb-true}
+use Rattle.std.proofs.Common.{◌≡◌, ◌≢◌, ◌⊎◌, inl, inr, ℕ, ◌-◌, ◌<◌, ◌≤◌, ◌==◌, ◌&&◌, ◌||◌, arith, Bool, true, false, List, [], ◌∷◌, ◌++◌, length, take, Option, Some, Result, Ok, Err, refl, sym, ap, ◌∙◌, eqb-true}
 use Rattle.std.specs.Result.{IfErr}
 use Rattle.el_base.specs.declared.hash.Hash32.{Hash32}
 use Rattle.el_outside.specs.Counts.{RoseBy}
@@ -26,12 +26,14 @@ use Rattle.el_model.specs.LedgerCalls.{Asked, CrashLeaves, Moved}
 use Rattle.el_model.specs.Queries.{tip_of, height_of}
 use Rattle.el_model.proofs.LedgerMoves.{LeavesOwn, asked_leaves}
 use Rattle.el_model.proofs.ReadBodies.{stood_longer, stood_up_to, moves_weaker, refused_weaker, flight_weaker}
+use Rattle.el_lines.specs.NodeAnswers.{move_refused}
 use Rattle.el_lines.specs.declared.node_answer.NodeAnswer.{NodeAnswer}
 use Rattle.el_lines.specs.declared.node_answer.NodeAnswer.TheVariants as say
 use Rattle.el_side.specs.UnderWay.{IsUnderWay, before, in_move}
 use Rattle.el_side.specs.Plans.{left_of, plan_of}
 use Rattle.el_side.specs.Side as side_of
-use Rattle.el_side.specs.Side.{Side, Moving, kept_after}
+use Rattle.el_side.proofs.Settled.{not_both}
+use Rattle.el_side.specs.Side.{Side, IsSure, Moving, kept_after}
 use Rattle.el_status.specs.Untouched.{KeepsOthers}
 use Rattle.el_status.proofs.Sides.{looks_joined, looks_self, move_keeps}
 use Rattle.el_status.proofs.Stays.{status_stays}
@@ -41,7 +43,7 @@ use Rattle.el_side.specs.declared.holdings.Holdings.{Holdings}
 use Rattle.el_side.specs.Beneath.{Beneath, Ghosts, Lost, failed_beneath}
 use Rattle.el_side.specs.NodeSteps.{IsAt, Leads, SetStands, Touches}
 use Rattle.el_sync.specs.Steps.{FailsBy, NodeStep, RoseWith, StopsAt, by_disk, by_memory, in_sift, left_by, untold}
-use Rattle.el_sync.specs.within.Parts.{MoveFailed, MoveKeeps, SaysRefusal, Tried, Tries, made, refused, failed}
+use Rattle.el_sync.specs.within.Parts.{MoveFailed, MoveKeeps, SaysMove, SaysRefusal, TellsMove, Tried, Tries, made, refused, failed, of_ledger, files_failed}
 use Rattle.el_model.specs.declared.fault.QueryFault.{QueryFault}
 use Rattle.el_model.specs.declared.fault.QueryFault.TheVariants as fault
 use Rattle.el_sync.specs.declared.making.Made.{Made}
@@ -85,9 +87,9 @@ set_moved : (l : List Node) (chain start : Chain) (files : ℕ → List ℕ) (ho
     → (l ≡ [] → StandsFor pool_new.entries chain (sift chain side.kept)) → ((n : Node) (ns : List Node) → l ≡ n ∷ ns → pool_new ≡ holdings.pool)
     → SetStands (record holdings { pool = pool_new }) (record side { chain = chain; kept = kept_after l chain side.kept; ahead = l; files = files }) (start_after l chain start)
 set_moved [] chain start files holdings pool_new side set limits sifts same =
-    record { stood = sifts refl; beside = tt; still = λ e. refl; limits = limits ∙ set.limits }
+    record { stood = λ sure. sifts refl; beside = λ sure. tt; still = λ e. refl; limits = limits ∙ set.limits }
 set_moved (n ∷ ns) chain start files holdings pool_new side set limits sifts same =
-    record { stood = rw (same n ns refl) set.stood; beside = tt; still = λ e. absurd (let bad = e in cc); limits = limits ∙ set.limits }
+    record { stood = rw (same n ns refl) set.stood; beside = λ sure. tt; still = λ e. absurd (let bad = e in cc); limits = limits ∙ set.limits }
 
 touches_moved : (l : List Node) (chain start : Chain) (files : ℕ → List ℕ) (side : Side) (moved changed : List Hash32) → KeepsOthers side.chain chain moved
     → (l ≡ [] → AreChanged start side.kept chain (sift chain side.kept) changed)
@@ -102,24 +104,24 @@ touches_moved (n ∷ ns) chain start files side moved changed keeps change = rec
   looks = λ s out apart looks. looks_joined start side.chain chain s.0 looks (keeps s out);
 }
 
-set_refused : (later : Bool) (start : Chain) (files : ℕ → List ℕ) (holdings : Holdings) (pool_new : PoolState) (side : Side) → SetStands holdings side start → (later ≡ false → side.ahead ≡ []) → pool_new.limits ≡ holdings.pool.limits
+set_refused : (later : Bool) (start : Chain) (files : ℕ → List ℕ) (holdings : Holdings) (pool_new : PoolState) (side : Side) → IsSure side → SetStands holdings side start → (later ≡ false → side.ahead ≡ []) → pool_new.limits ≡ holdings.pool.limits
     → (later ≡ true → StandsFor pool_new.entries side.chain (sift side.chain side.kept)) → (later ≡ false → pool_new ≡ holdings.pool)
     → SetStands (record holdings { pool = pool_new }) (record side { kept = sift side.chain side.kept; ahead = []; files = files }) side.chain
-set_refused true start files holdings pool_new side set still limits sifts same =
-    record { stood = sifts refl; beside = tt; still = λ e. refl; limits = limits ∙ set.limits }
-set_refused false start files holdings pool_new side set still limits sifts same =
-    let there = stands_there holdings side start set (still refl) in
-    record { stood = rw (same refl, there.sifted) there; beside = tt; still = λ e. refl; limits = limits ∙ set.limits }
+set_refused true start files holdings pool_new side sure set still limits sifts same =
+    record { stood = λ s. sifts refl; beside = λ s. tt; still = λ e. refl; limits = limits ∙ set.limits }
+set_refused false start files holdings pool_new side sure set still limits sifts same =
+    let there = stands_there holdings side start sure set (still refl) in
+    record { stood = λ s. rw (same refl, there.sifted) there; beside = λ s. tt; still = λ e. refl; limits = limits ∙ set.limits }
 
-touches_refused : (later : Bool) (start : Chain) (files : ℕ → List ℕ) (holdings : Holdings) (side : Side) (moved changed : List Hash32) → SetStands holdings side start → (later ≡ false → side.ahead ≡ [])
+touches_refused : (later : Bool) (start : Chain) (files : ℕ → List ℕ) (holdings : Holdings) (side : Side) (moved changed : List Hash32) → IsSure side → SetStands holdings side start → (later ≡ false → side.ahead ≡ [])
     → (later ≡ true → AreChanged start side.kept side.chain (sift side.chain side.kept) changed)
     → Touches side start (record side { kept = sift side.chain side.kept; ahead = []; files = files }) side.chain moved changed
-touches_refused true start files holdings side moved changed set still change = record {
+touches_refused true start files holdings side moved changed sure set still change = record {
   status_stays = λ s out apart looks. status_stays start side.chain side.kept (sift side.chain side.kept) changed s looks (change refl) apart;
   looks = λ s out apart looks. looks_self side.chain s.0;
 }
-touches_refused false start files holdings side moved changed set still change =
-    let there = stands_there holdings side start set (still refl) in
+touches_refused false start files holdings side moved changed sure set still change =
+    let there = stands_there holdings side start sure set (still refl) in
     record {
       status_stays = λ s out apart looks.
           ap (λ (kept : List Tx). status side.chain kept s.0) there.sifted ∙ ap (λ (c : Chain). status c side.kept s.0) (sym (set.still (still refl)));
@@ -268,15 +270,83 @@ module _ {G A : Type 0} (of : Ghosts G A) where
         (asked_leaves of.ledger mid new live own asked told next moved.stood));
   }
 
+  -- what the node is told of a move that isn't made
+  tells_word : (was now : Beneath G A) (rest : List Node) (e : MoveFault) (m : Made) → of.files.faults now.files ≡ of.files.faults was.files → of.ledger.faults now.ledger ≡ of.ledger.faults was.ledger
+      → move_refused e ≡ Some m.answer → m.left ≡ [] → TellsMove of was now rest m
+  tells_word was now rest e m files_same disk_same says none = record {
+    losses = [];
+    says = of_ledger (rw none (side_of.refused e says)) refl;
+    rose = λ of_link. rose_of of_link _ _ _ _ [] refl (rose_still _ _ files_same) (rose_still _ _ disk_same);
+  }
+
+  pub tells_refusal : (was now : Beneath G A) (rest : List Node) (e : MoveFault) (m : Made) → (e ≡ stop.ArchiveFailed → RoseBy (of.files.faults was.files) (of.files.faults now.files) 1)
+      → (e ≢ stop.ArchiveFailed → of.files.faults now.files ≡ of.files.faults was.files) → of.ledger.faults now.ledger ≡ of.ledger.faults was.ledger → SaysRefusal e m.answer → m.left ≡ []
+      → TellsMove of was now rest m
+  tells_refusal was now rest stop.DiskFailed m count still disk_same says none = absurd says
+  tells_refusal was now rest stop.Memory m count still disk_same says none = absurd says
+  tells_refusal was now rest stop.ArchiveFailed m count still disk_same says none = record {
+    losses = archive ∷ [];
+    says = files_failed says none refl;
+    rose = λ of_link. rose_of of_link _ _ _ _ (archive ∷ []) refl (count refl) (rose_still _ _ disk_same);
+  }
+  tells_refusal was now rest (stop.Changed w f) m count still disk_same says none = tells_word was now rest (stop.Changed w f) m (still (λ e. let bad = e in cc)) disk_same says none
+  tells_refusal was now rest (stop.BadBlock h f) m count still disk_same says none = tells_word was now rest (stop.BadBlock h f) m (still (λ e. let bad = e in cc)) disk_same says none
+  tells_refusal was now rest (stop.Refused h f) m count still disk_same says none = tells_word was now rest (stop.Refused h f) m (still (λ e. let bad = e in cc)) disk_same says none
+
+  -- a move of a side that is unsure
+  pub unsure_settled : (was now : Beneath G A) (mid : G) (side : Side) (start : Chain) (back : ℕ) (rest : List Node) (holdings : Holdings) (pool_new : PoolState) (m : Made) (changed : List Hash32) → side.sure ≡ false
+      → IsAt of was holdings side start → MoveKeeps of was (record now { ledger = mid }) rest m → pool_new.limits ≡ holdings.pool.limits → of.ledger.faults now.ledger ≡ of.ledger.faults mid
+      → Leads of (Moving of.files side back rest) side start (left_by was now (record { answer = m.answer; left = m.left; moved = m.touched; changed = changed }) side.found (record holdings { pool = pool_new }))
+  unsure_settled was now mid side start back rest holdings pool_new m changed un at k limits disk_same = by k.tells.says
+    where
+      rose_on : Lost of was now k.tells.losses
+      rose_on of_link = rw disk_same (k.tells.rose of_link)
+
+      grown : of.files.tells → AllGrow side.files (of.files.bytes now.files)
+      grown t = all_grow_more side.files (of.files.bytes was.files) (of.files.bytes now.files) (at.told t) (k.keeps t)
+
+      by : SaysMove rest m k.tells.losses
+          → Leads of (Moving of.files side back rest) side start (left_by was now (record { answer = m.answer; left = m.left; moved = m.touched; changed = changed }) side.found (record holdings { pool = pool_new }))
+      by (of_ledger may lost) = record {
+        losses = k.tells.losses;
+        next = record side { ahead = m.left; files = of.files.bytes now.files };
+        led = side_of.unsure un m.left (of.files.bytes now.files) grown may refl lost;
+        sure_is = refl;
+        found_is = refl;
+        ahead_is = refl;
+        magic_is = refl;
+        next_start = side.chain;
+        set = record { stood = λ sure. absurd (not_both side sure un); beside = λ sure. tt; still = λ e. refl; limits = limits ∙ at.set.limits };
+        touches = λ sure. absurd (not_both side sure un);
+        went = λ sure. absurd (not_both side sure un);
+        told = λ t. all_grow_none (of.files.bytes now.files);
+        rose = rose_on;
+      }
+      by (files_failed says none lost) = record {
+        losses = k.tells.losses;
+        next = record side { kept = sift side.chain side.kept; ahead = []; files = of.files.bytes now.files };
+        led = side_of.fails (of.files.bytes now.files) grown says refl lost;
+        sure_is = refl;
+        found_is = refl;
+        ahead_is = none;
+        magic_is = refl;
+        next_start = side.chain;
+        set = record { stood = λ sure. absurd (not_both side sure un); beside = λ sure. tt; still = λ e. refl; limits = limits ∙ at.set.limits };
+        touches = λ sure. absurd (not_both side sure un);
+        went = λ sure. absurd (not_both side sure un);
+        told = λ t. all_grow_none (of.files.bytes now.files);
+        rose = rose_on;
+      }
+
   -- the set was sifted, or a later move is to do it
   pub settled : (was now : Beneath G A) (mid : G) (side : Side) (start : Chain) (back : ℕ) (rest : List Node) (holdings : Holdings) (pool_new : PoolState) (m : Made) (changed : List Hash32) (later ends : Bool) → LeavesOwn of.ledger → of.ledger.is_live mid
-      → IsAt of was holdings side start → (later ≡ false → side.ahead ≡ []) → Tries of was (record now { ledger = mid }) side back rest m → MoveKeeps of was (record now { ledger = mid }) rest m
+      → IsSure side → IsAt of was holdings side start → (later ≡ false → side.ahead ≡ []) → Tries of was (record now { ledger = mid }) side back rest m → MoveKeeps of was (record now { ledger = mid }) rest m
       → ends ≡ ((length m.left == 0) && (m.moved || later))
       → ((first chain : Chain) → StandsFor holdings.pool.entries first side.kept → of.ledger.stands mid chain → ends ≡ true → StandsFor pool_new.entries chain (sift chain side.kept)
       × AreChanged first side.kept chain (sift chain side.kept) changed)
       → (ends ≡ false → pool_new ≡ holdings.pool) → pool_new.limits ≡ holdings.pool.limits → Asked of.ledger mid now.ledger → of.ledger.faults now.ledger ≡ of.ledger.faults mid
       → Leads of (Moving of.files side back rest) side start (left_by was now (record { answer = m.answer; left = m.left; moved = m.touched; changed = changed }) side.found (record holdings { pool = pool_new }))
-  settled was now mid side start back rest holdings pool_new m changed later ends own live at still t k is sifts same limits asked disk_same = by t.tried t.moved t.rose
+  settled was now mid side start back rest holdings pool_new m changed later ends own live sure at still t k is sifts same limits asked disk_same = by t.tried t.moved t.rose
     where
       rose_on : (losses : List Device) → Lost of was (record now { ledger = mid }) losses
           → Lost of was now losses
@@ -298,15 +368,16 @@ module _ {G A : Type 0} (of : Ghosts G A) where
               files = of.files.bytes now.files;
             };
             led = side_of.commits (of.files.bytes now.files) blocks t.grows moves refl (rw chain_is at answer_is) lost;
+            sure_is = refl;
             found_is = refl;
             ahead_is = left_is;
             magic_is = refl;
             next_start = start_after (left_of rest) (shorter back side.chain ++ blocks) start;
             set = set_moved (left_of rest) (shorter back side.chain ++ blocks) start (of.files.bytes now.files) holdings pool_new side at.set limits
-                (λ none. (sifts start (shorter back side.chain ++ blocks) at.set.stood stood (ended none)).0) (λ n ns some. same (ends_not n ns m.left m.moved later ends is (left_is ∙ some)));
-            touches = touches_moved (left_of rest) (shorter back side.chain ++ blocks) start (of.files.bytes now.files) side m.touched changed
-                (move_keeps (plan_of back rest) side.chain blocks m.touched touched) (λ none. (sifts start (shorter back side.chain ++ blocks) at.set.stood stood (ended none)).1);
-            went = then_asked was.ledger mid now.ledger side.chain (shorter back side.chain ++ blocks) own live (rw chain_is at moved) asked;
+                (λ none. (sifts start (shorter back side.chain ++ blocks) (at.set.stood sure) stood (ended none)).0) (λ n ns some. same (ends_not n ns m.left m.moved later ends is (left_is ∙ some)));
+            touches = λ s. touches_moved (left_of rest) (shorter back side.chain ++ blocks) start (of.files.bytes now.files) side m.touched changed
+                (move_keeps (plan_of back rest) side.chain blocks m.touched touched) (λ none. (sifts start (shorter back side.chain ++ blocks) (at.set.stood sure) stood (ended none)).1);
+            went = λ s. then_asked was.ledger mid now.ledger side.chain (shorter back side.chain ++ blocks) own live (rw chain_is at moved) asked;
             told = λ t. all_grow_none (of.files.bytes now.files);
             rose = rose_on losses rose;
           }
@@ -318,15 +389,16 @@ module _ {G A : Type 0} (of : Ghosts G A) where
             losses = losses;
             next = record side { kept = sift side.chain side.kept; ahead = []; files = of.files.bytes now.files };
             led = side_of.refuses (of.files.bytes now.files) e t.grows says why refl lost;
+            sure_is = refl;
             found_is = refl;
             ahead_is = left_is;
             magic_is = refl;
             next_start = side.chain;
-            set = set_refused later start (of.files.bytes now.files) holdings pool_new side at.set still limits
-                (λ yes_later. (sifts start side.chain at.set.stood moved_on.stood (ended ∙ yes_later)).0) (λ no_later. same (ended ∙ no_later));
-            touches = touches_refused later start (of.files.bytes now.files) holdings side m.touched changed at.set still
-                (λ yes_later. (sifts start side.chain at.set.stood moved_on.stood (ended ∙ yes_later)).1);
-            went = then_asked was.ledger mid now.ledger side.chain side.chain own live moved_on asked;
+            set = set_refused later start (of.files.bytes now.files) holdings pool_new side sure at.set still limits
+                (λ yes_later. (sifts start side.chain (at.set.stood sure) moved_on.stood (ended ∙ yes_later)).0) (λ no_later. same (ended ∙ no_later));
+            touches = λ s. touches_refused later start (of.files.bytes now.files) holdings side m.touched changed sure at.set still
+                (λ yes_later. (sifts start side.chain (at.set.stood sure) moved_on.stood (ended ∙ yes_later)).1);
+            went = λ s. then_asked was.ledger mid now.ledger side.chain side.chain own live moved_on asked;
             told = λ t. all_grow_none (of.files.bytes now.files);
             rose = rose_on losses rose;
           }
@@ -338,15 +410,16 @@ module _ {G A : Type 0} (of : Ghosts G A) where
             losses = losses;
             next = record side { kept = sift side.chain side.kept; ahead = []; files = of.files.bytes now.files };
             led = side_of.fails (of.files.bytes now.files) t.grows says refl lost;
+            sure_is = refl;
             found_is = refl;
             ahead_is = left_is;
             magic_is = refl;
             next_start = side.chain;
-            set = set_refused later start (of.files.bytes now.files) holdings pool_new side at.set still limits
-                (λ yes_later. (sifts start side.chain at.set.stood moved_on.stood (ended ∙ yes_later)).0) (λ no_later. same (ended ∙ no_later));
-            touches = touches_refused later start (of.files.bytes now.files) holdings side m.touched changed at.set still
-                (λ yes_later. (sifts start side.chain at.set.stood moved_on.stood (ended ∙ yes_later)).1);
-            went = then_asked was.ledger mid now.ledger side.chain side.chain own live moved_on asked;
+            set = set_refused later start (of.files.bytes now.files) holdings pool_new side sure at.set still limits
+                (λ yes_later. (sifts start side.chain (at.set.stood sure) moved_on.stood (ended ∙ yes_later)).0) (λ no_later. same (ended ∙ no_later));
+            touches = λ s. touches_refused later start (of.files.bytes now.files) holdings side m.touched changed sure at.set still
+                (λ yes_later. (sifts start side.chain (at.set.stood sure) moved_on.stood (ended ∙ yes_later)).1);
+            went = λ s. then_asked was.ledger mid now.ledger side.chain side.chain own live moved_on asked;
             told = λ t. all_grow_none (of.files.bytes now.files);
             rose = rose_on losses rose;
           }

@@ -76,6 +76,13 @@ pub record StopsAt {G A : Type 0} (of : Ghosts G A) (was now : Beneath G A) (cha
   pub fails : FailsBy later chain next e losses
   pub rose : Lost of was now losses
 
+-- The step failed, of whatever side, and this was lost in it.
+pub record Fails {G A : Type 0} (of : Ghosts G A) (was now : Beneath G A) (chain : Chain) (later : Bool)
+    (e : QueryFault) : Type 0 where
+  pub losses : List Device
+  pub fails : FailsBy later chain chain e losses
+  pub rose : Lost of was now losses
+
 -- by how much the count of the block files' failures rose where a step failed: by one only in the sift after
 -- a later move that they had failed
 abbrev pub RoseWith : Bool → (ℕ → Type 0) → Type 0

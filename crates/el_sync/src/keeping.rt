@@ -1,5 +1,5 @@
 // The node's lines about unconfirmed transactions.
-ghost use Rattle.std.specs.Prelude.{◌≡◌, ◌≢◌, [], IfOk, IfErr, OnOk, Some, IsErrOf};
+ghost use Rattle.std.specs.Prelude.{◌≡◌, ◌⊎◌, ◌≢◌, [], IfOk, IfErr, OnOk, Some, IsErrOf};
 ghost use Rattle.el_outside.specs.Counts.{CountsOnly};
 ghost use Rattle.el_tx.specs.declared.types.Tx as tx_shape;
 ghost use Rattle.el_tx.specs.Encoding.{Encodes};
@@ -8,7 +8,7 @@ ghost use Rattle.el_mempool.specs.Standing.{StandsFor};
 ghost use Rattle.el_model.specs.LedgerCalls.{Asked};
 ghost use Rattle.el_model.specs.declared.fault.QueryFault.TheVariants as turn_fault;
 ghost use Rattle.el_lines.specs.NodeAnswers as answers;
-ghost use Rattle.el_side.specs.Side.{Side, Adds, Drops};
+ghost use Rattle.el_side.specs.Side.{Side, Adds, Drops, MayTellTx};
 ghost use Rattle.el_sync.specs.within.Parts.{NamesItself, StandsAfter};
 
 use crate::fault::StepFault;
@@ -62,6 +62,7 @@ fn refuse_tx(alloc: Global, bytes: &[u8], fault: PoolFault) -> Result<PoolAnswer
     ensures told { (t : tx_shape.Tx) → Encodes bytes.now t
         → IfOk result (λ r. answers.pool_refused (hashing.txid t) fault ≡ Some r.answer) }
     ensures form { fault ≡ PoolFault.Bad → IfOk result (λ r. r.answer ≡ NodeAnswer.Refused NodeRefusal.Form) }
+    ensures tells { IfOk result (λ r. MayTellTx r.answer) }
     ensures none { IfOk result (λ r. r.changed ≡ []) }
     ensures no_disk { OnOk result (fault ≢ PoolFault.DiskFailed) }
     ensures no_memory { OnOk result (fault ≢ PoolFault.Memory) }
@@ -98,6 +99,8 @@ pub fn order_tx<G: Ledger>(
     ensures adds { (side : Side) → G.stands ledger.old side.chain
         → StandsFor pool.old.entries side.chain side.kept → pool.old.limits ≡ side.limits
         → IfOk result (λ r. StandsAfter pool.new side r.changed (Adds side bytes.now r.answer [])) }
+    // Whatever the ledger and the set stand for.
+    ensures tells { IfOk result (λ r. MayTellTx r.answer) }
     ensures untouched { IfOk result (λ r. r.answer ≡ NodeAnswer.Refused NodeRefusal.Archive
         → r.changed ≡ []) }
     ensures limits { pool.new.limits ≡ pool.old.limits }
@@ -118,6 +121,9 @@ pub fn order_tx<G: Ledger>(
 pub fn order_drop(alloc: Global, pool: &mut Pool, id: Hash32) -> Result<PoolAnswer, StepFault>
     ensures drops { (side : Side) → StandsFor pool.old.entries side.chain side.kept
         → IfOk result (λ r. StandsAfter pool.new side r.changed (Drops side id r.answer [])) }
+    // Whatever the set stands for.
+    ensures tells { IfOk result (λ r. (r.answer ≡ NodeAnswer.Gone id)
+        ⊎ (r.answer ≡ NodeAnswer.Refused (NodeRefusal.Absent id))) }
     ensures untouched { IfOk result (λ r. r.answer ≡ NodeAnswer.Refused NodeRefusal.Archive
         → r.changed ≡ []) }
     ensures limits { pool.new.limits ≡ pool.old.limits }

@@ -13,7 +13,7 @@ ghost use Rattle.el_side.specs.UnderWay.{IsFirstMove};
 ghost use Rattle.el_side.specs.Beneath.{beneath, ghosts};
 ghost use Rattle.el_side.specs.Plans.{back_of};
 ghost use Rattle.el_lines.specs.Lines.{line};
-ghost use Rattle.el_side.specs.Side.{Side, GoesAlong, LooksUp, OrdersLine, Tips, found_answer};
+ghost use Rattle.el_side.specs.Side.{Side, IsSure, GoesAlong, LooksUp, OrdersLine, Tips, found_answer};
 ghost use Rattle.el_lines.specs.LineStates.{as_listed};
 ghost use Rattle.el_side.specs.NodeSteps.{IsAt, Leads};
 ghost use Rattle.el_sync.specs.RowBounds.{AsksNoMove, ReadsLine, ReadsTip};
@@ -202,7 +202,7 @@ fn order_tip<W: Threads + Sync, G: Ledger, A: Archive>(
         (left_by was (beneath ledger.new archive.new) s side.found holdings.new)) }
     ensures stopped { let of = ghosts ⟦<G as Ledger>⟧ ⟦<A as Archive>⟧ in
         let was = beneath ledger.old archive.old in (side : Side) (start : Chain)
-        → IsAt of was holdings.old side start → side.found ≡ holdings.old.tree → IfErr result (
+        → IsSure side → IsAt of was holdings.old side start → side.found ≡ holdings.old.tree → IfErr result (
         StopsAt of was (beneath ledger.new archive.new) side.chain false (IsTipMove side h)) }
     ensures memory { (side : Side) → G.stands ledger.old side.chain → side.found ≡ holdings.old.tree
         → IsErrOf result turn_fault.Memory → MayMove side h }
@@ -242,15 +242,15 @@ fn order_line<W: Threads + Sync, G: Ledger, A: Archive>(
         (left_by was (beneath ledger.new archive.new) s holdings.new.tree holdings.new)) }
     ensures stopped { let of = ghosts ⟦<G as Ledger>⟧ ⟦<A as Archive>⟧ in
         let was = beneath ledger.old archive.old in (side : Side) (start : Chain)
-        → IsAt of was holdings.old side start → IsFrom holdings.old side → IfErr result (
+        → IsSure side → IsAt of was holdings.old side start → IsFrom holdings.old side → IfErr result (
         StopsAt of was (beneath ledger.new archive.new) side.chain false (IsFirstMove side (line text.now))) }
     ensures memory { (side : Side) (start : Chain)
-        → IsAt (ghosts ⟦<G as Ledger>⟧ ⟦<A as Archive>⟧) (beneath ledger.old archive.old)
+        → IsSure side → IsAt (ghosts ⟦<G as Ledger>⟧ ⟦<A as Archive>⟧) (beneath ledger.old archive.old)
         holdings.old side start → IsFrom holdings.old side → IsErrOf result turn_fault.Memory
         → WantsMemory ⟦<A as Archive>⟧ side (A.bytes archive.new) (line text.now) }
     ensures untouched { IfOk result TouchesNoFailed }
     ensures rows { (side : Side) (start : Chain)
-        → IsAt (ghosts ⟦<G as Ledger>⟧ ⟦<A as Archive>⟧) (beneath ledger.old archive.old)
+        → IsSure side → IsAt (ghosts ⟦<G as Ledger>⟧ ⟦<A as Archive>⟧) (beneath ledger.old archive.old)
         holdings.old side start → IsFrom holdings.old side → IfOk result (λ s.
         ReadsLine side (line text.now) (G.reads ledger.old) (G.reads ledger.new)) }
     ensures magic { holdings.new.magic ≡ holdings.old.magic }
@@ -304,17 +304,17 @@ pub fn order<W: Threads + Sync, G: Ledger, A: Archive>(
         (left_by was (beneath ledger.new archive.new) s holdings.new.tree holdings.new)) }
     ensures stopped { let of = ghosts ⟦<G as Ledger>⟧ ⟦<A as Archive>⟧ in
         let was = beneath ledger.old archive.old in (side : Side) (start : Chain)
-        → IsAt of was holdings.old side start → IsFrom holdings.old side → IfErr result (
+        → IsSure side → IsAt of was holdings.old side start → IsFrom holdings.old side → IfErr result (
         StopsAt of was (beneath ledger.new archive.new) side.chain false (IsFirstMove side (as_listed met))) }
     // What needs no memory is answered without it.
     ensures memory { (side : Side) (start : Chain)
-        → IsAt (ghosts ⟦<G as Ledger>⟧ ⟦<A as Archive>⟧) (beneath ledger.old archive.old)
+        → IsSure side → IsAt (ghosts ⟦<G as Ledger>⟧ ⟦<A as Archive>⟧) (beneath ledger.old archive.old)
         holdings.old side start → IsFrom holdings.old side → IsErrOf result turn_fault.Memory
         → WantsMemory ⟦<A as Archive>⟧ side (A.bytes archive.new) (as_listed met) }
     ensures untouched { IfOk result TouchesNoFailed }
     // How many rows are read, where no move is made and no transaction told.
     ensures rows { (side : Side) (start : Chain)
-        → IsAt (ghosts ⟦<G as Ledger>⟧ ⟦<A as Archive>⟧) (beneath ledger.old archive.old)
+        → IsSure side → IsAt (ghosts ⟦<G as Ledger>⟧ ⟦<A as Archive>⟧) (beneath ledger.old archive.old)
         holdings.old side start → IsFrom holdings.old side → IfOk result (λ s.
         ReadsLine side (as_listed met) (G.reads ledger.old) (G.reads ledger.new)) }
     ensures magic { holdings.new.magic ≡ holdings.old.magic }

@@ -39,7 +39,7 @@ use Rattle.el_replies.specs.Losses as answer
 use Rattle.el_replies.specs.declared.batch.TheConstants.{BATCH_LIMIT}
 use Rattle.el_replies.specs.declared.line.LineReply.{LineReply}
 use Rattle.el_subs.specs.Told.{status, AllTold}
-use Rattle.el_side.specs.Side.{Side}
+use Rattle.el_side.specs.Side.{Side, IsSure}
 use Rattle.el_world.specs.World.{Comes}
 
 -- 1. What each request keeps, each line does
@@ -169,33 +169,34 @@ module _ (chain : Chain) (kept : List Tx) where
       same_session s (result.id_from_pos chain height pos merkle) was
   call_keeps found call.FeeHistogram s was = was
 
-  given_keeps : (has : Call → Type 0) (found : List Node) (c : Call) (s t : Session) (given : Result Data Stop)
-      → IsGiven has chain kept found c s t given → IsAllTold s → IsAllTold t
-  given_keeps has found c s t given is was = by (reads_files kept c) refl
+module _ (tells : Type 0) (side : Side) (sure : IsSure side) where
+  given_keeps : (c : Call) (s t : Session) (given : Result Data Stop) → IsGiven tells side c s t given
+      → IsAllTold side.chain side.kept s → IsAllTold side.chain side.kept t
+  given_keeps c s t given is was = by (reads_files side.kept c) refl
     where
-      by : (reads : Bool) → reads_files kept c ≡ reads → IsAllTold t
-      by true e = subst IsAllTold (sym (is.still e)) was
+      by : (reads : Bool) → reads_files side.kept c ≡ reads → IsAllTold side.chain side.kept t
+      by true e = subst (IsAllTold side.chain side.kept) (sym (is.still e)) was
       by false e =
-          reply_keeps IsAllTold (replied chain kept found s c) s t given (is.of_index e)
-          (call_keeps found c s was) was
+          reply_keeps (IsAllTold side.chain side.kept) (replied side.chain side.kept side.found s c) s t given
+          (is.of_index sure e) (call_keeps side.chain side.kept side.found c s was) was
 
-  request_keeps : (has : Call → Type 0) (found : List Node) (before next : List Device) (r : Request) (s t : Session)
-      (answered : Result Data Refusal) → AnswersOf has chain kept found before r s answered next t
-      → IsAllTold s → IsAllTold t
-  request_keeps has found before next r s t answered is was = by is.0 is.1
+  request_keeps : (before next : List Device) (r : Request) (s t : Session) (answered : Result Data Refusal)
+      → AnswersOf tells side before r s answered next t
+      → IsAllTold side.chain side.kept s → IsAllTold side.chain side.kept t
+  request_keeps before next r s t answered is was = by is.0 is.1
     where
-      by : (lost : List Device) → IsTold has chain kept found r s answered t lost → IsAllTold t
-      by lost (answer.refused e asks tells same unlost) = subst IsAllTold (sym same) was
-      by lost (answer.asked c given asks tells gives loses) = given_keeps has found c s t given gives was
+      by : (lost : List Device) → IsTold tells side r s answered t lost → IsAllTold side.chain side.kept t
+      by lost (answer.refused e asks says same unlost) = subst (IsAllTold side.chain side.kept) (sym same) was
+      by lost (answer.asked c given asks says gives loses) = given_keeps c s t given gives was
 
 -- 3. A line of a client
 
 -- Where each subscription was told its status, it is after a line that is replied to.
 pub replies_keep_told : (tells : Type 0) (side : Side) (bytes : List ℕ) (was now : Session)
-    (losses : List Device) (reply : LineReply) → AllTold (status side.chain side.kept) was.subs
+    (losses : List Device) (reply : LineReply) → IsSure side → AllTold (status side.chain side.kept) was.subs
     → Comes tells side bytes was losses now (Ok reply)
     → AllTold (status side.chain side.kept) now.subs
-replies_keep_told tells side bytes was now losses reply told comes =
-    line_keeps _ (IsAllTold side.chain side.kept)
-    (λ x y r s t answered is. request_keeps side.chain side.kept _ side.found x y r s t answered is)
+replies_keep_told tells side bytes was now losses reply sure told comes =
+    line_keeps (AnswersOf tells side) (IsAllTold side.chain side.kept)
+    (λ x y r s t answered is. request_keeps tells side sure x y r s t answered is)
     (line_says bytes) [] losses was now reply comes told

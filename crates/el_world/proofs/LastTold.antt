@@ -1,4 +1,4 @@
--- The chain of a world is the one that the node was told last, through turns, runs and stops.
+-- The chain of a world whose side is sure is the one that the node was told last, through turns, runs and stops.
 use Rattle.std.proofs.Common.{◌≡◌, ◌≢◌, inl, inr, ℕ, suc, ◌==◌, Bool, true, false, not, if◌then◌else◌, nat_lt, List, [], ◌∷◌, ◌++◌, map, length, append_assoc, Option, None, Some, refl, sym, ap, ◌∙◌, eqb-true, eq-eqb, subst, true≢false, arith, length-append}
 use Rattle.std.specs.Prelude.{find, MatchBool}
 use Rattle.std.specs.List.{AllByRecursion, list_any, flat_map}
@@ -14,7 +14,7 @@ use Rattle.el_lines.proofs.Cuts.{either}
 use Rattle.el_lines.specs.declared.node_answer.NodeAnswer.{NodeAnswer}
 use Rattle.el_replies.specs.declared.line.LineReply.{LineReply}
 use Rattle.el_sessions.specs.declared.session.Session as client
-use Rattle.el_side.specs.Side.{Side, Moving, OrdersLine}
+use Rattle.el_side.specs.Side.{Side, IsSure, Moving, OrdersLine}
 use Rattle.el_world.specs.World as world_of
 use Rattle.el_world.specs.World.{World, Session, Event, Outs, Takes, IsLed, IsAnswered, Replied, Notifies, is_peer, is_client, with_session, without_client, hearing, after_hearing, lines_said, events, client_limit, told, after_reply}
 use Rattle.el_world.specs.Run as run_of
@@ -22,6 +22,7 @@ use Rattle.el_world.specs.Run.{OneTurn, Delivers, Turns, Run, Stop, Stops, Stops
 use Rattle.el_world.specs.Flights.{acked}
 use Rattle.el_world.specs.LastTold as told_of
 use Rattle.el_world.specs.LastTold.{IsLastTold, IsNoAtLine, at_line}
+use Rattle.el_world.proofs.Sureness.{replied_side, turn_sure, same_side, heard_side}
 use Rattle.el_world.proofs.NodeTexts.{TellsEnd, tells, stays, no_at_text, busy_some, of_moving, of_line}
 
 -- ---- lists of messages
@@ -131,16 +132,7 @@ replied_no_node p reply session kept world client' all = by reply.closes
     by true = without_no_node p world all
     by false = with_no_node p (record session { client = kept }) world client' all
 
-replied_side : (p : ℕ) (reply : LineReply) (session : Session) (kept : client.Session) (world : World)
-    → (after_reply p reply session kept world).side ≡ world.side
-replied_side p reply session kept world = by reply.closes
-  where
-    by : (b : Bool) → (if b then without_client p world
-        else with_session p (record session { client = kept }) world).side ≡ world.side
-    by true = refl
-    by false = refl
-
-module _ {A : Type 0} (of_files : block_files.Ghosts A) (world : World) (all : NoNode world) where
+module _ {A : Type 0} (of_files : block_files.Ghosts A) (world : World) (sure : IsSure world.side) (all : NoNode world) where
   answered : (p : ℕ) (bytes : List ℕ) (session : Session) (outs : Outs) (losses : List Device) (left : World)
       → find (is_peer p) world.sessions ≡ Some session
       → IsAnswered of_files.tells world p bytes session outs losses left → Turned world outs left
@@ -182,7 +174,7 @@ module _ {A : Type 0} (of_files : block_files.Ghosts A) (world : World) (all : N
       by false d = rw (d.0, d.1) (to_clients tt refl all)
   taken (world_of.orders met) outs losses left client' t =
       led (OrdersLine of_files world.side met) world (world_of.begun world) outs losses left
-      (begun_no_node world all) (λ answer side o. of_line of_files world.side answer losses side met o) t
+      (begun_no_node world all) (λ answer side o. of_line of_files world.side sure answer losses side met o) t
 
   notified : (outs : Outs) (losses : List Device) (left : World) → Notifies world outs losses left
       → Turned world outs left
@@ -192,6 +184,7 @@ module _ {A : Type 0} (of_files : block_files.Ghosts A) (world : World) (all : N
       (with_no_node session.peer (told world session) world client' all))
   notified outs losses left (world_of.fails session is o n z) =
       rw (o, n) (to_clients tt refl (without_no_node session.peer world all))
+  notified outs losses left (world_of.unsure un session texts now is told' kept' o n z) = absurd (true≢false (sym sure ∙ un))
 
   turned : (done : List Event) (outs : Outs) (losses : List Device) (left : World)
       → AllByRecursion IsOfPeers done → OneTurn of_files world done outs losses left → Turned world outs left
@@ -199,20 +192,13 @@ module _ {A : Type 0} (of_files : block_files.Ghosts A) (world : World) (all : N
       taken event outs losses left (rw d at of_peers).0 t
   turned done outs losses left of_peers (run_of.works busy d w) =
       led (Moving of_files world.side 0 world.side.ahead) world world outs losses left all
-      (λ answer side m. of_moving of_files world.side answer losses side 0 world.side.ahead
+      (λ answer side m. of_moving of_files world.side sure answer losses side 0 world.side.ahead
       (inr (busy_some world.side.ahead busy)) m) w
   turned done outs losses left of_peers (run_of.notifies still d n) = notified outs losses left n
   turned done outs losses left of_peers (run_of.departs p is d o n z) =
       rw (o, n) (to_clients tt refl (without_no_node p world all))
 
 -- ---- what of it is sent
-
-same_side : {world next : World} {messages sent : List Message} {closing : Option Closing}
-    {closings : List Closing} {losses : List Device}
-    → Delivers world messages closing sent closings losses next → next.side ≡ world.side
-same_side (run_of.all world closing) = refl
-same_side (run_of.sends world m messages closing sent closings losses next d) = same_side d
-same_side (run_of.loses world m messages closing reason sent closings losses next is departs d) = same_side d
 
 still_no_node : {world next : World} {messages sent : List Message} {closing : Option Closing}
     {closings : List Closing} {losses : List Device}
@@ -244,22 +230,24 @@ sent_to_node world next text sent closings losses none
 sent_to_node world next text sent closings losses none
     (run_of.loses w m messages closing reason more c l n (inr is) departs d) = absurd is
 
--- what the node was told in turns, and that it is no client after them
+-- what the node was told in turns of a sure side, and that it is no client after them
 pub record Tells (first : World) (messages : List Message) (world : World) : Type 0 where
+  pub sure : IsSure world.side
   pub told : IsLastTold first.side.chain messages world.side.chain
   pub none : NoNode world
 
 delivered : (world left next : World) (outs : Outs) (sent : List Message) (closings : List Closing)
-    (losses : List Device) → Turned world outs left
+    (losses : List Device) → IsSure left.side → Turned world outs left
     → Delivers left outs.messages outs.closing sent closings losses next → Tells world sent next
-delivered world left next outs sent closings losses (to_clients to same none) d = record {
+delivered world left next outs sent closings losses sure (to_clients to same none) d = record {
+  sure = ap (λ (s : Side). s.sure) (same_side d) ∙ sure;
   told = rw (same_side d ∙ same) (clients_told world.side.chain sent (sent_to_clients d to));
   none = still_no_node d none;
 }
-delivered world left next outs sent closings losses (to_node answer o ends none) d =
+delivered world left next outs sent closings losses sure (to_node answer o ends none) d =
     let d' = rw o at d in
     let one = sent_to_node left next (text_of answer) sent closings losses none d' in
-    record { told = rw (one, same_side d) (by ends); none = still_no_node d none }
+    record { sure = ap (λ (s : Side). s.sure) (same_side d) ∙ sure; told = rw (one, same_side d) (by ends); none = still_no_node d none }
   where
     by : TellsEnd world.side.chain answer left.side.chain
         → IsLastTold world.side.chain (record { peer = 0; text = text_of answer } ∷ []) left.side.chain
@@ -270,12 +258,13 @@ delivered world left next outs sent closings losses (to_node answer o ends none)
 tells_joined : (first mid world : World) (ms ns : List Message) → Tells first ms mid → Tells mid ns world
     → Tells first (ms ++ ns) world
 tells_joined first mid world ms ns a b = record {
+  sure = b.sure;
   told = told_joined first.side.chain mid.side.chain world.side.chain ms ns a.told b.told;
   none = b.none;
 }
 
-nothing_told : (world : World) → NoNode world → Tells world [] world
-nothing_told world none = record { told = told_of.untold tt refl; none = none }
+nothing_told : (world : World) → IsSure world.side → NoNode world → Tells world [] world
+nothing_told world sure none = record { sure = sure; told = told_of.untold tt refl; none = none }
 
 all_front : (xs ys : List Event) → AllByRecursion IsOfPeers (xs ++ ys) → AllByRecursion IsOfPeers xs
 all_front [] ys all = tt
@@ -287,15 +276,15 @@ all_back (x ∷ xs) ys all = all_back xs ys all.1
 
 turns_tell : {A : Type 0} {of_files : block_files.Ghosts A} {first world : World} {past : List Event} {messages : List Message}
     {closings : List Closing} {losses : List Device}
-    → Turns of_files first past messages closings losses world → NoNode first
+    → Turns of_files first past messages closings losses world → IsSure first.side → NoNode first
     → AllByRecursion IsOfPeers past → Tells first messages world
-turns_tell {first = first} run_of.none none of_peers = nothing_told first none
+turns_tell {first = first} run_of.none sure none of_peers = nothing_told first sure none
 turns_tell {A} {of_files} {first} (run_of.more past messages closings losses world done outs failed left sent closed'
-    lost next turns turn d) none of_peers =
-    let before = turns_tell turns none (all_front past done of_peers) in
+    lost next turns turn d) sure none of_peers =
+    let before = turns_tell turns sure none (all_front past done of_peers) in
     tells_joined first world next messages sent before
-    (delivered world left next outs sent closed' lost
-    (turned of_files world before.none done outs failed left (all_back past done of_peers) turn) d)
+    (delivered world left next outs sent closed' lost (turn_sure of_files world outs failed left done turn ∙ before.sure)
+    (turned of_files world before.sure before.none done outs failed left (all_back past done of_peers) turn) d)
 
 -- ---- arrivals
 
@@ -335,19 +324,7 @@ events_of_peers world (closed p) = (tt, tt)
 events_of_peers world quiet = tt
 events_of_peers world ended = tt
 
--- what an arrival brings changes no side, and makes no client of the node
-heard_side : (arrival : ArrivalWithBytes) (world : World) → (after_hearing arrival world).side ≡ world.side
-heard_side (opened p) world = refl
-heard_side (brought p bytes) world = by (p == 0)
-  where
-    by : (b : Bool) → (if b then record world { heard = world.heard ++ bytes }
-        else record world { sessions = map (hearing p bytes) world.sessions }).side ≡ world.side
-    by true = refl
-    by false = refl
-heard_side (closed p) world = refl
-heard_side quiet world = refl
-heard_side ended world = refl
-
+-- what an arrival brings makes no client of the node
 heard_no_node : (arrival : ArrivalWithBytes) (world : World) → NoNode world
     → NoNode (after_hearing arrival world)
 heard_no_node (opened p) world none = none
@@ -369,20 +346,21 @@ heard_no_node ended world none = none
 heard_tells : (arrival : ArrivalWithBytes) (world next : World) (messages : List Message)
     → Tells (after_hearing arrival world) messages next → Tells world messages next
 heard_tells arrival world next messages t = record {
+  sure = t.sure;
   told = rw (heard_side arrival world) at t.told;
   none = t.none;
 }
 
 run_tells : {A : Type 0} {of_files : block_files.Ghosts A} {first world : World} {arrivals : List ArrivalWithBytes}
     {messages : List Message} {closings : List Closing} {losses : List Device}
-    → Run of_files first arrivals messages closings losses world → NoNode first → Tells first messages world
-run_tells {first = first} run_of.none none = nothing_told first none
+    → Run of_files first arrivals messages closings losses world → IsSure first.side → NoNode first → Tells first messages world
+run_tells {first = first} run_of.none sure none = nothing_told first sure none
 run_tells {A} {of_files} {first} (run_of.more arrivals messages closings losses world arrival more_messages
-    more_closings more_losses next run turns still everyone) none =
-    let before = run_tells run none in
+    more_closings more_losses next run turns still everyone) sure none =
+    let before = run_tells run sure none in
     tells_joined first world next messages more_messages before
     (heard_tells arrival world next more_messages
-    (turns_tell turns (heard_no_node arrival world before.none) (events_of_peers world arrival)))
+    (turns_tell turns (ap (λ (s : Side). s.sure) (heard_side arrival world) ∙ before.sure) (heard_no_node arrival world before.none) (events_of_peers world arrival)))
 
 -- ---- where a run stops
 
@@ -399,16 +377,16 @@ nothing_sent (run_of.all w closing) = refl
 
 -- of the turn in which it stops the node gets no `at` line
 stop_tells : {A : Type 0} {of_files : block_files.Ghosts A} (world : World) {left : List Event} {stop : Stop} {sent : List Message}
-    {closings : List Closing} {losses : List Device} → NoNode world → AllByRecursion IsOfPeers left
+    {closings : List Closing} {losses : List Device} → IsSure world.side → NoNode world → AllByRecursion IsOfPeers left
     → Stops of_files world left stop sent closings losses
     → IsLastTold world.side.chain sent world.side.chain
-stop_tells world none of_peers (run_of.disk_failed by_ nodes sent_none closed_none lost) = rw sent_none (told_of.untold tt refl)
-stop_tells world none of_peers (run_of.sift_failed by_ busy sent_none closed_none lost) = rw sent_none (told_of.untold tt refl)
-stop_tells world none of_peers (run_of.no_memory by_ nodes sent_none closed_none lost) = rw sent_none (told_of.untold tt refl)
-stop_tells world none of_peers (run_of.untold by_ busy sent_none closed_none lost) = rw sent_none (told_of.untold tt refl)
-stop_tells {A} {of_files} world {sent = sent} none of_peers
+stop_tells world sure none of_peers (run_of.disk_failed by_ nodes sent_none closed_none lost) = rw sent_none (told_of.untold tt refl)
+stop_tells world sure none of_peers (run_of.sift_failed by_ busy sent_none closed_none lost) = rw sent_none (told_of.untold tt refl)
+stop_tells world sure none of_peers (run_of.no_memory by_ nodes sent_none closed_none lost) = rw sent_none (told_of.untold tt refl)
+stop_tells world sure none of_peers (run_of.untold by_ busy sent_none closed_none lost) = rw sent_none (told_of.untold tt refl)
+stop_tells {A} {of_files} world {sent = sent} sure none of_peers
     (run_of.unsent done rest outs failed after front more m lost last next whole turn cut node d by_ z) =
-    by (turned of_files world none done outs failed after (all_front done rest (rw whole at of_peers)) turn)
+    by (turned of_files world sure none done outs failed after (all_front done rest (rw whole at of_peers)) turn)
   where
     by : Turned world outs after → IsLastTold world.side.chain sent world.side.chain
     by (to_clients to same none') =
@@ -420,42 +398,42 @@ stop_tells {A} {of_files} world {sent = sent} none of_peers
         rw (nothing_sent (rw alone at d)) (told_of.untold tt refl)
 
 stops_in_tells : {A : Type 0} {of_files : block_files.Ghosts A} (world : World) (arrival : ArrivalWithBytes) {stop : Stop}
-    {messages : List Message} {closings : List Closing} {losses : List Device} → NoNode world
+    {messages : List Message} {closings : List Closing} {losses : List Device} → IsSure world.side → NoNode world
     → (s : StopsIn of_files world arrival stop messages closings losses)
     → IsLastTold world.side.chain messages (acked s)
-stops_in_tells world arrival {messages = messages} none (run_of.unheard starves by_ sent_none closed_none lost) =
+stops_in_tells world arrival {messages = messages} sure none (run_of.unheard starves by_ sent_none closed_none lost) =
     let r : IsLastTold world.side.chain messages world.side.chain = rw sent_none (told_of.untold tt refl) in
     r
-stops_in_tells world arrival {messages = messages} none (run_of.in_turn done left past sent past_closings closed'
+stops_in_tells world arrival {messages = messages} sure none (run_of.in_turn done left past sent past_closings closed'
     past_losses lost mid whole turns stops a b c) =
     let of_peers = rw whole at (events_of_peers world arrival) in
     let before = heard_tells arrival world mid past
-    (turns_tell turns (heard_no_node arrival world none) (all_front done left of_peers)) in
+    (turns_tell turns (ap (λ (s : Side). s.sure) (heard_side arrival world) ∙ sure) (heard_no_node arrival world none) (all_front done left of_peers)) in
     let r : IsLastTold world.side.chain messages mid.side.chain =
     rw a (told_joined world.side.chain mid.side.chain mid.side.chain past sent before.told
-    (stop_tells mid before.none (all_back done left of_peers) stops)) in
+    (stop_tells mid before.sure before.none (all_back done left of_peers) stops)) in
     r
 
 halt_tells : {A : Type 0} {of_files : block_files.Ghosts A} {first : World} {stop : Stop} {arrivals : List ArrivalWithBytes}
     {messages : List Message} {closings : List Closing} {losses : List Device}
-    (h : Halts of_files first stop arrivals messages closings losses) → NoNode first
+    (h : Halts of_files first stop arrivals messages closings losses) → IsSure first.side → NoNode first
     → IsLastTold first.side.chain messages (acked h.stops)
-halt_tells {first = first} h none =
-    let before = run_tells h.run none in
+halt_tells {first = first} h sure none =
+    let before = run_tells h.run sure none in
     subst (λ (ms : List Message). IsLastTold first.side.chain ms (acked h.stops)) (sym h.messages_are)
     (told_joined first.side.chain h.world.side.chain (acked h.stops) h.past_messages h.sent before.told
-    (stops_in_tells h.world h.last before.none h.stops))
+    (stops_in_tells h.world h.last before.sure before.none h.stops))
 
 -- ---- from a world without clients
 
 pub run_last_told : {A : Type 0} {of_files : block_files.Ghosts A} {first world : World} {arrivals : List ArrivalWithBytes}
-    {messages : List Message} {closings : List Closing} {losses : List Device} → first.sessions ≡ []
+    {messages : List Message} {closings : List Closing} {losses : List Device} → first.sessions ≡ [] → IsSure first.side
     → Run of_files first arrivals messages closings losses world
     → IsLastTold first.side.chain messages world.side.chain
-run_last_told nobody run = (run_tells run (rw nobody tt)).told
+run_last_told nobody sure run = (run_tells run sure (rw nobody tt)).told
 
 pub halt_last_told : {A : Type 0} {of_files : block_files.Ghosts A} {first : World} {stop : Stop} {arrivals : List ArrivalWithBytes}
-    {messages : List Message} {closings : List Closing} {losses : List Device} → first.sessions ≡ []
+    {messages : List Message} {closings : List Closing} {losses : List Device} → first.sessions ≡ [] → IsSure first.side
     → (h : Halts of_files first stop arrivals messages closings losses)
     → IsLastTold first.side.chain messages (acked h.stops)
-halt_last_told nobody h = halt_tells h (rw nobody tt)
+halt_last_told nobody sure h = halt_tells h sure (rw nobody tt)

@@ -1,3 +1,4 @@
 pub mod KeepTold
 pub mod LastTold
+pub mod Sureness
 mod NodeTexts

@@ -1,5 +1,5 @@
--- What the node is answered is an `at` line that tells where the chain then ends; or it is none, and the chain is as it
--- was.
+-- What the node is answered over a sure side is an `at` line that tells where the chain then ends; or it is none, and the
+-- chain is as it was.
 use Rattle.std.proofs.Common.{◌≡◌, ◌≢◌, ◌⊎◌, inl, inr, ℕ, zero, suc, ◌-◌, ◌<◌, ◌≤◌, ◌==◌, Bool, true, false, not, ◌&&◌, if◌then◌else◌, List, [], ◌∷◌, ◌++◌, length, take, Option, None, Some, refl, sym, ap, ◌∙◌, arith, length-append, true≢false, eq-eqb}
 use Rattle.std.proofs.lemmas.List.{length-take-le}
 use Rattle.std.specs.Prelude.{option_map}
@@ -14,7 +14,6 @@ use Rattle.el_chain.specs.declared.moves.MoveFault.{MoveFault}
 use Rattle.el_chain.specs.declared.moves.MoveFault.TheVariants as stop
 use Rattle.el_mempool.specs.declared.fault.PoolFault.{PoolFault}
 use Rattle.el_mempool.specs.declared.fault.PoolFault.TheVariants as unkept
-use Rattle.el_mempool.specs.Refusals.{is_kept}
 use Rattle.el_model.specs.Queries.{tip_of, height_of}
 use Rattle.el_lines.specs.Lines.{LineEvent, line, too_long}
 use Rattle.el_lines.specs.NodeLines as says
@@ -27,7 +26,7 @@ use Rattle.el_lines.specs.declared.node_answer.NodeRefusal.TheVariants as refusa
 use Rattle.el_lines.specs.declared.node_answer.Flaw.{Flaw}
 use Rattle.el_side.specs.Plans.{common, common_up_to, back_of, rest_of, IsMoving}
 use Rattle.el_side.specs.Side as side_of
-use Rattle.el_side.specs.Side.{Side, Looks, found_answer, Moving, GoesAlong, Tips, Adds, Drops, Orders, OrdersLine}
+use Rattle.el_side.specs.Side.{Side, IsSure, Looks, found_answer, Moving, GoesAlong, Tips, Adds, Drops, Orders, OrdersLine}
 
 -- the answer is no `at` line
 abbrev pub TellsNoTip : NodeAnswer → Type 0
@@ -212,7 +211,10 @@ same_chain : (side : Side) {next wanted : Side} → next ≡ wanted → wanted.c
     → next.chain ≡ side.chain
 same_chain side e f = ap (λ (s : Side). s.chain) e ∙ f
 
-module _ {A : Type 0} (of_files : block_files.Ghosts A) (side : Side) (answer : NodeAnswer) (losses : List Device) (next : Side) where
+module _ {A : Type 0} (of_files : block_files.Ghosts A) (side : Side) (sure : IsSure side) (answer : NodeAnswer) (losses : List Device) (next : Side) where
+  never : side.sure ≡ false → ⊥
+  never un = true≢false (sym sure ∙ un)
+
   of_looks : (file at : ℕ) → Looks of_files side file at answer losses next
       → TellsEnd side.chain answer next.chain
   of_looks file at (side_of.looks found files looked e n z) =
@@ -227,6 +229,7 @@ module _ {A : Type 0} (of_files : block_files.Ghosts A) (side : Side) (answer : 
   of_moving back rest some (side_of.refuses files e grows word refused n z) =
       stays (of_move e answer word) (same_chain side n refl)
   of_moving back rest some (side_of.fails files grows e n z) = stays (rw e tt) (same_chain side n refl)
+  of_moving back rest some (side_of.unsure un left files grows may n z) = absurd (never un)
 
   of_path : (first : Node) (path : List Node) → GoesAlong of_files side (first ∷ path) answer losses next
       → TellsEnd side.chain answer next.chain
@@ -234,6 +237,7 @@ module _ {A : Type 0} (of_files : block_files.Ghosts A) (side : Side) (answer : 
   of_path first path (side_of.there back rest e n z) =
       tells_of side.chain answer next.chain (rw n e) (rw n (there_some side.chain first path rest))
   of_path first path (side_of.moves few moving made) = of_moving _ _ (path_some side.chain first path) made
+  of_path first path (side_of.unsure un back same goes) = absurd (never un)
 
   of_tip : (h : Hash32) → Tips of_files side h answer losses next → TellsEnd side.chain answer next.chain
   of_tip h (side_of.unknown known e n z) = stays (rw e tt) (same_chain side n refl)
@@ -244,18 +248,19 @@ module _ {A : Type 0} (of_files : block_files.Ghosts A) (side : Side) (answer : 
   of_added bytes (side_of.joins t is none e n z) = stays (rw e tt) (same_chain side n refl)
   of_added bytes (side_of.refuses t e is why word n z) = stays (of_pool _ e answer word) (same_chain side n refl)
   of_added bytes (side_of.misread none e n z) = stays (rw e tt) (same_chain side n refl)
+  of_added bytes (side_of.unsure un may n z) = absurd (never un)
 
-  of_dropped : (id : Hash32) (b : Bool) → is_kept id side.kept ≡ b → Drops side id answer losses next
-      → TellsEnd side.chain answer next.chain
-  of_dropped id true is d = let e = rw is at d in stays (rw e.0 tt) (same_chain side e.1 refl)
-  of_dropped id false is d = let e = rw is at d in stays (rw e.0 tt) (same_chain side e.1 refl)
+  of_dropped : (id : Hash32) → Drops side id answer losses next → TellsEnd side.chain answer next.chain
+  of_dropped id (side_of.goes is e n z) = stays (rw e tt) (same_chain side n refl)
+  of_dropped id (side_of.absent is e n z) = stays (rw e tt) (same_chain side n refl)
+  of_dropped id (side_of.unsure un may n z) = absurd (never un)
 
   of_orders : (said : Option NodeLine) → Orders of_files side said answer losses next
       → TellsEnd side.chain answer next.chain
   of_orders (Some (says.block file at)) o = of_looks file at o
   of_orders (Some (says.tip hash)) o = of_tip _ o
   of_orders (Some (says.tx bytes)) o = of_added bytes o
-  of_orders (Some (says.dropped id)) o = of_dropped _ (is_kept (record { 0 = id }) side.kept) refl o
+  of_orders (Some (says.dropped id)) o = of_dropped _ o
   of_orders None o = stays (rw o.0 tt) (same_chain side o.1 refl)
 
   pub of_line : (met : LineEvent) → OrdersLine of_files side met answer losses next

@@ -9,8 +9,7 @@ use Rattle.el_outside.specs.Trace.{ArrivalWithBytes, Message, Closing}
 use Rattle.el_chain.specs.declared.moves.Plan.{Plan}
 use Rattle.el_chain.specs.Chains.{Chain}
 use Rattle.el_chain.specs.Moves.{StoodBy}
-use Rattle.el_lines.specs.Lines.{LineEvent, line}
-use Rattle.el_lines.specs.NodeLines.{tip}
+use Rattle.el_lines.specs.Lines.{LineEvent}
 use Rattle.el_side.specs.Plans.{plan_of}
 use Rattle.el_side.specs.UnderWay.{IsFirstMove, IsUnderWay}
 use Rattle.el_world.specs.World.{World, Event, orders, IsStill, IsBusy, AllTold}

@@ -1,6 +1,7 @@
 -- What the server stands for, and what each event does to it. Peer 0 is the node, and the others are clients.
 use Rattle.std.specs.Prelude.{◌≡◌, ℕ, ◌==◌, nat_lt, Bool, true, false, not, if◌then◌else◌, List, [], ◌∷◌, ◌++◌, length, map, filter, find, MatchBool, Option, Some, None, Result, Ok, Err}
-use Rattle.std.specs.List.{list_any, flat_map}
+use Rattle.std.specs.List.{AllByRecursion, list_any, flat_map}
+use Rattle.std.specs.Map.{keys_of}
 use Rattle.std.specs.Option.{option_to_list}
 use Rattle.el_outside.specs.Devices.{Device, disk}
 use Rattle.el_outside.specs.Trace.{ArrivalWithBytes, opened, brought, closed, quiet, ended, Message, Closing}
@@ -20,12 +21,11 @@ use Rattle.el_lines.specs.declared.node_answer.NodeAnswer.{NodeAnswer}
 use Rattle.el_side.specs.Plans.{IsMoving}
 use Rattle.el_sessions.specs.declared.session.Session as client
 use Rattle.el_sessions.specs.Sessions.{HasAdded}
-use Rattle.el_methods.specs.Archives.{HasAsked}
 use Rattle.el_replies.specs.Losses.{AnswersOf}
 use Rattle.el_replies.specs.LineReplies.{IsLineReply}
 use Rattle.el_replies.specs.declared.line.LineReply.{LineReply}
 use Rattle.el_subs.specs.Told.{status}
-use Rattle.el_subs.specs.Notices.{notices, notified}
+use Rattle.el_subs.specs.Notices.{notices, notified, IsNotice}
 use Rattle.el_side.specs.Side.{Side, quiet_side, Moving, OrdersLine}
 
 -- how many bytes a client's line may have, without its byte 10
@@ -61,9 +61,9 @@ pub record World : Type 0 where
   pub before : Option Hash32
 
 -- the world of a chain before any client came and the node said anything
-abbrev pub initial_world : Chain → List ℕ → PoolLimits → List Node → (ℕ → List ℕ) → World
-initial_world chain magic limits found files =
-    record { side = quiet_side chain magic limits found files; sessions = []; heard = []; before = None }
+abbrev pub initial_world : Bool → Chain → List ℕ → PoolLimits → List Node → (ℕ → List ℕ) → World
+initial_world sure chain magic limits found files =
+    record { side = quiet_side sure chain magic limits found files; sessions = []; heard = []; before = None }
 
 -- the session is that of this client
 abbrev pub is_peer : ℕ → Session → Bool
@@ -155,6 +155,13 @@ nothing = record { messages = []; closing = None }
 abbrev pub reply_to : ℕ → List ℕ → Outs
 reply_to p text = record { messages = record { peer = p; text = text } ∷ []; closing = None }
 
+-- this peer gets these texts, in order
+abbrev pub texts_to : ℕ → List (List ℕ) → Outs
+texts_to p texts = record {
+  messages = map (λ (t : List ℕ). record { peer = p; text = t }) texts;
+  closing = None;
+}
+
 -- the node gets this text
 abbrev pub to_node : List ℕ → Outs
 to_node text = reply_to 0 text
@@ -191,12 +198,12 @@ after_reply p reply session kept world =
 -- What comes of a client's line over the side: each of its requests is answered as it is defined, or that a
 -- device failed, which is lost. A request that reads the block files is answered as it is defined where these
 -- have the transaction that it asks for at its place; whatever they have, never with another one's bytes, nor
--- as if the chain had none.
+-- as if the chain had none. Of a side that is unsure no more is said of what the chain and the unconfirmed set
+-- give than that it is an answer.
 abbrev pub Comes : Type 0 → Side → List ℕ → client.Session → List Device → client.Session
     → Result LineReply OutOfMemory → Type 0
 Comes tells side bytes was losses now result =
-    IsLineReply (AnswersOf (λ c. tells × HasAsked side.files side.chain c) side.chain side.kept side.found)
-    bytes [] was losses now result
+    IsLineReply (AnswersOf tells side) bytes [] was losses now result
 
 -- A line of a client with this session gets its reply; or no memory was found for it, or to keep count of
 -- what the line subscribed to, and the client is closed.
@@ -297,11 +304,14 @@ told world session = record session {
 
 -- all that it is told, in order
 abbrev pub outs_of_telling : World → Session → Outs
-outs_of_telling world session = record {
-  messages = map (λ (t : List ℕ). record { peer = session.peer; text = t })
-      (notices (status world.side.chain world.side.kept) world.before world.side.chain session.client);
-  closing = None;
-}
+outs_of_telling world session =
+    texts_to session.peer
+    (notices (status world.side.chain world.side.kept) world.before world.side.chain session.client)
+
+-- what is kept of a client that was told something, whatever that was: it subscribes to the same
+pub record StaysSubscribed (was now : client.Session) : Type 0 where
+  pub only_subs : now ≡ record was { subs = now.subs }
+  pub keys : keys_of now.subs ≡ keys_of was.subs
 
 -- The next client is told of the node's last line, once all of its moves are done; or the index's device
 -- failed while it was told, for which it is closed, and is told nothing.
@@ -311,3 +321,9 @@ pub data Notifies (world : World) (outs : Outs) (losses : List Device) (next : W
       → Notifies world outs losses next
   fails : (session : Session) → next_told world ≡ Some session → outs ≡ closes_disk session.peer
       → next ≡ without_client session.peer world → losses ≡ disk ∷ [] → Notifies world outs losses next
+  -- the side is unsure: it is told some tip and some statuses
+  unsure : world.side.sure ≡ false → (session : Session) (texts : List (List ℕ)) (now : client.Session)
+      → next_told world ≡ Some session → AllByRecursion IsNotice texts → StaysSubscribed session.client now
+      → outs ≡ texts_to session.peer texts
+      → next ≡ with_session session.peer (record session { client = now; waits = false }) world → losses ≡ []
+      → Notifies world outs losses next

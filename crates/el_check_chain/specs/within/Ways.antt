@@ -8,7 +8,7 @@ use Rattle.el_chain.specs.Headers.{same_hash}
 use Rattle.el_chain.specs.declared.node.Node.{Node}
 use Rattle.el_side.specs.Beneath.{Beneath, Ghosts}
 use Rattle.el_side.specs.NodeSteps.{IsAt}
-use Rattle.el_side.specs.Side.{Side}
+use Rattle.el_side.specs.Side.{Side, IsSure}
 use Rattle.el_side.specs.declared.holdings.Holdings.{Holdings}
 use Rattle.el_gen.specs.Generated.{locking_script}
 use Rattle.el_gen.specs.MadeFile.{made_file}
@@ -16,6 +16,7 @@ use Rattle.el_model.specs.Queries.{balance}
 use Rattle.el_model.specs.declared.ledger.Ledger as ledger
 use Rattle.el_check_chain.specs.Checked.{Way}
 use Rattle.el_check_chain.specs.Leading.{MovesOn, LeadsTo}
+use Rattle.el_check_chain.specs.declared.walking.Tips.{Tips}
 use Rattle.el_check_chain.specs.declared.walking.Walked.{Walked}
 
 -- the last block has this hash
@@ -23,9 +24,10 @@ abbrev pub is_tip : Option Hash32 → Hash32 → Bool
 is_tip None tip = false
 is_tip (Some last) tip = same_hash last tip
 
--- They stand for the side, which is still to put in these blocks.
+-- They stand for the side, which is sure and is still to put in these blocks.
 pub record StandWith {G A : Type 0} (of : Ghosts G A) (now : Beneath G A) (holdings : Holdings)
     (left : List Node) (side : Side) : Type 0 where
+  pub sure : IsSure side
   pub start : Chain
   pub at : IsAt of now holdings side start
   pub found : side.found ≡ holdings.tree
@@ -61,17 +63,17 @@ StoodBetween {G} of_ledger was now chain = of_ledger.tells_crash → (mid : G)
 
 -- Three tip lines led on from a side that has nothing to do: of the first tip, of the other one, and of the
 -- first again. The ledger then stands for the last side's chain, and stood for the second's between.
-pub record HaveLed {G A : Type 0} (of : Ghosts G A) (was now : Beneath G A) (start : Side)
-    (first_tip other_tip : Hash32) (moves : ℕ) : Type 0 where
+pub record HaveLed {G A : Type 0} (of : Ghosts G A) (was now : Beneath G A) (start : Side) (tips : Tips)
+    (moves : ℕ) : Type 0 where
   pub first : Side
   pub side : Side
   pub last : Side
   pub to_first : ℕ
   pub to_side : ℕ
   pub back : ℕ
-  pub leads_first : LeadsTo of.files start first_tip to_first first
-  pub leads_side : LeadsTo of.files first other_tip to_side side
-  pub leads_back : LeadsTo of.files side first_tip back last
+  pub leads_first : LeadsTo of.files start tips.first to_first first
+  pub leads_side : LeadsTo of.files first tips.other to_side side
+  pub leads_back : LeadsTo of.files side tips.first back last
   pub moves_are : moves ≡ to_first + to_side + back
   pub stood : of.ledger.stands now.ledger last.chain
   pub between : StoodBetween of.ledger was.ledger now.ledger side.chain

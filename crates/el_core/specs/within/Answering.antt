@@ -5,31 +5,19 @@ use Rattle.el_chain.specs.Chains.{Chain}
 use Rattle.el_outside.specs.Counts.{CountsOnly}
 use Rattle.el_outside.specs.Devices.{Device}
 use Rattle.el_outside.specs.Files.{AllGrow}
-use Rattle.el_mempool.specs.Standing.{StandsFor}
 use Rattle.el_lines.specs.NodeAnswers.{text_of}
 use Rattle.el_lines.specs.declared.node_answer.NodeAnswer.{NodeAnswer}
 use Rattle.el_model.specs.LedgerCalls.{KeepsBeside}
 use Rattle.el_side.specs.Beneath.{Beneath, Ghosts}
-use Rattle.el_side.specs.NodeSteps.{Leads, StandsBeside}
+use Rattle.el_side.specs.NodeSteps.{Leads}
 use Rattle.el_side.specs.Side.{Side}
 use Rattle.el_world.specs.World.{reply_to}
 use Rattle.el_model.specs.declared.fault.QueryFault.{QueryFault}
 use Rattle.el_model.specs.declared.fault.QueryFault.TheVariants as fault
-use Rattle.el_side.specs.declared.holdings.Holdings.{Holdings}
 use Rattle.el_core.specs.State.{Serving, beneath_of}
 use Rattle.el_core.specs.Turn.{outs_of}
 use Rattle.el_core.specs.within.Touching.{CoversAll}
 use Rattle.el_core.specs.declared.out.Outs.{Outs}
-
--- A client is answered from these: the ledger stands for the side's chain, the set for what is kept over it,
--- the found headers are the side's, and the block files have all that the side knows of them.
-pub record IsSettled {G A : Type 0} (of : Ghosts G A) (now : Beneath G A) (holdings : Holdings) (side : Side)
-    : Type 0 where
-  pub stood : of.ledger.stands now.ledger side.chain
-  pub set : StandsFor holdings.pool.entries side.chain side.kept
-  pub beside : StandsBeside holdings side side.chain
-  pub found : holdings.tree ≡ side.found
-  pub told : of.files.tells → AllGrow side.files (of.files.bytes now.files)
 
 -- The node is answered, and the server led on from the side. What the step touched is among the touched ones,
 -- as far as clients subscribe to it.

@@ -12,12 +12,12 @@ use Rattle.el_sessions.specs.Sessions.{HasAdded}
 use Rattle.el_sessions.specs.declared.session.Session as known
 use Rattle.el_replies.specs.declared.line.LineReply.{LineReply}
 use Rattle.el_subs.specs.Told.{status, OthersTold}
-use Rattle.el_subs.specs.Notices.{notices, notified}
+use Rattle.el_subs.specs.Notices.{notices, notified, IsNotice}
 use Rattle.el_side.specs.declared.holdings.Holdings.{Holdings}
 use Rattle.el_side.specs.NodeSteps.{StandsBeside}
-use Rattle.el_side.specs.Side.{Side}
+use Rattle.el_side.specs.Side.{Side, IsSure}
 use Rattle.el_world.specs.World as model
-use Rattle.el_world.specs.World.{client_limit, line_limit, new_client, Comes, outs_of_reply, closes_long, closes_memory, closes_disk, closes_surplus}
+use Rattle.el_world.specs.World.{client_limit, line_limit, new_client, Comes, StaysSubscribed, outs_of_reply, texts_to, closes_long, closes_memory, closes_disk, closes_surplus}
 use Rattle.el_lines.specs.LineStates.{LineState, IsAt, as_listed}
 use Rattle.el_lines.specs.declared.line_buffer.LineEvent as met
 use Rattle.el_lines.specs.declared.line_buffer.LineEvent.TheVariants as event
@@ -193,34 +193,40 @@ pub data PeersTurn {G : Type 0} (tells : Type 0) (side : Side) (rose : List Devi
 
 -- all that the client is told of the node's last line, over the side
 abbrev pub told_outs : Side → Option Hash32 → ClientState → model.Outs
-told_outs side before c = record {
-  messages = map (λ (t : List ℕ). record { peer = c.peer; text = t })
-      (notices (status side.chain side.kept) before side.chain c.session);
-  closing = None;
-}
+told_outs side before c = texts_to c.peer (notices (status side.chain side.kept) before side.chain c.session)
 
 -- the client once it was told
 abbrev pub told_client : Side → ClientState → ClientState
 told_client side c =
     record c { session = notified (status side.chain side.kept) c.session; waits = false }
 
--- From these a client is told over the side: the ledger stands for its chain and the set for what is kept,
--- and each subscription to a script hash that isn't touched was told its status.
+-- From these a client is told over the side: where that is sure, the ledger stands for its chain and the set for
+-- what is kept, and each subscription to a script hash that isn't touched was told its status.
 pub record IsToTell {G : Type 0} (stands : G → Chain → Type 0) (l : G) (holdings : Holdings)
     (touched : List Hash32) (side : Side) (c : ClientState) : Type 0 where
-  pub stood : stands l side.chain
-  pub set : StandsFor holdings.pool.entries side.chain side.kept
-  pub beside : StandsBeside holdings side side.chain
-  pub others : OthersTold (status side.chain side.kept) touched c.session.subs
+  pub stood : IsSure side → stands l side.chain
+  pub set : IsSure side → StandsFor holdings.pool.entries side.chain side.kept
+  pub beside : IsSure side → StandsBeside holdings side side.chain
+  pub others : IsSure side → OthersTold (status side.chain side.kept) touched c.session.subs
 
--- What a client gets that is told of the node's last line: all of it, or its closing. `rose` says by how much
--- the count of the disk's failed calls rose.
+-- The client gets some notices, and subscribes to the same as before.
+pub record TellsSome (c : ClientState) (outs : model.Outs) (left : Option ClientState) : Type 0 where
+  pub texts : List (List ℕ)
+  pub told : AllByRecursion IsNotice texts
+  pub outs_are : outs ≡ texts_to c.peer texts
+  pub now : known.Session
+  pub stays : StaysSubscribed c.session now
+  pub left_is : left ≡ Some (record c { session = now; waits = false })
+
+-- What a client gets that is told of the node's last line: all of it, or its closing; or, where the side is
+-- unsure, some notices. `rose` says by how much the count of the disk's failed calls rose.
 pub data TellTurn (side : Side) (before : Option Hash32) (rose : ℕ → Type 0) (c : ClientState)
     (outs : model.Outs) (left : Option ClientState) : Type 0 where
-  tells : outs ≡ told_outs side before c → left ≡ Some (told_client side c) → rose 0
+  tells : IsSure side → outs ≡ told_outs side before c → left ≡ Some (told_client side c) → rose 0
       → TellTurn side before rose c outs left
   fails : outs ≡ closes_disk c.peer → left ≡ None → rose 1 → TellTurn side before rose c outs left
   starves : outs ≡ closes_memory c.peer → left ≡ None → rose 0 → TellTurn side before rose c outs left
+  unsure : side.sure ≡ false → TellsSome c outs left → rose 0 → TellTurn side before rose c outs left
 
 -- The telling of the client at that place, which is left or not: what `says` says of both.
 pub record TellsAt (says : ClientState → Option ClientState → Type 0) (i : ℕ)

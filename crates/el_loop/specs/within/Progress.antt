@@ -8,6 +8,7 @@ use Rattle.el_outside.specs.Files.{AllGrow}
 use Rattle.el_outside.specs.Trace.{Trace, ArrivalWithBytes, Message, Closing, GoesOn, is_open}
 use Rattle.el_chain.specs.Chains.{Chain}
 use Rattle.el_side.specs.Beneath.{Ghosts, beneath, failed_beneath}
+use Rattle.el_side.specs.Side.{IsSure}
 use Rattle.el_world.specs.World.{World, Event, is_client, without_node, IsStill, AllTold, Outs}
 use Rattle.el_world.specs.Run.{Stop, Turns, Stops, files_at, StopsIn, files_left, Delivers, Run}
 use Rattle.el_world.specs.Flights.{acked, FliesAt, Flies}
@@ -118,7 +119,7 @@ module _ {G A K : Type 0} (of : AllGhosts G A K) where
     pub turns : Turns of.beneath.files first all messages closings losses world
     pub still : IsStill world
     pub told : AllTold world
-    pub statuses : StatusesAreTold world
+    pub statuses : IsSure first.side → StatusesAreTold world
     pub stood : Stands of.beneath.ledger.stands now.server world []
     pub went : WentOn before now [] messages closings losses
     pub ready : IsReady world now
@@ -143,7 +144,7 @@ module _ {G A K : Type 0} (of : AllGhosts G A K) where
     pub went : WentOn before now [] (messages ++ sent) (closings ++ closed) (losses ++ lost)
     pub flight : Chain
     pub is_flight : FliesAt stops (of.beneath.files.bytes now.files) flight
-    pub crash : leaves world.side.chain flight
+    pub crash : IsSure first.side → leaves world.side.chain flight
 
   -- The run stops in this arrival.
   pub record StoppedIn (leaves : Chain → Chain → Type 0) (world : World) (arrival : ArrivalWithBytes)
@@ -156,7 +157,7 @@ module _ {G A K : Type 0} (of : AllGhosts G A K) where
     pub went : WentOn before now [] messages closings losses
     pub flight : Chain
     pub is_flight : Flies stops (of.beneath.files.bytes now.files) flight
-    pub crash : leaves (acked stops) flight
+    pub crash : IsSure world.side → leaves (acked stops) flight
 
   -- The arrivals so far, none of which ended the run: as many as `next` was called.
   pub record Going (first : World) (node : Bool) (count : ℕ) (before now : Snapshot G A K) : Type 0 where
@@ -167,7 +168,7 @@ module _ {G A K : Type 0} (of : AllGhosts G A K) where
     pub world : World
     pub run : Run of.beneath.files first (taken node arrivals) messages closings losses world
     pub told : AllTold world
-    pub statuses : StatusesAreTold world
+    pub statuses : IsSure first.side → StatusesAreTold world
     pub stood : Stands of.beneath.ledger.stands now.server world []
     pub none_ends : NoneEnds arrivals
     pub counted : length arrivals ≡ count

@@ -27,7 +27,7 @@ use Rattle.el_lines.specs.declared.node_answer.NodeAnswer.TheVariants as say
 use Rattle.el_lines.specs.declared.node_answer.NodeRefusal.TheVariants as refusal
 use Rattle.el_side.specs.Beneath.{Beneath, Ghosts, Lost}
 use Rattle.el_side.specs.Plans.{back_of, rest_of, plan_of, left_of, IsMoving}
-use Rattle.el_side.specs.Side.{Side, Looks}
+use Rattle.el_side.specs.Side.{Side, Looks, MayTellMove}
 use Rattle.el_model.specs.declared.fault.QueryFault.{QueryFault}
 use Rattle.el_model.specs.declared.fault.QueryFault.TheVariants as fault
 use Rattle.el_sync.specs.declared.making.Made.{Made}
@@ -68,6 +68,19 @@ pub record Tries {G A : Type 0} (of : Ghosts G A) (was now : Beneath G A) (side 
   pub moved : Moved of.ledger was.ledger now.ledger side.chain chain
   pub rose : Lost of was now losses
 
+-- what the node is told of a move that was tried, whatever the ledger stands for, and what the devices lost
+pub data SaysMove (rest : List Node) (made : Made) (losses : List Device) : Type 0 where
+  of_ledger : MayTellMove rest made.answer made.left → losses ≡ [] → SaysMove rest made losses
+  files_failed : made.answer ≡ say.Refused refusal.Archive → made.left ≡ [] → losses ≡ archive ∷ []
+      → SaysMove rest made losses
+
+-- The move was tried, which says so, and the counts rose by what was lost.
+pub record TellsMove {G A : Type 0} (of : Ghosts G A) (was now : Beneath G A) (rest : List Node) (made : Made)
+    : Type 0 where
+  pub losses : List Device
+  pub says : SaysMove rest made losses
+  pub rose : Lost of was now losses
+
 -- What a move that was made or refused keeps, whatever the ledger stands for.
 pub record MoveKeeps {G A : Type 0} (of : Ghosts G A) (was now : Beneath G A) (rest : List Node) (made : Made)
     : Type 0 where
@@ -80,6 +93,7 @@ pub record MoveKeeps {G A : Type 0} (of : Ghosts G A) (was now : Beneath G A) (r
       ⊎ ((made.moved ≡ false) × RoseBy (of.files.faults was.files) (of.files.faults now.files) 1)
   pub disk_same : of.ledger.faults now.ledger ≡ of.ledger.faults was.ledger
   pub beside : KeepsBeside of.ledger was.ledger now.ledger
+  pub tells : TellsMove of was now rest made
 
 -- What a move that failed keeps.
 pub record MoveFailed {G A : Type 0} (of : Ghosts G A) (was now : Beneath G A) (e : QueryFault) : Type 0 where

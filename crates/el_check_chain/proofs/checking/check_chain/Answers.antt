@@ -1,4 +1,4 @@
-use Rattle.std.proofs.Common.{◌≡◌, refl, sym, ap, ◌∙◌}
+use Rattle.std.proofs.Common.{sym, ◌∙◌}
 use Rattle.el_row_formats.specs.declared.table.Table.TheVariants as table
 use Rattle.el_check_chain.proofs.Counting.{txs_counted, outs_counted}
 use Rattle.el_check_chain.proofs.Walks.{summed_up}

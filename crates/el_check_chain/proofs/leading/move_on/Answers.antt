@@ -1,4 +1,4 @@
-use Rattle.std.proofs.Common.{◌≡◌, List, refl, sym, ◌∙◌, subst, arith}
+use Rattle.std.proofs.Common.{List, refl, sym, ◌∙◌, subst, arith}
 use Rattle.std.proofs.lemmas.Result.{err_from_is_err_and}
 use Rattle.el_chain.specs.declared.node.Node.{Node}
 use Rattle.el_side.specs.Beneath.{beneath, ghosts}

@@ -1,4 +1,4 @@
-use Rattle.std.proofs.Common.{◌≡◌, List, ℕ, ap, ◌∙◌}
+use Rattle.std.proofs.Common.{List, ℕ, ap, ◌∙◌}
 use Rattle.sha2.specs.Sha256.{sha256}
 use Rattle.el_model.specs.Queries.{balance}
 use Rattle.el_model.proofs.LedgerMoves.{asked_none}

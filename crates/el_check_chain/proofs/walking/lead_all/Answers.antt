@@ -1,15 +1,11 @@
 use Rattle.std.proofs.Common.{refl, ◌∙◌, arith}
 use Rattle.std.proofs.lemmas.Result.{err_from_is_err_and}
-use Rattle.el_side.specs.Beneath.{ghosts}
-use Rattle.el_check_chain.proofs.WayLemmas.{counts_on, starts}
+use Rattle.el_check_chain.proofs.WayLemmas.{counts_on}
 use Rattle.el_check_chain.proofs.walking.lead_all.Goals as goal
 
 pub returns-clause-led : goal.returns-clause-led
-returns-clause-led g c = λ chain stood.
-    let begun = starts (ghosts g.G.Ledger g.A.Archive) c.args.ledger.now c.args.archive.now chain
-    (record { tree = c.args.tree; magic = c.args.magic; pool = c.new-pool.result }) stood
-    c.new-pool.ensures.entries c.new-pool.ensures.limits in
-    let one = c.in_ok-to_first.ensures.led _ begun in
+returns-clause-led g c = λ side stand.
+    let one = c.in_ok-to_first.ensures.led side stand in
     let two = c.in_ok-to_other.ensures.led one.last one.stand in
     let three = c.in_ok-back.ensures.led two.last two.stand in record {
       first = one.last;
@@ -22,13 +18,13 @@ returns-clause-led g c = λ chain stood.
       leads_side = two.leads;
       leads_back = three.leads;
       moves_are = refl;
-      stood = three.stand.at.stood;
+      stood = three.stand.at.stood three.stand.sure;
       between = λ told. (
         c.lead-2.new.ledger,
         (let a = one.later told in let b = two.later told in omega arith),
         three.later told,
         λ left now. g.met.G.Ledger.leaves_own c.lead-2.new.ledger two.last.chain left told
-            c.in_ok-to_other.ensures.live two.stand.at.stood now,
+            c.in_ok-to_other.ensures.live (two.stand.at.stood two.stand.sure) now,
       );
     }
 

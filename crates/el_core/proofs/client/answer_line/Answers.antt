@@ -14,9 +14,9 @@ returns-in_default-clause-answered g c = λ side at'.
 
 pub returns-clause-answered : goal.returns-clause-answered
 returns-clause-answered g c = rw (← c.client.view_is) (λ side at'.
-    let r = c.reply_line.ensures.answered side.chain side.kept side.files at'.stood at'.set at'.told in
+    let r = c.reply_line.ensures.answered side at' in
     let peer_is = c.peer-peer.ensures ∙ sym (ap (λ (d : ClientState). d.peer) c.client.view_is) in
-    let comes = rw at'.found at (r.done []) in
+    let comes = r.done [] in
     let lost = lost_of (ghosts g.G.Ledger g.A.Archive) c.args.ledger.now c.reply_line.new.ledger c.args.archive.now c.reply_line.new.archive r.lost r.no_link r.archive_count r.disk_count in
     elim c.match-reply_line.branch [
       | in-Ok-reply_line w ↦ rw w.result-is

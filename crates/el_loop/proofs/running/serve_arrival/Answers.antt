@@ -35,9 +35,9 @@ pub returns-in-Err-clause-stopped : goal.returns-in-Err-clause-stopped
 returns-in-Err-clause-stopped g c = λ world stood told grown are.
     rw c.in-Err.ensures.refused (arrival_lost (all_ghosts (ghosts g.G.Ledger g.A.Archive) g.K.Link) _ _ world _
     c.in-Err.ensures.memory grown
-    (λ tells left now. inl (g.met.G.Ledger.leaves_own c.args.server.now.ledger world.side.chain left tells
+    (λ sure tells left now. inl (g.met.G.Ledger.leaves_own c.args.server.now.ledger world.side.chain left tells
     c.requires.live
-    stood.chain now)))
+    (stood.chain sure) now)))
 
 pub returns-in-Ok-clause-numbers : goal.returns-in-Ok-clause-numbers
 returns-in-Ok-clause-numbers g c = λ last now le up new.

@@ -59,8 +59,8 @@ returns-in-Err-deliver-clause-stopped g c = λ world all stood ready.
     (c.in-Err-deliver.ensures.undelivered t.next t.rest
     (can_deliver (all_ghosts (ghosts g.G.Ledger g.A.Archive) g.K.Link) p.world p.left (outs_of c.in-Ok-Some.outs) c.loop-outs.server
     c.turn.new.self _ _ _ p.stood t p.ready.are_open))
-    (λ told left now. inr (g.met.G.Ledger.leaves_own c.turn.new.self.ledger t.next.side.chain left told
-    c.in-Ok-Some.ensures.live t.stood.chain (rw c.in-Err-deliver.ensures.same_ledger at now)))
+    (λ sure told left now. inr (g.met.G.Ledger.leaves_own c.turn.new.self.ledger t.next.side.chain left told
+    c.in-Ok-Some.ensures.live (t.stood.chain sure) (rw c.in-Err-deliver.ensures.same_ledger at now)))
 
 pub returns-in-Err-deliver-clause-keeps : goal.returns-in-Err-deliver-clause-keeps
 returns-in-Err-deliver-clause-keeps g c =
@@ -91,7 +91,7 @@ returns-in-Err-clause-stopped g c = λ world all stood ready.
     let t = c.in-Err.ensures.failed p.world p.left p.stood p.ready.grown in
     stopped_turn (all_ghosts (ghosts g.G.Ledger g.A.Archive) g.K.Link) _ world all _ c.loop-outs.server c.turn.new.self
     c.loop-outs.archive c.turn.new.archive c.loop-outs.link _ c.in-Err.fault p t
-    (λ told left now. let over = t.stops_at.crash told in over.each left (g.met.G.Ledger.earlier
+    (λ sure told left now. let over = (t.stops_at sure).crash told in over.each left (g.met.G.Ledger.earlier
     c.turn.new.self.ledger _ _ left over.later now))
     c.in-Err.ensures.keeps c.halt_of.ensures
 

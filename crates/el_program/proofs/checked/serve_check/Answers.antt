@@ -4,7 +4,8 @@ use Rattle.el_pages.specs.Stores.{disk_below, beside_in}
 use Rattle.el_gen.specs.MadeFile.{regtest_magic}
 use Rattle.el_check_chain.specs.Summaries.{summary_line}
 use Rattle.el_program.specs.declared.status.Status.TheVariants as status
-use Rattle.el_program.proofs.Checks.{summary_sent, nothing_sent}
+use Rattle.el_program.specs.within.Unread.{check_status}
+use Rattle.el_program.proofs.Checks.{summary_sent, nothing_sent, sent_caused, check_ends, check_counts}
 use Rattle.el_program.proofs.FreshDisks.{fresh_index}
 use Rattle.el_program.proofs.Rises.{unopened_caused}
 use Rattle.el_program.proofs.checked.serve_check.Goals as goal
@@ -44,3 +45,36 @@ returns-in-Ok-checked-clause-ends g c = λ turns of_files told fresh.
       earlier = rw c.into_disk-disk.ensures.disk ((k.between told).2);
       stood = λ image now. inl ((k.between told).3 image (told, now));
     })
+
+pub returns-in-Ok-checked-clause-causes : goal.returns-in-Ok-checked-clause-causes
+returns-in-Ok-checked-clause-causes g c = λ turns of_files. sent_caused turns _ _ _ _ of_files _ _
+    c.send_summary.result c.send_summary.ensures.ends c.send_summary.ensures.counted
+    c.send_summary.ensures.uncounted c.send_summary.ensures.same_calls
+    (sym c.into_disk-disk.ensures.faults
+    ∙ (rw c.in-Ok-checked.is at c.check_chain-checked.ensures.cause).uncounted ∙ c.in-Ok.ensures.uncounted)
+
+pub returns-in-Ok-checked-clause-others : goal.returns-in-Ok-checked-clause-others
+returns-in-Ok-checked-clause-others g c = λ told f beyond.
+    sym (c.into_disk-disk.ensures.beside f beyond)
+    ∙ ap (λ (image : Image). image f) (c.check_chain-checked.ensures.beside told)
+    ∙ c.in-Ok.ensures.beside told f beyond
+
+pub returns-in-Err-checked-clause-ends : goal.returns-in-Err-checked-clause-ends
+returns-in-Err-checked-clause-ends g c = λ turns of_files told fresh.
+    let k = check_counts _ _ _ _ c.in-Err-checked.fault c.in-Ok.ensures.uncounted c.into_disk-disk.ensures.faults
+    (rw c.in-Err-checked.is at c.check_chain-checked.ensures.cause) in
+    rw c.status_of.ensures (nothing_sent g.K.Link c.args.link.now _ turns of_files _ _
+    (check_status c.in-Err-checked.fault) (check_ends c.in-Err-checked.fault) k.0 k.1)
+
+pub returns-in-Err-checked-clause-causes : goal.returns-in-Err-checked-clause-causes
+returns-in-Err-checked-clause-causes g c = λ turns of_files.
+    let k = check_counts _ _ _ _ c.in-Err-checked.fault c.in-Ok.ensures.uncounted c.into_disk-disk.ensures.faults
+    (rw c.in-Err-checked.is at c.check_chain-checked.ensures.cause) in
+    rw c.status_of.ensures (unopened_caused _ _ _ _ _ _ (check_status c.in-Err-checked.fault)
+    (inr (check_ends c.in-Err-checked.fault)) k.0 k.1)
+
+pub returns-in-Err-checked-clause-others : goal.returns-in-Err-checked-clause-others
+returns-in-Err-checked-clause-others g c = λ told f beyond.
+    sym (c.into_disk-disk.ensures.beside f beyond)
+    ∙ ap (λ (image : Image). image f) (c.check_chain-checked.ensures.beside told)
+    ∙ c.in-Ok.ensures.beside told f beyond

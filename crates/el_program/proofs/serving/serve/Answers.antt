@@ -17,10 +17,10 @@ use Rattle.el_program.proofs.serving.serve.Goals as goal
 
 pub returns-in-Some-clause-ends : goal.returns-in-Some-clause-ends
 returns-in-Some-clause-ends g c = record {
-  served = λ no_check was flight chain starts.
+  served = λ no_check was flight index starts.
       let found = c.in-Some.ensures.found in
       let is = is_serve found.1 (magic_of found.0 found.2) in
-      let e = c.serve_network.ensures.ends was flight chain (starts _ is) in
+      let e = c.serve_network.ensures.ends was flight index (λ sure. starts sure _ is) in
       (e.0, e.1, served_with found e.2);
   checked = λ count is. absurd (serve_no_check c.in-Some.ensures.found.1 is);
 }
@@ -53,7 +53,7 @@ returns-in-Some-clause-untouched g c = λ none. absurd (none _ (is_serve c.in-So
 
 pub returns-in-Some-once_of-clause-ends : goal.returns-in-Some-once_of-clause-ends
 returns-in-Some-once_of-clause-ends g c = record {
-  served = λ no_check was flight chain starts.
+  served = λ no_check was flight index starts.
       let e = c.serve_file.ensures.ends (g.D.Disk.faults c.args.disk) in
       (e.0, e.1, once _ (is_once c.in-Some-once_of.ensures.found.1 c.magic.ensures) e.2);
   checked = λ count is. absurd (once_no_check c.in-Some-once_of.ensures.found.1 is);
@@ -83,7 +83,7 @@ returns-in-None-clause-ends g c =
     let no_once : (blocks : Word) (network : Network) → IsOnceOf (texts c.args.words.now) blocks network → ⊥ =
     search rules in
     let no_check : (count : ℕ) → IsCheckOf (texts c.args.words.now) count → ⊥ = search rules in record {
-      served = λ not_check was flight chain starts. (
+      served = λ not_check was flight index starts. (
         no_traffic,
         λ t. goes_none _,
         usage (no_command (texts c.args.words.now) no_serve no_once no_check) refl

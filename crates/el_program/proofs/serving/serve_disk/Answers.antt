@@ -1,4 +1,4 @@
-use Rattle.std.proofs.Common.{◌≡◌, ◌∙◌, inr, inl, sym, ap}
+use Rattle.std.proofs.Common.{◌≡◌, ◌∙◌, true, inr, inl, sym, ap}
 use Rattle.el_outside.specs.Disk.{Image}
 use Rattle.el_outside.proofs.Traces.{goes_none}
 use Rattle.el_pages.specs.Stores.{disk_below, beside_in}
@@ -10,17 +10,17 @@ use Rattle.el_program.proofs.Servings.{serve_told, unopened_ends}
 use Rattle.el_program.proofs.serving.serve_disk.Goals as goal
 
 pub returns-in-Ok-clause-ends : goal.returns-in-Ok-clause-ends
-returns-in-Ok-clause-ends g c = λ was flight chain is.
+returns-in-Ok-clause-ends g c = λ was flight index is.
     let r = rw (c.in-Ok.ensures.uncounted, c.magic.ensures) at
-    (c.serve_index-status.ensures.ends chain (c.in-Ok.ensures.stands was flight chain is)) in
+    (c.serve_index-status.ensures.ends index (λ sure. c.in-Ok.ensures.stands was flight index.chain (is sure))) in
     let same : c.into_disk.result ≡ disk_below c.serve_index-status.result.1.rows =
     c.into_disk.ensures.disk ∙ ap (λ s. disk_below s) c.into_rows.ensures in
     rw same (
       r.0,
       r.1,
-      inr (serve_told _ _ _ (λ losses rose. rose) _ _
-          (λ acked flight' left image now. left is.told image (is.told, now))
-          g.A.Archive _ _ chain _ _ r.0 _ r.2),
+      inr (serve_told _ _ _ (λ losses rose. rose) _ _ (index.sure ≡ true)
+          (λ sure acked flight' left image now. left (is sure).told image ((is sure).told, now))
+          g.A.Archive _ _ index _ _ r.0 _ (λ sure. sure) r.2),
     )
 
 pub returns-in-Ok-clause-causes : goal.returns-in-Ok-clause-causes
@@ -40,14 +40,13 @@ pub returns-in-Err-clause-is_bad : goal.returns-in-Err-clause-is_bad
 returns-in-Err-clause-is_bad g c = λ told is. unopened c.in-Err.status (c.in-Err.ensures.is_bad told is)
 
 pub returns-in-Err-clause-ends : goal.returns-in-Err-clause-ends
-returns-in-Err-clause-ends g c = λ was flight chain is.
-    let u = c.in-Err.ensures.unopened was flight chain is in (
-      no_traffic,
-      λ t. goes_none _,
-      inl (unopened_ends was flight (LeavesOneOf g.D.Disk g.N.NetworkMagic.magic c.in-Err.disk) _ _ _ _ _ _
-          c.in-Err.status u.0 c.in-Err.ensures.status u.1
-          c.in-Err.ensures.counted c.in-Err.ensures.others_uncounted),
-    )
+returns-in-Err-clause-ends g c = λ was flight index is. (
+  no_traffic,
+  λ t. goes_none _,
+  inl (unopened_ends index.sure was flight (LeavesOneOf g.D.Disk g.N.NetworkMagic.magic c.in-Err.disk) _ _ _ _ _ _
+      c.in-Err.status c.in-Err.ensures.status (λ sure. c.in-Err.ensures.unopened was flight index.chain (is sure))
+      c.in-Err.ensures.counted c.in-Err.ensures.others_uncounted),
+)
 
 pub returns-in-Ok-clause-kept : goal.returns-in-Ok-clause-kept
 returns-in-Ok-clause-kept g c = λ told is. absurd (c.in-Ok.ensures.is_bad told is)

@@ -1,4 +1,4 @@
-use Rattle.std.proofs.Common.{ap, refl, Err, arith}
+use Rattle.std.proofs.Common.{true, ap, refl, Err, arith}
 use Rattle.el_outside.proofs.Traces.{goes_none, all_grow_more}
 use Rattle.el_plain.specs.Plain.{IsPlain}
 use Rattle.el_outside.specs.Devices as device
@@ -13,7 +13,7 @@ returns-in-Ok-clause-ends g c = λ disk.
     let o = c.in-Ok.ensures.opened in
     let plain : IsPlain c.in-Ok.ledger c.in-Ok.ledger = record { is = refl; good = o.1.good } in
     let r = rw (o.2, c.in-Ok.ensures.only_reads.uncounted, c.greatest_limits.ensures) at
-    (c.serve_from-end.ensures.ends c.in-Ok.ledger plain) in (
+    (c.serve_from-end.ensures.ends true c.in-Ok.ledger (λ sure. plain)) in (
       r.0,
       r.1,
       rw c.of_end.ensures (served_once g.A.Archive c.args.magic _ _ _ r.0 _
@@ -29,7 +29,7 @@ returns-in-Ok-clause-ends g c = λ disk.
                 (faults (g.K.Link.faults c.serve_from-end.new.link)
                 (g.A.Archive.faults c.serve_from-end.new.archive) disk)
                 (with_disk _ _ _ _ disk)
-                _ _ (λ acked flight left. tt) g.A.Archive _ _ _ r.0 _ r.2;
+                _ _ (Unit {0}) (λ sure acked flight left. tt) g.A.Archive _ _ _ r.0 _ (λ sure. tt) r.2;
           })),
     )
 

@@ -6,19 +6,21 @@ use Rattle.el_program.proofs.Servings.{served_ends, start_ends}
 use Rattle.el_program.proofs.starting.serve_index.Goals as goal
 
 pub returns-in-Ok-clause-ends : goal.returns-in-Ok-clause-ends
-returns-in-Ok-clause-ends g c = λ chain stood.
-    let o = c.in-Ok.ensures.opened chain stood in
-    let here = c.in-Ok.ensures.quiet.stays.still_stands chain stood in
-    let r = rw (o.2, c.in-Ok.ensures.only_reads.uncounted, c.in-Ok.ensures.cause.uncounted) at
-    (c.serve_from-end.ensures.ends chain here) in (
+returns-in-Ok-clause-ends g c = λ index stood.
+    let o = c.in-Ok.ensures.opened index stood in
+    let r = rw (o.4, c.in-Ok.ensures.only_reads.uncounted, c.in-Ok.ensures.cause.uncounted) at
+    (c.serve_from-end.ensures.ends index.sure index.chain
+    (λ sure. c.in-Ok.ensures.quiet.stays.still_stands index.chain (stood sure))) in (
       r.0,
       r.1,
       rw c.of_end.ensures (served_ends g.A.Archive c.args.magic
-          c.args.limits chain _ _ _ _ r.0 _ (record {
+          c.args.limits index _ _ _ _ r.0 _ (record {
+            headers = o.0;
+            told = o.2;
             now = c.open_headers.new.archive;
-            nodes = o.0;
-            scanned = o.1;
-            same = o.3;
+            nodes = o.1;
+            scanned = o.3;
+            same = o.5;
             grows = c.serve_from-end.ensures.keeps;
             run = r.2;
           })),
@@ -29,15 +31,15 @@ returns-in-Ok-clause-keeps g c = λ t. all_grow_more _ _ _ (c.in-Ok.ensures.only
     (c.serve_from-end.ensures.keeps t)
 
 pub returns-in-Err-clause-ends : goal.returns-in-Err-clause-ends
-returns-in-Err-clause-ends g c = λ chain stood. (
+returns-in-Err-clause-ends g c = λ index stood. (
   no_traffic,
   λ t. goes_none _,
   rw c.status_of.ensures (start_ends g.A.Archive c.args.magic
-      c.args.limits chain _ _ _ _ _ _ _ _ _ _ c.in-Err.fault c.in-Err.ensures.only_reads c.in-Err.ensures.cause
-      (λ e. c.in-Err.ensures.other chain stood (ap Err e))
-      (λ told left now. inl (g.met.G.Ledger.leaves_own c.open_headers.new.ledger chain left told
+      c.args.limits index _ _ _ _ _ _ _ _ _ _ c.in-Err.fault c.in-Err.ensures.only_reads c.in-Err.ensures.cause
+      (λ e. c.in-Err.ensures.other index stood (ap Err e))
+      (λ sure told left now. inl (g.met.G.Ledger.leaves_own c.open_headers.new.ledger index.chain left told
       (c.in-Err.ensures.quiet.stays.still_live c.requires.live)
-      (c.in-Err.ensures.quiet.stays.still_stands chain stood) now))),
+      (c.in-Err.ensures.quiet.stays.still_stands index.chain (stood sure)) now))),
 )
 
 pub returns-in-Ok-clause-causes : goal.returns-in-Ok-clause-causes

@@ -4,7 +4,6 @@ use Rattle.std.proofs.lemmas.Bool.Decides.{nat_tests}
 use Rattle.el_json.specs.declared.request.Item.{Item}
 use Rattle.el_replies.proofs.Losing.{so, none_lost, step_late, in_time, done_or}
 use Rattle.el_replies.specs.Batches.{Step}
-use Rattle.el_methods.specs.Archives.{HasAsked}
 use Rattle.el_replies.specs.Losses.{AnswersOf}
 use Rattle.el_replies.specs.within.Gathered.{replies_of}
 use Rattle.el_replies.specs.declared.batch.TheConstants.{BATCH_LIMIT}
@@ -12,11 +11,10 @@ use Rattle.el_replies.proofs.batch.answer_item.Goals as goal
 
 pub returns-then-replies-gt-BATCH_LIMIT-clause-answered :
     goal.returns-then-replies-gt-BATCH_LIMIT-clause-answered
-returns-then-replies-gt-BATCH_LIMIT-clause-answered g c = λ chain kept files stands over grew.
+returns-then-replies-gt-BATCH_LIMIT-clause-answered g c = λ side settled.
     let limit = c.if-replies-gt-BATCH_LIMIT.true in
     let late : nat_lt BATCH_LIMIT c.args.replies.now.size ≡ true = grind (arith, nat_tests) in
-    let answers = AnswersOf (λ c. g.A.Archive.tells × HasAsked files chain c) chain kept
-    c.args.holdings.now.tree in
+    let answers = AnswersOf g.A.Archive.tells side in
     let was = replies_of c.args.replies.now in
     let is = replies_of c.refuse.new.replies in
     none_lost _ _ _ (λ before.
@@ -28,11 +26,10 @@ returns-then-replies-gt-BATCH_LIMIT-clause-answered g c = λ chain kept files st
 
 pub returns-else-replies-gt-BATCH_LIMIT-clause-answered :
     goal.returns-else-replies-gt-BATCH_LIMIT-clause-answered
-returns-else-replies-gt-BATCH_LIMIT-clause-answered g c = λ chain kept files stands over grew.
+returns-else-replies-gt-BATCH_LIMIT-clause-answered g c = λ side settled.
     let limit = c.if-replies-gt-BATCH_LIMIT.false in
     let early : nat_lt BATCH_LIMIT c.args.replies.now.size ≡ false = grind (arith, nat_tests) in
-    let answers = AnswersOf (λ c. g.A.Archive.tells × HasAsked files chain c) chain kept
-    c.args.holdings.now.tree in
+    let answers = AnswersOf g.A.Archive.tells side in
     let was = replies_of c.args.replies.now in
     let is = replies_of c.answer_in_time.new.replies in
     so _ _ (λ x y h.
@@ -40,12 +37,11 @@ returns-else-replies-gt-BATCH_LIMIT-clause-answered g c = λ chain kept files st
     (λ z. Step answers i x c.args.session.now was y c.answer_in_time.new.session is) (λ e. y ≡ x) in
     subst P (sym c.in-Good.is) (in_time answers c.answer_in_time.result c.in-Good.request x y
     c.args.session.now c.answer_in_time.new.session was is early h))
-    (c.answer_in_time.ensures.answered chain kept files stands over grew)
+    (c.answer_in_time.ensures.answered side settled)
 
 pub returns-in-Invalid-clause-answered : goal.returns-in-Invalid-clause-answered
-returns-in-Invalid-clause-answered g c = λ chain kept files stands over grew.
-    let answers = AnswersOf (λ c. g.A.Archive.tells × HasAsked files chain c) chain kept
-    c.args.holdings.now.tree in
+returns-in-Invalid-clause-answered g c = λ side settled.
+    let answers = AnswersOf g.A.Archive.tells side in
     let was = replies_of c.args.replies.now in
     let is = replies_of c.refuse-in-Invalid.new.replies in
     none_lost _ _ _ (λ before.

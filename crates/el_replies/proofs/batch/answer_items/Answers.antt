@@ -1,8 +1,9 @@
 use Rattle.std.proofs.Common.{◌≡◌, [], refl, arith}
 use Rattle.el_outside.proofs.Traces.{all_grow_none, all_grow_more}
 use Rattle.el_model.proofs.LedgerMoves.{asked_none, asked_on}
-use Rattle.el_methods.specs.Archives.{HasAsked}
 use Rattle.el_sessions.proofs.Subscribing.{edits_same, edits_more}
+use Rattle.el_side.specs.Beneath.{beneath, ghosts}
+use Rattle.el_side.proofs.Settled.{settled_on}
 use Rattle.el_replies.specs.Losses.{AnswersOf}
 use Rattle.el_replies.specs.within.Gathered.{replies_of}
 use Rattle.el_replies.proofs.BatchLoop.{begins, cut_begins, goes_on, cut_goes_on, ends, cut_here}
@@ -20,9 +21,8 @@ loop-item-init g c =
       disk_more = omega arith;
       end = c.requires.end;
       archive_more = omega arith;
-      so_far = λ chain kept files stands over grew.
-          let answers = AnswersOf (λ c. g.A.Archive.tells × HasAsked files chain c) chain kept
-          c.args.holdings.now.tree in
+      so_far = λ side settled.
+          let answers = AnswersOf g.A.Archive.tells side in
           none_lost _ _ _ (λ before. (
             begins answers _ c.args.elements.now before c.args.session.now (replies_of c.args.replies.now) refl,
             cut_begins answers _ c.args.elements.now before c.args.session.now (replies_of c.args.replies.now) refl,
@@ -41,41 +41,38 @@ loop-item-preserved g c =
       disk_more = omega (arith, c.loop-item.invariant.disk_more, c.answer_item.ensures.disk_more);
       end = c.in_ok-answer_item.ensures.end;
       archive_more = omega (arith, c.loop-item.invariant.archive_more, c.answer_item.ensures.archive_more);
-      so_far = λ chain kept files stands over grew.
-          let answers = AnswersOf (λ c. g.A.Archive.tells × HasAsked files chain c) chain kept
-          c.args.holdings.now.tree in
-          let stood = c.loop-item.invariant.quiet.stays.still_stands chain stands in
+      so_far = λ side settled.
+          let answers = AnswersOf g.A.Archive.tells side in
+          let still = settled_on (ghosts g.G.Ledger g.A.Archive) _ (beneath c.loop-item.ledger c.loop-item.archive)
+          c.args.holdings.now side c.loop-item.invariant.quiet c.loop-item.invariant.grows settled in
           both _ _ _ (λ x y z h k. (
             goes_on answers c.in-Some.item _ _ c.args.elements.now y z _ _ _ _ x c.args.session.now
                 (replies_of c.args.replies.now) c.in-Some.ensures.item h.0 k,
             cut_goes_on answers c.in-Some.item _ _ c.args.elements.now y z _ _ _ _ x c.args.session.now
                 (replies_of c.args.replies.now) c.in-Some.ensures.item h.1 k,
           ))
-          (c.loop-item.invariant.so_far chain kept files stands over grew)
-          (c.in_ok-answer_item.ensures.answered chain kept files stood over
-          (λ tells. all_grow_more _ _ _ (grew tells) (c.loop-item.invariant.grows tells)));
+          (c.loop-item.invariant.so_far side settled)
+          (c.in_ok-answer_item.ensures.answered side still);
     }
 
 pub returns-clause-answered : goal.returns-clause-answered
-returns-clause-answered g c = λ chain kept files stands over grew.
-    let answers = AnswersOf (λ c. g.A.Archive.tells × HasAsked files chain c) chain kept
-    c.args.holdings.now.tree in
+returns-clause-answered g c = λ side settled.
+    let answers = AnswersOf g.A.Archive.tells side in
     let none : c.loop-item.elements ≡ [] = c.in_default.ensures.item.0 in
     so _ _ (λ x y h. ends answers _ c.args.elements.now y _ _ x c.args.session.now
     (replies_of c.args.replies.now) none h.0)
-    (c.loop-item.invariant.so_far chain kept files stands over grew)
+    (c.loop-item.invariant.so_far side settled)
 
 pub returns-in_err-answer_item-clause-answered : goal.returns-in_err-answer_item-clause-answered
-returns-in_err-answer_item-clause-answered g c = λ chain kept files stands over grew.
-    let answers = AnswersOf (λ c. g.A.Archive.tells × HasAsked files chain c) chain kept
-    c.args.holdings.now.tree in
-    let stood = c.loop-item.invariant.quiet.stays.still_stands chain stands in
+returns-in_err-answer_item-clause-answered g c = λ side settled.
+    let answers = AnswersOf g.A.Archive.tells side in
+    let still = settled_on (ghosts g.G.Ledger g.A.Archive) _ (beneath c.loop-item.ledger c.loop-item.archive)
+    c.args.holdings.now side c.loop-item.invariant.quiet c.loop-item.invariant.grows settled in
     both _ _ _ (λ x y z h k. failed c.from_residual.result _ _ _ c.from_residual.ensures.1
     (cut_here answers c.in-Some.item _ _ c.args.elements.now y z _ _ x c.args.session.now
     (replies_of c.args.replies.now) c.in-Some.ensures.item h.1 k))
-    (c.loop-item.invariant.so_far chain kept files stands over grew)
-    (c.in_err-answer_item.ensures.answered chain kept files stood over
-    (λ tells. all_grow_more _ _ _ (grew tells) (c.loop-item.invariant.grows tells)))
+    (c.loop-item.invariant.so_far side settled)
+    (c.in_err-answer_item.ensures.answered side still)
 
 pub returns-in_err-answer_item-clause-grows : goal.returns-in_err-answer_item-clause-grows
 returns-in_err-answer_item-clause-grows g c = λ tells.

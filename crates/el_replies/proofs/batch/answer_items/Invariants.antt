@@ -1,10 +1,9 @@
-use Rattle.std.proofs.Common.{ℕ, ◌≤◌, List, length}
+use Rattle.std.proofs.Common.{◌≤◌, length}
 use Rattle.el_outside.specs.Files.{AllGrow}
-use Rattle.el_tx.specs.declared.types.Tx.{Tx}
-use Rattle.el_chain.specs.Chains.{Chain}
-use Rattle.el_mempool.specs.Standing.{StandsFor}
+use Rattle.el_side.specs.Beneath.{beneath, ghosts}
+use Rattle.el_side.specs.NodeSteps.{IsSettled}
+use Rattle.el_side.specs.Side.{Side}
 use Rattle.el_model.specs.LedgerCalls.{Asked}
-use Rattle.el_methods.specs.Archives.{HasAsked}
 use Rattle.el_sessions.specs.Sessions.{Edits}
 use Rattle.el_replies.specs.Batches.{Completes, CutCompletes}
 use Rattle.el_replies.specs.Losses.{AnswersOf, Loses}
@@ -26,13 +25,11 @@ invariant-loop-item g l =
       disk_more : d.faults l.initial.ledger ≤ d.faults l.ledger;
       end : HasEnd l.replies;
       archive_more : a.faults l.initial.archive ≤ a.faults l.archive;
-      so_far : (chain : Chain) (kept : List Tx) (files : ℕ → List ℕ) → d.stands l.initial.ledger chain
-          → StandsFor l.holdings.pool.entries chain kept
-          → (a.tells → AllGrow files (a.bytes l.initial.archive))
-          → Loses (d.faults l.initial.ledger) (d.faults l.ledger) (a.faults l.initial.archive)
+      so_far : (side : Side)
+          → IsSettled (ghosts d a) (beneath l.initial.ledger l.initial.archive) l.holdings side → Loses (d.faults l.initial.ledger) (d.faults l.ledger) (a.faults l.initial.archive)
           (a.faults l.archive)
           (λ before after.
-          let answers = AnswersOf (λ c. a.tells × HasAsked files chain c) chain kept l.holdings.tree in
+          let answers = AnswersOf a.tells side in
           Completes answers l.elements after l.session (replies_of l.replies) l.initial.elements before
           l.initial.session (replies_of l.initial.replies)
           × CutCompletes answers l.elements after l.session (replies_of l.replies) l.initial.elements before

@@ -1,24 +1,21 @@
 use Rattle.std.proofs.Common.{refl}
-use Rattle.el_calls.specs.declared.call.Call.{Call}
-use Rattle.el_methods.specs.Archives.{HasAsked}
 use Rattle.el_replies.proofs.Losing.{so, unlost, none_lost, with_losses, result_unlost, found_sure, failed}
 use Rattle.el_replies.proofs.line.one_reply.Goals as goal
 
 pub returns-clause-answered : goal.returns-clause-answered
-returns-clause-answered g c = λ chain kept files stands over grew.
-    let has : Call → Type 0 = λ c. g.A.Archive.tells × HasAsked files chain c in
-    let told = with_losses has chain kept c.args.holdings.now.tree c.args.request c.args.session.now
+returns-clause-answered g c = λ side settled.
+    let told = with_losses g.A.Archive.tells side c.args.request c.args.session.now
     c.answer_request.new.session _ _ _ _ c.in_ok-told.told
-    (c.in_ok-told.ensures.answered chain kept files stands over grew) in
+    (c.in_ok-told.ensures.answered side settled) in
     so _ _ (λ x y h. found_sure c.reply_to_id.result _ _ _ _ (λ reply is. (c.in_ok-told.told, h, is))
-    (result_unlost has chain kept c.args.holdings.now.tree x y c.args.request c.args.session.now
+    (result_unlost g.A.Archive.tells side x y c.args.request c.args.session.now
     c.answer_request.new.session c.in_ok-told.told h) c.reply_to_id.ensures.reply c.reply_to_id.ensures.sure) told
 
 pub returns-in_err-told-clause-answered : goal.returns-in_err-told-clause-answered
-returns-in_err-told-clause-answered g c = λ chain kept files stands over grew.
+returns-in_err-told-clause-answered g c = λ side settled.
     unlost _ _ _ _ _ c.in_err-told.ensures.unlost.0 c.in_err-told.ensures.unlost.1
     (λ before. failed c.from_residual-in_err-told.result _ _ _ c.from_residual-in_err-told.ensures.1 refl)
 
 pub returns-in_err-room-clause-answered : goal.returns-in_err-room-clause-answered
-returns-in_err-room-clause-answered g c = λ chain kept files stands over grew.
+returns-in_err-room-clause-answered g c = λ side settled.
     none_lost _ _ _ (λ before. failed c.from_residual.result _ _ _ c.from_residual.ensures.1 refl)

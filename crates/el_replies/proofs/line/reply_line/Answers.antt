@@ -1,30 +1,27 @@
 use Rattle.std.proofs.Common.{◌≡◌, Ok}
 use Rattle.el_json.specs.Lines.{line_says}
 use Rattle.el_json.specs.declared.request.Envelope.TheVariants.{One, Batch}
-use Rattle.el_methods.specs.Archives.{HasAsked}
 use Rattle.el_replies.specs.Losses.{AnswersOf}
 use Rattle.el_replies.proofs.LineEnds.{of_said}
 use Rattle.el_replies.proofs.Losing.{so}
 use Rattle.el_replies.proofs.line.reply_line.Goals as goal
 
 pub returns-in-Ok-One-clause-answered : goal.returns-in-Ok-One-clause-answered
-returns-in-Ok-One-clause-answered g c = λ chain kept files stands over grew.
-    let answers = AnswersOf (λ c. g.A.Archive.tells × HasAsked files chain c) chain kept
-    c.args.holdings.now.tree in
+returns-in-Ok-One-clause-answered g c = λ side settled.
+    let answers = AnswersOf g.A.Archive.tells side in
     let says = c.in-Ok-One.ensures.says in
     let is = c.in-Ok-One.field-0-is in
     let said : line_says c.args.line.now ≡ Ok (One c.in-Ok-One.request) = cc in
     so _ _ (λ x y h. of_said answers c.args.line.now (Ok (One c.in-Ok-One.request)) x y c.args.session.now
     c.one_reply.new.session c.one_reply.result said h)
-    (c.one_reply.ensures.answered chain kept files stands over grew)
+    (c.one_reply.ensures.answered side settled)
 
 pub returns-in-Ok-Batch-clause-answered : goal.returns-in-Ok-Batch-clause-answered
-returns-in-Ok-Batch-clause-answered g c = λ chain kept files stands over grew.
-    let answers = AnswersOf (λ c. g.A.Archive.tells × HasAsked files chain c) chain kept
-    c.args.holdings.now.tree in
+returns-in-Ok-Batch-clause-answered g c = λ side settled.
+    let answers = AnswersOf g.A.Archive.tells side in
     let says = c.in-Ok-Batch.ensures.says in
     let is = c.in-Ok-Batch.field-0-is in
     let said : line_says c.args.line.now ≡ Ok (Batch c.in-Ok-Batch.elements) = cc in
     so _ _ (λ x y h. of_said answers c.args.line.now (Ok (Batch c.in-Ok-Batch.elements)) x y
     c.args.session.now c.batch_reply.new.session c.batch_reply.result said h)
-    (c.batch_reply.ensures.answered chain kept files stands over grew)
+    (c.batch_reply.ensures.answered side settled)

@@ -7,25 +7,30 @@ use Rattle.el_replies.proofs.Losing.{never_less}
 use Rattle.el_replies.proofs.requested.answer_request.Goals as goal
 
 pub returns-in-Err-clause-answered : goal.returns-in-Err-clause-answered
-returns-in-Err-clause-answered g c = λ chain kept files stands over grew.
+returns-in-Err-clause-answered g c = λ side settled.
     let P : List ℕ → Type 0 = λ n. IsCalled n c.args.request.now.params (Err c.in-Err.refusal) in
     refused c.in-Err.refusal (subst P c.as_str.ensures c.in-Err.ensures) refl refl (search rules) (search rules)
 
 pub returns-in-Some-clause-answered : goal.returns-in-Some-clause-answered
-returns-in-Some-clause-answered g c = λ chain kept files stands over grew.
+returns-in-Some-clause-answered g c = λ side settled.
     let P : List ℕ → Type 0 = λ n. IsCalled n c.args.request.now.params (Ok c.in-Ok.call) in
     let answer = c.answer-given.ensures in
     asked c.in-Ok.call c.answer-given.result (subst P c.as_str.ensures c.in-Ok.ensures)
     (sym c.told_of.ensures ∙ c.in-Some.is)
     (record {
-      of_index = λ none. answer.of_index chain kept stands over none;
-      of_files = λ has. answer.answer chain kept stands over has.0
-          (asked_stays _ _ chain c.in-Ok.call (all_grow_more _ _ _ (grew has.0) (answer.grows has.0)) has.1);
-      own = λ reads. answer.own chain kept stands over reads;
-      still = λ reads. answer.still kept reads;
-      untold = λ none. answer.untold chain kept over none;
-      unchanged = λ has. answer.unchanged chain stands has.0
-          (asked_stays _ _ chain c.in-Ok.call (all_grow_more _ _ _ (grew has.0) (answer.grows has.0)) has.1);
+      of_server = λ none. rw (← settled.found) (answer.of_server side.chain side.kept none);
+      refusals = answer.refusals;
+      alone = answer.alone;
+      unanswered = answer.unanswered;
+      of_index = λ sure none.
+          rw (← settled.found) (answer.of_index side.chain side.kept (settled.stood sure) (settled.set sure) none);
+      of_files = λ is. rw (← settled.found) (answer.answer side.chain side.kept (settled.stood is.0) (settled.set is.0)
+          is.1 (asked_stays _ _ side.chain c.in-Ok.call (all_grow_more _ _ _ (settled.told is.1) (answer.grows is.1)) is.2));
+      own = λ sure reads. answer.own side.chain side.kept (settled.stood sure) (settled.set sure) reads;
+      still = λ reads. answer.still side.kept reads;
+      untold = λ sure none. answer.untold side.chain side.kept (settled.set sure) none;
+      unchanged = λ is. answer.unchanged side.chain (settled.stood is.0) is.1
+          (asked_stays _ _ side.chain c.in-Ok.call (all_grow_more _ _ _ (settled.told is.1) (answer.grows is.1)) is.2);
     })
     answer.counted
 

@@ -1,4 +1,4 @@
-use Rattle.std.proofs.Common.{Ok, ap, refl, rules}
+use Rattle.std.proofs.Common.{Ok, ap, inl, inr, refl, rules}
 use Rattle.el_sync.proofs.Pooled.{absent_side, drops_side}
 use Rattle.el_sync.proofs.keeping.order_drop.Goals as goal
 
@@ -15,3 +15,9 @@ returns-clause-drops c = λ side stood.
 
 pub returns-clause-untouched : goal.returns-clause-untouched
 returns-clause-untouched c = λ is. absurd (let bad = is in cc)
+
+pub returns-in_default-clause-tells : goal.returns-in_default-clause-tells
+returns-in_default-clause-tells c = inr refl
+
+pub returns-clause-tells : goal.returns-clause-tells
+returns-clause-tells c = inl refl

@@ -1,4 +1,5 @@
 use Rattle.std.proofs.Common.{refl}
+use Rattle.el_side.specs.Side.{taken}
 use Rattle.el_sync.proofs.Pooled.{joins_side, refused_told}
 use Rattle.el_sync.proofs.keeping.order_tx.Goals as goal
 
@@ -15,3 +16,6 @@ returns-in-Ok-clause-adds g c = λ side stands stood limits.
 
 pub returns-in-Ok-clause-untouched : goal.returns-in-Ok-clause-untouched
 returns-in-Ok-clause-untouched g c = λ is. absurd (let bad = is in cc)
+
+pub returns-in-Ok-clause-tells : goal.returns-in-Ok-clause-tells
+returns-in-Ok-clause-tells g c = taken c.in-Ok.id refl

@@ -1,12 +1,14 @@
-use Rattle.std.proofs.Common.{ap, refl, inl, ◌∙◌, Err}
+use Rattle.std.proofs.Common.{ap, refl, inl, ◌∙◌, [], Err}
 use Rattle.std.proofs.lemmas.Result.{err_from_is_err_and}
-use Rattle.el_outside.proofs.Devices.{rose_still}
+use Rattle.el_outside.proofs.Devices.{rose_of, rose_still}
 use Rattle.el_chain.specs.Moves.{max_forward}
 use Rattle.el_chain.specs.Records.{IsNode}
 use Rattle.el_sync.proofs.Led.{memory_of, not_disk, starved_still}
-use Rattle.el_sync.proofs.Tried.{broke, made_tries, move_failed, not_failed, not_made, rose_or_not}
+use Rattle.el_sync.proofs.Tried.{broke, made_tries, move_failed, not_failed, not_made, rose_or_not, tells_refusal}
 use Rattle.el_model.proofs.LedgerMoves.{asked_moved, asked_none}
 use Rattle.el_sync.proofs.Lists.{plan_fits, left_linked}
+use Rattle.el_side.specs.Side as side_of
+use Rattle.el_sync.specs.within.Parts.{of_ledger}
 use Rattle.el_headers.proofs.Paths.{all_drop}
 use Rattle.el_sync.proofs.making.make_move.Goals as goal
 
@@ -32,6 +34,11 @@ returns-in-Ok-clause-keeps g c =
       archive_rose = inl (rose_still _ _ e.reads.uncounted);
       disk_same = e.cause.uncounted;
       beside = e.beside;
+      tells = record {
+        losses = [];
+        says = of_ledger (rw c.passed.ensures (side_of.made c.in-Ok.moved.tip c.in-Ok.moved.height refl)) refl;
+        rose = λ of_link. rose_of of_link _ _ _ _ [] refl (rose_still _ _ e.reads.uncounted) (rose_still _ _ e.cause.uncounted);
+      };
     }
 
 pub returns-in_ok-answer-in-Err-clause-tried : goal.returns-in_ok-answer-in-Err-clause-tried
@@ -58,6 +65,8 @@ returns-in_ok-answer-in-Err-clause-keeps g c =
       archive_rose = rose_or_not c.in-Err.fault _ _ (λ is. e.reads.counted (ap Err is)) e.reads.others_uncounted;
       disk_same = e.cause.others_uncounted other;
       beside = e.beside;
+      tells = tells_refusal _ _ _ c.args.rest c.in-Err.fault _ (λ is. e.reads.counted (ap Err is)) (λ is. e.reads.others_uncounted is)
+          (e.cause.others_uncounted other) c.in_ok-answer-in-Err.ensures.told c.none-left.ensures;
     }
 
 pub returns-in_err-answer-in-Err-clause-stopped : goal.returns-in_err-answer-in-Err-clause-stopped

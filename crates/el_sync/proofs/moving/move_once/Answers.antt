@@ -1,7 +1,8 @@
-use Rattle.std.proofs.Common.{ap, [], ◌∙◌, Err}
+use Rattle.std.proofs.Common.{ap, true, [], ◌∙◌, Err}
 use Rattle.std.proofs.lemmas.Result.{err_from_is_err_and}
+use Rattle.el_side.proofs.Settled.{by_sure}
 use Rattle.el_side.specs.Side.{quiet_side}
-use Rattle.el_sync.proofs.Tried.{later_then, made_fewer, made_no_more, settled, step_unsettled, stops_first, unsettled}
+use Rattle.el_sync.proofs.Tried.{later_then, made_fewer, made_no_more, settled, step_unsettled, stops_first, unsettled, unsure_settled}
 use Rattle.el_outside.proofs.Traces.{all_grow_none}
 use Rattle.el_sync.proofs.moving.move_once.Goals as goal
 
@@ -9,9 +10,12 @@ pub returns-clause-moving : goal.returns-clause-moving
 returns-clause-moving g c = λ side start at still.
     let e = c.in_ok-answer.ensures in
     let s = c.in_ok-changed.ensures in
-    settled _ _ _ c.make_move.new.ledger side start c.args.back c.args.rest
-    c.args.holdings.now c.settle.new.pool c.in_ok-answer.field-0 c.in_ok-changed.changed c.args.later c.ends_line-ends.result (λ a d f h i j k. g.met.G.Ledger.leaves_own a d f h i j k) e.keeps.live at still
-    (e.tried side at.stood at.told) e.keeps c.ends_line-ends.ensures (λ first chain stood stands ended. s.sifted first chain side.kept stood stands ended) s.same s.limits s.asked s.disk_rose.uncounted
+    by_sure side _
+    (λ sure. settled _ _ _ c.make_move.new.ledger side start c.args.back c.args.rest
+    c.args.holdings.now c.settle.new.pool c.in_ok-answer.field-0 c.in_ok-changed.changed c.args.later c.ends_line-ends.result (λ a d f h i j k. g.met.G.Ledger.leaves_own a d f h i j k) e.keeps.live sure at still
+    (e.tried side (at.stood sure) at.told) e.keeps c.ends_line-ends.ensures (λ first chain stood stands ended. s.sifted first chain side.kept stood stands ended) s.same s.limits s.asked s.disk_rose.uncounted)
+    (λ un. unsure_settled _ _ _ c.make_move.new.ledger side start c.args.back c.args.rest
+    c.args.holdings.now c.settle.new.pool c.in_ok-answer.field-0 c.in_ok-changed.changed un at e.keeps s.limits s.disk_rose.uncounted)
 
 pub returns-in_err-answer-clause-stopped : goal.returns-in_err-answer-clause-stopped
 returns-in_err-answer-clause-stopped g c = λ chain stands.
@@ -24,7 +28,7 @@ returns-in_err-changed-clause-stopped g c = λ chain stands.
     let e = c.in_ok-answer.ensures in
     let s = c.in_err-changed.ensures in
     let p = err_from_is_err_and c.from_residual-in_err-changed.result c.from_residual-in_err-changed.ensures.1 in
-    let tried = e.tried (quiet_side chain [] (record { count = 0; bytes = 0 }) [] (g.A.Archive.bytes c.args.archive.now)) stands (λ t. all_grow_none _) in
+    let tried = e.tried (quiet_side true chain [] (record { count = 0; bytes = 0 }) [] (g.A.Archive.bytes c.args.archive.now)) stands (λ t. all_grow_none _) in
     unsettled _ c.from_residual-in_err-changed.result c.in_err-changed.field-0.0 _ _ c.make_move.new.ledger _ c.args.back c.args.rest c.in_ok-answer.field-0 c.args.later (p.1 ∙ ap Err p.2) (λ a d f h i j k. g.met.G.Ledger.leaves_own a d f h i j k) e.keeps.live tried
     (later_then c.in_ok-answer.field-0.left c.in_ok-answer.field-0.moved c.args.later c.ends_line-ends.result c.ends_line-ends.ensures s.only) s.asked
     (λ is. s.disk_rose.counted (ap Err is)) (λ other. s.disk_rose.others_uncounted other)

@@ -3,8 +3,10 @@ use Rattle.std.proofs.lemmas.Result.{err_from_is_err_and, IfOk-weaker}
 use Rattle.el_lines.specs.declared.node_answer.NodeAnswer.TheVariants as say
 use Rattle.el_lines.specs.declared.node_answer.NodeRefusal.TheVariants as refusal
 use Rattle.el_side.specs.Plans.{plan_of}
-use Rattle.el_side.specs.Side.{deep, there}
-use Rattle.el_sync.proofs.Led.{along_moves, answered, asked_stops, if_err_map, leads_as, leads_on, memory_of, path_move, starved_still, step_asked, step_on, step_unmoved, stops_as, stops_on}
+use Rattle.el_side.proofs.Settled.{by_sure}
+use Rattle.el_side.specs.Side as side_of
+use Rattle.el_side.specs.Side.{deep, there, unsure}
+use Rattle.el_sync.proofs.Led.{along_moves, answered, asked_stops, if_err_map, leads_as, leads_on, memory_of, path_move, starved_still, step_asked, step_on, step_unmoved, stops_as, stops_on, unsure_moves}
 use Rattle.el_model.proofs.LedgerMoves.{asked_moved}
 use Rattle.el_sync.proofs.Compared.{drop_linked, path_linked, rest_fits, at_is}
 use Rattle.el_outside.proofs.Traces.{all_grow_none}
@@ -12,25 +14,31 @@ use Rattle.el_sync.proofs.orders.move_along.Goals as goal
 
 pub returns-then-back-clause-along : goal.returns-then-back-clause-along
 returns-then-back-clause-along g c = λ path side start is at still.
-    let w = c.in_ok-back.ensures.way path side.chain is (c.requires.end path is) at.stood in
     let asked = c.in_ok-back.ensures.asked in
     answered _ side start _ _ at still
-    (deep (rw w.0 at c.if-back.true) (c.refusing.ensures.answer ∙ ap (λ (n : ℕ). say.Refused (refusal.Deep n)) w.0) refl refl) refl c.refusing.ensures.left (λ t. all_grow_none _)
-    (asked_moved g.G.Ledger c.args.ledger.now c.compare.new.ledger side.chain (λ a d f h i j k. g.met.G.Ledger.leaves_own a d f h i j k) c.requires.live asked at.stood)
+    (by_sure side _
+    (λ sure. let w = c.in_ok-back.ensures.way path side.chain is (c.requires.end path is) (at.stood sure) in
+    deep (rw w.0 at c.if-back.true) (c.refusing.ensures.answer ∙ ap (λ (n : ℕ). say.Refused (refusal.Deep n)) w.0) refl refl)
+    (λ un. unsure un c.in_ok-back.field-0.back c.in_ok-back.field-0.same (side_of.deep c.if-back.true c.refusing.ensures.answer refl refl)))
+    refl c.refusing.ensures.left (λ t. all_grow_none _)
+    (λ sure. asked_moved g.G.Ledger c.args.ledger.now c.compare.new.ledger side.chain (λ a d f h i j k. g.met.G.Ledger.leaves_own a d f h i j k) c.requires.live asked (at.stood sure))
     refl c.in_ok-back.ensures.disk_rose.uncounted
 
 pub returns-then-is_there-clause-along : goal.returns-then-is_there-clause-along
 returns-then-is_there-clause-along g c = λ path side start is at still.
-    let w = c.in_ok-back.ensures.way path side.chain is (c.requires.end path is) at.stood in
-    let rest_is = c.in_ok-rest.ensures.rest path is ∙ ap (λ k. drop k path) w.1 in
     let asked = c.in_ok-back.ensures.asked in
-    let here = asked.stays.still_stands side.chain at.stood in
     let none = c.is_there.ensures.there c.if-is_there.true in
     answered _ side start _ _ at still
-    (there (sym w.0 ∙ none.0) (sym rest_is ∙ none.1) (c.only_answer.ensures.answer
+    (by_sure side _
+    (λ sure. let w = c.in_ok-back.ensures.way path side.chain is (c.requires.end path is) (at.stood sure) in
+    let rest_is = c.in_ok-rest.ensures.rest path is ∙ ap (λ k. drop k path) w.1 in
+    let here = asked.stays.still_stands side.chain (at.stood sure) in
+    there (sym w.0 ∙ none.0) (sym rest_is ∙ none.1) (c.only_answer.ensures.answer
     ∙ at_is _ _ _ _ (c.tip.ensures ∙ g.met.G.Ledger.tip_is c.compare.new.ledger side.chain here) (c.height.ensures ∙ g.met.G.Ledger.height_is c.compare.new.ledger side.chain here)) refl refl)
+    (λ un. unsure un c.in_ok-back.field-0.back c.in_ok-back.field-0.same
+    (side_of.there _ _ none.0 (sym (c.in_ok-rest.ensures.rest path is) ∙ none.1) c.only_answer.ensures.answer refl refl)))
     refl c.only_answer.ensures.left (λ t. all_grow_none _)
-    (asked_moved g.G.Ledger c.args.ledger.now c.compare.new.ledger side.chain (λ a d f h i j k. g.met.G.Ledger.leaves_own a d f h i j k) c.requires.live asked at.stood)
+    (λ sure. asked_moved g.G.Ledger c.args.ledger.now c.compare.new.ledger side.chain (λ a d f h i j k. g.met.G.Ledger.leaves_own a d f h i j k) c.requires.live asked (at.stood sure))
     refl c.in_ok-back.ensures.disk_rose.uncounted
 
 pub move_once-requires-clause-linked : goal.move_once-requires-clause-linked
@@ -48,16 +56,19 @@ move_once-requires-clause-fits g c = λ lifetimes outlive chain stands.
 
 pub returns-clause-along : goal.returns-clause-along
 returns-clause-along g c = λ path side start is at still.
-    let w = c.in_ok-back.ensures.way path side.chain is (c.requires.end path is) at.stood in
-    let rest_is = c.in_ok-rest.ensures.rest path is ∙ ap (λ k. drop k path) w.1 in
     let asked = c.in_ok-back.ensures.asked in
     IfOk-weaker c.move_once.result _ _ (λ s leads.
     leads_as _ side start _ _ _
-    (λ losses next. along_moves _ side next path c.in_ok-rest.rest c.in_ok-back.field-0.back s.answer losses c.if-back.false w.0 rest_is
-    (c.is_there.ensures.moves c.if-is_there.false))
+    (λ losses next move. by_sure side _
+    (λ sure. let w = c.in_ok-back.ensures.way path side.chain is (c.requires.end path is) (at.stood sure) in
+    let rest_is = c.in_ok-rest.ensures.rest path is ∙ ap (λ k. drop k path) w.1 in
+    along_moves _ side next path c.in_ok-rest.rest c.in_ok-back.field-0.back s.answer losses c.if-back.false w.0 rest_is
+    (c.is_there.ensures.moves c.if-is_there.false) move)
+    (λ un. unsure_moves _ side next path c.in_ok-rest.rest c.in_ok-back.field-0.back c.in_ok-back.field-0.same s.answer losses un c.if-back.false
+    (c.in_ok-rest.ensures.rest path is) (c.is_there.ensures.moves c.if-is_there.false) move))
     (leads_on _ side start _ _ c.compare.new.ledger
     (λ a d f h i j k. g.met.G.Ledger.leaves_own a d f h i j k) c.requires.live asked c.in_ok-back.ensures.disk_rose.uncounted at.stood leads))
-    (c.move_once.ensures.moving side start (record { stood = asked.stays.still_stands side.chain at.stood; set = at.set; told = at.told }) (λ e. still))
+    (c.move_once.ensures.moving side start (record { stood = λ sure. asked.stays.still_stands side.chain (at.stood sure); set = at.set; told = at.told }) (λ e. still))
 
 pub returns-clause-stopped : goal.returns-clause-stopped
 returns-clause-stopped g c = λ path chain is stands.

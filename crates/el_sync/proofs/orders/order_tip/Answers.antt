@@ -24,30 +24,30 @@ returns-in-Ok-clause-tip g c = λ side start at found still.
     (c.move_along.ensures.along path side start (rw c.in-Ok.ensures.hash is) at still)
 
 pub returns-in-Ok-clause-stopped : goal.returns-in-Ok-clause-stopped
-returns-in-Ok-clause-stopped g c = λ side start at found.
+returns-in-Ok-clause-stopped g c = λ side start sure at found.
     let path = c.in-Ok.ensures.there.0 in
     let is = c.in-Ok.ensures.there.1 in
     if_err_map c.move_along.result _ _ (λ e f.
     stops_as _ _ _ side.chain false _ _ e (λ p first. record { path = path; is_path = rw found is; move_is = first }) f)
-    (c.move_along.ensures.stopped path side.chain (rw c.in-Ok.ensures.hash is) at.stood)
+    (c.move_along.ensures.stopped path side.chain (rw c.in-Ok.ensures.hash is) (at.stood sure))
 
 pub returns-in-Err-Unknown-clause-tip : goal.returns-in-Err-Unknown-clause-tip
 returns-in-Err-Unknown-clause-tip g c = λ side start at found still.
     answered _ side start (Tips g.A.Archive side c.args.h) _ at still
     (unknown (rw found (rw c.in-Err-Unknown.field-0-is at c.in-Err-Unknown.ensures.fault)) c.refusing.ensures.answer refl refl) refl
-    c.refusing.ensures.left (λ t. all_grow_none _) (asked_moved g.G.Ledger c.args.ledger.now c.args.ledger.now side.chain (λ a d f h i j k. g.met.G.Ledger.leaves_own a d f h i j k) c.requires.live (asked_none g.G.Ledger c.args.ledger.now) at.stood) refl refl
+    c.refusing.ensures.left (λ t. all_grow_none _) (λ sure. asked_moved g.G.Ledger c.args.ledger.now c.args.ledger.now side.chain (λ a d f h i j k. g.met.G.Ledger.leaves_own a d f h i j k) c.requires.live (asked_none g.G.Ledger c.args.ledger.now) (at.stood sure)) refl refl
 
 pub returns-in-Err-Unconnected-clause-tip : goal.returns-in-Err-Unconnected-clause-tip
 returns-in-Err-Unconnected-clause-tip g c = λ side start at found still.
     let why = rw c.in-Err-Unconnected.field-0-is at c.in-Err-Unconnected.ensures.fault in
     answered _ side start (Tips g.A.Archive side c.args.h) _ at still
     (unconnected (rw found why.0) (rw found why.1) c.refusing-in-Err-Unconnected.ensures.answer refl refl) refl
-    c.refusing-in-Err-Unconnected.ensures.left (λ t. all_grow_none _) (asked_moved g.G.Ledger c.args.ledger.now c.args.ledger.now side.chain (λ a d f h i j k. g.met.G.Ledger.leaves_own a d f h i j k) c.requires.live (asked_none g.G.Ledger c.args.ledger.now) at.stood) refl refl
+    c.refusing-in-Err-Unconnected.ensures.left (λ t. all_grow_none _) (λ sure. asked_moved g.G.Ledger c.args.ledger.now c.args.ledger.now side.chain (λ a d f h i j k. g.met.G.Ledger.leaves_own a d f h i j k) c.requires.live (asked_none g.G.Ledger c.args.ledger.now) (at.stood sure)) refl refl
 
 pub returns-in-Err-Memory-clause-stopped : goal.returns-in-Err-Memory-clause-stopped
-returns-in-Err-Memory-clause-stopped g c = λ side start at found.
+returns-in-Err-Memory-clause-stopped g c = λ side start sure at found.
     starved_still _ {T = Step} (Err fault.Memory) _ c.args.ledger.now side.chain _
-    (asked_moved g.G.Ledger c.args.ledger.now c.args.ledger.now side.chain (λ a d f h i j k. g.met.G.Ledger.leaves_own a d f h i j k) c.requires.live (asked_none g.G.Ledger c.args.ledger.now) at.stood)
+    (asked_moved g.G.Ledger c.args.ledger.now c.args.ledger.now side.chain (λ a d f h i j k. g.met.G.Ledger.leaves_own a d f h i j k) c.requires.live (asked_none g.G.Ledger c.args.ledger.now) (at.stood sure))
     refl refl
 
 pub returns-in-Err-Unknown-clause-step : goal.returns-in-Err-Unknown-clause-step

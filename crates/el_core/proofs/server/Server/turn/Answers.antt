@@ -27,7 +27,8 @@ returns-in-Err-clause-failed g c = λ world left stood told.
     let k = e.step in
     ahead_failed (ghosts g.G.Ledger g.A.Archive) c.args.self.now.ledger c.turn_ahead.new.self.ledger c.args.archive.now c.turn_ahead.new.archive world left c.in-Err.fault
     (λ none. e.some (stood.ahead ∙ none))
-    (λ is. k.still_live (ap Err is)) (rw stood.ahead at (e.stopped world.side stood.start (record { stood = stood.chain; set = stood.set; told = told })))
+    (λ is. k.still_live (ap Err is)) (λ sure. rw stood.ahead at (e.stopped world.side stood.start sure (record { stood = stood.chain; set = stood.set; told = told })))
+    (λ un. e.lost world.side stood.start un (record { stood = stood.chain; set = stood.set; told = told }))
 
 pub returns-in-Err-next_line-clause-failed : goal.returns-in-Err-next_line-clause-failed
 returns-in-Err-next_line-clause-failed g c = λ world left stood told.
@@ -78,7 +79,7 @@ returns-in-Err-turn_node-clause-failed g c = λ world left stood told.
     node_failed (ghosts g.G.Ledger g.A.Archive) c.args.self.now c.next_line.new.self c.turn_node.new.self.ledger c.args.archive.now c.turn_node.new.archive world left
     (as_listed c.in-Ok-Some.met) c.in-Err-turn_node.fault
     stood told e.still e.told c.in-Ok-Some.ensures.same c.in-Ok-Some.ensures.limit (rw c.in-Ok-Some.field-0-is at c.in-Ok-Some.ensures.met)
-    (λ is. k.still_live (ap Err is)) e.stopped
+    (λ is. k.still_live (ap Err is)) e.stopped e.lost
 
 pub returns-in-Ok-clause-waiting : goal.returns-in-Ok-clause-waiting
 returns-in-Ok-clause-waiting g c = λ world p rest stood. waiting_joins g.G.Ledger.stands c.args.self.now world p rest stood
