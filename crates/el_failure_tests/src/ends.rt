@@ -37,7 +37,11 @@ const OTHER_WORDS: &[&str] = &[
     "serve --blocks a --index b --network main --client-port 00000000001 --node-port 2",
     "serve --blocks a --index b --network main --client-port 1",
     "serve --blocks a --index b --network main --client-port 1 --node-port 2 --",
-    "check-chain 1",
+    "check-chain",
+    "check-chain 0",
+    "check-chain 20001",
+    "check-chain 1x",
+    "check-chain 1 2",
 ];
 
 // Whether a call with these words ends at once.

@@ -6,6 +6,8 @@ use Rattle.el_outside.specs.Trace.{Trace}
 use Rattle.el_gen.specs.MadeFile.{regtest_magic}
 use Rattle.el_check_chain.specs.Checked.{Way, summary_at_end}
 use Rattle.el_check_chain.specs.Summaries.{summary_line}
+use Rattle.el_check_laws.specs.Differing.{HashesDiffer}
+use Rattle.el_check_laws.specs.Numbers.{LedAsMade}
 use Rattle.el_loop.specs.Counts.{Counts}
 use Rattle.el_program.specs.Ends.{IsSilent}
 use Rattle.el_program.specs.IndexDisks.{LeavesOneOf}
@@ -27,13 +29,15 @@ SummaryEnds is_line c t status.LinkFailed = IsSilent c t (link ∷ [])
 SummaryEnds is_line c t status.OutOfMemory = IsSilent c t []
 SummaryEnds is_line c t other = ⊥
 
--- The disk was checked over a made file of so many blocks, and this is the line that sums it up. Whatever a
--- crash then leaves of it stands for the chain at the end of the way; and at some moment of the call all that
--- a crash might have left stood for the chain of the second tip line.
+-- The disk was checked over a made file of so many blocks, and this is the line that sums it up. Where the
+-- hashes of that file differ, the way leads along its two branches, and the line has their numbers. Whatever a
+-- crash then leaves of the disk stands for the chain at the end of the way; and at some moment of the call all
+-- that a crash might have left stood for the chain of the second tip line.
 pub record IsCheckedDisk {D : Type 0} (of_disk : disks.Ghosts D) (count : ℕ) (before after : D)
     (text : List ℕ) : Type 0 where
   pub way : Way count
   pub line : text ≡ summary_line (summary_at_end way)
+  pub made : HashesDiffer count → LedAsMade way
   pub leaves : LeavesOneOf of_disk regtest_magic after way.last.chain way.last.chain
   pub between : D
   pub later : of_disk.moment before ≤ of_disk.moment between

@@ -16,6 +16,7 @@ ghost use Rattle.el_check_chain.specs.Summaries.{summary_line};
 use crate::index_disk::open_index;
 use crate::status::Status;
 use el_check_chain::{Summary, check_chain};
+use el_check_laws::check_leads_along_both_branches;
 use el_gen::MOST_MADE;
 use el_model::QueryFault;
 use el_outside::{Disk, Link, Pace, Peer, SendFault};
@@ -97,6 +98,7 @@ pub fn serve_check<W: Threads + Sync, D: Disk, K: Link>(
     ensures read { result.0 ≢ Status.Usage }
     ensures unserved { IsUnserved result.0 → link.new ≡ link.old }
 {
+    check_leads_along_both_branches();
     match open_index::<D, Regtest>(alloc, disk) {
         Ok(index) => {
             let (checked, rows) = check_chain(rt, alloc, index, count, pace);

@@ -265,8 +265,8 @@ fn serve_words<W: Threads + Sync>(
 }
 
 /// Serves the words that the program was started with, with no end of turns, and answers how that ended. What
-/// the words are is the system's to say; a word that is no text counts as no command. `threads` is the runtime
-/// once more, as what starts threads: only `main` can lend it as that.
+/// the words are is the system's to say; a word that is no text counts as no command. `threads` is the
+/// runtime once more, as what starts threads: only `main` can lend it as that.
 pub fn serve_all<W: Threads + Sync>(rt: &HostRuntime, threads: &W) -> Status
     ensures { (result ≡ Status.OutOfMemory) ⊎ ((words : List Word)
         × (IsServing ⟦<FileDisk<IndexFolder<HostRuntime>> as Disk>⟧ ⟦<NoDisk as Disk>⟧

@@ -209,8 +209,8 @@ fn serve_file<W: Threads + Sync, A: Archive, K: Link>(
 /// without the disk. It ends as the link does, or fails, and makes at most `turns` calls of `next`. With
 /// those of `check-chain` it leads an index on the disk, whose files are to be empty, over a file that it
 /// makes, and sends client 1 one line that sums it up. The blocks of a move are prepared in threads of the
-/// runtime, each piece of which enters the pace as it begins. The disk comes back as it stands; where it is no
-/// index of the network, it stands for what it stood for before.
+/// runtime, each piece of which enters the pace as it begins. The disk comes back as it stands; where it is
+/// no index of the network, it stands for what it stood for before.
 pub fn serve<W: Threads + Sync, D: Disk, A: Archive, K: Link>(
     rt: &W,
     alloc: Global,

@@ -3,8 +3,8 @@ use el_fakes::MeetPace;
 use el_program::Status;
 use el_trials::Step::Says;
 use el_trials::{
-    Files, SERVE, TURNS, expect_ended, fresh_disk, life_on, serve_at, steady_archive, steady_link,
-    transcript,
+    Files, SERVE, Step, TURNS, expect_ended, fresh_disk, life_on, serve_at, steady_archive,
+    steady_link, transcript,
 };
 use std::alloc::Global;
 use std::test::Fail;
@@ -13,21 +13,25 @@ use std::thread::Threads;
 // How often a piece looks for the other one: far more often than is ever needed.
 const LOOKS: u64 = 50_000_000;
 
+// The node leads to the first block.
+const BEGINS: &[Step<'static>] = &[Says(0, "tip {z-0}\n")];
+
+// From there it leads on over two blocks, or over one of two transactions.
+const TWO_BLOCKS: &[Step<'static>] = &[Says(0, "tip {z-a2}\n")];
+
+const TWO_TRANSACTIONS: &[Step<'static>] = &[Says(0, "tip {z-d1}\n")];
+
 // Over an index of the first block, with no pace, the node leads on so. Fails unless this is sent, and
 // answers whether the first two pieces met.
-fn meets<W: Threads + Sync>(rt: &W, alloc: Global, said: &str, wanted: &str) -> Result<bool, Fail> {
-    let begins = [Says(0, "tip {z-0}\n")];
-    let first = life_on(
-        rt,
-        alloc,
-        SERVE,
-        fresh_disk(alloc),
-        Files::Forks,
-        begins.as_slice(),
-    )?;
-    let goes_on = [Says(0, said)];
+fn meets<W: Threads + Sync>(
+    rt: &W,
+    alloc: Global,
+    goes_on: &[Step<'static>],
+    wanted: &str,
+) -> Result<bool, Fail> {
+    let first = life_on(rt, alloc, SERVE, fresh_disk(alloc), Files::Forks, BEGINS)?;
     let mut archive = steady_archive(alloc, Files::Forks)?;
-    let mut link = steady_link(alloc, goes_on.as_slice())?;
+    let mut link = steady_link(alloc, goes_on)?;
     let pace = MeetPace::new(0, 1, LOOKS);
     let (status, _) = serve_at(
         rt,
@@ -46,12 +50,12 @@ fn meets<W: Threads + Sync>(rt: &W, alloc: Global, said: &str, wanted: &str) -> 
 
 #[test]
 fn two_blocks_of_a_move_meet(rt: HostRuntime) -> Result<(), Fail> {
-    assert!(rt; meets(&rt, rt.alloc(), "tip {z-a2}\n", "0 at {z-a2} 2\n")?);
+    assert!(rt; meets(&rt, rt.alloc(), TWO_BLOCKS, "0 at {z-a2} 2\n")?);
     Ok(())
 }
 
 #[test]
 fn two_transactions_of_a_block_meet(rt: HostRuntime) -> Result<(), Fail> {
-    assert!(rt; meets(&rt, rt.alloc(), "tip {z-d1}\n", "0 at {z-d1} 1\n")?);
+    assert!(rt; meets(&rt, rt.alloc(), TWO_TRANSACTIONS, "0 at {z-d1} 1\n")?);
     Ok(())
 }

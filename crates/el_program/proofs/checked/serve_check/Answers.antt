@@ -39,6 +39,8 @@ returns-in-Ok-checked-clause-ends g c = λ turns of_files told fresh.
     (record {
       way = k.way;
       line = ap summary_line k.sums;
+      made = λ differ. c.check_leads_along_both_branches.ensures c.args.count c.requires.some c.requires.few differ
+          k.way;
       leaves = λ image now. inl (k.leaves told image (told, rw c.into_disk-disk.ensures.disk at now));
       between = disk_below (k.between told).0;
       later = (let a = c.in-Ok.ensures.later told in let b = (k.between told).1 in omega arith);

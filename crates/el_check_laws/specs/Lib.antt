@@ -1,0 +1,3 @@
+pub mod Differing
+pub mod MadeNodes
+pub mod Numbers
