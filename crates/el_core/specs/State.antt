@@ -215,8 +215,8 @@ pub record NodeLeaves (node : LineState) (heard : List ℕ) (left : List Event) 
 
 -- The server stands for the world, and these events of the last arrival are left: the node's lines, and then
 -- what the clients' bytes leave. `stands` says for which chains its ledger stands: where the side is sure, it
--- stands for the side's chain; `start` is the chain that was there when the node's last tip line began, or the
--- side's.
+-- stands for the side's chain; `start` is the chain that was there when the node's last tip line began, or
+-- the side's.
 pub record Stands {G : Type 0} (stands : G → Chain → Type 0) (s : State G) (world : World) (left : List Event)
     : Type 0 where
   pub chain : IsSure world.side → stands s.ledger world.side.chain

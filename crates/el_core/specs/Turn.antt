@@ -75,8 +75,8 @@ pub record TookTurn {G A : Type 0} (of : Ghosts G A) (was now : Serving G A) (wo
   pub rose : Lost of (beneath_of was) (beneath_of now) losses
 
 -- No event is left, but perhaps lines of a client that is closed, which have no effect. Everyone was told of
--- the node's last line, and of each subscription the status that was told last is its status, where the side is
--- sure.
+-- the node's last line, and of each subscription the status that was told last is its status, where the side
+-- is sure.
 pub record IsDone {G A : Type 0} (stands : G → Chain → Type 0) (of_files : archive.Ghosts A) (world : World)
     (left : List Event) (s : State G) : Type 0 where
   pub turns : Turns of_files world left [] [] [] world
@@ -114,8 +114,8 @@ KeepsChain (unsent done rest outs failed after front back m lost last next whole
     ⊥
 
 -- A turn failed, and with it the server stops. The ledger is still live where no memory was found; `later` is
--- whether the turn was to make a later move of a tip line. Where the side is sure, so is what the ledger stands
--- for then.
+-- whether the turn was to make a later move of a tip line. Where the side is sure, so is what the ledger
+-- stands for then.
 pub record TurnFailed {G A : Type 0} (of : Ghosts G A) (was now : Beneath G A) (world : World)
     (left : List Event) (e : QueryFault) : Type 0 where
   pub losses : List Device

@@ -139,7 +139,8 @@ impl Client {
         // Whatever the ledger and the set stand for.
         ensures notices { IfOk result (λ lines. AllByRecursion IsNotice lines.items) }
         ensures stays { StaysSubscribed self.old.session self.new.session }
-        ensures only { OnOk result (self.new ≡ record self.old { session = self.new.session; waits = false }) }
+        ensures only { OnOk result
+            (self.new ≡ record self.old { session = self.new.session; waits = false }) }
         ensures done { OnOk result (self.new.waits ≡ false) }
         ensures bytes { self.new.buffer ≡ self.old.buffer }
         ensures peer { self.new.peer ≡ self.old.peer }

@@ -80,8 +80,8 @@ StatusesAreTold world = AllByRecursion
 -- The traffic is that of a run from the first world, all turns of which were made. `of_files` is what the
 -- type of the block files says of them, and `files` are their bytes as they are in the end. `leaves` says of
 -- two chains that all that a crash may leave in the end stands for the one, which is acknowledged, or for the
--- other, which is in flight; acknowledged is the one that the node was told last. What is said of chains is said
--- where the side of the first world is sure.
+-- other, which is in flight; acknowledged is the one that the node was told last. What is said of chains is
+-- said where the side of the first world is sure.
 pub record IsRun {A : Type 0} (of_files : archive.Ghosts A) (first : World) (node : Bool)
     (leaves : Chain → Chain → Type 0) (files : ℕ → List ℕ) (c : Counts) (t : Trace) (failed : List Device)
     : Type 0 where

@@ -34,8 +34,8 @@ pub fn serve_from<W: Threads + Sync, G: Ledger, A: Archive, K: Link>(
     options: RunOptions,
 ) -> (End, G)
     requires live { G.is_live ledger }
-    // What was sent and closed is a run from the chain that the ledger stands for, and so it ends. It is a run
-    // from a side that is unsure whatever the ledger stands for.
+    // What was sent and closed is a run from the chain that the ledger stands for, and so it ends. It is a
+    // run from a side that is unsure whatever the ledger stands for.
     ensures ends { (sure : Bool) (chain : Chain) → (sure ≡ true → G.stands ledger chain) → (traffic : Trace)
         × WentBy ⟦<K as Link>⟧ link.old link.new traffic
         × RunEnds ⟦<A as Archive>⟧ (initial_world sure chain options.magic options.limits tree

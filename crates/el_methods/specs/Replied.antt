@@ -158,14 +158,14 @@ abbrev pub IsThere : Type 0 → Side → Call → Type 0
 IsThere tells side c = IsSure side × tells × HasAsked side.files side.chain c
 
 -- A call is given this over the side; `tells` is that the block files tell what they hold. Whatever the index
--- stands for, a call that reads neither the chain nor the unconfirmed set is given what is defined, each other
--- one is refused only as it may be, that block files failed or have changed is told only where the answer may
--- be read from them, and where a call has no answer, what is kept of the client stays as it was. Over a sure
--- side the answer is what is defined, unless it is read from the block files and they may not have the
--- transaction that is asked for. Where it is read from them, what is kept of the client stays as it was in any
--- case, and another transaction is never given, whatever they hold. That a call of the block files failed, or
--- that they have changed, is told only where it is read from them, and that they have changed only where they
--- lack what is asked for.
+-- stands for, a call that reads neither the chain nor the unconfirmed set is given what is defined, each
+-- other one is refused only as it may be, that block files failed or have changed is told only where the
+-- answer may be read from them, and where a call has no answer, what is kept of the client stays as it was.
+-- Over a sure side the answer is what is defined, unless it is read from the block files and they may not
+-- have the transaction that is asked for. Where it is read from them, what is kept of the client stays as it
+-- was in any case, and another transaction is never given, whatever they hold. That a call of the block files
+-- failed, or that they have changed, is told only where it is read from them, and that they have changed only
+-- where they lack what is asked for.
 pub record IsGiven (tells : Type 0) (side : Side) (c : Call) (s t : Session) (given : Result Data Stop)
     : Type 0 where
   pub of_server : reads_chain c ≡ false

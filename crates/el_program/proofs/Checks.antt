@@ -1,11 +1,9 @@
 -- How a check ends.
 use Rattle.std.proofs.Common.{◌≡◌, ◌≢◌, ◌⊎◌, inl, inr, ℕ, ◌≤◌, List, [], ◌∷◌, length, refl, sym, ◌∙◌, subst, arith, Some, Err}
-use Rattle.el_outside.specs.declared.disk.Disk as disks
 use Rattle.el_outside.specs.declared.link.Link as links
 use Rattle.el_outside.specs.Counts.{RoseBy, CountsOnly}
-use Rattle.el_outside.specs.Devices.{Device, link, archive, disk, Faults, faults, failures, Rose}
+use Rattle.el_outside.specs.Devices.{Device, link, archive, disk, faults, failures, Rose}
 use Rattle.el_outside.specs.Disk.{Image}
-use Rattle.el_outside.specs.Moments.{LeftNow}
 use Rattle.el_outside.specs.Trace.{Trace, GoesOn}
 use Rattle.el_outside.proofs.Devices.{each_more, rose_still}
 use Rattle.el_outside.proofs.Traces.{goes_none}

@@ -54,7 +54,7 @@ parts_in magic file n r =
     node_parts 0 n.place.offset (drop 8 front) (record_size magic front (length front)) n r.stands
 
 -- bytes that encode a block begin with its header
-body_begins : (b : Block) (bytes : List ℕ) → EncodesBlock bytes b → take 80 bytes ≡ header_encoding b.header
+pub body_begins : (b : Block) (bytes : List ℕ) → EncodesBlock bytes b → take 80 bytes ≡ header_encoding b.header
 body_begins b bytes s =
     let h = header_encoding b.header in
     ap (take 80) s.text.whole ∙ take_at h (counted full_encoding b.txs) 80

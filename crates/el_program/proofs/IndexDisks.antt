@@ -2,7 +2,6 @@
 use Rattle.std.proofs.Common.{◌≡◌, ◌≢◌, ◌⊎◌, inl, inr, refl, ℕ, ◌≤◌, List, [], ◌∷◌, length, ap, arith}
 use Rattle.el_outside.specs.declared.disk.Disk as disk
 use Rattle.el_outside.specs.Disk.{Image}
-use Rattle.el_outside.specs.Moments.{LeftNow}
 use Rattle.el_outside.proofs.Moments.{weaker}
 use Rattle.el_chain.specs.Chains.{Chain}
 use Rattle.el_row_formats.specs.declared.table.Table.{Table}
@@ -24,7 +23,7 @@ use Rattle.el_redo.specs.declared.faults.OpenFault.TheVariants as fault
 use Rattle.el_index.specs.Means.{AreRowsOf}
 use Rattle.el_index.proofs.IndexRows.{same_rows}
 use Rattle.el_program.specs.Ends.{IsUnopened}
-use Rattle.el_program.specs.IndexDisks.{ShowsFor, ImageMeans, IsNoIndex, LeavesOneOf, StandsForAll, IsAsBefore}
+use Rattle.el_program.specs.IndexDisks.{ShowsFor, ImageMeans, LeavesOneOf, StandsForAll, IsAsBefore}
 use Rattle.el_program.specs.OtherFiles.{OthersStay}
 use Rattle.el_program.specs.declared.status.Status.{Status}
 use Rattle.el_program.specs.declared.status.Status.TheVariants as status

@@ -1,4 +1,5 @@
 pub mod Checks
+pub mod Completes
 pub mod FileLemmas
 pub mod FreshDisks
 pub mod IndexDisks

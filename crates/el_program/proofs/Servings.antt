@@ -6,7 +6,6 @@ use Rattle.el_outside.specs.Trace.{Trace}
 use Rattle.el_outside.specs.Counts.{RoseBy, OnlyReads, CountsOnly}
 use Rattle.el_outside.proofs.Traces.{rose_none}
 use Rattle.el_outside.proofs.Devices.{rose_still}
-use Rattle.el_chain.specs.declared.node.Node.{Node}
 use Rattle.el_chain.specs.Chains.{Chain}
 use Rattle.el_world.specs.World.{World}
 use Rattle.el_outside.specs.Devices.{Device, archive, disk, failures, link}
@@ -85,6 +84,23 @@ only_served is (usage none spent silent) =
 only_served is (serve magic also e) = rw (same_networks also is, same_limits also is) at e
 only_served is (once magic other e) =
     absurd (let a = is.is_serve.words_are in let b = other.is_once.words_are in cc)
+
+-- so does one with the words of `once`
+same_once : {words : List (List ℕ)} {a b : List ℕ} → IsOnce words a → IsOnce words b → a ≡ b
+same_once {words} x y =
+    let same = one_command words (command.Once x.blocks x.of_network) (command.Once y.blocks y.of_network) x.is_once y.is_once in
+    let networks : x.of_network ≡ y.of_network = cc in
+    x.magic_is ∙ ap network_magic networks ∙ sym y.magic_is
+
+pub only_once : {A : Type 0} {of_files : block_files.Ghosts A}
+    {words : List (List ℕ)} {was flight : Chain} {index : IndexChain} {leaves : List ℕ → Chain → Chain → Type 0} {c : Counts}
+    {before after : A} {t : Trace} {s : Status} {magic : List ℕ} → IsOnce words magic
+    → Ends of_files words was flight index leaves c before after t s
+    → OnceEnds of_files magic c (of_files.bytes before) (of_files.bytes after) t s
+only_once is (usage none spent silent) = absurd (none (command.Once is.blocks is.of_network) is.is_once)
+only_once is (serve magic other e) =
+    absurd (let a = other.is_serve.words_are in let b = is.is_once.words_are in cc)
+only_once is (once magic also e) = rw (same_once also is) at e
 
 -- a call with the words that were read ends so
 pub served_with : {A : Type 0} {of_files : block_files.Ghosts A} {words : List (List ℕ)}

@@ -16,8 +16,8 @@ use Rattle.el_program.specs.Lives.{IsFresh}
 use Rattle.el_program.specs.Opened.{IndexChain}
 
 -- With the words of `check-chain` the call ends as such, wherever the disk tells that its files are empty.
--- With any other words it ends as a call of the server, whatever the disk is that they ask for: what is said of
--- chains is said where the disk is an index, which is then sure.
+-- With any other words it ends as a call of the server, whatever the disk is that they ask for: what is said
+-- of chains is said where the disk is an index, which is then sure.
 pub record IsCall {D A K : Type 0} (of_disk : disk.Ghosts D) (of_files : archive.Ghosts A)
     (of_link : link.Ghosts K) (c : Call D A K) : Type 0 where
   pub served : ((count : ℕ) → IsCheckOf c.words count → ⊥) → (was flight : Chain) (index : IndexChain)

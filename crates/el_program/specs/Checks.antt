@@ -30,9 +30,9 @@ SummaryEnds is_line c t status.OutOfMemory = IsSilent c t []
 SummaryEnds is_line c t other = ⊥
 
 -- The disk was checked over a made file of so many blocks, and this is the line that sums it up. Where the
--- hashes of that file differ, the way leads along its two branches, and the line has their numbers. Whatever a
--- crash then leaves of the disk stands for the chain at the end of the way; and at some moment of the call all
--- that a crash might have left stood for the chain of the second tip line.
+-- hashes of that file differ, the way leads along its two branches, and the line has their numbers. Whatever
+-- a crash then leaves of the disk stands for the chain at the end of the way; and at some moment of the call
+-- all that a crash might have left stood for the chain of the second tip line.
 pub record IsCheckedDisk {D : Type 0} (of_disk : disks.Ghosts D) (count : ℕ) (before after : D)
     (text : List ℕ) : Type 0 where
   pub way : Way count

@@ -165,10 +165,10 @@ IsUnserved status.OtherChain = Unit {0}
 IsUnserved status.BadChain = Unit {0}
 IsUnserved other = ⊥
 
--- How a call ends. The words of `serve` ask for an index on a disk, which reads as one with this chain, and give
--- the limits of the unconfirmed set; `was` was acknowledged before, and `flight` was in flight. `leaves` says
--- of a magic and two chains that all that a crash may leave of the disk in the end stands for the one or for
--- the other, as an index of that network.
+-- How a call ends. The words of `serve` ask for an index on a disk, which reads as one with this chain, and
+-- give the limits of the unconfirmed set; `was` was acknowledged before, and `flight` was in flight. `leaves`
+-- says of a magic and two chains that all that a crash may leave of the disk in the end stands for the one or
+-- for the other, as an index of that network.
 pub data Ends {A : Type 0} (of_files : block_files.Ghosts A)
     (words : List (List ℕ)) (was flight : Chain) (index : IndexChain)
     (leaves : List ℕ → Chain → Chain → Type 0) (c : Counts) (before after : A) (t : Trace) (s : Status)

@@ -9,5 +9,6 @@ pub mod IndexDisks
 pub mod Lives
 pub mod Checks
 pub mod AnyCall
+pub mod Complete
 pub mod Program
 pub mod within

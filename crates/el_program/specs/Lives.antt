@@ -63,5 +63,5 @@ module _ {D A K : Type 0} (of_disk : disk.Ghosts D) (of_files : archive.Ghosts A
     none : (was flight : Chain) → GoOn was flight []
     one : (was flight : Chain) (l : Call D A K) (more : List (Call D A K)) (chain acked in_flight : Chain)
         → (chain ≡ was) ⊎ (chain ≡ flight)
-        → CallEnds of_disk of_files of_link l was flight (certain chain) (λ magic a b. (a ≡ acked) × (b ≡ in_flight))
-        → GoOn acked in_flight more → GoOn was flight (l ∷ more)
+        → CallEnds of_disk of_files of_link l was flight (certain chain)
+        (λ magic a b. (a ≡ acked) × (b ≡ in_flight)) → GoOn acked in_flight more → GoOn was flight (l ∷ more)

@@ -28,8 +28,8 @@ node_of_block b = record { hash = block_hash b.block.header; header = b.block.he
 abbrev pub nodes_of_chain : Chain → List Node
 nodes_of_chain chain = map node_of_block chain
 
--- The chain that an index has, as far as that is sure: where it isn't, the index may stand for no chain, and this
--- one is a name that says nothing.
+-- The chain that an index has, as far as that is sure: where it isn't, the index may stand for no chain, and
+-- this one is a name that says nothing.
 pub record IndexChain : Type 0 where
   pub sure : Bool
   pub chain : Chain

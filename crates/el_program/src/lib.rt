@@ -2,6 +2,7 @@
 #![tactic(auto)]
 
 mod checked;
+mod complete;
 mod failures;
 mod file;
 mod index_disk;
@@ -15,6 +16,7 @@ mod serving;
 mod starting;
 mod status;
 
+pub use complete::calls_without_failures_are_complete;
 pub use file::{FileFault, read_chain};
 pub use laws::file_without_padding_gives_chain;
 pub use lives::{Between, live, lives_go_on};

@@ -140,7 +140,8 @@ pub fn open_headers<G: Ledger, A: Archive>(
         × (tree ≡ all_added (all_added [] headers) nodes)
         × (other.is_other_chain headers nodes ≡ false)) }
     ensures other { (index : IndexChain) → (index.sure ≡ true → G.stands ledger.old index.chain)
-        → IsErrOf result StartFault.OtherChain → IsOtherChain ⟦<A as Archive>⟧ magic index archive.old archive.new }
+        → IsErrOf result StartFault.OtherChain
+        → IsOtherChain ⟦<A as Archive>⟧ magic index archive.old archive.new }
     // The block files are scanned once.
     ensures calls { A.tells → OnOk result (ScansOnce ⟦<A as Archive>⟧ archive.old archive.new) }
     ensures quiet { Asked ⟦<G as Ledger>⟧ ledger.old ledger.new }

@@ -46,7 +46,8 @@ pub fn serve_index<W: Threads + Sync, G: Ledger, A: Archive, K: Link>(
     turns: u64,
 ) -> (Status, G)
     requires live { G.is_live ledger }
-    ensures ends { (index : IndexChain) → (index.sure ≡ true → G.stands ledger index.chain) → (traffic : Trace)
+    ensures ends { (index : IndexChain) → (index.sure ≡ true → G.stands ledger index.chain)
+        → (traffic : Trace)
         × WentBy ⟦<K as Link>⟧ link.old link.new traffic
         × ServeEnds ⟦<A as Archive>⟧ magic limits index
         (LeavesEither G.tells_crash G.means G.moment G.left_since result.1)

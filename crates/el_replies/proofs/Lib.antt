@@ -2,3 +2,4 @@ mod BatchLoop
 mod ErrorTexts
 mod Losing
 mod LineEnds
+mod Reading

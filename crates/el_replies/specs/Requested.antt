@@ -23,8 +23,8 @@ told_of (Err stop.Changed) = Some (Err refusal.ArchiveChanged)
 told_of (Err stop.Memory) = None
 
 -- The client with this session is told so of the request over the side, and has that session then. `tells` is
--- that the block files tell what they hold; `disk` and `archive` say by how much the counts of the two devices
--- rose.
+-- that the block files tell what they hold; `disk` and `archive` say by how much the counts of the two
+-- devices rose.
 pub data IsAnswered (tells : Type 0) (side : Side) (r : Request) (s : Session) (disk archive : ℕ → Type 0)
     (told : Result Data Refusal) (t : Session) : Type 0 where
   -- it asks for no call

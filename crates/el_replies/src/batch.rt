@@ -14,6 +14,8 @@ ghost use Rattle.el_replies.specs.within.Gathered.{replies_of, HasEnd, HasSpace}
 ghost use Rattle.el_json.specs.Lines.{HasPrintableId, IsPrintable, IsPrintableId};
 ghost use Rattle.el_methods.specs.Outcomes.{IsPrintableAnswer};
 ghost use Rattle.el_sessions.specs.Sessions.{Edits};
+ghost use Rattle.el_chain.specs.Chains.{Chain};
+ghost use Rattle.el_replies.specs.RowBounds.{RequestReads, ItemReads, ItemsRead, ReadsWithin};
 
 use crate::error_room::{ERROR_SIZE, ErrorRoom, room_for};
 use crate::line::is_closing;
@@ -195,6 +197,9 @@ fn answer_in_time<G: Ledger, A: Archive>(
         (λ _. after ≡ before)) }
     ensures end { OnOk result (HasEnd replies.new) }
     ensures edits { Edits session.old.subs session.new.subs }
+    ensures rows { (chain : Chain) → G.stands ledger.old chain
+        → ReadsWithin (RequestReads chain (G.buckets ledger.old) request)
+        (G.reads ledger.old) (G.reads ledger.new) }
     ensures disk_more { G.faults ledger.old ≤ G.faults ledger.new }
     ensures archive_more { A.faults archive.old ≤ A.faults archive.new }
     ensures quiet { Asked ⟦<G as Ledger>⟧ ledger.old ledger.new }
@@ -228,6 +233,9 @@ fn answer_item<G: Ledger, A: Archive>(
         (λ _. after ≡ before)) }
     ensures end { OnOk result (HasEnd replies.new) }
     ensures edits { Edits session.old.subs session.new.subs }
+    ensures rows { (chain : Chain) → G.stands ledger.old chain
+        → ReadsWithin (ItemReads chain (G.buckets ledger.old) item)
+        (G.reads ledger.old) (G.reads ledger.new) }
     ensures disk_more { G.faults ledger.old ≤ G.faults ledger.new }
     ensures archive_more { A.faults archive.old ≤ A.faults archive.new }
     ensures quiet { Asked ⟦<G as Ledger>⟧ ledger.old ledger.new }
@@ -269,6 +277,9 @@ pub(crate) fn answer_items<G: Ledger, A: Archive>(
         elements.old before session.old (replies_of replies.old) after)) }
     ensures end { OnOk result (HasEnd replies.new) }
     ensures edits { Edits session.old.subs session.new.subs }
+    ensures rows { (chain : Chain) → G.stands ledger.old chain
+        → ReadsWithin (ItemsRead chain (G.buckets ledger.old) elements.old)
+        (G.reads ledger.old) (G.reads ledger.new) }
     ensures disk_more { G.faults ledger.old ≤ G.faults ledger.new }
     ensures archive_more { A.faults archive.old ≤ A.faults archive.new }
     ensures quiet { Asked ⟦<G as Ledger>⟧ ledger.old ledger.new }

@@ -1,7 +1,7 @@
 // The reply to a line.
 ghost use Rattle.std.specs.Prelude.{◌≡◌, ◌≤◌, ◌++◌, ◌∷◌, ℕ, List, [], IfOk, IsOk, OnErr, Ok, Err, Some, false, MatchResult, option_map};
 ghost use Rattle.serde_json.specs.Written.{compact_text};
-ghost use Rattle.el_json.specs.Lines.{IsPrintable, IsPrintableId};
+ghost use Rattle.el_json.specs.Lines.{IsPrintable, IsPrintableId, line_says};
 ghost use Rattle.el_outside.specs.Files.{AllGrow};
 ghost use Rattle.el_model.specs.LedgerCalls.{Asked};
 ghost use Rattle.el_side.specs.Beneath.{beneath, ghosts};
@@ -14,6 +14,8 @@ ghost use Rattle.el_replies.specs.within.Errors.{error_text};
 ghost use Rattle.el_replies.specs.within.Gathered.{replies_of, HasEnd};
 ghost use Rattle.el_methods.specs.Outcomes.{IsPrintableAnswer};
 ghost use Rattle.el_sessions.specs.Sessions.{Edits};
+ghost use Rattle.el_chain.specs.Chains.{Chain};
+ghost use Rattle.el_replies.specs.RowBounds.{RequestReads, ItemsRead, LineReads, ReadsWithin};
 
 use crate::batch::{Gathered, answer_items};
 use crate::error_room::{ErrorRoom, room_for};
@@ -141,6 +143,9 @@ fn one_reply<G: Ledger, A: Archive>(
         (Ok (Envelope.One request)) before session.old after session.new reply)
         (λ _. after ≡ before)) }
     ensures edits { Edits session.old.subs session.new.subs }
+    ensures rows { (chain : Chain) → G.stands ledger.old chain
+        → ReadsWithin (RequestReads chain (G.buckets ledger.old) request)
+        (G.reads ledger.old) (G.reads ledger.new) }
     ensures disk_more { G.faults ledger.old ≤ G.faults ledger.new }
     ensures archive_more { A.faults archive.old ≤ A.faults archive.new }
     ensures quiet { Asked ⟦<G as Ledger>⟧ ledger.old ledger.new }
@@ -183,6 +188,9 @@ fn batch_reply<G: Ledger, A: Archive>(
         (λ _. CutSteps (AnswersOf A.tells side)
         elements before session.old no_replies after)) }
     ensures edits { Edits session.old.subs session.new.subs }
+    ensures rows { (chain : Chain) → G.stands ledger.old chain
+        → ReadsWithin (ItemsRead chain (G.buckets ledger.old) elements)
+        (G.reads ledger.old) (G.reads ledger.new) }
     ensures disk_more { G.faults ledger.old ≤ G.faults ledger.new }
     ensures archive_more { A.faults archive.old ≤ A.faults archive.new }
     ensures quiet { Asked ⟦<G as Ledger>⟧ ledger.old ledger.new }
@@ -239,6 +247,10 @@ pub fn reply_line<G: Ledger, A: Archive>(
         line.now before session.old after session.new result) }
     // No subscription is dropped, and new ones come last, whatever the ledger stands for.
     ensures edits { Edits session.old.subs session.new.subs }
+    // How many rows are read: at most those of the calls that its requests ask for, each once.
+    ensures rows { (chain : Chain) → G.stands ledger.old chain
+        → ReadsWithin (LineReads chain (G.buckets ledger.old) (line_says line.now))
+        (G.reads ledger.old) (G.reads ledger.new) }
     ensures disk_more { G.faults ledger.old ≤ G.faults ledger.new }
     ensures archive_more { A.faults archive.old ≤ A.faults archive.new }
     ensures quiet { Asked ⟦<G as Ledger>⟧ ledger.old ledger.new }

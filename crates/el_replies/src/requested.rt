@@ -9,6 +9,8 @@ ghost use Rattle.el_side.specs.Side.{Side};
 ghost use Rattle.el_replies.specs.Requested.{IsAnswered, told_of};
 ghost use Rattle.el_methods.specs.Outcomes.{IsPrintableAnswer};
 ghost use Rattle.el_sessions.specs.Sessions.{Edits};
+ghost use Rattle.el_chain.specs.Chains.{Chain};
+ghost use Rattle.el_replies.specs.RowBounds.{RequestReads, ReadsWithin};
 
 use el_base::OutOfMemory;
 use el_calls::{Refusal, call_of};
@@ -55,6 +57,9 @@ pub fn answer_request<G: Ledger, A: Archive>(
         × RoseBy (A.faults archive.old) (A.faults archive.new) 0) }
     ensures edits { Edits session.old.subs session.new.subs }
     ensures printable { IfOk result IsPrintableAnswer }
+    ensures rows { (chain : Chain) → G.stands ledger.old chain
+        → ReadsWithin (RequestReads chain (G.buckets ledger.old) request.now)
+        (G.reads ledger.old) (G.reads ledger.new) }
     ensures disk_more { G.faults ledger.old ≤ G.faults ledger.new }
     ensures archive_more { A.faults archive.old ≤ A.faults archive.new }
     ensures quiet { Asked ⟦<G as Ledger>⟧ ledger.old ledger.new }

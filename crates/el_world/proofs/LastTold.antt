@@ -1,19 +1,16 @@
 -- The chain of a world whose side is sure is the one that the node was told last, through turns, runs and stops.
-use Rattle.std.proofs.Common.{◌≡◌, ◌≢◌, inl, inr, ℕ, suc, ◌==◌, Bool, true, false, not, if◌then◌else◌, nat_lt, List, [], ◌∷◌, ◌++◌, map, length, append_assoc, Option, None, Some, refl, sym, ap, ◌∙◌, eqb-true, eq-eqb, subst, true≢false, arith, length-append}
+use Rattle.std.proofs.Common.{◌≡◌, ◌≢◌, inr, ℕ, suc, Bool, true, false, nat_lt, List, [], ◌∷◌, ◌++◌, length, append_assoc, Option, None, Some, refl, sym, ap, ◌∙◌, subst, true≢false, arith, length-append}
 use Rattle.std.specs.Prelude.{find, MatchBool}
-use Rattle.std.specs.List.{AllByRecursion, list_any, flat_map}
+use Rattle.std.specs.List.{AllByRecursion}
 use Rattle.std.specs.Option.{option_to_list}
-use Rattle.el_base.proofs.Lists.{all_append, all_filter, all_mid, all_weaker}
+use Rattle.el_base.proofs.Lists.{all_append, all_mid, all_weaker}
 use Rattle.el_outside.specs.Devices.{Device}
 use Rattle.el_outside.specs.declared.archive.Archive as block_files
-use Rattle.el_outside.specs.Trace.{ArrivalWithBytes, opened, brought, closed, quiet, ended, Message, Closing}
+use Rattle.el_outside.specs.Trace.{ArrivalWithBytes, Message, Closing}
 use Rattle.el_chain.specs.Chains.{Chain}
-use Rattle.el_lines.specs.Lines.{LineEvent, line, too_long, added_lines}
-use Rattle.el_lines.specs.NodeAnswers.{text_of, node_limit}
-use Rattle.el_lines.proofs.Cuts.{either}
+use Rattle.el_lines.specs.Lines.{line, too_long}
+use Rattle.el_lines.specs.NodeAnswers.{text_of}
 use Rattle.el_lines.specs.declared.node_answer.NodeAnswer.{NodeAnswer}
-use Rattle.el_replies.specs.declared.line.LineReply.{LineReply}
-use Rattle.el_sessions.specs.declared.session.Session as client
 use Rattle.el_side.specs.Side.{Side, IsSure, Moving, OrdersLine}
 use Rattle.el_world.specs.World as world_of
 use Rattle.el_world.specs.World.{World, Session, Event, Outs, Takes, IsLed, IsAnswered, Replied, Notifies, is_peer, is_client, with_session, without_client, hearing, after_hearing, lines_said, events, client_limit, told, after_reply}
@@ -23,6 +20,7 @@ use Rattle.el_world.specs.Flights.{acked}
 use Rattle.el_world.specs.LastTold as told_of
 use Rattle.el_world.specs.LastTold.{IsLastTold, IsNoAtLine, at_line}
 use Rattle.el_world.proofs.Sureness.{replied_side, turn_sure, same_side, heard_side}
+use Rattle.el_world.proofs.NodeAlone.{ToClients, NoNode, IsOfPeers, found_client, found_peer, without_no_node, with_no_node, begun_no_node, all_to, replied_no_node, still_no_node, sent_to_clients, sent_to_node, all_front, all_back, events_of_peers, heard_no_node}
 use Rattle.el_world.proofs.NodeTexts.{TellsEnd, tells, stays, no_at_text, busy_some, of_moving, of_line}
 
 -- ---- lists of messages
@@ -37,71 +35,12 @@ told_joined before mid after ms ns (told_of.told front rest h height whole none 
 told_joined before mid after ms ns (told_of.untold none as_before) (told_of.untold more same) =
     told_of.untold (all_append IsNoAtLine ms ns none more) (same ∙ as_before)
 
--- messages to clients
-abbrev pub ToClients : List Message → Type 0
-ToClients ms = AllByRecursion (λ (m : Message). m.peer ≢ 0) ms
-
 clients_told : (chain : Chain) (ms : List Message) → ToClients ms → IsLastTold chain ms chain
 clients_told chain ms all =
     told_of.untold (all_weaker (λ (m : Message). m.peer ≢ 0) IsNoAtLine ms
     (λ m not_so h height e. not_so (ap (λ (x : Message). x.peer) e)) all) refl
 
--- ---- peer 0 is no client
-
-abbrev pub NoNode : World → Type 0
-NoNode world = AllByRecursion (λ (s : Session). s.peer ≢ 0) world.sessions
-
-no_client : (ss : List Session) → AllByRecursion (λ (s : Session). s.peer ≢ 0) ss
-    → list_any (is_peer 0) ss ≡ true → ⊥
-no_client [] all is = true≢false (sym is)
-no_client (s ∷ ss) all is = elim (either (is_peer 0 s)) [
-  | inl h ↦ all.0 (eqb-true s.peer 0 h)
-  | inr h ↦ no_client ss all.1 (rw h at is)
-]
-
-found_client : (p : Session → Bool) (ss : List Session) (s : Session)
-    → AllByRecursion (λ (s : Session). s.peer ≢ 0) ss → find p ss ≡ Some s → s.peer ≢ 0
-found_client p [] s all is = absurd cc
-found_client p (x ∷ ss) s all is = elim (either (p x)) [
-  | inl h ↦ let found : Some x ≡ Some s = rw h at is in let same : x ≡ s = cc in rw (← same) all.0
-  | inr h ↦ found_client p ss s all.1 (rw h at is)
-]
-
-found_peer : (p : ℕ) (ss : List Session) (s : Session) → find (is_peer p) ss ≡ Some s → s.peer ≡ p
-found_peer p [] s is = absurd cc
-found_peer p (x ∷ ss) s is = elim (either (is_peer p x)) [
-  | inl h ↦ let found : Some x ≡ Some s = rw h at is in let same : x ≡ s = cc in rw (← same) (eqb-true x.peer p h)
-  | inr h ↦ found_peer p ss s (rw h at is)
-]
-
-without_no_node : (p : ℕ) (world : World) → NoNode world → NoNode (without_client p world)
-without_no_node p world all =
-    all_filter (λ (s : Session). s.peer ≢ 0) (λ (s : Session). not (is_peer p s)) world.sessions all
-
-mapped : (f : Session → Session) (ss : List Session) → ((s : Session) → s.peer ≢ 0 → (f s).peer ≢ 0)
-    → AllByRecursion (λ (s : Session). s.peer ≢ 0) ss → AllByRecursion (λ (s : Session). s.peer ≢ 0) (map f ss)
-mapped f [] keeps all = tt
-mapped f (s ∷ ss) keeps all = (keeps s all.0, mapped f ss keeps all.1)
-
-with_no_node : (p : ℕ) (now : Session) (world : World) → now.peer ≢ 0 → NoNode world
-    → NoNode (with_session p now world)
-with_no_node p now world not_so all =
-    mapped (λ (s : Session). if is_peer p s then now else s) world.sessions (λ s is. by s is (is_peer p s)) all
-  where
-    by : (s : Session) → s.peer ≢ 0 → (b : Bool) → (if b then now else s).peer ≢ 0
-    by s is true = not_so
-    by s is false = is
-
-begun_no_node : (world : World) → NoNode world → NoNode (world_of.begun world)
-begun_no_node world all =
-    mapped (λ (s : Session). record s { waits = true }) world.sessions (λ s is. is) all
-
 -- ---- one turn
-
--- an event in which no peer 0 joins
-abbrev pub IsOfPeers : Event → Type 0
-IsOfPeers (world_of.joins p) = p ≢ 0
-IsOfPeers other = Unit {0}
 
 -- a turn speaks to clients alone and leaves the side, or to the node, of whose side it tells the end
 pub data Turned (world : World) (outs : Outs) (left : World) : Type 0 where
@@ -116,21 +55,6 @@ led : (leads : NodeAnswer → List Device → Side → Type 0) (world first : Wo
     → IsLed leads first outs losses left → Turned world outs left
 led leads world first outs losses left all ends l =
     to_node l.answer l.outs_is (rw l.next_is (ends l.answer l.side l.led)) (rw l.next_is all)
-
--- texts to one client
-all_to : (p : ℕ) (texts : List (List ℕ)) → p ≢ 0
-    → ToClients (map (λ (t : List ℕ). record { peer = p; text = t }) texts)
-all_to p [] not_so = tt
-all_to p (t ∷ ts) not_so = (not_so, all_to p ts not_so)
-
-replied_no_node : (p : ℕ) (reply : LineReply) (session : Session) (kept : client.Session) (world : World)
-    → session.peer ≢ 0 → NoNode world → NoNode (after_reply p reply session kept world)
-replied_no_node p reply session kept world client' all = by reply.closes
-  where
-    by : (b : Bool) → NoNode (if b then without_client p world
-        else with_session p (record session { client = kept }) world)
-    by true = without_no_node p world all
-    by false = with_no_node p (record session { client = kept }) world client' all
 
 module _ {A : Type 0} (of_files : block_files.Ghosts A) (world : World) (sure : IsSure world.side) (all : NoNode world) where
   answered : (p : ℕ) (bytes : List ℕ) (session : Session) (outs : Outs) (losses : List Device) (left : World)
@@ -200,36 +124,6 @@ module _ {A : Type 0} (of_files : block_files.Ghosts A) (world : World) (sure : 
 
 -- ---- what of it is sent
 
-still_no_node : {world next : World} {messages sent : List Message} {closing : Option Closing}
-    {closings : List Closing} {losses : List Device}
-    → Delivers world messages closing sent closings losses next → NoNode world → NoNode next
-still_no_node (run_of.all world closing) none = none
-still_no_node (run_of.sends world m messages closing sent closings losses next d) none = still_no_node d none
-still_no_node (run_of.loses world m messages closing reason sent closings losses next is departs d) none =
-    still_no_node d (without_no_node m.peer world none)
-
-sent_to_clients : {world next : World} {messages sent : List Message} {closing : Option Closing}
-    {closings : List Closing} {losses : List Device}
-    → Delivers world messages closing sent closings losses next → ToClients messages → ToClients sent
-sent_to_clients (run_of.all world closing) to = tt
-sent_to_clients (run_of.sends world m messages closing sent closings losses next d) to =
-    (to.0, sent_to_clients d to.1)
-sent_to_clients (run_of.loses world m messages closing reason sent closings losses next is departs d) to =
-    sent_to_clients d (all_filter (λ (m : Message). m.peer ≢ 0) _ messages to.1)
-
--- a message to the node goes out
-sent_to_node : (world next : World) (text : List ℕ) (sent : List Message) (closings : List Closing)
-    (losses : List Device) → NoNode world
-    → Delivers world (record { peer = 0; text = text } ∷ []) None sent closings losses next
-    → sent ≡ record { peer = 0; text = text } ∷ []
-sent_to_node world next text sent closings losses none
-    (run_of.sends w m messages closing more c l n (run_of.all w' closing')) = refl
-sent_to_node world next text sent closings losses none
-    (run_of.loses w m messages closing reason more c l n (inl is) departs d) =
-    absurd (no_client world.sessions none is)
-sent_to_node world next text sent closings losses none
-    (run_of.loses w m messages closing reason more c l n (inr is) departs d) = absurd is
-
 -- what the node was told in turns of a sure side, and that it is no client after them
 pub record Tells (first : World) (messages : List Message) (world : World) : Type 0 where
   pub sure : IsSure world.side
@@ -266,14 +160,6 @@ tells_joined first mid world ms ns a b = record {
 nothing_told : (world : World) → IsSure world.side → NoNode world → Tells world [] world
 nothing_told world sure none = record { sure = sure; told = told_of.untold tt refl; none = none }
 
-all_front : (xs ys : List Event) → AllByRecursion IsOfPeers (xs ++ ys) → AllByRecursion IsOfPeers xs
-all_front [] ys all = tt
-all_front (x ∷ xs) ys all = (all.0, all_front xs ys all.1)
-
-all_back : (xs ys : List Event) → AllByRecursion IsOfPeers (xs ++ ys) → AllByRecursion IsOfPeers ys
-all_back [] ys all = all
-all_back (x ∷ xs) ys all = all_back xs ys all.1
-
 turns_tell : {A : Type 0} {of_files : block_files.Ghosts A} {first world : World} {past : List Event} {messages : List Message}
     {closings : List Closing} {losses : List Device}
     → Turns of_files first past messages closings losses world → IsSure first.side → NoNode first
@@ -285,63 +171,6 @@ turns_tell {A} {of_files} {first} (run_of.more past messages closings losses wor
     tells_joined first world next messages sent before
     (delivered world left next outs sent closed' lost (turn_sure of_files world outs failed left done turn ∙ before.sure)
     (turned of_files world before.sure before.none done outs failed left (all_back past done of_peers) turn) d)
-
--- ---- arrivals
-
-said_of_peers : (p : ℕ) (ls : List LineEvent) → AllByRecursion IsOfPeers (map (world_of.says p) ls)
-said_of_peers p [] = tt
-said_of_peers p (l ∷ ls) = (tt, said_of_peers p ls)
-
-ordered_of_peers : (ls : List LineEvent) → AllByRecursion IsOfPeers (map world_of.orders ls)
-ordered_of_peers [] = tt
-ordered_of_peers (l ∷ ls) = (tt, ordered_of_peers ls)
-
-lines_of_peers : (p : ℕ) (bytes : List ℕ) (ss : List Session)
-    → AllByRecursion IsOfPeers (flat_map (lines_said p bytes) ss)
-lines_of_peers p bytes [] = tt
-lines_of_peers p bytes (s ∷ ss) =
-    all_append IsOfPeers (lines_said p bytes s) (flat_map (lines_said p bytes) ss) (by (is_peer p s))
-    (lines_of_peers p bytes ss)
-  where
-    by : (b : Bool) → AllByRecursion IsOfPeers
-        (if b then map (world_of.says p) (added_lines world_of.line_limit s.heard bytes) else [])
-    by true = said_of_peers p _
-    by false = tt
-
-events_of_peers : (world : World) (arrival : ArrivalWithBytes) → AllByRecursion IsOfPeers (events world arrival)
-events_of_peers world (opened p) = by (p == 0) refl
-  where
-    by : (b : Bool) → (p == 0) ≡ b → AllByRecursion IsOfPeers (if b then [] else world_of.joins p ∷ [])
-    by true e = tt
-    by false e = (λ is. true≢false (sym (eq-eqb p 0 is) ∙ e), tt)
-events_of_peers world (brought p bytes) = by (p == 0)
-  where
-    by : (b : Bool) → AllByRecursion IsOfPeers (if b then map world_of.orders (added_lines node_limit world.heard bytes)
-        else flat_map (lines_said p bytes) world.sessions)
-    by true = ordered_of_peers _
-    by false = lines_of_peers p bytes world.sessions
-events_of_peers world (closed p) = (tt, tt)
-events_of_peers world quiet = tt
-events_of_peers world ended = tt
-
--- what an arrival brings makes no client of the node
-heard_no_node : (arrival : ArrivalWithBytes) (world : World) → NoNode world
-    → NoNode (after_hearing arrival world)
-heard_no_node (opened p) world none = none
-heard_no_node (brought p bytes) world none = by (p == 0)
-  where
-    hears : (s : Session) → s.peer ≢ 0 → (b : Bool)
-        → (if b then record s { heard = s.heard ++ bytes } else s).peer ≢ 0
-    hears s is true = is
-    hears s is false = is
-
-    by : (b : Bool) → NoNode (if b then record world { heard = world.heard ++ bytes }
-        else record world { sessions = map (hearing p bytes) world.sessions })
-    by true = none
-    by false = mapped (hearing p bytes) world.sessions (λ s is. hears s is (is_peer p s)) none
-heard_no_node (closed p) world none = none
-heard_no_node quiet world none = none
-heard_no_node ended world none = none
 
 heard_tells : (arrival : ArrivalWithBytes) (world next : World) (messages : List Message)
     → Tells (after_hearing arrival world) messages next → Tells world messages next

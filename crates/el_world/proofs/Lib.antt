@@ -1,4 +1,5 @@
 pub mod KeepTold
 pub mod LastTold
 pub mod Sureness
-mod NodeTexts
+pub mod NodeAlone
+pub mod NodeTexts

@@ -198,8 +198,8 @@ after_reply p reply session kept world =
 -- What comes of a client's line over the side: each of its requests is answered as it is defined, or that a
 -- device failed, which is lost. A request that reads the block files is answered as it is defined where these
 -- have the transaction that it asks for at its place; whatever they have, never with another one's bytes, nor
--- as if the chain had none. Of a side that is unsure no more is said of what the chain and the unconfirmed set
--- give than that it is an answer.
+-- as if the chain had none. Of a side that is unsure no more is said of what the chain and the unconfirmed
+-- set give than that it is an answer.
 abbrev pub Comes : Type 0 → Side → List ℕ → client.Session → List Device → client.Session
     → Result LineReply OutOfMemory → Type 0
 Comes tells side bytes was losses now result =

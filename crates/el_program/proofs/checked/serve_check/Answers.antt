@@ -1,6 +1,6 @@
-use Rattle.std.proofs.Common.{◌≡◌, ◌≤◌, ◌⊎◌, inl, inr, ap, refl, sym, ◌∙◌, arith}
+use Rattle.std.proofs.Common.{◌≡◌, ◌⊎◌, inl, inr, ap, sym, ◌∙◌, arith}
 use Rattle.el_outside.specs.Disk.{Image}
-use Rattle.el_pages.specs.Stores.{disk_below, beside_in}
+use Rattle.el_pages.specs.Stores.{disk_below}
 use Rattle.el_gen.specs.MadeFile.{regtest_magic}
 use Rattle.el_check_chain.specs.Summaries.{summary_line}
 use Rattle.el_program.specs.declared.status.Status.TheVariants as status

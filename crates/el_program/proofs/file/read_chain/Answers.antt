@@ -1,4 +1,4 @@
-use Rattle.std.proofs.Common.{◌≡◌, refl, ap, Err, ◌∙◌}
+use Rattle.std.proofs.Common.{◌≡◌, refl, ap, Err}
 use Rattle.el_outside.proofs.Traces.{all_grow_more}
 use Rattle.el_outside.proofs.Calls.{has_one, has_then, reads_ok, reads_other, reads_failed}
 use Rattle.el_program.specs.declared.file.FileFault.TheVariants as fault

@@ -1,6 +1,7 @@
-use Rattle.std.proofs.Common.{refl, ap, ◌∙◌}
+use Rattle.std.proofs.Common.{inl, refl, ap, ◌∙◌}
 use Rattle.el_replies.specs.Batches.{with_reply}
 use Rattle.el_replies.proofs.Losing.{so, unlost, none_lost, with_losses, result_unlost, done_sure, failed}
+use Rattle.el_replies.proofs.Reading.{none_within}
 use Rattle.el_replies.proofs.batch.answer_in_time.Goals as goal
 
 pub returns-clause-answered : goal.returns-clause-answered
@@ -24,3 +25,6 @@ returns-in_err-told-clause-answered g c = λ side settled.
 pub returns-in_err-room-clause-answered : goal.returns-in_err-room-clause-answered
 returns-in_err-room-clause-answered g c = λ side settled.
     none_lost _ _ _ (λ before. failed c.from_residual.result _ _ _ c.from_residual.ensures.1 refl)
+
+pub returns-in_err-room-clause-rows : goal.returns-in_err-room-clause-rows
+returns-in_err-room-clause-rows g c = λ chain stood. none_within _ _ (inl refl)

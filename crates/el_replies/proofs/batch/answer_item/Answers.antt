@@ -7,6 +7,7 @@ use Rattle.el_replies.specs.Batches.{Step}
 use Rattle.el_replies.specs.Losses.{AnswersOf}
 use Rattle.el_replies.specs.within.Gathered.{replies_of}
 use Rattle.el_replies.specs.declared.batch.TheConstants.{BATCH_LIMIT}
+use Rattle.el_replies.proofs.Reading.{none_within, no_item, of_request}
 use Rattle.el_replies.proofs.batch.answer_item.Goals as goal
 
 pub returns-then-replies-gt-BATCH_LIMIT-clause-answered :
@@ -49,3 +50,13 @@ returns-in-Invalid-clause-answered g c = λ side settled.
     (λ z. Step answers i before c.args.session.now was before c.args.session.now is) (λ e. before ≡ before) in
     subst P (sym c.in-Invalid.is) (done_or c.refuse-in-Invalid.result _ _ _ (λ added. (refl, refl, added)) refl
     c.refuse-in-Invalid.ensures.added))
+
+pub returns-then-replies-gt-BATCH_LIMIT-clause-rows : goal.returns-then-replies-gt-BATCH_LIMIT-clause-rows
+returns-then-replies-gt-BATCH_LIMIT-clause-rows g c = λ chain stood. none_within _ _ (no_item chain _ c.args.item)
+
+pub returns-else-replies-gt-BATCH_LIMIT-clause-rows : goal.returns-else-replies-gt-BATCH_LIMIT-clause-rows
+returns-else-replies-gt-BATCH_LIMIT-clause-rows g c = λ chain stood.
+    of_request chain _ c.args.item c.in-Good.request _ _ c.in-Good.is (c.answer_in_time.ensures.rows chain stood)
+
+pub returns-in-Invalid-clause-rows : goal.returns-in-Invalid-clause-rows
+returns-in-Invalid-clause-rows g c = λ chain stood. none_within _ _ (no_item chain _ c.args.item)

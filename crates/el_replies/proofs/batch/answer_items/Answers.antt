@@ -8,6 +8,7 @@ use Rattle.el_replies.specs.Losses.{AnswersOf}
 use Rattle.el_replies.specs.within.Gathered.{replies_of}
 use Rattle.el_replies.proofs.BatchLoop.{begins, cut_begins, goes_on, cut_goes_on, ends, cut_here}
 use Rattle.el_replies.proofs.Losing.{so, none_lost, both, failed}
+use Rattle.el_replies.proofs.Reading as rows
 use Rattle.el_replies.proofs.batch.answer_items.Goals as goal
 
 pub loop-item-init : goal.loop-item-init
@@ -20,6 +21,7 @@ loop-item-init g c =
       edits = edits_same c.args.session.now.subs;
       disk_more = omega arith;
       end = c.requires.end;
+      rows = λ chain stood. rows.begins chain _ c.args.elements.now _;
       archive_more = omega arith;
       so_far = λ side settled.
           let answers = AnswersOf g.A.Archive.tells side in
@@ -40,6 +42,11 @@ loop-item-preserved g c =
       edits = edits_more _ _ _ c.loop-item.invariant.edits c.answer_item.ensures.edits;
       disk_more = omega (arith, c.loop-item.invariant.disk_more, c.answer_item.ensures.disk_more);
       end = c.in_ok-answer_item.ensures.end;
+      rows = λ chain stood.
+          let q = c.loop-item.invariant.quiet in
+          rows.goes_on chain _ c.in-Some.item _ _ c.args.elements.now _ _ _ c.in-Some.ensures.item
+          (c.loop-item.invariant.rows chain stood)
+          (rw q.stays.same_buckets at (c.in_ok-answer_item.ensures.rows chain (q.stays.still_stands chain stood)));
       archive_more = omega (arith, c.loop-item.invariant.archive_more, c.answer_item.ensures.archive_more);
       so_far = λ side settled.
           let answers = AnswersOf g.A.Archive.tells side in
@@ -86,3 +93,13 @@ returns-in_err-answer_item-clause-quiet g c =
 
 pub returns-in_err-answer_item-clause-edits : goal.returns-in_err-answer_item-clause-edits
 returns-in_err-answer_item-clause-edits g c = edits_more _ _ _ c.loop-item.invariant.edits c.in_err-answer_item.ensures.edits
+
+pub returns-clause-rows : goal.returns-clause-rows
+returns-clause-rows g c = λ chain stood. rows.ends chain _ _ c.args.elements.now _ _ (c.loop-item.invariant.rows chain stood)
+
+pub returns-in_err-answer_item-clause-rows : goal.returns-in_err-answer_item-clause-rows
+returns-in_err-answer_item-clause-rows g c = λ chain stood.
+    let q = c.loop-item.invariant.quiet in
+    rows.ends chain _ _ c.args.elements.now _ _ (rows.goes_on chain _ c.in-Some.item _ _ c.args.elements.now _ _ _ c.in-Some.ensures.item
+    (c.loop-item.invariant.rows chain stood)
+    (rw q.stays.same_buckets at (c.in_err-answer_item.ensures.rows chain (q.stays.still_stands chain stood))))

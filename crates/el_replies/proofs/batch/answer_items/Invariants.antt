@@ -3,11 +3,13 @@ use Rattle.el_outside.specs.Files.{AllGrow}
 use Rattle.el_side.specs.Beneath.{beneath, ghosts}
 use Rattle.el_side.specs.NodeSteps.{IsSettled}
 use Rattle.el_side.specs.Side.{Side}
+use Rattle.el_chain.specs.Chains.{Chain}
 use Rattle.el_model.specs.LedgerCalls.{Asked}
 use Rattle.el_sessions.specs.Sessions.{Edits}
 use Rattle.el_replies.specs.Batches.{Completes, CutCompletes}
 use Rattle.el_replies.specs.Losses.{AnswersOf, Loses}
 use Rattle.el_replies.specs.within.Gathered.{replies_of, HasEnd}
+use Rattle.el_replies.proofs.Reading.{ReadSoFar}
 use Rattle.el_replies.proofs.batch.answer_items.Given as goal
 
 abbrev pub decreases-loop-item : goal.decreases-loop-item
@@ -24,6 +26,8 @@ invariant-loop-item g l =
       edits : Edits l.initial.session.subs l.session.subs;
       disk_more : d.faults l.initial.ledger ≤ d.faults l.ledger;
       end : HasEnd l.replies;
+      rows : (chain : Chain) → d.stands l.initial.ledger chain
+          → ReadSoFar chain (d.buckets l.initial.ledger) l.elements l.initial.elements (d.reads l.initial.ledger) (d.reads l.ledger);
       archive_more : a.faults l.initial.archive ≤ a.faults l.archive;
       so_far : (side : Side)
           → IsSettled (ghosts d a) (beneath l.initial.ledger l.initial.archive) l.holdings side → Loses (d.faults l.initial.ledger) (d.faults l.ledger) (a.faults l.initial.archive)

@@ -4,6 +4,7 @@ use Rattle.el_json.specs.declared.request.Envelope.TheVariants.{One, Batch}
 use Rattle.el_replies.specs.Losses.{AnswersOf}
 use Rattle.el_replies.proofs.LineEnds.{of_said}
 use Rattle.el_replies.proofs.Losing.{so}
+use Rattle.el_replies.proofs.Reading.{of_line, no_line}
 use Rattle.el_replies.proofs.line.reply_line.Goals as goal
 
 pub returns-in-Ok-One-clause-answered : goal.returns-in-Ok-One-clause-answered
@@ -25,3 +26,26 @@ returns-in-Ok-Batch-clause-answered g c = λ side settled.
     so _ _ (λ x y h. of_said answers c.args.line.now (Ok (Batch c.in-Ok-Batch.elements)) x y
     c.args.session.now c.batch_reply.new.session c.batch_reply.result said h)
     (c.batch_reply.ensures.answered side settled)
+
+pub returns-in-Ok-One-clause-rows : goal.returns-in-Ok-One-clause-rows
+returns-in-Ok-One-clause-rows g c = λ chain stood.
+    let says = c.in-Ok-One.ensures.says in
+    let is = c.in-Ok-One.field-0-is in
+    let said : line_says c.args.line.now ≡ Ok (One c.in-Ok-One.request) = cc in
+    of_line chain _ c.args.line.now _ _ _ said (c.one_reply.ensures.rows chain stood)
+
+pub returns-in-Ok-Batch-clause-rows : goal.returns-in-Ok-Batch-clause-rows
+returns-in-Ok-Batch-clause-rows g c = λ chain stood.
+    let says = c.in-Ok-Batch.ensures.says in
+    let is = c.in-Ok-Batch.field-0-is in
+    let said : line_says c.args.line.now ≡ Ok (Batch c.in-Ok-Batch.elements) = cc in
+    of_line chain _ c.args.line.now _ _ _ said (c.batch_reply.ensures.rows chain stood)
+
+pub returns-in-Err-Parse-clause-rows : goal.returns-in-Err-Parse-clause-rows
+returns-in-Err-Parse-clause-rows g c = λ chain stood. no_line chain _ (line_says c.args.line.now) _
+
+pub returns-in-Err-Invalid-clause-rows : goal.returns-in-Err-Invalid-clause-rows
+returns-in-Err-Invalid-clause-rows g c = λ chain stood. no_line chain _ (line_says c.args.line.now) _
+
+pub returns-in-Err-Memory-clause-rows : goal.returns-in-Err-Memory-clause-rows
+returns-in-Err-Memory-clause-rows g c = λ chain stood. no_line chain _ (line_says c.args.line.now) _

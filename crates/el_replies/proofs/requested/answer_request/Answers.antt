@@ -1,9 +1,10 @@
-use Rattle.std.proofs.Common.{◌∙◌, sym, subst, refl, rules, ℕ, List, Ok, Err}
+use Rattle.std.proofs.Common.{◌∙◌, inl, inr, sym, subst, refl, rules, ℕ, List, Ok, Err}
 use Rattle.el_outside.proofs.Traces.{all_grow_more}
 use Rattle.el_calls.specs.Methods.{IsCalled}
 use Rattle.el_methods.proofs.Places.{asked_stays}
 use Rattle.el_replies.specs.Requested.{refused, asked}
 use Rattle.el_replies.proofs.Losing.{never_less}
+use Rattle.el_replies.proofs.Reading.{none_within}
 use Rattle.el_replies.proofs.requested.answer_request.Goals as goal
 
 pub returns-in-Err-clause-answered : goal.returns-in-Err-clause-answered
@@ -49,3 +50,16 @@ returns-in-None-clause-disk_more g c =
 pub returns-in-None-clause-archive_more : goal.returns-in-None-clause-archive_more
 returns-in-None-clause-archive_more g c =
     (never_less _ _ _ _ c.answer-given.result c.answer-given.ensures.counted).1
+
+pub returns-in-Err-clause-rows : goal.returns-in-Err-clause-rows
+returns-in-Err-clause-rows g c = λ chain stood. none_within _ _ (inl refl)
+
+pub returns-in-Some-clause-rows : goal.returns-in-Some-clause-rows
+returns-in-Some-clause-rows g c = λ chain stood.
+    let P : List ℕ → Type 0 = λ n. IsCalled n c.args.request.now.params (Ok c.in-Ok.call) in
+    (_, inr (c.in-Ok.call, subst P c.as_str.ensures c.in-Ok.ensures, refl), c.answer-given.ensures.rows chain stood)
+
+pub returns-in-None-clause-rows : goal.returns-in-None-clause-rows
+returns-in-None-clause-rows g c = λ chain stood.
+    let P : List ℕ → Type 0 = λ n. IsCalled n c.args.request.now.params (Ok c.in-Ok.call) in
+    (_, inr (c.in-Ok.call, subst P c.as_str.ensures c.in-Ok.ensures, refl), c.answer-given.ensures.rows chain stood)

@@ -1,0 +1,5 @@
+pub mod Standing
+mod NodeLines
+mod Led
+mod Turned
+mod Answering

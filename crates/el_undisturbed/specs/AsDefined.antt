@@ -1,0 +1,27 @@
+-- What a request is answered where no call of a device fails: just what is defined.
+use Rattle.std.specs.Prelude.{◌≡◌, List, Result, Ok, Err}
+use Rattle.serde_json.specs.Data.{Data}
+use Rattle.el_outside.specs.Devices.{Device}
+use Rattle.el_json.specs.declared.request.Request.{Request}
+use Rattle.el_calls.specs.Methods.{IsCalled}
+use Rattle.el_calls.specs.declared.call.Call.{Call}
+use Rattle.el_calls.specs.declared.refusal.Refusal.{Refusal}
+use Rattle.el_methods.specs.Replied.{replied}
+use Rattle.el_sessions.specs.declared.session.Session.{Session}
+use Rattle.el_side.specs.Side.{Side}
+
+-- the client is told what is defined of a call, and is kept so
+abbrev pub IsTold : Result (Data × Session) Refusal → Session → Result Data Refusal → Session → Type 0
+IsTold (Ok (answer, kept)) s told t = (told ≡ Ok answer) × (t ≡ kept)
+IsTold (Err r) s told t = (told ≡ Err r) × (t ≡ s)
+
+-- The request is answered over the side as it is defined, and nothing is lost.
+pub data AnswersAsDefined (side : Side) (before : List Device) (r : Request) (s : Session)
+    (told : Result Data Refusal) (after : List Device) (t : Session) : Type 0 where
+  -- it asks for no call
+  refused : (e : Refusal) → IsCalled r.method r.params (Err e) → told ≡ Err e → t ≡ s → after ≡ before
+      → AnswersAsDefined side before r s told after t
+  -- it asks for this call
+  asked : (c : Call) → IsCalled r.method r.params (Ok c)
+      → IsTold (replied side.chain side.kept side.found s c) s told t → after ≡ before
+      → AnswersAsDefined side before r s told after t

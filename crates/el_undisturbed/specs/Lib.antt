@@ -1,0 +1,3 @@
+pub mod HasAll
+pub mod Undisturbed
+pub mod AsDefined

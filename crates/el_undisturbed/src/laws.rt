@@ -1,0 +1,52 @@
+// What holds of the definitions. Each function states a law and does nothing when it runs.
+ghost use Rattle.std.specs.Prelude.{◌≡◌, ℕ, List, [], Ok};
+ghost use Rattle.std.specs.List.{AllByRecursion};
+ghost use Rattle.el_outside.specs.Trace.{ArrivalWithBytes, Message, Closing};
+ghost use Rattle.el_chain.specs.declared.node.Node as shape;
+ghost use Rattle.el_files.specs.Scanning.{AllScanned};
+ghost use Rattle.el_sessions.specs.declared.session.Session as client;
+ghost use Rattle.el_replies.specs.LineReplies.{IsLineReply};
+ghost use Rattle.el_replies.specs.declared.line.LineReply as line;
+ghost use Rattle.el_side.specs.Side.{Side, IsSure};
+ghost use Rattle.el_world.specs.World.{World, Comes};
+ghost use Rattle.el_world.specs.Run.{Run, Halts, Stop, by_memory};
+ghost use Rattle.el_undisturbed.specs.HasAll.{HasAll, HasBlockOf, HoldBytesAlone};
+ghost use Rattle.el_undisturbed.specs.Undisturbed.{Undisturbed};
+ghost use Rattle.el_undisturbed.specs.AsDefined.{AnswersAsDefined};
+
+use el_methods::{blocks_have_asked, moves_have_records, records_stay};
+use el_outside::Archive;
+
+/// Each block that a scan of all block files found stands at its place after it.
+pub fn found_nodes_stand<A: Archive>()
+    ensures { (before after : ℕ → List ℕ) (magic : List ℕ) (nodes : List shape.Node)
+        → HoldBytesAlone ⟦<A as Archive>⟧ → AllScanned ⟦<A as Archive>⟧ before after magic nodes
+        → AllByRecursion (HasBlockOf after) nodes }
+{}
+
+/// Where no call of a device fails, block files that have all that a run may ask of them have it in the end,
+/// and nothing is sent or closed for a failure. A run then stops for want of memory alone.
+pub fn runs_are_undisturbed<A: Archive>()
+    ensures run { (first world : World) (arrivals : List ArrivalWithBytes) (messages : List Message)
+        (closings : List Closing) → A.tells → HoldBytesAlone ⟦<A as Archive>⟧ → first.sessions ≡ []
+        → IsSure first.side → HasAll first.side
+        → Run ⟦<A as Archive>⟧ first arrivals messages closings [] world → HasAll world.side × Undisturbed messages closings }
+    ensures halts { (first : World) (stop : Stop) (arrivals : List ArrivalWithBytes) (messages : List Message)
+        (closings : List Closing) → A.tells → HoldBytesAlone ⟦<A as Archive>⟧ → first.sessions ≡ []
+        → IsSure first.side → HasAll first.side
+        → Halts ⟦<A as Archive>⟧ first stop arrivals messages closings [] → (stop ≡ by_memory) × Undisturbed messages closings }
+{
+    records_stay();
+    moves_have_records::<A>();
+}
+
+/// Where no call of a device fails while a client's line is answered, over block files that have all, each of
+/// its requests is answered as it is defined.
+pub fn lines_are_answered_as_defined<A: Archive>()
+    ensures { (side : Side) (bytes : List ℕ) (was now : client.Session) (reply : line.LineReply) → A.tells
+        → IsSure side → HasAll side → Comes A.tells side bytes was [] now (Ok reply)
+        → IsLineReply (AnswersAsDefined side) bytes [] was [] now (Ok reply) }
+{
+    records_stay();
+    blocks_have_asked();
+}
