@@ -16,4 +16,6 @@ mod failing_set;
 #[cfg(test)]
 mod refused_blocks;
 #[cfg(test)]
+mod silent_disk;
+#[cfg(test)]
 mod stopped_moves;
