@@ -18,9 +18,9 @@ use el_methods::{moves_have_records, records_stay};
 use el_outside::{Archive, Disk, Link};
 use el_undisturbed::runs_are_undisturbed;
 
-/// A call of `serve` in which no call of a device failed ends as its link does, or for no device, and nothing is
-/// told or closed for a failure: over an index of a chain, where the block files have its records and nothing in
-/// them is made ahead. So does a call with the words of `once`, over any such block files.
+/// A call of `serve` in which no call of a device failed ends as its link does, or for no device, and nothing
+/// is told or closed for a failure: over an index of a chain, where the block files have its records and
+/// nothing in them is made ahead. So does a call with the words of `once`, over any such block files.
 pub fn calls_without_failures_are_complete<D: Disk, A: Archive, K: Link>()
     ensures serve { (c : Call D A K) (magic : List ℕ) (was flight chain : Chain)
         → IsCall ⟦<D as Disk>⟧ ⟦<A as Archive>⟧ ⟦<K as Link>⟧ c → (asked : IsServe c.words magic)

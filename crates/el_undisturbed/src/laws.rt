@@ -30,11 +30,13 @@ pub fn runs_are_undisturbed<A: Archive>()
     ensures run { (first world : World) (arrivals : List ArrivalWithBytes) (messages : List Message)
         (closings : List Closing) → A.tells → HoldBytesAlone ⟦<A as Archive>⟧ → first.sessions ≡ []
         → IsSure first.side → HasAll first.side
-        → Run ⟦<A as Archive>⟧ first arrivals messages closings [] world → HasAll world.side × Undisturbed messages closings }
+        → Run ⟦<A as Archive>⟧ first arrivals messages closings [] world
+        → HasAll world.side × Undisturbed messages closings }
     ensures halts { (first : World) (stop : Stop) (arrivals : List ArrivalWithBytes) (messages : List Message)
         (closings : List Closing) → A.tells → HoldBytesAlone ⟦<A as Archive>⟧ → first.sessions ≡ []
         → IsSure first.side → HasAll first.side
-        → Halts ⟦<A as Archive>⟧ first stop arrivals messages closings [] → (stop ≡ by_memory) × Undisturbed messages closings }
+        → Halts ⟦<A as Archive>⟧ first stop arrivals messages closings []
+        → (stop ≡ by_memory) × Undisturbed messages closings }
 {
     records_stay();
     moves_have_records::<A>();

@@ -1,5 +1,5 @@
-//! Runs in which no call of a device fails, over block files that have all that a run may ask of them: nothing
-//! is told of a failure, and each request is answered as it is defined.
+//! Runs in which no call of a device fails, over block files that have all that a run may ask of them:
+//! nothing is told of a failure, and each request is answered as it is defined.
 #![tactic(auto)]
 
 mod laws;
