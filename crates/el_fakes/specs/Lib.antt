@@ -2,4 +2,5 @@ pub mod Archives
 pub mod Coming
 pub mod Greatest
 pub mod Kept
+pub mod Relays
 pub mod within

@@ -1,5 +1,6 @@
 //! Block files and a link in memory, which tell all their content. Each comes in two forms: one whose chosen
-//! calls fail, and one that never fails. And a pace under which two pieces of work meet.
+//! calls fail, and one that never fails. A relay in memory, whose chosen calls fail or refuse. And a pace
+//! under which two pieces of work meet.
 #![tactic(auto)]
 
 mod archive;
@@ -11,6 +12,7 @@ mod kept;
 mod link;
 mod meet_pace;
 mod peers;
+mod relay;
 mod steady_archive;
 mod steady_link;
 mod taking;
@@ -22,5 +24,6 @@ pub use growth::{Later, Room};
 pub use kept::{Closed, Sent};
 pub use link::MemLink;
 pub use meet_pace::MeetPace;
+pub use relay::{MemRelay, Offered};
 pub use steady_archive::SteadyArchive;
 pub use steady_link::SteadyLink;

@@ -6,3 +6,4 @@ pub mod Trace
 pub mod Moments
 pub mod Disk
 pub mod Images
+pub mod Relays

@@ -1,5 +1,5 @@
-//! What lies outside the program: the node's block files, the disk of the index, and the link to clients; and
-//! what is told as pieces of work begin that may run side by side.
+//! What lies outside the program: the node's block files, the disk of the index, the link to clients, and the
+//! relay of their transactions; and what is told as pieces of work begin that may run side by side.
 #![tactic(auto)]
 
 mod archive;
@@ -8,6 +8,7 @@ mod disk_laws;
 mod laws;
 mod link;
 mod pace;
+mod relay;
 
 pub use archive::{Archive, ArchiveFailed, MOST_FILES, Place, SIZE_LIMIT};
 pub use disk::{Disk, DiskFailed};
@@ -19,3 +20,4 @@ pub use disk_laws::{
 pub use laws::{counts_add_up, traces_join};
 pub use link::{Arrival, BUFFER_SIZE, CLIENT_LIMIT, Link, LinkFailed, Peer, SendFault, Why};
 pub use pace::{NoPace, Pace};
+pub use relay::{Relay, RelayFailed, Verdict};
