@@ -71,10 +71,10 @@ pub fn if_below(link: Option<u64>, n: u64) -> Option<u64>
     }
 }
 
-// The bucket of a hash among so many: the number of its first three bytes, the lowest first, modulo their
-// count.
+/// The bucket of a hash among so many: the number of its first three bytes, the lowest first, modulo their
+/// count.
 #[tactic(auto, unfolding(el_tables::specs::Tables::bucket_in))]
-pub(crate) fn bucket_of(hash: &Hash32, count: u64) -> u64
+pub fn bucket_of(hash: &Hash32, count: u64) -> u64
     requires { 0 < count }
     ensures bucket { result ≡ bucket_in count hash.now }
     ensures within { result < count }

@@ -48,7 +48,7 @@ fn head<R: Rows>(
     if count == 0 {
         return Ok(None);
     }
-    let mut row = [0; 4];
+    let mut row = [0; 8];
     t.get(buckets.heads(), bucket_of(hash, count), &mut row)?;
     Ok(if_below(HeadRow::read(&row).head, t.count(buckets.rows())))
 }
@@ -154,6 +154,6 @@ pub fn find<R: Rows>(
     ensures head_fits { IfOk result (λ f. link_number f.head < number_limit) }
     ensures read { ReadsRows disk_failed t.old t.new result }
 {
-    let mut row = [0; 68];
+    let mut row = [0; 84];
     find_row(t, buckets, hash, &mut row[..buckets.rows().size()])
 }

@@ -1,7 +1,7 @@
 -- How many rows the tables of an index need for the transactions of a chain. There is a row for each block,
 -- for each transaction, for each output, for each input that takes a coin, for each script hash that a
 -- transaction concerns, and for each pair of a transaction and a script hash that it concerns.
-use Rattle.std.specs.Prelude.{ℕ, Bool, List, [], ◌∷◌, ◌++◌, length, map, filter, flat_map, sum_by, if◌then◌else◌}
+use Rattle.std.specs.Prelude.{ℕ, ◌==◌, Bool, List, [], ◌∷◌, ◌++◌, length, map, filter, flat_map, sum_by, if◌then◌else◌}
 use Rattle.std.specs.List.{list_any}
 use Rattle.el_base.specs.declared.hash.Hash32.{Hash32}
 use Rattle.el_tx.specs.declared.types.TxIn.{TxIn}
@@ -11,10 +11,11 @@ use Rattle.std.specs.Str.{bytes_eq}
 use Rattle.el_chain.specs.declared.coin.Coin.{Coin}
 use Rattle.el_chain.specs.Coins.{is_coin_of, script_hash_of}
 use Rattle.el_chain.specs.History.{Position}
+use Rattle.el_chain.specs.declared.limits.TheConstants.{MAX_BLOCKS, MAX_ROWS}
 
--- how many rows the table with that number may have at most, so that the number of a row has 32 bits
+-- how many rows the table with that number may have at most; table 1 is that of blocks
 abbrev pub row_limit : ℕ → ℕ
-row_limit table = 4294967295
+row_limit table = if table == 1 then MAX_BLOCKS else MAX_ROWS
 
 -- the script hashes of the coins that inputs spend
 abbrev pub spent_scripts : List Coin → List TxIn → List Hash32

@@ -23,7 +23,9 @@ pub use laws::{
     chain_is_linked, coins_are_made_and_kept, file_gives_one_chain, listed_once,
     supply_rises_by_coinbases, unknown_has_no_history,
 };
-pub use limits::{MAX_BACK, MAX_FORWARD, MIN_BLOCK_SIZE, PREFIX_SIZE, row_limit};
+pub use limits::{
+    MAX_BACK, MAX_BLOCKS, MAX_FORWARD, MAX_ROWS, MIN_BLOCK_SIZE, PREFIX_SIZE, row_limit,
+};
 pub use moves::{MoveFault, Moved, Plan};
 pub use node::{Node, Spot};
 pub use placed::Placed;

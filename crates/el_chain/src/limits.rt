@@ -15,9 +15,16 @@ pub const MAX_BACK: u32 = 100;
 /// How many blocks one move may put in.
 pub const MAX_FORWARD: usize = 16;
 
-/// How many rows the table of an index with that number, from 1 to 8, may have at most.
+/// How many rows an index's table of blocks may have at most: a height has 32 bits.
+pub const MAX_BLOCKS: u64 = 4_294_967_295;
+
+/// How many rows each other table of an index may have at most, 2^40.
+pub const MAX_ROWS: u64 = 1_099_511_627_776;
+
+/// How many rows the table of an index with that number, from 1 to 8, may have at most. Table 1 is that of
+/// blocks.
 pub fn row_limit(table: u8) -> u64
     ensures { result ≡ spec.row_limit table }
 {
-    4_294_967_295
+    if table == 1 { MAX_BLOCKS } else { MAX_ROWS }
 }

@@ -2,7 +2,7 @@
 use Rattle.std.proofs.Common.{◌≡◌, ◌+◌, ◌==◌, ℕ, true, false, List, [], ◌∷◌, length, Option, Some, None, Result, Err, refl, sym, ap, ◌∙◌, subst, arith, eqb-true, eq-eqb}
 use Rattle.el_base.specs.declared.hash.Hash32.{Hash32}
 use Rattle.el_outside.specs.Counts.{RoseBy, CountsOnly}
-use Rattle.el_outside.specs.Devices.{Device, archive, failures}
+use Rattle.el_side.specs.Deeds.{Deed, archive, failures}
 use Rattle.el_outside.proofs.Traces.{all_grow_none}
 use Rattle.el_chain.specs.Chains.{Chain, tip}
 use Rattle.el_chain.specs.Headers.{AreLinked}
@@ -16,7 +16,9 @@ use Rattle.el_model.specs.declared.fault.QueryFault.TheVariants as fault
 use Rattle.el_side.specs.Beneath.{Beneath, Ghosts, Lost, beneath}
 use Rattle.el_side.specs.NodeSteps.{Leads}
 use Rattle.el_side.specs.Side.{Side, IsSure, Moving, OrdersLine, quiet_side}
+use Rattle.el_side.specs.declared.caches.Caches.{Caches}
 use Rattle.el_side.specs.declared.holdings.Holdings.{Holdings}
+use Rattle.el_side.specs.Caching.{CachesStand}
 use Rattle.el_sync.specs.Steps.{IsFrom, named, left_by}
 use Rattle.el_sync.specs.declared.moving.Step.{Step}
 use Rattle.el_check_chain.specs.Checked.{no_room}
@@ -76,14 +78,14 @@ none_rose a b n ea eb rose = omega arith
 
 module _ {G A : Type 0} (of : Ghosts G A) where
   -- where no call of the block files fails, none is among the losses
-  pub no_losses : ((a : A) → of.files.faults a ≡ 0) → (was now : Beneath G A) (losses : List Device) → Lost of was now losses → failures archive losses ≡ 0
+  pub no_losses : ((a : A) → of.files.faults a ≡ 0) → (was now : Beneath G A) (losses : List Deed) → Lost of was now losses → failures archive losses ≡ 0
   no_losses never was now losses lost =
-      none_rose (of.files.faults was.files) (of.files.faults now.files) (failures archive losses) (never was.files) (never now.files) (lost 0 archive)
+      none_rose (of.files.faults was.files) (of.files.faults now.files) (failures archive losses) (never was.files) (never now.files) (lost 0 0 archive)
 
   -- what stands after a step
-  pub next_stands : (leads : NodeAnswer → List Device → Side → Type 0) (was now : Beneath G A) (step : Step) (found : List Node) (h : Holdings) (side : Side) (start : Chain)
-      → (l : Leads of leads side start (left_by was now step found h)) → IsSure side → found ≡ h.tree → side.magic ≡ h.magic → StandWith of now h step.left l.next
-  next_stands leads was now step found h side start l sure tree magic = record {
+  pub next_stands : (leads : NodeAnswer → List Deed → Side → Type 0) (was now : Beneath G A) (step : Step) (found : List Node) (h : Holdings) (k : Caches) (side : Side) (start : Chain)
+      → (l : Leads of leads side start (left_by was now step found h k)) → IsSure side → found ≡ h.tree → side.magic ≡ h.magic → StandWith of now h k step.left l.next
+  next_stands leads was now step found h k side start l sure tree magic = record {
     sure = l.sure_is ∙ sure;
     start = l.next_start;
     at = record { stood = λ s. (l.went sure).stood; set = l.set; told = l.told };
@@ -93,39 +95,39 @@ module _ {G A : Type 0} (of : Ghosts G A) where
   }
 
   -- no move was made yet
-  pub none_made : (was : Beneath G A) (h : Holdings) (left : List Node) (side : Side) → StandWith of was h left side → AreUnderWay of was was h left side 0
-  none_made was h left side stand = record { last = side; moves = none; stand = stand; later = λ told. omega arith }
+  pub none_made : (was : Beneath G A) (h : Holdings) (k : Caches) (left : List Node) (side : Side) → StandWith of was h k left side → AreUnderWay of was was h k left side 0
+  none_made was h k left side stand = record { last = side; moves = none; stand = stand; later = λ told. omega arith }
 
   -- one move more
-  pub one_more : ((a : A) → of.files.faults a ≡ 0) → (first : Side) (n : ℕ) (begin was now : Beneath G A) (h h' : Holdings) (left : List Node) (step : Step)
-      → (u : AreUnderWay of begin was h left first n) → (left ≡ [] → ⊥) → h'.tree ≡ h.tree → h'.magic ≡ h.magic
-      → Leads of (Moving of.files u.last 0 left) u.last u.stand.start (left_by was now step u.last.found h')
-      → AreUnderWay of begin now h' step.left first (n + moves_told step.answer)
-  one_more never first n begin was now h h' left step u some tree magic l = record {
+  pub one_more : ((a : A) → of.files.faults a ≡ 0) → (first : Side) (n : ℕ) (begin was now : Beneath G A) (h h' : Holdings) (k k' : Caches) (left : List Node) (step : Step)
+      → (u : AreUnderWay of begin was h k left first n) → (left ≡ [] → ⊥) → h'.tree ≡ h.tree → h'.magic ≡ h.magic
+      → Leads of (Moving of.files u.last 0 left) u.last u.stand.start (left_by was now step u.last.found h' k')
+      → AreUnderWay of begin now h' k' step.left first (n + moves_told step.answer)
+  one_more never first n begin was now h h' k k' left step u some tree magic l = record {
     last = l.next;
     moves = more n u.last l.next step.answer l.losses u.moves (λ e. some (sym u.stand.ahead ∙ e))
         (subst (λ (ns : List Node). Moving of.files u.last 0 ns step.answer l.losses l.next) (sym u.stand.ahead) l.led)
         (no_losses never was now l.losses l.rose);
-    stand = next_stands (Moving of.files u.last 0 left) was now step u.last.found h' u.last u.stand.start l u.stand.sure (u.stand.found ∙ sym tree) (u.stand.magic ∙ sym magic);
+    stand = next_stands (Moving of.files u.last 0 left) was now step u.last.found h' k' u.last u.stand.start l u.stand.sure (u.stand.found ∙ sym tree) (u.stand.magic ∙ sym magic);
     later = λ told. let a = u.later told in let b = ((l.went u.stand.sure).crash told).later in omega arith;
   }
 
   -- a line may be taken
-  pub line_from : (was : Beneath G A) (h : Holdings) (side : Side) → StandWith of was h [] side → IsFrom h side
-  line_from was h side stand = record { found = stand.found; magic = stand.magic; still = stand.ahead }
+  pub line_from : (was : Beneath G A) (h : Holdings) (k : Caches) (side : Side) → StandWith of was h k [] side → IsFrom h side
+  line_from was h k side stand = record { found = stand.found; magic = stand.magic; still = stand.ahead }
 
   -- nothing is to be done
-  pub is_there : (was : Beneath G A) (h : Holdings) (side : Side) (t : Hash32) → StandWith of was h [] side → tip_of side.chain ≡ Some t → IsLed of was was h side t 0
-  is_there was h side t stand ends = record { last = side; leads = there ends refl refl; stand = stand; later = λ told. omega arith }
+  pub is_there : (was : Beneath G A) (h : Holdings) (k : Caches) (side : Side) (t : Hash32) → StandWith of was h k [] side → tip_of side.chain ≡ Some t → IsLed of was was h k side t 0
+  is_there was h k side t stand ends = record { last = side; leads = there ends refl refl; stand = stand; later = λ told. omega arith }
 
   -- a line and its later moves
-  pub line_led : ((a : A) → of.files.faults a ≡ 0) → (side : Side) (t : Hash32) (start : Chain) (begin was now : Beneath G A) (h h' h'' : Holdings) (step : Step) (later : ℕ)
+  pub line_led : ((a : A) → of.files.faults a ≡ 0) → (side : Side) (t : Hash32) (start : Chain) (begin was now : Beneath G A) (h h' h'' : Holdings) (k' k'' : Caches) (step : Step) (later : ℕ)
       → IsSure side → side.magic ≡ h.magic → h'.magic ≡ h.magic → (tip_of side.chain ≡ Some t → ⊥)
-      → Leads of (OrdersLine of.files side (line (tip_line t))) side start (left_by begin was step h'.tree h')
-      → ((mid : Side) → StandWith of was h' step.left mid → AreUnderWay of was now h'' [] mid later)
-      → IsLed of begin now h'' side t (moves_told step.answer + later)
-  line_led never side t start begin was now h h' h'' step later sure from magic away l on =
-      let u = on l.next (next_stands (OrdersLine of.files side (line (tip_line t))) begin was step h'.tree h' side start l sure refl (from ∙ sym magic)) in
+      → Leads of (OrdersLine of.files side (line (tip_line t))) side start (left_by begin was step h'.tree h' k')
+      → ((mid : Side) → StandWith of was h' k' step.left mid → AreUnderWay of was now h'' k'' [] mid later)
+      → IsLed of begin now h'' k'' side t (moves_told step.answer + later)
+  line_led never side t start begin was now h h' h'' k' k'' step later sure from magic away l on =
+      let u = on l.next (next_stands (OrdersLine of.files side (line (tip_line t))) begin was step h'.tree h' k' side start l sure refl (from ∙ sym magic)) in
       record {
         last = u.last;
         leads = led away step.answer l.losses l.next l.led (no_losses never begin was l.losses l.rose) later u.moves u.stand.ahead refl;
@@ -134,16 +136,16 @@ module _ {G A : Type 0} (of : Ghosts G A) where
       }
 
   -- before the first line
-  pub starts : (l : G) (a : A) (chain : Chain) (h : Holdings) → of.ledger.stands l chain → h.pool.entries ≡ [] → h.pool.limits ≡ no_room
-      → StandWith of (beneath l a) h [] (quiet_side true chain h.magic no_room h.tree (of.files.bytes a))
-  starts l a chain h stood empty limits = record {
+  pub starts : (l : G) (a : A) (chain : Chain) (h : Holdings) (k : Caches) → of.ledger.stands l chain → CachesStand k chain chain → h.pool.entries ≡ [] → h.pool.limits ≡ no_room
+      → StandWith of (beneath l a) h k [] (quiet_side true chain h.magic no_room h.tree (of.files.bytes a))
+  starts l a chain h k stood kept empty limits = record {
     sure = refl;
     start = chain;
     at = record {
       stood = λ s. stood;
       set = record {
         stood = λ s. record { sifted = refl; are = empty; once = tt };
-        beside = λ s. tt;
+        computed = λ s. kept;
         still = λ e. refl;
         limits = limits;
       };

@@ -68,7 +68,7 @@ pub record IsChecked {R : Type 0} (of_rows : stores.Ghosts R) (count start : ℕ
     : Type 0 where
   pub way : Way count
   pub sums : s ≡ summary_at_end way
-  pub stand : AreRowsOf (of_rows.lists now) way.last.chain
+  pub stand : AreRowsOf (of_rows.heads now) (of_rows.lists now) way.last.chain
   pub leaves : of_rows.tells_crash → (left : of_rows.Left)
       → LeftNow of_rows.moment of_rows.left_since now left → Means of_rows.shows left way.last.chain
   pub between : of_rows.tells_crash → (mid : R)

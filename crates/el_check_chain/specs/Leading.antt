@@ -3,7 +3,7 @@
 use Rattle.std.specs.Prelude.{◌≡◌, ◌≢◌, ℕ, ◌+◌, List, [], ◌++◌, codes, Some}
 use Rattle.el_base.specs.Shown.{shown}
 use Rattle.el_base.specs.declared.hash.Hash32.{Hash32}
-use Rattle.el_outside.specs.Devices.{Device, archive, failures}
+use Rattle.el_side.specs.Deeds.{Deed, archive, failures}
 use Rattle.el_outside.specs.declared.archive.Archive as block_files
 use Rattle.el_lines.specs.Lines.{line}
 use Rattle.el_lines.specs.declared.node_answer.NodeAnswer.{NodeAnswer}
@@ -24,7 +24,7 @@ moves_told other = 0
 -- to be made.
 pub data MovesOn {A : Type 0} (of_files : block_files.Ghosts A) (first : Side) : ℕ → Side → Type 0 where
   none : MovesOn of_files first 0 first
-  more : (n : ℕ) (side next : Side) (answer : NodeAnswer) (losses : List Device)
+  more : (n : ℕ) (side next : Side) (answer : NodeAnswer) (losses : List Deed)
       → MovesOn of_files first n side → side.ahead ≢ []
       → Moving of_files side 0 side.ahead answer losses next → failures archive losses ≡ 0
       → MovesOn of_files first (n + moves_told answer) next
@@ -34,7 +34,7 @@ pub data MovesOn {A : Type 0} (of_files : block_files.Ghosts A) (first : Side) :
 pub data LeadsTo {A : Type 0} (of_files : block_files.Ghosts A) (side : Side) (tip : Hash32) (n : ℕ)
     (last : Side) : Type 0 where
   there : tip_of side.chain ≡ Some tip → n ≡ 0 → last ≡ side → LeadsTo of_files side tip n last
-  led : tip_of side.chain ≢ Some tip → (answer : NodeAnswer) (losses : List Device) (first : Side)
+  led : tip_of side.chain ≢ Some tip → (answer : NodeAnswer) (losses : List Deed) (first : Side)
       → OrdersLine of_files side (line (tip_line tip)) answer losses first → failures archive losses ≡ 0
       → (later : ℕ) → MovesOn of_files first later last → last.ahead ≡ []
       → n ≡ moves_told answer + later → LeadsTo of_files side tip n last

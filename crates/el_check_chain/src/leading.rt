@@ -15,7 +15,7 @@ use el_base::{Bytes, Hash32, OutOfMemory};
 use el_lines::{LineEvent, NodeAnswer};
 use el_model::{Ledger, QueryFault};
 use el_outside::{Archive, Pace};
-use el_side::Holdings;
+use el_side::{Caches, Holdings};
 use el_sync::{Ahead, move_next, order};
 use std::alloc::Global;
 use std::thread::Threads;
@@ -60,6 +60,7 @@ fn move_on<W: Threads + Sync, G: Ledger, A: Archive>(
     alloc: Global,
     ledger: &mut G,
     holdings: &mut Holdings,
+    caches: &mut Caches,
     left: Ahead,
     archive: &mut A,
     pace: &(dyn Pace + Sync),
@@ -70,8 +71,8 @@ fn move_on<W: Threads + Sync, G: Ledger, A: Archive>(
     requires never_fails { (a : A) → A.faults a ≡ 0 }
     ensures moved { let of = ghosts ⟦<G as Ledger>⟧ ⟦<A as Archive>⟧ in
         let was = beneath ledger.old archive.old in (side : Side)
-        → StandWith of was holdings.old left side → IfOk result
-        (AreUnderWay of was (beneath ledger.new archive.new) holdings.new [] side) }
+        → StandWith of was holdings.old caches.old left side → IfOk result
+        (AreUnderWay of was (beneath ledger.new archive.new) holdings.new caches.new [] side) }
     ensures live { OnOk result (G.is_live ledger.new) }
     ensures few { IfOk result (λ n. n ≤ MOST_MOVES) }
     ensures beside { KeepsBeside ⟦<G as Ledger>⟧ ledger.old ledger.new }
@@ -83,7 +84,7 @@ fn move_on<W: Threads + Sync, G: Ledger, A: Archive>(
         if left.is_empty() {
             return Ok(moves);
         }
-        let step = move_next(rt, alloc, ledger, holdings, left, archive, pace)?;
+        let step = move_next(rt, alloc, ledger, holdings, caches, left, archive, pace)?;
         let told = moves_told(&step.answer);
         moves += told;
         left = step.left;
@@ -98,6 +99,7 @@ pub fn lead<W: Threads + Sync, G: Ledger, A: Archive>(
     alloc: Global,
     ledger: &mut G,
     holdings: &mut Holdings,
+    caches: &mut Caches,
     archive: &mut A,
     tip: Hash32,
     pace: &(dyn Pace + Sync),
@@ -106,8 +108,8 @@ pub fn lead<W: Threads + Sync, G: Ledger, A: Archive>(
     requires never_fails { (a : A) → A.faults a ≡ 0 }
     ensures led { let of = ghosts ⟦<G as Ledger>⟧ ⟦<A as Archive>⟧ in
         let was = beneath ledger.old archive.old in (side : Side)
-        → StandWith of was holdings.old [] side → IfOk result
-        (IsLed of was (beneath ledger.new archive.new) holdings.new side tip) }
+        → StandWith of was holdings.old caches.old [] side → IfOk result
+        (IsLed of was (beneath ledger.new archive.new) holdings.new caches.new side tip) }
     ensures live { OnOk result (G.is_live ledger.new) }
     ensures few { IfOk result (λ n. n ≤ 1 + MOST_MOVES) }
     ensures beside { KeepsBeside ⟦<G as Ledger>⟧ ledger.old ledger.new }
@@ -118,8 +120,10 @@ pub fn lead<W: Threads + Sync, G: Ledger, A: Archive>(
     }
     let text = tip_line(alloc, tip)?;
     let line = LineEvent::Line(text);
-    let step = order(rt, alloc, ledger, holdings, archive, line, pace)?;
-    let later = move_on(rt, alloc, ledger, holdings, step.left, archive, pace)?;
+    let step = order(rt, alloc, ledger, holdings, caches, archive, line, pace)?;
+    let later = move_on(
+        rt, alloc, ledger, holdings, caches, step.left, archive, pace,
+    )?;
     let told = moves_told(&step.answer);
     Ok(told + later)
 }

@@ -20,7 +20,7 @@ use el_model::{Ledger, QueryFault};
 use el_outside::{Archive, Pace};
 use el_pool::Pool;
 use el_redo::{NetworkMagic, Regtest};
-use el_side::Holdings;
+use el_side::{Caches, Holdings};
 use std::alloc::Global;
 use std::thread::Threads;
 
@@ -72,6 +72,7 @@ fn lead_all<W: Threads + Sync, G: Ledger, A: Archive>(
     alloc: Global,
     ledger: &mut G,
     holdings: &mut Holdings,
+    caches: &mut Caches,
     archive: &mut A,
     tips: Tips,
     pace: &(dyn Pace + Sync),
@@ -80,15 +81,21 @@ fn lead_all<W: Threads + Sync, G: Ledger, A: Archive>(
     requires never_fails { (a : A) → A.faults a ≡ 0 }
     ensures led { let of = ghosts ⟦<G as Ledger>⟧ ⟦<A as Archive>⟧ in
         let was = beneath ledger.old archive.old in (side : Side)
-        → StandWith of was holdings.old [] side → IfOk result
+        → StandWith of was holdings.old caches.old [] side → IfOk result
         (HaveLed of was (beneath ledger.new archive.new) side tips) }
     ensures live { OnOk result (G.is_live ledger.new) }
     ensures beside { KeepsBeside ⟦<G as Ledger>⟧ ledger.old ledger.new }
     ensures cause { CountsOnly (G.faults ledger.old) (G.faults ledger.new) QueryFault.DiskFailed result }
 {
-    let to_first = lead(rt, alloc, ledger, holdings, archive, tips.first, pace)?;
-    let to_other = lead(rt, alloc, ledger, holdings, archive, tips.other, pace)?;
-    let back = lead(rt, alloc, ledger, holdings, archive, tips.first, pace)?;
+    let to_first = lead(
+        rt, alloc, ledger, holdings, caches, archive, tips.first, pace,
+    )?;
+    let to_other = lead(
+        rt, alloc, ledger, holdings, caches, archive, tips.other, pace,
+    )?;
+    let back = lead(
+        rt, alloc, ledger, holdings, caches, archive, tips.first, pace,
+    )?;
     Ok(to_first + to_other + back)
 }
 
@@ -143,7 +150,17 @@ pub fn walk<W: Threads + Sync, G: Ledger>(
     let tree = scanned_tree(alloc, &mut archive, magic)?;
     let pool = Pool::new(alloc, NO_ROOM);
     let mut holdings = Holdings { tree, magic, pool };
-    let moves = lead_all(rt, alloc, ledger, &mut holdings, &mut archive, tips, pace)?;
+    let mut caches = Caches::new(alloc);
+    let moves = lead_all(
+        rt,
+        alloc,
+        ledger,
+        &mut holdings,
+        &mut caches,
+        &mut archive,
+        tips,
+        pace,
+    )?;
     let balance = asked_balance(alloc, ledger)?;
     Ok(Walked {
         moves,

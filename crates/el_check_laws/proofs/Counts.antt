@@ -10,7 +10,7 @@ use Rattle.el_chain.specs.declared.fault.ConnectFault.{ConnectFault}
 use Rattle.el_chain.specs.Coins.{coins_after, supply}
 use Rattle.el_chain.specs.Faults.{missing_fault, money_fault, full, full_fault, position_fault}
 use Rattle.el_chain.specs.History.{Position}
-use Rattle.el_chain.specs.RowCounts.{spending_inputs, concerned_scripts, has_script, add_script, add_scripts, output_count, input_count, script_count, entry_count}
+use Rattle.el_chain.specs.RowCounts.{row_limit, spending_inputs, concerned_scripts, has_script, add_script, add_scripts, output_count, input_count, script_count, entry_count}
 
 -- The positions need so many rows of each table at most.
 pub record AreFew (k : ℕ) (ps : List Position) : Type 0 where
@@ -69,8 +69,8 @@ entries_few (p ∷ ps) =
     let both = ap length (flat_map-cons concerned_scripts p ps) ∙ length-append (concerned_scripts p) (flat_map concerned_scripts ps) in
     omega (arith, sums, own, rest, both)
 
-not_full : (table rows : ℕ) → rows ≤ 4294967295 → full table rows ≡ None
-not_full table rows le = rw (le-ltb 4294967295 rows le) refl
+not_full : (table rows : ℕ) → rows ≤ row_limit table → full table rows ≡ None
+not_full table rows le = rw (le-ltb (row_limit table) rows le) refl
 
 six_none : (a b c d e f : Option ConnectFault) → a ≡ None → b ≡ None → c ≡ None → d ≡ None → e ≡ None → f ≡ None
     → option_or a (option_or b (option_or c (option_or d (option_or e f)))) ≡ None

@@ -5,7 +5,7 @@ use Rattle.std.specs.List.{AllByRecursion}
 use Rattle.std.proofs.lemmas.Bool.{cases_lt, false≢true}
 use Rattle.std.proofs.lemmas.List.{drop-drop}
 use Rattle.el_base.specs.declared.hash.Hash32.{Hash32}
-use Rattle.el_outside.specs.Devices.{Device, archive, failures}
+use Rattle.el_side.specs.Deeds.{Deed, archive, failures}
 use Rattle.el_outside.specs.Files.{Grows}
 use Rattle.el_block.specs.declared.block.Block.{Block}
 use Rattle.el_chain.specs.declared.node.Node.{Node}
@@ -43,7 +43,7 @@ pub record Moved (bytes : List ℕ) (bs : List Block) (ns : List Node) (k : ℕ)
   pub grows : Grows bytes (next.files 0)
 
 pub moved : (bytes : List ℕ) (of : ℕ → ℕ) (most : ℕ) (bs : List Block) (ns : List Node) → IsMadePath bytes of most bs ns
-    → (side next : Side) (back k : ℕ) (answer : NodeAnswer) (losses : List Device) → IsSure side → Grows bytes (side.files 0)
+    → (side next : Side) (back k : ℕ) (answer : NodeAnswer) (losses : List Deed) → IsSure side → Grows bytes (side.files 0)
     → shorter back side.chain ≡ take k (placed_of bs ns) → Moving steady side back (drop k ns) answer losses next → failures archive losses ≡ 0
     → Moved bytes bs ns k side next answer
 moved bytes of most bs ns path side next back k answer losses sure grows stays (commits files blocks keeps put is told lost) ok = record {
@@ -139,7 +139,7 @@ pub record Led (bytes : List ℕ) (bs : List Block) (ns : List Node) (side last 
 
 module _ (bytes : List ℕ) (of : ℕ → ℕ) (most : ℕ) (bs : List Block) (ns : List Node) (path : IsMadePath bytes of most bs ns) (same : length (placed_of bs ns) ≡ length ns)
     (says_one : SayOne) (side : Side) (to : Hash32) (hash : IsHash to) (alone : LeadsAlone side.found to ns) (departs : Departs bs ns side) (sure : IsSure side) (grows : Grows bytes (side.files 0)) where
-  first_move : (first : Side) (answer : NodeAnswer) (losses : List Device) → failures archive losses ≡ 0
+  first_move : (first : Side) (answer : NodeAnswer) (losses : List Deed) → failures archive losses ≡ 0
       → GoesAlong steady side ns answer losses first → Moved bytes bs ns (common side.chain ns) side first answer
   first_move first answer losses ok (deep far told is lost) = let near = departs.near in absurd (omega (arith, far, near))
   first_move first answer losses ok (there back rest told is lost) = absurd (departs.moving back rest)
@@ -147,14 +147,14 @@ module _ (bytes : List ℕ) (of : ℕ → ℕ) (most : ℕ) (bs : List Block) (n
       moved bytes of most bs ns path side first (back_of side.chain ns) (common side.chain ns) answer losses sure grows departs.stays goes ok
   first_move first answer losses ok (unsure un back same goes) = absurd (true≢false (sym sure ∙ un))
 
-  tip_move : (first : Side) (answer : NodeAnswer) (losses : List Device) → failures archive losses ≡ 0
+  tip_move : (first : Side) (answer : NodeAnswer) (losses : List Deed) → failures archive losses ≡ 0
       → Tips steady side to answer losses first → Moved bytes bs ns (common side.chain ns) side first answer
   tip_move first answer losses ok (unknown new told is lost) = absurd (false≢true (sym new ∙ path_known side.found to ns alone.is_path))
   tip_move first answer losses ok (unconnected known no_path told is lost) = absurd (no_path ns alone.is_path)
   tip_move first answer losses ok (along other is_path goes) =
       first_move first answer losses ok (subst (λ (p : List Node). GoesAlong steady side p answer losses first) (alone.alone other is_path) goes)
 
-  line_move : (first : Side) (answer : NodeAnswer) (losses : List Device) → failures archive losses ≡ 0
+  line_move : (first : Side) (answer : NodeAnswer) (losses : List Deed) → failures archive losses ≡ 0
       → OrdersLine steady side (line (tip_line to)) answer losses first → Moved bytes bs ns (common side.chain ns) side first answer
   line_move first answer losses ok (said, says, orders) =
       tip_move first answer losses ok (subst (λ (s : Option NodeLine). Orders steady side s answer losses first) (tip_said says_one to said hash says) orders)

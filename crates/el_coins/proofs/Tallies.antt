@@ -179,11 +179,11 @@ pub not_full : (table rows : ℕ) → rows ≤ row_limit table → full table ro
 not_full table rows few = rw (le-ltb (row_limit table) rows few) refl
 
 -- a table is full by its count wherever this is above what 64 bits hold
-pub full_capped : (table rows : ℕ) → full table (min rows (2 ^ 64 - 1)) ≡ full table rows
-full_capped table rows = ap (λ (b : Bool). cond b (Some (refusal.Full table (row_limit table))) None) (same (nat_lt (row_limit table) rows) refl)
+pub full_capped : (table rows : ℕ) → row_limit table < 2 ^ 64 - 1 → full table (min rows (2 ^ 64 - 1)) ≡ full table rows
+full_capped table rows below = ap (λ (b : Bool). cond b (Some (refusal.Full table (row_limit table))) None) (same (nat_lt (row_limit table) rows) refl)
   where
     same : (b : Bool) → nat_lt (row_limit table) rows ≡ b → nat_lt (row_limit table) (min rows (2 ^ 64 - 1)) ≡ nat_lt (row_limit table) rows
-    same true e = let lt = ltb-true (row_limit table) rows e in lt-ltb (row_limit table) (min rows (2 ^ 64 - 1)) (omega arith) ∙ sym e
+    same true e = let lt = ltb-true (row_limit table) rows e in lt-ltb (row_limit table) (min rows (2 ^ 64 - 1)) (omega (arith, lt, below)) ∙ sym e
     same false e = let least = ltb-false (row_limit table) rows e in le-ltb (row_limit table) (min rows (2 ^ 64 - 1)) (omega arith) ∙ sym e
 
 -- scripts and entries have room where outputs and inputs together have
@@ -201,4 +201,4 @@ pub met_by_counts : (ps : List Position) (lists : List (List Hash32)) (scripts e
 met_by_counts ps lists scripts entries is s e =
     ap (λ (n : ℕ). option_or (full 6 n) (full 8 (entry_count ps))) (scripts_counted ps lists is ∙ sym s)
     ∙ ap (λ (r : Option ConnectFault). option_or (full 6 scripts) r)
-    (ap (full 8) (entries_counted ps lists is) ∙ sym (full_capped 8 (pair_count lists)) ∙ ap (full 8) (sym e))
+    (ap (full 8) (entries_counted ps lists is) ∙ sym (full_capped 8 (pair_count lists) (omega arith)) ∙ ap (full 8) (sym e))

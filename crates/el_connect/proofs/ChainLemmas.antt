@@ -27,14 +27,14 @@ use Rattle.el_prepare.specs.Prepared.{prepared, prepared_tx, prepared_txs, paid,
 use Rattle.el_tables.specs.ChainLists.{ListedBlock, lists, listed_blocks}
 use Rattle.el_tables.specs.Connecting.{◌>>=◌, connect_txs, connect_tx, missing_at, ok_unless, bounds_by, full_by, block_between}
 use Rattle.el_tables.specs.Lists.{Lists, unspent_sum}
-use Rattle.el_tables.specs.Tables.{HeadCounts, in_both, heads_for}
+use Rattle.el_tables.specs.Tables.{HeadCounts, in_both}
 use Rattle.el_tables.proofs.Outputs.{from_front}
 use Rattle.el_tables.proofs.UndoneBlocks.{row_more, good_before, prepared_count}
 use Rattle.el_tables.proofs.WholeBlocks.{connects}
 use Rattle.el_row_formats.specs.Tables as held
 use Rattle.el_row_formats.specs.declared.table.Table.TheVariants as table
 use Rattle.el_schema.specs.Rows.{Hold, block_fields}
-use Rattle.el_schema.specs.Standing.{StandWith, HoldChain, heads_in}
+use Rattle.el_schema.specs.Standing.{StandWith, HoldChain}
 use Rattle.el_connect.specs.within.Parts.{Reached, IsBetween, LedTo, values, IsSmall, connect_next, connect_all}
 use Rattle.el_connect.proofs.MadeLemmas.{between_next}
 use Rattle.el_chain.specs.declared.fault.ConnectFault.TheVariants as refusal
@@ -230,8 +230,8 @@ sum_before rows sum none some heads chain = from_front (λ (c : Chain). HoldChai
   where
     more : (c : Chain) (b : Placed) → (HoldChain heads rows c → sum ≡ unspent_sum (lists c).outs) → HoldChain heads rows (c ++ b ∷ []) → sum ≡ unspent_sum (lists (c ++ b ∷ [])).outs
     more c b before hold =
-        some (heads_in heads (c ++ b ∷ [])) (listed_blocks c) (block_between (prepared b.block) b.place (lists c) (lists (c ++ b ∷ []))) (lists (c ++ b ∷ []))
-        (subst (λ (bs : List ListedBlock). Hold (heads_in heads (c ++ b ∷ [])) bs (lists (c ++ b ∷ [])) rows) (row_more c b) hold)
+        some (in_both heads) (listed_blocks c) (block_between (prepared b.block) b.place (lists c) (lists (c ++ b ∷ []))) (lists (c ++ b ∷ []))
+        (subst (λ (bs : List ListedBlock). Hold (in_both heads) bs (lists (c ++ b ∷ [])) rows) (row_more c b) hold)
 
 -- 4. The chain with the block
 
@@ -241,20 +241,12 @@ good_more chain b good encoded names none = record { each = next_more [] chain b
 pub room_for_block : (chain : Chain) (b : Block) → HasBlockEncoding b → fault chain b ≡ None → length chain < row_limit 1
 room_for_block chain b encoded none = has_room chain b.txs none (some_tx b encoded)
 
-heads_last : (counts : HeadCounts) (bs : List ListedBlock) (b : ListedBlock) → heads_for counts (bs ++ b ∷ []) ≡ counts
-heads_last counts [] b = refl
-heads_last counts (x ∷ xs) b = refl
-
 -- rows that hold the lists of the chain with the block, and its row
 pub chain_held : (heads : ℕ) (rows : held.Tables) (chain : Chain) (b : Placed)
     → Hold (in_both heads) (listed_blocks chain ++ block_between (prepared b.block) b.place (lists chain) (lists (chain ++ b ∷ [])) ∷ []) (lists (chain ++ b ∷ [])) rows
     → HoldChain heads rows (chain ++ b ∷ [])
 chain_held heads rows chain b hold =
-    let row = block_between (prepared b.block) b.place (lists chain) (lists (chain ++ b ∷ [])) in
-    let is = row_more chain b in
-    let count : heads_in heads (chain ++ b ∷ []) ≡ in_both heads = ap (heads_for (in_both heads)) is ∙ heads_last (in_both heads) (listed_blocks chain) row in
-    subst (λ (counts : HeadCounts). Hold counts (listed_blocks (chain ++ b ∷ [])) (lists (chain ++ b ∷ [])) rows) (sym count)
-    (subst (λ (bs : List ListedBlock). Hold (in_both heads) bs (lists (chain ++ b ∷ [])) rows) (sym is) hold)
+    subst (λ (bs : List ListedBlock). Hold (in_both heads) bs (lists (chain ++ b ∷ [])) rows) (sym (row_more chain b)) hold
 
 blocks_from : (height first : ℕ) (chain : Chain) (cs : List Rattle.el_chain.specs.declared.coin.Coin.Coin) → length (Rattle.el_tables.specs.ChainLists.listed_blocks_from height first chain cs) ≡ length chain
 blocks_from height first [] cs = refl

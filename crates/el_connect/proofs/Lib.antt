@@ -6,7 +6,6 @@ pub mod MadeLemmas
 pub mod MoneyLemmas
 pub mod ScriptLemmas
 pub mod ChainLemmas
-pub mod HeadLemmas
 pub mod LoopLemmas
 pub mod TxLemmas
 pub mod FullLemmas

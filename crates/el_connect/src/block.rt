@@ -13,9 +13,8 @@ ghost use Rattle.el_schema.specs.Rows.{Hold, block_fields};
 ghost use Rattle.el_tables.specs.ChainLists.{ListedBlock};
 ghost use Rattle.el_tables.specs.Lists.{Lists};
 ghost use Rattle.el_tables.specs.Tables.{HeadCounts};
-ghost use Rattle.el_schema.specs.Standing.{StandWith, StandFor, heads_after};
+ghost use Rattle.el_schema.specs.Standing.{StandWith, StandFor};
 
-use crate::heads::add_all_heads;
 use crate::reading::last_sum;
 use crate::transaction::connect_txs;
 use el_buckets::not_appended;
@@ -67,7 +66,7 @@ fn append_block<R: Rows>(t: &mut Txn<'_, R>, row: &BlockRow) -> Result<u64, Conn
     ensures fault { IfErr result (NotAdded Table.Blocks (length (tables_in t.old Table.Blocks))) }
     ensures alone { EditsAlone t.old t.new }
 {
-    let mut bytes = [0; 112];
+    let mut bytes = [0; 116];
     row.write(&mut bytes);
     let height = t.count(Table::Blocks);
     match t.append(Table::Blocks, &bytes) {
@@ -77,8 +76,7 @@ fn append_block<R: Rows>(t: &mut Txn<'_, R>, row: &BlockRow) -> Result<u64, Conn
 }
 
 /// Puts a block after the last of the chain that the rows stand for, or tells the first fault that it has
-/// there. Before the first block each table of heads gets its rows, `BUCKET_COUNT` of `el_row_formats`. After
-/// a fault the transaction of rows may hold a part of the block.
+/// there. The number of heads stays. After a fault the transaction of rows may hold a part of the block.
 ///
 /// # Errors
 ///
@@ -92,8 +90,7 @@ pub fn connect<R: Rows>(t: &mut Txn<'_, R>, b: &Prepared, place: Place) -> Resul
     ensures connected { (heads : ℕ) (chain : Chain) (block : shape.Block) → R.tells
         → StandWith heads (tables_in t.old) chain → HasBlockEncoding block → b.now ≡ prepared block
         → block.header.previous ≡ tip chain → OnOk result ((fault chain block ≡ None)
-        × StandWith (heads_after heads chain) (tables_in t.new)
-        (chain ++ record { block = block; place = place } ∷ [])) }
+        × StandWith heads (tables_in t.new) (chain ++ record { block = block; place = place } ∷ [])) }
     // A refused block has that fault, unless the device or memory failed.
     ensures refused { (chain : Chain) (block : shape.Block) → R.tells → StandFor (tables_in t.old) chain
         → HasBlockEncoding block → b.now ≡ prepared block → block.header.previous ≡ tip chain
@@ -107,7 +104,6 @@ pub fn connect<R: Rows>(t: &mut Txn<'_, R>, b: &Prepared, place: Place) -> Resul
     let height = t.count(Table::Blocks);
     let first_tx = t.count(Table::Txs);
     let before = last_sum(t)?;
-    add_all_heads(t)?;
     let sum = connect_txs(t, height as u32, b.txs.as_slice(), before)?;
     let txs = b.txs.len() as u32;
     let Place { file, offset, len } = place;

@@ -3,7 +3,6 @@
 
 mod block;
 mod coins;
-mod heads;
 mod held;
 mod inputs;
 mod money;

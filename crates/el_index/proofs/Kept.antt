@@ -47,11 +47,16 @@ rows_of_ids reads old below mid new None opened closed few = tt
 rows_of_ids reads old below mid new (Some found) opened closed few =
     rows_read reads old below mid new (1 + length found) opened closed few
 
+-- rows of an index that stay, with as many heads
+pub same_index : {m n : ℕ} {a b : Tables} {chain : Chain} → m ≡ n → a ≡ b → AreRowsOf m a chain → AreRowsOf n b chain
+same_index {m} {n} {a} {b} {chain} as_many same stand =
+    subst (λ (k : ℕ). AreRowsOf k b chain) as_many (subst (λ (t : Tables). AreRowsOf m t chain) same stand)
+
 module _ {R : Type 0} (G : rows_below.Ghosts R) where
   -- E is an index, which holds the rows
   pub quiet : {E : Type 0} (rows : E → R) (tip : E → Option Hash32) (old new : E) (mid : R) → rows new ≡ mid → tip new ≡ tip old → G.is_live (rows old)
       → WasRead G (rows old) mid
-      → Quiet (λ e. G.is_live (rows e)) (λ e. top (G.counts (rows e) table.Blocks)) tip (λ e. buckets_in (G.lists (rows e))) (λ e chain. IsIndexOf G.tells (G.lists (rows e)) (tip e) chain)
+      → Quiet (λ e. G.is_live (rows e)) (λ e. top (G.counts (rows e) table.Blocks)) tip (λ e. buckets_in (G.lists (rows e))) (λ e chain. IsIndexOf G.tells (G.heads (rows e)) (G.lists (rows e)) (tip e) chain)
       (KeepsBelow G.tells_crash (λ e. G.moment (rows e)) (λ e t c. G.left_since (rows e) t c) (λ e. G.beside (rows e))) old new
   quiet {E} rows tip old new mid is kept live reads' =
       let reads : WasRead G (rows old) (rows new) = subst (λ (r : R). WasRead G (rows old) r) (sym is) reads' in
@@ -64,12 +69,12 @@ module _ {R : Type 0} (G : rows_below.Ghosts R) where
           same_buckets = ap buckets_in reads.same;
           still_stands = λ chain s. record {
             told = s.told;
-            stand = subst (λ (t : Tables). AreRowsOf t chain) (sym reads.same) s.stand;
+            stand = same_index (sym reads.as_many) (sym reads.same) s.stand;
             last = kept ∙ s.last;
           };
           stood = λ chain s. record {
             told = s.told;
-            stand = subst (λ (t : Tables). AreRowsOf t chain) reads.same s.stand;
+            stand = same_index reads.as_many reads.same s.stand;
             last = sym kept ∙ s.last;
           };
         };
@@ -84,23 +89,25 @@ module _ {R : Type 0} (G : rows_below.Ghosts R) where
   beside_read old mid new reads is told = ap G.beside is ∙ reads.below.files told
 
   -- The law `leaves_lists` of the rows, which are live.
-  module _ (leaves_lists : (r : R) (c : G.Left) → G.tells_crash → G.is_live r → G.left_since r (G.moment r) c → G.shows c (G.lists r)) where
+  module _ (leaves_lists : (r : R) (c : G.Left) → G.tells_crash → G.is_live r → G.left_since r (G.moment r) c → G.shows c (G.heads r) (G.lists r)) where
     -- only rows were read: a crash since leaves the old chain
-    pub only_read : (old mid new : R) (chain next : Chain) → G.is_live old → WasRead G old mid → AreRowsOf (G.lists old) chain → new ≡ mid → G.tells_crash
+    pub only_read : (old mid new : R) (chain next : Chain) → G.is_live old → WasRead G old mid → AreRowsOf (G.heads old) (G.lists old) chain → new ≡ mid → G.tells_crash
         → LeavesOnly G.moment G.left_since old new (Either (Means G.shows) chain next)
     only_read old mid new chain next live reads stands is told =
         subst (λ (r : R). LeavesOnly G.moment G.left_since old r (Either (Means G.shows) chain next)) (sym is)
-        (still_only G.moment G.left_since old mid (Either (Means G.shows) chain next) (reads.below.crash told) (λ c left. inl (G.lists old, leaves_lists old c told live left, stands)))
+        (still_only G.moment G.left_since old mid (Either (Means G.shows) chain next) (reads.below.crash told) (λ c left. inl (G.heads old, G.lists old, leaves_lists old c told live left, stands)))
 
     -- and then a commit was begun: it leaves that or the target
-    pub begun : (old mid new : R) (under : Tables) (chain next : Chain) → G.is_live old → WasRead G old mid → AreRowsOf (G.lists old) chain → AreRowsOf under next
-        → LeavesOnly G.moment G.left_since mid new (IsEither G.shows (G.lists mid) under) → G.tells_crash → LeavesOnly G.moment G.left_since old new (Either (Means G.shows) chain next)
+    pub begun : (old mid new : R) (under : Tables) (chain next : Chain) → G.is_live old → WasRead G old mid → AreRowsOf (G.heads old) (G.lists old) chain → AreRowsOf (G.heads old) under next
+        → LeavesOnly G.moment G.left_since mid new (IsEither (λ c. G.shows c (G.heads mid)) (G.lists mid) under) → G.tells_crash → LeavesOnly G.moment G.left_since old new (Either (Means G.shows) chain next)
     begun old mid new under chain next live reads stands target commit told =
         let P : G.Left → Type 0 = Either (Means G.shows) chain next in
         joined G.moment G.left_since old mid new P
         (only_read old mid mid chain next live reads stands refl told)
-        (weaker G.moment G.left_since mid new (IsEither G.shows (G.lists mid) under) P
-        (λ c either. ⊎_elim (λ shown. inl (G.lists mid, shown, subst (λ (t : Tables). AreRowsOf t chain) (sym reads.same) stands)) (λ shown. inr (under, shown, target)) either) commit)
+        (weaker G.moment G.left_since mid new (IsEither (λ c. G.shows c (G.heads mid)) (G.lists mid) under) P
+        (λ c either. ⊎_elim
+        (λ shown. inl (G.heads mid, G.lists mid, shown, same_index (sym reads.as_many) (sym reads.same) stands))
+        (λ shown. inr (G.heads mid, under, shown, same_index (sym reads.as_many) refl target)) either) commit)
 
 -- what a crash leaves of the rows it leaves of the index that holds them
 pub lifted : {R C E : Type 0} (moment : R → ℕ) (left_since : R → ℕ → C → Type 0) (rows : E → R) (old new : E) (mid : R) (P : C → Type 0) → rows new ≡ mid → LeavesOnly moment left_since (rows old) mid P

@@ -123,14 +123,14 @@ bad_next texts batch from ps f b a =
     bad_by texts r.passed r.rest b.0 from ps f (b.1 ∙ ap (λ (l : List (List ℕ)). l ++ b.0) r.whole ∙ append_assoc r.passed r.rest b.0) r.prepared r.ends
 
 -- the first bad block stops the move
-pub bad_stops : (chain : Chain) (nodes : List Node) (texts : List (List ℕ)) (i : ℕ) (rows : Tables) (blocks : Chain) (n d : Node) (f : BlockFault) (e : MoveFault) → AllByRecursion IsNode nodes
+pub bad_stops : (heads : ℕ) (chain : Chain) (nodes : List Node) (texts : List (List ℕ)) (i : ℕ) (rows : Tables) (blocks : Chain) (n d : Node) (f : BlockFault) (e : MoveFault) → AllByRecursion IsNode nodes
     → AreOf nodes texts → Bad texts i f → n ≡ get_or nodes i d → (f ≡ fault.Memory → e ≡ stop.Memory) → (f ≡ fault.Memory) ⊎ (e ≡ stop.BadBlock n.hash f)
-    → IsAdding chain nodes texts i rows blocks → IsOwn e ⊎ FaultInAt chain nodes texts e
-bad_stops chain nodes texts i rows blocks n d f e all of bad n_is memory (inl m) adding = inl (inr (memory m))
-bad_stops chain nodes texts i rows blocks n d f e all of bad n_is memory (inr is) adding =
+    → IsAdding heads chain nodes texts i rows blocks → IsOwn e ⊎ FaultInAt chain nodes texts e
+bad_stops heads chain nodes texts i rows blocks n d f e all of bad n_is memory (inl m) adding = inl (inr (memory m))
+bad_stops heads chain nodes texts i rows blocks n d f e all of bad n_is memory (inr is) adding =
     let same = same_length nodes texts of in
     let below = bad.below in
-    adding_stops chain nodes texts i rows blocks n bad.text e adding (next_is nodes texts i n d bad.text (left_of nodes texts i all of) (omega arith) n_is bad.is)
+    adding_stops heads chain nodes texts i rows blocks n bad.text e adding (next_is nodes texts i n d bad.text (left_of nodes texts i all of) (omega arith) n_is bad.is)
     (inr (subst (IsStop (chain ++ blocks) n.hash bad.text) (sym is) (refl, bad.first_fault)))
 
 -- ---- batch after batch

@@ -20,10 +20,10 @@ use Rattle.el_index.proofs.IndexRows.{same_rows}
 use Rattle.el_index.specs.within.Adding.{AreMoved, FliesTo, IsOwn}
 
 -- equal rows
-pub moved_rows : (p : Plan) (chain : Chain) (texts : List (List ℕ)) (scripts : List Hash32) (a b : Tables) (blocks : Chain) → AreMoved p chain texts scripts a blocks → Same a b → AreMoved p chain texts scripts b blocks
-moved_rows p chain texts scripts a b blocks m same = record {
+pub moved_rows : (heads : ℕ) (p : Plan) (chain : Chain) (texts : List (List ℕ)) (scripts : List Hash32) (a b : Tables) (blocks : Chain) → AreMoved heads p chain texts scripts a blocks → Same a b → AreMoved heads p chain texts scripts b blocks
+moved_rows heads p chain texts scripts a b blocks m same = record {
   next = m.next;
-  stand = same_rows a b (target p chain blocks) m.stand same;
+  stand = same_rows heads a b (target p chain blocks) m.stand same;
   touched = m.touched;
 }
 
@@ -42,9 +42,9 @@ tip_by base (n ∷ ns) texts blocks hash are all of some none =
     ∙ ap Some (sym (tip_joined zero_hash base blocks ∙ blocks_tip (tip base) (n ∷ ns) texts blocks all of are))
     ∙ sym (some_tip base ns texts n blocks are)
 
-pub tip_moved : (p : Plan) (chain : Chain) (texts : List (List ℕ)) (scripts : List Hash32) (rows : Tables) (blocks : Chain) (hash : Option Hash32) → AreMoved p chain texts scripts rows blocks → IsPlan p
+pub tip_moved : (heads : ℕ) (p : Plan) (chain : Chain) (texts : List (List ℕ)) (scripts : List Hash32) (rows : Tables) (blocks : Chain) (hash : Option Hash32) → AreMoved heads p chain texts scripts rows blocks → IsPlan p
     → AreOf p.forward texts → (p.forward ≢ [] → hash ≡ Some (last_hash zero_hash p.forward)) → (p.forward ≡ [] → hash ≡ tip_of (target p chain blocks)) → hash ≡ tip_of (target p chain blocks)
-tip_moved p chain texts scripts rows blocks hash m plan of some none = tip_by (shorter p.back chain) p.forward texts blocks hash m.next.are plan.nodes of some none
+tip_moved heads p chain texts scripts rows blocks hash m plan of some none = tip_by (shorter p.back chain) p.forward texts blocks hash m.next.are plan.nodes of some none
 
 -- why it is refused
 pub refused_is : (stood : Node → List ℕ → Type 0) (chain : Chain) (p : Plan) (texts : List (List ℕ)) (e : MoveFault) → AreRead stood p.forward texts
@@ -68,9 +68,9 @@ pub flies : (stood : Node → List ℕ → Type 0) (chain : Chain) (p : Plan) (t
 flies stood chain p texts next read (inl is) = inl is
 flies stood chain p texts next read (inr to) = inr (to.0, record { texts = texts; read = read; blocks_are = to.1 }, to.2)
 
-pub touched_once : (p : Plan) (chain : Chain) (texts : List (List ℕ)) (scripts : List Hash32) (rows : Tables) (blocks : Chain) → AreMoved p chain texts scripts rows blocks → AllDiffer scripts
+pub touched_once : (heads : ℕ) (p : Plan) (chain : Chain) (texts : List (List ℕ)) (scripts : List Hash32) (rows : Tables) (blocks : Chain) → AreMoved heads p chain texts scripts rows blocks → AllDiffer scripts
     → AreTouched p chain blocks scripts
-touched_once p chain texts scripts rows blocks m once = record { each = m.touched; once = once }
+touched_once heads p chain texts scripts rows blocks m once = record { each = m.touched; once = once }
 
 -- the last node's hash is the last hash
 pub last_named : (nodes : List Node) (d : Node) → nodes ≢ [] → (slice_index_or nodes (length nodes - 1) d).hash ≡ last_hash zero_hash nodes

@@ -39,10 +39,10 @@ pub(crate) fn take_back<R: Rows>(
     touched: &mut Touched,
 ) -> Result<(), MoveFault>
     requires live { R.is_live t.old.rows.now }
-    ensures back { (chain : Chain) → R.tells → AreRowsOf (tables_in t.old) chain → back ≤ length chain
-        → OnOk result (AreRowsOf (tables_in t.new) (shorter back chain)) }
-    ensures touched { (chain : Chain) → R.tells → AreRowsOf (tables_in t.old) chain → back ≤ length chain
-        → OnOk result (AreAdded (shorter back chain) (drop (length chain - back) chain)
+    ensures back { (heads : ℕ) (chain : Chain) → R.tells → AreRowsOf heads (tables_in t.old) chain
+        → back ≤ length chain → OnOk result (AreRowsOf heads (tables_in t.new) (shorter back chain)) }
+    ensures touched { (heads : ℕ) (chain : Chain) → R.tells → AreRowsOf heads (tables_in t.old) chain
+        → back ≤ length chain → OnOk result (AreAdded (shorter back chain) (drop (length chain - back) chain)
         touched.old touched.new) }
     // What follows holds over any rows.
     ensures fewer { OnOk result (length (tables_in t.new Table.Blocks)

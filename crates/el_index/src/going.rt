@@ -40,13 +40,13 @@ fn edit<W: Threads + Sync, R: Rows, P: Pace + Sync>(
     requires plan { IsPlan plan.now }
     requires of { AreOf plan.now.forward texts.now }
     requires none { touched.old ≡ [] }
-    ensures moved { (chain : Chain) → R.tells → AreRowsOf (tables_in t.old) chain → FitsChain plan.now chain
-        → OnOk result ((blocks : Chain)
-        × AreMoved plan.now chain texts.now touched.new (tables_in t.new) blocks) }
+    ensures moved { (heads : ℕ) (chain : Chain) → R.tells → AreRowsOf heads (tables_in t.old) chain
+        → FitsChain plan.now chain → OnOk result ((blocks : Chain)
+        × AreMoved heads plan.now chain texts.now touched.new (tables_in t.new) blocks) }
     // Over any rows the number of blocks goes by the plan.
     ensures top { OnOk result (length (tables_in t.new Table.Blocks)
         ≡ (length (tables_in t.old Table.Blocks) - plan.now.back) + length plan.now.forward) }
-    ensures first_fault { (chain : Chain) → R.tells → AreRowsOf (tables_in t.old) chain
+    ensures first_fault { (heads : ℕ) (chain : Chain) → R.tells → AreRowsOf heads (tables_in t.old) chain
         → FitsChain plan.now chain → IfErr result (λ e. IsOwn e
         ⊎ FaultInAt (shorter plan.now.back chain) plan.now.forward texts.now e) }
     ensures edits { EditsRows MoveFault.DiskFailed t.old t.new result }
@@ -67,8 +67,8 @@ fn hash_after<R: Rows>(t: &mut Txn<'_, R>, nodes: &[Node]) -> Result<Option<Hash
     requires live { R.is_live t.old.rows.now }
     ensures last { IfOk result (λ hash. nodes.now ≢ []
         → hash ≡ Some (hash_of_last zero_hash nodes.now)) }
-    ensures tip { (chain : Chain) → R.tells → AreRowsOf (tables_in t.old) chain → nodes.now ≡ []
-        → IfOk result (λ hash. hash ≡ tip_of chain) }
+    ensures tip { (heads : ℕ) (chain : Chain) → R.tells → AreRowsOf heads (tables_in t.old) chain
+        → nodes.now ≡ [] → IfOk result (λ hash. hash ≡ tip_of chain) }
     ensures read { ReadsRows MoveFault.DiskFailed t.old t.new result }
     ensures device { IfErr result (λ e. e ≡ MoveFault.DiskFailed) }
 {
@@ -97,9 +97,11 @@ impl<R: Rows> Index<R> {
         requires plan { IsPlan plan.now }
         requires of { AreOf plan.now.forward texts.now }
         requires none { touched.old ≡ [] }
-        ensures moved { (chain : Chain) → R.tells → AreRowsOf (R.lists self.old.rows) chain
+        ensures moved { (chain : Chain) → R.tells
+            → AreRowsOf (R.heads self.old.rows) (R.lists self.old.rows) chain
             → FitsChain plan.now chain → IfOk result (λ hash. (blocks : Chain)
-            × AreMoved plan.now chain texts.now touched.new (R.lists self.new.rows) blocks
+            × AreMoved (R.heads self.new.rows) plan.now chain texts.now touched.new
+            (R.lists self.new.rows) blocks
             × (hash ≡ tip_of (target plan.now chain blocks))
             × (R.tells_crash → LeavesOnly R.moment R.left_since self.old.rows self.new.rows
             (Either (Means R.shows) chain (target plan.now chain blocks)))) }
@@ -109,14 +111,16 @@ impl<R: Rows> Index<R> {
             ≡ (R.counts self.old.rows Table.Blocks - plan.now.back) + length plan.now.forward) }
         ensures live { OnOk result (R.is_live self.new.rows) }
         ensures kept { self.new.tip ≡ self.old.tip }
-        ensures first_fault { (chain : Chain) → R.tells → AreRowsOf (R.lists self.old.rows) chain
+        ensures first_fault { (chain : Chain) → R.tells
+            → AreRowsOf (R.heads self.old.rows) (R.lists self.old.rows) chain
             → FitsChain plan.now chain → IfErr result (λ e. IsOwn e
             ⊎ FaultInAt (shorter plan.now.back chain) plan.now.forward texts.now e) }
         // After any other fault only rows were read.
         ensures unchanged { IfErr result (λ e. e ≢ MoveFault.DiskFailed
             → WasRead ⟦<R as Rows>⟧
             self.old.rows self.new.rows) }
-        ensures crash_failed { (chain : Chain) → R.tells → AreRowsOf (R.lists self.old.rows) chain
+        ensures crash_failed { (chain : Chain) → R.tells
+            → AreRowsOf (R.heads self.old.rows) (R.lists self.old.rows) chain
             → FitsChain plan.now chain → IsErrOf result MoveFault.DiskFailed
             → (next : Chain) × FliesTo plan.now chain texts.now next
             × (R.tells_crash → LeavesOnly R.moment R.left_since self.old.rows self.new.rows

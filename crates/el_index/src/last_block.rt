@@ -1,5 +1,5 @@
 // The hash of the last block.
-ghost use Rattle.std.specs.Prelude.{◌≡◌, ◌≤◌, ◌+◌, length, IfOk};
+ghost use Rattle.std.specs.Prelude.{◌≡◌, ◌≤◌, ◌+◌, ℕ, length, IfOk};
 ghost use Rattle.el_chain.specs.Chains.{Chain};
 ghost use Rattle.el_model.specs.Queries.{tip_of};
 ghost use Rattle.el_outside.specs.Counts.{HasCause};
@@ -18,7 +18,7 @@ use std::alloc::Global;
 // The hash of the last block, by its row; None exactly for no blocks.
 pub(crate) fn last_hash<R: Rows>(t: &mut Txn<'_, R>) -> Result<Option<Hash32>, DiskFailed>
     requires live { R.is_live t.old.rows.now }
-    ensures last { (chain : Chain) → R.tells → AreRowsOf (tables_in t.old) chain
+    ensures last { (heads : ℕ) (chain : Chain) → R.tells → AreRowsOf heads (tables_in t.old) chain
         → IfOk result (λ hash. hash ≡ tip_of chain) }
     ensures read { ReadsRows disk_failed t.old t.new result }
     ensures rows { reads_in t.new ≤ reads_in t.old + 1 }
@@ -34,7 +34,7 @@ pub(crate) fn last_hash<R: Rows>(t: &mut Txn<'_, R>) -> Result<Option<Hash32>, D
 // The same, of rows that no transaction is open over.
 pub(crate) fn hash_in<R: Rows>(alloc: Global, rows: &mut R) -> Result<Option<Hash32>, DiskFailed>
     requires live { R.is_live rows.old }
-    ensures last { (chain : Chain) → R.tells → AreRowsOf (R.lists rows.old) chain
+    ensures last { (heads : ℕ) (chain : Chain) → R.tells → AreRowsOf heads (R.lists rows.old) chain
         → IfOk result (λ hash. hash ≡ tip_of chain) }
     ensures reads { WasRead ⟦<R as Rows>⟧
         rows.old rows.new }

@@ -33,7 +33,7 @@ fn top_of(count: u64) -> Option<u32>
 }
 
 impl<R: Rows> Ledger for Index<R> {
-    ghost stands = { λ l chain. IsIndexOf R.tells (R.lists l.rows) l.tip chain };
+    ghost stands = { λ l chain. IsIndexOf R.tells (R.heads l.rows) (R.lists l.rows) l.tip chain };
 
     ghost is_live = { λ l. R.is_live l.rows };
 
@@ -59,17 +59,19 @@ impl<R: Rows> Ledger for Index<R> {
 
     ghost beside = { λ l. R.beside l.rows };
 
-    ghost height_is = { λ l chain stands. laws.height_is R.tells (R.lists l.rows) l.tip
+    ghost height_is = { λ l chain stands. laws.height_is R.tells (R.heads l.rows) (R.lists l.rows) l.tip
         (R.counts l.rows table.Blocks) chain (R.counted l.rows table.Blocks) stands };
 
-    ghost tip_is = { λ l chain stands. laws.tip_is R.tells (R.lists l.rows) l.tip chain stands };
+    ghost tip_is = { λ l chain stands. laws.tip_is R.tells (R.heads l.rows) (R.lists l.rows) l.tip chain
+        stands };
 
-    ghost good = { λ l chain stands. laws.good R.tells (R.lists l.rows) l.tip chain stands };
+    ghost good = { λ l chain stands. laws.good R.tells (R.heads l.rows) (R.lists l.rows) l.tip chain stands };
 
     ghost earlier = { λ l t u left le since. R.earlier l.rows t u left le since };
 
     ghost leaves_own = { λ l chain left told live stands since. laws.leaves_own R.shows R.tells
-        (R.lists l.rows) l.tip chain left stands (R.leaves_lists l.rows left told live since) };
+        (R.heads l.rows) (R.lists l.rows) l.tip chain left stands
+        (R.leaves_lists l.rows left told live since) };
 
     fn height(&self) -> Option<u32> {
         top_of(self.rows.count(Table::Blocks))

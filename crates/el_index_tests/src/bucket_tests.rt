@@ -3,7 +3,7 @@ ghost use Rattle.std.specs.Prelude.{◌≡◌, ◌<◌};
 ghost use Rattle.el_row_formats.specs.RowBytes.{number_limit, link_number};
 
 use crate::failing_rows::FailingRows;
-use crate::fixtures::{full, hash, tx_bytes};
+use crate::fixtures::{full, hash, no_rows, tx_bytes};
 use el_buckets::{Buckets, Found, find, if_below, not_appended, pop, push};
 use el_chain::ConnectFault;
 use el_outside::DiskFailed;
@@ -16,7 +16,7 @@ use std::test::Fail;
 
 // A row's bytes, with that link to the next as it is written: the number and 1, or 0 for none. The link
 // stands at byte 64 of a transaction's, and at byte 32 of a script's.
-fn row_bytes(buckets: Buckets, k: u8, next: u8) -> [u8; 68] {
+fn row_bytes(buckets: Buckets, k: u8, next: u8) -> [u8; 84] {
     match buckets {
         Buckets::Txids => tx_bytes(k, next),
         Buckets::ScriptHashes => {
@@ -32,7 +32,7 @@ fn add_heads(txn: &mut Txn<'_, VecRows>, buckets: Buckets, count: u64) -> Result
     ensures { txn.new.rows.ghost_name ≡ txn.old.rows.ghost_name }
 {
     for _ in 0..count {
-        txn.append(buckets.heads(), &[0; 4])?;
+        txn.append(buckets.heads(), &[0; 8])?;
     }
     Ok(())
 }
@@ -138,7 +138,7 @@ fn pop_all<A: Abort>(rt: &A, txn: &mut Txn<'_, VecRows>, buckets: Buckets)
 }
 
 fn push_and_pop<A: Abort>(rt: &A, alloc: Global, buckets: Buckets) -> Result<(), Fail> {
-    let mut rows = VecRows::new(alloc);
+    let mut rows = no_rows(alloc)?;
     let mut txn = Txn::new(alloc, &mut rows);
     add_heads(&mut txn, buckets, 3)?;
     push_all(rt, &mut txn, buckets);
@@ -149,20 +149,20 @@ fn push_and_pop<A: Abort>(rt: &A, alloc: Global, buckets: Buckets) -> Result<(),
 
 // Rows that stand for nothing: the written links of the rows 0 and 1, of those numbers; the one head; what is
 // found of 0, 1 and 2.
-type Odd = ([u8; 2], [u8; 4], [[u8; 2]; 3]);
+type Odd = ([u8; 2], [u8; 8], [[u8; 2]; 3]);
 
 const ODD: [Odd; 6] = [
     // row 1 links to itself
-    ([0, 2], [2, 0, 0, 0], [[0, 2], [2, 2], [0, 2]]),
+    ([0, 2], [2, 0, 0, 0, 0, 0, 0, 0], [[0, 2], [2, 2], [0, 2]]),
     // the two link to each other
-    ([2, 1], [2, 0, 0, 0], [[1, 2], [2, 2], [0, 2]]),
+    ([2, 1], [2, 0, 0, 0, 0, 0, 0, 0], [[1, 2], [2, 2], [0, 2]]),
     // row 0 links to itself
-    ([1, 1], [2, 0, 0, 0], [[1, 2], [2, 2], [0, 2]]),
+    ([1, 1], [2, 0, 0, 0, 0, 0, 0, 0], [[1, 2], [2, 2], [0, 2]]),
     // row 1 links past the count
-    ([0, 9], [2, 0, 0, 0], [[0, 2], [2, 2], [0, 2]]),
+    ([0, 9], [2, 0, 0, 0, 0, 0, 0, 0], [[0, 2], [2, 2], [0, 2]]),
     // the head is at the count, and past it
-    ([0, 1], [3, 0, 0, 0], [[0, 0], [0, 0], [0, 0]]),
-    ([0, 1], [255; 4], [[0, 0], [0, 0], [0, 0]]),
+    ([0, 1], [3, 0, 0, 0, 0, 0, 0, 0], [[0, 0], [0, 0], [0, 0]]),
+    ([0, 1], [255; 8], [[0, 0], [0, 0], [0, 0]]),
 ];
 
 fn add_row(txn: &mut Txn<'_, VecRows>, buckets: Buckets, k: u8, next: u8) -> Result<(), Fail>
@@ -192,7 +192,7 @@ fn check_links<A: Abort>(
 
 fn check_odd<A: Abort>(rt: &A, alloc: Global, buckets: Buckets) -> Result<(), Fail> {
     for odd in &ODD {
-        let mut rows = VecRows::new(alloc);
+        let mut rows = no_rows(alloc)?;
         let mut txn = Txn::new(alloc, &mut rows);
         check_links(rt, &mut txn, buckets, odd)?;
     }
@@ -205,9 +205,9 @@ fn check_full<A: Abort>(rt: &A, alloc: Global, buckets: Buckets, table: u8) {
     let bytes = row_bytes(buckets, 1, 0);
     let row = &bytes[..buckets.rows().size()];
     assert!(rt; push(&mut txn, buckets, &hash(1), row) == Err(full(table)));
-    let left = txn.count(buckets.rows()).min(4_294_967_294);
+    let left = txn.count(buckets.rows()).min(1_099_511_627_775);
     txn.shrink(buckets.rows(), left);
-    assert!(rt; push(&mut txn, buckets, &hash(1), row) == Ok(4_294_967_294));
+    assert!(rt; push(&mut txn, buckets, &hash(1), row) == Ok(1_099_511_627_775));
     assert!(rt; find(&mut txn, buckets, &hash(2)) == Err(DiskFailed));
 }
 

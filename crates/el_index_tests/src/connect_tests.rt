@@ -73,7 +73,7 @@ fn compare_outs<A: Abort>(rt: &A, txn: &mut Txn<'_, VecRows>) -> Result<(), Fail
 {
     assert!(rt; txn.count(Table::Outs) == 6);
     for (i, want) in OUTS.iter().enumerate() {
-        let row = row_at::<21>(txn, Table::Outs, i as u64)?;
+        let row = row_at::<33>(txn, Table::Outs, i as u64)?;
         let r = OutRow::read(&row);
         assert!(rt; (r.tx, r.value, r.script, r.state) == *want);
     }
@@ -85,7 +85,7 @@ fn compare_txs<A: Abort>(rt: &A, txn: &mut Txn<'_, VecRows>) -> Result<(), Fail>
 {
     assert!(rt; txn.count(Table::Txs) == 5);
     for (i, want) in TXS.iter().enumerate() {
-        let row = row_at::<68>(txn, Table::Txs, i as u64)?;
+        let row = row_at::<84>(txn, Table::Txs, i as u64)?;
         let r = TxRow::read(&row);
         let is = (
             r.height,
@@ -107,7 +107,7 @@ fn compare_entries<A: Abort>(rt: &A, txn: &mut Txn<'_, VecRows>) -> Result<(), F
 {
     assert!(rt; txn.count(Table::Entries) == 6);
     for (i, want) in ENTRIES.iter().enumerate() {
-        let row = row_at::<12>(txn, Table::Entries, i as u64)?;
+        let row = row_at::<24>(txn, Table::Entries, i as u64)?;
         let r = EntryRow::read(&row);
         assert!(rt; (r.tx, r.script, r.before) == *want);
     }
@@ -119,7 +119,7 @@ fn compare_blocks<A: Abort>(rt: &A, txn: &mut Txn<'_, VecRows>) -> Result<(), Fa
 {
     assert!(rt; txn.count(Table::Blocks) == 4);
     for (i, want) in BLOCKS.iter().enumerate() {
-        let row = row_at::<112>(txn, Table::Blocks, i as u64)?;
+        let row = row_at::<116>(txn, Table::Blocks, i as u64)?;
         let r = BlockRow::read(&row);
         assert!(rt; (r.first_tx, r.txs, r.sum) == *want);
         assert!(rt; r.place == PLACE);
@@ -138,7 +138,7 @@ fn has_script(
 ) -> Result<bool, Fail>
     ensures { txn.new.rows.ghost_name ≡ txn.old.rows.ghost_name }
 {
-    let r = ScriptRow::read(&row_at::<52>(txn, Table::Scripts, n)?);
+    let r = ScriptRow::read(&row_at::<64>(txn, Table::Scripts, n)?);
     let script = locking_script(alloc, made)?;
     let hash = sha256(script.as_slice());
     Ok(r.script == hash && (r.last, r.entries, r.balance) == wanted)
@@ -150,7 +150,7 @@ fn compare_scripts<A: Abort>(rt: &A, alloc: Global, txn: &mut Txn<'_, VecRows>) 
 {
     let counts = [txn.count(Table::Ins), txn.count(Table::Scripts)];
     assert!(rt; counts == [1, 2]);
-    let input = InRow::read(&row_at::<4>(txn, Table::Ins, 0)?);
+    let input = InRow::read(&row_at::<8>(txn, Table::Ins, 0)?);
     assert!(rt; input.out == 0);
     let first = (Some(5), 5, 12_500_000_000);
     assert!(rt; has_script(alloc, txn, 0, 101, first)?);
@@ -173,7 +173,7 @@ fn compare<A: Abort>(rt: &A, alloc: Global, txn: &mut Txn<'_, VecRows>) -> Resul
 }
 
 fn small_chain<A: Abort>(rt: &A, alloc: Global) -> Result<(), Fail> {
-    let mut rows = VecRows::new(alloc);
+    let mut rows = VecRows::new(alloc, 16)?;
     let mut txn = Txn::new(alloc, &mut rows);
     put_chain(rt, alloc, &mut txn)?;
     compare(rt, alloc, &mut txn)
@@ -181,7 +181,7 @@ fn small_chain<A: Abort>(rt: &A, alloc: Global) -> Result<(), Fail> {
 
 // Rows with the first block.
 fn first_rows(alloc: Global) -> Result<VecRows, Fail> {
-    let mut rows = VecRows::new(alloc);
+    let mut rows = VecRows::new(alloc, 16)?;
     let mut txn = Txn::new(alloc, &mut rows);
     let _ = put_coinbase(alloc, &mut txn, 0, 0)?;
     let sealed = txn.seal()?;

@@ -8,15 +8,53 @@ use el_outside::DiskFailed;
 use el_row_formats::{TABLES, Table};
 use el_rows::{CommitFault, Rows, Sealed};
 
-// The most rows that a table may have.
-const LIMIT: u64 = 4_294_967_295;
+// The most rows that each table may have.
+const LIMITS: [u64; TABLES] = [
+    4_294_967_295,
+    1_099_511_627_776,
+    1_099_511_627_776,
+    1_099_511_627_776,
+    1_099_511_627_776,
+    1_099_511_627_776,
+    1_099_511_627_776,
+    1_099_511_627_776,
+];
+
+// Where a row of the table has its numbers of rows, each of eight bytes.
+fn numbers_of(t: Table) -> &'static [usize] {
+    match t {
+        Table::Blocks => &[],
+        Table::Txs => &[44, 56, 68, 76],
+        Table::TxHeads | Table::Ins | Table::ScriptHeads => &[0],
+        Table::Outs => &[0, 16],
+        Table::Scripts => &[32, 40, 48],
+        Table::Entries => &[0, 8, 16],
+    }
+}
+
+// Makes the upper half of a number of eight bytes 0.
+fn clear_upper(buf: &mut [u8], at: usize) {
+    for i in at.saturating_add(4)..at.saturating_add(8) {
+        if let Some(byte) = buf.get_mut(i) {
+            *byte = 0;
+        }
+    }
+}
+
+// A row of that byte alone, but for the upper halves of its numbers of rows: no table has so many.
+fn fill_row(t: Table, byte: u8, buf: &mut [u8]) {
+    buf.fill(byte);
+    for at in numbers_of(t) {
+        clear_upper(buf, *at);
+    }
+}
 
 /// Rows that a test makes up. They are kept nowhere.
 #[derive(Drop)]
 pub struct FailingRows {
     /// How many rows each table has.
     pub counts: [u64; TABLES],
-    /// Of which byte alone each table's rows are, but for those of blocks.
+    /// Of which byte each table's rows are, but for those of blocks, and for the upper halves of numbers of rows.
     pub bytes: [u8; TABLES],
     /// What all coins hold after each block. Each other field of a block is 0.
     pub sum: u64,
@@ -32,7 +70,7 @@ impl FailingRows {
     /// All tables are full of zeros.
     pub fn full(left: u64) -> FailingRows {
         FailingRows {
-            counts: [LIMIT; TABLES],
+            counts: LIMITS,
             bytes: [0; TABLES],
             sum: 0,
             left,
@@ -70,8 +108,8 @@ impl FailingRows {
     /// The table of that number has room for so many rows more.
     pub fn with_room(mut self, table: u8, left: u64) -> FailingRows {
         let place = usize::from(table).wrapping_sub(1);
-        if let Some(count) = self.counts.get_mut(place) {
-            *count = LIMIT.saturating_sub(left);
+        if let (Some(count), Some(most)) = (self.counts.get_mut(place), LIMITS.get(place)) {
+            *count = most.saturating_sub(left);
         }
         self
     }
@@ -86,6 +124,8 @@ impl Rows for FailingRows {
 
     ghost counts = { λ s t. min (get_or s.counts (index_of t) 0) (limit_of t) };
 
+    ghost heads = { λ s. 0 };
+
     ghost is_live = { λ s. Unit {0} };
 
     ghost moment = { λ s. 0 };
@@ -94,7 +134,7 @@ impl Rows for FailingRows {
 
     ghost Left = { Unit {0} };
 
-    ghost shows = { λ c lists. ⊥ };
+    ghost shows = { λ c heads lists. ⊥ };
 
     ghost left_since = { λ s t c. ⊥ };
 
@@ -141,7 +181,7 @@ impl Rows for FailingRows {
         self.left -= 1;
         match t {
             Table::Blocks => block_row(0, 0, self.sum).write(buf),
-            _ => buf.fill(self.bytes[usize::from(t.number()) - 1]),
+            _ => fill_row(t, self.bytes[usize::from(t.number()) - 1], buf),
         }
         Ok(())
     }

@@ -5,12 +5,13 @@ ghost use Rattle.el_row_formats.specs.RowBytes.{number_limit, FitsBlockRow, Fits
 use el_base::Hash32;
 use el_chain::ConnectFault;
 use el_outside::Place;
-use el_row_formats::{BlockRow, Table, TxRow};
+use el_row_formats::{BlockRow, TABLES, Table, TxRow};
 use el_rows::{Rows, Txn};
 use el_script::touch;
 use el_spend::{add_out, spend};
 use el_tx::Outpoint;
 use el_vec_rows::VecRows;
+use std::alloc::Global;
 use std::test::Fail;
 
 /// The hash of a number. With so many heads, its bucket is its number modulo theirs.
@@ -68,20 +69,35 @@ pub fn block_row(first_tx: u64, txs: u32, sum: u64) -> BlockRow
 
 /// The bytes of a transaction's row, with that link to the next as it is written: the number and 1, or 0 for
 /// none. Its other fields are 0.
-pub fn tx_bytes(k: u8, next: u8) -> [u8; 68] {
-    let mut row = [0; 68];
+pub fn tx_bytes(k: u8, next: u8) -> [u8; 84] {
+    let mut row = [0; 84];
     row[0] = k;
     row[31] = 9;
-    row[64] = next;
+    row[76] = next;
     row
+}
+
+/// The most rows of the table of that number.
+pub fn most(table: u8) -> u64 {
+    match table {
+        1 => 4_294_967_295,
+        _ => 1_099_511_627_776,
+    }
 }
 
 /// The table of that number is full.
 pub fn full(table: u8) -> ConnectFault {
     ConnectFault::Full {
         table,
-        rows: 4_294_967_295,
+        rows: most(table),
     }
+}
+
+/// A store without rows, and without heads too.
+pub fn no_rows(alloc: Global) -> Result<VecRows, Fail> {
+    let mut rows = VecRows::new(alloc, 16)?;
+    rows.resize(&[0; TABLES])?;
+    Ok(rows)
 }
 
 /// The bytes of the row of that number, which the table has.
@@ -105,7 +121,7 @@ pub fn add_block<R: Rows>(txn: &mut Txn<'_, R>, row: &BlockRow) -> Result<(), Fa
     requires { FitsBlockRow row.now }
     ensures { txn.new.rows.ghost_name ≡ txn.old.rows.ghost_name }
 {
-    let mut bytes = [0; 112];
+    let mut bytes = [0; 116];
     row.write(&mut bytes);
     txn.append(Table::Blocks, &bytes)?;
     Ok(())
@@ -116,8 +132,8 @@ pub fn add_heads<R: Rows>(txn: &mut Txn<'_, R>, count: u64) -> Result<(), Fail>
     ensures { txn.new.rows.ghost_name ≡ txn.old.rows.ghost_name }
 {
     for _ in 0..count {
-        txn.append(Table::TxHeads, &[0; 4])?;
-        txn.append(Table::ScriptHeads, &[0; 4])?;
+        txn.append(Table::TxHeads, &[0; 8])?;
+        txn.append(Table::ScriptHeads, &[0; 8])?;
     }
     Ok(())
 }

@@ -4,7 +4,7 @@ ghost use Rattle.std.specs.Prelude.{◌≡◌, ◌<◌};
 ghost use Rattle.el_row_formats.specs.RowBytes.{number_limit};
 
 use crate::failing_rows::FailingRows;
-use crate::fixtures::{add_heads, fund, hash, outpoint, take, tx_row};
+use crate::fixtures::{add_heads, fund, hash, no_rows, outpoint, take, tx_row};
 use el_base::Hash32;
 use el_chain::{Coin, Entry};
 use el_model::QueryFault;
@@ -146,7 +146,7 @@ fn compare_all<A: Abort>(rt: &A, alloc: Global, txn: &mut Txn<'_, VecRows>) -> R
 }
 
 fn by_hand<A: Abort>(rt: &A, alloc: Global) -> Result<(), Fail> {
-    let mut rows = VecRows::new(alloc);
+    let mut rows = no_rows(alloc)?;
     let mut txn = Txn::new(alloc, &mut rows);
     // where there is nothing, nothing is found
     compare(rt, alloc, &mut txn, &none_of(1))?;
@@ -169,8 +169,8 @@ fn add_rounds<R: Rows>(txn: &mut Txn<'_, R>, tx: u64) -> Result<(), Fail>
     requires few { tx < number_limit }
     ensures { txn.new.rows.ghost_name ≡ txn.old.rows.ghost_name }
 {
-    txn.append(Table::ScriptHeads, &[1, 0, 0, 0])?;
-    let mut bytes = [0; 52];
+    txn.append(Table::ScriptHeads, &[1, 0, 0, 0, 0, 0, 0, 0])?;
+    let mut bytes = [0; 64];
     let row = ScriptRow {
         script: hash(1),
         next: Some(0),
@@ -180,7 +180,7 @@ fn add_rounds<R: Rows>(txn: &mut Txn<'_, R>, tx: u64) -> Result<(), Fail>
     };
     row.write(&mut bytes);
     txn.append(Table::Scripts, &bytes)?;
-    let mut bytes = [0; 12];
+    let mut bytes = [0; 24];
     let row = EntryRow {
         tx,
         script: 0,
@@ -211,11 +211,11 @@ fn compare_both<A: Abort>(
 
 // The entry's transaction isn't there, and then it is, but its outputs aren't.
 fn no_chain<A: Abort>(rt: &A, alloc: Global) -> Result<(), Fail> {
-    let mut rows = VecRows::new(alloc);
+    let mut rows = no_rows(alloc)?;
     let mut txn = Txn::new(alloc, &mut rows);
     add_rounds(&mut txn, 0)?;
     compare_both(rt, alloc, &mut txn, &[])?;
-    let mut bytes = [0; 68];
+    let mut bytes = [0; 84];
     tx_row(7, 4, 81, 6, 9).write(&mut bytes);
     txn.append(Table::Txs, &bytes)?;
     compare_both(rt, alloc, &mut txn, &[entry(4, 7)])

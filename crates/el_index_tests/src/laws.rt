@@ -4,8 +4,8 @@ use el_queries::{
     scripts_of_lists_are_those_of_outputs,
 };
 use el_schema::{
-    heads_are_there_from_the_first_block_on, rows_of_one_chain_are_equal,
-    rows_that_stand_hold_the_lists, same_rows_stand,
+    first_rows_stand, heads_are_there, rows_of_one_chain_are_equal, rows_that_stand_hold_the_lists,
+    same_rows_stand,
 };
 use el_tables::{
     a_block_connects, a_block_disconnects, a_block_has_its_row, a_good_chain_has_tables,
@@ -46,7 +46,8 @@ fn laws_of_rows_do_nothing() {
     rows_that_stand_hold_the_lists();
     rows_of_one_chain_are_equal();
     same_rows_stand();
-    heads_are_there_from_the_first_block_on();
+    heads_are_there();
+    first_rows_stand();
 }
 
 #[test]

@@ -4,7 +4,7 @@ ghost use Rattle.std.specs.Prelude.{◌≡◌, ◌<◌, IfOk};
 ghost use Rattle.el_row_formats.specs.RowBytes.{number_limit, FitsBlockRow, state_by};
 
 use crate::failing_rows::FailingRows;
-use crate::fixtures::{add_block, add_heads, block_row, hash, outpoint, tx_row};
+use crate::fixtures::{add_block, add_heads, block_row, hash, no_rows, outpoint, tx_row};
 use el_base::Hash32;
 use el_chain::{Coin, Entry, Spot};
 use el_gen::{BLOCK_1_HASH, GENESIS_HASH, HEADER_0, HEADER_1};
@@ -67,7 +67,7 @@ fn add_script(txn: &mut Txn<'_, VecRows>, k: u8) -> Result<(), Fail>
         entries: 0,
         balance: 0,
     };
-    let mut bytes = [0; 52];
+    let mut bytes = [0; 64];
     row.write(&mut bytes);
     txn.append(Table::Scripts, &bytes)?;
     Ok(())
@@ -253,7 +253,7 @@ fn find_nothing<A: Abort>(rt: &A, txn: &mut Txn<'_, VecRows>)
 }
 
 fn look_up<A: Abort>(rt: &A, alloc: Global) -> Result<(), Fail> {
-    let mut rows = VecRows::new(alloc);
+    let mut rows = no_rows(alloc)?;
     let mut txn = Txn::new(alloc, &mut rows);
     find_nothing(rt, &mut txn);
     fill(rt, &mut txn)?;
@@ -293,11 +293,11 @@ fn state(spent: bool) -> State
 fn add_odd(txn: &mut Txn<'_, VecRows>, odd: &Odd) -> Result<(), Fail>
     ensures { txn.new.rows.ghost_name ≡ txn.old.rows.ghost_name }
 {
-    txn.append(Table::TxHeads, &[1, 0, 0, 0])?;
+    txn.append(Table::TxHeads, &[1, 0, 0, 0, 0, 0, 0, 0])?;
     add_script(txn, 100)?;
     let row = block(0, u64::from(odd.0.0), odd.0.1)?;
     add_block(txn, &row)?;
-    let mut bytes = [0; 68];
+    let mut bytes = [0; 84];
     tx_row(1, odd.1, 81, 0, 1).write(&mut bytes);
     txn.append(Table::Txs, &bytes)?;
     add_odd_output(txn, odd.2)
@@ -312,7 +312,7 @@ fn add_odd_output(txn: &mut Txn<'_, VecRows>, odd: (u32, u32, bool)) -> Result<(
         script: u64::from(odd.1),
         state: state(odd.2),
     };
-    let mut bytes = [0; 21];
+    let mut bytes = [0; 33];
     row.write(&mut bytes);
     txn.append(Table::Outs, &bytes)?;
     Ok(())
@@ -340,7 +340,7 @@ fn check_found<A: Abort>(
 }
 
 fn check_odd<A: Abort>(rt: &A, alloc: Global, odd: &Odd) -> Result<(), Fail> {
-    let mut rows = VecRows::new(alloc);
+    let mut rows = no_rows(alloc)?;
     let mut txn = Txn::new(alloc, &mut rows);
     add_odd(&mut txn, odd)?;
     assert!(rt; txn.count(Table::Blocks) == 1);

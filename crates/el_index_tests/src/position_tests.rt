@@ -3,7 +3,7 @@ ghost use Rattle.std.specs.Prelude.{◌≡◌, ◌<◌, ◌+◌, max, min, refl}
 ghost use Rattle.el_row_formats.specs.RowBytes.{number_limit, link_number, FitsTxRow};
 
 use crate::failing_rows::FailingRows;
-use crate::fixtures::{add_heads, full, hash, tx_bytes};
+use crate::fixtures::{add_heads, full, hash, no_rows, tx_bytes};
 use el_chain::ConnectFault;
 use el_outside::DiskFailed;
 use el_position::{add_tx, newest, take_back_tx};
@@ -15,7 +15,7 @@ use std::process::Abort;
 use std::test::Fail;
 
 // Links that are set by the call.
-const LINK: Option<u64> = Some(4_294_967_294);
+const LINK: Option<u64> = Some(18_446_744_073_709_551_614);
 
 fn tx(k: u8, next: Option<u64>) -> TxRow
     requires { link_number next < number_limit }
@@ -26,7 +26,7 @@ fn tx(k: u8, next: Option<u64>) -> TxRow
         height: 4_294_967_295,
         start: 81,
         len: 60,
-        first_out: 4_294_967_295,
+        first_out: 18_446_744_073_709_551_615,
         outs: 1,
         first_in: 3,
         ins: 2,
@@ -85,7 +85,7 @@ fn take_back_long<A: Abort>(rt: &A, txn: &mut Txn<'_, VecRows>, list: &mut Vec<u
 }
 
 fn long_run<A: Abort>(rt: &A, alloc: Global) -> Result<(), Fail> {
-    let mut rows = VecRows::new(alloc);
+    let mut rows = no_rows(alloc)?;
     let mut txn = Txn::new(alloc, &mut rows);
     add_heads(&mut txn, 7)?;
     let mut list = Vec::new(alloc);
@@ -96,30 +96,45 @@ fn long_run<A: Abort>(rt: &A, alloc: Global) -> Result<(), Fail> {
 
 // Rows that stand for nothing: the written links of the rows 0 and 1, of those numbers; the one head; the
 // newest of 0, 1 and 2, and those of 0 and 1 after one is taken back.
-type Odd = ([u8; 2], [u8; 4], [Option<u64>; 3], [Option<u64>; 2]);
+type Odd = ([u8; 2], [u8; 8], [Option<u64>; 3], [Option<u64>; 2]);
 
 const ODD: [Odd; 6] = [
     // row 1 links to itself
-    ([0, 2], [2, 0, 0, 0], [None, Some(1), None], [None, None]),
+    (
+        [0, 2],
+        [2, 0, 0, 0, 0, 0, 0, 0],
+        [None, Some(1), None],
+        [None, None],
+    ),
     // the two link to each other
     (
         [2, 1],
-        [2, 0, 0, 0],
+        [2, 0, 0, 0, 0, 0, 0, 0],
         [Some(0), Some(1), None],
         [Some(0), None],
     ),
     // row 0 links to itself
     (
         [1, 1],
-        [2, 0, 0, 0],
+        [2, 0, 0, 0, 0, 0, 0, 0],
         [Some(0), Some(1), None],
         [Some(0), None],
     ),
     // row 1 links past the count
-    ([0, 9], [2, 0, 0, 0], [None, Some(1), None], [None, None]),
+    (
+        [0, 9],
+        [2, 0, 0, 0, 0, 0, 0, 0],
+        [None, Some(1), None],
+        [None, None],
+    ),
     // the head is at the count, and past it
-    ([0, 1], [3, 0, 0, 0], [None, None, None], [Some(0), None]),
-    ([0, 1], [255; 4], [None, None, None], [Some(0), None]),
+    (
+        [0, 1],
+        [3, 0, 0, 0, 0, 0, 0, 0],
+        [None, None, None],
+        [Some(0), None],
+    ),
+    ([0, 1], [255; 8], [None, None, None], [Some(0), None]),
 ];
 
 // Whether the newest transactions of 0, 1 and so on are these.
@@ -146,7 +161,7 @@ fn add_odd(txn: &mut Txn<'_, VecRows>, odd: &Odd) -> Result<(), Fail>
 }
 
 fn check_odd<A: Abort>(rt: &A, alloc: Global, odd: &Odd) -> Result<(), Fail> {
-    let mut rows = VecRows::new(alloc);
+    let mut rows = no_rows(alloc)?;
     let mut txn = Txn::new(alloc, &mut rows);
     add_odd(&mut txn, odd)?;
     assert!(rt; are_newest(&mut txn, &odd.2));
@@ -163,7 +178,7 @@ fn odd_rows<A: Abort>(rt: &A, alloc: Global) -> Result<(), Fail> {
 }
 
 fn no_heads<A: Abort>(rt: &A, alloc: Global) -> Result<(), Fail> {
-    let mut rows = VecRows::new(alloc);
+    let mut rows = no_rows(alloc)?;
     let mut txn = Txn::new(alloc, &mut rows);
     assert!(rt; add_tx(&mut txn, &tx(5, None)) == Ok(0));
     assert!(rt; newest(&mut txn, &hash(5)) == Ok(None));
@@ -179,7 +194,7 @@ fn at_the_limit<A: Abort>(rt: &A, alloc: Global) -> Result<(), Fail> {
     let mut txn = Txn::new(alloc, &mut rows);
     assert!(rt; add_tx(&mut txn, &tx(1, None)) == Err(full(2)));
     assert!(rt; take_back_tx(&mut txn) == Ok(()));
-    assert!(rt; add_tx(&mut txn, &tx(1, None)) == Ok(4_294_967_294));
+    assert!(rt; add_tx(&mut txn, &tx(1, None)) == Ok(1_099_511_627_775));
     Ok(())
 }
 
@@ -190,7 +205,7 @@ fn failing<A: Abort>(rt: &A, alloc: Global) -> Result<(), Fail> {
     assert!(rt; newest(&mut txn, &hash(1)) == Err(DiskFailed));
     assert!(rt; add_tx(&mut txn, &tx(1, None)) == Err(fault));
     assert!(rt; take_back_tx(&mut txn) == Err(fault));
-    assert!(rt; txn.count(Table::Txs) == 4_294_967_295);
+    assert!(rt; txn.count(Table::Txs) == 1_099_511_627_776);
     Ok(())
 }
 

@@ -2,7 +2,7 @@
 ghost use Rattle.std.specs.Prelude.{◌≡◌, max, min};
 
 use crate::failing_rows::FailingRows;
-use crate::fixtures::{add_heads, full, hash, row_at};
+use crate::fixtures::{add_heads, full, hash, no_rows, row_at};
 use el_base::Hash32;
 use el_chain::ConnectFault;
 use el_outside::DiskFailed;
@@ -35,7 +35,7 @@ fn has(
     if n >= txn.count(Table::Scripts) {
         return Ok(wanted.is_none());
     }
-    let row = ScriptRow::read(&row_at::<52>(txn, Table::Scripts, n)?);
+    let row = ScriptRow::read(&row_at::<64>(txn, Table::Scripts, n)?);
     Ok(wanted == Some((row.next, row.last, row.entries)))
 }
 
@@ -43,7 +43,7 @@ fn has(
 fn has_entry(txn: &mut Txn<'_, VecRows>, n: u64, wanted: Entry) -> Result<bool, Fail>
     ensures { txn.new.rows.ghost_name ≡ txn.old.rows.ghost_name }
 {
-    let row = EntryRow::read(&row_at::<12>(txn, Table::Entries, n)?);
+    let row = EntryRow::read(&row_at::<24>(txn, Table::Entries, n)?);
     Ok((row.tx, row.script, row.before) == wanted)
 }
 
@@ -156,7 +156,7 @@ fn take_back_all<A: Abort>(rt: &A, txn: &mut Txn<'_, VecRows>) -> Result<(), Fai
 }
 
 fn touch_and_back<A: Abort>(rt: &A, alloc: Global, by_number: bool) -> Result<(), Fail> {
-    let mut rows = VecRows::new(alloc);
+    let mut rows = no_rows(alloc)?;
     let mut txn = Txn::new(alloc, &mut rows);
     add_heads(&mut txn, 2)?;
     touch_all(rt, &mut txn, by_number)?;
@@ -251,7 +251,7 @@ fn take_back_long<A: Abort>(rt: &A, txn: &mut Txn<'_, VecRows>, plain: &mut Plai
 }
 
 fn long_run<A: Abort>(rt: &A, alloc: Global) -> Result<(), Fail> {
-    let mut rows = VecRows::new(alloc);
+    let mut rows = no_rows(alloc)?;
     let mut txn = Txn::new(alloc, &mut rows);
     add_heads(&mut txn, 7)?;
     let mut plain = Plain {
@@ -266,7 +266,7 @@ fn long_run<A: Abort>(rt: &A, alloc: Global) -> Result<(), Fail> {
 
 // Rows that stand for nothing, as they are written: a link is the number and 1, or 0 for none. The rows of
 // the scripts 0 and 1 (next, last, entries), the one head, and two entries (transaction, script, before).
-type Odd = ([(u8, u8, u32); 2], u8, [(u8, u8, u8); 2]);
+type Odd = ([(u8, u8, u64); 2], u8, [(u8, u8, u8); 2]);
 
 // What follows: the numbers of the scripts 0 and 1; then script 1 is touched by transaction 5, and there is
 // its number, its row, the last entry, and how many scripts and entries there are; then these counts after a
@@ -325,40 +325,31 @@ const ODD: [(Odd, Answers); 6] = [
     ),
     // the count is the greatest
     (
-        (
-            [(0, 1, 1), (1, 2, 4_294_967_295)],
-            2,
-            [(0, 0, 0), (4, 1, 0)],
-        ),
+        ([(0, 1, 1), (1, 2, u64::MAX)], 2, [(0, 0, 0), (4, 1, 0)]),
         (
             [Some(0), Some(1)],
-            (
-                1,
-                (Some(0), Some(2), 4_294_967_295),
-                (5, 1, Some(1)),
-                [2, 3],
-            ),
-            ([2, 2], Some((Some(0), Some(1), 4_294_967_294))),
+            (1, (Some(0), Some(2), u64::MAX), (5, 1, Some(1)), [2, 3]),
+            ([2, 2], Some((Some(0), Some(1), u64::MAX - 1))),
         ),
     ),
 ];
 
-fn script_bytes(k: u8, row: (u8, u8, u32)) -> [u8; 52] {
-    let [a, b, c, d] = row.2.to_le_bytes();
-    let mut bytes = [0; 52];
+fn script_bytes(k: u8, row: (u8, u8, u64)) -> [u8; 64] {
+    let mut bytes = [0; 64];
     bytes[0] = k;
     bytes[31] = 9;
     bytes[32] = row.0;
-    bytes[36] = row.1;
-    bytes[40] = a;
-    bytes[41] = b;
-    bytes[42] = c;
-    bytes[43] = d;
+    bytes[40] = row.1;
+    bytes[48..56].copy_from_slice(&row.2.to_le_bytes());
     bytes
 }
 
-fn entry_bytes(row: (u8, u8, u8)) -> [u8; 12] {
-    [row.0, 0, 0, 0, row.1, 0, 0, 0, row.2, 0, 0, 0]
+fn entry_bytes(row: (u8, u8, u8)) -> [u8; 24] {
+    let mut bytes = [0; 24];
+    bytes[0] = row.0;
+    bytes[8] = row.1;
+    bytes[16] = row.2;
+    bytes
 }
 
 fn add_odd(txn: &mut Txn<'_, VecRows>, odd: &Odd) -> Result<(), Fail>
@@ -366,7 +357,7 @@ fn add_odd(txn: &mut Txn<'_, VecRows>, odd: &Odd) -> Result<(), Fail>
 {
     txn.append(Table::Scripts, &script_bytes(0, odd.0[0]))?;
     txn.append(Table::Scripts, &script_bytes(1, odd.0[1]))?;
-    txn.append(Table::ScriptHeads, &[odd.1, 0, 0, 0])?;
+    txn.append(Table::ScriptHeads, &[odd.1, 0, 0, 0, 0, 0, 0, 0])?;
     txn.append(Table::Entries, &entry_bytes(odd.2[0]))?;
     txn.append(Table::Entries, &entry_bytes(odd.2[1]))?;
     Ok(())
@@ -409,7 +400,7 @@ fn check_odd<A: Abort>(
     answers: &Answers,
     by_number: bool,
 ) -> Result<(), Fail> {
-    let mut rows = VecRows::new(alloc);
+    let mut rows = no_rows(alloc)?;
     let mut txn = Txn::new(alloc, &mut rows);
     add_odd(&mut txn, odd)?;
     assert!(rt; are_found(&mut txn, 0, &answers.0));
@@ -427,7 +418,7 @@ fn odd_rows<A: Abort>(rt: &A, alloc: Global) -> Result<(), Fail> {
 
 // Where there are no heads no script is found, and each touch adds one.
 fn no_heads<A: Abort>(rt: &A, alloc: Global) -> Result<(), Fail> {
-    let mut rows = VecRows::new(alloc);
+    let mut rows = no_rows(alloc)?;
     let mut txn = Txn::new(alloc, &mut rows);
     for number in 0..2 {
         assert!(rt; touch(&mut txn, &hash(5), 0) == Ok(number));
@@ -448,8 +439,8 @@ fn at_the_limit<A: Abort>(rt: &A, alloc: Global) -> Result<(), Fail> {
     assert!(rt; 7 < txn.count(Table::Scripts));
     assert!(rt; touch_number(&mut txn, 7, 5) == Err(full(8)));
     assert!(rt; take_back_entry(&mut txn) == Ok(()));
-    assert!(rt; touch(&mut txn, &script, 5) == Ok(4_294_967_294));
-    let left = txn.count(Table::Scripts).min(4_294_967_294);
+    assert!(rt; touch(&mut txn, &script, 5) == Ok(1_099_511_627_775));
+    let left = txn.count(Table::Scripts).min(1_099_511_627_775);
     txn.shrink(Table::Scripts, left);
     assert!(rt; touch(&mut txn, &script, 5) == Err(full(8)));
     Ok(())
@@ -465,7 +456,7 @@ fn failing<A: Abort>(rt: &A, alloc: Global) -> Result<(), Fail> {
     assert!(rt; 7 < txn.count(Table::Scripts));
     assert!(rt; touch_number(&mut txn, 7, 5) == Err(fault));
     assert!(rt; take_back_entry(&mut txn) == Err(fault));
-    assert!(rt; txn.count(Table::Entries) == 4_294_967_295);
+    assert!(rt; txn.count(Table::Entries) == 1_099_511_627_776);
     Ok(())
 }
 

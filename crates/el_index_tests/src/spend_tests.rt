@@ -3,7 +3,7 @@
 ghost use Rattle.std.specs.Prelude.{◌≡◌, ◌+◌, refl};
 
 use crate::failing_rows::FailingRows;
-use crate::fixtures::{add_heads, full, outpoint, row_at, tx_bytes, tx_row};
+use crate::fixtures::{add_heads, full, no_rows, outpoint, row_at, tx_bytes, tx_row};
 use el_base::Hash32;
 use el_chain::ConnectFault;
 use el_outside::DiskFailed;
@@ -23,7 +23,7 @@ fn begin<R: Rows>(txn: &mut Txn<'_, R>) -> Result<(), Fail>
 {
     add_heads(txn, 7)?;
     for _ in 0..3 {
-        txn.append(Table::Scripts, &[0; 52])?;
+        txn.append(Table::Scripts, &[0; 64])?;
     }
     Ok(())
 }
@@ -124,7 +124,7 @@ fn plain_balance(plain: &Plain, script: u64) -> u64 {
 fn out_at(txn: &mut Txn<'_, VecRows>, n: u64) -> Result<OutRow, Fail>
     ensures { txn.new.rows.ghost_name ≡ txn.old.rows.ghost_name }
 {
-    Ok(OutRow::read(&row_at::<21>(txn, Table::Outs, n)?))
+    Ok(OutRow::read(&row_at::<33>(txn, Table::Outs, n)?))
 }
 
 // Whether the outputs are those of the list.
@@ -144,7 +144,7 @@ fn has_ins(txn: &mut Txn<'_, VecRows>, wanted: &[u64]) -> Result<bool, Fail>
 {
     let mut same = txn.count(Table::Ins) == wanted.len() as u64;
     for (i, out) in wanted.iter().enumerate() {
-        let row = InRow::read(&row_at::<4>(txn, Table::Ins, i as u64)?);
+        let row = InRow::read(&row_at::<8>(txn, Table::Ins, i as u64)?);
         same = same && row.out == *out;
     }
     Ok(same)
@@ -154,7 +154,7 @@ fn has_ins(txn: &mut Txn<'_, VecRows>, wanted: &[u64]) -> Result<bool, Fail>
 fn balance(txn: &mut Txn<'_, VecRows>, script: u64) -> Result<u64, Fail>
     ensures { txn.new.rows.ghost_name ≡ txn.old.rows.ghost_name }
 {
-    Ok(ScriptRow::read(&row_at::<52>(txn, Table::Scripts, script)?).balance)
+    Ok(ScriptRow::read(&row_at::<64>(txn, Table::Scripts, script)?).balance)
 }
 
 // The balances of the three scripts.
@@ -297,7 +297,7 @@ fn take_long<A: Abort>(
 }
 
 fn long_run<A: Abort>(rt: &A, alloc: Global) -> Result<(), Fail> {
-    let mut rows = VecRows::new(alloc);
+    let mut rows = no_rows(alloc)?;
     let mut txn = Txn::new(alloc, &mut rows);
     begin(&mut txn)?;
     let mut done = Vec::new(alloc);
@@ -462,7 +462,7 @@ fn check_after<A: Abort>(
 }
 
 fn check_case<A: Abort>(rt: &A, alloc: Global, case: &Case) -> Result<(), Fail> {
-    let mut rows = VecRows::new(alloc);
+    let mut rows = no_rows(alloc)?;
     let mut txn = Txn::new(alloc, &mut rows);
     begin(&mut txn)?;
     let mut done = Vec::new(alloc);
@@ -483,19 +483,19 @@ fn check_cases<A: Abort>(rt: &A, alloc: Global) -> Result<(), Fail> {
 
 // The row of an output of transaction 0 and script 0, with that value, and that state and transaction as they
 // are written.
-fn out_bytes(value: u64, state: u8, by: u8) -> [u8; 21] {
-    let mut row = [0; 21];
-    row[4..12].copy_from_slice(&value.to_le_bytes());
-    row[16] = state;
-    row[17] = by;
+fn out_bytes(value: u64, state: u8, by: u8) -> [u8; 33] {
+    let mut row = [0; 33];
+    row[8..16].copy_from_slice(&value.to_le_bytes());
+    row[24] = state;
+    row[25] = by;
     row
 }
 
 // A transaction with one output, the first, and a link to an older one as it is written.
-fn linked_bytes(k: u8, older: u8, next: u8) -> [u8; 68] {
+fn linked_bytes(k: u8, older: u8, next: u8) -> [u8; 84] {
     let mut row = tx_bytes(k, next);
-    row[48] = 1;
-    row[60] = older;
+    row[52] = 1;
+    row[68] = older;
     row
 }
 
@@ -519,7 +519,7 @@ const ODD: [Odd; 6] = [
 fn add_odd(txn: &mut Txn<'_, VecRows>, odd: &Odd) -> Result<(), Fail>
     ensures { txn.new.rows.ghost_name ≡ txn.old.rows.ghost_name }
 {
-    txn.append(Table::TxHeads, &[2, 0, 0, 0])?;
+    txn.append(Table::TxHeads, &[2, 0, 0, 0, 0, 0, 0, 0])?;
     txn.append(Table::Txs, &linked_bytes(0, odd.0[0], 0))?;
     txn.append(Table::Txs, &linked_bytes(1, odd.0[1], 1))?;
     let (state, by) = odd.1;
@@ -537,7 +537,7 @@ fn check_spent<A: Abort>(rt: &A, txn: &mut Txn<'_, VecRows>, odd: &Odd) -> Resul
         None => None,
     };
     assert!(rt; state == odd.3);
-    txn.append(Table::Scripts, &[0; 52])?;
+    txn.append(Table::Scripts, &[0; 64])?;
     let spent = match odd.3 {
         Some(State::Unspent) => Some(0),
         _ => None,
@@ -548,7 +548,7 @@ fn check_spent<A: Abort>(rt: &A, txn: &mut Txn<'_, VecRows>, odd: &Odd) -> Resul
 }
 
 fn check_odd<A: Abort>(rt: &A, alloc: Global, odd: &Odd) -> Result<(), Fail> {
-    let mut rows = VecRows::new(alloc);
+    let mut rows = no_rows(alloc)?;
     let mut txn = Txn::new(alloc, &mut rows);
     add_odd(&mut txn, odd)?;
     check_spent(rt, &mut txn, odd)
@@ -580,8 +580,8 @@ fn begin_with(txn: &mut Txn<'_, VecRows>, sum: u64) -> Result<(), Fail>
     if txn.count(Table::Scripts) != 3 {
         return Err(Fail::new("not three scripts"));
     }
-    let mut row = [0; 52];
-    row[44..52].copy_from_slice(&sum.to_le_bytes());
+    let mut row = [0; 64];
+    row[56..64].copy_from_slice(&sum.to_le_bytes());
     txn.put(Table::Scripts, 0, &row)?;
     Ok(())
 }
@@ -611,7 +611,7 @@ fn check_taken_back<A: Abort>(rt: &A, txn: &mut Txn<'_, VecRows>, sums: &Sums) -
 }
 
 fn check_sums<A: Abort>(rt: &A, alloc: Global, sums: &Sums) -> Result<(), Fail> {
-    let mut rows = VecRows::new(alloc);
+    let mut rows = no_rows(alloc)?;
     let mut txn = Txn::new(alloc, &mut rows);
     begin_with(&mut txn, sums.0)?;
     check_added(rt, &mut txn, sums)?;
@@ -629,12 +629,13 @@ fn odd_rows<A: Abort>(rt: &A, alloc: Global) -> Result<(), Fail> {
 }
 
 // Where there is nothing nothing is found, and nothing is taken back.
-fn on_nothing<A: Abort>(rt: &A, alloc: Global) {
-    let mut rows = VecRows::new(alloc);
+fn on_nothing<A: Abort>(rt: &A, alloc: Global) -> Result<(), Fail> {
+    let mut rows = no_rows(alloc)?;
     let mut txn = Txn::new(alloc, &mut rows);
     assert!(rt; spend(&mut txn, &outpoint(0, 0), 0) == Ok(None));
     assert!(rt; unspend(&mut txn) == Ok(()));
     assert!(rt; take_back_out(&mut txn) == Ok(()));
+    Ok(())
 }
 
 fn at_the_limit<A: Abort>(rt: &A, alloc: Global) {
@@ -644,7 +645,7 @@ fn at_the_limit<A: Abort>(rt: &A, alloc: Global) {
         txid: Hash32([1; 32]),
         index: 0,
     };
-    assert!(rt; txn.count(Table::Scripts) == 4_294_967_295);
+    assert!(rt; txn.count(Table::Scripts) == 1_099_511_627_776);
     assert!(rt; add_out(&mut txn, 0, 0, 5, 0) == Err(full(4)));
     assert!(rt; spend(&mut txn, &every, 0) == Err(full(5)));
     assert!(rt; spend(&mut txn, &outpoint(7, 0), 0) == Ok(None));
@@ -654,7 +655,7 @@ fn failing<A: Abort>(rt: &A, alloc: Global) {
     let mut rows = FailingRows::full(0);
     let mut txn = Txn::new(alloc, &mut rows);
     let fault = ConnectFault::DiskFailed;
-    assert!(rt; txn.count(Table::Scripts) == 4_294_967_295);
+    assert!(rt; txn.count(Table::Scripts) == 1_099_511_627_776);
     assert!(rt; named_output(&mut txn, &outpoint(1, 0), 5) == Err(DiskFailed));
     assert!(rt; add_out(&mut txn, 0, 0, 5, 0) == Err(fault));
     assert!(rt; spend(&mut txn, &outpoint(1, 0), 0) == Err(fault));
@@ -667,7 +668,7 @@ pub fn all<A: Abort>(rt: &A, alloc: Global) -> Result<(), Fail> {
     long_run(rt, alloc)?;
     check_cases(rt, alloc)?;
     odd_rows(rt, alloc)?;
-    on_nothing(rt, alloc);
+    on_nothing(rt, alloc)?;
     at_the_limit(rt, alloc);
     failing(rt, alloc);
     Ok(())

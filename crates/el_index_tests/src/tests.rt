@@ -1,5 +1,6 @@
 // The tests, but for those of laws.
 use crate::failing_rows::FailingRows;
+use crate::fixtures::most;
 use crate::{
     bucket_tests, connect_tests, full_tests, history_tests, lookup_tests, position_tests,
     script_tests, spend_tests, touching_tests, undo_tests,
@@ -63,14 +64,16 @@ fn tables_are_full_at_the_limit(rt: HostRuntime) -> Result<(), Fail> {
     let mut rows = FailingRows::full(0);
     for t in Table::ALL {
         let mut txn = Txn::new(rt.alloc(), &mut rows);
-        let row = [0; 112];
+        let row = [0; 116];
         let fault = AppendFault::Full {
             table: t.number(),
-            rows: 4_294_967_295,
+            rows: most(t.number()),
         };
         assert!(rt; txn.append(t, &row[..t.size()]) == Err(fault));
-        txn.shrink(t, 4_294_967_294);
-        assert!(rt; txn.append(t, &row[..t.size()]) == Ok(4_294_967_294));
+        let last = most(t.number()).saturating_sub(1);
+        let left = txn.count(t).min(last);
+        txn.shrink(t, left);
+        assert!(rt; txn.append(t, &row[..t.size()]) == Ok(last));
     }
     Ok(())
 }

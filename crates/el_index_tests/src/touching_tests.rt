@@ -3,7 +3,7 @@
 ghost use Rattle.std.specs.Prelude.{◌≡◌};
 
 use crate::failing_rows::FailingRows;
-use crate::fixtures::{add_block, add_heads, block_row, fund, hash, take, tx_row};
+use crate::fixtures::{add_block, add_heads, block_row, fund, hash, no_rows, take, tx_row};
 use el_chain::Touched;
 use el_model::QueryFault;
 use el_position::add_tx;
@@ -111,7 +111,7 @@ fn take_step<A: Abort>(
 }
 
 fn build<A: Abort>(rt: &A, alloc: Global) -> Result<(), Fail> {
-    let mut rows = VecRows::new(alloc);
+    let mut rows = no_rows(alloc)?;
     let mut txn = Txn::new(alloc, &mut rows);
     add_heads(&mut txn, 7)?;
     let mut first = 0;
@@ -138,20 +138,20 @@ fn add_odd(txn: &mut Txn<'_, VecRows>, odd: &Odd) -> Result<(), Fail>
 {
     add_heads(txn, 7)?;
     add_block(txn, &block_row(u64::from(odd.0), 1, 0))?;
-    let mut bytes = [0; 12];
+    let mut bytes = [0; 24];
     bytes[0] = odd.1[0];
-    bytes[4] = odd.1[1];
+    bytes[8] = odd.1[1];
     txn.append(Table::Entries, &bytes)?;
-    let mut bytes = [0; 68];
-    bytes[51] = odd.2;
-    bytes[60] = 1;
+    let mut bytes = [0; 84];
+    bytes[55] = odd.2;
+    bytes[68] = 1;
     txn.append(Table::Txs, &bytes)?;
     Ok(())
 }
 
 // Where there are no blocks nothing is touched either.
 fn check_odd<A: Abort>(rt: &A, alloc: Global, odd: &Odd) -> Result<(), Fail> {
-    let mut rows = VecRows::new(alloc);
+    let mut rows = no_rows(alloc)?;
     let mut txn = Txn::new(alloc, &mut rows);
     check_last(rt, alloc, &mut txn, 0);
     add_odd(&mut txn, odd)?;

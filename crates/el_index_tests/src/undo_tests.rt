@@ -3,7 +3,7 @@
 ghost use Rattle.std.specs.Prelude.{◌≡◌, ◌<◌, ◌^◌, length};
 ghost use Rattle.el_row_formats.specs.RowBytes.{number_limit, FitsTxRow};
 
-use crate::fixtures::{add_block, add_heads, block_row, fund, take, tx_row};
+use crate::fixtures::{add_block, add_heads, block_row, fund, no_rows, take, tx_row};
 use el_position::add_tx;
 use el_row_formats::{Table, TxRow};
 use el_rows::Txn;
@@ -66,7 +66,7 @@ fn add_rows_of(txn: &mut Txn<'_, VecRows>, table: Table, all: &mut Vec<u8>) -> R
         if i >= txn.count(table) {
             return Err(Fail::new("no such row"));
         }
-        let mut bytes = [0; 112];
+        let mut bytes = [0; 116];
         let row = &mut bytes[..table.size()];
         txn.get(table, i, row)?;
         all.extend_from_slice(row)?;
@@ -105,7 +105,8 @@ fn take_back_both<A: Abort>(
     assert!(rt; disconnect(txn) == Ok(()));
     assert!(rt; has_rows(alloc, txn, first)?);
     assert!(rt; disconnect(txn) == Ok(()));
-    assert!(rt; has_rows(alloc, txn, &[])?);
+    // seven heads of each kind are left, which lead to nothing
+    assert!(rt; has_rows(alloc, txn, &[0; 112])?);
     assert!(rt; disconnect(txn) == Ok(()));
     Ok(())
 }
@@ -131,7 +132,7 @@ fn put_second(txn: &mut Txn<'_, VecRows>) -> Result<(), Fail>
 // Block 0 has a coinbase. Block 1 has its like, which buries its output, and spends the later one. Taken
 // back, block by block, the rows are those before.
 fn two_blocks<A: Abort>(rt: &A, alloc: Global) -> Result<(), Fail> {
-    let mut rows = VecRows::new(alloc);
+    let mut rows = no_rows(alloc)?;
     let mut txn = Txn::new(alloc, &mut rows);
     put_first(&mut txn)?;
     let first = all_rows(alloc, &mut txn)?;
@@ -144,19 +145,19 @@ fn add_odd(txn: &mut Txn<'_, VecRows>) -> Result<(), Fail>
     ensures { txn.new.rows.ghost_name ≡ txn.old.rows.ghost_name }
 {
     add_heads(txn, 7)?;
-    let mut row = [0; 68];
+    let mut row = [0; 84];
     tx(5, 4_000_000_000, 3, 4_000_000_000, 3).write(&mut row);
     txn.append(Table::Txs, &row)?;
-    txn.append(Table::Outs, &[9; 21])?;
-    txn.append(Table::Ins, &[200; 4])?;
-    txn.append(Table::Scripts, &[1; 52])?;
-    txn.append(Table::Entries, &[0; 12])?;
+    txn.append(Table::Outs, &[9; 33])?;
+    txn.append(Table::Ins, &[200; 8])?;
+    txn.append(Table::Scripts, &[1; 64])?;
+    txn.append(Table::Entries, &[0; 24])?;
     add_block(txn, &block_row(7, 3, 0))
 }
 
 // They are taken away with the block, or left.
 fn odd_rows<A: Abort>(rt: &A, alloc: Global) -> Result<(), Fail> {
-    let mut rows = VecRows::new(alloc);
+    let mut rows = no_rows(alloc)?;
     let mut txn = Txn::new(alloc, &mut rows);
     add_odd(&mut txn)?;
     assert!(rt; disconnect(&mut txn) == Ok(()));

@@ -1,36 +1,19 @@
 -- How an index starts: from no blocks.
-use Rattle.std.proofs.Common.{◌≡◌, [], ◌∷◌, List, Option, None, Some, refl, sym, ◌∙◌, arith}
+use Rattle.std.proofs.Common.{◌≡◌, ◌^◌, ℕ, [], ◌∷◌, List, Option, None, Some, replicate, refl, sym, ◌∙◌}
 use Rattle.el_base.specs.declared.hash.Hash32.{Hash32}
 use Rattle.el_chain.specs.Chains.{Chain, tip}
 use Rattle.el_chain.specs.declared.moves.Plan.{Plan}
 use Rattle.el_model.specs.Queries.{tip_of}
 use Rattle.el_laws.specs.Going.{AreMovesOf}
+use Rattle.el_row_formats.specs.RowBytes.{link_bytes}
 use Rattle.el_row_formats.specs.Tables as held
-use Rattle.el_row_formats.specs.declared.limits.TheConstants.{BUCKET_COUNT}
+use Rattle.el_row_formats.specs.Tables.{first_count}
 use Rattle.el_row_formats.specs.declared.table.Table.{Table}
-use Rattle.el_row_formats.specs.declared.table.Table.TheVariants as table
-use Rattle.el_tables.specs.ChainLists.{lists, listed_blocks}
-use Rattle.el_tables.specs.Tables.{tables_of}
-use Rattle.el_schema.specs.Rows.{bytes_of}
-use Rattle.el_schema.specs.Standing.{heads_in}
-use Rattle.el_schema.proofs.StandingLemmas.{stands}
+use Rattle.el_schema.proofs.FirstRows.{first_stand}
 use Rattle.el_index.specs.Means.{AreRowsOf}
 
-pub none_stand : (rows : held.Tables) → ((t : Table) → rows t ≡ []) → AreRowsOf rows []
-none_stand rows none = stands BUCKET_COUNT rows [] (omega arith) (record { each = tt }) (record {
-  each = each;
-  fit = record { blocks = tt; txs = tt; tx_heads = tt; outs = tt; ins = tt; scripts = tt; script_heads = tt; entries = tt };
-})
-  where
-    each : (u : Table) → rows u ≡ bytes_of (tables_of (heads_in BUCKET_COUNT []) (listed_blocks []) (lists [])) u
-    each table.Blocks = none table.Blocks
-    each table.Txs = none table.Txs
-    each table.TxHeads = none table.TxHeads
-    each table.Outs = none table.Outs
-    each table.Ins = none table.Ins
-    each table.Scripts = none table.Scripts
-    each table.ScriptHeads = none table.ScriptHeads
-    each table.Entries = none table.Entries
+pub first_are : (bits : ℕ) (rows : held.Tables) → ((t : Table) → rows t ≡ replicate (first_count bits t) (link_bytes None)) → AreRowsOf (2 ^ bits) rows []
+first_are bits rows first = first_stand bits rows first
 
 no_blocks : (chain : Chain) → tip_of chain ≡ None → chain ≡ []
 no_blocks [] none = refl

@@ -1,5 +1,5 @@
 -- One version more.
-use Rattle.std.proofs.Common.{◌≡◌, ◌⊎◌, inl, inr, ⊎_elim, ◌<◌, ◌≤◌, ◌+◌, ◌-◌, ℕ, List, [], ◌∷◌, ◌++◌, length, get_or, ap, sym, ◌∙◌, arith, subst, length-append}
+use Rattle.std.proofs.Common.{◌≡◌, ◌⊎◌, inl, inr, ⊎_elim, ◌<◌, ◌≤◌, ◌+◌, ◌-◌, ℕ, List, [], ◌∷◌, ◌++◌, length, get_or, refl, ap, sym, ◌∙◌, arith, subst, length-append}
 use Rattle.std.proofs.lemmas.List.{get_or_append_left, get_or-append_right}
 use Rattle.std.proofs.lemmas.Bool.{cases_lt}
 use Rattle.el_outside.specs.Moments.{LeavesOnly}
@@ -30,17 +30,17 @@ module _ (versions : List (List (List (List ℕ)))) (new : List (List (List ℕ)
       (cases_lt one.0 (length versions))
 
 -- one commit more, at whose end the moment is that of the old last version or a later one
-pub committed : {S : Type 0} (moment : S → ℕ) (left_since : S → ℕ → Tables → Type 0) (old new : S) (versions all : List (List (List (List ℕ)))) (version : List (List (List ℕ))) (lists under : Tables)
+pub committed : {S : Type 0} (heads : ℕ) (moment : S → ℕ) (left_since : S → ℕ → Tables → Type 0) (old new : S) (versions all : List (List (List (List ℕ)))) (version : List (List (List ℕ))) (lists under : Tables)
     → all ≡ versions ++ version ∷ [] → ((t : ℕ) (c : Tables) → left_since new t c → IsOneSince all t c) → ((t : ℕ) (c : Tables) → IsOneSince versions t c → left_since old t c)
     → length versions ≤ moment old + 1 → moment old ≤ moment new → lists ≡ tables_of (last_of versions) → ((t : Table) → tables_of version t ≡ under t)
-    → LeavesOnly moment left_since old new (IsEither (λ c l. Same l c) lists under)
-committed moment left_since old new versions all version lists under is out in' most later lists_are are = record {
+    → LeavesOnly moment left_since old new (IsEither (λ c l. (heads ≡ heads) × Same l c) lists under)
+committed heads moment left_since old new versions all version lists under is out in' most later lists_are are = record {
   later = later;
   each = λ c left. ⊎_elim
-      (λ was. inl (λ t. only_last versions (moment old) c most was t ∙ sym (ap (λ (l : Tables). l t) lists_are)))
-      (λ now. inr (λ t. now t ∙ are t))
+      (λ was. inl (refl, λ t. only_last versions (moment old) c most was t ∙ sym (ap (λ (l : Tables). l t) lists_are)))
+      (λ now. inr (refl, λ t. now t ∙ are t))
       (cut (moment old) c left);
-  before = λ t c le left. ⊎_elim (λ was. inl (in' t c was)) (λ now. inr (inr (λ u. now u ∙ are u))) (cut t c left);
+  before = λ t c le left. ⊎_elim (λ was. inl (in' t c was)) (λ now. inr (inr (refl, λ u. now u ∙ are u))) (cut t c left);
 }
   where
     cut : (t : ℕ) (c : Tables) → left_since new t c → IsOneSince versions t c ⊎ Same (tables_of version) c

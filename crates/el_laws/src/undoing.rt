@@ -1,12 +1,12 @@
 // Undoing leaves what was there.
-ghost use Rattle.std.specs.Prelude.{◌≡◌, ◌↔◌, ◌++◌, ◌∷◌, [], ℕ, OnOk};
+ghost use Rattle.std.specs.Prelude.{◌≡◌, ◌↔◌, ◌++◌, ◌∷◌, [], OnOk};
 ghost use Rattle.el_block.specs.Blocks.{HasBlockEncoding};
 ghost use Rattle.el_block.specs.declared.block.Block as shape;
 ghost use Rattle.el_chain.specs.Chains.{Chain, tip};
 ghost use Rattle.el_prepare.specs.Prepared.{prepared};
 ghost use Rattle.el_rows.specs.Reads.{Same};
 ghost use Rattle.el_rows.specs.Transaction.{tables_in, EditsRows};
-ghost use Rattle.el_schema.specs.Standing.{StandWith, StandFor, heads_after};
+ghost use Rattle.el_schema.specs.Standing.{StandFor};
 
 use el_chain::ConnectFault;
 use el_connect::connect;
@@ -46,8 +46,7 @@ pub fn connect_and_disconnect<R: Rows>(
     }
 }
 
-/// Takes the last block back and puts it in again: the rows are those before, byte for byte, where the first
-/// block makes as many heads as there were.
+/// Takes the last block back and puts it in again: the rows are those before, byte for byte.
 pub fn disconnect_and_connect<R: Rows>(
     t: &mut Txn<'_, R>,
     b: &Prepared,
@@ -55,10 +54,10 @@ pub fn disconnect_and_connect<R: Rows>(
 ) -> Result<(), ConnectFault>
     requires live { R.is_live t.old.rows.now }
     requires prepared { (block : shape.Block) × HasBlockEncoding block × (b.now ≡ prepared block) }
-    ensures same { (heads : ℕ) (chain : Chain) (block : shape.Block) → R.tells
-        → StandWith heads (tables_in t.old) (chain ++ record { block = block; place = place } ∷ [])
+    ensures same { (chain : Chain) (block : shape.Block) → R.tells
+        → StandFor (tables_in t.old) (chain ++ record { block = block; place = place } ∷ [])
         → HasBlockEncoding block → b.now ≡ prepared block → block.header.previous ≡ tip chain
-        → heads_after heads chain ≡ heads → OnOk result (Same (tables_in t.old) (tables_in t.new)) }
+        → OnOk result (Same (tables_in t.old) (tables_in t.new)) }
     ensures edits { EditsRows ConnectFault.DiskFailed t.old t.new result }
 {
     match disconnect(t) {

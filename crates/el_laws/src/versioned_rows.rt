@@ -1,12 +1,14 @@
 // A store in memory that tells what a crash leaves.
-ghost use Rattle.std.specs.Prelude.{◌≡◌, ◌<◌, ◌≤◌, ◌-◌, ◌+◌, ℕ, List, [], ◌∷◌, length, get_or, refl, IfOk};
-ghost use Rattle.el_row_formats.specs.Tables.{Tables, tables_of};
+ghost use Rattle.std.specs.Prelude.{◌≡◌, ◌<◌, ◌≤◌, ◌-◌, ◌+◌, ◌^◌, ℕ, List, [], ◌∷◌, length, get_or, replicate, refl, None, IfOk};
+ghost use Rattle.el_row_formats.specs.Tables.{Tables, tables_of, first_count};
+ghost use Rattle.el_row_formats.specs.RowBytes.{link_bytes};
+ghost use Rattle.el_row_formats.specs.declared.limits.TheConstants.{MIN_HEAD_BITS};
 ghost use Rattle.el_rows.specs.Reads.{Same};
 ghost use Rattle.el_laws.specs.Versions.{last_of, IsOneSince, earlier_since, live_last};
 
 use el_base::{GhostCount, Listed, OutOfMemory};
 use el_outside::DiskFailed;
-use el_row_formats::Table;
+use el_row_formats::{MIN_HEAD_BITS, Table};
 use el_rows::{CommitFault, Rows, Sealed};
 use el_vec_rows::MemRows;
 use std::alloc::Global;
@@ -23,13 +25,14 @@ pub struct VersionedRows {
 }
 
 impl VersionedRows {
-    /// No rows, for so many good commits.
+    /// The rows before the first block, with 65,536 heads of each kind, for so many good commits.
     pub fn new(alloc: Global, good: u64) -> Result<VersionedRows, OutOfMemory>
-        ensures empty { IfOk result (λ s. (t : Table) → tables_of (last_of s.versions) t ≡ []) }
+        ensures first { IfOk result (λ s. (t : Table)
+            → tables_of (last_of s.versions) t ≡ replicate (first_count MIN_HEAD_BITS t) (link_bytes None)) }
         ensures live { IfOk result (λ s. s.faults ≡ 0) }
     {
         let mut versions = Listed::new(alloc);
-        versions.push(MemRows::new(alloc))?;
+        versions.push(MemRows::first(alloc, MIN_HEAD_BITS)?)?;
         Ok(VersionedRows {
             versions,
             good,
@@ -56,13 +59,15 @@ impl Rows for VersionedRows {
 
     ghost counts = { λ s t. length (tables_of (last_of s.versions) t) };
 
+    ghost heads = { λ s. 2 ^ MIN_HEAD_BITS };
+
     ghost is_live = { λ s. s.faults ≡ 0 };
 
     ghost moment = { λ s. length s.versions - (s.faults + 1) };
 
     ghost Left = { Tables };
 
-    ghost shows = { λ c lists. Same lists c };
+    ghost shows = { λ c heads lists. (heads ≡ 2 ^ MIN_HEAD_BITS) × Same lists c };
 
     ghost left_since = { λ s t c. IsOneSince s.versions t c };
 
@@ -76,7 +81,8 @@ impl Rows for VersionedRows {
 
     ghost earlier = { λ s t u c le left. earlier_since s.versions t u c le left };
 
-    ghost leaves_lists = { λ s c told live left. live_last s.versions s.faults c live left };
+    ghost leaves_lists = { λ s c told live left.
+        (refl, live_last s.versions s.faults c live left) };
 
     fn count(&self, t: Table) -> u64 {
         self.last().count(t)

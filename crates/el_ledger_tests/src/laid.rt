@@ -381,7 +381,7 @@ pub fn built<W: Threads + Sync>(
     numbers: &[usize],
     files: &mut Files,
 ) -> Result<Index<VecRows>, Fail> {
-    let mut index = opened(alloc, VecRows::new(alloc))?;
+    let mut index = opened(alloc, VecRows::new(alloc, 16)?)?;
     put_in(rt, alloc, &mut index, numbers, files)?;
     Ok(index)
 }
@@ -528,8 +528,8 @@ fn is_same_row(
         return Ok(false);
     }
     let size = table.size();
-    let mut left = [0; 112];
-    let mut right = [0; 112];
+    let mut left = [0; 116];
+    let mut right = [0; 116];
     one.row(table, row, &mut left[..size])?;
     other.row(table, row, &mut right[..size])?;
     Ok(left[..size] == right[..size])

@@ -44,10 +44,10 @@ fn first_block(alloc: Global) -> Result<Prepared, Fail>
 
 fn back_and_forth<A: Abort>(rt: &A, alloc: Global) -> Result<(), Fail> {
     let block = first_block(alloc)?;
-    let mut rows = VecRows::new(alloc);
+    let mut rows = VecRows::new(alloc, 16)?;
     let mut txn = Txn::new(alloc, &mut rows);
     assert!(rt; connect_and_disconnect(&mut txn, &block, PLACE) == Ok(()));
-    assert!(rt; txn.count(Table::TxHeads) == 0);
+    assert!(rt; txn.count(Table::TxHeads) == 65_536);
     assert!(rt; connect(&mut txn, &block, PLACE) == Ok(()));
     assert!(rt; disconnect_and_connect(&mut txn, &block, PLACE) == Ok(()));
     assert!(rt; txn.count(Table::Outs) == 1);
@@ -60,10 +60,10 @@ fn a_block_back_and_forth(rt: HostRuntime) -> Result<(), Fail> {
 }
 
 fn two_indexes<A: Abort>(rt: &A, alloc: Global) -> Result<(), Fail> {
-    let Ok(one) = Index::over(alloc, VecRows::new(alloc)) else {
+    let Ok(one) = Index::over(alloc, VecRows::new(alloc, 16)?) else {
         return Err(Fail::new("no index"));
     };
-    let Ok(other) = Index::over(alloc, VecRows::new(alloc)) else {
+    let Ok(other) = Index::over(alloc, VecRows::new(alloc, 16)?) else {
         return Err(Fail::new("no index"));
     };
     let (one, other) = rows_of_two_indexes(one, other);

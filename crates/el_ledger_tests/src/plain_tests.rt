@@ -14,7 +14,7 @@ use el_gen::{coinbase, spend};
 use el_index::Index;
 use el_model::Ledger;
 use el_plain::PlainLedger;
-use el_row_formats::Table;
+use el_row_formats::{TABLES, Table};
 use el_rows::{Rows, Txn};
 use el_tx::{Outpoint, Tx, txid};
 use el_vec_rows::VecRows;
@@ -94,7 +94,7 @@ fn begin(alloc: Global, count: u32, missing: bool) -> Result<Both, Fail>
 {
     let files = blocks(alloc, count, missing)?;
     Ok(Both {
-        index: opened(alloc, VecRows::new(alloc))?,
+        index: opened(alloc, VecRows::new(alloc, 16)?)?,
         plain: PlainLedger::new(alloc),
         files,
     })
@@ -309,10 +309,11 @@ fn a_refused_move_changes_nothing(rt: HostRuntime) -> Result<(), Fail> {
 
 // Three rows in each table, all of whose bytes are that one; they stand for nothing.
 fn filled(alloc: Global, byte: u8) -> Result<VecRows, Fail> {
-    let mut rows = VecRows::new(alloc);
+    let mut rows = VecRows::new(alloc, 16)?;
+    rows.resize(&[0; TABLES])?;
     let mut txn = Txn::new(alloc, &mut rows);
     for table in Table::ALL {
-        let row = [byte; 112];
+        let row = [byte; 116];
         for _ in 0..3 {
             txn.append(table, &row[..table.size()])?;
         }

@@ -8,12 +8,14 @@ use Rattle.el_row_formats.specs.declared.table.Table.{Table}
 use Rattle.el_row_formats.specs.Tables.{Tables}
 use Rattle.el_rows.specs.Reads.{IsEither}
 use Rattle.el_redone.specs.Redone.{Write, overlaid, Fits, into, IsClosed, StandsFor, record_bytes}
-use Rattle.el_redone.specs.Steps.{EachNow, Leaves, IsAside, IsGated, WillBe, AreOnDisk, IsAtRest, StaysAside}
+use Rattle.el_redone.specs.Steps.{EachNow, Leaves, HasRoot, IsAside, IsGated, WillBe, AreOnDisk, IsAtRest, StaysAside}
+use Rattle.el_redone.specs.declared.steps.TheConstants.{ROOT}
 use Rattle.el_redone.proofs.Runs.{now_has}
 use Rattle.el_pages.specs.declared.layout.Layout.{Layout}
 use Rattle.el_pages.specs.Layouts.{redo_of}
 use Rattle.el_pages.specs.Records.{Spells}
 use Rattle.el_pages.specs.Indexes.{HasCounts, Shows, tables_in}
+use Rattle.el_pages.proofs.Laid.{root_spared}
 use Rattle.el_pages.proofs.Stands.{aside_stands, gated_stands, will_stand, settled_stands}
 
 module _ {D : Type 0} (G : disk.Ghosts D) (earlier : (d : D) (t u : ℕ) (c : Image) → t ≤ u → G.left_since d u c → G.left_since d t c)
@@ -22,6 +24,7 @@ module _ {D : Type 0} (G : disk.Ghosts D) (earlier : (d : D) (t u : ℕ) (c : Im
   pub rest_aside : (old : D) → IsAtRest G l.first (redo_of l) old → EachNow G (IsAside l.first (redo_of l) (G.seen old)) old
   rest_aside old rest c left = record {
     same = λ f low lt. rest.on_disk f low lt c left;
+    root = λ after. rest.root_on_disk after c left;
     closed = subst (λ (b : List ℕ). IsClosed b) (sym (rest.redo_on_disk c left)) rest.closed;
   }
 
@@ -32,18 +35,19 @@ module _ {D : Type 0} (G : disk.Ghosts D) (earlier : (d : D) (t u : ℕ) (c : Im
         → EachNow G (IsGated l.first (redo_of l) files (record_bytes body ++ stale)) new
     staged_gated old new gate each stays is durable c left =
         let aside = now_has G earlier old new (IsAside l.first (redo_of l) files) (stays.crash files each) c left in
-        record { same = aside.same; gate = gate; is = durable c left ∙ is }
+        record { same = aside.same; root = aside.root; gate = gate; is = durable c left ∙ is }
 
     -- after step 2
-    pub opened_will_be : (old new : D) → EachNow G (IsGated l.first (redo_of l) files (record_bytes body ++ stale)) old
+    pub opened_will_be : (old new : D) → (redo_of l < ROOT → into ROOT ws ≡ []) → EachNow G (IsGated l.first (redo_of l) files (record_bytes body ++ stale)) old
         → (EachNow G (IsGated l.first (redo_of l) files (record_bytes body ++ stale)) old → Leaves G (IsGated l.first (redo_of l) files (record_bytes body ++ stale)) old new)
         → G.seen new (redo_of l) ≡ 1 ∷ (record_bytes body ++ stale) → OnDisk (redo_of l) (G.seen new) (LeftNow G.moment G.left_since new)
         → ((f : ℕ) → l.first ≤ f → f < redo_of l → Fits (into f ws) (length (files f)))
         → EachNow G (WillBe l.first (redo_of l) (λ f. overlaid (into f ws) (files f)) ws (1 ∷ (record_bytes body ++ stale))) new
-    opened_will_be old new each run is durable fits c left =
+    opened_will_be old new none each run is durable fits c left =
         let gated = now_has G earlier old new (IsGated l.first (redo_of l) files (record_bytes body ++ stale)) (run each) c left in
         record {
           file_is = durable c left ∙ is;
+          root = λ after. gated.root after ∙ sym (ap (λ (w : List Write). overlaid w (files ROOT)) (none after));
           same = λ f low lt. ap (λ (b : List ℕ). overlaid (into f ws) b) (gated.same f low lt);
           fits = λ f low lt. subst (λ (b : List ℕ). Fits (into f ws) (length b)) (sym (gated.same f low lt)) (fits f low lt);
         }
@@ -55,17 +59,19 @@ module _ {D : Type 0} (G : disk.Ghosts D) (earlier : (d : D) (t u : ℕ) (c : Im
         → EachNow G (IsGated l.first (redo_of l) files (record_bytes body ++ stale)) new
     written_gated old new each run durable holds c left =
         let will = now_has G earlier old new (WillBe l.first (redo_of l) files ws (1 ∷ (record_bytes body ++ stale))) (run each) c left in
-        record { same = λ f low lt. durable f low lt c left ∙ holds f low lt; gate = 1; is = will.file_is }
+        record { same = λ f low lt. durable f low lt c left ∙ holds f low lt; root = will.root; gate = 1; is = will.file_is }
 
     -- after step 4
     pub closed_at_rest : (old new : D) → EachNow G (IsGated l.first (redo_of l) files (record_bytes body ++ stale)) old
         → (EachNow G (IsGated l.first (redo_of l) files (record_bytes body ++ stale)) old → Leaves G (IsGated l.first (redo_of l) files (record_bytes body ++ stale)) old new)
         → G.seen new (redo_of l) ≡ 0 ∷ (record_bytes body ++ stale) → OnDisk (redo_of l) (G.seen new) (LeftNow G.moment G.left_since new)
-        → ((f : ℕ) → l.first ≤ f → f < redo_of l → G.seen new f ≡ files f)
+        → ((f : ℕ) → l.first ≤ f → f < redo_of l → G.seen new f ≡ files f) → LeftNow G.moment G.left_since new (G.seen new)
         → IsAtRest G l.first (redo_of l) new
-    closed_at_rest old new each run is durable holds = record {
+    closed_at_rest old new each run is durable holds reads = record {
       on_disk = λ f low lt c left. (now_has G earlier old new (IsGated l.first (redo_of l) files (record_bytes body ++ stale)) (run each) c left).same f low lt ∙ sym (holds f low lt);
       redo_on_disk = durable;
+      root_on_disk = λ after c left. (now_has G earlier old new (IsGated l.first (redo_of l) files (record_bytes body ++ stale)) (run each) c left).root after
+          ∙ sym ((now_has G earlier old new (IsGated l.first (redo_of l) files (record_bytes body ++ stale)) (run each) (G.seen new) reads).root after);
       closed = record { gate = 0; rest = record_bytes body ++ stale; is = is; closed = λ e. absurd (omega (arith, e)) };
     }
 
@@ -83,22 +89,25 @@ module _ (l : Layout) (head : List ℕ) (files : Image) (counts new : List ℕ) 
 
   module _ {D : Type 0} (G : disk.Ghosts D) (body stale : List ℕ) (spelled : Spells l body ws) (fits : (f : ℕ) → l.first ≤ f → f < redo_of l → Fits (into f ws) (length (files f))) where
     abbrev either : Image → Type 0
-    either c = IsEither (Shows l head) old_tables new_tables c
+    either c = HasRoot (redo_of l) files c × IsEither (Shows l head) old_tables new_tables c
+
+    spared : (c : Image) → HasRoot (redo_of l) (λ f. overlaid (into f ws) (files f)) c → HasRoot (redo_of l) files c
+    spared c root after = root after ∙ ap (λ (w : List Write). overlaid w (files ROOT)) (root_spared l body ws spelled after)
 
     pub step_one : (a b : D) → Leaves G (IsAside l.first (redo_of l) files) a b → Leaves G either a b
-    step_one a b run = weaker G.moment G.left_since a b (IsAside l.first (redo_of l) files) either (λ c aside. inl (shows_old c (aside_stands l files c aside))) run
+    step_one a b run = weaker G.moment G.left_since a b (IsAside l.first (redo_of l) files) either (λ c aside. (aside.root, inl (shows_old c (aside_stands l files c aside)))) run
 
     pub step_two : (a b : D) → Leaves G (IsGated l.first (redo_of l) files (record_bytes body ++ stale)) a b → Leaves G either a b
     step_two a b run = weaker G.moment G.left_since a b (IsGated l.first (redo_of l) files (record_bytes body ++ stale)) either
-        (λ c gated. ⊎_elim (λ old. inl (shows_old c old)) (λ now. inr (shows_new c now)) (gated_stands l files body stale ws c spelled fits gated)) run
+        (λ c gated. (gated.root, ⊎_elim (λ old. inl (shows_old c old)) (λ now. inr (shows_new c now)) (gated_stands l files body stale ws c spelled fits gated))) run
 
     pub step_three : (a b : D) → Leaves G (WillBe l.first (redo_of l) (λ f. overlaid (into f ws) (files f)) ws (1 ∷ (record_bytes body ++ stale))) a b → Leaves G either a b
     step_three a b run = weaker G.moment G.left_since a b (WillBe l.first (redo_of l) (λ f. overlaid (into f ws) (files f)) ws (1 ∷ (record_bytes body ++ stale))) either
-        (λ c will. inr (shows_new c (will_stand l (λ f. overlaid (into f ws) (files f)) body stale ws c spelled will))) run
+        (λ c will. (spared c will.root, inr (shows_new c (will_stand l (λ f. overlaid (into f ws) (files f)) body stale ws c spelled will)))) run
 
     pub step_four : (a b : D) → Leaves G (IsGated l.first (redo_of l) (λ f. overlaid (into f ws) (files f)) (record_bytes body ++ stale)) a b → Leaves G either a b
     step_four a b run = weaker G.moment G.left_since a b (IsGated l.first (redo_of l) (λ f. overlaid (into f ws) (files f)) (record_bytes body ++ stale)) either
-        (λ c gated. inr (shows_new c (settled_stands l files body stale ws c spelled fits gated))) run
+        (λ c gated. (spared c gated.root, inr (shows_new c (settled_stands l files body stale ws c spelled fits gated)))) run
 
 -- ---- all four
 
@@ -110,7 +119,7 @@ module _ {D : Type 0} (G : disk.Ghosts D) (earlier : (d : D) (t u : ℕ) (c : Im
     (spelled : Spells l body ws) (fits : (f : ℕ) → l.first ≤ f → f < redo_of l → Fits (into f ws) (length (G.seen old f)))
     (rest : IsAtRest G l.first (redo_of l) old) where
   abbrev either_one : Image → Type 0
-  either_one c = IsEither (Shows l head) old_tables new_tables c
+  either_one c = HasRoot (redo_of l) (G.seen old) c × IsEither (Shows l head) old_tables new_tables c
 
   abbrev after : Image
   after f = overlaid (into f ws) (G.seen old f)
@@ -135,7 +144,7 @@ module _ {D : Type 0} (G : disk.Ghosts D) (earlier : (d : D) (t u : ℕ) (c : Im
         opened = w2 ∙ ap (λ (b : List ℕ). over b 0 (1 ∷ [])) w1
 
         each_two : EachNow G (WillBe l.first (redo_of l) after ws (1 ∷ (record_bytes body ++ stale))) m2
-        each_two = opened_will_be G earlier l body stale ws (G.seen old) m1 m2 each_one (g2 (G.seen old) (record_bytes body ++ stale)) opened d2 fits
+        each_two = opened_will_be G earlier l body stale ws (G.seen old) m1 m2 (root_spared l body ws spelled) each_one (g2 (G.seen old) (record_bytes body ++ stale)) opened d2 fits
 
         pub run_three : Leaves G either_one old m3
         run_three = joined G.moment G.left_since old m2 m3 either_one run_two
@@ -164,4 +173,4 @@ module _ {D : Type 0} (G : disk.Ghosts D) (earlier : (d : D) (t u : ℕ) (c : Im
             pub rest_four : IsAtRest G l.first (redo_of l) m4
             rest_four = closed_at_rest G earlier l body stale ws after m3 m4 each_three (g4 after (record_bytes body ++ stale))
                 (w4 ∙ ap (λ (b : List ℕ). over b 0 (0 ∷ [])) (now_has G earlier m2 m3 (WillBe l.first (redo_of l) after ws (1 ∷ (record_bytes body ++ stale))) (g3 after (1 ∷ (record_bytes body ++ stale)) each_two) (G.seen m3) (reads m3)).file_is)
-                d4 holds_four
+                d4 holds_four (reads m4)

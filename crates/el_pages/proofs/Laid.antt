@@ -17,19 +17,20 @@ use Rattle.el_row_formats.specs.declared.table.Table.{Table}
 use Rattle.el_row_formats.specs.declared.table.RowKey.{RowKey}
 use Rattle.el_row_formats.specs.declared.table.Table.TheVariants as table
 use Rattle.el_row_formats.specs.Tables.{index_of, row_cmp, key, row_at, size_of, limit_of}
-use Rattle.el_row_formats.proofs.Keys.{self_key, other_key, same_table, same_index}
+use Rattle.el_row_formats.proofs.Keys.{self_key, other_key, same_table, same_index, index_within}
 use Rattle.el_rows.specs.Changes.{Changes, changed_at, count_at, under, IsMadeFrom}
 use Rattle.el_rows.proofs.UnderLemmas.{is_under}
 use Rattle.el_base.proofs.Lists.{all_weaker}
 use Rattle.el_redo.proofs.BodyLemmas.{made_fits}
 use Rattle.el_redo.proofs.BodyLemmas as body
 use Rattle.el_redone.specs.Redone.{Write, overlaid, Fits, into, ends}
+use Rattle.el_redone.specs.declared.steps.TheConstants.{ROOT}
 use Rattle.el_redone.proofs.Writes.{into_here, into_other, into_append, length-overlaid, fits_same}
 use Rattle.el_pages.specs.declared.layout.Layout.{Layout}
-use Rattle.el_pages.specs.declared.layout.TheConstants.{FORMAT_1}
-use Rattle.el_pages.specs.Layouts.{file_of, size_in, limit_in, rows_in}
-use Rattle.el_pages.specs.Records.{meta_of, write_of, writes_of, IsWhole}
-use Rattle.el_pages.specs.Indexes.{HasMeta, HasNone, HasCounts, tables_in}
+use Rattle.el_pages.specs.declared.layout.TheConstants.{FORMAT_2}
+use Rattle.el_pages.specs.Layouts.{file_of, redo_of, size_in, limit_in, rows_in}
+use Rattle.el_pages.specs.Records.{meta_of, write_of, writes_of, IsWhole, Spells}
+use Rattle.el_pages.specs.Indexes.{HasCounts, tables_in}
 use Rattle.el_page_cache.proofs.Rows.{row_over_here, row_over_other, row_ends}
 
 -- ---- what it means that a key is before another
@@ -215,9 +216,22 @@ none_into : (l : Layout) (es : Changes) → into l.first (map (write_of l) es) �
 none_into l [] = refl
 none_into l (e ∷ es) = into_other (write_of l e) (map (write_of l) es) l.first (λ is. omega (arith, is)) ∙ none_into l es
 
--- of format 1
-pub sizes_1 : (t : Table) → size_in FORMAT_1 t ≡ size_of t
-sizes_1 t = elim t as (λ u. size_in FORMAT_1 u ≡ size_of u) [
+-- nothing goes into the root, where it comes after the redo file
+rows_spare : (l : Layout) (es : Changes) → redo_of l < ROOT → into ROOT (map (write_of l) es) ≡ []
+rows_spare l [] after = refl
+rows_spare l (e ∷ es) after = into_other (write_of l e) (map (write_of l) es) ROOT (λ is. omega (arith, is, after, index_within e.0.table)) ∙ rows_spare l es after
+
+pub root_spared : (l : Layout) (body : List ℕ) (ws : List Write) → Spells l body ws → redo_of l < ROOT → into ROOT ws ≡ []
+root_spared l body ws spelled after =
+    let w : Write = record { file = l.first; at = 0; bytes = spelled.meta } in
+    ap (into ROOT) spelled.writes
+    ∙ into_append (map (write_of l) spelled.changes) (w ∷ []) ROOT
+    ∙ ap (λ (x : List Write). x ++ into ROOT (w ∷ [])) (rows_spare l spelled.changes after)
+    ∙ into_other w [] ROOT (λ is. omega (arith, is, after))
+
+-- of format 2
+pub sizes_2 : (t : Table) → size_in FORMAT_2 t ≡ size_of t
+sizes_2 t = elim t as (λ u. size_in FORMAT_2 u ≡ size_of u) [
   | table.Blocks ↦ refl
   | table.Txs ↦ refl
   | table.TxHeads ↦ refl
@@ -228,7 +242,7 @@ sizes_1 t = elim t as (λ u. size_in FORMAT_1 u ≡ size_of u) [
   | table.Entries ↦ refl
 ]
 
-pub some_size : (t : Table) → 0 < size_in FORMAT_1 t
+pub some_size : (t : Table) → 0 < size_in FORMAT_2 t
 some_size table.Blocks = omega arith
 some_size table.Txs = omega arith
 some_size table.TxHeads = omega arith
@@ -238,8 +252,8 @@ some_size table.Scripts = omega arith
 some_size table.ScriptHeads = omega arith
 some_size table.Entries = omega arith
 
-pub limits_1 : (t : Table) → limit_in FORMAT_1 t ≡ limit_of t
-limits_1 t = elim t as (λ u. limit_in FORMAT_1 u ≡ limit_of u) [
+pub limits_2 : (t : Table) → limit_in FORMAT_2 t ≡ limit_of t
+limits_2 t = elim t as (λ u. limit_in FORMAT_2 u ≡ limit_of u) [
   | table.Blocks ↦ refl
   | table.Txs ↦ refl
   | table.TxHeads ↦ refl
@@ -299,10 +313,7 @@ module _ (l : Layout) (head : List ℕ) (files : Image) (counts new : List ℕ) 
   whole = all_weaker body.Fits (IsWhole l) changes (λ e fit. record { sized = fit.sized ∙ sym (sizes e.0.table); small = fit.small }) (made_fits (count_at counts) new changes made)
 
   held : (t : Table) → count_at counts t * size_in l t ≤ length (files (file_of l t))
-  held t = ⊎_elim
-      (λ (m : HasMeta l head files counts). m.holds t)
-      (λ (none : HasNone l files counts). let zero_is : count_at counts t * size_in l t ≡ 0 * size_in l t = ap (λ n. n * size_in l t) (none.none t) in omega (arith, zero_is))
-      has
+  held t = has.holds t
 
   is_changed : (t : Table) (i : ℕ) → count_at counts t ≤ i → i < count_at new t → IsSome (changed_at changes t i)
   is_changed t i ge lt = ⊎_elim
@@ -329,7 +340,7 @@ module _ (l : Layout) (head : List ℕ) (files : Image) (counts new : List ℕ) 
   long_after t = ap (λ (b : List ℕ). length b) (after_here t) ∙ length-overlaid (here l t changes) (files (file_of l t)) (fit_here t)
 
   -- the files then have the new counts
-  pub has_after : HasMeta l head after new
+  pub has_after : HasCounts l head after new
   has_after = record {
     rest = drop (0 + length meta) (files l.first);
     meta = ap (λ (w : List Write). overlaid w (files l.first)) (into_meta l meta changes);
@@ -364,8 +375,8 @@ module _ (l : Layout) (head : List ℕ) (files : Image) (counts new : List ℕ) 
       (none_or_some (changed_at changes t i))))
 
 -- rows are small
-pub small_size : (t : Table) → size_of t ≤ 112
-small_size t = elim t as (λ u. size_of u ≤ 112) [
+pub small_size : (t : Table) → size_of t ≤ 116
+small_size t = elim t as (λ u. size_of u ≤ 116) [
   | table.Blocks ↦ omega arith
   | table.Txs ↦ omega arith
   | table.TxHeads ↦ omega arith

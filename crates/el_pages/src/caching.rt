@@ -8,11 +8,11 @@ ghost use Rattle.el_row_formats.specs.declared.table.Table.{Table};
 ghost use Rattle.el_row_formats.specs.Tables.{Tables, size_of, limit_of, row_at};
 ghost use Rattle.el_rows.specs.Changes.{IsMadeFrom, count_at, under};
 ghost use Rattle.el_page_cache.specs.Pages.{page_of, page_in, Agrees};
-ghost use Rattle.el_pages.specs.declared.layout.TheConstants.{FORMAT_1};
+ghost use Rattle.el_pages.specs.declared.layout.TheConstants.{FORMAT_2};
 ghost use Rattle.el_pages.specs.Layouts.{file_of};
 ghost use Rattle.el_pages.specs.within.Caching.{IsWholeIn, HaveRows, IsPage};
 
-use crate::FORMAT_1;
+use crate::FORMAT_2;
 use crate::reading::read_row;
 use el_outside::{Disk, DiskFailed};
 use el_page_cache::{PageCache, copy_row, first_in_page};
@@ -25,7 +25,7 @@ fn read_page<D: Disk>(disk: &mut D, t: Table, i: u64, page: &mut [u8]) -> Result
     requires whole { length page.old ≡ 4096 }
     requires limit { i < limit_of t }
     ensures page { D.tells → OnOk result
-        (IsPage t (D.seen disk.old (file_of FORMAT_1 t)) (page_of t i) page.new) }
+        (IsPage t (D.seen disk.old (file_of FORMAT_2 t)) (page_of t i) page.new) }
     ensures seen { D.tells → D.seen disk.new ≡ D.seen disk.old }
     ensures left { D.tells → NothingNew
         (LeftNow D.moment D.left_since disk.old) (LeftNow D.moment D.left_since disk.new) }
@@ -34,7 +34,7 @@ fn read_page<D: Disk>(disk: &mut D, t: Table, i: u64, page: &mut [u8]) -> Result
     ensures cause { HasCause (D.faults disk.old) (D.faults disk.new) result }
 {
     let at = first_in_page(t, i) * t.size() as u64;
-    disk.read(FORMAT_1.file(t), at, page)?;
+    disk.read(FORMAT_2.file(t), at, page)?;
     Ok(())
 }
 
@@ -50,8 +50,8 @@ fn keep_row<D: Disk>(
     requires whole { length page.items ≡ 4096 }
     requires limit { i < limit_of t }
     requires sized { length buf.old ≡ size_of t }
-    ensures row { D.tells → IsWholeIn t (D.seen disk.old (file_of FORMAT_1 t)) i
-        → OnOk result (buf.new ≡ row_at (size_of t) (D.seen disk.old (file_of FORMAT_1 t)) i) }
+    ensures row { D.tells → IsWholeIn t (D.seen disk.old (file_of FORMAT_2 t)) i
+        → OnOk result (buf.new ≡ row_at (size_of t) (D.seen disk.old (file_of FORMAT_2 t)) i) }
     ensures agrees { D.tells → (lists : Tables) (counts : Table → ℕ)
         → HaveRows (D.seen disk.old) lists counts → Agrees cache.old lists counts
         → Agrees cache.new lists counts }

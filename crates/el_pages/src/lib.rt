@@ -12,4 +12,5 @@ mod store;
 mod writing;
 
 pub use layout::{FORMAT_1, FORMAT_2, LETTERS, Layout};
+pub use meta::meta_row_of;
 pub use store::Pages;

@@ -4,10 +4,10 @@ ghost use Rattle.el_outside.specs.Counts.{HasCause};
 ghost use Rattle.el_outside.specs.Disk.{NothingNew};
 ghost use Rattle.el_outside.specs.Moments.{LeftNow, LeavesNoMore};
 ghost use Rattle.el_row_formats.specs.Tables.{size_of, limit_of, row_at};
-ghost use Rattle.el_pages.specs.declared.layout.TheConstants.{FORMAT_1};
+ghost use Rattle.el_pages.specs.declared.layout.TheConstants.{FORMAT_2};
 ghost use Rattle.el_pages.specs.Layouts.{file_of};
 
-use crate::FORMAT_1;
+use crate::FORMAT_2;
 use el_outside::{Disk, DiskFailed};
 use el_row_formats::Table;
 
@@ -33,8 +33,8 @@ pub(crate) fn read_row<D: Disk>(
 ) -> Result<(), DiskFailed>
     requires sized { length buf.old ≡ size_of t }
     requires limit { i < limit_of t }
-    ensures row { D.tells → i * size_of t + size_of t ≤ length (D.seen disk.old (file_of FORMAT_1 t))
-        → OnOk result (buf.new ≡ row_at (size_of t) (D.seen disk.old (file_of FORMAT_1 t)) i) }
+    ensures row { D.tells → i * size_of t + size_of t ≤ length (D.seen disk.old (file_of FORMAT_2 t))
+        → OnOk result (buf.new ≡ row_at (size_of t) (D.seen disk.old (file_of FORMAT_2 t)) i) }
     ensures seen { D.tells → D.seen disk.new ≡ D.seen disk.old }
     ensures left { D.tells → NothingNew
         (LeftNow D.moment D.left_since disk.old) (LeftNow D.moment D.left_since disk.new) }
@@ -43,7 +43,7 @@ pub(crate) fn read_row<D: Disk>(
     ensures cause { HasCause (D.faults disk.old) (D.faults disk.new) result }
 {
     let at = i * t.size() as u64;
-    let given = disk.read(FORMAT_1.file(t), at, buf)?;
+    let given = disk.read(FORMAT_2.file(t), at, buf)?;
     zero_rest(buf, given);
     Ok(())
 }

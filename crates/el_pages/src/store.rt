@@ -1,8 +1,9 @@
 // A store of tables in files.
-ghost use Rattle.std.specs.Prelude.{◌≡◌, ◌↔◌, ◌≤◌, ◌<◌, ℕ, length, IfOk, IfErr, IfSome};
+ghost use Rattle.std.specs.Prelude.{◌≡◌, ◌↔◌, ◌⊎◌, ◌≤◌, ◌<◌, ◌^◌, ℕ, length, IfOk, IfErr, IfSome};
 ghost use Rattle.el_outside.specs.Disk.{Image};
 ghost use Rattle.el_row_formats.specs.declared.table.Table.{Table};
 ghost use Rattle.el_row_formats.specs.Tables.{limit_of};
+ghost use Rattle.el_row_formats.specs.declared.limits.TheConstants.{MIN_HEAD_BITS, MAX_HEAD_BITS};
 ghost use Rattle.el_rows.specs.Changes.{count_at};
 
 use crate::caching::{cached_row, change_pages};
@@ -40,10 +41,14 @@ pub struct Pages<D: Disk, N: NetworkMagic> {
     disk: D,
     // The disk at the last commit, or at the opening.
     told: Snapshot<D>,
+    // How many bits the number of a bucket has.
+    bits: u32,
     counts: [u64; TABLES],
     buffer: Vec<u8>,
     cache: PageCache,
     reads: GhostCount,
+    ghost least: { MIN_HEAD_BITS ≤ bits },
+    ghost most: { bits ≤ MAX_HEAD_BITS },
     ghost limited: { (t : Table) → count_at counts t ≤ limit_of t },
     ghost big: { 256 ≤ length buffer.items },
 }
@@ -51,19 +56,25 @@ pub struct Pages<D: Disk, N: NetworkMagic> {
 impl<D: Disk, N: NetworkMagic> Pages<D, N> {
     ghost use Rattle.el_row_formats.specs.Tables.{Tables};
     ghost use Rattle.el_redo.specs.RedoBody.{head_bytes};
-    ghost use Rattle.el_pages.specs.declared.layout.TheConstants.{FORMAT_1};
-    ghost use Rattle.el_pages.specs.Indexes.{HasCounts, Shows, tables_in};
-    ghost use Rattle.el_pages.specs.Stores.{disk_below, rows_of, IsLive};
+    ghost use Rattle.el_pages.specs.declared.layout.TheConstants.{FORMAT_2};
+    ghost use Rattle.el_pages.specs.Indexes.{HasCounts, IsRooted, ShowsFor, tables_in};
+    ghost use Rattle.el_pages.specs.Stores.{disk_below, rows_of, bits_of, IsLive};
     ghost use Rattle.el_redone.specs.Steps.{IsAtRest};
 
-    /// The store over a disk whose files are at rest and have tables with these counts. It takes a buffer of
-    /// 65,536 bytes, through which its commits write, and a cache with no pages; where there is no memory for
-    /// them, the disk comes back.
-    pub fn new(alloc: Global, disk: D, counts: [u64; TABLES]) -> Result<Pages<D, N>, D>
+    /// The store over a disk on which format 2 is live, and whose files are at rest and have tables with these
+    /// counts, in an index with 2^bits buckets. It takes a buffer of 65,536 bytes, through which its commits
+    /// write, and a cache with no pages; where there is no memory for them, the disk comes back.
+    pub fn new(alloc: Global, disk: D, bits: u32, counts: [u64; TABLES]) -> Result<Pages<D, N>, D>
+        requires least { MIN_HEAD_BITS ≤ bits }
+        requires most { bits ≤ MAX_HEAD_BITS }
         requires limited { (t : Table) → count_at counts t ≤ limit_of t }
-        ensures live { IfOk result (λ store. (D.tells → IsAtRest ⟦<D as Disk>⟧ 0 9 disk)
-            → (D.tells → HasCounts FORMAT_1 (head_bytes N.magic) (D.seen disk) counts) → IsLive store) }
-        ensures rows { IfOk result (λ store. rows_of store ≡ tables_in FORMAT_1 (D.seen disk) counts) }
+        ensures live { IfOk result (λ store. (D.tells → IsAtRest ⟦<D as Disk>⟧ 20 29 disk)
+            → (D.tells → IsRooted (D.seen disk))
+            → (D.tells → HasCounts FORMAT_2 (head_bytes N.magic bits) (D.seen disk) counts) → IsLive store) }
+        ensures bits { IfOk result (λ store. bits_of store ≡ bits) }
+        ensures counts { IfOk result (λ store. (t : Table)
+            → ⟦<Pages<D, N> as Rows>⟧.counts store t ≡ count_at counts t) }
+        ensures rows { IfOk result (λ store. rows_of store ≡ tables_in FORMAT_2 (D.seen disk) counts) }
         ensures disk { IfOk result (λ store. disk_below store ≡ disk) }
         ensures back { IfErr result (λ d. d ≡ disk) }
     {
@@ -77,6 +88,7 @@ impl<D: Disk, N: NetworkMagic> Pages<D, N> {
             network: PhantomData,
             told: Snapshot::of(&disk),
             disk,
+            bits,
             counts,
             buffer,
             cache,
@@ -91,15 +103,17 @@ impl<D: Disk, N: NetworkMagic> Pages<D, N> {
         ensures moment { ⟦<Pages<D, N> as Rows>⟧.moment self ≡ D.moment result }
         ensures left { D.tells → (t : ℕ) (image : Image)
             → ⟦<Pages<D, N> as Rows>⟧.left_since self t image ↔ D.left_since result t image }
-        ensures beside { (f : ℕ) → 9 < f → ⟦<Pages<D, N> as Rows>⟧.beside self f ≡ D.seen result f }
-        ensures shows { (image : Image) (tables : Tables)
-            → ⟦<Pages<D, N> as Rows>⟧.shows image tables ↔ Shows FORMAT_1 (head_bytes N.magic) image tables }
+        ensures beside { (f : ℕ) → (f < 20) ⊎ (29 < f)
+            → ⟦<Pages<D, N> as Rows>⟧.beside self f ≡ D.seen result f }
+        ensures shows { (image : Image) (heads : ℕ) (tables : Tables)
+            → ⟦<Pages<D, N> as Rows>⟧.shows image heads tables ↔ ShowsFor N.magic image heads tables }
         ensures faults { ⟦<Pages<D, N> as Rows>⟧.faults self ≡ D.faults result }
     {
         let Pages {
             network: _,
             disk,
             told: _,
+            bits: _,
             counts: _,
             buffer: _,
             cache: _,
@@ -110,12 +124,11 @@ impl<D: Disk, N: NetworkMagic> Pages<D, N> {
 }
 
 impl<D: Disk, N: NetworkMagic> Rows for Pages<D, N> {
-    ghost use Rattle.std.specs.Prelude.{◌≡◌, ℕ};
+    ghost use Rattle.std.specs.Prelude.{◌≡◌, ◌^◌, ℕ};
     ghost use Rattle.el_outside.specs.Disk.{Image};
     ghost use Rattle.el_redo.specs.RedoBody.{head_bytes};
     ghost use Rattle.el_rows.specs.Changes.{count_at};
-    ghost use Rattle.el_pages.specs.declared.layout.TheConstants.{FORMAT_1};
-    ghost use Rattle.el_pages.specs.Indexes.{Shows};
+    ghost use Rattle.el_pages.specs.Indexes.{ShowsFor};
     ghost use Rattle.el_pages.specs.Stores.{IsKept, kept_shows, beside_in, lists_in, lists_long};
 
     ghost tells = { D.tells };
@@ -126,13 +139,16 @@ impl<D: Disk, N: NetworkMagic> Rows for Pages<D, N> {
 
     ghost counts = { λ s t. count_at s.counts t };
 
-    ghost is_live = { λ s. D.tells → IsKept ⟦<D as Disk>⟧ N.magic s.disk s.told.value s.counts s.cache };
+    ghost heads = { λ s. 2 ^ s.bits };
+
+    ghost is_live = { λ s. D.tells
+        → IsKept ⟦<D as Disk>⟧ (head_bytes N.magic s.bits) s.disk s.told.value s.counts s.cache };
 
     ghost moment = { λ s. D.moment s.disk };
 
     ghost Left = { Image };
 
-    ghost shows = { λ image tables. Shows FORMAT_1 (head_bytes N.magic) image tables };
+    ghost shows = { λ image heads tables. ShowsFor N.magic image heads tables };
 
     ghost left_since = { λ s t image. D.tells × D.left_since s.disk t image };
 
@@ -148,7 +164,8 @@ impl<D: Disk, N: NetworkMagic> Rows for Pages<D, N> {
         (left.0, D.earlier s.disk t u image left.0 le left.1) };
 
     ghost leaves_lists = { λ s image told live left.
-        kept_shows ⟦<D as Disk>⟧ N.magic s.disk s.told.value s.counts s.cache image (live told) left.1 };
+        kept_shows ⟦<D as Disk>⟧ N.magic s.bits s.disk s.told.value s.counts s.cache image s.least s.most
+        (live told) left.1 };
 
     fn count(&self, t: Table) -> u64 {
         self.counts[t.index()]
@@ -165,6 +182,7 @@ impl<D: Disk, N: NetworkMagic> Rows for Pages<D, N> {
             &mut self.disk,
             &mut self.buffer,
             N::magic(),
+            self.bits,
             &self.counts,
             sealed,
         ) {

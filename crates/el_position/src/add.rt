@@ -49,7 +49,7 @@ pub fn add_tx<R: Rows>(t: &mut Txn<'_, R>, row: &TxRow) -> Result<u64, ConnectFa
         next: found.head,
         ..*row
     };
-    let mut bytes = [0; 68];
+    let mut bytes = [0; 84];
     linked.write(&mut bytes);
     push(t, Buckets::Txids, &row.txid, &bytes)
 }

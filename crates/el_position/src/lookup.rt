@@ -70,7 +70,7 @@ pub fn newest_row<R: Rows>(
     ensures few { IfOk result (λ f. ForSome f (λ x. x.number < number_limit)) }
     ensures read { ReadsRows disk_failed t.old t.new result }
 {
-    let mut row = [0; 68];
+    let mut row = [0; 84];
     let found = find_row(t, Buckets::Txids, txid, &mut row)?;
     match found.newest {
         Some(number) => {

@@ -21,7 +21,7 @@ use Rattle.el_prepare.specs.Prepared.{prepared}
 use Rattle.el_tables.specs.Connecting.{block_between}
 use Rattle.el_tables.specs.Disconnecting.{last}
 use Rattle.el_tables.specs.Lists.{Lists, ListedEntry, script_number}
-use Rattle.el_tables.specs.Tables.{in_both, heads_for, numbers_from}
+use Rattle.el_tables.specs.Tables.{numbers_from}
 use Rattle.el_tables.proofs.Connects.{outputs_have}
 use Rattle.el_tables.proofs.Listing.{met_is}
 use Rattle.el_tables.proofs.Numbering.{length_txs}
@@ -29,7 +29,6 @@ use Rattle.el_tables.proofs.Outputs.{coins_of, coins_step, chain_coins}
 use Rattle.el_tables.proofs.Scripts.{AllIn, all_from, all_has, has_more, has_back, gathered, gather_has, all_met}
 use Rattle.el_tables.proofs.TakeBack.{last_is}
 use Rattle.el_tables.proofs.UndoneBlocks.{row_more}
-use Rattle.el_schema.specs.Standing.{heads_in}
 use Rattle.el_queries.specs.TouchedBy.{touched_in}
 use Rattle.el_queries.specs.within.LastBlock.{is_entry_of, buries, AreLast}
 use Rattle.el_queries.proofs.Law.{true_false, any_joined, Follow, follow_chain, law}
@@ -216,11 +215,6 @@ none_touched s base bs le =
     none [] h = refl
     none (p ∷ ps) h = absurd (omega arith)
 
--- where there are transactions there are heads
-pub heads_of_txs : (heads : ℕ) (chain : Chain) → 0 < heads → 0 < length (positions chain) → 0 < (heads_in heads chain).txs
-heads_of_txs heads [] there some = absurd (omega arith)
-heads_of_txs heads (b ∷ bs) there some = there
-
 -- 6. The last block
 
 follow_in : (height pos start : ℕ) (ts : List Tx) (cs : List Coin) → Follow cs (positions_in height pos start ts cs)
@@ -261,13 +255,6 @@ last_first chain b =
     ap (λ (bs : List ListedBlock). option_map (λ (x : ListedBlock). x.first_tx) (last bs)) (row_more chain b)
     ∙ ap (option_map (λ (x : ListedBlock). x.first_tx)) (last_is (listed_blocks chain) (block_between (prepared b.block) b.place (lists chain) (lists (chain ++ b ∷ []))))
     ∙ ap Some (length_txs 0 0 (positions chain))
-
-pub some_heads : (heads : ℕ) (chain : Chain) (b : Placed) → 0 < heads → 0 < (heads_in heads (chain ++ b ∷ [])).txs
-some_heads heads chain b some = rw (row_more chain b) (by (listed_blocks chain) (block_between (prepared b.block) b.place (lists chain) (lists (chain ++ b ∷ []))))
-  where
-    by : (bs : List ListedBlock) (x : ListedBlock) → 0 < (heads_for (in_both heads) (bs ++ x ∷ [])).txs
-    by [] x = some
-    by (y ∷ bs) x = some
 
 -- a chain with a block has a last one
 pub none_first : (A : Type 0) (chain : Chain) (b : Placed) → None ≡ option_map (λ (x : ListedBlock). x.first_tx) (last (listed_blocks (chain ++ b ∷ []))) → A

@@ -17,12 +17,12 @@ use Rattle.el_chain.specs.declared.coin.Coin.{Coin}
 use Rattle.el_model.specs.Queries as asked
 use Rattle.el_tables.specs.ChainLists.{lists, scripts_of}
 use Rattle.el_tables.specs.Fits.{Once}
-use Rattle.el_tables.specs.Tables.{bucket_in}
+use Rattle.el_tables.specs.Tables.{bucket_in, in_both}
 use Rattle.el_tables.proofs.FitLemmas.{chain_fits}
 use Rattle.el_buckets.specs.Buckets.{bucket_size, share_bucket}
 use Rattle.el_schema.proofs.Held.{all_more}
 use Rattle.el_row_formats.specs.Tables as held
-use Rattle.el_schema.specs.Standing.{HoldChain, buckets_in, heads_in}
+use Rattle.el_schema.specs.Standing.{HoldChain, buckets_in}
 use Rattle.el_schema.proofs.StandingLemmas.{heads_there}
 
 -- 1. Hashes among others
@@ -301,7 +301,6 @@ scripts_in_buckets chain count s =
     omega (arith, few, same)
 
 pub chain_buckets : (heads : ℕ) (rows : held.Tables) (chain : Chain) (s : Hash32) → HoldChain heads rows chain
-    → bucket_size (heads_in heads chain).scripts s (lists chain).scripts ≤ asked.scripts_in_bucket chain (buckets_in rows) s.0
-chain_buckets heads rows [] s hold = omega arith
-chain_buckets heads rows (b ∷ bs) s hold =
-    subst (λ (k : ℕ). bucket_size heads s (lists (b ∷ bs)).scripts ≤ asked.scripts_in_bucket (b ∷ bs) k s.0) (sym (heads_there heads rows b bs hold)) (scripts_in_buckets (b ∷ bs) heads s)
+    → bucket_size (in_both heads).scripts s (lists chain).scripts ≤ asked.scripts_in_bucket chain (buckets_in rows) s.0
+chain_buckets heads rows chain s hold =
+    subst (λ (k : ℕ). bucket_size heads s (lists chain).scripts ≤ asked.scripts_in_bucket chain k s.0) (sym (heads_there heads rows chain hold)) (scripts_in_buckets chain heads s)

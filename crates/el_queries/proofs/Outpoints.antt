@@ -13,7 +13,7 @@ use Rattle.el_model.specs.Queries as asked
 use Rattle.el_tables.specs.Lists.{State, ListedTx, ListedOut, Lists, output_number}
 use Rattle.el_tables.specs.Lists.State.{Unspent, Spent, Buried}
 use Rattle.el_tables.specs.ChainLists.{output, outputs_from, listed_out, scripts_of, ListedBlock, listed_blocks, lists}
-use Rattle.el_tables.specs.Tables.{HeadCounts, rows_from, tx_row, script_row}
+use Rattle.el_tables.specs.Tables.{HeadCounts, rows_from, tx_row, script_row, in_both}
 use Rattle.el_tables.specs.Queries.{height_at, shown_coin, listed_coin, listed_state, spender_by}
 use Rattle.el_tables.proofs.Answering.{coin_answers}
 use Rattle.el_tables.proofs.FitLemmas.{chain_fits}
@@ -27,7 +27,7 @@ use Rattle.el_row_formats.specs.declared.tx_row.TxRow.{TxRow}
 use Rattle.el_row_formats.specs.declared.out_row.State.TheVariants as out
 use Rattle.el_schema.specs.Rows.{Hold, out_fields, state_fields, tx_fields, script_fields}
 use Rattle.el_schema.proofs.Held.{no_tx, count_txs, count_tx_heads}
-use Rattle.el_schema.specs.Standing.{HoldChain, heads_in}
+use Rattle.el_schema.specs.Standing.{HoldChain}
 use Rattle.el_schema.proofs.Answered.{if_ok}
 use Rattle.el_spend.specs.Outputs.{output_at, named_among}
 use Rattle.el_spend.specs.declared.lookup.NamedOutput.{NamedOutput}
@@ -201,14 +201,11 @@ coin_by_rows a b o l row tx script e f =
 
 -- 6. From rows that stand for a chain
 
--- also on no blocks, where there are no heads
 pub output_in : {E : Type 0} (heads : ℕ) (chain : Chain) (shown : held.Tables) (o : Outpoint) (n : ℕ) (r : Result (Option NamedOutput) E) → 0 < heads → HoldChain heads shown chain → n ≡ length (shown table.Txs)
-    → (length (shown table.TxHeads) ≡ 0 → IfOk r (λ f. f ≡ None))
     → ((counts : HeadCounts) (bs : List ListedBlock) (l : Lists) → Hold counts bs l shown → 0 < counts.txs → IfOk r (λ f. f ≡ named_among o n l))
     → IfOk r (λ f. f ≡ output_of o (lists chain))
-output_in heads [] shown o n r some hold many none named = none (count_tx_heads (heads_in heads []) [] (lists []) shown hold)
-output_in heads (b ∷ bs) shown o n r some hold many none named =
-    let counts = heads_in heads (b ∷ bs) in
-    let blocks = listed_blocks (b ∷ bs) in
-    let l = lists (b ∷ bs) in
+output_in heads chain shown o n r some hold many named =
+    let counts = in_both heads in
+    let blocks = listed_blocks chain in
+    let l = lists chain in
     if_ok r (named counts blocks l hold some) (λ f is. is ∙ among_all o n l (many ∙ count_txs counts blocks l shown hold))

@@ -9,7 +9,7 @@ use Rattle.el_tables.specs.ChainLists.{lists}
 use Rattle.el_tables.specs.Edits as edit
 use Rattle.el_tables.specs.Fits.{Fits, OutsWithin}
 use Rattle.el_tables.specs.Lists.{ListedOut, Lists, script_number, is_of_script, is_unspent, balance_of}
-use Rattle.el_tables.specs.Tables.{HeadCounts, script_row}
+use Rattle.el_tables.specs.Tables.{HeadCounts, script_row, in_both}
 use Rattle.el_tables.proofs.FitLemmas.{new_has_no_entry}
 use Rattle.el_tables.proofs.Scripts.{number_next}
 use Rattle.el_row_formats.specs.declared.script_row.ScriptRow.{ScriptRow}
@@ -17,7 +17,6 @@ use Rattle.el_buckets.specs.Buckets.{newest_of, below}
 use Rattle.el_schema.specs.Rows.{script_fields}
 use Rattle.el_buckets.proofs.Heads.{below_all}
 use Rattle.el_script.proofs.Causes.{newest_none, newest_some}
-use Rattle.el_schema.specs.Standing.{heads_in}
 use Rattle.el_script.specs.declared.lookup.FoundScript.{FoundScript}
 use Rattle.el_script.specs.Found.{HasHeads, script_in}
 use Rattle.el_queries.proofs.EntryWalks.{no_entry}
@@ -77,9 +76,8 @@ none_balance s l fits none = ap (λ (k : ℕ). balance_of k l.outs) (number_next
 -- 3. Heads
 
 -- of a chain
-pub chain_has_heads : (heads : ℕ) (chain : Chain) → 0 < heads → HasHeads (heads_in heads chain) (lists chain)
-chain_has_heads heads [] there some = absurd (omega arith)
-chain_has_heads heads (b ∷ bs) there some = there
+pub chain_has_heads : (heads : ℕ) (chain : Chain) → 0 < heads → HasHeads (in_both heads) (lists chain)
+chain_has_heads heads chain there some = there
 
 -- the last entry of the script that was found
 pub last_is : (s : Hash32) (counts : HeadCounts) (l : Lists) (f : FoundScript) (count : ℕ) (link : Option ℕ) → Fits l → Some f ≡ script_in s counts l → count ≡ length l.entries

@@ -1,5 +1,5 @@
 -- Where the transactions of a chain stand, by its lists.
-use Rattle.std.proofs.Common.{◌≡◌, inl, inr, ℕ, zero, suc, ◌+◌, ◌-◌, ◌<◌, ◌≤◌, List, [], ◌∷◌, ◌++◌, length, map, filter, get_or, slice_get, Option, None, Some, option_map, option_and_then, refl, ap, ap₂, sym, subst, ◌∙◌, arith}
+use Rattle.std.proofs.Common.{◌≡◌, inl, inr, ℕ, zero, suc, ◌+◌, ◌-◌, ◌^◌, ◌<◌, ◌≤◌, min, List, [], ◌∷◌, ◌++◌, length, map, filter, get_or, slice_get, Option, None, Some, option_map, option_and_then, refl, ap, ap₂, sym, subst, ◌∙◌, arith}
 use Rattle.std.proofs.lemmas.Bool.{cases_Bool, cases_lt}
 use Rattle.std.proofs.lemmas.List.Sums.{length-filter}
 use Rattle.std.specs.Option.{option_or}
@@ -19,7 +19,7 @@ use Rattle.el_model.specs.Queries as asked
 use Rattle.el_tables.specs.Disconnecting.{last}
 use Rattle.el_tables.specs.Lists.{ListedTx, Lists, newest_tx}
 use Rattle.el_tables.specs.ChainLists.{ListedBlock, listed_block, listed_blocks_from, listed_blocks, txs_from, lists}
-use Rattle.el_tables.specs.Tables.{HeadCounts, rows_from, tx_row, bucket_in}
+use Rattle.el_tables.specs.Tables.{HeadCounts, rows_from, tx_row, bucket_in, in_both}
 use Rattle.el_tables.proofs.Found.{newest_position}
 use Rattle.el_row_formats.specs.Tables as held
 use Rattle.el_row_formats.specs.declared.table.Table.TheVariants as table
@@ -28,12 +28,12 @@ use Rattle.el_row_formats.specs.declared.tx_row.TxRow.{TxRow}
 use Rattle.el_schema.specs.Rows.{Hold, block_fields, tx_fields}
 use Rattle.el_buckets.specs.Buckets.{share_bucket, bucket_size}
 use Rattle.el_schema.proofs.Held.{no_tx, count_tx_heads}
-use Rattle.el_schema.specs.Standing.{HoldChain, buckets_in, heads_in}
+use Rattle.el_schema.specs.Standing.{HoldChain, buckets_in}
 use Rattle.el_schema.proofs.StandingLemmas.{heads_there}
 use Rattle.el_schema.proofs.Rows.{listed_row, row_within}
 use Rattle.el_position.specs.Numbered.{number_of}
 use Rattle.el_position.specs.declared.lookup.NumberedTx.{NumberedTx}
-use Rattle.el_queries.specs.within.Lookups.{spot_in}
+use Rattle.el_queries.specs.within.Lookups.{spot_in, IsInItsBlock}
 use Rattle.el_queries.proofs.Heights.{id_of, id_in, ids_listed}
 
 -- 1. The newest position with a txid
@@ -89,6 +89,7 @@ record InBlock (height first n : ℕ) (chain : Chain) (coins : List Coin) (p : P
   pub block_at : slice_get chain h ≡ Some block
   pub place_is : row.place ≡ block.place
   pub number_is : first + n ≡ row.first_tx + p.pos
+  pub within : p.pos < row.txs
 
 -- a position of one block
 record AtPos (height pos n : ℕ) (p : Position) : Type 0 where
@@ -132,6 +133,7 @@ in_block height first n (b ∷ bs) coins p e =
             block_at = refl;
             place_is = refl;
             number_is = omega (arith, at.pos_is);
+            within = omega (arith, at.pos_is, lt);
           }
       | inr le ↦
           let past = past_block height 0 (first_start ts) ts coins n rest le in
@@ -145,6 +147,7 @@ in_block height first n (b ∷ bs) coins p e =
             block_at = more.block_at;
             place_is = more.place_is;
             number_is = omega (arith, more.number_is, le);
+            within = more.within;
           }
     ]
 
@@ -155,6 +158,23 @@ spot_from height pos place start len = record { height = height; pos = pos; plac
 
 same_spot : (h h' i i' : ℕ) (l l' : Place) (s s' n n' : ℕ) → h ≡ h' → i ≡ i' → l ≡ l' → s ≡ s' → n ≡ n' → spot_from h i l s n ≡ spot_from h' i' l' s' n'
 same_spot h h' i i' l l' s s' n n' a b c d e = cc
+
+-- a transaction with its row stands in its block
+pub in_its_block : (count : ℕ) (chain : Chain) (x : NumberedTx)
+    → Some x.row ≡ option_map tx_fields (slice_get (rows_from (tx_row count (lists chain).txs) 0 (lists chain).txs) x.number)
+    → IsInItsBlock x (listed_blocks chain)
+in_its_block count chain x e b at =
+    let txs = (lists chain).txs in
+    let lt = row_within count txs x.number x.row e in
+    let t = told 0 0 x.number (positions chain) lt in
+    let p = in_block 0 0 x.number chain [] t.p t.here in
+    let height_is : x.row.height ≡ p.h = ap (λ (r : TxRow). r.height) (listed_row count txs x.number x.row e) ∙ t.height ∙ p.height_is ∙ (omega arith) in
+    let same : p.row ≡ b = one p.row b (sym p.row_at ∙ ap (slice_get (listed_blocks chain)) (sym height_is) ∙ at) in
+    let pos_is : x.number - p.row.first_tx ≡ t.p.pos = (let n = p.number_is in omega (arith, n)) in
+    subst (λ (r : ListedBlock). x.number - r.first_tx < r.txs) same (let m = p.within in omega (arith, pos_is, m))
+  where
+    one : (a c : ListedBlock) → Some a ≡ Some c → a ≡ c
+    one a c f = cc
 
 -- a transaction with its row stands where the newest position with its txid does
 pub spot_told : (count : ℕ) (chain : Chain) (id : Hash32) (x : NumberedTx) → Some x.number ≡ newest_tx id (lists chain).txs
@@ -214,28 +234,31 @@ in_bucket_told count chain id =
 -- 5. From rows that stand for a chain
 
 -- where a block has this row, the spot is that by its fields
-pub spot_by_row : (x : NumberedTx) (bs : List ListedBlock) (h pos : ℕ) (block : BlockRow) → Some block ≡ option_map block_fields (slice_get bs h) → pos ≡ x.number - block.first_tx
+pub spot_by_row : (x : NumberedTx) (bs : List ListedBlock) (h pos : ℕ) (block : BlockRow) → Some block ≡ option_map block_fields (slice_get bs h)
+    → h ≡ x.row.height → IsInItsBlock x bs → block.txs < 2 ^ 32 → pos ≡ min (x.number - block.first_tx) 4294967295
     → Some (spot_from x.row.height pos block.place x.row.start x.row.len) ≡ option_map (spot_in x) (slice_get bs h)
-spot_by_row x bs h pos block e is = by (slice_get bs h) e
+spot_by_row x bs h pos block e high within fits is = by (slice_get bs h) refl e
   where
-    by : (s : Option ListedBlock) → Some block ≡ option_map block_fields s → Some (spot_from x.row.height pos block.place x.row.start x.row.len) ≡ option_map (spot_in x) s
-    by None f = absurd cc
-    by (Some b) f =
+    by : (s : Option ListedBlock) → slice_get bs h ≡ s → Some block ≡ option_map block_fields s
+        → Some (spot_from x.row.height pos block.place x.row.start x.row.len) ≡ option_map (spot_in x) s
+    by None at f = absurd cc
+    by (Some b) at f =
         let row_is : block ≡ block_fields b = cc in
-        ap₂ (λ (p : ℕ) (l : Place). Some (spot_from x.row.height p l x.row.start x.row.len)) (is ∙ ap (λ (r : BlockRow). x.number - r.first_tx) row_is) (ap (λ (r : BlockRow). r.place) row_is)
+        let first_is : block.first_tx ≡ b.first_tx = ap (λ (r : BlockRow). r.first_tx) row_is in
+        let txs_is : block.txs ≡ b.txs = ap (λ (r : BlockRow). r.txs) row_is in
+        let few = within b (ap (slice_get bs) (sym high) ∙ at) in
+        let pos_is : pos ≡ x.number - b.first_tx = omega (arith, few, fits, txs_is, first_is, is) in
+        ap₂ (λ (p : ℕ) (l : Place). Some (spot_from x.row.height p l x.row.start x.row.len)) pos_is (ap (λ (r : BlockRow). r.place) row_is)
 
--- also on no blocks, where there are no heads
-pub newest_in : (heads : ℕ) (chain : Chain) (shown : held.Tables) (id : Hash32) (f : Option NumberedTx) → 0 < heads → HoldChain heads shown chain → (length (shown table.TxHeads) ≡ 0 → f ≡ None)
+pub newest_in : (heads : ℕ) (chain : Chain) (shown : held.Tables) (id : Hash32) (f : Option NumberedTx) → 0 < heads → HoldChain heads shown chain
     → ((counts : HeadCounts) (bs : List ListedBlock) (l : Lists) → Hold counts bs l shown → 0 < counts.txs → option_map number_of f ≡ newest_tx id l.txs)
     → option_map number_of f ≡ newest_tx id (lists chain).txs
-newest_in heads [] shown id f some hold none newest = ap (option_map number_of) (none (count_tx_heads (heads_in heads []) [] (lists []) shown hold))
-newest_in heads (b ∷ bs) shown id f some hold none newest = newest (heads_in heads (b ∷ bs)) (listed_blocks (b ∷ bs)) (lists (b ∷ bs)) hold some
+newest_in heads chain shown id f some hold newest = newest (in_both heads) (listed_blocks chain) (lists chain) hold some
 
-pub rows_in : (heads : ℕ) (chain : Chain) (shown : held.Tables) (id : Hash32) (before after : ℕ) → 0 < heads → HoldChain heads shown chain → (length (shown table.TxHeads) ≡ 0 → after ≡ before)
+pub rows_in : (heads : ℕ) (chain : Chain) (shown : held.Tables) (id : Hash32) (before after : ℕ) → 0 < heads → HoldChain heads shown chain
     → ((counts : HeadCounts) (bs : List ListedBlock) (l : Lists) → Hold counts bs l shown → 0 < counts.txs → after ≤ before + 1 + bucket_size counts.txs id (map id_of l.txs))
     → after ≤ before + 1 + asked.txs_in_bucket chain (buckets_in shown) id.0
-rows_in heads [] shown id before after some hold idle steps = let same = idle (count_tx_heads (heads_in heads []) [] (lists []) shown hold) in omega (arith, same)
-rows_in heads (b ∷ bs) shown id before after some hold idle steps =
-    let few = steps (heads_in heads (b ∷ bs)) (listed_blocks (b ∷ bs)) (lists (b ∷ bs)) hold some in
-    let many = in_bucket_told heads (b ∷ bs) id ∙ ap (λ (k : ℕ). asked.txs_in_bucket (b ∷ bs) k id.0) (sym (heads_there heads shown b bs hold)) in
+rows_in heads chain shown id before after some hold steps =
+    let few = steps (in_both heads) (listed_blocks chain) (lists chain) hold some in
+    let many = in_bucket_told heads chain id ∙ ap (λ (k : ℕ). asked.txs_in_bucket chain k id.0) (sym (heads_there heads shown chain hold)) in
     subst (λ (k : ℕ). after ≤ before + 1 + k) many few

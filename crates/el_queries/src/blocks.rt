@@ -80,7 +80,7 @@ pub fn block_txids<R: Rows>(
     ensures read { ReadsRows QueryFault.DiskFailed t.old t.new result }
 {
     let row = block_row(t, u64::from(h))?;
-    let end = row.first_tx + u64::from(row.txs);
+    let end = u128::from(row.first_tx) + u128::from(row.txs);
     txids_between(alloc, t, row.first_tx, end)
 }
 
@@ -89,7 +89,7 @@ fn txids_between<R: Rows>(
     alloc: Global,
     t: &mut Txn<'_, R>,
     first: u64,
-    end: u64,
+    end: u128,
 ) -> Result<Vec<Hash32>, QueryFault>
     requires live { R.is_live t.old.rows.now }
     ensures txids { (tb : typed.Tables) → R.tells → Encode (tables_in t.old) tb
@@ -98,7 +98,9 @@ fn txids_between<R: Rows>(
     ensures rows { reads_in t.new ≤ reads_in t.old + (min end (length (tables_in t.old Table.Txs)) - first) }
     ensures read { ReadsRows QueryFault.DiskFailed t.old t.new result }
 {
-    let there = end.min(t.count(Table::Txs));
+    let count = u128::from(t.count(Table::Txs));
+    let most = end.min(count);
+    let there = most as u64;
     let mut found = Vec::new(alloc);
     for n in first..there {
         let row = tx_row(t, n)?;

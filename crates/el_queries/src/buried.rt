@@ -64,7 +64,8 @@ fn touch_buried<R: Rows>(
     if row.older.is_none() {
         return Ok(());
     }
-    let outs = row.outs.min(t.count(Table::Outs) as u32);
+    let most = u64::from(row.outs).min(t.count(Table::Outs));
+    let outs = most as u32;
     for index in 0..outs {
         let o = Outpoint {
             txid: row.txid,

@@ -7,7 +7,7 @@ ghost use Rattle.el_rows.specs.Transaction.{tables_in, reads_in, disk_failed, Re
 ghost use Rattle.el_schema.specs.Standing.{StandFor, buckets_in};
 ghost use Rattle.el_tables.specs.Tables as typed;
 ghost use Rattle.el_schema.specs.Rows.{Encode};
-ghost use Rattle.el_queries.specs.within.Lookups.{spot_in};
+ghost use Rattle.el_queries.specs.within.Lookups.{spot_in, IsInItsBlock};
 
 use el_base::Hash32;
 use el_chain::Spot;
@@ -16,6 +16,9 @@ use el_position::{NumberedTx, newest_row};
 use el_row_formats::Table;
 use el_rows::{Rows, Txn};
 use el_schema::block_row;
+
+// No transaction of a block stands behind this position.
+const MAX_POS: u64 = 4_294_967_295;
 
 /// Where the newest transaction with that txid, in inner order, stands; None exactly where the chain has
 /// none. It takes no memory. It reads one head, the rows of transactions in the txid's bucket as far as it is
@@ -39,7 +42,8 @@ pub fn find_tx<R: Rows>(t: &mut Txn<'_, R>, txid: &Hash32) -> Result<Option<Spot
 fn spot_of<R: Rows>(t: &mut Txn<'_, R>, found: &NumberedTx) -> Result<Option<Spot>, DiskFailed>
     requires live { R.is_live t.old.rows.now }
     requires few { found.now.number < number_limit }
-    ensures spot { (tb : typed.Tables) → R.tells → Encode (tables_in t.old) tb → IfOk result
+    ensures spot { (tb : typed.Tables) → R.tells → Encode (tables_in t.old) tb
+        → IsInItsBlock found.now tb.blocks → IfOk result
         (λ s. s ≡ option_map (spot_in found.now) (slice_get tb.blocks found.now.row.height)) }
     ensures read { ReadsRows disk_failed t.old t.new result }
     ensures rows { reads_in t.new ≤ reads_in t.old + 1 }
@@ -49,9 +53,10 @@ fn spot_of<R: Rows>(t: &mut Txn<'_, R>, found: &NumberedTx) -> Result<Option<Spo
         return Ok(None);
     }
     let block = block_row(t, height)?;
+    let pos = found.number.saturating_sub(block.first_tx).min(MAX_POS);
     Ok(Some(Spot {
         height: found.row.height,
-        pos: found.number.saturating_sub(block.first_tx) as u32,
+        pos: pos as u32,
         place: block.place,
         start: found.row.start,
         len: found.row.len,

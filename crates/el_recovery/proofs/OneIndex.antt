@@ -1,7 +1,7 @@
 -- An image stands for one index.
-use Rattle.std.proofs.Common.{◌≡◌, ⊎_elim, ◌<◌, ◌^◌, ℕ, List, [], ◌∷◌, ◌++◌, length, map, get_or, refl, ap, sym, ◌∙◌, arith, append_assoc, length-append}
+use Rattle.std.proofs.Common.{◌≡◌, ◌<◌, ◌^◌, ℕ, List, [], ◌∷◌, ◌++◌, length, map, get_or, refl, ap, sym, ◌∙◌, arith, append_assoc, length-append}
 use Rattle.std.specs.List.{AllByRecursion}
-use Rattle.std.specs.Int.{w64, to_le_bytes}
+use Rattle.std.specs.Int.{w32, w64, to_le_bytes}
 use Rattle.el_base.proofs.Lists.{same_cut}
 use Rattle.el_outside.specs.Disk.{Image}
 use Rattle.el_row_formats.specs.declared.table.Table.{Table}
@@ -10,11 +10,11 @@ use Rattle.el_row_formats.specs.Tables.{Tables, index_of}
 use Rattle.el_row_formats.proofs.Keys.{index_within}
 use Rattle.el_rows.specs.Changes.{count_at}
 use Rattle.el_rows.specs.Reads.{Same}
-use Rattle.el_redo.specs.RedoBody.{numbers_bytes, all_tables}
+use Rattle.el_redo.specs.RedoBody.{head_bytes, numbers_bytes, all_tables}
 use Rattle.el_pages.specs.declared.layout.Layout.{Layout}
 use Rattle.el_pages.specs.Layouts.{file_of, redo_of, size_in, limit_in, rows_in}
 use Rattle.el_pages.specs.Records.{meta_of}
-use Rattle.el_pages.specs.Indexes.{HasMeta, HasNone, HasCounts, Shows}
+use Rattle.el_pages.specs.Indexes.{HasCounts, Shows}
 use Rattle.el_recovery.proofs.Spelled.{same_number}
 use Rattle.el_recovery.proofs.Alike.{one_stands}
 
@@ -52,40 +52,33 @@ all_small : (counts : List ℕ) → ((t : Table) → count_at counts t < 2 ^ 64)
 all_small counts small =
     (small table.Blocks, (small table.Txs, (small table.TxHeads, (small table.Outs, (small table.Ins, (small table.Scripts, (small table.ScriptHeads, (small table.Entries, tt))))))))
 
-module _ (head : List ℕ) where
-  after_head : (counts r : List ℕ) → meta_of head counts ++ r ≡ head ++ (numbers_bytes (all_counts counts) ++ r)
-  unfolding meta_of
-  after_head counts r = append_assoc head (numbers_bytes (all_counts counts)) r
+after_head : (head counts r : List ℕ) → meta_of head counts ++ r ≡ head ++ (numbers_bytes (all_counts counts) ++ r)
+unfolding meta_of
+after_head head counts r = append_assoc head (numbers_bytes (all_counts counts)) r
 
-  one_meta : (a b r s : List ℕ) → ((t : Table) → count_at a t < 2 ^ 64) → ((t : Table) → count_at b t < 2 ^ 64) → meta_of head a ++ r ≡ meta_of head b ++ s
+-- heads of one network have one length
+pub heads_long : (magic : List ℕ) (m n : ℕ) → length (head_bytes magic m) ≡ length (head_bytes magic n)
+unfolding head_bytes
+heads_long magic m n =
+    let one : length (to_le_bytes w32 m) ≡ 4 = refl in
+    let two : length (to_le_bytes w32 n) ≡ 4 = refl in
+    omega (arith, length-append magic (to_le_bytes w32 m), length-append magic (to_le_bytes w32 n), one, two)
+
+module _ (head other : List ℕ) (long : length head ≡ length other) where
+  one_meta : (a b r s : List ℕ) → ((t : Table) → count_at a t < 2 ^ 64) → ((t : Table) → count_at b t < 2 ^ 64) → meta_of head a ++ r ≡ meta_of other b ++ s
       → (t : Table) → count_at a t ≡ count_at b t
   one_meta a b r s few less same t =
-      let cut = same_cut head (numbers_bytes (all_counts a) ++ r) head (numbers_bytes (all_counts b) ++ s) refl (sym (after_head a r) ∙ same ∙ after_head b s) in
+      let cut = same_cut head (numbers_bytes (all_counts a) ++ r) other (numbers_bytes (all_counts b) ++ s) long (sym (after_head head a r) ∙ same ∙ after_head other b s) in
       sym (count_in_all a t)
       ∙ ap (λ (ns : List ℕ). get_or ns (index_of t) 0) (same_numbers (all_counts a) (all_counts b) r s (all_small a few) (all_small b less) refl cut.1)
       ∙ count_in_all b t
 
-  -- a meta row isn't empty
-  no_meta : (counts r : List ℕ) → meta_of head counts ++ r ≡ [] → ⊥
-  no_meta counts r none =
-      let numbers = numbers_bytes (all_counts counts) in
-      let long : length numbers ≡ 64 = refl in
-      absurd (omega (arith, ap (λ (b : List ℕ). length b) (sym (after_head counts r) ∙ none), length-append head (numbers ++ r), length-append numbers r, long))
+module _ (l : Layout) (limited : (t : Table) → limit_in l t < 2 ^ 64) (head other : List ℕ) (long : length head ≡ length other) where
+  one_counts : (x y : Image) (a b : List ℕ) → x l.first ≡ y l.first → HasCounts l head x a → HasCounts l other y b → (t : Table) → count_at a t ≡ count_at b t
+  one_counts x y a b same m n t =
+      one_meta head other long a b m.rest n.rest (λ u. omega (arith, m.limited u, limited u)) (λ u. omega (arith, n.limited u, limited u)) (sym m.meta ∙ same ∙ n.meta) t
 
-module _ (l : Layout) (limited : (t : Table) → limit_in l t < 2 ^ 64) (head : List ℕ) where
-  one_counts : (x y : Image) (a b : List ℕ) → x l.first ≡ y l.first → HasCounts l head x a → HasCounts l head y b → (t : Table) → count_at a t ≡ count_at b t
-  one_counts x y a b same first second t = ⊎_elim
-      (λ (m : HasMeta l head x a). ⊎_elim
-      (λ (n : HasMeta l head y b). one_meta head a b m.rest n.rest (λ u. omega (arith, m.limited u, limited u)) (λ u. omega (arith, n.limited u, limited u)) (sym m.meta ∙ same ∙ n.meta) t)
-      (λ (n : HasNone l y b). absurd (no_meta head a m.rest (sym m.meta ∙ same ∙ n.empty)))
-      second)
-      (λ (m : HasNone l x a). ⊎_elim
-      (λ (n : HasMeta l head y b). absurd (no_meta head b n.rest (sym n.meta ∙ sym same ∙ m.empty)))
-      (λ (n : HasNone l y b). m.none t ∙ sym (n.none t))
-      second)
-      first
-
-  pub one_index : (image : Image) (a b : Tables) → length (image (redo_of l)) < 2 ^ 62 → Shows l head image a → Shows l head image b → Same a b
+  pub one_index : (image : Image) (a b : Tables) → length (image (redo_of l)) < 2 ^ 62 → Shows l head image a → Shows l other image b → Same a b
   one_index image a b small x y t =
       let files = one_stands l image x.files y.files small x.stands y.stands in
       let counts = one_counts x.files y.files x.counts y.counts (files l.first (omega arith) (omega arith)) x.has y.has t in

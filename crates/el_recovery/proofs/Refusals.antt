@@ -6,16 +6,14 @@ use Rattle.el_outside.specs.Disk.{Image}
 use Rattle.el_row_formats.specs.declared.table.Table.{Table}
 use Rattle.el_row_formats.specs.Tables.{Tables}
 use Rattle.el_rows.specs.Changes.{count_at}
-use Rattle.el_redo.specs.RedoBody.{head_bytes}
 use Rattle.el_redo.specs.declared.faults.OpenFault.{OpenFault}
 use Rattle.el_redo.specs.declared.faults.OpenFault.TheVariants as fault
 use Rattle.el_redone.specs.Redone.{StandsFor}
-use Rattle.el_pages.specs.declared.layout.TheConstants.{FORMAT_1}
+use Rattle.el_pages.specs.declared.layout.TheConstants.{FORMAT_2}
 use Rattle.el_pages.specs.Layouts.{file_of, size_in}
 use Rattle.el_pages.specs.Records.{Spells}
-use Rattle.el_pages.specs.Indexes.{Shows}
 use Rattle.el_pages.proofs.Laid.{some_size, length-rows_in}
-use Rattle.el_recovery.specs.Checks.{Found, bad_index, HasHeads, IsBadBody, IsBadFiles, IsBadIndex, sizes_in}
+use Rattle.el_recovery.specs.Checks.{Found, bad_index, HasHeads, IsIndex, IsBadBody, IsBadFiles, IsBadIndex, sizes_in}
 use Rattle.el_recovery.proofs.Settles.{Begun, stands_before, bad_same}
 use Rattle.el_recovery.proofs.Verdicts.{one_bad_index, settled_or_bad}
 
@@ -23,47 +21,47 @@ use Rattle.el_recovery.proofs.Verdicts.{one_bad_index, settled_or_bad}
 abbrev pub Told : OpenFault → (Found → Type 0) → Type 0
 Told e Bad = (e ≡ fault.DiskFailed) ⊎ ((found : Found) × (e ≡ bad_index found) × Bad found)
 
-module _ (magic : List ℕ) (old : Image) (small : length (old 9) < 2 ^ 62) (e : OpenFault) (told : Told e (IsBadIndex FORMAT_1 (from_le_bytes w32 magic) old)) where
+module _ (magic : List ℕ) (old : Image) (small : length (old 29) < 2 ^ 62) (e : OpenFault) (told : Told e (IsBadIndex FORMAT_2 (from_le_bytes w32 magic) old)) where
   -- it is one thing
-  pub one_told : (found : Found) → IsBadIndex FORMAT_1 (from_le_bytes w32 magic) old found → (e ≡ fault.DiskFailed) ⊎ (e ≡ bad_index found)
+  pub one_told : (found : Found) → IsBadIndex FORMAT_2 (from_le_bytes w32 magic) old found → (e ≡ fault.DiskFailed) ⊎ (e ≡ bad_index found)
   one_told found bad = ⊎_elim
       (λ failed. inl failed)
-      (λ other. inr (other.1 ∙ ap bad_index (one_bad_index FORMAT_1 some_size (from_le_bytes w32 magic) old other.0 found small other.2 bad)))
+      (λ other. inr (other.1 ∙ ap bad_index (one_bad_index FORMAT_2 some_size (from_le_bytes w32 magic) old other.0 found small other.2 bad)))
       told
 
-  -- none is found in an image that stands for tables with the heads that they may have
-  pub none_told : length magic ≡ 4 → (tables : Tables) → Shows FORMAT_1 (head_bytes magic) old tables → HasHeads (λ (t : Table). length (tables t)) → e ≡ fault.DiskFailed
-  none_told four tables shows heads = ⊎_elim
+  -- none is found in an image that an opening takes
+  pub none_told : length magic ≡ 4 → (tables : Tables) → IsIndex magic old tables → e ≡ fault.DiskFailed
+  none_told four tables index = ⊎_elim
       (λ failed. failed)
-      (λ bad. absurd (settled_or_bad magic old shows.files shows.counts bad.0 four small some_size shows.stands shows.has (heads_of shows) bad.2))
+      (λ bad. absurd (settled_or_bad magic old index.shows.files index.shows.counts index.bits bad.0 four small some_size index.shows.stands index.shows.has index.may_be (heads_of index) bad.2))
       told
     where
-      heads_of : (shows : Shows FORMAT_1 (head_bytes magic) old tables) → HasHeads (count_at shows.counts)
-      heads_of shows = subst (λ (count : Table → ℕ). HasHeads count)
-          (fun_ext (λ (t : Table). ap (λ (rows : List (List ℕ)). length rows) (shows.same t) ∙ length-rows_in (size_in FORMAT_1 t) (shows.files (file_of FORMAT_1 t)) (count_at shows.counts t)))
-          heads
+      heads_of : (index : IsIndex magic old tables) → HasHeads index.bits (count_at index.shows.counts)
+      heads_of index = let shows = index.shows in subst (λ (count : Table → ℕ). HasHeads index.bits count)
+          (fun_ext (λ (t : Table). ap (λ (rows : List (List ℕ)). length rows) (shows.same t) ∙ length-rows_in (size_in FORMAT_2 t) (shows.files (file_of FORMAT_2 t)) (count_at shows.counts t)))
+          index.heads
 
 -- what was found after the opening's start was there before
-module _ (magic : List ℕ) (old begun new : Image) (b : Begun 9 old begun) (e : OpenFault) where
+module _ (magic : List ℕ) (old begun new : Image) (b : Begun 29 old begun) (e : OpenFault) where
   -- a bad body, and nothing was changed
   abbrev pub BodyRefused : Type 0
-  BodyRefused = (e ≡ fault.DiskFailed) ⊎ ((found : Found) × (e ≡ bad_index found) × IsBadBody FORMAT_1 begun found × (new ≡ begun))
+  BodyRefused = (e ≡ fault.DiskFailed) ⊎ ((found : Found) × (e ≡ bad_index found) × IsBadBody FORMAT_2 begun found × (new ≡ begun))
 
-  pub body_refused : BodyRefused → Told e (IsBadIndex FORMAT_1 (from_le_bytes w32 magic) old)
+  pub body_refused : BodyRefused → Told e (IsBadIndex FORMAT_2 (from_le_bytes w32 magic) old)
   body_refused told = ⊎_elim
       (λ failed. inl failed)
-      (λ bad. inr (bad.0, bad.1, inl (subst (λ (s : Image). IsBadBody FORMAT_1 s bad.0) (bad_same FORMAT_1 old begun b some_size bad.0 bad.2) bad.2)))
+      (λ bad. inr (bad.0, bad.1, inl (subst (λ (s : Image). IsBadBody FORMAT_2 s bad.0) (bad_same FORMAT_2 old begun b some_size bad.0 bad.2) bad.2)))
       told
 
   pub body_untouched : BodyRefused → (e ≡ fault.DiskFailed) ⊎ (new ≡ old)
   body_untouched told = ⊎_elim
       (λ failed. inl failed)
-      (λ bad. inr (bad.3 ∙ bad_same FORMAT_1 old begun b some_size bad.0 bad.2))
+      (λ bad. inr (bad.3 ∙ bad_same FORMAT_2 old begun b some_size bad.0 bad.2))
       told
 
-  pub files_refused : StandsFor (Spells FORMAT_1) 0 9 new begun → Told e (IsBadFiles FORMAT_1 (from_le_bytes w32 magic) (new 0) (sizes_in FORMAT_1 new))
-      → Told e (IsBadIndex FORMAT_1 (from_le_bytes w32 magic) old)
+  pub files_refused : StandsFor (Spells FORMAT_2) 20 29 new begun → Told e (IsBadFiles FORMAT_2 (from_le_bytes w32 magic) (new 20) (sizes_in FORMAT_2 new))
+      → Told e (IsBadIndex FORMAT_2 (from_le_bytes w32 magic) old)
   files_refused stands told = ⊎_elim
       (λ failed. inl failed)
-      (λ bad. inr (bad.0, bad.1, inr (record { files = new; stands = stands_before FORMAT_1 old begun b new stands; which = bad.2 })))
+      (λ bad. inr (bad.0, bad.1, inr (record { files = new; stands = stands_before FORMAT_2 old begun b new stands; which = bad.2 })))
       told

@@ -7,8 +7,9 @@ use Rattle.el_outside.specs.Disk.{Image, OnDisk, NothingNew}
 use Rattle.el_outside.specs.Moments.{LeftNow, Passes}
 use Rattle.el_outside.proofs.Moments.{weaker, joined}
 use Rattle.el_row_formats.specs.declared.table.Table.{Table}
-use Rattle.el_redone.specs.Redone.{Write, overlaid, into, IsClosed, StandsFor, StandsAlike}
-use Rattle.el_redone.specs.Steps.{EachNow, Leaves, AreOnDisk, IsAtRest, IsBegun, IsAlike}
+use Rattle.el_redone.specs.Redone.{Write, overlaid, into, IsClosed, StandsFor}
+use Rattle.el_redone.specs.Steps.{EachNow, Leaves, AreOnDisk, IsRootOnDisk, IsAtRest, IsBegun, IsAlikeTo, IsAlike}
+use Rattle.el_redone.specs.declared.steps.TheConstants.{ROOT}
 use Rattle.el_redone.proofs.Runs.{stays, goes_on, now_has}
 use Rattle.el_pages.specs.declared.layout.Layout.{Layout}
 use Rattle.el_pages.specs.Layouts.{redo_of, size_in}
@@ -22,9 +23,12 @@ use Rattle.el_recovery.proofs.Decided.{bad_opened}
 
 module _ {D : Type 0} (G : disk.Ghosts D) where
   -- each image stands alike with the disk as it reads
-  each_alike : (l : Layout) (d : D) → AreOnDisk G l.first (redo_of l) d → OnDisk (redo_of l) (G.seen d) (LeftNow G.moment G.left_since d)
-      → EachNow G (StandsAlike (Spells l) l.first (redo_of l) (G.seen d)) d
-  each_alike l d on_disk redo_disk c left = begun_alike l (G.seen d) c (λ f low lt. on_disk f low lt c left) (inl (redo_disk c left))
+  each_alike : (l : Layout) (d : D) → AreOnDisk G l.first (redo_of l) d → OnDisk (redo_of l) (G.seen d) (LeftNow G.moment G.left_since d) → IsRootOnDisk G (redo_of l) d
+      → EachNow G (IsAlikeTo (Spells l) l.first (redo_of l) (G.seen d)) d
+  each_alike l d on_disk redo_disk root_disk c left = record {
+    alike = begun_alike l (G.seen d) c (λ f low lt. on_disk f low lt c left) (inl (redo_disk c left));
+    root = λ after. root_disk after c left;
+  }
 
   -- the disk was read
   pub reads_leave : (P : Image → Type 0) (old new : D) → Leaves G (LeftNow G.moment G.left_since old) old new → EachNow G P old → Leaves G P old new
@@ -42,13 +46,18 @@ module _ {D : Type 0} (G : disk.Ghosts D) where
       → OnDisk redo (G.seen old) (LeftNow G.moment G.left_since old) → OnDisk redo (G.seen new) (LeftNow G.moment G.left_since new)
   read_redo_on_disk redo old new fewer same on_disk c left = on_disk c (fewer c left) ∙ ap (λ (s : Image). s redo) (sym same)
 
+  pub read_root_on_disk : (redo : ℕ) (old new : D) → ((c : Image) → LeftNow G.moment G.left_since new c → LeftNow G.moment G.left_since old c) → G.seen new ≡ G.seen old
+      → IsRootOnDisk G redo old → IsRootOnDisk G redo new
+  read_root_on_disk redo old new fewer same root_disk after = read_redo_on_disk ROOT old new fewer same (root_disk after)
+
   -- nothing waits
   pub rest_none : (first redo : ℕ) (old new : D) → ((c : Image) → LeftNow G.moment G.left_since new c → LeftNow G.moment G.left_since old c) → G.seen new ≡ G.seen old
-      → AreOnDisk G first redo old → OnDisk redo (G.seen old) (LeftNow G.moment G.left_since old) → (length (G.seen old redo) < 2 → G.seen old redo ≡ 0 ∷ [])
+      → AreOnDisk G first redo old → OnDisk redo (G.seen old) (LeftNow G.moment G.left_since old) → IsRootOnDisk G redo old → (length (G.seen old redo) < 2 → G.seen old redo ≡ 0 ∷ [])
       → (length (G.seen old redo) < 2) ⊎ IsClosed (G.seen old redo) → IsAtRest G first redo new
-  rest_none first redo old new fewer same on_disk redo_disk begun none = record {
+  rest_none first redo old new fewer same on_disk redo_disk root_disk begun none = record {
     on_disk = read_on_disk first redo old new fewer same on_disk;
     redo_on_disk = read_redo_on_disk redo old new fewer same redo_disk;
+    root_on_disk = read_root_on_disk redo old new fewer same root_disk;
     closed = subst (λ (s : Image). IsClosed (s redo)) (sym same)
         (⊎_elim (λ short. record { gate = 0; rest = []; is = begun short; closed = λ e. absurd (omega (arith, e)) }) (λ closed. closed) none);
   }
@@ -59,6 +68,7 @@ module _ {D : Type 0} (G : disk.Ghosts D) where
   rest_read first redo old new fewer same rest = record {
     on_disk = read_on_disk first redo old new fewer same rest.on_disk;
     redo_on_disk = read_redo_on_disk redo old new fewer same rest.redo_on_disk;
+    root_on_disk = read_root_on_disk redo old new fewer same rest.root_on_disk;
     closed = subst (λ (s : Image). IsClosed (s redo)) (sym same) rest.closed;
   }
 
@@ -166,9 +176,9 @@ module _ {D : Type 0} (G : disk.Ghosts D) (earlier : (d : D) (t u : ℕ) (c : Im
 
   -- a disk with all on it was read, and then a record was redone
   module _ (l : Layout) (old : D) (on_disk : AreOnDisk G l.first (redo_of l) old) (redo_disk : OnDisk (redo_of l) (G.seen old) (LeftNow G.moment G.left_since old))
-      (mid : D) (read : Leaves G (LeftNow G.moment G.left_since old) old mid) where
-    pub read_alike : Leaves G (StandsAlike (Spells l) l.first (redo_of l) (G.seen old)) old mid
-    read_alike = reads_leave G (StandsAlike (Spells l) l.first (redo_of l) (G.seen old)) old mid read (each_alike G l old on_disk redo_disk)
+      (root_disk : IsRootOnDisk G (redo_of l) old) (mid : D) (read : Leaves G (LeftNow G.moment G.left_since old) old mid) where
+    pub read_alike : Leaves G (IsAlikeTo (Spells l) l.first (redo_of l) (G.seen old)) old mid
+    read_alike = reads_leave G (IsAlikeTo (Spells l) l.first (redo_of l) (G.seen old)) old mid read (each_alike G l old on_disk redo_disk root_disk)
 
     module _ (same : G.seen mid ≡ G.seen old) where
       pub still_on_disk : AreOnDisk G l.first (redo_of l) mid
@@ -177,10 +187,13 @@ module _ {D : Type 0} (G : disk.Ghosts D) (earlier : (d : D) (t u : ℕ) (c : Im
       pub still_redo_on_disk : OnDisk (redo_of l) (G.seen mid) (LeftNow G.moment G.left_since mid)
       still_redo_on_disk = read_redo_on_disk G (redo_of l) old mid (now_has G earlier old mid (LeftNow G.moment G.left_since old) read) same redo_disk
 
-      pub redone_alike : (new : D) → (AreOnDisk G l.first (redo_of l) mid → OnDisk (redo_of l) (G.seen mid) (LeftNow G.moment G.left_since mid)
-          → Leaves G (StandsAlike (Spells l) l.first (redo_of l) (G.seen mid)) mid new) → Leaves G (StandsAlike (Spells l) l.first (redo_of l) (G.seen old)) old new
-      redone_alike new run = joined G.moment G.left_since old mid new (StandsAlike (Spells l) l.first (redo_of l) (G.seen old)) read_alike
-          (subst (λ (s : Image). Leaves G (StandsAlike (Spells l) l.first (redo_of l) s) mid new) same (run still_on_disk still_redo_on_disk))
+      pub still_root_on_disk : IsRootOnDisk G (redo_of l) mid
+      still_root_on_disk = read_root_on_disk G (redo_of l) old mid (now_has G earlier old mid (LeftNow G.moment G.left_since old) read) same root_disk
+
+      pub redone_alike : (new : D) → (AreOnDisk G l.first (redo_of l) mid → OnDisk (redo_of l) (G.seen mid) (LeftNow G.moment G.left_since mid) → IsRootOnDisk G (redo_of l) mid
+          → Leaves G (IsAlikeTo (Spells l) l.first (redo_of l) (G.seen mid)) mid new) → Leaves G (IsAlikeTo (Spells l) l.first (redo_of l) (G.seen old)) old new
+      redone_alike new run = joined G.moment G.left_since old mid new (IsAlikeTo (Spells l) l.first (redo_of l) (G.seen old)) read_alike
+          (subst (λ (s : Image). Leaves G (IsAlikeTo (Spells l) l.first (redo_of l) s) mid new) same (run still_on_disk still_redo_on_disk still_root_on_disk))
 
 -- the record that waits, once its body was gone over
 pub record_found : (l : Layout) (seen mid new : Image) (o : Option ℕ) (len : ℕ) → mid ≡ seen → new ≡ mid
@@ -197,19 +210,25 @@ module _ {D : Type 0} (G : disk.Ghosts D) (earlier : (d : D) (t u : ℕ) (c : Im
     (l : Layout) (old begun : D) (run : Leaves G (IsBegun G (redo_of l) old) old begun) where
   pub alike_begun : Leaves G (IsAlike G (Spells l) l.first (redo_of l) old) old begun
   alike_begun = weaker G.moment G.left_since old begun (IsBegun G (redo_of l) old) (IsAlike G (Spells l) l.first (redo_of l) old)
-      (λ c b. record { from = b.from; left = b.left; alike = begun_alike l b.from c (λ f low lt. b.others f (λ e. absurd (omega (arith, lt, e)))) b.here })
+      (λ c b. record {
+        from = b.from;
+        left = b.left;
+        alike = begun_alike l b.from c (λ f low lt. b.others f (λ e. absurd (omega (arith, lt, e)))) b.here;
+        root = λ after. b.others ROOT (λ e. absurd (omega (arith, after, e)));
+      })
       run
 
-  module _ (reads : LeftNow G.moment G.left_since begun (G.seen begun)) (mid : D) (more : Leaves G (StandsAlike (Spells l) l.first (redo_of l) (G.seen begun)) begun mid) where
+  module _ (reads : LeftNow G.moment G.left_since begun (G.seen begun)) (mid : D) (more : Leaves G (IsAlikeTo (Spells l) l.first (redo_of l) (G.seen begun)) begun mid) where
     pub alike_redone : Leaves G (IsAlike G (Spells l) l.first (redo_of l) old) old mid
     alike_redone =
         let was = now_has G earlier old begun (IsAlike G (Spells l) l.first (redo_of l) old) alike_begun (G.seen begun) reads in
         joined G.moment G.left_since old begun mid (IsAlike G (Spells l) l.first (redo_of l) old) alike_begun
-        (weaker G.moment G.left_since begun mid (StandsAlike (Spells l) l.first (redo_of l) (G.seen begun)) (IsAlike G (Spells l) l.first (redo_of l) old)
+        (weaker G.moment G.left_since begun mid (IsAlikeTo (Spells l) l.first (redo_of l) (G.seen begun)) (IsAlike G (Spells l) l.first (redo_of l) old)
         (λ c like. record {
           from = was.from;
           left = was.left;
-          alike = record { there = λ files x. like.there files (was.alike.there files x); back = λ files x. was.alike.back files (like.back files x) };
+          alike = record { there = λ files x. like.alike.there files (was.alike.there files x); back = λ files x. was.alike.back files (like.alike.back files x) };
+          root = λ after. like.root after ∙ was.root after;
         })
         more)
 

@@ -1,23 +1,24 @@
 -- What the checks of an opening find: the first that fails, as a file, what was wanted there and what was
 -- found. Where the gate is open, the files are checked as the record makes them.
-use Rattle.std.specs.Prelude.{◌≡◌, ◌≢◌, ◌⊎◌, ◌≤◌, ◌<◌, ◌+◌, ◌-◌, ◌*◌, ◌/◌, ℕ, max, map, List, ◌∷◌, ◌++◌, length, take, drop}
+use Rattle.std.specs.Prelude.{◌≡◌, ◌≢◌, ◌⊎◌, ◌≤◌, ◌<◌, ◌+◌, ◌-◌, ◌*◌, ◌/◌, ◌^◌, ℕ, max, map, List, ◌∷◌, ◌++◌, length, take, drop}
 use Rattle.std.specs.List.{AllByRecursion}
 use Rattle.std.specs.Int.{w32, w64, from_le_bytes}
 use Rattle.el_outside.specs.Disk.{Image}
 use Rattle.el_row_formats.specs.declared.table.Table.{Table}
 use Rattle.el_row_formats.specs.declared.table.Table.TheVariants as table
 use Rattle.el_row_formats.specs.declared.table.RowKey.{RowKey}
-use Rattle.el_row_formats.specs.Tables.{number_of}
-use Rattle.el_row_formats.specs.declared.limits.TheConstants.{BUCKET_COUNT}
+use Rattle.el_row_formats.specs.Tables.{Tables, number_of}
+use Rattle.el_row_formats.specs.declared.limits.TheConstants.{MIN_HEAD_BITS, MAX_HEAD_BITS}
 use Rattle.el_rows.specs.Changes.{Changes}
-use Rattle.el_redo.specs.RedoBody.{change_bytes, changes_bytes}
+use Rattle.el_redo.specs.RedoBody.{change_bytes, changes_bytes, head_bytes}
 use Rattle.el_redo.specs.declared.faults.OpenFault.{OpenFault}
 use Rattle.el_redo.specs.declared.faults.OpenFault.TheVariants as fault
 use Rattle.el_redone.specs.Redone.{into, Fits, ends, IsClosed, StandsFor}
 use Rattle.el_pages.specs.declared.layout.Layout.{Layout}
-use Rattle.el_pages.specs.declared.layout.TheConstants.{LETTERS}
+use Rattle.el_pages.specs.declared.layout.TheConstants.{LETTERS, FORMAT_2}
 use Rattle.el_pages.specs.Layouts.{file_of, redo_of, size_in, limit_in}
 use Rattle.el_pages.specs.Records.{write_of, IsWhole, Spells}
+use Rattle.el_pages.specs.Indexes.{Shows}
 
 -- a file, what was wanted, what was found
 abbrev pub Found : Type 0
@@ -136,31 +137,40 @@ word file at = from_le_bytes w32 (take 4 (drop at file))
 abbrev pub count_told : Layout → List ℕ → Table → ℕ
 count_told l file t = from_le_bytes w64 (take 8 (drop (l.meta - 64 + 8 * (number_of t - 1)) file))
 
--- The heads tables have the rows that they may have: `BUCKET_COUNT` each, or none where all tables are empty.
-abbrev pub HasHeads : (Table → ℕ) → Type 0
-HasHeads counts = ((counts table.TxHeads ≡ BUCKET_COUNT) × (counts table.ScriptHeads ≡ BUCKET_COUNT))
-    ⊎ ((t : Table) → counts t ≡ 0)
+-- how many bits the number of a bucket has, as the meta row tells
+abbrev pub bits_told : List ℕ → ℕ
+bits_told file = word file 12
 
--- the meta file begins with the letters `ELIX`, the format and the network's magic
+-- so many bits the number of a bucket may have
+abbrev pub HasBits : ℕ → Type 0
+HasBits bits = (MIN_HEAD_BITS ≤ bits) × (bits ≤ MAX_HEAD_BITS)
+
+-- each table of heads has a row for each bucket
+abbrev pub HasHeads : ℕ → (Table → ℕ) → Type 0
+HasHeads bits counts = (counts table.TxHeads ≡ 2 ^ bits) × (counts table.ScriptHeads ≡ 2 ^ bits)
+
+-- the meta file begins with the letters `ELIX`, the format, the network's magic, and a number of bits that may
+-- be
 pub record IsHead (l : Layout) (magic : ℕ) (file : List ℕ) : Type 0 where
   pub letters : word file 0 ≡ LETTERS
   pub format : word file 4 ≡ l.format
   pub network : word file 8 ≡ magic
+  pub bits : HasBits (bits_told file)
 
 -- or with something else
 abbrev pub IsBadHead : Layout → ℕ → List ℕ → Found → Type 0
 IsBadHead l magic file found = ((word file 0 ≢ LETTERS) × (found ≡ (l.first, LETTERS, word file 0)))
     ⊎ ((word file 0 ≡ LETTERS) × (((word file 4 ≢ l.format) × (found ≡ (l.first, l.format, word file 4)))
-    ⊎ ((word file 4 ≡ l.format) × ((word file 8 ≢ magic) × (found ≡ (l.first, magic, word file 8))))))
+    ⊎ ((word file 4 ≡ l.format) × (((word file 8 ≢ magic) × (found ≡ (l.first, magic, word file 8)))
+    ⊎ ((word file 8 ≡ magic)
+    × ((HasBits (bits_told file) → ⊥) × (found ≡ (l.first, MIN_HEAD_BITS, bits_told file))))))))
 
--- some table has rows, and this table of heads is the first that hasn't
--- `BUCKET_COUNT` rows
-pub record IsBadHeads (l : Layout) (count : Table → ℕ) (found : Found) : Type 0 where
-  pub some : ((t : Table) → count t ≡ 0) → ⊥
-  pub which : ((count table.TxHeads ≢ BUCKET_COUNT)
-      × (found ≡ (file_of l table.TxHeads, BUCKET_COUNT, count table.TxHeads)))
-      ⊎ ((count table.TxHeads ≡ BUCKET_COUNT) × ((count table.ScriptHeads ≢ BUCKET_COUNT)
-      × (found ≡ (file_of l table.ScriptHeads, BUCKET_COUNT, count table.ScriptHeads))))
+-- this table of heads is the first that hasn't a row for each bucket
+abbrev pub IsBadHeads : Layout → ℕ → (Table → ℕ) → Found → Type 0
+IsBadHeads l bits count found =
+    ((count table.TxHeads ≢ 2 ^ bits) × (found ≡ (file_of l table.TxHeads, 2 ^ bits, count table.TxHeads)))
+    ⊎ ((count table.TxHeads ≡ 2 ^ bits) × ((count table.ScriptHeads ≢ 2 ^ bits)
+    × (found ≡ (file_of l table.ScriptHeads, 2 ^ bits, count table.ScriptHeads))))
 
 -- the first count above its limit
 pub record IsBadCount (l : Layout) (count : Table → ℕ) (found : Found) : Type 0 where
@@ -179,27 +189,35 @@ pub record IsBadSize (l : Layout) (count size : Table → ℕ) (found : Found) :
 -- a meta row is bad: its head, the numbers of heads, or a count
 abbrev pub IsBadRow : Layout → ℕ → List ℕ → Found → Type 0
 IsBadRow l magic file found = IsBadHead l magic file found
-    ⊎ (IsHead l magic file × (IsBadHeads l (count_told l file) found
-    ⊎ (HasHeads (count_told l file) × IsBadCount l (count_told l file) found)))
+    ⊎ (IsHead l magic file × (IsBadHeads l (bits_told file) (count_told l file) found
+    ⊎ (HasHeads (bits_told file) (count_told l file) × IsBadCount l (count_told l file) found)))
 
 -- a meta row is as it has to be, and a table's file isn't
 pub record IsBadTable (l : Layout) (magic : ℕ) (file : List ℕ) (size : Table → ℕ)
     (found : Found) : Type 0 where
   pub head : IsHead l magic file
-  pub heads : HasHeads (count_told l file)
+  pub heads : HasHeads (bits_told file) (count_told l file)
   pub limited : (t : Table) → count_told l file t ≤ limit_in l t
   pub which : IsBadSize l (count_told l file) size found
 
 -- The meta file, and table files of these sizes, hold no tables that an opening takes: the first check that
--- fails finds this. An empty meta file is an empty index.
+-- fails finds this.
 abbrev pub IsBadFiles : Layout → ℕ → List ℕ → (Table → ℕ) → Found → Type 0
 IsBadFiles l magic file size found =
-    ((1 ≤ length file) × ((length file < l.meta) × (found ≡ (l.first, l.meta, length file))))
+    ((length file < l.meta) × (found ≡ (l.first, l.meta, length file)))
     ⊎ ((l.meta ≤ length file) × (IsBadRow l magic file found ⊎ IsBadTable l magic file size found))
 
 -- how many bytes each table's file has
 abbrev pub sizes_in : Layout → Image → Table → ℕ
 sizes_in l files t = length (files (file_of l t))
+
+-- The image stands for the tables in an index of the network with that magic, and each table of heads has a row
+-- for each bucket: an opening takes it.
+pub record IsIndex (magic : List ℕ) (image : Image) (tables : Tables) : Type 0 where
+  pub bits : ℕ
+  pub may_be : HasBits bits
+  pub shows : Shows FORMAT_2 (head_bytes magic bits) image tables
+  pub heads : HasHeads bits (λ (t : Table). length (tables t))
 
 -- The image's redo file isn't bad, and the files that it stands for are.
 pub record HasBadFiles (l : Layout) (magic : ℕ) (image : Image) (found : Found) : Type 0 where

@@ -20,18 +20,19 @@ use el_pages::Layout;
 use el_redo::OpenFault;
 use el_row_formats::{TABLES, Table};
 
-// A table's number among those of all tables: of rows, or of bytes.
-pub(crate) fn number_in(numbers: &[u64; TABLES], t: Table) -> u64
+/// A table's number among those of all tables: of rows, or of bytes.
+pub fn number_in(numbers: &[u64; TABLES], t: Table) -> u64
     ensures { result ≡ count_at numbers.now t }
 {
     numbers[t.index()]
 }
 
-// How many bytes each table's file has.
-pub(crate) fn file_sizes<D: Disk>(
-    disk: &mut D,
-    layout: &Layout,
-) -> Result<[u64; TABLES], DiskFailed>
+/// How many bytes each table's file has.
+///
+/// # Errors
+///
+/// The disk failed.
+pub fn file_sizes<D: Disk>(disk: &mut D, layout: &Layout) -> Result<[u64; TABLES], DiskFailed>
     requires few { layout.now.first + 9 < 4294967296 }
     ensures sizes { D.tells → IfOk result (λ sizes. (t : Table)
         → count_at sizes t ≡ length (D.seen disk.old (file_of layout.now t))) }

@@ -6,8 +6,8 @@ ghost use Rattle.el_outside.specs.Moments.{LeftNow};
 ghost use Rattle.el_outside.specs.declared.archive.TheConstants.{SIZE_LIMIT};
 ghost use Rattle.el_row_formats.specs.declared.table.Table.{Table};
 ghost use Rattle.el_rows.specs.Changes.{Changes};
-ghost use Rattle.el_redone.specs.Redone.{Write, overlaid, into, StandsAlike};
-ghost use Rattle.el_redone.specs.Steps.{EachNow, Leaves, WillBe, AreOnDisk, IsAtRest};
+ghost use Rattle.el_redone.specs.Redone.{Write, overlaid, into};
+ghost use Rattle.el_redone.specs.Steps.{EachNow, Leaves, WillBe, IsAlikeTo, AreOnDisk, IsRootOnDisk, IsAtRest};
 ghost use Rattle.el_pages.specs.Layouts.{redo_of, size_in};
 ghost use Rattle.el_pages.specs.Records.{writes_of, Spells};
 ghost use Rattle.el_recovery.specs.within.Redoing.{HasRecord};
@@ -88,7 +88,7 @@ pub(crate) fn write_files<D: Disk>(
 
 // Steps 3 and 4 of an opening: what the record behind the open gate has goes into the files, they to the
 // disk, and then the gate is closed. Each image that a crash meanwhile leaves stands for what the disk stood
-// for as it read. A disk that keeps what was written answers that the record was whole.
+// for as it read, with its root. A disk that keeps what was written answers that the record was whole.
 pub(crate) fn redo<D: Disk>(disk: &mut D, layout: &Layout, len: u64) -> Result<bool, DiskFailed>
     requires few { layout.now.first + 9 < 4294967296 }
     requires narrow { (t : Table) → size_in layout.now t ≤ 256 }
@@ -101,12 +101,14 @@ pub(crate) fn redo<D: Disk>(disk: &mut D, layout: &Layout, len: u64) -> Result<b
         → HasRecord layout.now (D.seen disk.old) len body stale ws
         → AreOnDisk ⟦<D as Disk>⟧ layout.now.first (redo_of layout.now) disk.old
         → OnDisk (redo_of layout.now) (D.seen disk.old) (LeftNow D.moment D.left_since disk.old)
-        → Leaves ⟦<D as Disk>⟧ (StandsAlike (Spells layout.now) layout.now.first (redo_of layout.now)
+        → IsRootOnDisk ⟦<D as Disk>⟧ (redo_of layout.now) disk.old
+        → Leaves ⟦<D as Disk>⟧ (IsAlikeTo (Spells layout.now) layout.now.first (redo_of layout.now)
         (D.seen disk.old)) disk.old disk.new }
     ensures at_rest { D.tells → (body stale : List ℕ) (ws : List Write)
         → HasRecord layout.now (D.seen disk.old) len body stale ws
         → AreOnDisk ⟦<D as Disk>⟧ layout.now.first (redo_of layout.now) disk.old
         → OnDisk (redo_of layout.now) (D.seen disk.old) (LeftNow D.moment D.left_since disk.old)
+        → IsRootOnDisk ⟦<D as Disk>⟧ (redo_of layout.now) disk.old
         → IfOk result (λ r. (r ≡ true)
         × IsAtRest ⟦<D as Disk>⟧ layout.now.first (redo_of layout.now) disk.new
         × ((f : ℕ) → f ≢ redo_of layout.now

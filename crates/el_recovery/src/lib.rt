@@ -10,5 +10,7 @@ mod opening;
 mod redoing;
 mod waiting;
 
+pub use checking::{file_sizes, number_in};
 pub use laws::an_image_stands_for_one_index;
-pub use opening::open_pages;
+pub use opening::{finish, open_pages};
+pub use redoing::read_whole;

@@ -79,8 +79,12 @@ fn key_in(front: &[u8; 9]) -> Option<(Table, u64)>
     }
 }
 
-// Fills the buffer from a file, and answers whether the file has so many bytes there.
-pub(crate) fn read_whole<D: Disk>(
+/// Fills the buffer from a file, and answers whether the file has so many bytes there.
+///
+/// # Errors
+///
+/// The disk failed.
+pub fn read_whole<D: Disk>(
     disk: &mut D,
     file: u32,
     at: u64,

@@ -12,7 +12,7 @@ use Rattle.std.proofs.lemmas.Option.{slice_get_within, get_or_from_slice_get}
 use Rattle.el_row_formats.specs.declared.table.Table.{Table}
 use Rattle.el_row_formats.specs.declared.table.RowKey.{RowKey}
 use Rattle.el_row_formats.specs.Tables.{number_of, size_of, row_cmp}
-use Rattle.el_row_formats.proofs.Keys.{keys_total}
+use Rattle.el_row_formats.proofs.Keys.{keys_total, few_rows}
 use Rattle.el_rows.specs.Changes.{Changes, IsMadeFrom, count_at, changed_at}
 use Rattle.el_redo.specs.RedoBody.{all_tables, numbers_bytes, change_bytes, changes_bytes}
 
@@ -59,7 +59,7 @@ made_fits base counts changes made = fits_from changes (λ k e is.
     lookup_from_place (eq_by_cmp_equiv keys_total) changes k e.0 e.1 (IsDistinct-from_sorted row_cmp (keys_of changes) made.rising) is in
     record {
       sized = made.sized e.0.table e.0.row e.1 found;
-      small = let few : e.0.row < count_at counts e.0.table = made.within e.0.table e.0.row (rw found refl) in omega (arith, few, made.limited e.0.table);
+      small = let few : e.0.row < count_at counts e.0.table = made.within e.0.table e.0.row (rw found refl) in omega (arith, few, made.limited e.0.table, few_rows e.0.table);
     })
 
 -- ---- bytes in pieces

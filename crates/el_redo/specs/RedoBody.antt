@@ -1,4 +1,4 @@
--- The bytes of a commit: what the body of a redo record is made of, and what a meta row of format 1 begins
+-- The bytes of a commit: what the body of a redo record is made of, and what a meta row of format 2 begins
 -- with. Numbers are little endian.
 use Rattle.std.specs.Prelude.{ℕ, List, [], ◌∷◌, ◌++◌}
 use Rattle.std.specs.Int.{w32, w64, to_le_bytes}
@@ -14,9 +14,9 @@ abbrev pub all_tables : List Table
 all_tables = table.Blocks ∷ table.Txs ∷ table.TxHeads ∷ table.Outs
     ∷ table.Ins ∷ table.Scripts ∷ table.ScriptHeads ∷ table.Entries ∷ []
 
--- the letters 'ELIX', the format, and the network's magic
-unfoldable pub head_bytes : List ℕ → List ℕ
-head_bytes magic = 69 ∷ 76 ∷ 73 ∷ 88 ∷ (to_le_bytes w32 FORMAT ++ magic)
+-- the letters 'ELIX', the format, the network's magic, and how many bits the number of a bucket has
+unfoldable pub head_bytes : List ℕ → ℕ → List ℕ
+head_bytes magic bits = 69 ∷ 76 ∷ 73 ∷ 88 ∷ (to_le_bytes w32 FORMAT ++ (magic ++ to_le_bytes w32 bits))
 
 -- numbers, each in eight bytes
 abbrev pub numbers_bytes : List ℕ → List ℕ

@@ -4,6 +4,7 @@ use Rattle.std.proofs.lemmas.Bool.{cases_eq}
 use Rattle.std.proofs.lemmas.List.{ext_get_or}
 use Rattle.el_outside.specs.Disk.{Image, Torn, OnFile}
 use Rattle.el_redone.specs.Redone.{Write, overlaid, Fits, into, Covers}
+use Rattle.el_redone.specs.declared.steps.TheConstants.{ROOT}
 use Rattle.el_redone.specs.Steps.{IsAside, IsGated, WillBe}
 use Rattle.el_redone.proofs.Writes.{torn_overlaid, fits_more}
 
@@ -30,6 +31,7 @@ module _ (first redo : ℕ) (files : Image) where
       let torn = torn_behind at n was.closed.gate was.closed.rest (c redo) behind (subst (λ (l : List ℕ). Torn at n l (c redo)) was.closed.is step.here) in
       record {
         same = λ f low lt. step.others f (apart f redo lt) ∙ was.same f low lt;
+        root = λ after. step.others ROOT (λ is. omega (arith, after, is)) ∙ was.root after;
         closed = record { gate = was.closed.gate; rest = torn.0; is = torn.1; closed = was.closed.closed };
       }
 
@@ -37,13 +39,19 @@ module _ (first redo : ℕ) (files : Image) where
   pub gated_step : (rest : List ℕ) (d c : Image) → IsGated first redo files rest d → OnFile redo (Torn 0 1) d c → IsGated first redo files rest c
   gated_step rest d c was step =
       let torn = torn_gate was.gate rest (c redo) (subst (λ (l : List ℕ). Torn 0 1 l (c redo)) was.is step.here) in
-      record { same = λ f low lt. step.others f (apart f redo lt) ∙ was.same f low lt; gate = torn.0; is = torn.1 }
+      record {
+        same = λ f low lt. step.others f (apart f redo lt) ∙ was.same f low lt;
+        root = λ after. step.others ROOT (λ is. omega (arith, after, is)) ∙ was.root after;
+        gate = torn.0;
+        is = torn.1;
+      }
 
   -- step 3
   pub will_be_step : (ws : List Write) (file : List ℕ) (f at n : ℕ) (d c : Image) → first ≤ f → f < redo → Covers (into f ws) at n
       → WillBe first redo files ws file d → OnFile f (Torn at n) d c → WillBe first redo files ws file c
   will_be_step ws file f at n d c low high covers was step = record {
     file_is = step.others redo (λ is. omega (arith, high, is)) ∙ was.file_is;
+    root = λ after. step.others ROOT (λ is. omega (arith, after, high, is)) ∙ was.root after;
     same = λ g ge lt. ⊎_elim
         (λ (is : g ≡ f). subst (λ h. overlaid (into h ws) (c h) ≡ overlaid (into h ws) (d h)) (sym is)
         (torn_overlaid (into f ws) at n (d f) (c f) covers (was.fits f low high) step.here))

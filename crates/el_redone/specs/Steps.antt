@@ -4,6 +4,7 @@ use Rattle.el_outside.specs.declared.disk.Disk as disk
 use Rattle.el_outside.specs.Disk.{Image, OnDisk}
 use Rattle.el_outside.specs.Moments.{LeftNow, LeavesOnly}
 use Rattle.el_redone.specs.Redone.{Write, overlaid, Fits, into, IsClosed, StandsAlike}
+use Rattle.el_redone.specs.declared.steps.TheConstants.{ROOT}
 
 -- each image that a crash now may leave has P
 abbrev pub EachNow : {D : Type 0} → disk.Ghosts D → (Image → Type 0) → D → Type 0
@@ -13,9 +14,14 @@ EachNow G P d = (c : Image) → LeftNow G.moment G.left_since d c → P c
 abbrev pub Leaves : {D : Type 0} → disk.Ghosts D → (Image → Type 0) → D → D → Type 0
 Leaves G P old new = LeavesOnly G.moment G.left_since old new P
 
+-- the root, where it comes after the redo file, is this one
+abbrev pub HasRoot : ℕ → Image → Image → Type 0
+HasRoot redo files c = redo < ROOT → c ROOT ≡ files ROOT
+
 -- step 1: the files are as they were, and the gate is closed
 pub record IsAside (first redo : ℕ) (files c : Image) : Type 0 where
   pub same : (f : ℕ) → first ≤ f → f < redo → c f ≡ files f
+  pub root : HasRoot redo files c
   pub closed : IsClosed (c redo)
 
 -- only the redo file was written, behind the closed gate
@@ -27,6 +33,7 @@ pub record StaysAside {D : Type 0} (G : disk.Ghosts D) (first redo : ℕ) (old n
 -- steps 2 and 4: the files are these, and behind the gate, whatever it is, stand these bytes
 pub record IsGated (first redo : ℕ) (files : Image) (rest : List ℕ) (c : Image) : Type 0 where
   pub same : (f : ℕ) → first ≤ f → f < redo → c f ≡ files f
+  pub root : HasRoot redo files c
   pub gate : ℕ
   pub is : c redo ≡ gate ∷ rest
 
@@ -34,6 +41,7 @@ pub record IsGated (first redo : ℕ) (files : Image) (rest : List ℕ) (c : Ima
 pub record WillBe (first redo : ℕ) (files : Image) (ws : List Write) (file : List ℕ)
     (c : Image) : Type 0 where
   pub file_is : c redo ≡ file
+  pub root : HasRoot redo files c
   pub same : (f : ℕ) → first ≤ f → f < redo → overlaid (into f ws) (c f) ≡ files f
   pub fits : (f : ℕ) → first ≤ f → f < redo → Fits (into f ws) (length (c f))
 
@@ -50,24 +58,26 @@ pub record IsBegun {D : Type 0} (G : disk.Ghosts D) (redo : ℕ) (old : D) (c : 
   pub others : (f : ℕ) → f ≢ redo → c f ≡ from f
   pub here : (c redo ≡ from redo) ⊎ ((length (from redo) < 2) × (length (c redo) < 2))
 
--- An image that stands for the same files as one that a crash of `old` might leave.
+-- An image that stands for the same files as the other, and has its root.
+pub record IsAlikeTo (Spells : List ℕ → List Write → Type 0) (first redo : ℕ) (from c : Image) : Type 0 where
+  pub alike : StandsAlike Spells first redo from c
+  pub root : HasRoot redo from c
+
+-- An image that stands for the same files as one that a crash of `old` might leave, and has its root.
 pub record IsAlike {D : Type 0} (G : disk.Ghosts D) (Spells : List ℕ → List Write → Type 0)
     (first redo : ℕ) (old : D) (c : Image) : Type 0 where
   pub from : Image
   pub left : LeftNow G.moment G.left_since old from
   pub alike : StandsAlike Spells first redo from c
+  pub root : HasRoot redo from c
+
+-- the root is on the disk, where it comes after the redo file
+abbrev pub IsRootOnDisk : {D : Type 0} → disk.Ghosts D → ℕ → D → Type 0
+IsRootOnDisk G redo d = redo < ROOT → OnDisk ROOT (G.seen d) (LeftNow G.moment G.left_since d)
 
 -- between two commits: all files are on the disk, and the gate is closed
 pub record IsAtRest {D : Type 0} (G : disk.Ghosts D) (first redo : ℕ) (d : D) : Type 0 where
   pub on_disk : AreOnDisk G first redo d
   pub redo_on_disk : OnDisk redo (G.seen d) (LeftNow G.moment G.left_since d)
+  pub root_on_disk : IsRootOnDisk G redo d
   pub closed : IsClosed (G.seen d redo)
-
--- Before step 2, between steps 2 and 3, and before step 4: the files are these and the body stands behind the
--- gate, all on the disk.
-pub record IsReady {D : Type 0} (G : disk.Ghosts D) (first redo : ℕ) (files : Image) (gate : ℕ)
-    (rest : List ℕ) (d : D) : Type 0 where
-  pub on_disk : AreOnDisk G first redo d
-  pub redo_on_disk : OnDisk redo (G.seen d) (LeftNow G.moment G.left_since d)
-  pub holds : (f : ℕ) → first ≤ f → f < redo → G.seen d f ≡ files f
-  pub is : G.seen d redo ≡ gate ∷ rest

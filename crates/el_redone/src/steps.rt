@@ -9,6 +9,10 @@ ghost use Rattle.el_redone.specs.Steps.{EachNow, Leaves, StaysAside, IsGated, Wi
 
 use el_outside::{Disk, DiskFailed};
 
+/// The number of the root: a file whose first byte says which files of a disk are in use. No step of a commit
+/// or of an opening writes it.
+pub const ROOT: u32 = 30;
+
 /// Files of a disk by their numbers: those from `first` on up to `redo`, which a commit changes together, and
 /// `redo`, the redo file.
 #[derive(Clone, Copy, Debug, PartialEq, Eq)]

@@ -1,5 +1,5 @@
 -- Keys of rows, by table and number.
-use Rattle.std.proofs.Common.{◌≡◌, ◌≢◌, ◌<◌, ℕ, Bool, true, false, refl, ap, arith, inl, inr, ◌⊎◌, ⊎_elim}
+use Rattle.std.proofs.Common.{◌≡◌, ◌≢◌, ◌<◌, ◌≤◌, ℕ, Bool, true, false, refl, ap, arith, inl, inr, ◌⊎◌, ⊎_elim}
 use Rattle.std.proofs.Common.{is_eq, Equal}
 use Rattle.std.specs.declared.cmp.Ordering.{Ordering}
 use Rattle.std.specs.Ordering.{nat_cmp}
@@ -9,14 +9,26 @@ use Rattle.std.proofs.lemmas.Map.Lookups.{exact_pairs, exact_unsigned}
 use Rattle.std.proofs.lemmas.Bool.{cases_eq}
 use Rattle.std.specs.BTreeMap.{is_at}
 use Rattle.el_row_formats.specs.declared.table.Table.{Table}
+use Rattle.el_row_formats.specs.declared.table.Table.TheVariants as table
 use Rattle.el_row_formats.specs.declared.table.RowKey.{RowKey}
-use Rattle.el_row_formats.specs.Tables.{row_cmp, index_of, key}
+use Rattle.el_row_formats.specs.Tables.{row_cmp, index_of, limit_of, key}
 
 pub same_index : (a b : Table) → index_of a ≡ index_of b → a ≡ b
 same_index a b = grind arith
 
 pub index_within : (t : Table) → index_of t < 8
 index_within t = grind arith
+
+-- a table has at most 2^40 rows
+pub few_rows : (t : Table) → limit_of t ≤ 1099511627776
+few_rows table.Blocks = omega arith
+few_rows table.Txs = omega arith
+few_rows table.TxHeads = omega arith
+few_rows table.Outs = omega arith
+few_rows table.Ins = omega arith
+few_rows table.Scripts = omega arith
+few_rows table.ScriptHeads = omega arith
+few_rows table.Entries = omega arith
 
 -- is_eq o ≡ true says that o is Equal
 eq_is : (o : Ordering) → is_eq o ≡ true → o ≡ Equal

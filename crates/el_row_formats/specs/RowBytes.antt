@@ -1,5 +1,5 @@
--- The bytes of each table's rows. Numbers are little endian. A link names a row that may be absent: it is the
--- row's number plus 1, or 0 for none.
+-- The bytes of each table's rows, in format 2. Numbers are little endian. A link names a row that may be
+-- absent: it is the row's number plus 1, or 0 for none.
 use Rattle.std.specs.Prelude.{◌≡◌, ◌<◌, ◌+◌, ◌^◌, ◌==◌, ℕ, List, ◌∷◌, ◌++◌, Option, None, Some, length, if◌then◌else◌}
 use Rattle.std.specs.Int.{w32, w64, to_le_bytes}
 use Rattle.el_row_formats.specs.declared.block_row.BlockRow.{BlockRow}
@@ -22,9 +22,9 @@ abbrev pub link_number : Option ℕ → ℕ
 link_number None = 0
 link_number (Some n) = n + 1
 
--- its four bytes
+-- its eight bytes
 abbrev pub link_bytes : Option ℕ → List ℕ
-link_bytes link = to_le_bytes w32 (link_number link)
+link_bytes link = to_le_bytes w64 (link_number link)
 
 -- an output's state: 0 unspent, 1 spent, 2 buried
 abbrev pub state_number : State → ℕ
@@ -47,7 +47,7 @@ abbrev pub block_row_bytes : BlockRow → List ℕ
 block_row_bytes r =
     r.header
     ++ (to_le_bytes w32 r.place.file ++ (to_le_bytes w64 r.place.offset ++ (to_le_bytes w32 r.place.len
-    ++ (to_le_bytes w32 r.first_tx ++ (to_le_bytes w32 r.txs ++ to_le_bytes w64 r.sum)))))
+    ++ (to_le_bytes w64 r.first_tx ++ (to_le_bytes w32 r.txs ++ to_le_bytes w64 r.sum)))))
 
 -- each field fits its bytes
 pub record FitsBlockRow (r : BlockRow) : Type 0 where
@@ -64,8 +64,8 @@ abbrev pub tx_row_bytes : TxRow → List ℕ
 tx_row_bytes r =
     r.txid.0
     ++ (to_le_bytes w32 r.height ++ (to_le_bytes w32 r.start ++ (to_le_bytes w32 r.len
-    ++ (to_le_bytes w32 r.first_out ++ (to_le_bytes w32 r.outs
-    ++ (to_le_bytes w32 r.first_in ++ (to_le_bytes w32 r.ins
+    ++ (to_le_bytes w64 r.first_out ++ (to_le_bytes w32 r.outs
+    ++ (to_le_bytes w64 r.first_in ++ (to_le_bytes w32 r.ins
     ++ (link_bytes r.older ++ link_bytes r.next))))))))
 
 -- each field fits its bytes
@@ -92,14 +92,14 @@ pub record FitsHeadRow (r : HeadRow) : Type 0 where
 -- the fields of an output's row: transaction, value, script, state, by
 abbrev pub out_fields : OutRow → ℕ → ℕ → List ℕ
 out_fields r state by =
-    to_le_bytes w32 r.tx ++ (to_le_bytes w64 r.value ++ (to_le_bytes w32 r.script
-    ++ (state ∷ to_le_bytes w32 by)))
+    to_le_bytes w64 r.tx ++ (to_le_bytes w64 r.value ++ (to_le_bytes w64 r.script
+    ++ (state ∷ to_le_bytes w64 by)))
 
 -- an output
 abbrev pub out_row_bytes : OutRow → List ℕ
 out_row_bytes r = out_fields r (state_number r.state) (state_by r.state)
 
--- what 21 bytes read as
+-- what 33 bytes read as
 pub record ReadsAsOut (bytes : List ℕ) (r : OutRow) : Type 0 where
   pub state : ℕ
   pub by : ℕ
@@ -115,7 +115,7 @@ pub record FitsOutRow (r : OutRow) : Type 0 where
 
 -- an input: the output that it takes
 abbrev pub in_row_bytes : InRow → List ℕ
-in_row_bytes r = to_le_bytes w32 r.out
+in_row_bytes r = to_le_bytes w64 r.out
 
 -- each field fits its bytes
 pub record FitsInRow (r : InRow) : Type 0 where
@@ -125,7 +125,7 @@ pub record FitsInRow (r : InRow) : Type 0 where
 abbrev pub script_row_bytes : ScriptRow → List ℕ
 script_row_bytes r =
     r.script.0 ++ (link_bytes r.next ++ (link_bytes r.last
-    ++ (to_le_bytes w32 r.entries ++ to_le_bytes w64 r.balance)))
+    ++ (to_le_bytes w64 r.entries ++ to_le_bytes w64 r.balance)))
 
 -- each field fits its bytes
 pub record FitsScriptRow (r : ScriptRow) : Type 0 where
@@ -137,7 +137,7 @@ pub record FitsScriptRow (r : ScriptRow) : Type 0 where
 
 -- an entry: transaction, script, the entry before
 abbrev pub entry_row_bytes : EntryRow → List ℕ
-entry_row_bytes r = to_le_bytes w32 r.tx ++ (to_le_bytes w32 r.script ++ (link_bytes r.before))
+entry_row_bytes r = to_le_bytes w64 r.tx ++ (to_le_bytes w64 r.script ++ (link_bytes r.before))
 
 -- each field fits its bytes
 pub record FitsEntryRow (r : EntryRow) : Type 0 where

@@ -1,5 +1,5 @@
 -- Tables of rows, each a list of rows of bytes.
-use Rattle.std.specs.Prelude.{◌+◌, ◌*◌, ℕ, List, [], ◌∷◌, map, get_or, slice_range}
+use Rattle.std.specs.Prelude.{◌+◌, ◌*◌, ◌^◌, ℕ, List, [], ◌∷◌, map, get_or, slice_range}
 use Rattle.std.specs.Ordering.{nat_cmp, ordering_then}
 use Rattle.std.specs.declared.cmp.Ordering.{Ordering}
 use Rattle.el_chain.specs.RowCounts.{row_limit}
@@ -42,18 +42,25 @@ number_of t = index_of t + 1
 
 -- how many bytes each of its rows has
 abbrev pub size_of : Table → ℕ
-size_of table.Blocks = 112
-size_of table.Txs = 68
-size_of table.TxHeads = 4
-size_of table.Outs = 21
-size_of table.Ins = 4
-size_of table.Scripts = 52
-size_of table.ScriptHeads = 4
-size_of table.Entries = 12
+size_of table.Blocks = 116
+size_of table.Txs = 84
+size_of table.TxHeads = 8
+size_of table.Outs = 33
+size_of table.Ins = 8
+size_of table.Scripts = 64
+size_of table.ScriptHeads = 8
+size_of table.Entries = 24
 
 -- how many rows it may have
 abbrev pub limit_of : Table → ℕ
 limit_of t = row_limit (number_of t)
+
+-- how many rows it has before the first block, where there are 2^bits buckets: the tables of heads have all
+-- of theirs, the others none
+abbrev pub first_count : ℕ → Table → ℕ
+first_count bits table.TxHeads = 2 ^ bits
+first_count bits table.ScriptHeads = 2 ^ bits
+first_count bits t = 0
 
 -- the key of a row: its table and its number
 abbrev pub key : Table → ℕ → RowKey

@@ -1,7 +1,8 @@
 // Fields of rows: numbers, links and hashes, read from the front of bytes and put into them.
-ghost use Rattle.std.specs.Prelude.{◌≡◌, ◌<◌, ◌≤◌, ◌+◌, ◌^◌, ◌++◌, ◌∷◌, length, take};
+ghost use Rattle.std.specs.Prelude.{◌≡◌, ◌<◌, ◌≤◌, ◌+◌, ◌++◌, ◌∷◌, length, take};
 ghost use Rattle.std.specs.Int.{w32, w64, to_le_bytes};
 ghost use Rattle.el_row_formats.specs.RowBytes.{number_limit, link_number, link_bytes};
+ghost use Rattle.el_row_formats.specs.OldRowBytes.{old_number_limit, old_link_bytes};
 
 use el_base::Hash32;
 
@@ -38,11 +39,24 @@ pub(crate) fn long_number(bytes: &[u8]) -> (u64, &[u8])
     (u64::from_le_bytes(front), rest)
 }
 
-// The link in the first four bytes, and the bytes after them.
+// The link in the first eight bytes, and the bytes after them.
 pub(crate) fn link(bytes: &[u8]) -> (Option<u64>, &[u8])
-    requires { 4 ≤ length bytes.now }
+    requires { 8 ≤ length bytes.now }
     ensures front { bytes.now ≡ link_bytes result.0 ++ result.1.now }
     ensures fits { link_number result.0 < number_limit }
+    ensures rest { length result.1.now + 8 ≡ length bytes.now }
+{
+    match long_number(bytes) {
+        (0, rest) => (None, rest),
+        (n, rest) => (Some(n - 1), rest),
+    }
+}
+
+// The link in the first four bytes, as format 1 has it, and the bytes after them.
+pub(crate) fn old_link(bytes: &[u8]) -> (Option<u64>, &[u8])
+    requires { 4 ≤ length bytes.now }
+    ensures front { bytes.now ≡ old_link_bytes result.0 ++ result.1.now }
+    ensures fits { link_number result.0 < old_number_limit }
     ensures rest { length result.1.now + 4 ≡ length bytes.now }
 {
     match number(bytes) {
@@ -70,21 +84,13 @@ pub(crate) fn put<const N: usize>(row: &mut [u8], place: usize, bytes: &[u8; N])
     row[place..place + N].copy_from_slice(bytes.as_slice());
 }
 
-// The four bytes of a number.
-pub(crate) fn number_bytes(n: u64) -> [u8; 4]
-    requires { n < 2 ^ 32 }
-    ensures { result ≡ to_le_bytes w32 n }
-{
-    (n as u32).to_le_bytes()
-}
-
-// The four bytes of a link.
-pub(crate) fn bytes_of_link(link: Option<u64>) -> [u8; 4]
+// The eight bytes of a link.
+pub(crate) fn bytes_of_link(link: Option<u64>) -> [u8; 8]
     requires { link_number link < number_limit }
     ensures { result ≡ link_bytes link }
 {
     match link {
-        None => number_bytes(0),
-        Some(n) => number_bytes(n + 1),
+        None => [0; 8],
+        Some(n) => (n + 1).to_le_bytes(),
     }
 }

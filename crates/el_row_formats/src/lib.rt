@@ -16,7 +16,7 @@ pub use block_row::BlockRow;
 pub use entry_row::EntryRow;
 pub use head_row::HeadRow;
 pub use in_row::InRow;
-pub use limits::{BUCKET_COUNT, MAX_NUMBER};
+pub use limits::{MAX_HEAD_BITS, MAX_NUMBER, MIN_HEAD_BITS, bucket_count};
 pub use out_row::{OutRow, State};
 pub use script_row::ScriptRow;
 pub use table::{RowKey, TABLES, Table};

@@ -1,11 +1,12 @@
 // Rows of outputs.
 ghost use Rattle.std.specs.Prelude.{◌≡◌, length};
 ghost use Rattle.el_row_formats.specs.Tables.{size_of};
+ghost use Rattle.el_row_formats.specs.OldRowBytes.{old_size_of, old_out_row_bytes, FitsOldOutRow, ReadsAsOldOut};
 ghost use Rattle.el_row_formats.specs.RowBytes.{out_row_bytes, FitsOutRow, ReadsAsOut, state_number, state_by, state_of};
 ghost use Rattle.el_row_formats.specs.declared.table.Table.{Table};
 ghost use Rattle.el_row_formats.specs.declared.out_row.OutRow as shape;
 
-use crate::fields::{array, long_number, number, number_bytes, put};
+use crate::fields::{array, long_number, number, put};
 
 /// What became of an output.
 #[derive(Clone, Copy, Debug, PartialEq, Eq)]
@@ -20,13 +21,13 @@ pub enum State {
 
 impl State {
     // The state of these numbers.
-    fn read(number: u8, by: u32) -> State
+    fn read(number: u8, by: u64) -> State
         ensures { result ≡ state_of number by }
     {
         match number {
             0 => State::Unspent,
-            1 => State::Spent(u64::from(by)),
-            _ => State::Buried(u64::from(by)),
+            1 => State::Spent(by),
+            _ => State::Buried(by),
         }
     }
 
@@ -65,6 +66,27 @@ impl OutRow {
         // What is written so is read.
         ensures only { (r : shape.OutRow) → FitsOutRow r → out_row_bytes r ≡ bytes.now → r ≡ result }
     {
+        let (tx, rest) = long_number(bytes);
+        let (value, rest) = long_number(rest);
+        let (script, rest) = long_number(rest);
+        let ([state], rest) = array::<1>(rest);
+        let (by, _) = long_number(rest);
+        OutRow {
+            tx,
+            value,
+            script,
+            state: State::read(state, by),
+        }
+    }
+
+    /// The row that has these bytes in format 1; a state above 2 reads as buried. It takes no memory.
+    pub fn read_old(bytes: &[u8]) -> OutRow
+        requires { length bytes.now ≡ old_size_of Table.Outs }
+        ensures reads { ReadsAsOldOut bytes.now result }
+        ensures fits { FitsOldOutRow result }
+        // What stands so in format 1 is read.
+        ensures only { (r : shape.OutRow) → FitsOldOutRow r → old_out_row_bytes r ≡ bytes.now → r ≡ result }
+    {
         let (tx, rest) = number(bytes);
         let (value, rest) = long_number(rest);
         let (script, rest) = number(rest);
@@ -74,7 +96,7 @@ impl OutRow {
             tx: u64::from(tx),
             value,
             script: u64::from(script),
-            state: State::read(state, by),
+            state: State::read(state, u64::from(by)),
         }
     }
 
@@ -85,10 +107,10 @@ impl OutRow {
         ensures { buf.new ≡ out_row_bytes self.now }
     {
         let (state, by) = self.state.numbers();
-        put(buf, 0, &number_bytes(self.tx));
-        put(buf, 4, &self.value.to_le_bytes());
-        put(buf, 12, &number_bytes(self.script));
-        put(buf, 16, &[state]);
-        put(buf, 17, &number_bytes(by));
+        put(buf, 0, &self.tx.to_le_bytes());
+        put(buf, 8, &self.value.to_le_bytes());
+        put(buf, 16, &self.script.to_le_bytes());
+        put(buf, 24, &[state]);
+        put(buf, 25, &by.to_le_bytes());
     }
 }

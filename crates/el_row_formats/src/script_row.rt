@@ -1,11 +1,12 @@
 // Rows of scripts.
 ghost use Rattle.std.specs.Prelude.{◌≡◌, length};
 ghost use Rattle.el_row_formats.specs.Tables.{size_of};
+ghost use Rattle.el_row_formats.specs.OldRowBytes.{old_size_of, old_script_row_bytes, FitsOldScriptRow};
 ghost use Rattle.el_row_formats.specs.RowBytes.{script_row_bytes, FitsScriptRow};
 ghost use Rattle.el_row_formats.specs.declared.table.Table.{Table};
 ghost use Rattle.el_row_formats.specs.declared.script_row.ScriptRow as shape;
 
-use crate::fields::{bytes_of_link, hash, link, long_number, number, number_bytes, put};
+use crate::fields::{bytes_of_link, hash, link, long_number, number, old_link, put};
 use el_base::Hash32;
 
 /// A script.
@@ -36,6 +37,29 @@ impl ScriptRow {
         let (script, rest) = hash(bytes);
         let (next, rest) = link(rest);
         let (last, rest) = link(rest);
+        let (entries, rest) = long_number(rest);
+        let (balance, _) = long_number(rest);
+        ScriptRow {
+            script,
+            next,
+            last,
+            entries,
+            balance,
+        }
+    }
+
+    /// The row that has these bytes in format 1. It takes no memory.
+    pub fn read_old(bytes: &[u8]) -> ScriptRow
+        requires { length bytes.now ≡ old_size_of Table.Scripts }
+        // What is read stands so in format 1.
+        ensures written { old_script_row_bytes result ≡ bytes.now }
+        ensures fits { FitsOldScriptRow result }
+        // What stands so in format 1 is read.
+        ensures only { (r : shape.ScriptRow) → FitsOldScriptRow r → old_script_row_bytes r ≡ bytes.now → r ≡ result }
+    {
+        let (script, rest) = hash(bytes);
+        let (next, rest) = old_link(rest);
+        let (last, rest) = old_link(rest);
         let (entries, rest) = number(rest);
         let (balance, _) = long_number(rest);
         ScriptRow {
@@ -55,8 +79,8 @@ impl ScriptRow {
     {
         put(buf, 0, &self.script.0);
         put(buf, 32, &bytes_of_link(self.next));
-        put(buf, 36, &bytes_of_link(self.last));
-        put(buf, 40, &number_bytes(self.entries));
-        put(buf, 44, &self.balance.to_le_bytes());
+        put(buf, 40, &bytes_of_link(self.last));
+        put(buf, 48, &self.entries.to_le_bytes());
+        put(buf, 56, &self.balance.to_le_bytes());
     }
 }

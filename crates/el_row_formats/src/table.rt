@@ -71,13 +71,12 @@ impl Table {
         ensures { result ≡ size_of self }
     {
         match self {
-            Table::Blocks => 112,
-            Table::Txs => 68,
-            Table::TxHeads | Table::ScriptHeads => 4,
-            Table::Outs => 21,
-            Table::Ins => 4,
-            Table::Scripts => 52,
-            Table::Entries => 12,
+            Table::Blocks => 116,
+            Table::Txs => 84,
+            Table::TxHeads | Table::ScriptHeads | Table::Ins => 8,
+            Table::Outs => 33,
+            Table::Scripts => 64,
+            Table::Entries => 24,
         }
     }
 

@@ -10,6 +10,7 @@ module _ {R : Type 0} (G : rows.Ghosts R) where
   read_joined old mid new first second = record {
     same = second.same ∙ first.same;
     count = second.count ∙ first.count;
+    as_many = second.as_many ∙ first.as_many;
     live = second.live;
     below = below_joined G.moment G.left_since G.tells_crash G.beside old mid new first.below second.below;
   }
@@ -19,6 +20,7 @@ module _ {R : Type 0} (G : rows.Ghosts R) where
   read_none old live = record {
     same = refl;
     count = refl;
+    as_many = refl;
     live = live;
     below = below_none G.moment G.left_since G.tells_crash G.beside old;
   }

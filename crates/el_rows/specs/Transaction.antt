@@ -17,7 +17,7 @@ tables_in {R} {G} txn = under (G.lists txn.rows.now) txn.edits.counts txn.edits.
 -- rows were read and nothing else, over all that the store's type tells
 abbrev pub WasRead : {R : Type 0} → rows.Ghosts R → R → R → Type 0
 WasRead G old new =
-    OnlyRead G.lists G.counts G.is_live
+    OnlyRead G.lists G.counts G.heads G.is_live
     (KeepsBelow G.tells_crash G.moment G.left_since G.beside) old new
 
 -- of the rows below, rows were read and nothing else

@@ -28,6 +28,9 @@ pub trait Rows {
     /// How many rows each table has. This is told by every store.
     ghost counts: { Self → Table → ℕ };
 
+    /// How many rows each table of heads has, by what the store was made with. Each call keeps it.
+    ghost heads: { Self → ℕ };
+
     /// Calls may be made. After a commit that met a disk fault, they may not.
     ghost is_live: { Self → Type 0 };
 
@@ -37,8 +40,8 @@ pub trait Rows {
     /// What a crash may leave: an image of a disk, for a store over one.
     ghost Left: { Type 0 };
 
-    /// What is left stands for these lists.
-    ghost shows: { Left → (Table → List (List ℕ)) → Type 0 };
+    /// What is left stands for these lists, with so many heads.
+    ghost shows: { Left → ℕ → (Table → List (List ℕ)) → Type 0 };
 
     /// What a crash at some moment from that one on might have left, during a call or between two.
     ghost left_since: { Self → ℕ → Left → Type 0 };
@@ -65,7 +68,7 @@ pub trait Rows {
         requires below { i < counts self.old t }
         requires sized { length buf.old ≡ size_of t }
         ensures row { tells → OnOk result (buf.new ≡ get_or (lists self.old t) i []) }
-        ensures reads { OnlyRead lists counts is_live
+        ensures reads { OnlyRead lists counts heads is_live
             (KeepsBelow tells_crash moment left_since beside) self.old self.new }
         ensures tick { reads self.new ≡ reads self.old + 1 }
         ensures cause { HasCause (faults self.old) (faults self.new) result };
@@ -80,11 +83,13 @@ pub trait Rows {
         ensures counts { OnOk result ((t : Table) → counts self.new t ≡ count_at sealed.now.counts t) }
         ensures live { OnOk result (is_live self.new) }
         ensures memory { IsErrOf result CommitFault.Memory
-            → OnlyRead lists counts is_live
+            → OnlyRead lists counts heads is_live
             (KeepsBelow tells_crash moment left_since beside) self.old self.new }
         ensures crash { tells_crash → LeavesOnly moment left_since self.old self.new
-            (IsEither shows (lists self.old) (under (lists self.old) sealed.now.counts sealed.now.changes)) }
+            (IsEither (λ left. shows left (heads self.old)) (lists self.old)
+            (under (lists self.old) sealed.now.counts sealed.now.changes)) }
         ensures beside { tells_crash → beside self.new ≡ beside self.old }
+        ensures heads { heads self.new ≡ heads self.old }
         ensures idle { reads self.new ≡ reads self.old }
         ensures cause { CountsOnly (faults self.old) (faults self.new) CommitFault.DiskFailed result };
 
@@ -96,5 +101,5 @@ pub trait Rows {
 
     /// Between calls all that a crash may leave of a live store stands for its lists.
     ghost leaves_lists: { (s : Self) (c : Left)
-        → tells_crash → is_live s → left_since s (moment s) c → shows c (lists s) };
+        → tells_crash → is_live s → left_since s (moment s) c → shows c (heads s) (lists s) };
 }

@@ -1,4 +1,5 @@
 pub mod Answered
+pub mod FirstRows
 pub mod Held
 pub mod Rows
 pub mod StandingLemmas

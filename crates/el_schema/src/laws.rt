@@ -1,9 +1,10 @@
 // What holds of rows that stand for a chain. Each function states a law and does nothing when it runs.
-ghost use Rattle.std.specs.Prelude.{◌≡◌, ◌<◌, [], ◌∷◌, ℕ};
+ghost use Rattle.std.specs.Prelude.{◌≡◌, ◌<◌, ◌^◌, [], ℕ, None, replicate};
 ghost use Rattle.el_chain.specs.Chains.{Chain};
-ghost use Rattle.el_chain.specs.declared.placed.Placed.{Placed};
 ghost use Rattle.el_chain.specs.Faults.{IsGood};
-ghost use Rattle.el_row_formats.specs.Tables.{Tables};
+ghost use Rattle.el_row_formats.specs.Tables.{Tables, first_count};
+ghost use Rattle.el_row_formats.specs.RowBytes.{link_bytes};
+ghost use Rattle.el_row_formats.specs.declared.table.Table.{Table};
 ghost use Rattle.el_rows.specs.Reads.{Same};
 ghost use Rattle.el_schema.specs.Standing.{StandWith, StandFor, HoldChain, buckets_in};
 
@@ -29,10 +30,14 @@ pub fn same_rows_stand()
         → StandWith heads b chain }
 {}
 
-/// From the first block on there are as many heads as the rows are said to have, and before it none.
-pub fn heads_are_there_from_the_first_block_on()
-    ensures some { (heads : ℕ) (rows : Tables) (b : Placed) (bs : Chain) → StandWith heads rows (b ∷ bs)
+/// There are as many heads as the rows are said to have.
+pub fn heads_are_there()
+    ensures { (heads : ℕ) (rows : Tables) (chain : Chain) → StandWith heads rows chain
         → buckets_in rows ≡ heads }
-    ensures none { (heads more : ℕ) (rows : Tables) → 0 < more → StandWith heads rows []
-        → StandWith more rows [] }
+{}
+
+/// Where all tables but those of heads are empty, and each head leads to nothing, the rows stand for no blocks.
+pub fn first_rows_stand()
+    ensures { (bits : ℕ) (rows : Tables) → ((t : Table) → rows t ≡ replicate (first_count bits t) (link_bytes None))
+        → StandWith (2 ^ bits) rows [] }
 {}

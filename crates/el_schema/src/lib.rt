@@ -6,7 +6,7 @@ mod laws;
 mod reading;
 
 pub use laws::{
-    heads_are_there_from_the_first_block_on, rows_of_one_chain_are_equal,
-    rows_that_stand_hold_the_lists, same_rows_stand,
+    first_rows_stand, heads_are_there, rows_of_one_chain_are_equal, rows_that_stand_hold_the_lists,
+    same_rows_stand,
 };
 pub use reading::{block_row, entry_row, in_row, out_row, script_row, tx_row};

@@ -29,7 +29,7 @@ pub fn block_row<R: Rows>(t: &mut Txn<'_, R>, h: u64) -> Result<BlockRow, DiskFa
     ensures read { ReadsRows disk_failed t.old t.new result }
     ensures rows { reads_in t.new ≤ reads_in t.old + 1 }
 {
-    let mut bytes = [0; 112];
+    let mut bytes = [0; 116];
     t.get(Table::Blocks, h, &mut bytes)?;
     Ok(BlockRow::read(&bytes))
 }
@@ -47,7 +47,7 @@ pub fn tx_row<R: Rows>(t: &mut Txn<'_, R>, n: u64) -> Result<TxRow, DiskFailed>
     ensures read { ReadsRows disk_failed t.old t.new result }
     ensures rows { reads_in t.new ≤ reads_in t.old + 1 }
 {
-    let mut bytes = [0; 68];
+    let mut bytes = [0; 84];
     t.get(Table::Txs, n, &mut bytes)?;
     Ok(TxRow::read(&bytes))
 }
@@ -67,7 +67,7 @@ pub fn out_row<R: Rows>(t: &mut Txn<'_, R>, n: u64) -> Result<OutRow, DiskFailed
     ensures read { ReadsRows disk_failed t.old t.new result }
     ensures rows { reads_in t.new ≤ reads_in t.old + 1 }
 {
-    let mut bytes = [0; 21];
+    let mut bytes = [0; 33];
     t.get(Table::Outs, n, &mut bytes)?;
     Ok(OutRow::read(&bytes))
 }
@@ -85,7 +85,7 @@ pub fn in_row<R: Rows>(t: &mut Txn<'_, R>, n: u64) -> Result<InRow, DiskFailed>
     ensures read { ReadsRows disk_failed t.old t.new result }
     ensures rows { reads_in t.new ≤ reads_in t.old + 1 }
 {
-    let mut bytes = [0; 4];
+    let mut bytes = [0; 8];
     t.get(Table::Ins, n, &mut bytes)?;
     Ok(InRow::read(&bytes))
 }
@@ -103,7 +103,7 @@ pub fn script_row<R: Rows>(t: &mut Txn<'_, R>, n: u64) -> Result<ScriptRow, Disk
     ensures read { ReadsRows disk_failed t.old t.new result }
     ensures rows { reads_in t.new ≤ reads_in t.old + 1 }
 {
-    let mut bytes = [0; 52];
+    let mut bytes = [0; 64];
     t.get(Table::Scripts, n, &mut bytes)?;
     Ok(ScriptRow::read(&bytes))
 }
@@ -121,7 +121,7 @@ pub fn entry_row<R: Rows>(t: &mut Txn<'_, R>, n: u64) -> Result<EntryRow, DiskFa
     ensures read { ReadsRows disk_failed t.old t.new result }
     ensures rows { reads_in t.new ≤ reads_in t.old + 1 }
 {
-    let mut bytes = [0; 12];
+    let mut bytes = [0; 24];
     t.get(Table::Entries, n, &mut bytes)?;
     Ok(EntryRow::read(&bytes))
 }

@@ -10,7 +10,7 @@ use crate::row::{append_entry, put_script};
 use el_base::Hash32;
 use el_buckets::{Buckets, push};
 use el_chain::ConnectFault;
-use el_row_formats::{EntryRow, MAX_NUMBER, ScriptRow, Table};
+use el_row_formats::{EntryRow, ScriptRow, Table};
 use el_rows::{Rows, Txn};
 
 // The table is full.
@@ -55,7 +55,7 @@ pub(crate) fn add_script<R: Rows>(
         entries: 1,
         balance: 0,
     };
-    let mut bytes = [0; 52];
+    let mut bytes = [0; 64];
     row.write(&mut bytes);
     push(t, Buckets::ScriptHashes, s, &bytes)?;
     Ok(())
@@ -82,7 +82,7 @@ pub(crate) fn add_known<R: Rows>(
     let last = append_entry(t, &EntryRow { tx, script, before })?;
     let entered = ScriptRow {
         last: Some(last),
-        entries: (row.entries + 1).min(MAX_NUMBER),
+        entries: row.entries.saturating_add(1),
         ..*row
     };
     put_script(t, script, &entered)?;

@@ -60,7 +60,7 @@ pub fn found_script<R: Rows>(
         → reads_in t.new ≤ reads_in t.old + 1 + bucket_size counts.scripts script_hash.now l.scripts }
     ensures read { ReadsRows disk_failed t.old t.new result }
 {
-    let mut row = [0; 52];
+    let mut row = [0; 64];
     let found = find_row(t, Buckets::ScriptHashes, script_hash, &mut row)?;
     match found.newest {
         Some(number) => {

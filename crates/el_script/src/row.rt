@@ -26,7 +26,7 @@ pub(crate) fn put_script<R: Rows>(
     ensures err { OnErr result (tables_in t.new ≡ tables_in t.old) }
     ensures alone { EditsAlone t.old t.new }
 {
-    let mut bytes = [0; 52];
+    let mut bytes = [0; 64];
     row.write(&mut bytes);
     t.put(Table::Scripts, n, &bytes)
 }
@@ -45,7 +45,7 @@ pub(crate) fn append_entry<R: Rows>(
     ensures fault { IfErr result (NotAdded Table.Entries (length (tables_in t.old Table.Entries))) }
     ensures alone { EditsAlone t.old t.new }
 {
-    let mut bytes = [0; 12];
+    let mut bytes = [0; 24];
     entry.write(&mut bytes);
     let n = t.count(Table::Entries);
     match t.append(Table::Entries, &bytes) {

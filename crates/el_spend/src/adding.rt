@@ -102,7 +102,7 @@ fn append_output<R: Rows>(
         script,
         state: State::Unspent,
     };
-    let mut bytes = [0; 21];
+    let mut bytes = [0; 33];
     row.write(&mut bytes);
     let n = t.count(Table::Outs);
     match t.append(Table::Outs, &bytes) {

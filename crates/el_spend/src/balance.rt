@@ -25,7 +25,7 @@ fn put_script<R: Rows>(t: &mut Txn<'_, R>, n: u64, row: &ScriptRow) -> Result<()
     ensures err { OnErr result (tables_in t.new ≡ tables_in t.old) }
     ensures alone { EditsAlone t.old t.new }
 {
-    let mut bytes = [0; 52];
+    let mut bytes = [0; 64];
     row.write(&mut bytes);
     t.put(Table::Scripts, n, &bytes)
 }

@@ -38,7 +38,7 @@ fn put_state<R: Rows>(
         state,
         ..output.row
     };
-    let mut bytes = [0; 21];
+    let mut bytes = [0; 33];
     changed.write(&mut bytes);
     t.put(Table::Outs, output.number, &bytes)
 }

@@ -13,6 +13,7 @@ ghost use Rattle.el_buckets.specs.Buckets.{bucket_size};
 ghost use Rattle.el_schema.specs.Rows.{Encode, Hold};
 ghost use Rattle.el_spend.specs.Outputs.{named_among, output_at, txs_with, rows_to_find, coin_among};
 
+use el_base::Hash32;
 use el_buckets::if_below;
 use el_outside::DiskFailed;
 use el_position::newest;
@@ -55,10 +56,55 @@ pub fn named_output<R: Rows>(
     ensures fits { IfOk result (λ f. ForSome f (λ x. FitsOutRow x.row)) }
     ensures read { ReadsRows disk_failed t.old t.new result }
 {
-    match output_number(t, o, below)? {
-        Some(k) => found_output(t, k),
+    named_at(t, &o.txid, u64::from(o.index), below)
+}
+
+// The same for an index that may be any number.
+pub(crate) fn named_at<R: Rows>(
+    t: &mut Txn<'_, R>,
+    txid: &Hash32,
+    index: u64,
+    below: u64,
+) -> Result<Option<NamedOutput>, DiskFailed>
+    requires live { R.is_live t.old.rows.now }
+    ensures named { (counts : HeadCounts) (bs : List ListedBlock) (l : lists.Lists) → R.tells
+        → Hold counts bs l (tables_in t.old) → 0 < counts.txs
+        → IfOk result (λ f. f ≡ named_among (record { txid = txid.now; index = index }) below l) }
+    ensures rows { (counts : HeadCounts) (bs : List ListedBlock) (l : lists.Lists) → R.tells
+        → Hold counts bs l (tables_in t.old) → 0 < counts.txs
+        → reads_in t.new ≤ reads_in t.old + rows_to_find counts.txs txid.now l }
+    ensures none { length (tables_in t.old Table.TxHeads) ≡ 0 → IfOk result (λ f. f ≡ None) }
+    ensures below { IfOk result (λ f. ForSome f (λ x. x.number < length (tables_in t.old Table.Outs))) }
+    ensures limit { IfOk result (λ f. ForSome f (λ x. x.number < limit_of Table.Outs)) }
+    ensures row { R.tells → IfOk result
+        (λ f. ForSome f (λ x. ReadsAsOut (get_or (tables_in t.old Table.Outs) x.number []) x.row)) }
+    ensures fits { IfOk result (λ f. ForSome f (λ x. FitsOutRow x.row)) }
+    ensures read { ReadsRows disk_failed t.old t.new result }
+{
+    match output_number(t, txid, index, below)? {
+        Some(k) => output_below(t, k),
         None => Ok(None),
     }
+}
+
+// The output of that number, which may be any, with its row, and none where there is no such output.
+fn output_below<R: Rows>(t: &mut Txn<'_, R>, k: u128) -> Result<Option<NamedOutput>, DiskFailed>
+    requires live { R.is_live t.old.rows.now }
+    ensures found { (tb : typed.Tables) → R.tells → Encode (tables_in t.old) tb
+        → IfOk result (λ f. f ≡ output_at tb.outs k) }
+    ensures below { IfOk result (λ f. ForSome f (λ x. x.number < length (tables_in t.old Table.Outs))) }
+    ensures limit { IfOk result (λ f. ForSome f (λ x. x.number < limit_of Table.Outs)) }
+    ensures row { R.tells → IfOk result
+        (λ f. ForSome f (λ x. ReadsAsOut (get_or (tables_in t.old Table.Outs) x.number []) x.row)) }
+    ensures fits { IfOk result (λ f. ForSome f (λ x. FitsOutRow x.row)) }
+    ensures read { ReadsRows disk_failed t.old t.new result }
+    ensures rows { reads_in t.new ≤ reads_in t.old + 1 }
+{
+    let count = u128::from(t.count(Table::Outs));
+    if k >= count {
+        return Ok(None);
+    }
+    found_output(t, k as u64)
 }
 
 // The output of that number with its row, and none where there is no such output.
@@ -84,29 +130,34 @@ pub(crate) fn found_output<R: Rows>(
     Ok(Some(NamedOutput { number: k, row }))
 }
 
-// The number of the output that the outpoint names among the transactions below that number. A link to an
-// older transaction that isn't below its own is none.
+// The number of the output that the txid and the index name among the transactions below that number. A link to
+// an older transaction that isn't below its own is none.
 fn output_number<R: Rows>(
     t: &mut Txn<'_, R>,
-    o: &Outpoint,
+    txid: &Hash32,
+    index: u64,
     below: u64,
-) -> Result<Option<u64>, DiskFailed>
+) -> Result<Option<u128>, DiskFailed>
     requires live { R.is_live t.old.rows.now }
     ensures number { (counts : HeadCounts) (bs : List ListedBlock) (l : lists.Lists) → R.tells
         → Hold counts bs l (tables_in t.old) → 0 < counts.txs
-        → IfOk result (λ k. k ≡ lists.output_number o.now (take below l.txs)) }
+        → IfOk result (λ k. k
+        ≡ lists.output_number (record { txid = txid.now; index = index }) (take below l.txs)) }
     ensures rows { (counts : HeadCounts) (bs : List ListedBlock) (l : lists.Lists) → R.tells
         → Hold counts bs l (tables_in t.old) → 0 < counts.txs
-        → reads_in t.new ≤ reads_in t.old + (1 + bucket_size counts.txs o.now.txid
-        (map (λ (x : lists.ListedTx). x.txid) l.txs) + txs_with o.now.txid l.txs) }
+        → reads_in t.new ≤ reads_in t.old + (1 + bucket_size counts.txs txid.now
+        (map (λ (x : lists.ListedTx). x.txid) l.txs) + txs_with txid.now l.txs) }
     ensures none { length (tables_in t.old Table.TxHeads) ≡ 0 → IfOk result (λ k. k ≡ None) }
     ensures read { ReadsRows disk_failed t.old t.new result }
 {
-    let mut link = newest(t, &o.txid)?;
+    let mut link = newest(t, txid)?;
     while let Some(n) = link {
         let row = tx_row(t, n)?;
-        if n < below && o.index < row.outs {
-            return Ok(Some(row.first_out + u64::from(o.index)));
+        let outs = u64::from(row.outs);
+        if n < below && index < outs {
+            let first = u128::from(row.first_out);
+            let more = u128::from(index);
+            return Ok(Some(first + more));
         }
         link = if_below(row.older, n);
     }

@@ -35,7 +35,7 @@ fn append_input<R: Rows>(t: &mut Txn<'_, R>, k: u64) -> Result<u64, ConnectFault
     ensures fault { IfErr result (λ e. NotAdded Table.Ins (length (tables_in t.old Table.Ins)) e) }
     ensures alone { EditsAlone t.old t.new }
 {
-    let mut bytes = [0; 4];
+    let mut bytes = [0; 8];
     InRow { out: k }.write(&mut bytes);
     let n = t.count(Table::Ins);
     match t.append(Table::Ins, &bytes) {

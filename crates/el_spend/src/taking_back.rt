@@ -17,14 +17,13 @@ ghost use Rattle.el_spend.specs.within.Parts.{outpoint_at, unburied_lists, held_
 use crate::NamedOutput;
 use crate::balance::lower;
 use crate::coins::give_back;
-use crate::lookup::named_output;
+use crate::lookup::named_at;
 use crate::reading::listed_at;
 use el_chain::ConnectFault;
 use el_outside::DiskFailed;
 use el_row_formats::{OutRow, State, Table};
 use el_rows::{Rows, Txn};
 use el_schema::out_row;
-use el_tx::Outpoint;
 
 // If the output was unspent it leaves its script's balance.
 fn leave_balance<R: Rows>(t: &mut Txn<'_, R>, row: &OutRow) -> Result<(), ConnectFault>
@@ -85,8 +84,7 @@ fn named_before<R: Rows>(
     ensures read { ReadsRows disk_failed t.old t.new result }
 {
     let (txid, first_out) = listed_at(t, tx)?;
-    let index = number.saturating_sub(first_out) as u32;
-    named_output(t, &Outpoint { txid, index }, tx)
+    named_at(t, &txid, number.saturating_sub(first_out), tx)
 }
 
 // What an output buried is unspent again. The output was of that transaction; it had that number, and is

@@ -10,6 +10,12 @@ const HASH: [u8; 32] = [5; 32];
 
 // What a block's row has after the header.
 const AFTER_HEADER: &[u8] = &[
+    1, 0, 0, 0, 2, 0, 0, 0, 0, 0, 0, 0, 3, 0, 0, 0, 4, 0, 0, 0, 0, 0, 0, 0, 2, 1, 0, 0, 6, 0, 0, 0,
+    0, 0, 0, 0,
+];
+
+// And in format 1.
+const OLD_AFTER_HEADER: &[u8] = &[
     1, 0, 0, 0, 2, 0, 0, 0, 0, 0, 0, 0, 3, 0, 0, 0, 4, 0, 0, 0, 2, 1, 0, 0, 6, 0, 0, 0, 0, 0, 0, 0,
 ];
 
@@ -27,14 +33,23 @@ fn block_has_its_bytes() -> bool {
         txs: 258,
         sum: 6,
     };
-    let mut bytes = [0; 112];
+    let mut bytes = [0; 116];
     block.write(&mut bytes);
+    let mut old = [6; 112];
+    old[80..].copy_from_slice(OLD_AFTER_HEADER);
     let has_header = &bytes[..80] == [6; 80].as_slice();
-    has_header && &bytes[80..] == AFTER_HEADER && BlockRow::read(&bytes) == block
+    let is_read = BlockRow::read(&bytes) == block && BlockRow::read_old(&old) == block;
+    has_header && &bytes[80..] == AFTER_HEADER && is_read
 }
 
 // What a transaction's row has after the txid.
 const AFTER_TXID: &[u8] = &[
+    1, 0, 0, 0, 81, 0, 0, 0, 3, 0, 0, 0, 4, 0, 0, 0, 0, 0, 0, 0, 5, 0, 0, 0, 6, 0, 0, 0, 0, 0, 0,
+    0, 7, 0, 0, 0, 0, 0, 0, 0, 0, 0, 0, 0, 0, 1, 0, 0, 0, 0, 0, 0,
+];
+
+// And in format 1.
+const OLD_AFTER_TXID: &[u8] = &[
     1, 0, 0, 0, 81, 0, 0, 0, 3, 0, 0, 0, 4, 0, 0, 0, 5, 0, 0, 0, 6, 0, 0, 0, 7, 0, 0, 0, 0, 0, 0,
     0, 0, 1, 0, 0,
 ];
@@ -53,14 +68,23 @@ fn tx_has_its_bytes() -> bool {
         older: None,
         next: Some(255),
     };
-    let mut bytes = [0; 68];
+    let mut bytes = [0; 84];
     tx.write(&mut bytes);
+    let mut old = [5; 68];
+    old[32..].copy_from_slice(OLD_AFTER_TXID);
     let has_txid = &bytes[..32] == HASH.as_slice();
-    has_txid && &bytes[32..] == AFTER_TXID && TxRow::read(&bytes) == tx
+    let is_read = TxRow::read(&bytes) == tx && TxRow::read_old(&old) == tx;
+    has_txid && &bytes[32..] == AFTER_TXID && is_read
 }
 
 // What a script's row has after the script hash.
 const AFTER_SCRIPT: &[u8] = &[
+    1, 0, 0, 0, 0, 0, 0, 0, 2, 0, 0, 0, 0, 0, 0, 0, 2, 0, 0, 0, 0, 0, 0, 0, 0, 242, 5, 42, 1, 0, 0,
+    0,
+];
+
+// And in format 1.
+const OLD_AFTER_SCRIPT: &[u8] = &[
     1, 0, 0, 0, 2, 0, 0, 0, 2, 0, 0, 0, 0, 242, 5, 42, 1, 0, 0, 0,
 ];
 
@@ -73,10 +97,13 @@ fn script_has_its_bytes() -> bool {
         entries: 2,
         balance: 5_000_000_000,
     };
-    let mut bytes = [0; 52];
+    let mut bytes = [0; 64];
     script.write(&mut bytes);
+    let mut old = [5; 52];
+    old[32..].copy_from_slice(OLD_AFTER_SCRIPT);
     let has_hash = &bytes[..32] == HASH.as_slice();
-    has_hash && &bytes[32..] == AFTER_SCRIPT && ScriptRow::read(&bytes) == script
+    let is_read = ScriptRow::read(&bytes) == script && ScriptRow::read_old(&old) == script;
+    has_hash && &bytes[32..] == AFTER_SCRIPT && is_read
 }
 
 #[test]
@@ -92,6 +119,10 @@ fn output_has_its_bytes(state: State, by: u8, kind: u8) -> bool
     requires { state_by state < number_limit }
 {
     let wanted = [
+        1, 0, 0, 0, 0, 0, 0, 0, 0, 2, 0, 0, 0, 0, 0, 0, 7, 0, 0, 0, 0, 0, 0, 0, kind, by, 0, 0, 0,
+        0, 0, 0, 0,
+    ];
+    let old = [
         1, 0, 0, 0, 0, 2, 0, 0, 0, 0, 0, 0, 7, 0, 0, 0, kind, by, 0, 0, 0,
     ];
     let row = OutRow {
@@ -100,9 +131,10 @@ fn output_has_its_bytes(state: State, by: u8, kind: u8) -> bool
         script: 7,
         state,
     };
-    let mut bytes = [0; 21];
+    let mut bytes = [0; 33];
     row.write(&mut bytes);
-    OutRow::read(&wanted) == row && (bytes == wanted || kind == 9)
+    let is_read = OutRow::read(&wanted) == row && OutRow::read_old(&old) == row;
+    is_read && (bytes == wanted || kind == 9)
 }
 
 #[test]
@@ -114,19 +146,21 @@ fn outputs_have_their_bytes(rt: HostRuntime) {
 }
 
 // Whether a head has these bytes and is read from them.
-fn head_has_its_bytes(row: &HeadRow, wanted: [u8; 4]) -> bool
+fn head_has_its_bytes(row: &HeadRow, wanted: [u8; 8]) -> bool
     requires { FitsHeadRow row.now }
 {
-    let mut bytes = [9; 4];
+    let mut bytes = [9; 8];
     row.write(&mut bytes);
     bytes == wanted && HeadRow::read(&wanted) == *row
 }
 
 // Whether an input's row has its bytes and is read from them.
 fn input_has_its_bytes() -> bool {
-    let mut bytes = [9; 4];
+    let mut bytes = [9; 8];
     InRow { out: 513 }.write(&mut bytes);
-    bytes == [1, 2, 0, 0] && InRow::read(&bytes) == InRow { out: 513 }
+    let is_read = InRow::read(&bytes) == InRow { out: 513 };
+    let is_old = InRow::read_old(&[1, 2, 0, 0]) == InRow { out: 513 };
+    bytes == [1, 2, 0, 0, 0, 0, 0, 0] && is_read && is_old
 }
 
 // Whether an entry's row has its bytes and is read from them.
@@ -136,18 +170,24 @@ fn entry_has_its_bytes() -> bool {
         script: 2,
         before: Some(2),
     };
-    let mut bytes = [9; 12];
+    let wanted = [
+        1, 0, 0, 0, 0, 0, 0, 0, 2, 0, 0, 0, 0, 0, 0, 0, 3, 0, 0, 0, 0, 0, 0, 0,
+    ];
+    let mut bytes = [9; 24];
     entry.write(&mut bytes);
-    bytes == [1, 0, 0, 0, 2, 0, 0, 0, 3, 0, 0, 0] && EntryRow::read(&bytes) == entry
+    let old = [1, 0, 0, 0, 2, 0, 0, 0, 3, 0, 0, 0];
+    bytes == wanted && EntryRow::read(&bytes) == entry && EntryRow::read_old(&old) == entry
 }
 
 #[test]
 fn short_rows_have_their_bytes(rt: HostRuntime) {
     let last = HeadRow {
-        head: Some(4_294_967_294),
+        head: Some(18_446_744_073_709_551_614),
     };
-    assert!(rt; head_has_its_bytes(&HeadRow { head: None }, [0, 0, 0, 0]));
-    assert!(rt; head_has_its_bytes(&last, [255; 4]));
+    assert!(rt; head_has_its_bytes(&HeadRow { head: None }, [0; 8]));
+    assert!(rt; head_has_its_bytes(&last, [255; 8]));
+    assert!(rt; HeadRow::read_old(&[0; 4]) == HeadRow { head: None });
+    assert!(rt; HeadRow::read_old(&[1, 2, 0, 0]) == HeadRow { head: Some(512) });
     assert!(rt; input_has_its_bytes());
     assert!(rt; entry_has_its_bytes());
 }

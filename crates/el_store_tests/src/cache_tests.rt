@@ -5,18 +5,18 @@ use el_row_formats::Table;
 use std::alloc::Global;
 use std::test::Fail;
 
-// Tables, rows, and the first row of each's page. A page of 4,096 bytes has 36 rows, 60, 1,024, 195, 1,024, 78,
-// 1,024 or 341, by the table.
+// Tables, rows, and the first row of each's page. A page of 4,096 bytes has 35 rows, 48, 512, 124, 512, 64, 512
+// or 170, by the table.
 const FIRSTS: &[(Table, u64, u64)] = &[
-    (Table::Blocks, 35, 0),
-    (Table::Blocks, 36, 36),
-    (Table::Txs, 119, 60),
-    (Table::TxHeads, 65_535, 64_512),
-    (Table::Outs, 195, 195),
-    (Table::Ins, 1_023, 0),
-    (Table::Scripts, 155, 78),
-    (Table::ScriptHeads, 1_024, 1_024),
-    (Table::Entries, 4_294_967_294, 4_294_967_292),
+    (Table::Blocks, 34, 0),
+    (Table::Blocks, 35, 35),
+    (Table::Txs, 95, 48),
+    (Table::TxHeads, 65_535, 65_024),
+    (Table::Outs, 124, 124),
+    (Table::Ins, 511, 0),
+    (Table::Scripts, 127, 64),
+    (Table::ScriptHeads, 512, 512),
+    (Table::Entries, 1_099_511_627_775, 1_099_511_627_690),
 ];
 
 // A cache with no pages.
@@ -34,8 +34,8 @@ fn keep(alloc: Global, cache: &mut PageCache, t: Table, i: u64, byte: u8) -> Res
 }
 
 // The bytes of a row of entries, where its page is kept.
-fn entry(cache: &mut PageCache, i: u64) -> Option<[u8; 12]> {
-    let mut row = [0; 12];
+fn entry(cache: &mut PageCache, i: u64) -> Option<[u8; 24]> {
+    let mut row = [0; 24];
     if i < 1_000 && cache.read(Table::Entries, i, &mut row) {
         return Some(row);
     }
@@ -45,21 +45,21 @@ fn entry(cache: &mut PageCache, i: u64) -> Option<[u8; 12]> {
 // Whether rows are read from a page that is kept, and a change of four rows, the last two of which stand in
 // another page, is read from it.
 fn changes_are_read(alloc: Global, cache: &mut PageCache) -> Result<bool, Fail> {
-    let is_new = cache.len() == 0 && entry(cache, 340).is_none();
-    let is_kept = keep(alloc, cache, Table::Entries, 340, 7)? && cache.len() == 1;
-    cache.change(Table::Entries, 339, 4, &[9; 48]);
-    let is_read = entry(cache, 338) == Some([7; 12]) && entry(cache, 340) == Some([9; 12]);
-    Ok(is_new && is_kept && is_read && entry(cache, 341).is_none())
+    let is_new = cache.len() == 0 && entry(cache, 169).is_none();
+    let is_kept = keep(alloc, cache, Table::Entries, 169, 7)? && cache.len() == 1;
+    cache.change(Table::Entries, 168, 4, &[9; 96]);
+    let is_read = entry(cache, 167) == Some([7; 24]) && entry(cache, 169) == Some([9; 24]);
+    Ok(is_new && is_kept && is_read && entry(cache, 170).is_none())
 }
 
 // Whether that page goes once as many others as may be kept came after its last use, and not before.
 fn goes_last(alloc: Global, cache: &mut PageCache) -> Result<bool, Fail> {
     for i in 1..MAX_PAGES as u64 {
-        keep(alloc, cache, Table::TxHeads, i * 1_024, 1)?;
+        keep(alloc, cache, Table::TxHeads, i * 512, 1)?;
     }
-    let is_there = entry(cache, 0) == Some([7; 12]) && cache.len() == MAX_PAGES;
+    let is_there = entry(cache, 0) == Some([7; 24]) && cache.len() == MAX_PAGES;
     for i in 1..=MAX_PAGES as u64 {
-        keep(alloc, cache, Table::ScriptHeads, i * 1_024, 1)?;
+        keep(alloc, cache, Table::ScriptHeads, i * 512, 1)?;
     }
     Ok(is_there && entry(cache, 0).is_none() && cache.len() == MAX_PAGES)
 }

@@ -1,14 +1,11 @@
 // What a crash leaves of an index, in images that are chosen by kinds.
 
-use crate::disks::{all_fail_from, copy_of, fresh, none_fails, open, put_file};
+use crate::disks::{FIRST_FILE, REDO, all_fail_from, copy_of, fresh, none_fails, open, put_file};
 use crate::edits::{FIRST, SECOND, commit};
 use el_base::OutOfMemory;
 use el_mem_disk::{MemDisk, SilentDisk};
 use std::alloc::Global;
 use std::test::Fail;
-
-// The redo file, which is the last of an index's ten files.
-const REDO: u32 = 9;
 
 // An image that a crash leaves. Of a file that was written since its last sync, all sizes from the least to
 // the greatest are left, and in the ranges that were written any bytes.
@@ -104,7 +101,7 @@ pub fn is_open(disk: &MemDisk) -> bool {
 // A disk with the same tables and nothing in the redo file, synced.
 fn without_redo(alloc: Global, disk: &MemDisk) -> Result<MemDisk, Fail> {
     let mut copy = SilentDisk::new(MemDisk::new(alloc, none_fails(alloc)));
-    for file in 0..REDO {
+    for file in FIRST_FILE..REDO {
         put_file(&mut copy, file, disk.bytes(file))?;
     }
     Ok(copy.into_disk())

@@ -13,14 +13,25 @@ use std::alloc::Global;
 use std::test::Fail;
 
 /// The meta row of two blocks, three transactions, all heads, four outputs, two inputs, three scripts and
-/// five entries: letters, format 1, the main network's magic, and the counts.
-pub const META: &[u8] = b"ELIX\x01\0\0\0\xf9\xbe\xb4\xd9\
+/// five entries: letters, format 2, the main network's magic, 16 bits, and the counts.
+pub const META: &[u8] = b"ELIX\x02\0\0\0\xf9\xbe\xb4\xd9\x10\0\0\0\
 \x02\0\0\0\0\0\0\0\x03\0\0\0\0\0\0\0\0\0\x01\0\0\0\0\0\x04\0\0\0\0\0\0\0\
 \x02\0\0\0\0\0\0\0\x03\0\0\0\0\0\0\0\0\0\x01\0\0\0\0\0\x05\0\0\0\0\0\0\0";
 
-/// How many bytes the meta file then has and the tables' files, whose rows have 112, 68, 4, 21, 4, 52, 4 and
-/// 12 bytes.
-pub const SIZES: [usize; 9] = [76, 224, 204, 262_144, 84, 8, 156, 262_144, 60];
+/// The meta row of no rows but the heads.
+pub const NO_ROWS: &[u8] = b"ELIX\x02\0\0\0\xf9\xbe\xb4\xd9\x10\0\0\0\
+\0\0\0\0\0\0\0\0\0\0\0\0\0\0\0\0\0\0\x01\0\0\0\0\0\0\0\0\0\0\0\0\0\
+\0\0\0\0\0\0\0\0\0\0\0\0\0\0\0\0\0\0\x01\0\0\0\0\0\0\0\0\0\0\0\0\0";
+
+/// The meta file.
+pub const FIRST_FILE: u32 = 20;
+
+/// The redo file, which is the last of an index's ten files.
+pub const REDO: u32 = 29;
+
+/// How many bytes the meta file has with the first of these rows, and the tables' files, whose rows have 116, 84,
+/// 8, 33, 8, 64, 8 and 24 bytes.
+pub const SIZES: [usize; 9] = [80, 232, 252, 524_288, 132, 16, 192, 524_288, 120];
 
 /// The bytes from a place on, up to another one; none where there are fewer.
 pub fn part(bytes: &[u8], from: usize, to: usize) -> &[u8] {
@@ -84,9 +95,25 @@ pub fn reopened(alloc: Global, disk: MemDisk) -> Result<Pages<SilentDisk, Mainne
     }
 }
 
-/// One over a fresh disk.
+/// Gives the tables of heads their files, in which all rows lead to nothing.
+pub fn put_heads(alloc: Global, disk: &mut SilentDisk) -> Result<(), Fail> {
+    let zeros = vec![in alloc; 0u8; 524_288]?;
+    put_file(disk, 23, zeros.as_slice())?;
+    put_file(disk, 27, zeros.as_slice())?;
+    Ok(())
+}
+
+/// A disk with an index of no blocks, and no redo file.
+pub fn fresh_disk(alloc: Global) -> Result<MemDisk, Fail> {
+    let mut disk = SilentDisk::new(MemDisk::new(alloc, none_fails(alloc)));
+    put_file(&mut disk, FIRST_FILE, NO_ROWS)?;
+    put_heads(alloc, &mut disk)?;
+    Ok(disk.into_disk())
+}
+
+/// The store over it.
 pub fn fresh(alloc: Global) -> Result<Pages<SilentDisk, Mainnet>, Fail>
     ensures live { IfOk result (λ store. ⟦<Pages<SilentDisk, Mainnet> as Rows>⟧.is_live store) }
 {
-    reopened(alloc, MemDisk::new(alloc, none_fails(alloc)))
+    reopened(alloc, fresh_disk(alloc)?)
 }

@@ -12,21 +12,23 @@ use std::test::Fail;
 pub enum Edit {
     /// Adds so many rows, the first of this seed and each next of the seed after it.
     Append(Table, u64, u32),
+    /// Writes rows over the first so many, the first of this seed and each next of the seed after it.
+    Over(Table, u64, u32),
     /// Writes a row of this seed over that one.
     Put(Table, u64, u32),
     /// Leaves so many rows.
     Shrink(Table, u64),
 }
 
-/// An index's first commit: some rows of each table, and all heads.
+/// An index's first commit: some rows of each table, and over all heads.
 pub const FIRST: &[Edit] = &[
     Edit::Append(Table::Blocks, 2, 10),
     Edit::Append(Table::Txs, 3, 20),
-    Edit::Append(Table::TxHeads, 65_536, 100_000),
+    Edit::Over(Table::TxHeads, 65_536, 100_000),
     Edit::Append(Table::Outs, 4, 40),
     Edit::Append(Table::Ins, 2, 50),
     Edit::Append(Table::Scripts, 3, 60),
-    Edit::Append(Table::ScriptHeads, 65_536, 200_000),
+    Edit::Over(Table::ScriptHeads, 65_536, 200_000),
     Edit::Append(Table::Entries, 5, 80),
 ];
 
@@ -56,10 +58,10 @@ pub const THIRD: &[Edit] = &[
 ];
 
 // The bytes of a row, and more. No two seeds have the same first four.
-fn row_of(seed: u32) -> [u8; 112] {
+fn row_of(seed: u32) -> [u8; 116] {
     let word = seed.wrapping_mul(2_654_435_761).to_le_bytes();
-    let mut row = [0; 112];
-    for i in 0..112 {
+    let mut row = [0; 116];
+    for i in 0..116 {
         row[i] = word[i % 4].wrapping_add((i / 4) as u8);
     }
     row
@@ -79,6 +81,22 @@ fn append_rows<R: Rows>(txn: &mut Txn<'_, R>, t: Table, rows: u64, seed: u32) ->
     Ok(())
 }
 
+// Writes rows over the first so many.
+fn put_rows<R: Rows>(txn: &mut Txn<'_, R>, t: Table, rows: u64, seed: u32) -> Result<(), Fail>
+    ensures below { txn.new.rows.now ≡ txn.old.rows.now }
+    ensures name { txn.new.rows.ghost_name ≡ txn.old.rows.ghost_name }
+{
+    let mut seed = seed;
+    for i in 0..rows {
+        if i < txn.count(t) {
+            let row = row_of(seed);
+            txn.put(t, i, &row[..t.size()])?;
+        }
+        seed = seed.wrapping_add(1);
+    }
+    Ok(())
+}
+
 // Makes an edit.
 fn edit_one<R: Rows>(txn: &mut Txn<'_, R>, edit: Edit) -> Result<(), Fail>
     ensures below { txn.new.rows.now ≡ txn.old.rows.now }
@@ -86,6 +104,7 @@ fn edit_one<R: Rows>(txn: &mut Txn<'_, R>, edit: Edit) -> Result<(), Fail>
 {
     match edit {
         Edit::Append(t, rows, seed) => append_rows(txn, t, rows, seed)?,
+        Edit::Over(t, rows, seed) => put_rows(txn, t, rows, seed)?,
         Edit::Put(t, i, seed) if i < txn.count(t) => {
             let row = row_of(seed);
             txn.put(t, i, &row[..t.size()])?;
@@ -124,7 +143,7 @@ pub fn commit<R: Rows>(
 
 /// A store in memory after these commits.
 pub fn model_of(alloc: Global, commits: &[&[Edit]]) -> Result<VecRows, Fail> {
-    let mut rows = VecRows::new(alloc);
+    let mut rows = VecRows::new(alloc, 16)?;
     for edits in commits {
         commit(alloc, &mut rows, edits)??;
     }
@@ -132,11 +151,11 @@ pub fn model_of(alloc: Global, commits: &[&[Edit]]) -> Result<VecRows, Fail> {
 }
 
 /// The bytes of a row, and zeros after them; zeros alone where there is none.
-pub fn row_in<R: Rows>(rows: &mut R, t: Table, i: u64) -> Result<[u8; 112], DiskFailed>
+pub fn row_in<R: Rows>(rows: &mut R, t: Table, i: u64) -> Result<[u8; 116], DiskFailed>
     requires live { R.is_live rows.old }
     ensures live { R.is_live rows.new }
 {
-    let mut row = [0; 112];
+    let mut row = [0; 116];
     if i < rows.count(t) {
         rows.row(t, i, &mut row[..t.size()])?;
     }

@@ -1,10 +1,12 @@
 // Indexes that stand for no tables: each check of an opening, with what it wanted and what it found. All
 // bytes are written by hand from the format.
 
-use crate::disks::{META, SIZES, copy_of, none_fails, part, put_file};
+use crate::disks::{
+    FIRST_FILE, META, NO_ROWS, REDO, SIZES, copy_of, none_fails, part, put_file, put_heads,
+};
 use el_base::OutOfMemory;
 use el_mem_disk::{MemDisk, SilentDisk};
-use el_outside::{Disk, DiskFailed};
+use el_outside::Disk;
 use el_recovery::open_pages;
 use el_redo::{Mainnet, NetworkMagic, OpenFault, Regtest, Testnet3};
 use std::alloc::Global;
@@ -41,7 +43,7 @@ fn finds<N: NetworkMagic>(alloc: Global, disk: MemDisk, bad: Option<Bad>) -> boo
 
 // Whether both disks have the same bytes in an index's files.
 fn are_same(disk: &MemDisk, other: &MemDisk) -> bool {
-    for file in 0..10 {
+    for file in FIRST_FILE..=REDO {
         if disk.bytes(file) != other.bytes(file) {
             return false;
         }
@@ -57,10 +59,10 @@ fn blank(alloc: Global) -> SilentDisk {
 // A disk with a meta row, and tables whose rows are zeros.
 fn whole(alloc: Global) -> Result<SilentDisk, Fail> {
     let mut disk = blank(alloc);
-    put_file(&mut disk, 0, META)?;
+    put_file(&mut disk, FIRST_FILE, META)?;
     for (file, size) in SIZES.iter().enumerate().skip(1) {
         let zeros = vec![in alloc; 0u8; *size]?;
-        put_file(&mut disk, file as u32, zeros.as_slice())?;
+        put_file(&mut disk, FIRST_FILE + file as u32, zeros.as_slice())?;
     }
     Ok(disk)
 }
@@ -68,7 +70,7 @@ fn whole(alloc: Global) -> Result<SilentDisk, Fail> {
 // The same with other bytes in the meta row, from that place on.
 fn patched(alloc: Global, at: u64, bytes: &[u8]) -> Result<MemDisk, Fail> {
     let mut disk = whole(alloc)?;
-    disk.write_at(0, at, bytes)?;
+    disk.write_at(FIRST_FILE, at, bytes)?;
     Ok(disk.into_disk())
 }
 
@@ -79,47 +81,75 @@ fn cut(alloc: Global, file: u32, len: u64) -> Result<MemDisk, Fail> {
     Ok(disk.into_disk())
 }
 
-// Bytes of the meta row that are changed, and what then is found: letters; the format; the network; tables of
-// heads that have too many rows or too few; counts above the limit; counts of more rows than there are bytes.
+// Bytes of the meta row that are changed, and what then is found: letters; the format; the network; a number of
+// bits that may not be; tables of heads that have too many rows or too few for it; counts above the limit; counts
+// of more rows than there are bytes.
 const PATCHES: &[(u64, &[u8], Option<Bad>)] = &[
-    (0, b"F", Some((0, 1_481_198_661, 1_481_198_662))),
-    (3, b"Y", Some((0, 1_481_198_661, 1_497_975_877))),
-    (4, b"\x02", Some((0, 1, 2))),
-    (7, b"\x01", Some((0, 1, 16_777_217))),
-    (4, b"\0", Some((0, 1, 0))),
-    (8, b"\xf8", Some((0, 3_652_501_241, 3_652_501_240))),
+    (0, b"F", Some((20, 1_481_198_661, 1_481_198_662))),
+    (3, b"Y", Some((20, 1_481_198_661, 1_497_975_877))),
+    (4, b"\x01", Some((20, 2, 1))),
+    (7, b"\x01", Some((20, 2, 16_777_218))),
+    (4, b"\0", Some((20, 2, 0))),
+    (8, b"\xf8", Some((20, 3_652_501_241, 3_652_501_240))),
     (
         8,
         b"\x0b\x11\x09\x07",
-        Some((0, 3_652_501_241, 118_034_699)),
+        Some((20, 3_652_501_241, 118_034_699)),
     ),
-    (28, b"\x01", Some((3, 65_536, 65_537))),
-    (30, b"\0", Some((3, 65_536, 0))),
-    (35, b"\x01", Some((3, 65_536, 72_057_594_037_993_472))),
-    (60, b"\xff\xff\0", Some((7, 65_536, 65_535))),
-    (62, b"\0", Some((7, 65_536, 0))),
-    (16, b"\x01", Some((1, 4_294_967_295, 4_294_967_298))),
-    (24, b"\x01", Some((2, 4_294_967_295, 4_294_967_299))),
-    (40, b"\x01", Some((4, 4_294_967_295, 4_294_967_300))),
-    (48, b"\x01", Some((5, 4_294_967_295, 4_294_967_298))),
-    (56, b"\x01", Some((6, 4_294_967_295, 4_294_967_299))),
-    (72, b"\x01", Some((8, 4_294_967_295, 4_294_967_301))),
+    (12, b"\x0f", Some((20, 16, 15))),
+    (12, b"\x19", Some((20, 16, 25))),
+    (13, b"\x01", Some((20, 16, 272))),
+    (15, b"\x80", Some((20, 16, 2_147_483_664))),
+    (12, b"\x11", Some((23, 131_072, 65_536))),
+    (12, b"\x18", Some((23, 16_777_216, 65_536))),
+    (32, b"\x01", Some((23, 65_536, 65_537))),
+    (34, b"\0", Some((23, 65_536, 0))),
+    (39, b"\x01", Some((23, 65_536, 72_057_594_037_993_472))),
+    (64, b"\xff\xff\0", Some((27, 65_536, 65_535))),
+    (66, b"\0", Some((27, 65_536, 0))),
+    (16, &[0; 64], Some((23, 65_536, 0))),
+    (20, b"\x01", Some((21, 4_294_967_295, 4_294_967_298))),
     (
-        75,
-        b"\x80",
-        Some((8, 4_294_967_295, 9_223_372_036_854_775_813)),
+        29,
+        b"\x01",
+        Some((22, 1_099_511_627_776, 1_099_511_627_779)),
     ),
-    (12, b"\x03", Some((1, 336, 224))),
-    (20, b"\x04", Some((2, 272, 204))),
-    (36, b"\x05", Some((4, 105, 84))),
-    (44, b"\x03", Some((5, 12, 8))),
-    (52, b"\x04", Some((6, 208, 156))),
-    (68, b"\x06", Some((8, 72, 60))),
-    (68, b"\xff\xff\xff\xff", Some((8, 51_539_607_540, 60))),
-    (12, &[0; 64], None),
-    (12, b"\x01", None),
-    (68, b"\0", None),
-    (76, b"more", None),
+    (
+        45,
+        b"\x01",
+        Some((24, 1_099_511_627_776, 1_099_511_627_780)),
+    ),
+    (
+        53,
+        b"\x01",
+        Some((25, 1_099_511_627_776, 1_099_511_627_778)),
+    ),
+    (
+        61,
+        b"\x01",
+        Some((26, 1_099_511_627_776, 1_099_511_627_779)),
+    ),
+    (
+        77,
+        b"\x01",
+        Some((28, 1_099_511_627_776, 1_099_511_627_781)),
+    ),
+    (
+        79,
+        b"\x80",
+        Some((28, 1_099_511_627_776, 9_223_372_036_854_775_813)),
+    ),
+    (24, b"\0\0\0\0\0\x01", Some((22, 92_358_976_733_184, 252))),
+    (16, b"\x03", Some((21, 348, 232))),
+    (24, b"\x04", Some((22, 336, 252))),
+    (40, b"\x05", Some((24, 165, 132))),
+    (48, b"\x03", Some((25, 24, 16))),
+    (56, b"\x04", Some((26, 256, 192))),
+    (72, b"\x06", Some((28, 144, 120))),
+    (72, b"\xff\xff\xff\xff", Some((28, 103_079_215_080, 120))),
+    (16, b"\x01", None),
+    (72, b"\0", None),
+    (80, b"more", None),
 ];
 
 #[test]
@@ -131,8 +161,8 @@ fn magics_are_bitcoins(rt: HostRuntime) {
 
 // What networks find in the main network's index.
 fn is_of_one_network(alloc: Global) -> Result<bool, Fail> {
-    let regtest = Some((0, 3_669_344_250, 3_652_501_241));
-    let testnet = Some((0, 118_034_699, 3_652_501_241));
+    let regtest = Some((20, 3_669_344_250, 3_652_501_241));
+    let testnet = Some((20, 118_034_699, 3_652_501_241));
     let for_main = finds::<Mainnet>(alloc, whole(alloc)?.into_disk(), None);
     let for_regtest = finds::<Regtest>(alloc, whole(alloc)?.into_disk(), regtest);
     let for_testnet = finds::<Testnet3>(alloc, whole(alloc)?.into_disk(), testnet);
@@ -159,24 +189,28 @@ fn is_short(alloc: Global, file: u32, len: u64, size: u64) -> Result<bool, Fail>
 #[test]
 fn short_files_are_told(rt: HostRuntime) -> Result<(), Fail> {
     let alloc = rt.alloc();
-    assert!(rt; finds::<Mainnet>(alloc, cut(alloc, 0, 0)?, None));
-    for len in 1..76 {
-        assert!(rt; is_short(alloc, 0, len, 76)?, "{len}");
+    for len in 0..80 {
+        assert!(rt; is_short(alloc, FIRST_FILE, len, 80)?, "{len}");
     }
     for (file, size) in SIZES.iter().enumerate() {
         let size = *size as u64;
         assert!(rt;
-            is_short(alloc, file as u32, size.saturating_sub(1), size)?,
+            is_short(
+                alloc,
+                FIRST_FILE + file as u32,
+                size.saturating_sub(1),
+                size
+            )?,
             "{file}"
         );
     }
     Ok(())
 }
 
-// A meta row of no rows.
-const NO_ROWS: &[u8] = b"ELIX\x01\0\0\0\xf9\xbe\xb4\xd9\
-\0\0\0\0\0\0\0\0\0\0\0\0\0\0\0\0\0\0\0\0\0\0\0\0\0\0\0\0\0\0\0\0\
-\0\0\0\0\0\0\0\0\0\0\0\0\0\0\0\0\0\0\0\0\0\0\0\0\0\0\0\0\0\0\0\0";
+// The meta row of two inputs, and no other rows but the heads.
+const TWO_INPUTS: &[u8] = b"ELIX\x02\0\0\0\xf9\xbe\xb4\xd9\x10\0\0\0\
+\0\0\0\0\0\0\0\0\0\0\0\0\0\0\0\0\0\0\x01\0\0\0\0\0\0\0\0\0\0\0\0\0\
+\x02\0\0\0\0\0\0\0\0\0\0\0\0\0\0\0\0\0\x01\0\0\0\0\0\0\0\0\0\0\0\0\0";
 
 // A redo file with this gate and this length, and a body of the meta row and these changes.
 fn redo_file(alloc: Global, gate: u8, len: u64, changes: &[u8]) -> Result<Vec<u8>, OutOfMemory> {
@@ -187,13 +221,15 @@ fn redo_file(alloc: Global, gate: u8, len: u64, changes: &[u8]) -> Result<Vec<u8
     Ok(file)
 }
 
-// A disk with this redo file, a blank meta file, and files of two inputs and three bytes more, and of one
-// script less a byte.
-fn with_redo(alloc: Global, redo: &[u8]) -> Result<MemDisk, DiskFailed> {
+// A disk with this redo file, the meta row of two inputs, heads, and files of two inputs and three bytes more, and
+// of one script less a byte.
+fn with_redo(alloc: Global, redo: &[u8]) -> Result<MemDisk, Fail> {
     let mut disk = blank(alloc);
-    put_file(&mut disk, 5, b"in-0in-1abc")?;
-    put_file(&mut disk, 6, &[7; 51])?;
-    put_file(&mut disk, 9, redo)?;
+    put_file(&mut disk, FIRST_FILE, TWO_INPUTS)?;
+    put_heads(alloc, &mut disk)?;
+    put_file(&mut disk, 25, b"input--0input--1abc")?;
+    put_file(&mut disk, 26, &[7; 63])?;
+    put_file(&mut disk, REDO, redo)?;
     Ok(disk.into_disk())
 }
 
@@ -207,14 +243,14 @@ fn is_told(alloc: Global, redo: &[u8], bad: Option<Bad>) -> Result<bool, Fail> {
 }
 
 // A change of an input, and one of a head.
-const TWO: &[u8] = b"\x05\0\0\0\0\0\0\0\0IN-0\x03\0\0\0\0\0\0\0\0head";
+const TWO: &[u8] = b"\x05\0\0\0\0\0\0\0\0INPUT--0\x03\0\0\0\0\0\0\0\0the head";
 
-// What is found where a redo file with that body is cut to so many bytes; the body has 102.
+// What is found where a redo file with that body is cut to so many bytes; the body has 114.
 fn bad_cut(len: u64) -> Option<Bad> {
     match len {
         0..=1 => None,
-        2..=8 => Some((9, 9, len)),
-        9..=110 => Some((9, 102, len - 9)),
+        2..=8 => Some((29, 9, len)),
+        9..=122 => Some((29, 114, len - 9)),
         _ => None,
     }
 }
@@ -222,11 +258,11 @@ fn bad_cut(len: u64) -> Option<Bad> {
 // What is found where the length of that body is told as this one.
 fn bad_length(len: u64) -> Option<Bad> {
     match len {
-        0..=75 => Some((9, 76, len)),
-        76 | 89 | 102 => None,
-        77..=88 => Some((9, 13, len - 76)),
-        90..=101 => Some((9, 13, len - 89)),
-        _ => Some((9, len, 102)),
+        0..=79 => Some((29, 80, len)),
+        80 | 97 | 114 => None,
+        81..=96 => Some((29, 17, len - 80)),
+        98..=113 => Some((29, 17, len - 97)),
+        _ => Some((29, len, 114)),
     }
 }
 
@@ -239,12 +275,12 @@ fn is_length_told(alloc: Global, len: u64) -> Result<bool, Fail> {
 #[test]
 fn short_redo_files_are_told(rt: HostRuntime) -> Result<(), Fail> {
     let alloc = rt.alloc();
-    let whole = redo_file(alloc, 1, 102, TWO)?;
+    let whole = redo_file(alloc, 1, 114, TWO)?;
     for len in 0..whole.len() {
         let is_told = is_told(alloc, part(whole.as_slice(), 0, len), bad_cut(len as u64))?;
         assert!(rt; is_told, "{len}");
     }
-    for len in 0..104 {
+    for len in 0..116 {
         assert!(rt; is_length_told(alloc, len)?, "{len}");
     }
     assert!(rt; is_length_told(alloc, 1 << 62)? && is_length_told(alloc, u64::MAX)?);
@@ -259,34 +295,37 @@ type Change = (u8, u64, usize);
 // change that is bad is told.
 const CHANGES: &[(&[Change], Option<Bad>)] = &[
     (&[], None),
-    (&[(0, 0, 4)], Some((9, 8, 0))),
-    (&[(9, 0, 112)], Some((9, 8, 9))),
-    (&[(255, 0, 0)], Some((9, 8, 255))),
-    (&[(5, 0, 4), (10, 0, 4)], Some((9, 8, 10))),
-    (&[(1, 0, 111)], Some((9, 121, 120))),
-    (&[(2, 0, 67)], Some((9, 77, 76))),
-    (&[(3, 0, 3)], Some((9, 13, 12))),
-    (&[(4, 0, 20)], Some((9, 30, 29))),
-    (&[(5, 9, 3)], Some((9, 13, 12))),
-    (&[(6, 0, 51)], Some((9, 61, 60))),
-    (&[(7, 0, 0)], Some((9, 13, 9))),
-    (&[(8, 0, 11)], Some((9, 21, 20))),
-    (&[(5, 2, 4)], None),
-    (&[(5, 3, 4)], Some((5, 2, 3))),
-    (&[(5, 2, 4), (5, 3, 4)], None),
-    (&[(5, 2, 4), (5, 4, 4)], Some((5, 3, 4))),
-    (&[(5, 0, 4), (5, 3, 4)], Some((5, 2, 3))),
-    (&[(6, 0, 52), (6, 1, 52)], None),
-    (&[(6, 1, 52), (6, 0, 52)], Some((6, 0, 1))),
-    (&[(3, 0, 4), (3, 1, 4), (7, 1, 4)], Some((7, 0, 1))),
-    (&[(1, 1, 112)], Some((1, 0, 1))),
-    (&[(2, 4_294_967_296, 68)], Some((2, 0, 4_294_967_296))),
+    (&[(0, 0, 8)], Some((29, 8, 0))),
+    (&[(9, 0, 116)], Some((29, 8, 9))),
+    (&[(255, 0, 0)], Some((29, 8, 255))),
+    (&[(5, 0, 8), (10, 0, 8)], Some((29, 8, 10))),
+    (&[(1, 0, 115)], Some((29, 125, 124))),
+    (&[(2, 0, 83)], Some((29, 93, 92))),
+    (&[(3, 0, 7)], Some((29, 17, 16))),
+    (&[(4, 0, 32)], Some((29, 42, 41))),
+    (&[(5, 9, 7)], Some((29, 17, 16))),
+    (&[(6, 0, 63)], Some((29, 73, 72))),
+    (&[(7, 0, 0)], Some((29, 17, 9))),
+    (&[(8, 0, 23)], Some((29, 33, 32))),
+    (&[(5, 2, 8)], None),
+    (&[(5, 3, 8)], Some((25, 2, 3))),
+    (&[(5, 2, 8), (5, 3, 8)], None),
+    (&[(5, 2, 8), (5, 4, 8)], Some((25, 3, 4))),
+    (&[(5, 0, 8), (5, 3, 8)], Some((25, 2, 3))),
+    (&[(6, 0, 64), (6, 1, 64)], None),
+    (&[(6, 1, 64), (6, 0, 64)], Some((26, 0, 1))),
     (
-        &[(4, 9_223_372_036_854_775_808, 21)],
-        Some((4, 0, 9_223_372_036_854_775_808)),
+        &[(3, 65_536, 8), (3, 65_537, 8), (7, 65_537, 8)],
+        Some((27, 65_536, 65_537)),
     ),
-    (&[(8, u64::MAX, 12)], Some((8, 0, u64::MAX))),
-    (&[(8, u64::MAX, 12), (0, 0, 0)], Some((8, 0, u64::MAX))),
+    (&[(1, 1, 116)], Some((21, 0, 1))),
+    (&[(2, 4_294_967_296, 84)], Some((22, 0, 4_294_967_296))),
+    (
+        &[(4, 9_223_372_036_854_775_808, 33)],
+        Some((24, 0, 9_223_372_036_854_775_808)),
+    ),
+    (&[(8, u64::MAX, 24)], Some((28, 0, u64::MAX))),
+    (&[(8, u64::MAX, 24), (0, 0, 0)], Some((28, 0, u64::MAX))),
 ];
 
 // The bytes of changes, whose rows are zeros.
@@ -304,7 +343,7 @@ fn bytes_of(alloc: Global, changes: &[Change]) -> Result<Vec<u8>, OutOfMemory> {
 // Whether a body of these changes is told where the gate is open, and is nothing where it isn't.
 fn is_told_if_open(alloc: Global, changes: &[Change], bad: Option<Bad>) -> Result<bool, Fail> {
     let bytes = bytes_of(alloc, changes)?;
-    let len = (bytes.len() as u64).saturating_add(76);
+    let len = (bytes.len() as u64).saturating_add(80);
     for gate in [0, 2, 255] {
         let closed = redo_file(alloc, gate, len, bytes.as_slice())?;
         if !is_told(alloc, closed.as_slice(), None)? {
@@ -325,17 +364,18 @@ fn bad_changes_are_told(rt: HostRuntime) -> Result<(), Fail> {
 
 // A record waits: a meta row, a changed input and one more, and stale bytes after the body.
 fn waiting(alloc: Global) -> Result<MemDisk, Fail> {
-    let changes = b"\x05\x01\0\0\0\0\0\0\0IN-1\x05\x02\0\0\0\0\0\0\0IN-2\xff\xff";
-    let file = redo_file(alloc, 1, 102, changes)?;
-    Ok(with_redo(alloc, file.as_slice())?)
+    let changes = b"\x05\x01\0\0\0\0\0\0\0INPUT--1\x05\x02\0\0\0\0\0\0\0INPUT--2\xff\xff";
+    let file = redo_file(alloc, 1, 114, changes)?;
+    with_redo(alloc, file.as_slice())
 }
 
 // Whether it was made, and only the gate of the redo file has changed.
 fn is_made(before: &MemDisk, after: &MemDisk) -> bool {
-    let is_written = after.bytes(0) == NO_ROWS && after.bytes(5) == b"in-0IN-1IN-2".as_slice();
-    let is_closed = after.bytes(9).first() == Some(&0);
-    let is_kept = part(after.bytes(9), 1, 113) == part(before.bytes(9), 1, 113);
-    is_written && is_closed && is_kept && after.bytes(6) == before.bytes(6)
+    let is_written = after.bytes(FIRST_FILE) == NO_ROWS
+        && after.bytes(25) == b"input--0INPUT--1INPUT--2".as_slice();
+    let is_closed = after.bytes(REDO).first() == Some(&0);
+    let is_kept = part(after.bytes(REDO), 1, 125) == part(before.bytes(REDO), 1, 125);
+    is_written && is_closed && is_kept && after.bytes(26) == before.bytes(26)
 }
 
 #[test]

@@ -3,7 +3,10 @@
 ghost use Rattle.std.specs.Prelude.{◌≡◌, IfOk, OnOk};
 
 use crate::crashes::base;
-use crate::disks::{META, SIZES, copy_of, fails_at, fresh, none_fails, part, reopened};
+use crate::disks::{
+    FIRST_FILE, META, NO_ROWS, REDO, SIZES, copy_of, fails_at, fresh, fresh_disk, none_fails, part,
+    reopened,
+};
 use crate::edits::{Edit, FIRST, SECOND, commit, has_row_of, has_rows_of, model_of, row_in};
 use el_base::Bytes;
 use el_mem_disk::{MemDisk, Residue, SilentDisk};
@@ -18,32 +21,33 @@ use std::test::Fail;
 // Whether the meta file and the tables' files have these sizes, and the redo file this one.
 fn has_sizes(disk: &MemDisk, sizes: &[usize; 9], redo: usize) -> bool {
     for file in 0..9u32 {
-        if disk.bytes(file).len() != sizes[file as usize] {
+        if disk.bytes(FIRST_FILE + file).len() != sizes[file as usize] {
             return false;
         }
     }
-    disk.bytes(9).len() == redo
+    disk.bytes(REDO).len() == redo
 }
 
 #[test]
-fn a_fresh_disk_has_no_rows(rt: HostRuntime) -> Result<(), Fail> {
+fn a_fresh_disk_has_heads_alone(rt: HostRuntime) -> Result<(), Fail> {
     let mut store = fresh(rt.alloc())?;
-    assert!(rt; has_rows_of(&mut store, &mut VecRows::new(rt.alloc()), 1)?);
+    assert!(rt; has_rows_of(&mut store, &mut VecRows::new(rt.alloc(), 16)?, u64::MAX)?);
     let disk = store.into_disk().into_disk();
-    assert!(rt; has_sizes(&disk, &[0; 9], 1) && disk.bytes(9) == b"\0".as_slice());
+    assert!(rt; has_sizes(&disk, &[80, 0, 0, 524_288, 0, 0, 0, 524_288, 0], 1));
+    assert!(rt; disk.bytes(FIRST_FILE) == NO_ROWS && disk.bytes(REDO) == b"\0".as_slice());
     Ok(())
 }
 
 // The redo file's size after the first commit: the gate, the length, the meta row, and each row with 9 bytes
 // before it.
-const REDO_SIZE: usize = 9 + 76 + 1_704_843;
+const REDO_SIZE: usize = 9 + 80 + 2_229_339;
 
 // The meta row and the sizes after the second commit. No file is cut, and the redo file ends as before.
-const SECOND_META: &[u8] = b"ELIX\x01\0\0\0\xf9\xbe\xb4\xd9\
+const SECOND_META: &[u8] = b"ELIX\x02\0\0\0\xf9\xbe\xb4\xd9\x10\0\0\0\
 \x03\0\0\0\0\0\0\0\x05\0\0\0\0\0\0\0\0\0\x01\0\0\0\0\0\x03\0\0\0\0\0\0\0\
 \x01\0\0\0\0\0\0\0\x03\0\0\0\0\0\0\0\0\0\x01\0\0\0\0\0\x07\0\0\0\0\0\0\0";
 
-const SECOND_SIZES: [usize; 9] = [76, 336, 340, 262_144, 84, 8, 156, 262_144, 84];
+const SECOND_SIZES: [usize; 9] = [80, 348, 420, 524_288, 132, 16, 192, 524_288, 168];
 
 // The rows of a table, one after another.
 fn rows_of(alloc: Global, model: &mut VecRows, t: Table) -> Result<Bytes, Fail> {
@@ -60,7 +64,7 @@ fn has_files_of(alloc: Global, disk: &MemDisk, model: &mut VecRows) -> Result<bo
     for t in Table::ALL {
         let rows = rows_of(alloc, model, t)?;
         if !disk
-            .bytes(u32::from(t.number()))
+            .bytes(FIRST_FILE + u32::from(t.number()))
             .starts_with(rows.as_slice())
         {
             return Ok(false);
@@ -82,7 +86,7 @@ fn after_commit(
     let mut store = reopened(alloc, disk)?;
     commit(alloc, &mut store, edits)??;
     let disk = store.into_disk().into_disk();
-    let has_bytes = disk.bytes(0) == meta && has_files_of(alloc, &disk, model)?;
+    let has_bytes = disk.bytes(FIRST_FILE) == meta && has_files_of(alloc, &disk, model)?;
     let has_sizes = has_sizes(&disk, sizes, REDO_SIZE);
     let mut again = reopened(alloc, disk)?;
     if has_bytes && has_sizes && has_rows_of(&mut again, model, u64::MAX)? {
@@ -96,8 +100,7 @@ fn rows_come_back(rt: HostRuntime) -> Result<(), Fail> {
     let alloc = rt.alloc();
     let mut first = model_of(alloc, &[FIRST])?;
     let mut second = model_of(alloc, &[FIRST, SECOND])?;
-    let disk = MemDisk::new(alloc, none_fails(alloc));
-    let disk = after_commit(alloc, disk, FIRST, &mut first, META, &SIZES)?;
+    let disk = after_commit(alloc, fresh_disk(alloc)?, FIRST, &mut first, META, &SIZES)?;
     let _ = after_commit(alloc, disk, SECOND, &mut second, SECOND_META, &SECOND_SIZES)?;
     Ok(())
 }
@@ -108,10 +111,10 @@ fn edit_by_hand<R: Rows>(txn: &mut Txn<'_, R>) -> Result<(), Fail>
     ensures name { txn.new.rows.ghost_name ≡ txn.old.rows.ghost_name }
 {
     if txn.count(Table::TxHeads) > 0 && txn.count(Table::Ins) > 1 && txn.count(Table::Outs) > 3 {
-        txn.put(Table::Ins, 1, b"in-1")?;
+        txn.put(Table::Ins, 1, b"input--1")?;
         txn.shrink(Table::Outs, 3);
-        txn.put(Table::TxHeads, 0, b"head")?;
-        txn.append(Table::Entries, b"abcdefghijkl")?;
+        txn.put(Table::TxHeads, 0, b"the head")?;
+        txn.append(Table::Entries, b"abcdefghijklmnopqrstuvwx")?;
     }
     Ok(())
 }
@@ -127,22 +130,23 @@ fn commit_by_hand<R: Rows>(alloc: Global, rows: &mut R) -> Result<Result<(), Com
     Ok(rows.commit(&sealed))
 }
 
-// The redo file after it, in which nothing was before: the closed gate, the length, 123, the meta row, and
+// The redo file after it, in which nothing was before: the closed gate, the length, 147, the meta row, and
 // the changes by rising table.
-const RECORD: &[u8] = b"\0\x7b\0\0\0\0\0\0\0ELIX\x01\0\0\0\xf9\xbe\xb4\xd9\
+const RECORD: &[u8] = b"\0\x93\0\0\0\0\0\0\0ELIX\x02\0\0\0\xf9\xbe\xb4\xd9\x10\0\0\0\
 \x02\0\0\0\0\0\0\0\x03\0\0\0\0\0\0\0\0\0\x01\0\0\0\0\0\x03\0\0\0\0\0\0\0\
 \x02\0\0\0\0\0\0\0\x03\0\0\0\0\0\0\0\0\0\x01\0\0\0\0\0\x06\0\0\0\0\0\0\0\
-\x03\0\0\0\0\0\0\0\0head\x05\x01\0\0\0\0\0\0\0in-1\x08\x05\0\0\0\0\0\0\0abcdefghijkl";
+\x03\0\0\0\0\0\0\0\0the head\x05\x01\0\0\0\0\0\0\0input--1\
+\x08\x05\0\0\0\0\0\0\0abcdefghijklmnopqrstuvwx";
 
 // Whether the files have what was changed in its place, and the rest as in the base.
 fn has_what_was_changed(disk: &MemDisk, base: &MemDisk) -> bool {
-    let has_head = disk.bytes(3).starts_with(b"head")
-        && part(disk.bytes(3), 4, 262_144) == part(base.bytes(3), 4, 262_144);
-    let has_input = disk.bytes(5).ends_with(b"in-1")
-        && part(disk.bytes(5), 0, 4) == part(base.bytes(5), 0, 4);
-    let has_entry = disk.bytes(8).ends_with(b"abcdefghijkl")
-        && disk.bytes(8).starts_with(base.bytes(8));
-    has_head && has_input && has_entry && disk.bytes(4) == base.bytes(4)
+    let has_head = disk.bytes(23).starts_with(b"the head")
+        && part(disk.bytes(23), 8, 524_288) == part(base.bytes(23), 8, 524_288);
+    let has_input = disk.bytes(25).ends_with(b"input--1")
+        && part(disk.bytes(25), 0, 8) == part(base.bytes(25), 0, 8);
+    let has_entry = disk.bytes(28).ends_with(b"abcdefghijklmnopqrstuvwx")
+        && disk.bytes(28).starts_with(base.bytes(28));
+    has_head && has_input && has_entry && disk.bytes(24) == base.bytes(24)
 }
 
 #[test]
@@ -154,11 +158,11 @@ fn a_redo_record_is_written(rt: HostRuntime) -> Result<(), Fail> {
     assert!(rt;
         has_sizes(
             &disk,
-            &[76, 224, 204, 262_144, 84, 8, 156, 262_144, 72],
-            132
+            &[80, 232, 252, 524_288, 132, 16, 192, 524_288, 144],
+            156
         )
     );
-    assert!(rt; disk.bytes(9) == RECORD && disk.bytes(0) == part(RECORD, 9, 85));
+    assert!(rt; disk.bytes(REDO) == RECORD && disk.bytes(FIRST_FILE) == part(RECORD, 9, 89));
     assert!(rt; has_what_was_changed(&disk, &base));
     Ok(())
 }
@@ -291,7 +295,7 @@ fn made_over(alloc: Global, disk: MemDisk) -> Result<Pages<SilentDisk, Mainnet>,
     ensures live { IfOk result (λ store. ⟦<Pages<SilentDisk, Mainnet> as Rows>⟧.is_live store) }
 {
     let counts = [2, 3, 65_536, 4, 2, 3, 65_536, 5];
-    match Pages::new(alloc, SilentDisk::new(disk), counts) {
+    match Pages::new(alloc, SilentDisk::new(disk), 16, counts) {
         Ok(store) => Ok(store),
         Err(_) => Err(Fail::new("no memory")),
     }

@@ -35,13 +35,13 @@ fn commit(disk: &mut SilentDisk, steps: u64) -> Result<(), DiskFailed> {
 }
 
 // How many steps are made; the three files then; and how many calls of the disk that takes: the opening syncs
-// three files, asks for the redo file's size, and writes and syncs it.
+// the root and three files, asks for the redo file's size, and writes and syncs it.
 const STEPS: &[(u64, &[u8], &[u8], &[u8], u64)] = &[
-    (0, b"", b"", b"\0", 6),
-    (1, b"", b"", b"\0record", 8),
-    (2, b"", b"", b"\x01record", 10),
-    (3, b"ab", b"c", b"\x01record", 14),
-    (4, b"ab", b"c", b"\0record", 16),
+    (0, b"", b"", b"\0", 7),
+    (1, b"", b"", b"\0record", 9),
+    (2, b"", b"", b"\x01record", 11),
+    (3, b"ab", b"c", b"\x01record", 15),
+    (4, b"ab", b"c", b"\0record", 17),
 ];
 
 // The disk after so many steps.

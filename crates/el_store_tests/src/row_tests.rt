@@ -39,7 +39,7 @@ fn edit_one<R: Rows>(
     let n = (seed % 8) as usize;
     let t = Table::ALL[n];
     let count = txn.count(t);
-    let bytes = [(seed % 251) as u8; 112];
+    let bytes = [(seed % 251) as u8; 116];
     let row = &bytes[..t.size()];
     match seed / 8 % 8 {
         0 => {
@@ -68,7 +68,7 @@ fn shows<R: Rows>(txn: &mut Txn<'_, R>, t: Table, i: u64, wanted: &[u8]) -> Resu
     ensures live { R.is_live txn.new.rows.now }
     ensures name { txn.new.rows.ghost_name ≡ txn.old.rows.ghost_name }
 {
-    let mut row = [0; 112];
+    let mut row = [0; 116];
     let row = &mut row[..t.size()];
     if i < txn.count(t) {
         txn.get(t, i, row)?;
@@ -147,10 +147,24 @@ fn one_round<R: Rows>(
     Ok(shows_all(&mut after, plain)? && is_shown)
 }
 
+// Leaves no heads.
+fn drop_heads<R: Rows>(alloc: Global, rows: &mut R) -> Result<(), Fail>
+    requires live { R.is_live rows.old }
+    ensures live { OnOk result (R.is_live rows.new) }
+{
+    let mut txn = Txn::new(alloc, rows);
+    txn.shrink(Table::TxHeads, 0);
+    txn.shrink(Table::ScriptHeads, 0);
+    let sealed = txn.seal()?;
+    rows.commit(&sealed)?;
+    Ok(())
+}
+
 // Whether they are in some rounds, from no rows on.
 fn edits_are_those_of_lists<R: Rows>(alloc: Global, rows: &mut R, rounds: u64) -> Result<bool, Fail>
     requires live { R.is_live rows.old }
 {
+    drop_heads(alloc, rows)?;
     let mut plain = no_rows(alloc);
     let mut seed = 88_172_645_463_325_252;
     for _ in 0..rounds {
@@ -163,7 +177,7 @@ fn edits_are_those_of_lists<R: Rows>(alloc: Global, rows: &mut R, rounds: u64) -
 
 #[test]
 fn edits_in_memory(rt: HostRuntime) -> Result<(), Fail> {
-    let mut rows = VecRows::new(rt.alloc());
+    let mut rows = VecRows::new(rt.alloc(), 16)?;
     assert!(rt; edits_are_those_of_lists(rt.alloc(), &mut rows, 4)?);
     Ok(())
 }

@@ -6,7 +6,7 @@ use Rattle.el_chain.specs.Chains.{Chain}
 use Rattle.el_chain.specs.Faults.{IsGood}
 use Rattle.el_tables.specs.Lists.{ListedTx, Lists}
 use Rattle.el_tables.specs.ChainLists.{ListedBlock, lists, listed_blocks}
-use Rattle.el_tables.specs.Tables.{TxRow, ScriptRow, EntryRow, Tables, HeadCounts, bucket_in, greatest, numbers_from, heads, rows_from, tx_row, script_row, entry_row, tables_of, without_links, head_counts, heads_for, IsLinked, Stands}
+use Rattle.el_tables.specs.Tables.{TxRow, ScriptRow, EntryRow, Tables, HeadCounts, bucket_in, greatest, numbers_from, heads, rows_from, tx_row, script_row, entry_row, tables_of, without_links, head_counts, IsLinked, Stands}
 use Rattle.el_tables.proofs.Steps.{lists_same}
 
 tables_same : (c d : HeadCounts) (old bs : List ListedBlock) (l m : Lists) → c ≡ d → old ≡ bs → l ≡ m → tables_of c old l ≡ tables_of d bs m
@@ -16,7 +16,7 @@ tables_same c d old bs l m a b e = ap (λ (k : HeadCounts). tables_of k old l) a
 pub same_tables : (counts : HeadCounts) (a b : Tables) (chain : Chain) → Stands counts a chain → Stands counts b chain → a ≡ b
 same_tables counts a b chain h k = is a h ∙ sym (is b k)
   where
-    is : (t : Tables) → Stands counts t chain → t ≡ tables_of (heads_for counts (listed_blocks chain)) (listed_blocks chain) (lists chain)
+    is : (t : Tables) → Stands counts t chain → t ≡ tables_of counts (listed_blocks chain) (lists chain)
     is t s = s.linked.rows ∙ tables_same _ _ _ _ _ _ s.heads s.blocks s.lists
 
 rows_back : {X Y : Type 0} (row : ℕ → X → Y) (back : Y → X) → ((n : ℕ) (x : X) → back (row n x) ≡ x) → (n : ℕ) (xs : List X) → map back (rows_from row n xs) ≡ xs
@@ -46,13 +46,13 @@ pub are_rows : (counts : HeadCounts) (bs : List ListedBlock) (l : Lists) → IsL
 are_rows counts bs l = record { rows = sym (tables_same _ _ _ _ _ _ (counts_back counts bs l) refl (lists_back counts bs l)) }
 
 pub tables_stand : (counts : HeadCounts) (chain : Chain) → IsGood chain
-    → Stands counts (tables_of (heads_for counts (listed_blocks chain)) (listed_blocks chain) (lists chain)) chain
+    → Stands counts (tables_of counts (listed_blocks chain) (lists chain)) chain
 tables_stand counts chain good = record {
   good = good;
-  linked = are_rows (heads_for counts (listed_blocks chain)) (listed_blocks chain) (lists chain);
-  heads = counts_back (heads_for counts (listed_blocks chain)) (listed_blocks chain) (lists chain);
+  linked = are_rows counts (listed_blocks chain) (lists chain);
+  heads = counts_back counts (listed_blocks chain) (lists chain);
   blocks = refl;
-  lists = lists_back (heads_for counts (listed_blocks chain)) (listed_blocks chain) (lists chain);
+  lists = lists_back counts (listed_blocks chain) (lists chain);
 }
 
 -- A step that makes these rows of those leaves rows, of the lists after it, with as many heads and the same blocks.

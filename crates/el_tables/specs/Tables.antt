@@ -139,16 +139,11 @@ head_counts t = record { txs = length t.tx_heads; scripts = length t.script_head
 pub record IsLinked (tables : Tables) : Type 0 where
   pub rows : tables ≡ tables_of (head_counts tables) tables.blocks (without_links tables)
 
--- so many heads where there are blocks, and else none
-abbrev pub heads_for : HeadCounts → List ListedBlock → HeadCounts
-heads_for counts [] = record { txs = 0; scripts = 0 }
-heads_for counts (b ∷ bs) = counts
-
 -- The tables stand for the chain, in an index with so many heads: the chain is good, and they are the rows of
--- its blocks and lists. On no blocks they are empty.
+-- its blocks and lists. On no blocks each head leads to nothing, and the other tables are empty.
 pub record Stands (counts : HeadCounts) (tables : Tables) (chain : Chain) : Type 0 where
   pub good : IsGood chain
   pub linked : IsLinked tables
-  pub heads : head_counts tables ≡ heads_for counts (listed_blocks chain)
+  pub heads : head_counts tables ≡ counts
   pub blocks : tables.blocks ≡ listed_blocks chain
   pub lists : without_links tables ≡ lists chain

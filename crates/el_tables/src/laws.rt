@@ -16,7 +16,7 @@ ghost use Rattle.el_tables.specs.Connecting.{block_between, connect_txs, ok_unle
 ghost use Rattle.el_tables.specs.Disconnecting.{disconnect_txs, but_last};
 ghost use Rattle.el_tables.specs.Example as example;
 ghost use Rattle.el_tables.specs.Queries as asked;
-ghost use Rattle.el_tables.specs.Tables.{HeadCounts, Tables, Stands, tables_of, heads_for};
+ghost use Rattle.el_tables.specs.Tables.{HeadCounts, Tables, Stands, tables_of};
 
 /// Two sets of tables that stand for one chain are equal.
 pub fn tables_of_one_chain_are_equal()
@@ -27,8 +27,7 @@ pub fn tables_of_one_chain_are_equal()
 /// A good chain has tables that stand for it: those of its blocks and lists.
 pub fn a_good_chain_has_tables()
     ensures { (counts : HeadCounts) (chain : Chain) → IsGood chain
-        → Stands counts
-        (tables_of (heads_for counts (listed_blocks chain)) (listed_blocks chain) (lists chain)) chain }
+        → Stands counts (tables_of counts (listed_blocks chain) (lists chain)) chain }
 {}
 
 /// The coins of a chain are its unspent outputs, in the order of their numbers.

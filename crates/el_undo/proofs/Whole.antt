@@ -16,7 +16,6 @@ use Rattle.el_row_formats.specs.declared.table.Table.TheVariants as table
 use Rattle.el_row_formats.specs.declared.tx_row.TxRow.{TxRow}
 use Rattle.el_row_formats.specs.RowBytes.{block_row_bytes}
 use Rattle.el_schema.specs.Rows.{Hold, listed_tx, block_fields}
-use Rattle.el_schema.specs.Standing.{heads_in}
 use Rattle.el_undo.specs.within.Undone.{LacksTxs}
 use Rattle.el_undo.proofs.Dropped.{blocks_long}
 
@@ -98,18 +97,11 @@ rows_of_blocks counts l rows chain b hold =
 pub last_block : (chain : Chain) (b : Placed) → last (listed_blocks (chain ++ b ∷ [])) ≡ Some (listed_block (length (lists chain).txs) (unspent_sum (lists (chain ++ b ∷ [])).outs) b)
 last_block chain b = ap last (blocks_more chain b) ∙ last_is (listed_blocks chain) _
 
-some_heads : (heads : ℕ) (chain : Chain) (b : Placed) → heads_in heads (chain ++ b ∷ []) ≡ in_both heads
-some_heads heads [] b = refl
-some_heads heads (x ∷ xs) b = refl
-
-pub heads_there : (heads : ℕ) (chain : Chain) (b : Placed) → 0 < heads → 0 < (heads_in heads (chain ++ b ∷ [])).txs
-heads_there heads chain b some = subst (λ (counts : HeadCounts). 0 < counts.txs) (sym (some_heads heads chain b)) some
-
 pub lacks : (heads : ℕ) (rows : held.Tables) (chain : Chain) (b : Placed) (n : ℕ) → 0 < heads → IsGood (chain ++ b ∷ []) → n ≡ length b.block.txs
-    → Hold (heads_in heads (chain ++ b ∷ [])) (listed_blocks (chain ++ b ∷ [])) (disconnect_txs n (lists (chain ++ b ∷ []))) rows → LacksTxs heads rows chain b
+    → Hold (in_both heads) (listed_blocks (chain ++ b ∷ [])) (disconnect_txs n (lists (chain ++ b ∷ []))) rows → LacksTxs heads rows chain b
 lacks heads rows chain b n some good count hold = record {
   some = some;
   good = good_before chain b good;
-  hold = subst (λ (l : Lists). Hold (heads_in heads (chain ++ b ∷ [])) (listed_blocks (chain ++ b ∷ [])) l rows)
+  hold = subst (λ (l : Lists). Hold (in_both heads) (listed_blocks (chain ++ b ∷ [])) l rows)
       (ap (λ (k : ℕ). disconnect_txs k (lists (chain ++ b ∷ []))) count ∙ disconnects chain b good) hold;
 }

@@ -24,7 +24,7 @@ fn query_fault(fault: ConnectFault) -> QueryFault
     }
 }
 
-// The last block's row goes, of so many that are left; with the first block go all heads.
+// The last block's row goes, of so many that are left.
 fn drop_block<R: Rows>(t: &mut Txn<'_, R>, left: u64)
     requires left { length (tables_in t.old Table.Blocks) ≡ left + 1 }
     ensures chain { (heads : ℕ) (chain : Chain) (b : shape.Placed) → LacksTxs heads (tables_in t.old) chain b
@@ -33,15 +33,11 @@ fn drop_block<R: Rows>(t: &mut Txn<'_, R>, left: u64)
     ensures alone { EditsAlone t.old t.new }
 {
     t.shrink(Table::Blocks, left);
-    if left == 0 {
-        t.shrink(Table::TxHeads, 0);
-        t.shrink(Table::ScriptHeads, 0);
-    }
 }
 
 /// Takes back the last block of the chain that the rows stand for, by the rows alone: its transactions, the
-/// last first, and of each its outputs, its inputs, its entries and its own row; then the block's row. Where
-/// no block is left the heads go too, and where there is none nothing changes.
+/// last first, and of each its outputs, its inputs, its entries and its own row; then the block's row. The
+/// number of heads stays. Where there is no block nothing changes.
 ///
 /// # Errors
 ///

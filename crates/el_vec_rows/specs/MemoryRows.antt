@@ -4,9 +4,10 @@ use Rattle.el_row_formats.specs.declared.table.Table.{Table}
 use Rattle.el_row_formats.specs.Tables.{Tables}
 use Rattle.el_rows.specs.Changes.{count_at}
 
--- the rows of its tables, and how many were read
+-- the rows of its tables, how many bits the number of a bucket has, and how many rows were read
 pub record CountedRows : Type 0 where
   pub rows : List (List (List ℕ))
+  pub bits : ℕ
   pub reads : ℕ
 
 -- each table has so many rows now, the first of which are those that it had

@@ -1,6 +1,8 @@
 // Tables in memory, and a store of them.
-ghost use Rattle.std.specs.Prelude.{◌≡◌, ◌<◌, ◌≤◌, ◌+◌, ◌*◌, ℕ, List, [], length, get_or, slice_get, slice_set, refl, Some, OnOk, OnErr, IfOk};
-ghost use Rattle.el_row_formats.specs.Tables.{tables_of, size_of, limit_of, index_of, key, row_at};
+ghost use Rattle.std.specs.Prelude.{◌≡◌, ◌≢◌, ◌<◌, ◌≤◌, ◌+◌, ◌*◌, ◌^◌, ℕ, List, [], length, get_or, slice_get, slice_set, replicate, refl, None, Some, OnOk, OnErr, IfOk};
+ghost use Rattle.el_row_formats.specs.RowBytes.{link_bytes};
+ghost use Rattle.el_row_formats.specs.Tables.{tables_of, size_of, limit_of, first_count, index_of, key, row_at};
+ghost use Rattle.el_row_formats.specs.declared.limits.TheConstants.{MAX_HEAD_BITS};
 ghost use Rattle.el_rows.specs.Changes.{Changes, IsMadeFrom, OnTable, count_at, under};
 ghost use Rattle.el_rows.specs.Reads.{Same};
 ghost use Rattle.el_rows.specs.SizedRows.{SizedRows};
@@ -9,7 +11,7 @@ ghost use Rattle.el_vec_rows.specs.within.InMemory.{list_of, kept_of, AreSized, 
 
 use el_base::{GhostCount, OutOfMemory};
 use el_outside::DiskFailed;
-use el_row_formats::{TABLES, Table};
+use el_row_formats::{TABLES, Table, bucket_count};
 use el_rows::{CommitFault, RowList, Rows, Sealed};
 use std::alloc::Global;
 use std::marker::Model;
@@ -117,7 +119,34 @@ fn copy(alloc: Global, kept: &[RowList; TABLES]) -> Result<[RowList; TABLES], Ou
     ])
 }
 
+// Makes all rows of a table of heads lead to nothing.
+fn clear_heads(rows: &mut MemRows, t: Table)
+    requires heads { size_of t ≡ 8 }
+    ensures here { tables_of rows.new t
+        ≡ replicate (length (tables_of rows.old t)) (link_bytes None) }
+    ensures others { (u : Table) → u ≢ t → tables_of rows.new u ≡ tables_of rows.old u }
+{
+    for i in 0..rows.count(t) {
+        rows.write(t, i, &[0; 8]);
+    }
+}
+
 impl MemRows {
+    /// The rows before the first block: 2^bits heads of each kind, which lead to nothing. Fails only where
+    /// memory runs out.
+    pub fn first(alloc: Global, bits: u32) -> Result<MemRows, OutOfMemory>
+        requires { bits ≤ MAX_HEAD_BITS }
+        ensures { IfOk result (λ m. (t : Table)
+            → tables_of m t ≡ replicate (first_count bits t) (link_bytes None)) }
+    {
+        let heads = bucket_count(bits);
+        let mut rows = MemRows::new(alloc);
+        rows.resize(&[0, 0, heads, 0, 0, 0, heads, 0])?;
+        clear_heads(&mut rows, Table::TxHeads);
+        clear_heads(&mut rows, Table::ScriptHeads);
+        Ok(rows)
+    }
+
     /// No rows. Takes no memory.
     pub fn new(alloc: Global) -> MemRows
         ensures { (t : Table) → tables_of result t ≡ [] }
@@ -206,6 +235,8 @@ impl MemRows {
 #[derive(Drop)]
 pub struct VecRows {
     rows: MemRows,
+    // How many bits the number of a bucket has.
+    bits: u32,
     reads: GhostCount,
 }
 
@@ -214,19 +245,24 @@ impl Model for VecRows {
 
     ghost Value = { CountedRows };
 
-    ghost view = { λ s. record { rows = s.rows; reads = s.reads } };
+    ghost view = { λ s. record { rows = s.rows; bits = s.bits; reads = s.reads } };
 }
 
 impl VecRows {
-    /// No rows, of which none was read. Takes no memory.
-    pub fn new(alloc: Global) -> VecRows
-        ensures empty { (t : Table) → tables_of result.rows t ≡ [] }
-        ensures idle { result.reads ≡ 0 }
+    /// The rows before the first block, of which none was read: 2^bits heads of each kind, which lead to
+    /// nothing. Fails only where memory runs out.
+    pub fn new(alloc: Global, bits: u32) -> Result<VecRows, OutOfMemory>
+        requires { bits ≤ MAX_HEAD_BITS }
+        ensures first { IfOk result (λ s. (t : Table)
+            → tables_of s.rows t ≡ replicate (first_count bits t) (link_bytes None)) }
+        ensures bits { IfOk result (λ s. s.bits ≡ bits) }
+        ensures idle { IfOk result (λ s. s.reads ≡ 0) }
     {
-        VecRows {
-            rows: MemRows::new(alloc),
+        Ok(VecRows {
+            rows: MemRows::first(alloc, bits)?,
+            bits,
             reads: GhostCount::new(),
-        }
+        })
     }
 
     /// Gives each table so many rows: the first ones of those that it has, and any rows behind them. Fails
@@ -235,6 +271,7 @@ impl VecRows {
         requires { (t : Table) → count_at counts.now t ≤ limit_of t }
         ensures ok { OnOk result (IsResized counts.now (tables_of self.old.rows) (tables_of self.new.rows)) }
         ensures err { OnErr result (self.new.rows ≡ self.old.rows) }
+        ensures bits { self.new.bits ≡ self.old.bits }
         ensures idle { self.new.reads ≡ self.old.reads }
     {
         self.rows.resize(counts)
@@ -246,6 +283,7 @@ impl VecRows {
         requires sized { length row.now ≡ size_of t }
         ensures written { OnTable (tables_of self.old.rows) (tables_of self.new.rows) t
             (slice_set (tables_of self.old.rows t) i row.now) }
+        ensures bits { self.new.bits ≡ self.old.bits }
         ensures idle { self.new.reads ≡ self.old.reads }
     {
         self.rows.write(t, i, row);
@@ -261,13 +299,15 @@ impl Rows for VecRows {
 
     ghost counts = { λ s t. length (tables_of s.rows t) };
 
+    ghost heads = { λ s. 2 ^ s.bits };
+
     ghost is_live = { λ s. Unit {0} };
 
     ghost moment = { λ s. 0 };
 
     ghost Left = { Unit {0} };
 
-    ghost shows = { λ c lists. ⊥ };
+    ghost shows = { λ c heads lists. ⊥ };
 
     ghost left_since = { λ s t c. ⊥ };
 

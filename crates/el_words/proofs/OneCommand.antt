@@ -2,7 +2,7 @@
 use Rattle.std.proofs.Common.{◌≡◌, ◌∙◌, ℕ, List, ◌∷◌, Option, Some, None, codes, refl, sym, ap, ap₂, subst, drop, IsSomeAnd}
 use Rattle.std.specs.Str.Parse.{digits_value}
 use Rattle.el_words.specs.Options.{Word, Given, words_of, value_of}
-use Rattle.el_words.specs.Words.{IsOnceOf, IsServeOf, IsCheckOf, IsPort, IsLimit, network_name}
+use Rattle.el_words.specs.Words.{IsOnceOf, IsServeOf, IsCheckOf, IsPort, IsLimit, IsHeadBits, network_name}
 use Rattle.el_words.specs.Commands.{IsCommand, IsNoCommand}
 use Rattle.el_mempool.specs.declared.entry.PoolLimits.{PoolLimits}
 use Rattle.el_words.specs.declared.words.ServeSettings.{ServeSettings}
@@ -49,11 +49,15 @@ one_limit : (most : ℕ) (text : Option Word) {m n : ℕ} → IsLimit most text 
 one_limit most None is other = is ∙ sym other
 one_limit most (Some text) is other = is.number.value ∙ sym other.number.value
 
+one_head_bits : (text : Option Word) {m n : ℕ} → IsHeadBits text m → IsHeadBits text n → m ≡ n
+one_head_bits None is other = is ∙ sym other
+one_head_bits (Some text) is other = is.0.number.value ∙ sym other.0.number.value
+
 -- what says the same is the same
-settings_are : (m n : Network) (c c' p p' : ℕ) (l l' : PoolLimits) → m ≡ n → c ≡ c' → p ≡ p' → l ≡ l'
-    → ◌≡◌ {A = ServeSettings} (record { network = m; client_port = c; node_port = p; limits = l })
-    (record { network = n; client_port = c'; node_port = p'; limits = l' })
-settings_are m n c c' p p' l l' e1 e2 e3 e4 = cc
+settings_are : (m n : Network) (c c' p p' : ℕ) (l l' : PoolLimits) (h h' : ℕ) → m ≡ n → c ≡ c' → p ≡ p' → l ≡ l' → h ≡ h'
+    → ◌≡◌ {A = ServeSettings} (record { network = m; client_port = c; node_port = p; limits = l; head_bits = h })
+    (record { network = n; client_port = c'; node_port = p'; limits = l'; head_bits = h' })
+settings_are m n c c' p p' l l' h h' e1 e2 e3 e4 e5 = cc
 
 words_are : (b b' i i' : Word) (s s' : ServeSettings) → b ≡ b' → i ≡ i' → s ≡ s'
     → ◌≡◌ {A = ServeWords} (record { blocks = b; index = i; settings = s })
@@ -62,11 +66,13 @@ words_are b b' i i' s s' e1 e2 e3 = cc
 
 same_words : (s t : ServeWords) → s.blocks ≡ t.blocks → s.index ≡ t.index
     → s.settings.network ≡ t.settings.network → s.settings.client_port ≡ t.settings.client_port
-    → s.settings.node_port ≡ t.settings.node_port → s.settings.limits ≡ t.settings.limits → s ≡ t
-same_words s t e1 e2 e3 e4 e5 e6 =
+    → s.settings.node_port ≡ t.settings.node_port → s.settings.limits ≡ t.settings.limits
+    → s.settings.head_bits ≡ t.settings.head_bits → s ≡ t
+same_words s t e1 e2 e3 e4 e5 e6 e7 =
     words_are s.blocks t.blocks s.index t.index s.settings t.settings e1 e2
     (settings_are s.settings.network t.settings.network s.settings.client_port t.settings.client_port
-    s.settings.node_port t.settings.node_port s.settings.limits t.settings.limits e3 e4 e5 e6)
+    s.settings.node_port t.settings.node_port s.settings.limits t.settings.limits s.settings.head_bits t.settings.head_bits
+    e3 e4 e5 e6 e7)
 
 pub one_command : (words : List Word) (one other : Command) → IsCommand words one → IsCommand words other
     → one ≡ other
@@ -90,7 +96,10 @@ one_command words (command.Serve s) (command.Serve s') a b =
     b.limits_are.bytes in
     let e6 : s.settings.limits ≡ s'.settings.limits =
     ap₂ (λ (c n : ℕ). record { count = c; bytes = n }) count bytes in
-    ap command.Serve (same_words s s' e1 e2 e3 e4 e5 e6)
+    let e7 = one_head_bits (value_of (codes "--head-bits") b.given)
+    (subst (λ t. IsHeadBits t s.settings.head_bits) (text (codes "--head-bits")) a.head_bits_are)
+    b.head_bits_are in
+    ap command.Serve (same_words s s' e1 e2 e3 e4 e5 e6 e7)
 one_command words (command.Serve s) (command.Once blocks' n) a b =
     absurd (let one = a.words_are in let other = b.words_are in cc)
 one_command words (command.Once blocks m) (command.Serve s') a b =

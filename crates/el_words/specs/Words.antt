@@ -46,6 +46,12 @@ pub record AreLimits (given : Given) (limits : PoolLimits) : Type 0 where
   pub count : IsLimit 1000000 (value_of (codes "--pool-count") given) limits.count
   pub bytes : IsLimit 300000000 (value_of (codes "--pool-bytes") given) limits.bytes
 
+-- how many bits the number of a bucket has in an index that is made: the number that its option gives, from 16 to
+-- 24, or 16 where the option isn't given
+abbrev pub IsHeadBits : Option Word → ℕ → Type 0
+IsHeadBits None n = n ≡ 16
+IsHeadBits (Some text) n = IsUpTo 24 text n × (16 ≤ n)
+
 -- the greatest limits, which stand where no others are given
 abbrev pub greatest_limits : PoolLimits
 greatest_limits = record { count = 1000000; bytes = 300000000 }
@@ -57,7 +63,7 @@ once_options = codes "--blocks" ∷ codes "--network" ∷ []
 -- the options of `serve`
 abbrev pub serve_options : List Word
 serve_options = codes "--blocks" ∷ codes "--index" ∷ codes "--network" ∷ codes "--client-port"
-    ∷ codes "--node-port" ∷ codes "--pool-count" ∷ codes "--pool-bytes" ∷ []
+    ∷ codes "--node-port" ∷ codes "--pool-count" ∷ codes "--pool-bytes" ∷ codes "--head-bits" ∷ []
 
 -- the words `once --blocks DIR --network NET`, the options in any order
 pub record IsOnceOf (words : List Word) (blocks : Word) (n : Network) : Type 0 where
@@ -68,7 +74,7 @@ pub record IsOnceOf (words : List Word) (blocks : Word) (n : Network) : Type 0 w
   pub network_is : value_of (codes "--network") given ≡ Some (network_name n)
 
 -- the words `serve --blocks DIR --index DIR --network NET --client-port N --node-port N`, with
--- `--pool-count N` and `--pool-bytes N` or without, the options in any order, which say this
+-- `--pool-count N`, `--pool-bytes N` and `--head-bits N` or without, the options in any order, which say this
 pub record IsServeOf (words : List Word) (said : ServeWords) : Type 0 where
   pub given : Given
   pub words_are : words ≡ codes "serve" ∷ words_of given
@@ -78,6 +84,7 @@ pub record IsServeOf (words : List Word) (said : ServeWords) : Type 0 where
   pub network_is : value_of (codes "--network") given ≡ Some (network_name said.settings.network)
   pub ports : ArePorts given said.settings.client_port said.settings.node_port
   pub limits_are : AreLimits given said.settings.limits
+  pub head_bits_are : IsHeadBits (value_of (codes "--head-bits") given) said.settings.head_bits
 
 -- the words `check-chain N`, with a number from 1 to 20,000
 pub record IsCheckOf (words : List Word) (count : ℕ) : Type 0 where

@@ -38,11 +38,11 @@ fn options_of<'a>(alloc: Global) -> Result<Command<'a>, AllocError>
 {
     let command = Command::new(alloc, "electrum_serve")
         .no_binary_name(true)
-        .disable_help_flag(true)
-        .arg(option_of(alloc, "network"))?;
-    let command = with_two(alloc, command, "blocks", "index")?;
-    let command = with_two(alloc, command, "client-port", "node-port")?;
-    with_two(alloc, command, "pool-count", "pool-bytes")
+        .disable_help_flag(true);
+    let command = with_two(alloc, command, "network", "blocks")?;
+    let command = with_two(alloc, command, "index", "client-port")?;
+    let command = with_two(alloc, command, "node-port", "pool-count")?;
+    with_two(alloc, command, "pool-bytes", "head-bits")
 }
 
 // The options that the words give, with their values. It fails only where memory runs out.

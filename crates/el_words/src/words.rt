@@ -2,7 +2,7 @@
 ghost use Rattle.std.specs.Prelude.{◌≡◌, ◌≢◌, ◌<◌, ◌^◌, ℕ, List, [], ◌∷◌, codes, is_some, true, map, Some, IfSome, IfNone, IfOk, IsSomeAnd, MatchOption};
 ghost use Rattle.clap.specs.Matches.{first_value, found_of};
 ghost use Rattle.el_words.specs.Options.{Word, Given, words_of, value_of};
-ghost use Rattle.el_words.specs.Words.{IsOnceOf, IsServeOf, IsCheckOf, IsUpTo, IsPort, IsLimit, ArePorts, AreLimits, greatest_limits, network_name, network_magic, once_options, serve_options, texts};
+ghost use Rattle.el_words.specs.Words.{IsOnceOf, IsServeOf, IsCheckOf, IsUpTo, IsPort, IsLimit, IsHeadBits, ArePorts, AreLimits, greatest_limits, network_name, network_magic, once_options, serve_options, texts};
 ghost use Rattle.el_words.specs.Commands.{IsCommand, IsNoCommand};
 ghost use Rattle.el_words.specs.within.Reading.{GiveOptions};
 ghost use Rattle.el_words.specs.declared.words.Network as shape;
@@ -20,7 +20,7 @@ use std::alloc::Global;
 // The options of `once`, and those of `serve`.
 const ONCE_OPTIONS: [&str; 2] = ["--blocks", "--network"];
 
-const SERVE_OPTIONS: [&str; 7] = [
+const SERVE_OPTIONS: [&str; 8] = [
     "--blocks",
     "--index",
     "--network",
@@ -28,12 +28,18 @@ const SERVE_OPTIONS: [&str; 7] = [
     "--node-port",
     "--pool-count",
     "--pool-bytes",
+    "--head-bits",
 ];
 
 // The greatest limits of the unconfirmed set, which stand where no others are given.
 const MAX_POOL_COUNT: u64 = 1_000_000;
 
 const MAX_POOL_BYTES: u64 = 300_000_000;
+
+// How many bits the number of a bucket has at least and at most, in an index that is made.
+const LEAST_HEAD_BITS: u64 = 16;
+
+const MOST_HEAD_BITS: u64 = 24;
 
 // How many blocks the first branch of a made file may have at most.
 const MOST_MADE: u64 = 20_000;
@@ -110,6 +116,8 @@ pub struct ServeSettings {
     pub node_port: u16,
     /// What the unconfirmed set may hold: 1 to 1,000,000 transactions, 1 to 300,000,000 bytes.
     pub limits: PoolLimits,
+    /// How many bits the number of a bucket has where the index is made, from 16 to 24.
+    pub head_bits: u32,
 }
 
 /// What the words of `serve` say.
@@ -230,9 +238,26 @@ fn limits_in(words: &[String]) -> Option<PoolLimits>
     Some(PoolLimits { count, bytes })
 }
 
+// How many bits the number of a bucket has, by its option, or else as few as may be.
+fn head_bits_in(words: &[String]) -> Option<u32>
+    ensures { (given : Given) → texts words.now ≡ words_of given → MatchOption result
+        ((bits : ℕ) → IsHeadBits (value_of (codes "--head-bits") given) bits → ⊥)
+        (λ bits. IsHeadBits (value_of (codes "--head-bits") given) bits) }
+{
+    let Some(text) = value_in(words, "--head-bits") else {
+        return Some(LEAST_HEAD_BITS as u32);
+    };
+    let bits = number_up_to(text, MOST_HEAD_BITS)?;
+    if bits < LEAST_HEAD_BITS {
+        None
+    } else {
+        Some(bits as u32)
+    }
+}
+
 /// What the words `serve --blocks DIR --index DIR --network NET --client-port N --node-port N` say, with
-/// `--pool-count N` and `--pool-bytes N` or without, the options in any order, but for the folders; None
-/// exactly for other words. Takes no memory.
+/// `--pool-count N`, `--pool-bytes N` and `--head-bits N` or without, the options in any order, but for the
+/// folders; None exactly for other words. Takes no memory.
 pub fn serve_of(words: &[String]) -> Option<ServeSettings>
     ensures found { IfSome result (λ settings. (said : serve_shape.ServeWords)
         × IsServeOf (texts words.now) said × (said.settings ≡ settings)) }
@@ -244,11 +269,13 @@ pub fn serve_of(words: &[String]) -> Option<ServeSettings>
     let network = network_in(options)?;
     let (client_port, node_port) = ports_in(options)?;
     let limits = limits_in(options)?;
+    let head_bits = head_bits_in(options)?;
     Some(ServeSettings {
         network,
         client_port,
         node_port,
         limits,
+        head_bits,
     })
 }
 

@@ -9,6 +9,7 @@ use Rattle.el_chain.specs.declared.node.Node.{Node}
 use Rattle.el_side.specs.Beneath.{Beneath, Ghosts}
 use Rattle.el_side.specs.NodeSteps.{IsAt}
 use Rattle.el_side.specs.Side.{Side, IsSure}
+use Rattle.el_side.specs.declared.caches.Caches.{Caches}
 use Rattle.el_side.specs.declared.holdings.Holdings.{Holdings}
 use Rattle.el_gen.specs.Generated.{locking_script}
 use Rattle.el_gen.specs.MadeFile.{made_file}
@@ -24,12 +25,12 @@ abbrev pub is_tip : Option Hash32 → Hash32 → Bool
 is_tip None tip = false
 is_tip (Some last) tip = same_hash last tip
 
--- They stand for the side, which is sure and is still to put in these blocks.
+-- They and what was computed once stand for the side, which is sure and is still to put in these blocks.
 pub record StandWith {G A : Type 0} (of : Ghosts G A) (now : Beneath G A) (holdings : Holdings)
-    (left : List Node) (side : Side) : Type 0 where
+    (caches : Caches) (left : List Node) (side : Side) : Type 0 where
   pub sure : IsSure side
   pub start : Chain
-  pub at : IsAt of now holdings side start
+  pub at : IsAt of now holdings caches side start
   pub found : side.found ≡ holdings.tree
   pub magic : side.magic ≡ holdings.magic
   pub ahead : side.ahead ≡ left
@@ -40,18 +41,18 @@ IsLater of was now = of.ledger.tells_crash → of.ledger.moment was.ledger ≤ o
 
 -- Moves of a tip line led on from the first side, and left these blocks to be put in.
 pub record AreUnderWay {G A : Type 0} (of : Ghosts G A) (was now : Beneath G A) (holdings : Holdings)
-    (left : List Node) (first : Side) (n : ℕ) : Type 0 where
+    (caches : Caches) (left : List Node) (first : Side) (n : ℕ) : Type 0 where
   pub last : Side
   pub moves : MovesOn of.files first n last
-  pub stand : StandWith of now holdings left last
+  pub stand : StandWith of now holdings caches left last
   pub later : IsLater of was now
 
 -- A tip line led to a side that has nothing left to do.
-pub record IsLed {G A : Type 0} (of : Ghosts G A) (was now : Beneath G A) (holdings : Holdings) (side : Side)
-    (tip : Hash32) (n : ℕ) : Type 0 where
+pub record IsLed {G A : Type 0} (of : Ghosts G A) (was now : Beneath G A) (holdings : Holdings)
+    (caches : Caches) (side : Side) (tip : Hash32) (n : ℕ) : Type 0 where
   pub last : Side
   pub leads : LeadsTo of.files side tip n last
-  pub stand : StandWith of now holdings [] last
+  pub stand : StandWith of now holdings caches [] last
   pub later : IsLater of was now
 
 -- What a crash at some moment between might have left stands for the chain.

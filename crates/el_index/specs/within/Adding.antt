@@ -30,31 +30,32 @@ AreAdded chain blocks old new = (s : Hash32)
 
 -- The block of a node, which these bytes encode, stands after the chain: the rows are those of the longer
 -- chain.
-pub record IsAfter (chain : Chain) (node : Node) (text : List ℕ) (rows : Tables) (b : Placed) : Type 0 where
+pub record IsAfter (heads : ℕ) (chain : Chain) (node : Node) (text : List ℕ) (rows : Tables)
+    (b : Placed) : Type 0 where
   pub place : b.place ≡ node.place
   pub encodes : EncodesBlock text b.block
   pub next : IsNext chain b.block
-  pub stand : AreRowsOf rows (chain ++ b ∷ [])
+  pub stand : AreRowsOf heads rows (chain ++ b ∷ [])
   pub hash : tip (chain ++ b ∷ []) ≡ node.hash
 
 -- The blocks of some nodes do, one after the other.
-pub record AreAfter (chain : Chain) (nodes : List Node) (texts : List (List ℕ)) (rows : Tables)
-    (blocks : Chain) : Type 0 where
+pub record AreAfter (heads : ℕ) (chain : Chain) (nodes : List Node) (texts : List (List ℕ))
+    (rows : Tables) (blocks : Chain) : Type 0 where
   pub next : AreNextBlocks chain nodes texts blocks
-  pub stand : AreRowsOf rows (chain ++ blocks)
+  pub stand : AreRowsOf heads rows (chain ++ blocks)
 
 -- The blocks of the first i nodes stand after the chain, and the nodes that are left go on.
-pub record IsAdding (chain : Chain) (nodes : List Node) (texts : List (List ℕ)) (i : ℕ) (rows : Tables)
-    (blocks : Chain) : Type 0 where
-  pub after : AreAfter chain (take i nodes) (take i texts) rows blocks
+pub record IsAdding (heads : ℕ) (chain : Chain) (nodes : List Node) (texts : List (List ℕ)) (i : ℕ)
+    (rows : Tables) (blocks : Chain) : Type 0 where
+  pub after : AreAfter heads chain (take i nodes) (take i texts) rows blocks
   pub linked : AreLinked (tip (chain ++ blocks)) (drop i nodes)
 
 -- The rows are those of the chain that the move leads to, with these blocks, and these are the script hashes
 -- that it touches.
-pub record AreMoved (p : Plan) (chain : Chain) (texts : List (List ℕ)) (scripts : List Hash32)
-    (rows : Tables) (blocks : Chain) : Type 0 where
+pub record AreMoved (heads : ℕ) (p : Plan) (chain : Chain) (texts : List (List ℕ))
+    (scripts : List Hash32) (rows : Tables) (blocks : Chain) : Type 0 where
   pub next : AreNextBlocks (shorter p.back chain) p.forward texts blocks
-  pub stand : AreRowsOf rows (target p chain blocks)
+  pub stand : AreRowsOf heads rows (target p chain blocks)
   pub touched : Touch scripts (coins (shorter p.back chain)) (drop (length chain - p.back) chain ++ blocks)
 
 -- no fault of a block, but the device's, or out of memory

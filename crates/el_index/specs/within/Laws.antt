@@ -23,9 +23,9 @@ listed height first (b ∷ bs) coins =
     ap suc (listed (height + 1) (first + length b.block.txs) bs (coins_after_all height b.block.txs coins))
 
 -- the rows of an index have one for each block of its chain
-pub block_rows : (rows : Tables) (chain : Chain) → AreRowsOf rows chain
+pub block_rows : (heads : ℕ) (rows : Tables) (chain : Chain) → AreRowsOf heads rows chain
     → length (rows table.Blocks) ≡ length chain
-block_rows rows chain stand =
+block_rows heads rows chain stand =
     ap length (stand.encode.each table.Blocks)
     ∙ length-map stand.tables.blocks (λ b. block_row_bytes (block_fields b))
     ∙ ap length stand.stand.blocks ∙ listed 0 0 chain []
@@ -36,24 +36,24 @@ top_is [] = refl
 top_is (b ∷ bs) = refl
 
 -- where the store counts its blocks, their number gives the chain's height
-pub height_is : (tells : Type 0) (rows : Tables) (kept : Option Hash32) (count : ℕ) (chain : Chain)
-    → (tells → length (rows table.Blocks) ≡ count) → IsIndexOf tells rows kept chain
+pub height_is : (tells : Type 0) (heads : ℕ) (rows : Tables) (kept : Option Hash32) (count : ℕ)
+    (chain : Chain) → (tells → length (rows table.Blocks) ≡ count) → IsIndexOf tells heads rows kept chain
     → top count ≡ height_of chain
-height_is tells rows kept count chain counted stands =
-    ap top (sym (counted stands.told) ∙ block_rows rows chain stands.stand) ∙ top_is chain
+height_is tells heads rows kept count chain counted stands =
+    ap top (sym (counted stands.told) ∙ block_rows heads rows chain stands.stand) ∙ top_is chain
 
 -- the hash that is kept is that of the chain's last block
-pub tip_is : (tells : Type 0) (rows : Tables) (kept : Option Hash32) (chain : Chain)
-    → IsIndexOf tells rows kept chain → kept ≡ tip_of chain
-tip_is tells rows kept chain stands = stands.last
+pub tip_is : (tells : Type 0) (heads : ℕ) (rows : Tables) (kept : Option Hash32) (chain : Chain)
+    → IsIndexOf tells heads rows kept chain → kept ≡ tip_of chain
+tip_is tells heads rows kept chain stands = stands.last
 
 -- an index stands for good chains alone
-pub good : (tells : Type 0) (rows : Tables) (kept : Option Hash32) (chain : Chain)
-    → IsIndexOf tells rows kept chain → IsGood chain
-good tells rows kept chain stands = stands.stand.stand.good
+pub good : (tells : Type 0) (heads : ℕ) (rows : Tables) (kept : Option Hash32) (chain : Chain)
+    → IsIndexOf tells heads rows kept chain → IsGood chain
+good tells heads rows kept chain stands = stands.stand.stand.good
 
 -- what is left that shows the index's rows stands for its chain
-pub leaves_own : {C : Type 0} → (shows : C → Tables → Type 0) (tells : Type 0) (rows : Tables)
-    (kept : Option Hash32) (chain : Chain) (left : C) → IsIndexOf tells rows kept chain
-    → shows left rows → Means shows left chain
-leaves_own shows tells rows kept chain left stands shown = (rows, shown, stands.stand)
+pub leaves_own : {C : Type 0} → (shows : C → ℕ → Tables → Type 0) (tells : Type 0) (heads : ℕ)
+    (rows : Tables) (kept : Option Hash32) (chain : Chain) (left : C)
+    → IsIndexOf tells heads rows kept chain → shows left heads rows → Means shows left chain
+leaves_own shows tells heads rows kept chain left stands shown = (heads, rows, shown, stands.stand)

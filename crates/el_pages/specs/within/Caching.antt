@@ -4,7 +4,7 @@ use Rattle.el_outside.specs.Disk.{Image}
 use Rattle.el_row_formats.specs.declared.table.Table.{Table}
 use Rattle.el_row_formats.specs.Tables.{Tables, size_of, row_at}
 use Rattle.el_page_cache.specs.Pages.{rows_in_page, row_of}
-use Rattle.el_pages.specs.declared.layout.TheConstants.{FORMAT_1}
+use Rattle.el_pages.specs.declared.layout.TheConstants.{FORMAT_2}
 use Rattle.el_pages.specs.Layouts.{file_of}
 
 -- a row is whole in a file
@@ -13,9 +13,9 @@ IsWholeIn t file i = i * size_of t + size_of t ≤ length file
 
 -- the files have these rows, each whole
 pub record HaveRows (files : Image) (lists : Tables) (counts : Table → ℕ) : Type 0 where
-  pub whole : (t : Table) (i : ℕ) → i < counts t → IsWholeIn t (files (file_of FORMAT_1 t)) i
+  pub whole : (t : Table) (i : ℕ) → i < counts t → IsWholeIn t (files (file_of FORMAT_2 t)) i
   pub same : (t : Table) (i : ℕ) → i < counts t
-      → row_at (size_of t) (files (file_of FORMAT_1 t)) i ≡ get_or (lists t) i []
+      → row_at (size_of t) (files (file_of FORMAT_2 t)) i ≡ get_or (lists t) i []
 
 -- the bytes are a page's: those of its rows that are whole in the file are there
 abbrev pub IsPage : Table → List ℕ → ℕ → List ℕ → Type 0

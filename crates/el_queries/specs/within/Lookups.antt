@@ -1,5 +1,5 @@
 -- What rows tell that were found.
-use Rattle.std.specs.Prelude.{◌-◌, Option, option_and_then, get_or}
+use Rattle.std.specs.Prelude.{◌≡◌, ◌<◌, ◌-◌, List, Option, Some, option_and_then, get_or, slice_get}
 use Rattle.el_chain.specs.Chains.{zero_hash}
 use Rattle.el_chain.specs.declared.coin.Coin.{Coin}
 use Rattle.el_chain.specs.declared.node.Spot.{Spot}
@@ -21,6 +21,10 @@ spot_in x b = record {
   start = x.row.start;
   len = x.row.len;
 }
+
+-- where its block is there, the block has the transaction
+abbrev pub IsInItsBlock : NumberedTx → List ListedBlock → Type 0
+IsInItsBlock x bs = (b : ListedBlock) → slice_get bs x.row.height ≡ Some b → x.number - b.first_tx < b.txs
 
 -- the output that an outpoint names, with its row
 abbrev pub output_of : Outpoint → Lists → Option NamedOutput

@@ -8,8 +8,8 @@ use Rattle.el_tables.specs.Disconnecting.{last, times, take_back_output, unspend
 use Rattle.el_tables.specs.Fits.{IsNumbered}
 use Rattle.el_tables.specs.Lists.{ListedTx, Lists}
 use Rattle.el_row_formats.specs.Tables as held
+use Rattle.el_tables.specs.Tables.{in_both}
 use Rattle.el_schema.specs.Rows.{Hold}
-use Rattle.el_schema.specs.Standing.{heads_in}
 use Rattle.el_spend.specs.Outputs.{BalancesFit}
 
 -- the balances fit 64 bits after each of so many steps
@@ -29,9 +29,8 @@ pub record CanUndo (l : Lists) : Type 0 where
 abbrev pub CanUndoAll : ℕ → Lists → Type 0
 CanUndoAll count l = (k : ℕ) → k < count → CanUndo (times k disconnect_tx l)
 
--- The rows hold the blocks of a chain with one more, and the lists of the chain without it. From the first
--- block on there are so many heads.
+-- The rows hold the blocks of a chain with one more, and the lists of the chain without it, with so many heads.
 pub record LacksTxs (heads : ℕ) (rows : held.Tables) (chain : Chain) (b : Placed) : Type 0 where
   pub some : 0 < heads
   pub good : IsGood chain
-  pub hold : Hold (heads_in heads (chain ++ b ∷ [])) (listed_blocks (chain ++ b ∷ [])) (lists chain) rows
+  pub hold : Hold (in_both heads) (listed_blocks (chain ++ b ∷ [])) (lists chain) rows

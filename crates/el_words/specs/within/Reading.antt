@@ -25,7 +25,8 @@ with_two a x y = with_rule (with_rule a (option_rule x)) (option_rule y)
 
 -- all the options of commands
 abbrev pub reader : App
-reader = with_two (with_two (with_two (with_rule no_options (option_rule (codes "network")))
-    (codes "blocks") (codes "index"))
-    (codes "client-port") (codes "node-port"))
-    (codes "pool-count") (codes "pool-bytes")
+reader = with_two (with_two (with_two (with_two no_options
+    (codes "network") (codes "blocks"))
+    (codes "index") (codes "client-port"))
+    (codes "node-port") (codes "pool-count"))
+    (codes "pool-bytes") (codes "head-bits")

@@ -12,10 +12,11 @@ returns-in-Ok-clause-checked g c = λ stands.
       way = w.way;
       sums = c.summed.ensures ∙ summed_up c.args.count w.way c.in-Ok.walked _ _ w.moves_are w.height_is w.balance_is
           w.bytes_are
-          (sym (g.met.R.Rows.counted c.into_rows-rows.result table.Txs here.told) ∙ txs_counted _ w.way.last.chain stand)
-          (sym (g.met.R.Rows.counted c.into_rows-rows.result table.Outs here.told) ∙ outs_counted _ w.way.last.chain stand);
+          (sym (g.met.R.Rows.counted c.into_rows-rows.result table.Txs here.told) ∙ txs_counted _ _ w.way.last.chain stand)
+          (sym (g.met.R.Rows.counted c.into_rows-rows.result table.Outs here.told) ∙ outs_counted _ _ w.way.last.chain stand);
       stand = stand;
       leaves = λ told left now. (
+        g.R.Rows.heads c.into_rows-rows.result,
         g.R.Rows.lists c.into_rows-rows.result,
         g.met.R.Rows.leaves_lists c.into_rows-rows.result left told
             (rw (← c.into_rows-rows.ensures) at c.in-Ok.ensures.live) now,

@@ -7,7 +7,7 @@ use Rattle.el_check_chain.proofs.leading.lead.Goals as goal
 
 pub returns-then-ends_in-clause-led : goal.returns-then-ends_in-clause-led
 returns-then-ends_in-clause-led g c = λ side stand.
-    is_there (ghosts g.G.Ledger g.A.Archive) _ _ side c.args.tip stand
+    is_there (ghosts g.G.Ledger g.A.Archive) _ _ _ side c.args.tip stand
     (sym (g.met.G.Ledger.tip_is c.args.ledger.now side.chain (stand.at.stood stand.sure))
     ∙ ends_there _ c.args.tip (sym c.ends_in.ensures ∙ c.if-ends_in.true))
 
@@ -23,11 +23,11 @@ returns-clause-led g c = λ side stand.
     let away : tip_of side.chain ≡ Some c.args.tip → ⊥ = λ e. ends_elsewhere _ c.args.tip
     (sym c.ends_in.ensures ∙ c.if-ends_in.false) (g.met.G.Ledger.tip_is c.args.ledger.now side.chain (stand.at.stood stand.sure) ∙ e) in
     let l = rw c.in_ok-text.ensures at (c.in_ok-step.ensures.node side stand.start stand.at
-    (line_from of _ _ side stand)) in
+    (line_from of _ _ _ side stand)) in
     rw c.moves_told-told.ensures.told (line_led of c.requires.never_fails side c.args.tip stand.start
     (beneath c.args.ledger.now c.args.archive.now) (beneath c.order.new.ledger c.order.new.archive)
     (beneath c.move_on.new.ledger c.move_on.new.archive) c.args.holdings.now c.order.new.holdings
-    c.move_on.new.holdings c.in_ok-step.step c.in_ok-later.later stand.sure stand.magic c.in_ok-step.ensures.magic away l
+    c.move_on.new.holdings c.order.new.caches c.move_on.new.caches c.in_ok-step.step c.in_ok-later.later stand.sure stand.magic c.in_ok-step.ensures.magic away l
     (λ mid s. c.in_ok-later.ensures.moved mid s))
 
 pub returns-clause-beside : goal.returns-clause-beside

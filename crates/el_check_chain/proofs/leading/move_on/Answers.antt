@@ -13,7 +13,7 @@ loop-round-init g c = record {
   nodes = c.requires.nodes;
   linked = c.requires.linked;
   few = omega arith;
-  moved = λ side stand. none_made (ghosts g.G.Ledger g.A.Archive) _ _ _ side stand;
+  moved = λ side stand. none_made (ghosts g.G.Ledger g.A.Archive) _ _ _ _ side stand;
   beside = λ told. refl;
   still = refl;
 }
@@ -37,7 +37,7 @@ loop-round-preserved g c = record {
       rw c.moves_told-told.ensures.told (one_more (ghosts g.G.Ledger g.A.Archive) c.requires.never_fails side
       c.loop-round.moves (beneath c.args.ledger.now c.args.archive.now)
       (beneath c.loop-round.ledger c.loop-round.archive) (beneath c.move_next.new.ledger c.move_next.new.archive)
-      c.loop-round.holdings c.move_next.new.holdings c.loop-round.left c.in_ok-step.step u
+      c.loop-round.holdings c.move_next.new.holdings c.loop-round.caches c.move_next.new.caches c.loop-round.left c.in_ok-step.step u
       (some_left c.loop-round.left (sym c.is_empty.ensures ∙ c.if-is_empty.false))
       c.in_ok-step.ensures.tree c.in_ok-step.ensures.magic
       (c.in_ok-step.ensures.moving u.last u.stand.start u.stand.at));
@@ -49,7 +49,7 @@ pub returns-then-is_empty-clause-moved : goal.returns-then-is_empty-clause-moved
 returns-then-is_empty-clause-moved g c = λ side stand.
     subst (λ (ns : List Node). AreUnderWay (ghosts g.G.Ledger g.A.Archive)
     (beneath c.args.ledger.now c.args.archive.now) (beneath c.loop-round.ledger c.loop-round.archive)
-    c.loop-round.holdings ns side c.loop-round.moves)
+    c.loop-round.holdings c.loop-round.caches ns side c.loop-round.moves)
     (empty_left c.loop-round.left (sym c.is_empty.ensures ∙ c.if-is_empty.true))
     (c.loop-round.invariant.moved side stand)
 

@@ -15,8 +15,8 @@ invariant-loop-round g l = record {
   nodes : AllByRecursion IsNode l.left;
   linked : AreLinked (named (g.G.Ledger.tip l.ledger)) l.left;
   few : l.moves ≤ l.round;
-  moved : (side : Side) → StandWith (ghosts g.G.Ledger g.A.Archive) (beneath l.fn.ledger l.fn.archive) l.fn.holdings l.fn.left side
-      → AreUnderWay (ghosts g.G.Ledger g.A.Archive) (beneath l.fn.ledger l.fn.archive) (beneath l.ledger l.archive) l.holdings l.left side l.moves;
+  moved : (side : Side) → StandWith (ghosts g.G.Ledger g.A.Archive) (beneath l.fn.ledger l.fn.archive) l.fn.holdings l.fn.caches l.fn.left side
+      → AreUnderWay (ghosts g.G.Ledger g.A.Archive) (beneath l.fn.ledger l.fn.archive) (beneath l.ledger l.archive) l.holdings l.caches l.left side l.moves;
   beside : KeepsBeside g.G.Ledger l.fn.ledger l.ledger;
   still : g.G.Ledger.faults l.ledger ≡ g.G.Ledger.faults l.fn.ledger;
 }

@@ -15,8 +15,8 @@ use Rattle.el_tables.specs.Tables.{in_both}
 use Rattle.el_schema.proofs.Held.{count_txs}
 use Rattle.el_prepare.specs.declared.prepared.Prepared.{Prepared}
 use Rattle.el_prepare.specs.declared.prepared.PreparedTx.{PreparedTx}
-use Rattle.el_schema.specs.Standing.{HoldChain, heads_in, heads_after}
-use Rattle.el_schema.proofs.StandingLemmas.{holds, held_with, some_after}
+use Rattle.el_schema.specs.Standing.{HoldChain}
+use Rattle.el_schema.proofs.StandingLemmas.{holds, held_with}
 use Rattle.el_connect.specs.within.Parts.{IsSmall}
 use Rattle.el_connect.proofs.ChainLemmas.{block_small, few_txs, sum_before, sum_of_good, between_of_good, height_is, begun, block_put, block_refused, block_faultless, room_for_block}
 use Rattle.el_connect.proofs.StepLemmas.{not_added}
@@ -48,12 +48,12 @@ returns-in_err-sum-clause-refused g c chain block told stand encoded is names =
     let placed : Placed = record { block = block; place = c.args.place } in
     let sum = sum_before shown c.in_ok-before.before c.in_ok-before.ensures.none (λ counts bs b l h. c.in_ok-before.ensures.sum counts bs b l told h) stand.0 chain both.1 in
     let hold = subst (λ (T : held.Tables). HoldChain stand.0 T chain) (sym c.last_sum.ensures.read.tables) both.1 in
-    let ready = begun (heads_after stand.0 chain) chain (tables_in {G = g.R.Rows} c.add_all_heads.new.t) c.in_ok-before.before (some_after stand.0 chain some) (c.in_ok-add_all_heads.ensures.hold stand.0 chain some hold) sum in
+    let ready = begun stand.0 chain (tables_in {G = g.R.Rows} c.last_sum.new.t) c.in_ok-before.before some hold sum in
     let most = subst (λ (k : ℕ). k ≤ max_money) (sym sum) (sum_of_good chain both.0) in
     let tall = c.count-height.ensures.count ∙ height_is stand.0 shown chain both.1 in
     let txs = c.as_slice.ensures ∙ ap (λ (p : Prepared). p.txs) is in
     err_passed c.from_residual-in_err-sum.result _ e (err_from_is_err_and c.from_residual-in_err-sum.result c.from_residual-in_err-sum.ensures.1)
-    (block_refused chain placed c.count-height.result c.as_slice.result.now both.0 tall txs e (c.in_err-sum.ensures.refused (in_both (heads_after stand.0 chain)) (listed_blocks chain) (lists chain) told ready most (between_of_good chain both.0)))
+    (block_refused chain placed c.count-height.result c.as_slice.result.now both.0 tall txs e (c.in_err-sum.ensures.refused (in_both stand.0) (listed_blocks chain) (lists chain) told ready most (between_of_good chain both.0)))
 
 pub returns-in_err-append_block-clause-refused : goal.returns-in_err-append_block-clause-refused
 returns-in_err-append_block-clause-refused g c chain block told stand encoded is names =
@@ -65,14 +65,14 @@ returns-in_err-append_block-clause-refused g c chain block told stand encoded is
     let placed : Placed = record { block = block; place = c.args.place } in
     let sum = sum_before shown c.in_ok-before.before c.in_ok-before.ensures.none (λ counts bs b l h. c.in_ok-before.ensures.sum counts bs b l told h) stand.0 chain both.1 in
     let hold = subst (λ (T : held.Tables). HoldChain stand.0 T chain) (sym c.last_sum.ensures.read.tables) both.1 in
-    let ready = begun (heads_after stand.0 chain) chain (tables_in {G = g.R.Rows} c.add_all_heads.new.t) c.in_ok-before.before (some_after stand.0 chain some) (c.in_ok-add_all_heads.ensures.hold stand.0 chain some hold) sum in
+    let ready = begun stand.0 chain (tables_in {G = g.R.Rows} c.last_sum.new.t) c.in_ok-before.before some hold sum in
     let most = subst (λ (k : ℕ). k ≤ max_money) (sym sum) (sum_of_good chain both.0) in
     let tall = c.count-height.ensures.count ∙ height_is stand.0 shown chain both.1 in
     let txs = c.as_slice.ensures ∙ ap (λ (p : Prepared). p.txs) is in
-    let led = (c.in_ok-sum.ensures.connected (in_both (heads_after stand.0 chain)) (listed_blocks chain) (lists chain) told ready most (between_of_good chain both.0)).0 in
-    let none = block_faultless chain placed c.count-height.result c.as_slice.result.now both.0 tall txs (heads_after stand.0 chain) rows c.in_ok-sum.sum led in
+    let led = (c.in_ok-sum.ensures.connected (in_both stand.0) (listed_blocks chain) (lists chain) told ready most (between_of_good chain both.0)).0 in
+    let none = block_faultless chain placed c.count-height.result c.as_slice.result.now both.0 tall txs stand.0 rows c.in_ok-sum.sum led in
     let low = room_for_block chain block encoded none in
-    let same = c.connect_txs.ensures.blocks ∙ c.add_all_heads.ensures.others table.Blocks (λ q. cc) (λ q. cc) ∙ ap (λ (T : held.Tables). T table.Blocks) c.last_sum.ensures.read.tables in
+    let same = c.connect_txs.ensures.blocks ∙ ap (λ (T : held.Tables). T table.Blocks) c.last_sum.ensures.read.tables in
     let long = ap length same ∙ height_is stand.0 shown chain both.1 in
     let few : length (rows table.Blocks) < row_limit 1 = omega (arith, long, low) in
     err_passed c.from_residual-in_err-append_block.result _ e (err_from_is_err_and c.from_residual-in_err-append_block.result c.from_residual-in_err-append_block.ensures.1)
@@ -86,13 +86,13 @@ returns-clause-connected g c heads chain block told stand encoded is names =
     let placed : Placed = record { block = block; place = c.args.place } in
     let sum = sum_before shown c.in_ok-before.before c.in_ok-before.ensures.none (λ counts bs b l h. c.in_ok-before.ensures.sum counts bs b l told h) heads chain both.1 in
     let hold = subst (λ (T : held.Tables). HoldChain heads T chain) (sym c.last_sum.ensures.read.tables) both.1 in
-    let ready = begun (heads_after heads chain) chain (tables_in {G = g.R.Rows} c.add_all_heads.new.t) c.in_ok-before.before (some_after heads chain some) (c.in_ok-add_all_heads.ensures.hold heads chain some hold) sum in
+    let ready = begun heads chain (tables_in {G = g.R.Rows} c.last_sum.new.t) c.in_ok-before.before some hold sum in
     let most = subst (λ (k : ℕ). k ≤ max_money) (sym sum) (sum_of_good chain both.0) in
     let tall = c.count-height.ensures.count ∙ height_is heads shown chain both.1 in
     let txs = c.as_slice.ensures ∙ ap (λ (p : Prepared). p.txs) is in
-    let led = (c.in_ok-sum.ensures.connected (in_both (heads_after heads chain)) (listed_blocks chain) (lists chain) told ready most (between_of_good chain both.0)).0 in
-    let first = c.count-first_tx.ensures.count ∙ count_txs (heads_in heads chain) (listed_blocks chain) (lists chain) shown both.1 in
+    let led = (c.in_ok-sum.ensures.connected (in_both heads) (listed_blocks chain) (lists chain) told ready most (between_of_good chain both.0)).0 in
+    let first = c.count-first_tx.ensures.count ∙ count_txs (in_both heads) (listed_blocks chain) (lists chain) shown both.1 in
     let many = c.len-txs.ensures ∙ ap (λ (p : Prepared). length p.txs) is in
-    block_put chain placed c.count-height.result c.as_slice.result.now both.0 tall txs (heads_after heads chain) (tables_in {G = g.R.Rows} c.connect_txs.new.t) (tables_in {G = g.R.Rows} c.append_block.new.t) c.in_ok-sum.sum
-    c.count-first_tx.result c.len-txs.result c.args.b.now.header (some_after heads chain some) encoded names led (ap (λ (p : Prepared). p.header) is) first many
-    (λ l x held row. c.in_ok-append_block.ensures.appended (in_both (heads_after heads chain)) (listed_blocks chain) l x held (c.row_of-row.ensures.is ∙ row))
+    block_put chain placed c.count-height.result c.as_slice.result.now both.0 tall txs heads (tables_in {G = g.R.Rows} c.connect_txs.new.t) (tables_in {G = g.R.Rows} c.append_block.new.t) c.in_ok-sum.sum
+    c.count-first_tx.result c.len-txs.result c.args.b.now.header some encoded names led (ap (λ (p : Prepared). p.header) is) first many
+    (λ l x held row. c.in_ok-append_block.ensures.appended (in_both heads) (listed_blocks chain) l x held (c.row_of-row.ensures.is ∙ row))

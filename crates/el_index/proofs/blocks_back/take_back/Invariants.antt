@@ -1,4 +1,4 @@
-use Rattle.std.proofs.Common.{◌≡◌, ◌≤◌, ◌-◌, length, drop}
+use Rattle.std.proofs.Common.{◌≡◌, ◌≤◌, ◌-◌, ℕ, length, drop}
 use Rattle.el_chain.specs.Chains.{Chain}
 use Rattle.el_chain.specs.Moves.{shorter}
 use Rattle.el_row_formats.specs.declared.table.Table.TheVariants as table
@@ -12,8 +12,8 @@ abbrev pub invariant-loop : goal.invariant-loop
 invariant-loop g l = record {
   edits : EditedSoFar {G = g.R.Rows} l.fn.t l.t;
   fewer : length (tables_in {G = g.R.Rows} l.t table.Blocks) ≡ length (tables_in {G = g.R.Rows} l.fn.t table.Blocks) - l.counter;
-  back : (chain : Chain) → g.R.Rows.tells → AreRowsOf (tables_in {G = g.R.Rows} l.fn.t) chain → l.back ≤ length chain
-      → AreRowsOf (tables_in {G = g.R.Rows} l.t) (shorter l.counter chain);
-  touched : (chain : Chain) → g.R.Rows.tells → AreRowsOf (tables_in {G = g.R.Rows} l.fn.t) chain → l.back ≤ length chain
+  back : (heads : ℕ) (chain : Chain) → g.R.Rows.tells → AreRowsOf heads (tables_in {G = g.R.Rows} l.fn.t) chain → l.back ≤ length chain
+      → AreRowsOf heads (tables_in {G = g.R.Rows} l.t) (shorter l.counter chain);
+  touched : (heads : ℕ) (chain : Chain) → g.R.Rows.tells → AreRowsOf heads (tables_in {G = g.R.Rows} l.fn.t) chain → l.back ≤ length chain
       → AreAdded (shorter l.counter chain) (drop (length chain - l.counter) chain) l.fn.touched l.touched;
 }

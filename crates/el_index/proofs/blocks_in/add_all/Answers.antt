@@ -19,9 +19,9 @@ loop-left-init g c =
       few = omega arith;
       next = ap (λ (k : ℕ). drop k c.args.texts.now) (sym none);
       more = omega arith;
-      adding = λ chain told stand linked.
-          subst (λ (k : ℕ). (blocks : Chain) × IsAdding chain c.args.nodes.now c.args.texts.now k (tables_in {G = g.R.Rows} c.args.t.now) blocks) none
-          (adding_begins chain c.args.nodes.now c.args.texts.now (tables_in {G = g.R.Rows} c.args.t.now) stand linked);
+      adding = λ heads chain told stand linked.
+          subst (λ (k : ℕ). (blocks : Chain) × IsAdding heads chain c.args.nodes.now c.args.texts.now k (tables_in {G = g.R.Rows} c.args.t.now) blocks) none
+          (adding_begins heads chain c.args.nodes.now c.args.texts.now (tables_in {G = g.R.Rows} c.args.t.now) stand linked);
     }
 
 pub overflow_sub-from : goal.overflow_sub-from
@@ -31,10 +31,10 @@ pub put_batch-requires-clause-batch : goal.put_batch-requires-clause-batch
 put_batch-requires-clause-batch g c = (c.next_batch.result.1.now, c.loop-left.invariant.next ∙ c.next_batch.ensures.cut)
 
 pub returns-in_err-put_batch-clause-first_fault : goal.returns-in_err-put_batch-clause-first_fault
-returns-in_err-put_batch-clause-first_fault g c chain told stand linked =
-    let was = c.loop-left.invariant.adding chain told stand linked in
+returns-in_err-put_batch-clause-first_fault g c heads chain told stand linked =
+    let was = c.loop-left.invariant.adding heads chain told stand linked in
     err_passed c.from_residual.result (λ e. IsOwn e ⊎ FaultInAt chain c.args.nodes.now c.args.texts.now e) c.in_err-put_batch.field-0.0
-    (err_from_is_err_and c.from_residual.result c.from_residual.ensures.1) (c.in_err-put_batch.ensures.first_fault chain was.0 told was.1)
+    (err_from_is_err_and c.from_residual.result c.from_residual.ensures.1) (c.in_err-put_batch.ensures.first_fault heads chain was.0 told was.1)
 
 pub loop-left-preserved : goal.loop-left-preserved
 loop-left-preserved g c =
@@ -47,11 +47,11 @@ loop-left-preserved g c =
       few = p.fits;
       next = p.next;
       more = (let place = p.place in let one = c.in_ok-put_batch.ensures.more in let before = c.loop-left.invariant.more in omega arith);
-      adding = λ chain told stand linked.
-          let was = c.loop-left.invariant.adding chain told stand linked in
-          let done = c.in_ok-put_batch.ensures.added chain was.0 told was.1 in (
+      adding = λ heads chain told stand linked.
+          let was = c.loop-left.invariant.adding heads chain told stand linked in
+          let done = c.in_ok-put_batch.ensures.added heads chain was.0 told was.1 in (
             done.0,
-            subst (λ (k : ℕ). IsAdding chain c.args.nodes.now c.args.texts.now k (tables_in {G = g.R.Rows} c.put_batch.new.t) done.0) (sym p.place) done.1,
+            subst (λ (k : ℕ). IsAdding heads chain c.args.nodes.now c.args.texts.now k (tables_in {G = g.R.Rows} c.put_batch.new.t) done.0) (sym p.place) done.1,
           );
     }
 
@@ -67,21 +67,21 @@ loop-left-preserved-in_ok-put_batch g c =
       few = p.fits;
       next = p.next;
       more = (let place = p.place in let one = c.in_ok-put_batch.ensures.more in let before = c.loop-left.invariant.more in omega arith);
-      adding = λ chain told stand linked.
-          let was = c.loop-left.invariant.adding chain told stand linked in
-          let done = c.in_ok-put_batch.ensures.added chain was.0 told was.1 in (
+      adding = λ heads chain told stand linked.
+          let was = c.loop-left.invariant.adding heads chain told stand linked in
+          let done = c.in_ok-put_batch.ensures.added heads chain was.0 told was.1 in (
             done.0,
-            subst (λ (k : ℕ). IsAdding chain c.args.nodes.now c.args.texts.now k (tables_in {G = g.R.Rows} c.put_batch.new.t) done.0) (sym p.place) done.1,
+            subst (λ (k : ℕ). IsAdding heads chain c.args.nodes.now c.args.texts.now k (tables_in {G = g.R.Rows} c.put_batch.new.t) done.0) (sym p.place) done.1,
           );
     }
 
 pub returns-clause-added : goal.returns-clause-added
-returns-clause-added g c chain told stand linked =
-    let was = c.loop-left.invariant.adding chain told stand linked in
+returns-clause-added g c heads chain told stand linked =
+    let was = c.loop-left.invariant.adding heads chain told stand linked in
     let same = same_length c.args.nodes.now c.args.texts.now c.requires.of in
     let none = eqb-true (length c.loop-left.left.now) 0 (sym c.loop-left-test.ensures) in (
       was.0,
-      adding_ends chain c.args.nodes.now c.args.texts.now (length c.args.texts.now - length c.loop-left.left.now) _ was.0 was.1 (omega arith) same,
+      adding_ends heads chain c.args.nodes.now c.args.texts.now (length c.args.texts.now - length c.loop-left.left.now) _ was.0 was.1 (omega arith) same,
     )
 
 pub returns-clause-more : goal.returns-clause-more

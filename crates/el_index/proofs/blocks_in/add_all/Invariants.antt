@@ -1,4 +1,4 @@
-use Rattle.std.proofs.Common.{◌≡◌, ◌≤◌, ◌+◌, ◌-◌, length, drop}
+use Rattle.std.proofs.Common.{◌≡◌, ◌≤◌, ◌+◌, ◌-◌, ℕ, length, drop}
 use Rattle.el_chain.specs.Chains.{Chain, tip}
 use Rattle.el_chain.specs.Headers.{AreLinked}
 use Rattle.el_row_formats.specs.declared.table.Table.TheVariants as table
@@ -14,8 +14,8 @@ invariant-loop-left g l = record {
   few : length l.left ≤ length l.texts;
   next : drop (length l.texts - length l.left) l.texts ≡ l.left;
   more : length (tables_in {G = g.R.Rows} l.t table.Blocks) ≡ length (tables_in {G = g.R.Rows} l.fn.t table.Blocks) + (length l.texts - length l.left);
-  adding : (chain : Chain) → g.R.Rows.tells → AreRowsOf (tables_in {G = g.R.Rows} l.fn.t) chain → AreLinked (tip chain) l.nodes
-      → (blocks : Chain) × IsAdding chain l.nodes l.texts (length l.texts - length l.left) (tables_in {G = g.R.Rows} l.t) blocks;
+  adding : (heads : ℕ) (chain : Chain) → g.R.Rows.tells → AreRowsOf heads (tables_in {G = g.R.Rows} l.fn.t) chain → AreLinked (tip chain) l.nodes
+      → (blocks : Chain) × IsAdding heads chain l.nodes l.texts (length l.texts - length l.left) (tables_in {G = g.R.Rows} l.t) blocks;
 }
 
 abbrev pub decreases-loop-left : goal.decreases-loop-left

@@ -1,4 +1,4 @@
-use Rattle.std.proofs.Common.{◌⊎◌, ◌+◌, ◌<◌, ◌++◌, ◌∷◌, ℕ, [], length, refl, subst, arith, rules}
+use Rattle.std.proofs.Common.{◌≡◌, ◌⊎◌, ◌+◌, ◌<◌, ◌++◌, ◌∷◌, ℕ, [], length, refl, subst, arith, rules}
 use Rattle.std.proofs.lemmas.Result.{err_from_is_err_and}
 use Rattle.el_rows.proofs.TransactionLemmas.{as_edited, more_edits, nothing}
 use Rattle.el_rows.specs.Transaction.{tables_in}
@@ -15,7 +15,7 @@ pub loop-index-init : goal.loop-index-init
 loop-index-init g c = record {
   edits = as_edited (nothing c.args.t.now c.requires.live);
   more = omega arith;
-  adding = λ chain before told adding. (before, subst (λ (k : ℕ). IsAdding chain c.args.nodes.now c.args.texts.now k (tables_in {G = g.R.Rows} c.args.t.now) before) (omega arith) adding);
+  adding = λ heads chain before told adding. (before, subst (λ (k : ℕ). IsAdding heads chain c.args.nodes.now c.args.texts.now k (tables_in {G = g.R.Rows} c.args.t.now) before) (omega arith) adding);
 }
 
 pub overflow_add-at : goal.overflow_add-at
@@ -54,16 +54,16 @@ put_one-requires-clause-prepared g c =
     c.index-blocks-index.is c.index-texts-at.is)
 
 pub returns-in_err-put_one-clause-first_fault : goal.returns-in_err-put_one-clause-first_fault
-returns-in_err-put_one-clause-first_fault g c chain before told adding =
+returns-in_err-put_one-clause-first_fault g c heads chain before told adding =
     let lt = next_within c.args.texts.now c.args.from c.args.blocks.now c.loop-index.index c.requires.prepared c.loop-index-test.true in
     let same = same_length c.args.nodes.now c.args.texts.now c.requires.of in
     let n = next_is c.args.nodes.now c.args.texts.now (c.args.from + c.loop-index.index) _ _ c.index-texts-at.result (left_of c.args.nodes.now c.args.texts.now _ c.requires.nodes c.requires.of)
     (omega arith) refl c.index-texts-at.is in
-    let was = c.loop-index.invariant.adding chain before told adding in
+    let was = c.loop-index.invariant.adding heads chain before told adding in
     err_passed c.from_residual.result (λ e. IsOwn e ⊎ FaultInAt chain c.args.nodes.now c.args.texts.now e) c.in_err-put_one.field-0.0
     (err_from_is_err_and c.from_residual.result c.from_residual.ensures.1)
-    (adding_stops chain c.args.nodes.now c.args.texts.now _ _ was.0 _ _ _ was.1 n
-    (rw c.as_slice.ensures at c.in_err-put_one.ensures.first_fault (chain ++ was.0) told was.1.after.stand (adding_names _ _ _ _ _ _ _ _ was.1 n)))
+    (adding_stops heads chain c.args.nodes.now c.args.texts.now _ _ was.0 _ _ _ was.1 n
+    (rw c.as_slice.ensures at c.in_err-put_one.ensures.first_fault heads (chain ++ was.0) told was.1.after.stand (adding_names _ _ _ _ _ _ _ _ _ was.1 n)))
 
 pub loop-index-preserved : goal.loop-index-preserved
 loop-index-preserved g c =
@@ -74,12 +74,12 @@ loop-index-preserved g c =
     record {
       edits = more_edits c.loop-index.invariant.edits c.in_ok-put_one.ensures.edits;
       more = omega (arith, c.in_ok-put_one.ensures.more, c.loop-index.invariant.more);
-      adding = λ chain before told adding.
-          let was = c.loop-index.invariant.adding chain before told adding in
-          let done = rw c.as_slice.ensures at c.in_ok-put_one.ensures.added (chain ++ was.0) told was.1.after.stand (adding_names _ _ _ _ _ _ _ _ was.1 n) in
-          let more = adding_more chain c.args.nodes.now c.args.texts.now (c.args.from + c.loop-index.index) _ _ was.0 _ _ done.0 was.1 n done.1 in (
+      adding = λ heads chain before told adding.
+          let was = c.loop-index.invariant.adding heads chain before told adding in
+          let done = rw c.as_slice.ensures at c.in_ok-put_one.ensures.added heads (chain ++ was.0) told was.1.after.stand (adding_names _ _ _ _ _ _ _ _ _ was.1 n) in
+          let more = adding_more heads chain c.args.nodes.now c.args.texts.now (c.args.from + c.loop-index.index) _ _ was.0 _ _ done.0 was.1 n done.1 in (
             was.0 ++ done.0 ∷ [],
-            subst (λ (k : ℕ). IsAdding chain c.args.nodes.now c.args.texts.now k (tables_in {G = g.R.Rows} c.put_one.new.t) (was.0 ++ done.0 ∷ [])) (omega arith) more,
+            subst (λ (k : ℕ). IsAdding heads chain c.args.nodes.now c.args.texts.now k (tables_in {G = g.R.Rows} c.put_one.new.t) (was.0 ++ done.0 ∷ [])) (omega arith) more,
           );
     }
 
@@ -94,3 +94,11 @@ pub offset_bounds-texts-at : goal.offset_bounds-texts-at
 offset_bounds-texts-at g c =
     let inside = next_within c.args.texts.now c.args.from c.args.blocks.now c.loop-index.index c.requires.prepared c.loop-index-test.true in
     search rules
+
+pub returns-clause-added : goal.returns-clause-added
+returns-clause-added g c = λ heads chain before told adding.
+    let was = c.loop-index.invariant.adding heads chain before told adding in
+    let over : c.loop-index.index ≡ length c.args.blocks.now = omega arith in (
+      was.0,
+      subst (λ (k : ℕ). IsAdding heads chain c.args.nodes.now c.args.texts.now (c.args.from + k) (tables_in {G = g.R.Rows} c.loop-index.t) was.0) over was.1,
+    )

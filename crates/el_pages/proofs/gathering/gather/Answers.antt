@@ -1,8 +1,12 @@
 use Rattle.std.proofs.Common.{◌≡◌, ◌+◌, ◌*◌, ◌++◌, ℕ, List, length, take, sym, ap, subst, ◌∙◌, arith}
 use Rattle.el_row_formats.specs.Tables.{size_of}
+use Rattle.el_row_formats.proofs.Keys.{few_rows}
 use Rattle.el_pages.specs.within.Runs.{AreRows}
 use Rattle.el_pages.proofs.GatheredRuns.{rows_more}
 use Rattle.el_pages.proofs.gathering.gather.Goals as goal
+
+pub overflow_add-first : goal.overflow_add-first
+overflow_add-first c = omega (arith, c.loop-next.invariant.rows.limit, few_rows c.run-head.result.table)
 
 pub loop-next-preserved : goal.loop-next-preserved
 loop-next-preserved c =

@@ -1,11 +1,15 @@
 use Rattle.std.proofs.Common.{◌≡◌, ◌+◌, ◌*◌, ◌++◌, ℕ, length, take, refl, ap, subst, ◌∙◌, arith}
 use Rattle.el_row_formats.specs.Tables.{key, size_of, row_at}
+use Rattle.el_row_formats.proofs.Keys.{few_rows}
 use Rattle.el_redo.specs.RedoBody.{change_bytes, changes_bytes}
 use Rattle.el_redo.proofs.BodyLemmas.{changes_put}
 use Rattle.el_redone.proofs.Runs.{aside_none, aside_more}
 use Rattle.el_pages.specs.within.Staging.{written_so_far, IsPaid}
 use Rattle.el_pages.proofs.Calls.{paid_on, few_on, few_paid, row_long, rows_most}
 use Rattle.el_pages.proofs.staging.put_rows.Goals as goal
+
+pub overflow_add-first : goal.overflow_add-first
+overflow_add-first g c = omega (arith, c.requires.limit, c.loop-j-test.true, few_rows c.args.t)
 
 pub loop-j-init : goal.loop-j-init
 loop-j-init g c = record {

@@ -40,5 +40,5 @@ returns-clause-txids g c tb told same =
     let many : c.count.result ≡ length tb.txs = c.count.ensures.count ∙ ap length (same.each table.Txs) ∙ length-map tb.txs (λ r. tx_row_bytes (tx_fields r)) in
     let left = length-drop first tb.txs in
     let is : c.loop-n.n - first ≡ min (c.args.end - first) (length (drop first tb.txs)) =
-    (let a = c.min-there.ensures in let b = c.loop-n-test.false in let d = c.loop-n.invariant.within in let e = c.loop-n.auto.n in omega arith) in
+    (let a = c.min-most.ensures in let f = c.from-count.ensures in let b = c.loop-n-test.false in let d = c.loop-n.invariant.within in let e = c.loop-n.auto.n in omega arith) in
     c.loop-n.invariant.txids tb told same ∙ ap (map id_in_row) (take_short (c.args.end - first) (c.loop-n.n - first) (drop first tb.txs) is)

@@ -24,7 +24,7 @@ loop-index-preserved g c = record {
   read = more c.loop-index.invariant.read c.in_ok-touch_buried_at.ensures.read;
   walk = λ counts bs l s told hold some.
       let before = subst (λ T. Hold counts bs l T) (sym c.loop-index.invariant.read.tables) hold in
-      numbers_step (λ (i : ℕ). buries_at s c.args.tx l (record { txid = c.in_ok-row.row.txid; index = i })) c.loop-index.index c.min-outs.result _ _ _ c.loop-index-test.true
+      numbers_step (λ (i : ℕ). buries_at s c.args.tx l (record { txid = c.in_ok-row.row.txid; index = i })) c.loop-index.index c.min-most.result _ _ _ c.loop-index-test.true
       (c.loop-index.invariant.walk counts bs l s told hold some) (c.in_ok-touch_buried_at.ensures.touched counts bs l s told before some);
 }
 
@@ -35,7 +35,7 @@ returns-clause-touched g c counts bs l s told hold some =
     let told_tx = tx_read counts.txs l.txs 0 l.txs c.args.tx row (c.in_ok-row.ensures.row (tables_of counts bs l) told hold) in
     let test = λ (i : ℕ). buries_at s c.args.tx l (record { txid = row.txid; index = i }) in
     let many : c.count.result ≡ length l.outs = c.count.ensures.count ∙ ap (λ (T : Tables). length (T table.Outs)) c.tx_row.ensures.read.tables ∙ count_outs (tables_in {G = g.R.Rows} c.args.t.now) (tables_in {G = g.R.Rows} c.args.t.now) (tables_of counts bs l) hold in
-    let capped : list_any test (numbers_from 0 c.min-outs.result) ≡ list_any test (numbers_from 0 row.outs) =
-    any_capped test row.outs (length l.outs) c.min-outs.result (omega (arith, many, c.min-outs.ensures)) (λ i le. past_buries s c.args.tx l row.txid i le) in
-    numbers_end test c.loop-index.index c.min-outs.result _ _ c.loop-index-test.false (c.loop-index.invariant.walk counts bs l s told hold some)
+    let capped : list_any test (numbers_from 0 c.min-most.result) ≡ list_any test (numbers_from 0 row.outs) =
+    any_capped test row.outs (length l.outs) c.min-most.result (omega (arith, many, c.min-most.ensures, c.from.ensures)) (λ i le. past_buries s c.args.tx l row.txid i le) in
+    numbers_end test c.loop-index.index c.min-most.result _ _ c.loop-index-test.false (c.loop-index.invariant.walk counts bs l s told hold some)
     ∙ ap (λ (b : Bool). old || b) (capped ∙ all_by_row s l c.args.tx row told_tx)

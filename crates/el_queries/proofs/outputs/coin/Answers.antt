@@ -1,7 +1,7 @@
 use Rattle.std.proofs.Common.{sym, subst, ◌∙◌}
 use Rattle.el_rows.specs.Transaction.{tables_in}
+use Rattle.el_tables.specs.Tables.{in_both}
 use Rattle.el_schema.proofs.StandingLemmas.{holds}
-use Rattle.el_schema.specs.Standing.{heads_in}
 use Rattle.el_tables.specs.ChainLists.{lists, listed_blocks}
 use Rattle.el_schema.specs.Rows.{Hold}
 use Rattle.el_schema.proofs.Answered.{if_ok}
@@ -14,7 +14,7 @@ returns-in_default-clause-coin g c chain told stand = none_told chain c.args.o.n
 pub returns-in-Unspent-clause-coin : goal.returns-in-Unspent-clause-coin
 returns-in-Unspent-clause-coin g c chain told stand =
     let o = c.args.o.now in
-    let counts = heads_in stand.0 chain in
+    let counts = in_both stand.0 in
     let bs = listed_blocks chain in
     let l = lists chain in
     let hold = (holds (tables_in {G = g.R.Rows} c.args.t.now) chain stand).1 in

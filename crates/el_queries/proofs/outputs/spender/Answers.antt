@@ -1,7 +1,7 @@
 use Rattle.std.proofs.Common.{sym, subst, ◌∙◌}
 use Rattle.el_rows.specs.Transaction.{tables_in}
+use Rattle.el_tables.specs.Tables.{in_both}
 use Rattle.el_schema.proofs.StandingLemmas.{holds}
-use Rattle.el_schema.specs.Standing.{heads_in}
 use Rattle.el_tables.specs.ChainLists.{lists, listed_blocks}
 use Rattle.el_schema.specs.Rows.{Hold}
 use Rattle.el_schema.proofs.Answered.{if_ok}
@@ -14,7 +14,7 @@ returns-in_default-clause-spender g c chain told stand =
 
 pub returns-in-Spent-clause-spender : goal.returns-in-Spent-clause-spender
 returns-in-Spent-clause-spender g c chain told stand =
-    let counts = heads_in stand.0 chain in
+    let counts = in_both stand.0 in
     let bs = listed_blocks chain in
     let l = lists chain in
     let both = holds (tables_in {G = g.R.Rows} c.args.t.now) chain stand in

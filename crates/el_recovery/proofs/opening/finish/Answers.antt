@@ -9,7 +9,7 @@ use Rattle.el_pages.specs.Layouts.{redo_of}
 use Rattle.el_pages.specs.Records.{Spells}
 use Rattle.el_recovery.specs.Checks.{Found, IsBadChange}
 use Rattle.el_recovery.specs.within.Checking.{HasBody}
-use Rattle.el_recovery.proofs.Settles.{some_there, body_there, body_waits, body_told, rest_none, stands_none, stands_redone, reads_on, read_alike, still_on_disk, still_redo_on_disk, redone_alike, record_found}
+use Rattle.el_recovery.proofs.Settles.{some_there, body_there, body_waits, body_told, rest_none, stands_none, stands_redone, reads_on, read_alike, still_on_disk, still_redo_on_disk, still_root_on_disk, redone_alike, record_found}
 use Rattle.el_recovery.proofs.opening.finish.Goals as goal
 
 -- ---- nothing waits
@@ -20,7 +20,7 @@ returns-in_default-clause-rest g c told =
     let old = c.args.disk.now in
     let mid = c.waiting.new.disk in
     let fewer = now_has g.D.Disk (λ d t u i le left. g.met.D.Disk.earlier d t u i told le left) old mid (LeftNow g.D.Disk.moment g.D.Disk.left_since old) (c.waiting.ensures.crash told) in
-    rest_none g.D.Disk l.first (redo_of l) old mid fewer (c.waiting.ensures.seen told) (c.requires.on_disk told) (c.requires.redo_on_disk told) (c.requires.begun told)
+    rest_none g.D.Disk l.first (redo_of l) old mid fewer (c.waiting.ensures.seen told) (c.requires.on_disk told) (c.requires.redo_on_disk told) (c.requires.root_on_disk told) (c.requires.begun told)
     (c.in_ok-len.ensures.none told c.in_default.is)
 
 pub returns-in_default-clause-stands : goal.returns-in_default-clause-stands
@@ -30,11 +30,11 @@ returns-in_default-clause-stands g c told =
 
 pub returns-in_err-len-clause-crash : goal.returns-in_err-len-clause-crash
 returns-in_err-len-clause-crash g c told =
-    read_alike g.D.Disk (λ d t u i le left. g.met.D.Disk.earlier d t u i told le left) c.args.layout.now c.args.disk.now (c.requires.on_disk told) (c.requires.redo_on_disk told) c.waiting.new.disk (c.waiting.ensures.crash told)
+    read_alike g.D.Disk (λ d t u i le left. g.met.D.Disk.earlier d t u i told le left) c.args.layout.now c.args.disk.now (c.requires.on_disk told) (c.requires.redo_on_disk told) (c.requires.root_on_disk told) c.waiting.new.disk (c.waiting.ensures.crash told)
 
 pub returns-in_default-clause-crash : goal.returns-in_default-clause-crash
 returns-in_default-clause-crash g c told =
-    read_alike g.D.Disk (λ d t u i le left. g.met.D.Disk.earlier d t u i told le left) c.args.layout.now c.args.disk.now (c.requires.on_disk told) (c.requires.redo_on_disk told) c.waiting.new.disk (c.waiting.ensures.crash told)
+    read_alike g.D.Disk (λ d t u i le left. g.met.D.Disk.earlier d t u i told le left) c.args.layout.now c.args.disk.now (c.requires.on_disk told) (c.requires.redo_on_disk told) (c.requires.root_on_disk told) c.waiting.new.disk (c.waiting.ensures.crash told)
 
 -- ---- the body is bad
 
@@ -68,7 +68,7 @@ returns-in_err-check_body-clause-crash g c told =
     let old = c.args.disk.now in
     let mid = c.check_body.new.disk in
     let read = reads_on g.D.Disk (λ d t u i le left. g.met.D.Disk.earlier d t u i told le left) old c.waiting.new.disk mid (c.waiting.ensures.crash told) (c.check_body.ensures.crash told) in
-    read_alike g.D.Disk (λ d t u i le left. g.met.D.Disk.earlier d t u i told le left) l old (c.requires.on_disk told) (c.requires.redo_on_disk told) mid read
+    read_alike g.D.Disk (λ d t u i le left. g.met.D.Disk.earlier d t u i told le left) l old (c.requires.on_disk told) (c.requires.redo_on_disk told) (c.requires.root_on_disk told) mid read
 
 -- ---- the record is redone
 
@@ -90,7 +90,7 @@ returns-in_err-redo-clause-crash g c told =
     (c.in_ok-check_body.ensures.ok told) in
     let read = reads_on g.D.Disk (λ d t u i le left. g.met.D.Disk.earlier d t u i told le left) old c.waiting.new.disk mid (c.waiting.ensures.crash told) (c.check_body.ensures.crash told) in
     let same = c.check_body.ensures.seen told ∙ c.waiting.ensures.seen told in
-    redone_alike g.D.Disk (λ d t u i le left. g.met.D.Disk.earlier d t u i told le left) l old (c.requires.on_disk told) (c.requires.redo_on_disk told) mid read same c.redo.new.disk (c.redo.ensures.crash told rec.0 rec.1 rec.2 rec.3)
+    redone_alike g.D.Disk (λ d t u i le left. g.met.D.Disk.earlier d t u i told le left) l old (c.requires.on_disk told) (c.requires.redo_on_disk told) (c.requires.root_on_disk told) mid read same c.redo.new.disk (c.redo.ensures.crash told rec.0 rec.1 rec.2 rec.3)
 
 pub returns-then-not-branch-clause-crash : goal.returns-then-not-branch-clause-crash
 returns-then-not-branch-clause-crash g c told =
@@ -101,7 +101,7 @@ returns-then-not-branch-clause-crash g c told =
     (c.in_ok-check_body.ensures.ok told) in
     let read = reads_on g.D.Disk (λ d t u i le left. g.met.D.Disk.earlier d t u i told le left) old c.waiting.new.disk mid (c.waiting.ensures.crash told) (c.check_body.ensures.crash told) in
     let same = c.check_body.ensures.seen told ∙ c.waiting.ensures.seen told in
-    redone_alike g.D.Disk (λ d t u i le left. g.met.D.Disk.earlier d t u i told le left) l old (c.requires.on_disk told) (c.requires.redo_on_disk told) mid read same c.redo.new.disk (c.redo.ensures.crash told rec.0 rec.1 rec.2 rec.3)
+    redone_alike g.D.Disk (λ d t u i le left. g.met.D.Disk.earlier d t u i told le left) l old (c.requires.on_disk told) (c.requires.redo_on_disk told) (c.requires.root_on_disk told) mid read same c.redo.new.disk (c.redo.ensures.crash told rec.0 rec.1 rec.2 rec.3)
 
 pub returns-clause-crash : goal.returns-clause-crash
 returns-clause-crash g c told =
@@ -112,7 +112,7 @@ returns-clause-crash g c told =
     (c.in_ok-check_body.ensures.ok told) in
     let read = reads_on g.D.Disk (λ d t u i le left. g.met.D.Disk.earlier d t u i told le left) old c.waiting.new.disk mid (c.waiting.ensures.crash told) (c.check_body.ensures.crash told) in
     let same = c.check_body.ensures.seen told ∙ c.waiting.ensures.seen told in
-    redone_alike g.D.Disk (λ d t u i le left. g.met.D.Disk.earlier d t u i told le left) l old (c.requires.on_disk told) (c.requires.redo_on_disk told) mid read same c.redo.new.disk (c.redo.ensures.crash told rec.0 rec.1 rec.2 rec.3)
+    redone_alike g.D.Disk (λ d t u i le left. g.met.D.Disk.earlier d t u i told le left) l old (c.requires.on_disk told) (c.requires.redo_on_disk told) (c.requires.root_on_disk told) mid read same c.redo.new.disk (c.redo.ensures.crash told rec.0 rec.1 rec.2 rec.3)
 
 pub returns-then-not-branch-clause-bad : goal.returns-then-not-branch-clause-bad
 returns-then-not-branch-clause-bad g c told =
@@ -124,8 +124,9 @@ returns-then-not-branch-clause-bad g c told =
     let read = reads_on g.D.Disk (λ d t u i le left. g.met.D.Disk.earlier d t u i told le left) old c.waiting.new.disk mid (c.waiting.ensures.crash told) (c.check_body.ensures.crash told) in
     let same = c.check_body.ensures.seen told ∙ c.waiting.ensures.seen told in
     let done = c.in_ok-redo.ensures.at_rest told rec.0 rec.1 rec.2 rec.3
-    (still_on_disk g.D.Disk (λ d t u i le left. g.met.D.Disk.earlier d t u i told le left) l old (c.requires.on_disk told) (c.requires.redo_on_disk told) mid read same)
-    (still_redo_on_disk g.D.Disk (λ d t u i le left. g.met.D.Disk.earlier d t u i told le left) l old (c.requires.on_disk told) (c.requires.redo_on_disk told) mid read same) in
+    (still_on_disk g.D.Disk (λ d t u i le left. g.met.D.Disk.earlier d t u i told le left) l old (c.requires.on_disk told) (c.requires.redo_on_disk told) (c.requires.root_on_disk told) mid read same)
+    (still_redo_on_disk g.D.Disk (λ d t u i le left. g.met.D.Disk.earlier d t u i told le left) l old (c.requires.on_disk told) (c.requires.redo_on_disk told) (c.requires.root_on_disk told) mid read same)
+    (still_root_on_disk g.D.Disk (λ d t u i le left. g.met.D.Disk.earlier d t u i told le left) l old (c.requires.on_disk told) (c.requires.redo_on_disk told) (c.requires.root_on_disk told) mid read same) in
     let is_true = done.0 in
     let is_false = c.if-not-branch.true in
     absurd (cc (is_true, is_false))
@@ -140,8 +141,9 @@ returns-clause-rest g c told =
     let read = reads_on g.D.Disk (λ d t u i le left. g.met.D.Disk.earlier d t u i told le left) old c.waiting.new.disk mid (c.waiting.ensures.crash told) (c.check_body.ensures.crash told) in
     let same = c.check_body.ensures.seen told ∙ c.waiting.ensures.seen told in
     let done = c.in_ok-redo.ensures.at_rest told rec.0 rec.1 rec.2 rec.3
-    (still_on_disk g.D.Disk (λ d t u i le left. g.met.D.Disk.earlier d t u i told le left) l old (c.requires.on_disk told) (c.requires.redo_on_disk told) mid read same)
-    (still_redo_on_disk g.D.Disk (λ d t u i le left. g.met.D.Disk.earlier d t u i told le left) l old (c.requires.on_disk told) (c.requires.redo_on_disk told) mid read same) in
+    (still_on_disk g.D.Disk (λ d t u i le left. g.met.D.Disk.earlier d t u i told le left) l old (c.requires.on_disk told) (c.requires.redo_on_disk told) (c.requires.root_on_disk told) mid read same)
+    (still_redo_on_disk g.D.Disk (λ d t u i le left. g.met.D.Disk.earlier d t u i told le left) l old (c.requires.on_disk told) (c.requires.redo_on_disk told) (c.requires.root_on_disk told) mid read same)
+    (still_root_on_disk g.D.Disk (λ d t u i le left. g.met.D.Disk.earlier d t u i told le left) l old (c.requires.on_disk told) (c.requires.redo_on_disk told) (c.requires.root_on_disk told) mid read same) in
     done.1
 
 pub returns-clause-stands : goal.returns-clause-stands
@@ -154,8 +156,9 @@ returns-clause-stands g c told =
     let read = reads_on g.D.Disk (λ d t u i le left. g.met.D.Disk.earlier d t u i told le left) old c.waiting.new.disk mid (c.waiting.ensures.crash told) (c.check_body.ensures.crash told) in
     let same = c.check_body.ensures.seen told ∙ c.waiting.ensures.seen told in
     let done = c.in_ok-redo.ensures.at_rest told rec.0 rec.1 rec.2 rec.3
-    (still_on_disk g.D.Disk (λ d t u i le left. g.met.D.Disk.earlier d t u i told le left) l old (c.requires.on_disk told) (c.requires.redo_on_disk told) mid read same)
-    (still_redo_on_disk g.D.Disk (λ d t u i le left. g.met.D.Disk.earlier d t u i told le left) l old (c.requires.on_disk told) (c.requires.redo_on_disk told) mid read same) in
+    (still_on_disk g.D.Disk (λ d t u i le left. g.met.D.Disk.earlier d t u i told le left) l old (c.requires.on_disk told) (c.requires.redo_on_disk told) (c.requires.root_on_disk told) mid read same)
+    (still_redo_on_disk g.D.Disk (λ d t u i le left. g.met.D.Disk.earlier d t u i told le left) l old (c.requires.on_disk told) (c.requires.redo_on_disk told) (c.requires.root_on_disk told) mid read same)
+    (still_root_on_disk g.D.Disk (λ d t u i le left. g.met.D.Disk.earlier d t u i told le left) l old (c.requires.on_disk told) (c.requires.redo_on_disk told) (c.requires.root_on_disk told) mid read same) in
     subst (λ (s : Image). StandsFor (Spells l) l.first (redo_of l) (g.D.Disk.seen c.redo.new.disk) s) same
     (stands_redone l (g.D.Disk.seen mid) (g.D.Disk.seen c.redo.new.disk) c.in-Some.len rec.0 rec.1 rec.2 rec.3 done.2)
 

@@ -1,13 +1,10 @@
-use Rattle.std.proofs.Common.{◌≡◌, Some, take, option_and_then, ap, sym, subst, ◌∙◌}
-use Rattle.el_tables.specs.Lists as lists
-use Rattle.el_tables.specs.Tables.{tables_of}
-use Rattle.el_schema.specs.Rows.{Hold}
+use Rattle.std.proofs.Common.{ap, ◌∙◌}
+use Rattle.el_tx.specs.declared.types.Outpoint.{Outpoint}
 use Rattle.el_schema.proofs.Answered.{if_ok}
-use Rattle.el_spend.specs.Outputs.{output_at}
+use Rattle.el_spend.specs.Outputs.{named_among}
 use Rattle.el_spend.proofs.lookup.named_output.Goals as goal
 
-pub returns-in-Some-clause-named : goal.returns-in-Some-clause-named
-returns-in-Some-clause-named g c counts bs l told hold some =
-    let before = subst (λ T. Hold counts bs l T) (sym c.output_number.ensures.read.tables) hold in
-    let number : Some c.in-Some.k ≡ lists.output_number c.args.o.now (take c.args.below l.txs) = sym c.in-Some.is ∙ c.in_ok-k.ensures.number counts bs l told hold some in
-    if_ok c.found_output.result (c.found_output.ensures.found (tables_of counts bs l) told before) (λ f is. is ∙ ap (option_and_then (output_at l.outs)) number)
+pub returns-clause-named : goal.returns-clause-named
+returns-clause-named g c counts bs l told hold some =
+    if_ok c.named_at.result (c.named_at.ensures.named counts bs l told hold some)
+    (λ f is. is ∙ ap (λ n. let o : Outpoint = record { txid = c.args.o.now.txid; index = n } in named_among o c.args.below l) c.from.ensures)

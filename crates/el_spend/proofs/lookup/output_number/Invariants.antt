@@ -22,10 +22,10 @@ invariant-loop-link g l =
       within : ForSome l.link (λ n. n < length (shown table.Txs));
       none : length (shown table.TxHeads) ≡ 0 → l.link ≡ None;
       walk : (counts : HeadCounts) (bs : List ListedBlock) (ls : lists.Lists) → g.R.Rows.tells → Hold counts bs ls shown → 0 < counts.txs
-          → IsOlder l.o l.below no_tx ls.txs l.link;
+          → IsOlder (record { txid = l.txid; index = l.index }) l.below no_tx ls.txs l.link;
       rows : (counts : HeadCounts) (bs : List ListedBlock) (ls : lists.Lists) → g.R.Rows.tells → Hold counts bs ls shown → 0 < counts.txs
-          → reads_in {G = g.R.Rows} l.t + txs_with l.o.txid (take (end_of l.link) ls.txs)
-          ≤ reads_in {G = g.R.Rows} l.fn.t + (1 + bucket_size counts.txs l.o.txid (map (λ (x : lists.ListedTx). x.txid) ls.txs) + txs_with l.o.txid ls.txs);
+          → reads_in {G = g.R.Rows} l.t + txs_with l.txid (take (end_of l.link) ls.txs)
+          ≤ reads_in {G = g.R.Rows} l.fn.t + (1 + bucket_size counts.txs l.txid (map (λ (x : lists.ListedTx). x.txid) ls.txs) + txs_with l.txid ls.txs);
     }
 
 abbrev pub decreases-loop-link : goal.decreases-loop-link

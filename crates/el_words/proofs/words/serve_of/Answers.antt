@@ -12,6 +12,7 @@ returns-clause-found c = let options = c.in_ok-options.ensures.1 in (
       client_port = c.in_ok-client_port.client_port;
       node_port = c.in_ok-client_port.node_port;
       limits = c.in_ok-limits.limits;
+      head_bits = c.in_ok-head_bits.head_bits;
     };
   },
   record {
@@ -23,6 +24,7 @@ returns-clause-found c = let options = c.in_ok-options.ensures.1 in (
     network_is = c.in_ok-network.ensures options.given options.words_are;
     ports = c.in_ok-client_port.ensures options.given options.words_are;
     limits_are = c.in_ok-limits.ensures options.given options.words_are;
+    head_bits_are = c.in_ok-head_bits.ensures options.given options.words_are;
   },
   refl,
 )

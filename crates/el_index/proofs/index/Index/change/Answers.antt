@@ -1,5 +1,5 @@
 use Rattle.std.specs.Prelude.{IfErr, Result}
-use Rattle.std.proofs.Common.{Ok, Err, inl, inr, ℕ, ◌+◌, ◌-◌, length, refl, sym, ap, ◌∙◌}
+use Rattle.std.proofs.Common.{◌⊎◌, Ok, Err, inl, inr, ℕ, ◌+◌, ◌-◌, length, refl, sym, subst, ap, ◌∙◌}
 use Rattle.el_row_formats.specs.declared.table.Table.TheVariants as table
 use Rattle.el_rows.proofs.UnderLemmas.{length-under}
 use Rattle.el_rows.specs.Changes.{under}
@@ -7,7 +7,10 @@ use Rattle.el_rows.specs.declared.faults.CommitFault.{CommitFault}
 use Rattle.el_row_formats.specs.Tables.{Tables}
 use Rattle.el_rows.specs.Transaction.{tables_in}
 use Rattle.el_rows.proofs.ReadsLemmas.{read_joined}
-use Rattle.el_chain.specs.Moves.{target}
+use Rattle.std.proofs.lemmas.Result.{err_from_is_err_and}
+use Rattle.el_chain.specs.Moves.{FaultInAt, shorter, target}
+use Rattle.el_chain.proofs.CoinSteps.{err_passed}
+use Rattle.el_index.specs.within.Adding.{AreMoved, IsOwn}
 use Rattle.el_index.proofs.IndexRows.{same_rows}
 use Rattle.el_index.proofs.Kept.{only_read, begun, beside_read}
 use Rattle.el_index.proofs.Targets.{moved_rows, tip_moved}
@@ -47,11 +50,12 @@ pub returns-in-Err-DiskFailed-clause-crash_failed : goal.returns-in-Err-DiskFail
 returns-in-Err-DiskFailed-clause-crash_failed g c chain told stand fits failed =
     let r = g.R.Rows in
     let p = c.args.plan.now in
+    let heads = r.heads c.args.self.now.rows in
     let mid = c.hash_after.new.t.rows.now in
     let there = under (r.lists mid) c.in_ok-sealed.sealed.counts c.in_ok-sealed.sealed.changes in
     let reads = read_joined r c.args.self.now.rows c.edit.new.t.rows.now mid (rw c.new-txn.ensures.below at c.edit.ensures.edits.only) c.hash_after.ensures.read.only in
-    let done = c.in_ok-edit.ensures.moved chain told (same_rows _ (tables_in {G = r} c.new-txn.result) chain stand (c.new-txn.ensures.tables told)) fits in
-    let sealed = moved_rows p chain c.args.texts.now _ _ there done.0 done.1 (λ t. c.in_ok-sealed.ensures.tables t ∙ ap (λ (T : Tables). T t) c.hash_after.ensures.read.tables) in (
+    let done = c.in_ok-edit.ensures.moved heads chain told (same_rows heads _ (tables_in {G = r} c.new-txn.result) chain stand (c.new-txn.ensures.tables told)) fits in
+    let sealed = moved_rows heads p chain c.args.texts.now _ _ there done.0 done.1 (λ t. c.in_ok-sealed.ensures.tables t ∙ ap (λ (T : Tables). T t) c.hash_after.ensures.read.tables) in (
       target p chain done.0,
       inr (done.0, done.1.next, refl),
       λ crash. begun r g.met.R.Rows.leaves_lists c.args.self.now.rows mid _ there chain (target p chain done.0) c.requires.live reads stand sealed.stand (rw c.in_ok-sealed.ensures.rows at c.commit.ensures.crash crash) crash,
@@ -62,15 +66,18 @@ pub returns-in-Ok-clause-moved : goal.returns-in-Ok-clause-moved
 returns-in-Ok-clause-moved g c chain told stand fits =
     let r = g.R.Rows in
     let p = c.args.plan.now in
+    let heads = r.heads c.args.self.now.rows in
     let mid = c.hash_after.new.t.rows.now in
     let there = under (r.lists mid) c.in_ok-sealed.sealed.counts c.in_ok-sealed.sealed.changes in
     let reads = read_joined r c.args.self.now.rows c.edit.new.t.rows.now mid (rw c.new-txn.ensures.below at c.edit.ensures.edits.only) c.hash_after.ensures.read.only in
-    let done = c.in_ok-edit.ensures.moved chain told (same_rows _ (tables_in {G = r} c.new-txn.result) chain stand (c.new-txn.ensures.tables told)) fits in
-    let sealed = moved_rows p chain c.args.texts.now _ _ there done.0 done.1 (λ t. c.in_ok-sealed.ensures.tables t ∙ ap (λ (T : Tables). T t) c.hash_after.ensures.read.tables) in (
+    let done = c.in_ok-edit.ensures.moved heads chain told (same_rows heads _ (tables_in {G = r} c.new-txn.result) chain stand (c.new-txn.ensures.tables told)) fits in
+    let sealed = moved_rows heads p chain c.args.texts.now _ _ there done.0 done.1 (λ t. c.in_ok-sealed.ensures.tables t ∙ ap (λ (T : Tables). T t) c.hash_after.ensures.read.tables) in (
       done.0,
-      moved_rows p chain c.args.texts.now _ there _ done.0 sealed (rw c.in_ok-sealed.ensures.rows at c.in-Ok.ensures.lists told),
-      tip_moved p chain c.args.texts.now _ _ done.0 _ done.1 c.requires.plan c.requires.of (rw c.as_slice.ensures at c.in_ok-hash.ensures.last)
-          (λ none. c.in_ok-hash.ensures.tip (target p chain done.0) told done.1.stand (c.as_slice.ensures ∙ none)),
+      subst (λ (n : ℕ). AreMoved n p chain c.args.texts.now c.edit.new.touched (r.lists c.commit.new.self) done.0)
+          (sym ((rw c.in_ok-sealed.ensures.rows at c.commit.ensures.heads) ∙ reads.as_many))
+          (moved_rows heads p chain c.args.texts.now _ there _ done.0 sealed (rw c.in_ok-sealed.ensures.rows at c.in-Ok.ensures.lists told)),
+      tip_moved heads p chain c.args.texts.now _ _ done.0 _ done.1 c.requires.plan c.requires.of (rw c.as_slice.ensures at c.in_ok-hash.ensures.last)
+          (λ none. c.in_ok-hash.ensures.tip heads (target p chain done.0) told done.1.stand (c.as_slice.ensures ∙ none)),
       λ crash. begun r g.met.R.Rows.leaves_lists c.args.self.now.rows mid _ there chain (target p chain done.0) c.requires.live reads stand sealed.stand (rw c.in_ok-sealed.ensures.rows at c.commit.ensures.crash crash) crash,
     )
 
@@ -122,3 +129,12 @@ returns-clause-unchanged g c other =
     let mid = c.hash_after.new.t.rows.now in
     let reads = read_joined r c.args.self.now.rows c.edit.new.t.rows.now mid (rw c.new-txn.ensures.below at c.edit.ensures.edits.only) c.hash_after.ensures.read.only in
     read_joined r c.args.self.now.rows mid c.commit.new.self reads (rw c.in_ok-sealed.ensures.rows at c.in-Err-Memory.ensures.memory (ap (λ (e : CommitFault). let r : Result (Unit {0}) CommitFault = Err e in r) c.in-Err-Memory.field-0-is))
+
+-- why the edits were refused
+pub returns-in_err-edit-clause-first_fault : goal.returns-in_err-edit-clause-first_fault
+returns-in_err-edit-clause-first_fault g c = λ chain told stand fits.
+    let r = g.R.Rows in
+    err_passed c.from_residual.result (λ e. IsOwn e ⊎ FaultInAt (shorter c.args.plan.now.back chain) c.args.plan.now.forward c.args.texts.now e) c.in_err-edit.field-0.0
+    (err_from_is_err_and c.from_residual.result c.from_residual.ensures.1)
+    (c.in_err-edit.ensures.first_fault (r.heads c.args.self.now.rows) chain told
+    (same_rows _ _ (tables_in {G = r} c.new-txn.result) chain stand (c.new-txn.ensures.tables told)) fits)

@@ -27,7 +27,7 @@ returns-clause-moved g c chain stands =
       moved.0,
       record { texts = c.in_ok-texts.texts.items; read = rw c.as_slice.ensures at c.in_ok-texts.ensures.read; blocks_are = moved.1.next },
       record { told = stands.told; stand = moved.1.stand; last = moved.2 },
-      touched_once p chain c.in_ok-texts.texts.items c.change.new.touched _ moved.0 moved.1 c.list-listed.ensures.once,
+      touched_once (r.heads c.change.new.self.rows) p chain c.in_ok-texts.texts.items c.change.new.touched _ moved.0 moved.1 c.list-listed.ensures.once,
       λ crash. lifted r.moment r.left_since (λ l. l.rows) c.args.self.now _ c.change.new.self.rows _ refl (moved.3 crash),
     )
 

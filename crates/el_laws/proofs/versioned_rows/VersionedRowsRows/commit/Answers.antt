@@ -1,4 +1,5 @@
-use Rattle.std.proofs.Common.{ℕ, List, length, ap, ◌∙◌, refl, arith}
+use Rattle.std.proofs.Common.{◌^◌, ℕ, List, length, ap, ◌∙◌, refl, arith}
+use Rattle.el_row_formats.specs.declared.limits.TheConstants.{MIN_HEAD_BITS}
 use Rattle.el_row_formats.specs.Tables.{tables_of}
 use Rattle.el_laws.specs.Versions.{last_of}
 use Rattle.el_rows.proofs.UnderLemmas.{length-under}
@@ -16,7 +17,7 @@ pub returns-then-self-eq0-clause-crash : goal.returns-then-self-eq0-clause-crash
 returns-then-self-eq0-clause-crash c told =
     let old = c.args.self.now.versions in
     let new = c.edit.new.self in
-    committed _ _ _ _ old c.push.new.self new (tables_of (last_of old)) _ c.in_ok-push.ensures.ok (λ t i left. left) (λ t i left. left)
+    committed (2 ^ MIN_HEAD_BITS) _ _ _ _ old c.push.new.self new (tables_of (last_of old)) _ c.in_ok-push.ensures.ok (λ t i left. left) (λ t i left. left)
     (omega (arith, c.requires.live, c.args.self.now.some)) (omega (arith, ap length c.in_ok-push.ensures.ok, more_length old new, c.requires.live, c.args.self.now.some)) refl
     (edited c.in_ok-new.new (last_of old) new c.args.sealed.now.counts c.args.sealed.now.changes (c.in_ok-new.ensures ∙ c.last.ensures) c.in_ok-edit.ensures.ok)
 
@@ -24,6 +25,6 @@ pub returns-clause-crash : goal.returns-clause-crash
 returns-clause-crash c told =
     let old = c.args.self.now.versions in
     let new = c.edit.new.self in
-    committed _ _ _ _ old c.push.new.self new (tables_of (last_of old)) _ c.in_ok-push.ensures.ok (λ t i left. left) (λ t i left. left)
+    committed (2 ^ MIN_HEAD_BITS) _ _ _ _ old c.push.new.self new (tables_of (last_of old)) _ c.in_ok-push.ensures.ok (λ t i left. left) (λ t i left. left)
     (omega (arith, c.requires.live, c.args.self.now.some)) (omega (arith, ap length c.in_ok-push.ensures.ok, more_length old new, c.requires.live, c.args.self.now.some)) refl
     (edited c.in_ok-new.new (last_of old) new c.args.sealed.now.counts c.args.sealed.now.changes (c.in_ok-new.ensures ∙ c.last.ensures) c.in_ok-edit.ensures.ok)

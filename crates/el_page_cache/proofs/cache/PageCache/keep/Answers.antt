@@ -1,8 +1,12 @@
-use Rattle.std.proofs.Common.{List, ℕ, ap, sym, subst, ◌∙◌, ⊎_elim}
+use Rattle.std.proofs.Common.{List, ℕ, ap, sym, subst, ◌∙◌, ⊎_elim, arith}
+use Rattle.el_row_formats.proofs.Keys.{few_rows}
 use Rattle.lru.specs.LruCache.{LruCache}
 use Rattle.el_page_cache.specs.Pages.{KeptPages, page_of, page_key, Agrees}
 use Rattle.el_page_cache.proofs.PageLemmas.{entries_put, either, if_ok, agrees_put}
 use Rattle.el_page_cache.proofs.cache.PageCache.keep.Goals as goal
+
+pub key_of-requires : goal.key_of-requires
+key_of-requires c = omega (arith, c.requires.limit, few_rows c.args.t)
 
 pub returns-clause-kept : goal.returns-clause-kept
 returns-clause-kept c is_true =

@@ -1,15 +1,16 @@
-use Rattle.std.proofs.Common.{⊎_elim, inl, inr, ℕ, List, length, ap, sym, subst, ◌∙◌, arith}
+use Rattle.std.proofs.Common.{◌≡◌, ⊎_elim, inl, inr, ℕ, List, [], ◌∷◌, length, take, ap, sym, subst, ◌∙◌, arith}
 use Rattle.el_row_formats.specs.Tables.{Tables}
 use Rattle.el_rows.specs.Changes.{under, count_at}
 use Rattle.el_rows.specs.Reads.{IsEither}
 use Rattle.el_redo.specs.RedoBody.{head_bytes}
-use Rattle.el_redone.specs.Steps.{Leaves}
-use Rattle.el_pages.specs.declared.layout.TheConstants.{FORMAT_1}
+use Rattle.el_redone.specs.Steps.{Leaves, HasRoot}
+use Rattle.el_redone.specs.declared.steps.TheConstants.{ROOT}
+use Rattle.el_pages.specs.declared.layout.TheConstants.{FORMAT_2}
 use Rattle.el_pages.specs.Indexes.{HasCounts, Shows, tables_in}
 use Rattle.el_pages.specs.Stores.{lists_in}
 use Rattle.el_pages.proofs.Facts.{has_same}
 use Rattle.el_pages.proofs.PageChanges.{agrees_same}
-use Rattle.el_pages.proofs.StoreLemmas.{beside_same, lists_now, same_rows, same_counts, commit_leaves}
+use Rattle.el_pages.proofs.StoreLemmas.{beside_same, lists_now, same_rows, same_counts, commit_leaves, either_shows}
 use Rattle.el_pages.proofs.store.PagesRows.commit.Goals as goal
 
 pub commit_on-requires : goal.commit_on-requires
@@ -19,8 +20,8 @@ commit_on-requires g c =
       big = omega (arith, store.big, ap (λ (b : List ℕ). length b) c.deref_mut.ensures.value);
       at_rest = λ told. (c.requires.live told).rest;
       has = λ told. let kept = c.requires.live told in
-          subst (λ (m : List ℕ). HasCounts FORMAT_1 (head_bytes m) (g.D.Disk.seen store.disk) store.counts) (sym c.magic.ensures)
-          (has_same (head_bytes g.N.NetworkMagic.magic) (g.D.Disk.seen store.told.value) (g.D.Disk.seen store.disk) store.counts kept.same kept.has);
+          subst (λ (m : List ℕ). HasCounts FORMAT_2 (head_bytes m c.args.self.now.bits) (g.D.Disk.seen store.disk) store.counts) (sym c.magic.ensures)
+          (has_same (head_bytes g.N.NetworkMagic.magic c.args.self.now.bits) (g.D.Disk.seen store.told.value) (g.D.Disk.seen store.disk) store.counts kept.same kept.has);
       made = c.requires.made;
     }
 
@@ -29,13 +30,14 @@ returns-in-Err-clause-crash g c told =
     let store = c.args.self.now in
     let new = c.args.sealed.now.counts in
     let changes = c.args.sealed.now.changes in
-    let before : Tables = tables_in FORMAT_1 (g.D.Disk.seen store.disk) store.counts in
-    let run = commit_leaves g.D.Disk g.N.NetworkMagic.magic store.told.value store.counts store.cache store.disk c.commit_on.new.disk new changes (c.requires.live told)
-    (subst (λ (m : List ℕ). Leaves g.D.Disk (IsEither (Shows FORMAT_1 (head_bytes m)) before (under before new changes)) store.disk c.commit_on.new.disk) c.magic.ensures (c.commit_on.ensures.crash told)) in
+    let before : Tables = tables_in FORMAT_2 (g.D.Disk.seen store.disk) store.counts in
+    let run = commit_leaves g.D.Disk (head_bytes g.N.NetworkMagic.magic store.bits) store.told.value store.counts store.cache store.disk c.commit_on.new.disk new changes (c.requires.live told)
+    (subst (λ (m : List ℕ). Leaves g.D.Disk (λ image. HasRoot 29 (g.D.Disk.seen store.disk) image × IsEither (Shows FORMAT_2 (head_bytes m c.args.self.now.bits)) before (under before new changes) image) store.disk c.commit_on.new.disk) c.magic.ensures (c.commit_on.ensures.crash told)) in
+    let was = lists_in g.D.Disk store.told.value store.counts in
     record {
       later = run.later;
-      each = λ image left. run.each image left.1;
-      before = λ t image le left. ⊎_elim (λ was. inl (left.0, was)) (λ p. inr p) (run.before t image le left.1);
+      each = λ image left. either_shows g.N.NetworkMagic.magic store.bits was (under was new changes) image store.least store.most (run.each image left.1);
+      before = λ t image le left. ⊎_elim (λ was. inl (left.0, was)) (λ p. inr (either_shows g.N.NetworkMagic.magic store.bits was (under was new changes) image store.least store.most p)) (run.before t image le left.1);
     }
 
 pub returns-clause-crash : goal.returns-clause-crash
@@ -43,13 +45,14 @@ returns-clause-crash g c told =
     let store = c.args.self.now in
     let new = c.args.sealed.now.counts in
     let changes = c.args.sealed.now.changes in
-    let before : Tables = tables_in FORMAT_1 (g.D.Disk.seen store.disk) store.counts in
-    let run = commit_leaves g.D.Disk g.N.NetworkMagic.magic store.told.value store.counts store.cache store.disk c.commit_on.new.disk new changes (c.requires.live told)
-    (subst (λ (m : List ℕ). Leaves g.D.Disk (IsEither (Shows FORMAT_1 (head_bytes m)) before (under before new changes)) store.disk c.commit_on.new.disk) c.magic.ensures (c.commit_on.ensures.crash told)) in
+    let before : Tables = tables_in FORMAT_2 (g.D.Disk.seen store.disk) store.counts in
+    let run = commit_leaves g.D.Disk (head_bytes g.N.NetworkMagic.magic store.bits) store.told.value store.counts store.cache store.disk c.commit_on.new.disk new changes (c.requires.live told)
+    (subst (λ (m : List ℕ). Leaves g.D.Disk (λ image. HasRoot 29 (g.D.Disk.seen store.disk) image × IsEither (Shows FORMAT_2 (head_bytes m c.args.self.now.bits)) before (under before new changes) image) store.disk c.commit_on.new.disk) c.magic.ensures (c.commit_on.ensures.crash told)) in
+    let was = lists_in g.D.Disk store.told.value store.counts in
     record {
       later = run.later;
-      each = λ image left. run.each image left.1;
-      before = λ t image le left. ⊎_elim (λ was. inl (left.0, was)) (λ p. inr p) (run.before t image le left.1);
+      each = λ image left. either_shows g.N.NetworkMagic.magic store.bits was (under was new changes) image store.least store.most (run.each image left.1);
+      before = λ t image le left. ⊎_elim (λ was. inl (left.0, was)) (λ p. inr (either_shows g.N.NetworkMagic.magic store.bits was (under was new changes) image store.least store.most p)) (run.before t image le left.1);
     }
 
 pub returns-clause-lists : goal.returns-clause-lists
@@ -57,18 +60,19 @@ returns-clause-lists g c told t =
     let store = c.args.self.now in
     let new = c.args.sealed.now.counts in
     let changes = c.args.sealed.now.changes in
-    ap (λ d. tables_in FORMAT_1 (g.D.Disk.seen d) c.counts_of-self.result t) c.of.ensures
+    ap (λ d. tables_in FORMAT_2 (g.D.Disk.seen d) c.counts_of-self.result t) c.of.ensures
     ∙ same_rows (g.D.Disk.seen c.commit_on.new.disk) new c.counts_of-self.result c.counts_of-self.ensures t
     ∙ c.in-Ok.ensures.tables told t
-    ∙ ap (λ (tables : Tables). under tables new changes t) (lists_now g.D.Disk g.N.NetworkMagic.magic store.told.value store.counts store.cache store.disk (c.requires.live told))
+    ∙ ap (λ (tables : Tables). under tables new changes t) (lists_now g.D.Disk (head_bytes g.N.NetworkMagic.magic store.bits) store.told.value store.counts store.cache store.disk (c.requires.live told))
 
 pub returns-clause-live : goal.returns-clause-live
 returns-clause-live g c told = record {
   rest = c.in-Ok.ensures.at_rest told;
+  rooted = subst (λ (b : List ℕ). take 1 b ≡ 2 ∷ []) (sym (c.commit_on.ensures.beside told ROOT (inr (omega arith)))) (c.requires.live told).rooted;
   same = λ f low lt. ap (λ d. g.D.Disk.seen d f) (sym c.of.ensures);
-  has = subst (λ d. HasCounts FORMAT_1 (head_bytes g.N.NetworkMagic.magic) (g.D.Disk.seen d) c.counts_of-self.result) (sym c.of.ensures)
-      (subst (λ (m : List ℕ). HasCounts FORMAT_1 (head_bytes m) (g.D.Disk.seen c.commit_on.new.disk) c.counts_of-self.result) c.magic.ensures
-      (same_counts (head_bytes c.magic.result) (g.D.Disk.seen c.commit_on.new.disk) c.args.sealed.now.counts c.counts_of-self.result c.counts_of-self.ensures (c.in-Ok.ensures.has told)));
+  has = subst (λ d. HasCounts FORMAT_2 (head_bytes g.N.NetworkMagic.magic c.args.self.now.bits) (g.D.Disk.seen d) c.counts_of-self.result) (sym c.of.ensures)
+      (subst (λ (m : List ℕ). HasCounts FORMAT_2 (head_bytes m c.args.self.now.bits) (g.D.Disk.seen c.commit_on.new.disk) c.counts_of-self.result) c.magic.ensures
+      (same_counts (head_bytes c.magic.result c.args.self.now.bits) (g.D.Disk.seen c.commit_on.new.disk) c.args.sealed.now.counts c.counts_of-self.result c.counts_of-self.ensures (c.in-Ok.ensures.has told)));
   agrees =
       let store = c.args.self.now in
       let new = c.args.sealed.now.counts in

@@ -1,0 +1,51 @@
+use Rattle.std.proofs.Common.{ℕ, inl, inr, subst}
+use Rattle.std.proofs.lemmas.Result.{err_from_is_err_and}
+use Rattle.std.proofs.Math.Path.{fun_ext}
+use Rattle.el_row_formats.specs.declared.table.Table.{Table}
+use Rattle.el_pages.specs.declared.layout.TheConstants.{FORMAT_1}
+use Rattle.el_recovery.specs.Checks.{IsBadCount}
+use Rattle.el_migrate.proofs.OldMetas.{meta_is}
+use Rattle.el_migrate.proofs.old_files.check_meta.Goals as goal
+use Rattle.el_migrate.specs.OldChecks.{HasOldHeads, IsBadOldHeads}
+
+pub returns-in_err-check_head-clause-bad : goal.returns-in_err-check_head-clause-bad
+returns-in_err-check_head-clause-bad c =
+    let p = err_from_is_err_and c.from_residual.result c.from_residual.ensures.1 in
+    rw (p.1, p.2) (
+    let bad = c.in_err-check_head.ensures.bad in (bad.0, bad.1, inl bad.2)
+    )
+
+pub returns-in_err-check_heads-clause-bad : goal.returns-in_err-check_heads-clause-bad
+returns-in_err-check_heads-clause-bad c =
+    let p = err_from_is_err_and c.from_residual-in_err-check_heads.result c.from_residual-in_err-check_heads.ensures.1 in
+    rw (p.1, p.2) (
+    let bad = c.in_err-check_heads.ensures.bad in
+    let same = fun_ext (λ (t : Table). c.read_counts-counts.ensures t) in
+    (bad.0, bad.1, inr (c.in_ok-check_head.ensures.ok, inl (subst (λ (count : Table → ℕ). IsBadOldHeads FORMAT_1 count bad.0) same bad.2)))
+    )
+
+pub returns-in_err-check_counts-clause-bad : goal.returns-in_err-check_counts-clause-bad
+returns-in_err-check_counts-clause-bad c =
+    let p = err_from_is_err_and c.from_residual-in_err-check_counts.result c.from_residual-in_err-check_counts.ensures.1 in
+    rw (p.1, p.2) (
+    let bad = c.in_err-check_counts.ensures.bad in
+    let same = fun_ext (λ (t : Table). c.read_counts-counts.ensures t) in
+    (bad.0, bad.1, inr (c.in_ok-check_head.ensures.ok, inr (subst (λ (count : Table → ℕ). HasOldHeads count) same c.in_ok-check_heads.ensures.ok, subst (λ (count : Table → ℕ). IsBadCount FORMAT_1 count bad.0) same bad.2)))
+    )
+
+pub returns-clause-told : goal.returns-clause-told
+returns-clause-told c t = c.read_counts-counts.ensures t
+
+pub returns-clause-head : goal.returns-clause-head
+returns-clause-head c = c.in_ok-check_head.ensures.ok
+
+pub returns-clause-heads : goal.returns-clause-heads
+returns-clause-heads c = c.in_ok-check_heads.ensures.ok
+
+pub returns-clause-limited : goal.returns-clause-limited
+returns-clause-limited c t = c.in_ok-check_counts.ensures.ok t
+
+pub returns-clause-is : goal.returns-clause-is
+returns-clause-is c =
+    let bytes = c.in_ok-check_head.ensures.bytes in
+    meta_is c.args.meta.now bytes.0.long bytes.0.small c.args.magic c.read_counts-counts.result bytes.1.long bytes.1.small c.in_ok-check_head.ensures.ok (λ t. c.read_counts-counts.ensures t)

@@ -1,0 +1,10 @@
+use Rattle.std.proofs.Common.{◌≤◌, ◌<◌, ◌*◌}
+use Rattle.el_row_formats.specs.declared.table.Table.{Table}
+use Rattle.el_row_formats.specs.Tables.{index_of}
+use Rattle.el_rows.specs.Changes.{count_at}
+use Rattle.el_pages.specs.declared.layout.TheConstants.{FORMAT_1}
+use Rattle.el_pages.specs.Layouts.{size_in}
+use Rattle.el_migrate.proofs.old_files.check_sizes.Given as goal
+
+abbrev pub invariant-loop-t : goal.invariant-loop-t
+invariant-loop-t l = (t : Table) → index_of t < l.t-index → count_at l.counts t * size_in FORMAT_1 t ≤ count_at l.sizes t

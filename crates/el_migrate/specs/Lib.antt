@@ -1,0 +1,5 @@
+pub mod OldIndexes
+pub mod OldChecks
+pub mod OldRows
+pub mod ImageChains
+pub mod within
