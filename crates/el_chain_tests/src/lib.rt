@@ -13,6 +13,8 @@ mod headers;
 #[cfg(test)]
 mod laws;
 #[cfg(test)]
+mod levels;
+#[cfg(test)]
 mod moves;
 #[cfg(test)]
 mod moves_back;

@@ -6,27 +6,25 @@ use Rattle.serde_json.specs.Written.{has_float, items_have_float}
 use Rattle.el_base.specs.declared.hash.Hash32.{Hash32}
 use Rattle.el_chain.specs.declared.coin.Coin.{Coin}
 use Rattle.el_chain.specs.declared.entry.Entry.{Entry}
-use Rattle.el_merkle.specs.Merkle.{branch_of}
 use Rattle.el_mempool.specs.declared.entry.PoolEntry.{PoolEntry}
-use Rattle.el_methods.specs.Results.{hashes, proof_among, headers_among, merkle_value, id_value, coin_value}
+use Rattle.el_methods.specs.Results.{hashes, proof_value, headers_proof, place_value, id_with_branch, coin_value}
 use Rattle.el_methods.specs.Results.{pool_value, both_values}
 
 pub of_hashes : (hs : List Hash32) → has_float (hashes hs) ≡ false
 of_hashes [] = refl
 of_hashes (h ∷ hs) = of_hashes hs
 
-pub of_proof : (list : List Hash32) (height : ℕ) (header : List ℕ) → has_float (proof_among list height header) ≡ false
-of_proof list height header = rw (of_hashes (branch_of list height)) refl
+pub of_proof : (partners : List Hash32) (top : Hash32) (header : List ℕ) → has_float (proof_value partners top header) ≡ false
+of_proof partners top header = rw (of_hashes partners) refl
 
-pub of_headers : (list : List Hash32) (last n : ℕ) (bytes : List ℕ) → has_float (headers_among list last n bytes) ≡ false
-of_headers list last n bytes = rw (of_hashes (branch_of list last)) refl
+pub of_headers : (partners : List Hash32) (top : Hash32) (n : ℕ) (bytes : List ℕ) → has_float (headers_proof partners top n bytes) ≡ false
+of_headers partners top n bytes = rw (of_hashes partners) refl
 
-pub of_merkle : (ids : List Hash32) (height place : ℕ) → has_float (merkle_value ids height place) ≡ false
-of_merkle ids height place = rw (of_hashes (branch_of ids place)) refl
+pub of_place : (partners : List Hash32) (height place : ℕ) → has_float (place_value partners height place) ≡ false
+of_place partners height place = rw (of_hashes partners) refl
 
-pub of_id : (ids : List Hash32) (place : ℕ) (id : Hash32) (merkle : Bool) → has_float (id_value ids place id merkle) ≡ false
-of_id ids place id true = rw (of_hashes (branch_of ids place)) refl
-of_id ids place id false = refl
+pub of_branch : (partners : List Hash32) (id : Hash32) → has_float (id_with_branch partners id) ≡ false
+of_branch partners id = rw (of_hashes partners) refl
 
 entry_prints : (id : Hash32) (flag : ℤ) (fee : ℕ)
     → has_float (pool_value (record { txid = id; flag = flag; fee = fee })) ≡ false

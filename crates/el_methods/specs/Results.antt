@@ -1,9 +1,7 @@
 -- The result of each call, or why it is refused (Electrum Protocol 1.4), read off the whole chain and the
 -- unconfirmed transactions that are kept.
 use Rattle.std.specs.Prelude.{ℕ, ℤ, ◌+◌, ◌-◌, ◌==◌, min, nat_lt, nat_le, ◌||◌, ◌&&◌, not, Bool, true, false, if◌then◌else◌, List, [], ◌∷◌, ◌++◌, length, take, drop, map, flat_map, slice_get, Option, None, Some, option_map, ok_or, Result, Ok, Err, codes}
-use Rattle.std.specs.List.{position}
 use Rattle.std.specs.Option.{option_or, is_some}
-use Rattle.std.specs.Str.{bytes_eq}
 use Rattle.hex.specs.Hex.{encode_lower}
 use Rattle.serde_json.specs.Data.{Data, null, number, string, array, object, unsigned, Members, no_members, put}
 use Rattle.serde_json.specs.Find.{of_integer}
@@ -14,6 +12,7 @@ use Rattle.el_tx.specs.declared.types.Tx.{Tx}
 use Rattle.el_tx.specs.Hashing.{full_encoding}
 use Rattle.el_tx.specs.Headers.{header_encoding}
 use Rattle.el_merkle.specs.Merkle.{root, branch_of}
+use Rattle.el_levels.specs.Blocks.{place_among}
 use Rattle.el_chain.specs.Chains.{Chain}
 use Rattle.el_chain.specs.Headers.{genesis}
 use Rattle.el_chain.specs.History.{Position, positions, history}
@@ -69,11 +68,15 @@ hashes hs = array (items_of (map shown_hash hs))
 
 -- 2. blockchain.block.header
 
+-- a header, and the partners of its block's hash on the way to a Merkle root
+abbrev pub proof_value : List Hash32 → Hash32 → List ℕ → Data
+proof_value partners top header =
+    object_of ((codes "branch", hashes partners) ∷ (codes "header", hex header)
+    ∷ (codes "root", shown_hash top) ∷ [])
+
 -- a header, and the proof of its block's hash among block hashes
 abbrev pub proof_among : List Hash32 → ℕ → List ℕ → Data
-proof_among list height header =
-    object_of ((codes "branch", hashes (branch_of list height)) ∷ (codes "header", hex header)
-    ∷ (codes "root", shown_hash (root list)) ∷ [])
+proof_among list height header = proof_value (branch_of list height) (root list) header
 
 -- among those up to the checkpoint
 abbrev pub header_proof : Chain → ℕ → ℕ → List ℕ → Data
@@ -119,12 +122,16 @@ abbrev pub headers_value : ℕ → List ℕ → Data
 headers_value n bytes =
     object_of ((codes "count", whole n) ∷ (codes "hex", hex bytes) ∷ (codes "max", whole HEADER_LIMIT) ∷ [])
 
+-- with the partners of the last one's block hash on the way to a Merkle root
+abbrev pub headers_proof : List Hash32 → Hash32 → ℕ → List ℕ → Data
+headers_proof partners top n bytes =
+    object_of ((codes "branch", hashes partners) ∷ (codes "count", whole n)
+    ∷ (codes "hex", hex bytes) ∷ (codes "max", whole HEADER_LIMIT)
+    ∷ (codes "root", shown_hash top) ∷ [])
+
 -- with the proof of the last one's block hash, of that height, among block hashes
 abbrev pub headers_among : List Hash32 → ℕ → ℕ → List ℕ → Data
-headers_among list last n bytes =
-    object_of ((codes "branch", hashes (branch_of list last)) ∷ (codes "count", whole n)
-    ∷ (codes "hex", hex bytes) ∷ (codes "max", whole HEADER_LIMIT)
-    ∷ (codes "root", shown_hash (root list)) ∷ [])
+headers_among list last n bytes = headers_proof (branch_of list last) (root list) n bytes
 
 -- the checkpoint is above the tip, or below the last of some headers
 abbrev pub is_bad_for_headers : Chain → ℕ → ℕ → ℕ → Bool
@@ -190,15 +197,15 @@ is_in_files kept id verbose = not (verbose || is_some (kept_with id kept))
 
 -- 6. blockchain.transaction.get_merkle and blockchain.transaction.id_from_pos
 
--- where the txid stands first among these
-abbrev pub place_among : Hash32 → List Hash32 → Option ℕ
-place_among id ids = position (λ (other : Hash32). bytes_eq other.0 id.0) ids
+-- a place in the block of that height, and the branch from there
+abbrev pub place_value : List Hash32 → ℕ → ℕ → Data
+place_value partners height pos =
+    object_of ((codes "block_height", whole height) ∷ (codes "merkle", hashes partners)
+    ∷ (codes "pos", whole pos) ∷ [])
 
 -- the place among the txids of a block, and the branch from there
 abbrev pub merkle_value : List Hash32 → ℕ → ℕ → Data
-merkle_value ids height pos =
-    object_of ((codes "block_height", whole height) ∷ (codes "merkle", hashes (branch_of ids pos))
-    ∷ (codes "pos", whole pos) ∷ [])
+merkle_value ids height pos = place_value (branch_of ids pos) height pos
 
 -- the place and the branch of the transaction in the block of that height
 abbrev pub get_merkle : Chain → Hash32 → ℕ → Result Data Refusal
@@ -207,11 +214,15 @@ get_merkle chain id height = do
   pos ← ok_or (place_among id ids) refusal.NotInThatBlock
   Ok (merkle_value ids height pos)
 
+-- a txid with its branch
+abbrev pub id_with_branch : List Hash32 → Hash32 → Data
+id_with_branch partners id =
+    object_of ((codes "merkle", hashes partners) ∷ (codes "tx_hash", shown_hash id) ∷ [])
+
 -- the txid, with its branch where that is asked for
 abbrev pub id_value : List Hash32 → ℕ → Hash32 → Bool → Data
 id_value ids pos id false = shown_hash id
-id_value ids pos id true =
-    object_of ((codes "merkle", hashes (branch_of ids pos)) ∷ (codes "tx_hash", shown_hash id) ∷ [])
+id_value ids pos id true = id_with_branch (branch_of ids pos) id
 
 -- the txid at that place in the block of that height
 abbrev pub id_from_pos : Chain → ℕ → ℕ → Bool → Result Data Refusal

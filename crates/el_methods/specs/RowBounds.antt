@@ -1,16 +1,18 @@
 -- How many rows of the index a call reads at most.
-use Rattle.std.specs.Prelude.{ℕ, ◌+◌, ◌==◌, if◌then◌else◌, List, length, Option, None, Some}
+use Rattle.std.specs.Prelude.{ℕ, ◌+◌, ◌*◌, ◌==◌, min, if◌then◌else◌, List, length, Option, None, Some}
 use Rattle.el_base.specs.declared.hash.Hash32.{Hash32}
 use Rattle.el_chain.specs.Chains.{Chain}
+use Rattle.el_levels.specs.declared.groups.TheConstants.{GROUP}
 use Rattle.el_model.specs.Queries.{txs_in_bucket, txids_at}
 use Rattle.el_view.specs.Rows.{script_rows, history_rows, unspent_rows}
 use Rattle.el_methods.specs.Results.{header_count}
 use Rattle.el_calls.specs.declared.call.Call.{Call}
 use Rattle.el_calls.specs.declared.call.Call.TheVariants as call
 
--- a proof among the block hashes of heights 0 to the checkpoint, and none where the checkpoint is 0
+-- A proof among the block hashes of heights 0 to the checkpoint: the headers of two groups of them, or of all
+-- where these are fewer; none where the checkpoint is 0.
 abbrev pub proof_rows : ℕ → ℕ
-proof_rows cp_height = if cp_height == 0 then 0 else cp_height + 1
+proof_rows cp_height = if cp_height == 0 then 0 else min (2 * GROUP) (cp_height + 1)
 
 -- the txids of a block
 abbrev pub ids_rows : Option (List Hash32) → ℕ

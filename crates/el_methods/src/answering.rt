@@ -6,6 +6,7 @@ ghost use Rattle.el_tx.specs.declared.types.Tx as shape;
 ghost use Rattle.el_chain.specs.Chains.{Chain};
 ghost use Rattle.el_mempool.specs.Standing.{StandsFor};
 ghost use Rattle.el_model.specs.LedgerCalls.{Asked};
+ghost use Rattle.el_side.specs.Caching.{CachesStand, CachesStay};
 ghost use Rattle.el_methods.specs.Archives.{HasAsked};
 ghost use Rattle.el_methods.specs.RowBounds.{rows_of};
 ghost use Rattle.el_methods.specs.Outcomes.{IsReplyWith, IsCounted, IsDiskCounted, RefusesOnly, TellsNoFiles, IsPrintableAnswer};
@@ -28,7 +29,7 @@ use el_json::{Answer, Answers};
 use el_model::Ledger;
 use el_outside::Archive;
 use el_sessions::{Session, Version};
-use el_side::Holdings;
+use el_side::{Caches, Holdings};
 use std::alloc::Global;
 
 const BANNER: &str = "Electrum Protocol 1.4 server over block files";
@@ -83,18 +84,20 @@ pub fn answer<G: Ledger, A: Archive>(
     ledger: &mut G,
     archive: &mut A,
     holdings: &Holdings,
+    caches: &mut Caches,
     session: &mut Session,
     call: Call,
 ) -> Result<Answer, Stop>
     requires live { G.is_live ledger.old }
     // Where the block files have the chain's transaction that is asked for at its place.
     ensures answer { (chain : Chain) (kept : List shape.Tx) → G.stands ledger.old chain
-        → StandsFor holdings.now.pool.entries chain kept → A.tells
+        → StandsFor holdings.now.pool.entries chain kept → CachesStand caches.old chain chain → A.tells
         → HasAsked (A.bytes archive.new) chain call
         → IsReplyWith (replied chain kept holdings.now.tree session.old call) session.old session.new result }
     // Whatever the block files are, unless the call reads them.
     ensures of_index { (chain : Chain) (kept : List shape.Tx) → G.stands ledger.old chain
-        → StandsFor holdings.now.pool.entries chain kept → reads_files kept call ≡ false
+        → StandsFor holdings.now.pool.entries chain kept → CachesStand caches.old chain chain
+        → reads_files kept call ≡ false
         → IsReplyWith (replied chain kept holdings.now.tree session.old call) session.old session.new result }
     // Never another transaction, nor that the chain has none where it has one, whatever the block files hold.
     ensures own { (chain : Chain) (kept : List shape.Tx) → G.stands ledger.old chain
@@ -116,8 +119,10 @@ pub fn answer<G: Ledger, A: Archive>(
     // No subscription is dropped, and new ones come last, whatever the ledger stands for.
     ensures edits { Edits session.old.subs session.new.subs }
     ensures printable { IsPrintableAnswer result }
-    ensures rows { (chain : Chain) → G.stands ledger.old chain
+    ensures rows { (chain : Chain) → G.stands ledger.old chain → CachesStand caches.old chain chain
         → G.reads ledger.new ≤ G.reads ledger.old + rows_of chain (G.buckets ledger.old) call }
+    // What was computed once is still of the chain.
+    ensures caches { CachesStay ⟦<G as Ledger>⟧ ledger.old caches.old caches.new }
     ensures quiet { Asked ⟦<G as Ledger>⟧ ledger.old ledger.new }
     ensures grows { A.tells → AllGrow (A.bytes archive.old) (A.bytes archive.new) }
     ensures counted { IsCounted (λ n. RoseBy (G.faults ledger.old) (G.faults ledger.new) n)
@@ -131,13 +136,13 @@ pub fn answer<G: Ledger, A: Archive>(
         Call::ServerPing => Ok(Answer::null()),
         Call::ServerAddPeer => Ok(Answer::flag(false)),
         Call::BlockHeader { height, cp_height } => {
-            block_header(alloc, ledger, height, cp_height)
+            block_header(alloc, ledger, caches, height, cp_height)
         }
         Call::BlockHeaders {
             start_height,
             count,
             cp_height,
-        } => block_headers(alloc, ledger, start_height, count, cp_height),
+        } => block_headers(alloc, ledger, caches, start_height, count, cp_height),
         Call::EstimateFee => Ok(Answer::signed(-1)),
         Call::RelayFee => Ok(Answer::number(0)),
         Call::HeadersSubscribe => headers_subscribe(alloc, ledger, &mut session.headers),
@@ -152,12 +157,12 @@ pub fn answer<G: Ledger, A: Archive>(
         Call::TransactionGet { tx_hash, verbose } => {
             transaction_get(alloc, ledger, &holdings.pool, archive, tx_hash, verbose)
         }
-        Call::GetMerkle { tx_hash, height } => get_merkle(alloc, ledger, &tx_hash, height),
+        Call::GetMerkle { tx_hash, height } => get_merkle(alloc, ledger, caches, &tx_hash, height),
         Call::IdFromPos {
             height,
             tx_pos,
             merkle,
-        } => id_from_pos(alloc, ledger, height, tx_pos, merkle),
+        } => id_from_pos(alloc, ledger, caches, height, tx_pos, merkle),
         Call::ServerPeersSubscribe | Call::FeeHistogram => Ok(no_list(alloc)),
     }
 }

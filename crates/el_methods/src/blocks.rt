@@ -1,5 +1,5 @@
 // Headers from a height on, and the header of the tip.
-ghost use Rattle.std.specs.Prelude.{◌≡◌, ◌+◌, ◌-◌, ◌^◌, ◌≤◌, ◌<◌, ◌||◌, ◌&&◌, min, nat_le, nat_lt, ℕ, IfOk, IfErr, OnErr, MatchOption, Ok, length};
+ghost use Rattle.std.specs.Prelude.{◌≡◌, ◌+◌, ◌-◌, ◌*◌, ◌^◌, ◌≤◌, ◌<◌, ◌||◌, ◌&&◌, min, nat_le, nat_lt, ℕ, IfOk, IfErr, OnErr, MatchOption, Ok, length};
 ghost use Rattle.el_outside.specs.Counts.{RoseBy};
 ghost use Rattle.el_chain.specs.Chains.{Chain};
 ghost use Rattle.el_model.specs.LedgerCalls.{Asked};
@@ -7,6 +7,8 @@ ghost use Rattle.el_methods.specs.Results as defined;
 ghost use Rattle.el_methods.specs.Results.{header_count, headers_bytes};
 ghost use Rattle.el_methods.specs.RowBounds.{proof_rows};
 ghost use Rattle.el_methods.specs.Outcomes.{IsAnswer, IsReplyWith, IsDiskCounted, RefusesOnly, IsPrintableAnswer};
+ghost use Rattle.el_levels.specs.declared.groups.TheConstants.{GROUP};
+ghost use Rattle.el_side.specs.Caching.{CachesStand, CachesStay};
 ghost use Rattle.el_model.specs.Queries.{hashes_to};
 ghost use Rattle.el_methods.specs.Results.{told_tip};
 ghost use Rattle.el_methods.specs.within.Tops.{blocks_of};
@@ -19,8 +21,8 @@ use crate::texts::{hashes_of, hex_of, shown_of};
 use el_base::{Hash32, OutOfMemory};
 use el_calls::Refusal;
 use el_json::{Answer, Members};
-use el_merkle::branch;
 use el_model::Ledger;
+use el_side::Caches;
 use std::alloc::Global;
 
 /// How many headers a reply of `blockchain.block.headers` may have.
@@ -99,25 +101,23 @@ fn headers_value(alloc: Global, count: u32, bytes: &[u8]) -> Result<Answer, OutO
     Ok(members.into_answer())
 }
 
-// The same with the proof of the last header among block hashes.
-fn headers_among(
+// The same with the partners of the last one's block hash and the root that they lead to.
+fn headers_proof(
     alloc: Global,
     count: u32,
     bytes: &[u8],
-    list: &[Hash32],
-    last: u32,
+    partners: &[Hash32],
+    root: &Hash32,
 ) -> Result<Answer, OutOfMemory>
-    requires { last < length list.now }
-    ensures value { IfOk result (λ a. a ≡ defined.headers_among list.now last count bytes.now) }
+    ensures value { IfOk result (λ a. a ≡ defined.headers_proof partners.now root.now count bytes.now) }
     ensures printable { IsPrintableAnswer result }
 {
-    let (partners, root) = branch(alloc, list, last as usize)?;
     let mut members = Members::new(alloc);
-    members.put(alloc, "branch", hashes_of(alloc, partners.as_slice())?)?;
+    members.put(alloc, "branch", hashes_of(alloc, partners)?)?;
     members.put(alloc, "count", Answer::number(u64::from(count)))?;
     members.put(alloc, "hex", hex_of(alloc, bytes)?)?;
     members.put(alloc, "max", Answer::number(HEADER_LIMIT))?;
-    members.put(alloc, "root", shown_of(alloc, &root)?)?;
+    members.put(alloc, "root", shown_of(alloc, root)?)?;
     Ok(members.into_answer())
 }
 
@@ -153,6 +153,7 @@ fn headers_plain<G: Ledger>(
 fn headers_proved<G: Ledger>(
     alloc: Global,
     ledger: &mut G,
+    caches: &mut Caches,
     start: u32,
     count: u32,
     cp_height: u32,
@@ -161,12 +162,14 @@ fn headers_proved<G: Ledger>(
     requires within { MatchOption (G.height ledger.old) ⊥ (λ top. cp_height ≤ top) }
     requires some { 0 < count }
     requires below { start + count ≤ cp_height + 1 }
-    ensures answer { (chain : Chain) → G.stands ledger.old chain
+    ensures answer { (chain : Chain) → G.stands ledger.old chain → CachesStand caches.old chain chain
         → IsAnswer (Ok (defined.headers_among (hashes_to chain cp_height) (start + count - 1) count
         (headers_bytes chain start count))) result }
     ensures refusals { RefusesOnly (λ r. ⊥) result }
     ensures printable { IsPrintableAnswer result }
-    ensures rows { G.reads ledger.new ≤ G.reads ledger.old + (count + (cp_height + 1)) }
+    ensures rows { (chain : Chain) → G.stands ledger.old chain → CachesStand caches.old chain chain
+        → G.reads ledger.new ≤ G.reads ledger.old + (count + min (2 * GROUP) (cp_height + 1)) }
+    ensures caches { CachesStay ⟦<G as Ledger>⟧ ledger.old caches.old caches.new }
     ensures quiet { Asked ⟦<G as Ledger>⟧ ledger.old ledger.new }
     ensures counted { IsDiskCounted (λ n. RoseBy (G.faults ledger.old) (G.faults ledger.new) n) result }
 {
@@ -175,15 +178,11 @@ fn headers_proved<G: Ledger>(
         Err(Stop::Disk) => return Err(Stop::Disk),
         Err(_) => return Err(Stop::Memory),
     };
-    let list = match ledger.hashes(alloc, cp_height) {
-        Ok(list) => list,
+    let (partners, root) = match caches.prove(alloc, ledger, start + (count - 1), cp_height) {
+        Ok(proof) => proof,
         Err(fault) => return Err(Stop::from(fault)),
     };
-    let last = start + (count - 1);
-    if last as usize >= list.len() {
-        return Err(Stop::Memory);
-    }
-    let answer = headers_among(alloc, count, bytes.as_slice(), list.as_slice(), last)?;
+    let answer = headers_proof(alloc, count, bytes.as_slice(), partners.as_slice(), &root)?;
     Ok(answer)
 }
 
@@ -194,18 +193,20 @@ fn headers_proved<G: Ledger>(
 pub fn block_headers<G: Ledger>(
     alloc: Global,
     ledger: &mut G,
+    caches: &mut Caches,
     start_height: u64,
     count: u64,
     cp_height: u64,
 ) -> Result<Answer, Stop>
     requires live { G.is_live ledger.old }
-    ensures answer { (chain : Chain) → G.stands ledger.old chain
+    ensures answer { (chain : Chain) → G.stands ledger.old chain → CachesStand caches.old chain chain
         → IsAnswer (defined.block_headers chain start_height count cp_height) result }
     ensures refusals { RefusesOnly (λ r. r ≡ refusal.BadCheckpoint) result }
     ensures printable { IsPrintableAnswer result }
-    ensures rows { (chain : Chain) → G.stands ledger.old chain
+    ensures rows { (chain : Chain) → G.stands ledger.old chain → CachesStand caches.old chain chain
         → G.reads ledger.new ≤ G.reads ledger.old
         + (header_count chain start_height count + proof_rows cp_height) }
+    ensures caches { CachesStay ⟦<G as Ledger>⟧ ledger.old caches.old caches.new }
     ensures quiet { Asked ⟦<G as Ledger>⟧ ledger.old ledger.new }
     ensures counted { IsDiskCounted (λ n. RoseBy (G.faults ledger.old) (G.faults ledger.new) n) result }
 {
@@ -221,7 +222,14 @@ pub fn block_headers<G: Ledger>(
     if cp_height == 0 {
         return headers_plain(alloc, ledger, start_height as u32, n);
     }
-    headers_proved(alloc, ledger, start_height as u32, n, cp_height as u32)
+    headers_proved(
+        alloc,
+        ledger,
+        caches,
+        start_height as u32,
+        n,
+        cp_height as u32,
+    )
 }
 
 // The answer with the tip's header.

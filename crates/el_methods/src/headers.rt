@@ -1,5 +1,5 @@
 // Headers, and proofs of their heights.
-ghost use Rattle.std.specs.Prelude.{◌≡◌, ◌⊎◌, ◌≤◌, ◌<◌, ◌+◌, ℕ, IfOk, IfSome, IfNone, MatchOption, ok_or, Ok, codes, length};
+ghost use Rattle.std.specs.Prelude.{◌≡◌, ◌⊎◌, ◌≤◌, ◌<◌, ◌+◌, ◌*◌, min, ℕ, IfOk, IfSome, IfNone, MatchOption, ok_or, Ok, codes, length};
 ghost use Rattle.el_outside.specs.Counts.{RoseBy};
 ghost use Rattle.el_chain.specs.Chains.{Chain};
 ghost use Rattle.el_model.specs.LedgerCalls.{Asked};
@@ -7,6 +7,8 @@ ghost use Rattle.el_model.specs.Queries.{header_at, hashes_to};
 ghost use Rattle.el_methods.specs.Results as defined;
 ghost use Rattle.el_methods.specs.Results.{hex};
 ghost use Rattle.el_methods.specs.RowBounds.{proof_rows};
+ghost use Rattle.el_levels.specs.declared.groups.TheConstants.{GROUP};
+ghost use Rattle.el_side.specs.Caching.{CachesStand, CachesStay};
 ghost use Rattle.el_calls.specs.declared.refusal.Refusal.TheVariants as refusal;
 ghost use Rattle.el_methods.specs.Outcomes.{IsAnswer, IsDiskCounted, RefusesOnly, IsPrintableAnswer};
 
@@ -15,8 +17,8 @@ use crate::texts::{hashes_of, hex_of, shown_of};
 use el_base::{Hash32, OutOfMemory};
 use el_calls::Refusal;
 use el_json::{Answer, Members};
-use el_merkle::branch;
 use el_model::Ledger;
+use el_side::Caches;
 use std::alloc::Global;
 
 // The height, where it isn't above the top.
@@ -55,29 +57,28 @@ fn header_alone<G: Ledger>(alloc: Global, ledger: &mut G, height: u32) -> Result
     }
 }
 
-// A header and the proof of its height among these block hashes.
+// A header, the partners of its block's hash and the root that they lead to.
 fn proof_of(
     alloc: Global,
     header: &[u8],
-    list: &[Hash32],
-    height: u32,
+    partners: &[Hash32],
+    root: &Hash32,
 ) -> Result<Answer, OutOfMemory>
-    requires { height < length list.now }
-    ensures proof { IfOk result (λ a. a ≡ defined.proof_among list.now height header.now) }
+    ensures proof { IfOk result (λ a. a ≡ defined.proof_value partners.now root.now header.now) }
     ensures printable { IsPrintableAnswer result }
 {
-    let (partners, root) = branch(alloc, list, height as usize)?;
     let mut members = Members::new(alloc);
-    members.put(alloc, "branch", hashes_of(alloc, partners.as_slice())?)?;
+    members.put(alloc, "branch", hashes_of(alloc, partners)?)?;
     members.put(alloc, "header", hex_of(alloc, header)?)?;
-    members.put(alloc, "root", shown_of(alloc, &root)?)?;
+    members.put(alloc, "root", shown_of(alloc, root)?)?;
     Ok(members.into_answer())
 }
 
-// The block hashes up to the checkpoint, and in them the proof of the header.
+// The header, and its proof among the block hashes up to the checkpoint.
 fn header_among<G: Ledger>(
     alloc: Global,
     ledger: &mut G,
+    caches: &mut Caches,
     header: &[u8],
     height: u32,
     cp_height: u32,
@@ -85,22 +86,20 @@ fn header_among<G: Ledger>(
     requires live { G.is_live ledger.old }
     requires within { MatchOption (G.height ledger.old) ⊥ (λ top. cp_height ≤ top) }
     requires below { height ≤ cp_height }
-    ensures answer { (chain : Chain) → G.stands ledger.old chain
+    ensures answer { (chain : Chain) → G.stands ledger.old chain → CachesStand caches.old chain chain
         → IsAnswer (Ok (defined.header_proof chain height cp_height header.now)) result }
     ensures refusals { RefusesOnly (λ r. ⊥) result }
     ensures printable { IsPrintableAnswer result }
-    ensures rows { G.reads ledger.new ≤ G.reads ledger.old + (cp_height + 1) }
+    ensures rows { (chain : Chain) → G.stands ledger.old chain → CachesStand caches.old chain chain
+        → G.reads ledger.new ≤ G.reads ledger.old + min (2 * GROUP) (cp_height + 1) }
+    ensures caches { CachesStay ⟦<G as Ledger>⟧ ledger.old caches.old caches.new }
     ensures quiet { Asked ⟦<G as Ledger>⟧ ledger.old ledger.new }
     ensures counted { IsDiskCounted (λ n. RoseBy (G.faults ledger.old) (G.faults ledger.new) n) result }
 {
-    match ledger.hashes(alloc, cp_height) {
-        Ok(list) => {
-            if (height as usize) < list.len() {
-                let answer = proof_of(alloc, header, list.as_slice(), height)?;
-                Ok(answer)
-            } else {
-                Err(Stop::Memory)
-            }
+    match caches.prove(alloc, ledger, height, cp_height) {
+        Ok((partners, root)) => {
+            let answer = proof_of(alloc, header, partners.as_slice(), &root)?;
+            Ok(answer)
         }
         Err(fault) => Err(Stop::from(fault)),
     }
@@ -110,22 +109,25 @@ fn header_among<G: Ledger>(
 fn header_proved<G: Ledger>(
     alloc: Global,
     ledger: &mut G,
+    caches: &mut Caches,
     height: u32,
     cp_height: u32,
 ) -> Result<Answer, Stop>
     requires live { G.is_live ledger.old }
     requires within { MatchOption (G.height ledger.old) ⊥ (λ top. cp_height ≤ top) }
     requires below { height ≤ cp_height }
-    ensures answer { (chain : Chain) → G.stands ledger.old chain
+    ensures answer { (chain : Chain) → G.stands ledger.old chain → CachesStand caches.old chain chain
         → IsAnswer (defined.of_header chain height (defined.header_proof chain height cp_height)) result }
     ensures refusals { RefusesOnly (λ r. ⊥) result }
     ensures printable { IsPrintableAnswer result }
-    ensures rows { G.reads ledger.new ≤ G.reads ledger.old + (1 + (cp_height + 1)) }
+    ensures rows { (chain : Chain) → G.stands ledger.old chain → CachesStand caches.old chain chain
+        → G.reads ledger.new ≤ G.reads ledger.old + (1 + min (2 * GROUP) (cp_height + 1)) }
+    ensures caches { CachesStay ⟦<G as Ledger>⟧ ledger.old caches.old caches.new }
     ensures quiet { Asked ⟦<G as Ledger>⟧ ledger.old ledger.new }
     ensures counted { IsDiskCounted (λ n. RoseBy (G.faults ledger.old) (G.faults ledger.new) n) result }
 {
     match ledger.header(height) {
-        Ok(header) => header_among(alloc, ledger, header.as_slice(), height, cp_height),
+        Ok(header) => header_among(alloc, ledger, caches, header.as_slice(), height, cp_height),
         Err(_) => Err(Stop::Disk),
     }
 }
@@ -136,15 +138,18 @@ fn header_proved<G: Ledger>(
 pub fn block_header<G: Ledger>(
     alloc: Global,
     ledger: &mut G,
+    caches: &mut Caches,
     height: u64,
     cp_height: u64,
 ) -> Result<Answer, Stop>
     requires live { G.is_live ledger.old }
-    ensures answer { (chain : Chain) → G.stands ledger.old chain
+    ensures answer { (chain : Chain) → G.stands ledger.old chain → CachesStand caches.old chain chain
         → IsAnswer (defined.block_header chain height cp_height) result }
     ensures refusals { RefusesOnly (λ r. (r ≡ refusal.NoSuchHeight) ⊎ (r ≡ refusal.BadCheckpoint)) result }
     ensures printable { IsPrintableAnswer result }
-    ensures rows { G.reads ledger.new ≤ G.reads ledger.old + (1 + proof_rows cp_height) }
+    ensures rows { (chain : Chain) → G.stands ledger.old chain → CachesStand caches.old chain chain
+        → G.reads ledger.new ≤ G.reads ledger.old + (1 + proof_rows cp_height) }
+    ensures caches { CachesStay ⟦<G as Ledger>⟧ ledger.old caches.old caches.new }
     ensures quiet { Asked ⟦<G as Ledger>⟧ ledger.old ledger.new }
     ensures counted { IsDiskCounted (λ n. RoseBy (G.faults ledger.old) (G.faults ledger.new) n) result }
 {
@@ -161,5 +166,5 @@ pub fn block_header<G: Ledger>(
     if checkpoint < h {
         return Err(Stop::Refused(Refusal::BadCheckpoint));
     }
-    header_proved(alloc, ledger, h, checkpoint)
+    header_proved(alloc, ledger, caches, h, checkpoint)
 }

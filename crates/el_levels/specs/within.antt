@@ -1,0 +1,3 @@
+pub mod RowsThrough
+pub mod Parts
+pub mod ReadBlocks
